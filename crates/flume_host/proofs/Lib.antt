@@ -1,0 +1,5 @@
+pub mod Telling
+pub mod Images
+pub mod Moments
+pub mod OneFile
+pub mod Keeps

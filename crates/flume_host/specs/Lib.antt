@@ -1,0 +1,4 @@
+pub mod Causes
+pub mod Folder
+pub mod Told
+pub mod HostState

@@ -1,0 +1,85 @@
+// What hands the outside out and takes it back.
+ghost use Rattle.std.specs.Prelude.{◌≡◌, ◌≢◌, ◌≤◌, List, ℕ, Option, None, MatchResult, IfOk, OnErr, OnOk};
+ghost use Rattle.flume_host.specs.Causes.{Counts, Rose};
+ghost use Rattle.flume_host.specs.Told.{Told};
+ghost use Rattle.flume_host.specs.HostState.{HostState, KeepsNamed};
+
+use crate::{Disk, NameRefused, Sink, Source};
+
+/// The outside of one run. An object that is handed out starts with a count of 0 faults, and giving it back raises a
+/// count of the host exactly where the object's own count isn't 0. Giving back takes no memory.
+pub trait Host {
+    type Source: Source + Send + Drop;
+
+    type Sink: Sink + Send + Drop;
+
+    type Disk: Disk + Send + Drop;
+
+    /// What it tells of itself.
+    ghost state: { Self → HostState };
+
+    /// What the disk of a folder tells, by the folder's path, where it tells and isn't handed out.
+    ghost folder: { Self → List ℕ → Option Told };
+
+    /// A disk of this path can be given back: it was opened once.
+    ghost room: { Self → List ℕ → Type 0 };
+
+    /// Hands standard input out.
+    fn take_input(&mut self) -> Self::Source
+        ensures left { Self.Source.left result ≡ (state self.old).input }
+        ensures count { Self.Source.faults result ≡ 0 }
+        ensures state { state self.new ≡ record (state self.old) { input = None } }
+        ensures named { KeepsNamed (folder self.old) (folder self.new) (room self.old) (room self.new) };
+
+    /// Takes standard input back.
+    fn keep_input(&mut self, input: Self::Source)
+        ensures state { (n : ℕ) × (state self.new ≡ record (state self.old) { input = Self.Source.left input; faults = n })
+            × Counts (state self.old).faults n (Self.Source.faults input) }
+        ensures named { KeepsNamed (folder self.old) (folder self.new) (room self.old) (room self.new) };
+
+    /// Hands standard output out.
+    fn take_output(&mut self) -> Self::Sink
+        ensures took { Self.Sink.took result ≡ (state self.old).output }
+        ensures count { Self.Sink.faults result ≡ 0 }
+        ensures state { state self.new ≡ record (state self.old) { output = None } }
+        ensures named { KeepsNamed (folder self.old) (folder self.new) (room self.old) (room self.new) };
+
+    /// Takes standard output back.
+    fn keep_output(&mut self, output: Self::Sink)
+        ensures state { (n : ℕ) × (state self.new ≡ record (state self.old) { output = Self.Sink.took output; faults = n })
+            × Counts (state self.old).faults n (Self.Sink.faults output) }
+        ensures named { KeepsNamed (folder self.old) (folder self.new) (room self.old) (room self.new) };
+
+    /// Writes a line to standard error. Its failures are ignored and not counted.
+    fn say(&mut self, line: &str)
+        ensures state { state self.new ≡ state self.old }
+        ensures named { KeepsNamed (folder self.old) (folder self.new) (room self.old) (room self.new) };
+
+    /// Opens the disk of a folder, which it makes if it isn't there.
+    fn open_disk(&mut self, path: &str) -> Result<Self::Disk, NameRefused>
+        ensures told { IfOk result (λ disk. (Self.Disk.told disk ≡ folder self.old path.now) × (Self.Disk.faults disk ≡ 0)) }
+        ensures state { (n : ℕ) × (state self.new ≡ record (state self.old) { faults = n })
+            × MatchResult result (λ _. n ≡ (state self.old).faults) (λ e. e ≡ NameRefused.Failed → Rose (state self.old).faults n) }
+        ensures later { (state self.old).faults ≤ (state self.new).faults }
+        ensures others { (p : List ℕ) → p ≢ path.now → folder self.new p ≡ folder self.old p }
+        ensures room { OnOk result (room self.new path.now) }
+        ensures rooms { (p : List ℕ) → room self.old p → room self.new p }
+        ensures refused { OnErr result (folder self.new ≡ folder self.old) };
+
+    /// Takes the disk of a folder back.
+    fn keep_disk(&mut self, path: &str, disk: Self::Disk)
+        requires { room self.old path.now }
+        ensures told { folder self.new path.now ≡ Self.Disk.told disk }
+        ensures others { (p : List ℕ) → p ≢ path.now → folder self.new p ≡ folder self.old p }
+        ensures rooms { (p : List ℕ) → room self.old p → room self.new p }
+        ensures state { (n : ℕ) × (state self.new ≡ record (state self.old) { disk_faults = n })
+            × Counts (state self.old).disk_faults n (Self.Disk.faults disk) };
+
+    /// How often the host failed, and the input and the output that were given back.
+    fn faults(&self) -> u64
+        ensures { result ≡ (state self.now).faults };
+
+    /// How often the disks failed that were given back.
+    fn disk_faults(&self) -> u64
+        ensures { result ≡ (state self.now).disk_faults };
+}

@@ -1,0 +1,23 @@
+// The names of a disk's files, and what the outside refuses.
+
+/// A fault of the outside, which the object that met it has counted.
+#[derive(Clone, Copy, Debug, PartialEq, Eq)]
+pub struct Failed;
+
+/// The name of a file in a channel's folder. All log files come before all checkpoints, and each kind goes by number.
+#[derive(Clone, Copy, Debug, PartialEq, Eq)]
+pub enum FileName {
+    /// A log file.
+    Log(u32),
+    /// A checkpoint.
+    Check(u32),
+}
+
+/// Why an object could not be opened by its name.
+#[derive(Clone, Copy, Debug, PartialEq, Eq)]
+pub enum NameRefused {
+    /// A fault of the outside, which the host has counted.
+    Failed,
+    /// Want of memory.
+    NoMemory,
+}
