@@ -1,0 +1,5 @@
+mod Look
+mod Files
+mod Least
+mod Replay
+mod Paths

@@ -1,0 +1,7 @@
+pub mod Look
+pub mod Stream
+pub mod Parts
+pub mod Laws
+pub mod Words
+pub mod Folders
+pub mod HostWords

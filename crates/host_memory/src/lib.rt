@@ -1,0 +1,17 @@
+//! The outside in memory, whose contents contracts see, with chosen failures. A disk also tells what a stop might have
+//! left of it at each moment.
+#![tactic(auto)]
+
+mod folders;
+mod mem_disk;
+mod mem_host;
+mod parts;
+mod script;
+mod store;
+mod stream;
+
+pub use folders::MemFolder;
+pub use mem_disk::{DiskFault, MemDisk};
+pub use mem_host::MemHost;
+pub use parts::{MemFile, Part};
+pub use stream::{MemSink, MemSource};

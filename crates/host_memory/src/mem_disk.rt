@@ -1,0 +1,218 @@
+// A disk in memory keeps its files, and each call that changed them.
+ghost use Rattle.std.specs.Prelude.{◌≡◌};
+ghost use Rattle.host_memory.specs.Parts.{answer_of, told_by};
+
+use crate::parts::{MemFile, Outcome, Part, least_above, place_of, read_bytes};
+use crate::script::counted;
+use crate::store::Store;
+use flume_host::{Disk, Failed, FileName};
+use std::alloc::{AllocError, Global};
+
+/// A call that is to fail. The first call has the number 0, and each of the eight calls of a disk is counted.
+#[derive(Clone, Copy, Debug, PartialEq, Eq)]
+pub struct DiskFault {
+    /// The number of the call.
+    pub call: u64,
+    /// What it has done before.
+    pub part: Part,
+}
+
+// The calls that are to fail, and the number of the next call.
+#[derive(Drop)]
+pub struct DiskScript {
+    faults: Vec<DiskFault>,
+    calls: u64,
+}
+
+impl DiskScript {
+    ghost use Rattle.std.specs.Prelude.{ℕ, ◌+◌, ◌-◌, ◌^◌, min};
+
+    // Counts a call, and says how much of it is to be done.
+    fn next_outcome(&mut self) -> Outcome
+        ensures { self.new.calls ≡ min (self.old.calls + 1) (2 ^ 64 - 1) }
+    {
+        let call = self.calls;
+        self.calls = call.saturating_add(1);
+        for fault in &self.faults {
+            if fault.call == call {
+                return match fault.part {
+                    Part::Nothing => Outcome::Nothing,
+                    Part::Front(n) => Outcome::Partly(n),
+                };
+            }
+        }
+        Outcome::Whole
+    }
+
+    // Counts a call that only reads, and says whether it is to fail.
+    fn next_fails(&mut self) -> bool
+        ensures { self.new.calls ≡ min (self.old.calls + 1) (2 ^ 64 - 1) }
+    {
+        match self.next_outcome() {
+            Outcome::Whole => false,
+            Outcome::Partly(_) | Outcome::Nothing => true,
+        }
+    }
+}
+
+/// A disk in memory. A call that needs memory and has none fails too.
+#[derive(Drop)]
+pub struct MemDisk {
+    store: Store,
+    script: DiskScript,
+    tells: bool,
+    pub(crate) faults: u64,
+}
+
+impl MemDisk {
+    ghost use Rattle.std.specs.Prelude.{[], None, Some, IfOk, MatchOption};
+    ghost use Rattle.host_memory.specs.Parts.{start};
+    ghost use Rattle.host_memory.specs.Words.{told_in, disk_faults, reads_in, syncs_in};
+
+    /// An empty disk that tells, no call of which is to fail.
+    pub fn new(alloc: Global) -> Self
+        ensures told { told_in result ≡ Some (start []) }
+        ensures count { disk_faults result ≡ 0 }
+    {
+        MemDisk {
+            store: Store::new(alloc),
+            script: DiskScript {
+                faults: Vec::new(alloc),
+                calls: 0,
+            },
+            tells: true,
+            faults: 0,
+        }
+    }
+
+    /// A disk that holds these files, all of them stable, and tells. Where a name stands twice, its first file counts.
+    pub fn with_files(alloc: Global, files: Vec<MemFile>) -> Result<Self, AllocError>
+        ensures told { IfOk result (λ disk. told_in disk ≡ Some (start files.items)) }
+        ensures count { IfOk result (λ disk. disk_faults disk ≡ 0) }
+    {
+        let mut disk = MemDisk::new(alloc);
+        disk.store = Store::with_files(alloc, files)?;
+        Ok(disk)
+    }
+
+    /// What the file of this name holds, if it is there, also where the disk tells nothing.
+    pub fn file(&self, name: FileName) -> Option<&[u8]>
+        ensures { MatchOption result (reads_in self.now name ≡ None) (λ bytes. reads_in self.now name ≡ Some bytes.now) }
+    {
+        match place_of(&self.store.files, name) {
+            Some(index) => Some(&self.store.files[index].bytes),
+            None => None,
+        }
+    }
+
+    /// How many of the recorded calls were syncs of a file, whatever they answered.
+    pub fn syncs(&self) -> u64
+        ensures { result ≡ syncs_in self.now }
+    {
+        self.store.syncs()
+    }
+
+    /// These calls are to fail.
+    pub fn failing_at(mut self, faults: Vec<DiskFault>) -> Self
+        ensures told { told_in result ≡ told_in self }
+        ensures count { disk_faults result ≡ disk_faults self }
+    {
+        self.script.faults = faults;
+        self
+    }
+
+    /// A disk that tells nothing.
+    pub fn silent(mut self) -> Self
+        ensures told { told_in result ≡ None }
+        ensures count { disk_faults result ≡ disk_faults self }
+    {
+        self.tells = false;
+        self
+    }
+
+    /// How many calls there were, of all eight.
+    pub fn calls(&self) -> u64 {
+        self.script.calls
+    }
+}
+
+// What a call answers, of which so much was to be done.
+fn answered(outcome: Outcome, noted: Result<(), Failed>) -> Result<(), Failed>
+    ensures { result ≡ answer_of outcome noted }
+{
+    match outcome {
+        Outcome::Whole => noted,
+        Outcome::Partly(_) | Outcome::Nothing => Err(Failed),
+    }
+}
+
+impl Disk for MemDisk {
+    ghost use Rattle.host_memory.specs.Laws.{sound};
+
+    ghost told = { λ d. told_by d.tells d.store.first.items d.store.calls.items };
+
+    ghost faults = { λ d. d.faults };
+
+    ghost reads_are_left = { λ d t is. sound d.tells d.store.first.items d.store.calls.items t is };
+
+    fn faults(&self) -> u64 {
+        self.faults
+    }
+
+    fn make(&mut self, name: FileName) -> Result<(), Failed> {
+        let outcome = self.script.next_outcome();
+        let noted = self.store.make(name, outcome);
+        counted(&mut self.faults, answered(outcome, noted))
+    }
+
+    fn len(&mut self, name: FileName) -> Result<u64, Failed> {
+        if self.script.next_fails() {
+            return counted(&mut self.faults, Err(Failed));
+        }
+        match place_of(&self.store.files, name) {
+            Some(index) => Ok(self.store.files[index].bytes.len() as u64),
+            None => counted(&mut self.faults, Err(Failed)),
+        }
+    }
+
+    fn read(&mut self, name: FileName, at: u64, into: &mut [u8]) -> Result<usize, Failed> {
+        if self.script.next_fails() {
+            return counted(&mut self.faults, Err(Failed));
+        }
+        match place_of(&self.store.files, name) {
+            Some(index) => Ok(read_bytes(&self.store.files[index].bytes, at as usize, into)),
+            None => counted(&mut self.faults, Err(Failed)),
+        }
+    }
+
+    fn write_at(&mut self, name: FileName, at: u64, bytes: &[u8]) -> Result<(), Failed> {
+        let outcome = self.script.next_outcome();
+        let noted = self.store.write(name, at, bytes, outcome);
+        counted(&mut self.faults, answered(outcome, noted))
+    }
+
+    fn sync(&mut self, name: FileName) -> Result<(), Failed> {
+        let outcome = self.script.next_outcome();
+        let noted = self.store.sync(name, outcome);
+        counted(&mut self.faults, answered(outcome, noted))
+    }
+
+    fn settle(&mut self) -> Result<(), Failed> {
+        let outcome = self.script.next_outcome();
+        let noted = self.store.settle(outcome);
+        counted(&mut self.faults, answered(outcome, noted))
+    }
+
+    fn remove(&mut self, name: FileName) -> Result<(), Failed> {
+        let outcome = self.script.next_outcome();
+        let noted = self.store.remove(name, outcome);
+        counted(&mut self.faults, answered(outcome, noted))
+    }
+
+    fn next_name(&mut self, after: Option<FileName>) -> Result<Option<FileName>, Failed> {
+        if self.script.next_fails() {
+            return counted(&mut self.faults, Err(Failed));
+        }
+        Ok(least_above(&self.store.files, after))
+    }
+}

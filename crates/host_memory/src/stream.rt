@@ -1,0 +1,185 @@
+// A source and a sink in memory.
+ghost use Rattle.std.specs.Prelude.{◌≡◌, ◌≤◌, ◌+◌, [], vec_len, Some, None, IfSome};
+ghost use Rattle.host_memory.specs.Stream.{left_of, took_by};
+
+use crate::script::{Script, counted, piece_at};
+use flume_host::{Failed, Sink, Source};
+use std::alloc::Global;
+
+/// Bytes that are read in pieces.
+#[derive(Drop)]
+pub struct MemSource {
+    bytes: Vec<u8>,
+    // how many bytes were read
+    at: usize,
+    pieces: Vec<usize>,
+    script: Script,
+    tells: bool,
+    pub(crate) faults: u64,
+    ghost in_range: { at ≤ vec_len bytes },
+}
+
+impl MemSource {
+    ghost use Rattle.host_memory.specs.Words.{left_in, source_faults};
+
+    /// A source that tells, gives all that is asked for, and never fails.
+    pub fn new(alloc: Global, bytes: Vec<u8>) -> Self
+        ensures left { left_in result ≡ Some bytes.items }
+        ensures count { source_faults result ≡ 0 }
+    {
+        MemSource {
+            bytes,
+            at: 0,
+            pieces: Vec::new(alloc),
+            script: Script::new(alloc),
+            tells: true,
+            faults: 0,
+        }
+    }
+
+    /// Read number n gives at most the n-th of these numbers. They go round, and a 0 counts as 1.
+    pub fn in_pieces(mut self, pieces: Vec<usize>) -> Self
+        ensures left { left_in result ≡ left_in self }
+        ensures count { source_faults result ≡ source_faults self }
+    {
+        self.pieces = pieces;
+        self
+    }
+
+    /// The reads of these numbers fail. The first read has the number 0.
+    pub fn failing_at(mut self, calls: Vec<u64>) -> Self
+        ensures left { left_in result ≡ left_in self }
+        ensures count { source_faults result ≡ source_faults self }
+    {
+        self.script.fails = calls;
+        self
+    }
+
+    /// A source that tells nothing.
+    pub fn silent(mut self) -> Self
+        ensures left { left_in result ≡ None }
+        ensures count { source_faults result ≡ source_faults self }
+    {
+        self.tells = false;
+        self
+    }
+
+    /// How many reads there were.
+    pub fn calls(&self) -> u64 {
+        self.script.calls
+    }
+}
+
+impl Source for MemSource {
+    ghost left = { λ s. left_of s.tells s.bytes.items s.at };
+
+    ghost faults = { λ s. s.faults };
+
+    fn read(&mut self, into: &mut [u8]) -> Result<usize, Failed> {
+        let most = piece_at(&self.pieces, self.script.calls);
+        if self.script.next_fails() {
+            return counted(&mut self.faults, Err(Failed));
+        }
+        let n = into.len().min(most).min(self.bytes.len() - self.at);
+        into[..n].copy_from_slice(&self.bytes[self.at..self.at + n]);
+        self.at += n;
+        Ok(n)
+    }
+
+    fn faults(&self) -> u64 {
+        self.faults
+    }
+}
+
+/// Keeps what is written to it.
+#[derive(Drop)]
+pub struct MemSink {
+    bytes: Vec<u8>,
+    pieces: Vec<usize>,
+    script: Script,
+    tells: bool,
+    pub(crate) faults: u64,
+}
+
+impl MemSink {
+    ghost use Rattle.host_memory.specs.Words.{took_in, sink_faults};
+
+    /// An empty sink that tells, takes all that it is given, and fails only for want of memory.
+    pub fn new(alloc: Global) -> Self
+        ensures took { took_in result ≡ Some [] }
+        ensures count { sink_faults result ≡ 0 }
+    {
+        MemSink {
+            bytes: Vec::new(alloc),
+            pieces: Vec::new(alloc),
+            script: Script::new(alloc),
+            tells: true,
+            faults: 0,
+        }
+    }
+
+    /// A write that is call number n takes at most the n-th of these numbers. They go round, and a 0 counts as 1.
+    pub fn in_pieces(mut self, pieces: Vec<usize>) -> Self
+        ensures took { took_in result ≡ took_in self }
+        ensures count { sink_faults result ≡ sink_faults self }
+    {
+        self.pieces = pieces;
+        self
+    }
+
+    /// The calls of these numbers fail, writes and flushes counted together. The first has the number 0.
+    pub fn failing_at(mut self, calls: Vec<u64>) -> Self
+        ensures took { took_in result ≡ took_in self }
+        ensures count { sink_faults result ≡ sink_faults self }
+    {
+        self.script.fails = calls;
+        self
+    }
+
+    /// A sink that tells nothing.
+    pub fn silent(mut self) -> Self
+        ensures took { took_in result ≡ None }
+        ensures count { sink_faults result ≡ sink_faults self }
+    {
+        self.tells = false;
+        self
+    }
+
+    /// What it took.
+    pub fn bytes(&self) -> &[u8]
+        ensures { IfSome (took_in self.now) (λ bytes. bytes ≡ result.now) }
+    {
+        &self.bytes
+    }
+
+    /// How many writes and flushes there were.
+    pub fn calls(&self) -> u64 {
+        self.script.calls
+    }
+}
+
+impl Sink for MemSink {
+    ghost took = { λ s. took_by s.tells s.bytes.items };
+
+    ghost faults = { λ s. s.faults };
+
+    fn write(&mut self, bytes: &[u8]) -> Result<usize, Failed> {
+        let most = piece_at(&self.pieces, self.script.calls);
+        let n = bytes.len().min(most);
+        if self.script.next_fails() || self.bytes.extend_from_slice(&bytes[..n]).is_err() {
+            return counted(&mut self.faults, Err(Failed));
+        }
+        Ok(n)
+    }
+
+    fn flush(&mut self) -> Result<(), Failed> {
+        if self.script.next_fails() {
+            return counted(&mut self.faults, Err(Failed));
+        }
+        Ok(())
+    }
+
+    fn faults(&self) -> u64 {
+        self.faults
+    }
+}
