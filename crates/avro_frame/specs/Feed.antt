@@ -1,0 +1,34 @@
+-- What a piece does to the present pack.
+use Rattle.std.specs.Prelude.{◌≡◌, ℕ, ◌≤◌, List, [], ◌++◌, length, take, Option, Some, None, Result, Ok, Err}
+use Rattle.avro_frame.specs.declared.packs.Message.{Message}
+use Rattle.avro_frame.specs.declared.packs.PackRefused.{PackRefused}
+use Rattle.avro_frame.specs.declared.packs.PackRefused.TheVariants.{TooMany, TooLarge, NoMemory}
+use Rattle.avro_frame.specs.Pack.{IsPack, IsPart, PassesCount, PassesSize}
+
+-- what contracts see of a stream of packs: the bytes of the present pack so far, or the refusal that ended it
+pub data Packing : Type 0 where
+  Holds : List ℕ → Packing
+  Failed : PackRefused → Packing
+
+abbrev pub packing : Option PackRefused → List ℕ → Packing
+packing None bytes = Holds bytes
+packing (Some e) bytes = Failed e
+
+-- the bytes of the present pack, or of none
+abbrev pub Refuses : List ℕ → List ℕ → PackRefused → Packing → Type 0
+Refuses old piece (TooMany n) new = PassesCount (old ++ piece) n × (new ≡ Failed (TooMany n))
+Refuses old piece (TooLarge n) new = PassesSize (old ++ piece) n × (new ≡ Failed (TooLarge n))
+Refuses old piece NoMemory new = new ≡ Holds old
+
+abbrev pub Gives : List ℕ → List ℕ → ℕ → Option Message → Packing → Type 0
+Gives old piece n None new = (n ≡ length piece) × IsPart (old ++ piece) × (new ≡ Holds (old ++ piece))
+Gives old piece n (Some m) new = (n ≤ length piece) × IsPack (old ++ take n piece) m.serial m.payload.items × (new ≡ Holds [])
+
+abbrev pub FeedsBytes : List ℕ → List ℕ → Result (ℕ × Option Message) PackRefused → Packing → Type 0
+FeedsBytes old piece (Ok found) new = Gives old piece found.0 found.1 new
+FeedsBytes old piece (Err e) new = Refuses old piece e new
+
+-- a piece goes behind the present pack's bytes; behind a refusal every piece meets it again
+abbrev pub Feeds : Packing → List ℕ → Result (ℕ × Option Message) PackRefused → Packing → Type 0
+Feeds (Holds old) piece result new = FeedsBytes old piece result new
+Feeds (Failed e) piece result new = (result ≡ Err e) × (new ≡ Failed e)

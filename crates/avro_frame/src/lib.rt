@@ -1,0 +1,13 @@
+//! Packs of the framing of Avro's Java Netty transport, in whatever pieces they come.
+#![tactic(auto)]
+
+mod packs;
+mod pending;
+mod write;
+
+pub use packs::{Message, PackRefused, Packs, no_pack_within, one_pack};
+pub use pending::{MAX_BUFFERS, MAX_BYTES};
+pub use write::write_pack;
+
+#[cfg(test)]
+mod tests;
