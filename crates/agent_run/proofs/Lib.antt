@@ -1,0 +1,5 @@
+pub mod Bytes
+pub mod LogFile
+pub mod Steps
+pub mod LogLines
+pub mod Outcomes

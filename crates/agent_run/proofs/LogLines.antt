@@ -1,0 +1,103 @@
+-- What a log of lines stands for after one line more.
+use Rattle.std.proofs.Common.{◌≡◌, ◌⊎◌, ℕ, ◌+◌, ◌≤◌, suc, List, [], ◌∷◌, ◌++◌, length, map, All, Option, Some, None, refl, sym, ap, subst, ◌∙◌, arith, append_assoc, length-append, append-nil}
+use Rattle.std.proofs.lemmas.List.{map-append, same_from_push}
+use Rattle.std.proofs.lemmas.List.Elements.{All-nil, All-head, All-tail, All-push}
+use Rattle.flume_host.specs.Causes.{Rose}
+use Rattle.flume_host.specs.Folder.{Files, with_at}
+use Rattle.flume_host.specs.Told.{Told, Tells}
+use Rattle.flume_host.specs.declared.names.FileName.TheVariants.{Log}
+use Rattle.flume_host.proofs.OneFile.{with_at_self}
+use Rattle.flume_host.proofs.Telling.{back, follows}
+use Rattle.event_core.specs.Numbers.{u16_bytes, u32_bytes}
+use Rattle.netcat_source.specs.declared.replies.LineVerdict.{LineVerdict}
+use Rattle.netcat_source.specs.declared.replies.LineVerdict.TheVariants.{Accepted, InDoubt, NoMemory}
+use Rattle.agent_run.specs.Handled.{Handled, GoesOn, Start, verdicts_of, all_with, and_then}
+use Rattle.agent_run.specs.PlainLog.{AddsFrame, IsReady, Logs, Stands, frames, front, header, log_alone, no_files, plain_log, records}
+use Rattle.agent_run.proofs.LogFile.{with_at_twice}
+
+frames-push : (i : ℕ) (lines : List (List ℕ)) (line : List ℕ) → frames i (lines ++ line ∷ []) ≡ frames i lines ++ 1 ∷ records (i + length lines) line
+frames-push i [] line = let e : i ≡ i + 0 = omega arith in append-nil (1 ∷ records i line) ∙ ap (λ k. 1 ∷ records k line) e
+frames-push i (l ∷ lines) line =
+    let e : suc i + length lines ≡ i + suc (length lines) = omega arith in
+    let rest = λ (k : ℕ). frames (suc i) lines ++ 1 ∷ records k line in
+    ap (λ x. (1 ∷ records i l) ++ x) (frames-push (suc i) lines line ∙ ap rest e) ∙ sym (append_assoc (1 ∷ records i l) (frames (suc i) lines) (1 ∷ records (i + suc (length lines)) line))
+
+front-push : (lines : List (List ℕ)) (line : List ℕ) → front lines ++ 1 ∷ records (length lines) line ≡ front (lines ++ line ∷ [])
+front-push lines line =
+    let e : 0 + length lines ≡ length lines = omega arith in
+    let pushed = frames-push 0 lines line ∙ ap (λ k. frames 0 lines ++ 1 ∷ records k line) e in
+    append_assoc header (frames 0 lines) (1 ∷ records (length lines) line) ∙ ap (λ x. header ++ x) (sym pushed)
+
+-- the frame of the next line goes behind those of the lines before
+pub logs_more : (start old new : Option Told) (gate next : ℕ) (lines : List (List ℕ)) (line : List ℕ) → next ≡ length lines → Logs start old lines → Tells old new (AddsFrame gate (records next line)) → Logs start new (lines ++ line ∷ [])
+logs_more start old new gate next lines line counted logs adds = follows start old new _ (AddsFrame gate (records next line)) _ (λ t u v _ _ _ a b. (a.0, more u v a.1 b)) logs adds
+  where
+    more : (u v : Told) → u.reads ≡ log_alone (plain_log lines) → AddsFrame gate (records next line) u v → v.reads ≡ log_alone (plain_log (lines ++ line ∷ []))
+    more u v is b =
+        let was : Some (plain_log lines) ≡ Some (b.bytes ++ 0 ∷ []) = sym (ap (λ (f : Files). f (Log 1)) is ∙ with_at_self no_files (Log 1) (Some (plain_log lines))) ∙ b.was in
+        let same : front lines ++ 0 ∷ [] ≡ b.bytes ++ 0 ∷ [] = cc in
+        let bytes : b.bytes ≡ front lines = sym (same_from_push (front lines) b.bytes 0 0 same).0 in
+        let whole : b.bytes ++ 1 ∷ records next line ≡ front (lines ++ line ∷ []) = ap (λ x. x ++ 1 ∷ records next line) bytes ∙ ap (λ k. front lines ++ 1 ∷ records k line) counted ∙ front-push lines line in
+        b.is ∙ ap (λ x. with_at u.reads (Log 1) (Some (x ++ 0 ∷ []))) whole ∙ ap (λ (f : Files). with_at f (Log 1) (Some (plain_log (lines ++ line ∷ [])))) is ∙ with_at_twice no_files (Log 1) (Some (plain_log lines)) (Some (plain_log (lines ++ line ∷ [])))
+
+pub none_stops : (front last : List Handled) → All GoesOn (verdicts_of (front ++ last)) → All (λ h. GoesOn h.verdict → ⊥) last → last ≡ []
+none_stops front [] going stops = refl
+none_stops [] (h ∷ last) going stops = absurd (All-head (λ (h : Handled). GoesOn h.verdict → ⊥) h last stops (All-head GoesOn h.verdict (verdicts_of last) going))
+none_stops (f ∷ front) (h ∷ last) going stops = none_stops front (h ∷ last) (All-tail GoesOn f.verdict (verdicts_of (front ++ h ∷ last)) going) stops
+
+module _ (start : Start) (told : Option Told) (faults next : ℕ) (done : List Handled) (going : All GoesOn (verdicts_of done)) (s : Stands start told faults next done) where
+  none : s.last ≡ []
+  none = none_stops (all_with Accepted s.lines) s.last (let P : List Handled → Type 0 = λ d. All GoesOn (verdicts_of d) in subst P s.split going) s.stops
+
+  before : done ≡ all_with Accepted s.lines
+  before = s.split ∙ ap (λ l. all_with Accepted s.lines ++ l) none ∙ append-nil (all_with Accepted s.lines)
+
+  file : Logs start.told told s.lines
+  file = s.file (let P : List Handled → Type 0 = λ l. All (λ h. h.verdict ≡ NoMemory) l in subst P (sym none) (All-nil (λ (h : Handled). h.verdict ≡ NoMemory)))
+
+  -- the line was accepted
+  pub stands_more : (new : Option Told) (faults' next' gate : ℕ) (line : List ℕ) → faults ≤ faults' → next' ≡ next + 1 → Tells told new (AddsFrame gate (records next line)) → Stands start new faults' next' (and_then done line Accepted)
+  stands_more new faults' next' gate line later one adds = record {
+    lines = s.lines ++ line ∷ [];
+    last = [];
+    split = ap (λ d. and_then d line Accepted) before ∙ sym (map-append (λ (l : List ℕ). record { line = l; verdict = Accepted }) s.lines (line ∷ [])) ∙ sym (append-nil (all_with Accepted (s.lines ++ line ∷ [])));
+    one = omega arith;
+    stops = All-nil (λ (h : Handled). GoesOn h.verdict → ⊥);
+    later = omega (arith, s.later, later);
+    cause = All-nil (λ (h : Handled). h.verdict ≡ InDoubt → Rose start.faults faults');
+    counted = one ∙ omega (arith, s.counted, length-append s.lines (line ∷ []));
+    file = λ _. logs_more start.told told new gate next s.lines line s.counted file adds;
+  }
+
+  -- it was not
+  pub stands_stopped : (new : Option Told) (faults' : ℕ) (line : List ℕ) (verdict : LineVerdict) → (GoesOn verdict → ⊥) → faults ≤ faults' → (verdict ≡ InDoubt → Rose faults faults') → (verdict ≡ NoMemory → new ≡ told) → Stands start new faults' next (and_then done line verdict)
+  stands_stopped new faults' line verdict stops later cause same = record {
+    lines = s.lines;
+    last = record { line = line; verdict = verdict } ∷ [];
+    split = ap (λ d. and_then d line verdict) before;
+    one = omega arith;
+    stops = All-push (λ (h : Handled). GoesOn h.verdict → ⊥) [] _ (All-nil (λ (h : Handled). GoesOn h.verdict → ⊥)) stops;
+    later = omega (arith, s.later, later);
+    cause = All-push (λ (h : Handled). h.verdict ≡ InDoubt → Rose start.faults faults') [] _ (All-nil (λ (h : Handled). h.verdict ≡ InDoubt → Rose start.faults faults')) (λ is. let rose = cause is in omega (arith, rose, s.later));
+    counted = s.counted;
+    file = λ all. let P : Option Told → Type 0 = λ o. Logs start.told o s.lines in subst P (sym (same (All-head (λ (h : Handled). h.verdict ≡ NoMemory) _ [] all))) file;
+  }
+
+pub stands_at_start : (start : Start) (told : Option Told) (faults : ℕ) → start.faults ≤ faults → Logs start.told told [] → Stands start told faults 0 []
+stands_at_start start told faults later logs = record {
+  lines = [];
+  last = [];
+  split = refl;
+  one = omega arith;
+  stops = All-nil (λ (h : Handled). GoesOn h.verdict → ⊥);
+  later = later;
+  cause = All-nil (λ (h : Handled). h.verdict ≡ InDoubt → Rose start.faults faults);
+  counted = refl;
+  file = λ _. logs;
+}
+
+pub ready_at_start : (start told : Option Told) → Logs start told [] → IsReady told 16
+unfolding header u16_bytes u32_bytes
+ready_at_start start told logs t is =
+    let reads = (back start told _ logs t is).2.1 in
+    (front [], ap (λ (f : Files). f (Log 1)) reads ∙ with_at_self no_files (Log 1) (Some (plain_log [])), refl)

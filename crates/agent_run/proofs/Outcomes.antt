@@ -1,0 +1,259 @@
+-- What a session over a host amounts to for `pipe`.
+use Rattle.std.proofs.Common.{◌≡◌, ◌⊎◌, inl, inr, ℕ, ◌+◌, ◌<◌, ◌≤◌, ◌^◌, List, [], ◌∷◌, ◌++◌, length, map, All, Option, Some, None, refl, sym, ap, subst, ◌∙◌, arith, append-nil}
+use Rattle.std.proofs.lemmas.List.{map-append}
+use Rattle.std.proofs.KnownBytes.{Consumes-nil, Appends-nil}
+use Rattle.std.proofs.lemmas.List.Elements.{All-nil}
+use Rattle.std.specs.Io.KnownBytes.{Appends, Consumes, IsAtEnd}
+use Rattle.flume_host.specs.Causes.{Counts, Rose}
+use Rattle.flume_host.specs.HostState.{HostState}
+use Rattle.flume_host.specs.Told.{Told, Tells}
+use Rattle.netcat_source.specs.Lines.{IsLine, LinesEnd, Rest, TooLong}
+use Rattle.netcat_source.specs.declared.replies.LineVerdict.TheVariants as verdict
+use Rattle.agent_run.specs.Handled.{Handled, GoesOn, Start, lines_of, verdicts_of, all_with}
+use Rattle.agent_run.specs.Session.{Served, Stopped, IsStop}
+use Rattle.agent_run.specs.PlainLog.{Holds, Logs, Stands}
+use Rattle.agent_run.specs.Piped.{Stored, Interrupted, Piped, end_status}
+use Rattle.agent_run.specs.declared.session.SessionEnd.{SessionEnd}
+use Rattle.agent_run.specs.declared.session.SessionEnd.TheVariants.{End, LongLine, Full, InDoubt, NoMemory, ReadFault, WriteFault}
+use Rattle.agent_run.proofs.LogLines.{none_stops}
+
+is_end : (e : SessionEnd) → end_status e ≡ 0 → e ≡ End
+is_end End is = refl
+is_end LongLine is = absurd (omega arith)
+is_end Full is = absurd (omega arith)
+is_end InDoubt is = absurd (omega arith)
+is_end NoMemory is = absurd (omega arith)
+is_end ReadFault is = absurd (omega arith)
+is_end WriteFault is = absurd (omega arith)
+
+is_full : (e : SessionEnd) → end_status e ≡ 6 → e ≡ Full
+is_full End is = absurd (omega arith)
+is_full LongLine is = absurd (omega arith)
+is_full Full is = refl
+is_full InDoubt is = absurd (omega arith)
+is_full NoMemory is = absurd (omega arith)
+is_full ReadFault is = absurd (omega arith)
+is_full WriteFault is = absurd (omega arith)
+
+is_long : (e : SessionEnd) → end_status e ≡ 7 → e ≡ LongLine
+is_long End is = absurd (omega arith)
+is_long LongLine is = refl
+is_long Full is = absurd (omega arith)
+is_long InDoubt is = absurd (omega arith)
+is_long NoMemory is = absurd (omega arith)
+is_long ReadFault is = absurd (omega arith)
+is_long WriteFault is = absurd (omega arith)
+
+never_held : (e : SessionEnd) → end_status e ≡ 4 → ⊥
+never_held End is = omega arith
+never_held LongLine is = omega arith
+never_held Full is = omega arith
+never_held InDoubt is = omega arith
+never_held NoMemory is = omega arith
+never_held ReadFault is = omega arith
+never_held WriteFault is = omega arith
+
+is_stop : (e : SessionEnd) → (end_status e ≡ 3) ⊎ (end_status e ≡ 5) → IsStop e
+is_stop End is = elim is [ inl a ↦ omega arith | inr b ↦ omega arith ]
+is_stop LongLine is = elim is [ inl a ↦ omega arith | inr b ↦ omega arith ]
+is_stop Full is = elim is [ inl a ↦ omega arith | inr b ↦ omega arith ]
+is_stop InDoubt is = tt
+is_stop NoMemory is = tt
+is_stop ReadFault is = tt
+is_stop WriteFault is = tt
+
+is_fault : (e : SessionEnd) → end_status e ≡ 3 → (e ≡ InDoubt) ⊎ ((e ≡ ReadFault) ⊎ (e ≡ WriteFault))
+is_fault End is = absurd (omega arith)
+is_fault LongLine is = absurd (omega arith)
+is_fault Full is = absurd (omega arith)
+is_fault InDoubt is = inl refl
+is_fault NoMemory is = absurd (omega arith)
+is_fault ReadFault is = inr (inl refl)
+is_fault WriteFault is = inr (inr refl)
+
+-- what holds of the lines that a log stands for holds of those that were served
+served_as : {max : ℕ} {P : ℕ → Type 0} {end : LinesEnd} {input left output took : Option (List ℕ)} {accepted : ℕ} {Was Is : List Handled → Type 0} → ((done : List Handled) → All GoesOn (verdicts_of done) → Was done → Is done)
+    → Served max P end input left output took accepted Was → Served max P end input left output took accepted Is
+served_as more s = record {
+  bytes = s.bytes;
+  read = s.read;
+  size = s.size;
+  done = s.done;
+  cut = s.cut;
+  going = s.going;
+  wrote = s.wrote;
+  counted = s.counted;
+  stands = more s.done s.going s.stands;
+}
+
+stopped_as : {max : ℕ} {input left output took : Option (List ℕ)} {a b c d accepted : ℕ} {Was Is : List Handled → Type 0} → ((done : List Handled) → Was done → Is done) → (Rose a b → Rose c d)
+    → Stopped max input left output took a b accepted Was → Stopped max input left output took c d accepted Is
+stopped_as more rose s = record {
+  bytes = s.bytes;
+  read = s.read;
+  done = s.done;
+  rest = s.rest;
+  first = s.first;
+  each = s.each;
+  end = s.end;
+  ends = s.ends;
+  sent = s.sent;
+  wrote = s.wrote;
+  whole = elim s.whole [ inl all ↦ inl all | inr up ↦ inr (rose up) ];
+  counted = s.counted;
+  stands = more s.done s.stands;
+}
+
+lines-all_with : (lines : List (List ℕ)) → lines_of (all_with verdict.Accepted lines) ≡ lines
+lines-all_with [] = refl
+lines-all_with (l ∷ lines) = ap (λ (ls : List (List ℕ)). l ∷ ls) (lines-all_with lines)
+
+stored : (start : Start) (told : Option Told) (faults next : ℕ) (done : List Handled) → All GoesOn (verdicts_of done) → Stands start told faults next done → Stored start.told told done
+stored start told faults next done going s =
+    let none : s.last ≡ [] = none_stops (all_with verdict.Accepted s.lines) s.last (let P : List Handled → Type 0 = λ d. All GoesOn (verdicts_of d) in subst P s.split going) s.stops in
+    let all : done ≡ all_with verdict.Accepted s.lines = s.split ∙ ap (λ l. all_with verdict.Accepted s.lines ++ l) none ∙ append-nil (all_with verdict.Accepted s.lines) in
+    let same : lines_of done ≡ s.lines = ap (λ d. lines_of d) all ∙ lines-all_with s.lines in
+    record {
+      all = all ∙ ap (λ ls. all_with verdict.Accepted ls) (sym same);
+      logs = let P : List (List ℕ) → Type 0 = λ ls. Logs start.told told ls in subst P (sym same) (s.file (let Q : List Handled → Type 0 = λ l. All (λ h. h.verdict ≡ verdict.NoMemory) l in subst Q (sym none) (All-nil (λ (h : Handled). h.verdict ≡ verdict.NoMemory))));
+    }
+
+interrupted : (start : Start) (told : Option Told) (faults next : ℕ) (done : List Handled) → Stands start told faults next done → Interrupted start.faults faults done
+interrupted start told faults next done s = record { lines = s.lines; last = s.last; split = s.split; one = s.one; stops = s.stops; cause = s.cause }
+
+module _ (s0 s1 s2 s3 s4 : HostState) (left left' took took' : Option (List ℕ)) (n m own_in own_out : ℕ)
+    (e1 : left ≡ s0.input) (e2 : s1 ≡ record s0 { input = None }) (e3 : took ≡ s1.output) (e4 : s2 ≡ record s1 { output = None })
+    (e5 : s3 ≡ record s2 { input = left'; faults = n }) (c5 : Counts s2.faults n own_in) (e6 : s4 ≡ record s3 { output = took'; faults = m }) (c6 : Counts s3.faults m own_out) where
+  took_is : took ≡ s0.output
+  took_is = e3 ∙ ap (λ (s : HostState). s.output) e2
+
+  input_is : s4.input ≡ left'
+  input_is = ap (λ (s : HostState). s.input) e6 ∙ ap (λ (s : HostState). s.input) e5
+
+  output_is : s4.output ≡ took'
+  output_is = ap (λ (s : HostState). s.output) e6
+
+  faults2 : s2.faults ≡ s0.faults
+  faults2 = ap (λ (s : HostState). s.faults) e4 ∙ ap (λ (s : HostState). s.faults) e2
+
+  faults3 : s3.faults ≡ n
+  faults3 = ap (λ (s : HostState). s.faults) e5
+
+  faults4 : s4.faults ≡ m
+  faults4 = ap (λ (s : HostState). s.faults) e6
+
+  read_rose : Rose 0 own_in → Rose s0.faults s4.faults
+  read_rose rose = let up = c5.raised (omega (arith, rose)) in omega (arith, up, faults2, faults3, faults4, c6.later)
+
+  write_rose : Rose 0 own_out → Rose s0.faults s4.faults
+  write_rose rose = let up = c6.raised (omega (arith, rose)) in omega (arith, up, c5.later, faults2, faults3, faults4)
+
+  module _ (start : Start) (told : Option Told) (faults next accepted : ℕ) (e : SessionEnd) (sink_before : ℕ) (clean : sink_before ≡ 0) where
+    abbrev pub Here : List Handled → Type 0
+    Here = Stands start told faults next
+
+    pub piped : (e ≡ End → IsAtEnd left')
+        → (e ≡ End → Served 512 (λ size. size < 2 ^ 40) Rest left left' took took' accepted Here)
+        → (e ≡ LongLine → Served 512 (λ size. size ≤ 2 ^ 40) TooLong left left' took took' accepted Here)
+        → (e ≡ Full → Served 512 (λ size. size ≡ 2 ^ 40) Rest left left' took took' accepted Here)
+        → (IsStop e → Stopped 512 left left' took took' sink_before own_out accepted Here)
+        → (e ≡ InDoubt → Rose start.faults faults) → (e ≡ ReadFault → Rose 0 own_in) → (e ≡ WriteFault → Rose sink_before own_out)
+        → (status : ℕ) → status ≡ end_status e → Piped s0 s4 start.told told start.faults faults status accepted
+    piped at_end end long full stopped in_doubt read write status is = record {
+      done = λ zero.
+          let ended = is_end e (sym is ∙ zero) in
+          (let P : Option (List ℕ) → Type 0 = λ o. IsAtEnd o in subst P (sym input_is) (at_end ended), rw (← e1, input_is, ← took_is, output_is) (served_as (stored start told faults next) (end ended)));
+      full = λ six. rw (← e1, input_is, ← took_is, output_is) (served_as (stored start told faults next) (full (is_full e (sym is ∙ six))));
+      long = λ seven. rw (← e1, input_is, ← took_is, output_is) (served_as (stored start told faults next) (long (is_long e (sym is ∙ seven))));
+      stopped = λ which.
+          let kind : (end_status e ≡ 3) ⊎ (end_status e ≡ 5) = elim which [ inl three ↦ inl (sym is ∙ three) | inr five ↦ inr (sym is ∙ five) ] in
+          rw (← e1, input_is, ← took_is, output_is) (stopped_as (interrupted start told faults next) (λ rose. write_rose (rw clean at rose)) (stopped (is_stop e kind)));
+      held = λ four. absurd (never_held e (sym is ∙ four));
+      fault = λ three. elim (is_fault e (sym is ∙ three)) [
+        | inl doubt ↦ inr (in_doubt doubt)
+        | inr other ↦ elim other [ inl r ↦ inl (read_rose (read r)) | inr w ↦ inl (write_rose (rw clean at (write w))) ]
+      ];
+    }
+
+nothing : (max a b c d : ℕ) (input left output took : Option (List ℕ)) → left ≡ input → took ≡ output → (accepted : ℕ) → accepted ≡ 0 → Stopped max input left output took a b accepted (Interrupted c d)
+nothing max a b c d input left output took same_input same_output accepted none = record {
+  bytes = [];
+  read = rw same_input (Consumes-nil input);
+  done = [];
+  rest = [];
+  first = refl;
+  each = All-nil (IsLine max);
+  end = Rest;
+  ends = λ is. absurd cc;
+  sent = 0;
+  wrote = rw same_output (Appends-nil output);
+  whole = inl (omega arith);
+  counted = none;
+  stands = record {
+    lines = [];
+    last = [];
+    split = refl;
+    one = omega arith;
+    stops = All-nil (λ (h : Handled). GoesOn h.verdict → ⊥);
+    cause = All-nil (λ (h : Handled). h.verdict ≡ verdict.InDoubt → Rose c d);
+  };
+}
+
+-- an end before any line
+pub early : (old new : HostState) (before after : Option Told) (a b status accepted : ℕ) → new.input ≡ old.input → new.output ≡ old.output → accepted ≡ 0 → (status ≡ 3) ⊎ ((status ≡ 4) ⊎ (status ≡ 5))
+    → (status ≡ 3 → Rose old.faults new.faults ⊎ Rose a b) → (status ≡ 4 → Tells before after Holds) → Piped old new before after a b status accepted
+early old new before after a b status accepted same_input same_output none which fault held = record {
+  done = λ is. absurd (other is which);
+  full = λ is. absurd (other6 is which);
+  long = λ is. absurd (other7 is which);
+  stopped = λ _. nothing 512 old.faults new.faults a b old.input new.input old.output new.output same_input same_output accepted none;
+  held = λ is. (held is, same_input, same_output, none);
+  fault = fault;
+}
+  where
+    other : status ≡ 0 → (status ≡ 3) ⊎ ((status ≡ 4) ⊎ (status ≡ 5)) → ⊥
+    other is (inl a) = omega arith
+    other is (inr (inl b)) = omega arith
+    other is (inr (inr c)) = omega arith
+
+    other6 : status ≡ 6 → (status ≡ 3) ⊎ ((status ≡ 4) ⊎ (status ≡ 5)) → ⊥
+    other6 is (inl a) = omega arith
+    other6 is (inr (inl b)) = omega arith
+    other6 is (inr (inr c)) = omega arith
+
+    other7 : status ≡ 7 → (status ≡ 3) ⊎ ((status ≡ 4) ⊎ (status ≡ 5)) → ⊥
+    other7 is (inl a) = omega arith
+    other7 is (inr (inl b)) = omega arith
+    other7 is (inr (inr c)) = omega arith
+
+interrupted_as : {a b c d : ℕ} → (Rose a b → Rose c d) → (done : List Handled) → Interrupted a b done → Interrupted c d done
+interrupted_as rose done i = record {
+  lines = i.lines;
+  last = i.last;
+  split = i.split;
+  one = i.one;
+  stops = i.stops;
+  cause = λ k d below is. rose (i.cause k d below is);
+}
+
+-- the disk is handed out before, and given back after
+pub given_back : (s0 s1 s2 s3 : HostState) (before before' after after' : Option Told) (n m a own status accepted : ℕ) → s1 ≡ record s0 { faults = n } → n ≡ s0.faults → before' ≡ before → a ≡ 0
+    → s2.disk_faults ≡ s1.disk_faults → s3 ≡ record s2 { disk_faults = m } → Counts s2.disk_faults m own → after ≡ after' → Piped s1 s2 before' after' a own status accepted → Piped s0 s3 before after s0.disk_faults s3.disk_faults status accepted
+given_back s0 s1 s2 s3 before before' after after' n m a own status accepted opened same is_before clean disks kept counts is_after p =
+    let input0 : s1.input ≡ s0.input = ap (λ (s : HostState). s.input) opened in
+    let output0 : s1.output ≡ s0.output = ap (λ (s : HostState). s.output) opened in
+    let faults0 : s1.faults ≡ s0.faults = ap (λ (s : HostState). s.faults) opened ∙ same in
+    let disk0 : s1.disk_faults ≡ s0.disk_faults = ap (λ (s : HostState). s.disk_faults) opened in
+    let input3 : s3.input ≡ s2.input = ap (λ (s : HostState). s.input) kept in
+    let output3 : s3.output ≡ s2.output = ap (λ (s : HostState). s.output) kept in
+    let faults3 : s3.faults ≡ s2.faults = ap (λ (s : HostState). s.faults) kept in
+    let disk3 : s3.disk_faults ≡ m = ap (λ (s : HostState). s.disk_faults) kept in
+    let rose : Rose a own → Rose s0.disk_faults s3.disk_faults = λ (r : Rose a own). let up = counts.raised (omega (arith, r)) in omega (arith, up, disks, disk0, disk3) in
+    record {
+      done = λ is. rw (input3, output3, ← input0, ← output0, is_after, ← is_before) (p.done is);
+      full = λ is. rw (input3, output3, ← input0, ← output0, is_after, ← is_before) (p.full is);
+      long = λ is. rw (input3, output3, ← input0, ← output0, is_after, ← is_before) (p.long is);
+      stopped = λ is. rw (input3, output3, ← input0, ← output0) (stopped_as (interrupted_as rose) (λ r. rw (faults3, ← faults0) r) (p.stopped is));
+      held = λ is. let h = p.held is in (rw (is_after, ← is_before) h.0, input3 ∙ h.1 ∙ input0, output3 ∙ h.2 ∙ output0, h.3);
+      fault = λ is. elim (p.fault is) [ inl r ↦ inl (rw (faults3, ← faults0) r) | inr r ↦ inr (rose r) ];
+    }

@@ -1,0 +1,5 @@
+pub mod Handled
+pub mod Session
+pub mod PlainLog
+pub mod Words
+pub mod Piped

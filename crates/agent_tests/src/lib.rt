@@ -1,0 +1,6 @@
+//! Tests of the top call over a host in memory: the worked examples of the format and of the dialogue, failing objects,
+//! and folders that were written before.
+#![tactic(auto)]
+
+#[cfg(test)]
+mod pipe;

@@ -1,0 +1,122 @@
+// Cuts a text into lines, however it comes.
+ghost use Rattle.std.specs.Prelude.{◌≡◌, ◌<◌, ◌≤◌, ◌^◌, ◌+◌, ◌++◌, [], List, ℕ, length, take, IfOk, MatchOption, slice_index, vec_len, vec_capacity};
+ghost use Rattle.netcat_source.specs.Lines.{IsUnbroken};
+ghost use Rattle.netcat_source.specs.Feed.{LineState, begun, Takes, Feeds, HoldsLine};
+
+use std::alloc::{AllocError, Global};
+use std::marker::Model;
+
+/// What a piece brought to the present line.
+#[derive(Clone, Copy, Debug, PartialEq, Eq)]
+pub enum Cut {
+    /// The line goes on, and the whole piece was taken.
+    More,
+    /// The line is whole: its newline was taken.
+    Line,
+    /// The line's first `max` bytes are there and hold no newline. Nothing is taken from then on.
+    TooLong,
+}
+
+/// Cuts a text into lines of fewer than `max` bytes. After `new` it takes no memory.
+///
+/// A line is the bytes before a newline; a carriage return stays (`max-line-length` of the Flume User Guide's NetCat TCP
+/// Source). Contracts see the present line, and what the last piece brought.
+#[derive(Drop)]
+pub struct Lines {
+    max: usize,
+    line: Vec<u8>,
+    at: Cut,
+}
+
+impl Model for Lines {
+    ghost Value = { LineState };
+
+    ghost view = { λ s. record { max = s.max; line = s.line.items; at = s.at } };
+
+    ghost invariant = { λ s. HoldsLine s.max s.line.items s.at × (s.max ≤ vec_capacity s.line) };
+}
+
+// The place of the first newline.
+fn newline_in(bytes: &[u8]) -> Option<usize>
+    ensures { MatchOption result (IsUnbroken bytes.now)
+        (λ i. (i < length bytes.now) × IsUnbroken (take i bytes.now) × (slice_index bytes.now i ≡ 10)) }
+{
+    for (i, b) in bytes.iter().enumerate() {
+        if *b == b'\n' {
+            return Some(i);
+        }
+    }
+    None
+}
+
+// Adds bytes for which room is there.
+fn put(line: &mut Vec<u8>, bytes: &[u8])
+    requires { vec_len line.old + length bytes.now ≤ vec_capacity line.old }
+    ensures items { line.new.items ≡ line.old.items ++ bytes.now }
+    ensures room { vec_capacity line.old ≤ vec_capacity line.new }
+{
+    if line.extend_from_slice(bytes).is_err() {
+        unreachable!();
+    }
+}
+
+// Takes the front of a piece, up to the line's end.
+fn take_piece(line: &mut Vec<u8>, max: usize, piece: &[u8]) -> (usize, Cut)
+    requires room { max ≤ vec_capacity line.old }
+    requires short { vec_len line.old ≤ max }
+    requires unbroken { IsUnbroken line.old.items }
+    ensures takes { Takes max line.old.items piece.now result.0 result.1 line.new.items }
+    ensures holds { HoldsLine max line.new.items result.1 }
+    ensures room { max ≤ vec_capacity line.new }
+{
+    let room = max - line.len();
+    let window = &piece[..room.min(piece.len())];
+    match newline_in(window) {
+        Some(i) => {
+            put(line, &window[..i]);
+            (i + 1, Cut::Line)
+        }
+        None => {
+            put(line, window);
+            if line.len() == max {
+                (window.len(), Cut::TooLong)
+            } else {
+                (window.len(), Cut::More)
+            }
+        }
+    }
+}
+
+impl Lines {
+    /// A cutter at the start of a text. A line of `max` bytes without a newline is too long.
+    pub fn new(alloc: Global, max: u32) -> Result<Lines, AllocError>
+        requires { 0 < max }
+        ensures { IfOk result (λ lines. lines ≡ record { max = max; line = []; at = Cut.More }) }
+    {
+        let max = max as usize;
+        Ok(Lines {
+            max,
+            line: Vec::with_capacity(alloc, max)?,
+            at: Cut::More,
+        })
+    }
+
+    /// Takes that many bytes of the piece's front, and says what they brought. Behind a whole line the next one begins.
+    pub fn feed(&mut self, piece: &[u8]) -> (usize, Cut)
+        ensures { Feeds self.old piece.now result.0 result.1 self.new }
+    {
+        if self.at == Cut::Line {
+            self.line.clear();
+        }
+        let (n, cut) = take_piece(&mut self.line, self.max, piece);
+        self.at = cut;
+        (n, cut)
+    }
+
+    /// The present line, without its newline.
+    pub fn line(&self) -> &[u8]
+        ensures { result.now ≡ self.now.line }
+    {
+        &self.line
+    }
+}
