@@ -1,18 +1,17 @@
 -- What a log of lines stands for after one line more.
-use Rattle.std.proofs.Common.{◌≡◌, ◌⊎◌, ℕ, ◌+◌, ◌≤◌, suc, List, [], ◌∷◌, ◌++◌, length, map, All, Option, Some, None, refl, sym, ap, subst, ◌∙◌, arith, append_assoc, length-append, append-nil}
+use Rattle.std.proofs.Common.{◌≡◌, ℕ, ◌+◌, ◌≤◌, suc, List, [], ◌∷◌, ◌++◌, length, All, Option, Some, refl, sym, ap, subst, ◌∙◌, arith, append_assoc, length-append, append-nil}
 use Rattle.std.proofs.lemmas.List.{map-append, same_from_push}
 use Rattle.std.proofs.lemmas.List.Elements.{All-nil, All-head, All-tail, All-push}
 use Rattle.flume_host.specs.Causes.{Rose}
 use Rattle.flume_host.specs.Folder.{Files, with_at}
 use Rattle.flume_host.specs.Told.{Told, Tells}
 use Rattle.flume_host.specs.declared.names.FileName.TheVariants.{Log}
-use Rattle.flume_host.proofs.OneFile.{with_at_self}
 use Rattle.flume_host.proofs.Telling.{back, follows}
 use Rattle.event_core.specs.Numbers.{u16_bytes, u32_bytes}
 use Rattle.netcat_source.specs.declared.replies.LineVerdict.{LineVerdict}
 use Rattle.netcat_source.specs.declared.replies.LineVerdict.TheVariants.{Accepted, InDoubt, NoMemory}
 use Rattle.agent_run.specs.Handled.{Handled, GoesOn, Start, verdicts_of, all_with, and_then}
-use Rattle.agent_run.specs.PlainLog.{AddsFrame, IsReady, Logs, Stands, frames, front, header, log_alone, no_files, plain_log, records}
+use Rattle.agent_run.specs.PlainLog.{AddsFrame, IsLog, IsReady, Logged, Logs, Stands, frames, front, header, no_files, plain_log, records}
 use Rattle.agent_run.proofs.LogFile.{with_at_twice}
 
 frames-push : (i : ℕ) (lines : List (List ℕ)) (line : List ℕ) → frames i (lines ++ line ∷ []) ≡ frames i lines ++ 1 ∷ records (i + length lines) line
@@ -30,15 +29,21 @@ front-push lines line =
 
 -- the frame of the next line goes behind those of the lines before
 pub logs_more : (start old new : Option Told) (gate next : ℕ) (lines : List (List ℕ)) (line : List ℕ) → next ≡ length lines → Logs start old lines → Tells old new (AddsFrame gate (records next line)) → Logs start new (lines ++ line ∷ [])
-logs_more start old new gate next lines line counted logs adds = follows start old new _ (AddsFrame gate (records next line)) _ (λ t u v _ _ _ a b. (a.0, more u v a.1 b)) logs adds
+logs_more start old new gate next lines line counted logs adds = follows start old new (Logged lines) (AddsFrame gate (records next line)) (Logged (lines ++ line ∷ [])) (λ t u v _ _ _ a b. more t u v a b) logs adds
   where
-    more : (u v : Told) → u.reads ≡ log_alone (plain_log lines) → AddsFrame gate (records next line) u v → v.reads ≡ log_alone (plain_log (lines ++ line ∷ []))
-    more u v is b =
-        let was : Some (plain_log lines) ≡ Some (b.bytes ++ 0 ∷ []) = sym (ap (λ (f : Files). f (Log 1)) is ∙ with_at_self no_files (Log 1) (Some (plain_log lines))) ∙ b.was in
+    more : (t u v : Told) → Logged lines t u → AddsFrame gate (records next line) u v → Logged (lines ++ line ∷ []) t v
+    more t u v a b =
+        let was : Some (plain_log lines) ≡ Some (b.bytes ++ 0 ∷ []) = sym a.log.reads ∙ b.was.reads in
         let same : front lines ++ 0 ∷ [] ≡ b.bytes ++ 0 ∷ [] = cc in
         let bytes : b.bytes ≡ front lines = sym (same_from_push (front lines) b.bytes 0 0 same).0 in
         let whole : b.bytes ++ 1 ∷ records next line ≡ front (lines ++ line ∷ []) = ap (λ x. x ++ 1 ∷ records next line) bytes ∙ ap (λ k. front lines ++ 1 ∷ records k line) counted ∙ front-push lines line in
-        b.is ∙ ap (λ x. with_at u.reads (Log 1) (Some (x ++ 0 ∷ []))) whole ∙ ap (λ (f : Files). with_at f (Log 1) (Some (plain_log (lines ++ line ∷ [])))) is ∙ with_at_twice no_files (Log 1) (Some (plain_log lines)) (Some (plain_log (lines ++ line ∷ [])))
+        record {
+          empty = a.empty;
+          reads =
+              b.reads ∙ ap (λ x. with_at u.reads (Log 1) (Some (x ++ 0 ∷ []))) whole ∙ ap (λ (f : Files). with_at f (Log 1) (Some (plain_log (lines ++ line ∷ [])))) a.reads
+              ∙ with_at_twice no_files (Log 1) (Some (plain_log lines)) (Some (plain_log (lines ++ line ∷ [])));
+          log = let P : List ℕ → Type 0 = λ x. IsLog v (x ++ 0 ∷ []) in subst P whole b.is;
+        }
 
 pub none_stops : (front last : List Handled) → All GoesOn (verdicts_of (front ++ last)) → All (λ h. GoesOn h.verdict → ⊥) last → last ≡ []
 none_stops front [] going stops = refl
@@ -99,5 +104,5 @@ stands_at_start start told faults later logs = record {
 pub ready_at_start : (start told : Option Told) → Logs start told [] → IsReady told 16
 unfolding header u16_bytes u32_bytes
 ready_at_start start told logs t is =
-    let reads = (back start told _ logs t is).2.1 in
-    (front [], ap (λ (f : Files). f (Log 1)) reads ∙ with_at_self no_files (Log 1) (Some (plain_log [])), refl)
+    let logged = (back start told (Logged []) logs t is).2 in
+    (front [], logged.log, refl)

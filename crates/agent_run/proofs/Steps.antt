@@ -1,14 +1,13 @@
 -- How each step of a session goes on, and what it ends with.
-use Rattle.std.proofs.Common.{◌≡◌, ◌⊎◌, inl, inr, ℕ, ◌+◌, ◌<◌, ◌≤◌, ◌^◌, Bool, true, false, cond, List, [], ◌∷◌, ◌++◌, length, take, drop, map, flat_map, All, Option, refl, sym, ap, subst, ◌∙◌, arith, append_assoc, length-append, length-take, length-drop, append-nil}
+use Rattle.std.proofs.Common.{◌≡◌, inl, inr, ℕ, ◌+◌, ◌<◌, ◌≤◌, Bool, true, false, cond, List, [], ◌∷◌, ◌++◌, length, take, drop, flat_map, All, Option, refl, sym, ap, subst, ◌∙◌, arith, append_assoc, length-append, length-take, length-drop, append-nil}
 use Rattle.std.specs.Io.KnownBytes.{Appends, Consumes, Keeps, prepend_known}
 use Rattle.std.proofs.KnownBytes.{Appends-nil, Appends-trans, Appends-kept, Consumes-kept}
 use Rattle.std.proofs.lemmas.List.{take-append-drop, map-append, take_at, take_all, length-map}
 use Rattle.std.proofs.lemmas.List.Concat.{flat_map-append}
 use Rattle.std.proofs.lemmas.List.Elements.{All-push, All-nil}
 use Rattle.std.proofs.lemmas.List.Sums.{count_by-le-length, sum_by-append}
-use Rattle.flume_host.specs.Causes.{Rose}
 use Rattle.netcat_source.specs.declared.replies.LineVerdict.{LineVerdict}
-use Rattle.netcat_source.specs.Lines.{IsLine, IsUnbroken, IsEnd, IsTooLong, IsCut, LinesEnd, Rest, TooLong, joined, ended}
+use Rattle.netcat_source.specs.Lines.{IsLine, IsUnbroken, IsEnd, LinesEnd, Rest, TooLong, joined}
 use Rattle.netcat_source.specs.Replies.{reply, end_reply, replies}
 use Rattle.agent_run.specs.Handled.{Handled, GoesOn, lines_of, verdicts_of, accepted_in, is_accepted, and_then}
 use Rattle.agent_run.specs.Session.{Progress, Served, Stopped, TakesLine, Fronts}

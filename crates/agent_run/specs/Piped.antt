@@ -1,5 +1,5 @@
 -- What a run of `pipe` has done, by its status.
-use Rattle.std.specs.Prelude.{◌≡◌, ◌⊎◌, ℕ, ◌≤◌, ◌<◌, ◌^◌, List, [], ◌++◌, length, All, Option}
+use Rattle.std.specs.Prelude.{◌≡◌, ◌⊎◌, ℕ, ◌≤◌, ◌<◌, ◌^◌, List, ◌++◌, length, All, Option}
 use Rattle.std.specs.Io.KnownBytes.{IsAtEnd}
 use Rattle.flume_host.specs.Causes.{Rose}
 use Rattle.flume_host.specs.HostState.{HostState}

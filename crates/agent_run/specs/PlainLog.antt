@@ -1,9 +1,9 @@
 -- A log file of one frame for each line.
-use Rattle.std.specs.Prelude.{◌≡◌, ◌⊎◌, ℕ, ◌+◌, ◌≤◌, suc, Option, Some, None, List, [], ◌∷◌, ◌++◌, length, codes, All, IsSome}
+use Rattle.std.specs.Prelude.{◌≡◌, ℕ, ◌+◌, ◌≤◌, suc, Option, Some, None, List, [], ◌∷◌, ◌++◌, length, codes, All, IsSome}
 use Rattle.flume_host.specs.declared.names.FileName.{FileName}
 use Rattle.flume_host.specs.declared.names.FileName.TheVariants.{Log}
 use Rattle.flume_host.specs.Causes.{Rose}
-use Rattle.flume_host.specs.Folder.{Files, with_at}
+use Rattle.flume_host.specs.Folder.{Files, There, stable, with_at}
 use Rattle.flume_host.specs.Told.{Told, WhereTold, Tells}
 use Rattle.event_core.specs.Numbers.{u16_bytes, u32_bytes, u64_bytes}
 use Rattle.event_core.specs.Content.{content, event_bytes}
@@ -47,20 +47,31 @@ no_files name = None
 abbrev pub log_alone : List ℕ → Files
 log_alone bytes = with_at no_files (Log 1) (Some bytes)
 
--- an empty folder now holds the log of these lines, and nothing else
+-- the log file reads so, and a stop leaves it so
+pub record IsLog (t : Told) (bytes : List ℕ) : Type 0 where
+  pub reads : t.reads (Log 1) ≡ Some bytes
+  pub stable : t.now (Log 1) ≡ There (stable bytes)
+
+-- an empty folder now holds the log of these lines and nothing else, and a stop leaves the log so
+pub record Logged (lines : List (List ℕ)) (t u : Told) : Type 0 where
+  pub empty : t.reads ≡ no_files
+  pub reads : u.reads ≡ log_alone (plain_log lines)
+  pub log : IsLog u (plain_log lines)
+
 abbrev pub Logs : Option Told → Option Told → List (List ℕ) → Type 0
-Logs before after lines = Tells before after (λ t u. (t.reads ≡ no_files) × (u.reads ≡ log_alone (plain_log lines)))
+Logs before after lines = Tells before after (Logged lines)
 
 -- where the folder is known, its log ends with a closed commit byte at this offset
 abbrev pub IsReady : Option Told → ℕ → Type 0
-IsReady told gate = WhereTold told (λ t. (bytes : List ℕ) × (t.reads (Log 1) ≡ Some (bytes ++ 0 ∷ [])) × (gate ≡ length bytes))
+IsReady told gate = WhereTold told (λ t. (bytes : List ℕ) × IsLog t (bytes ++ 0 ∷ []) × (gate ≡ length bytes))
 
 -- a frame of these records was added to the log that ended at this offset
 pub record AddsFrame (gate : ℕ) (records : List ℕ) (t u : Told) : Type 0 where
   pub bytes : List ℕ
-  pub was : t.reads (Log 1) ≡ Some (bytes ++ 0 ∷ [])
+  pub was : IsLog t (bytes ++ 0 ∷ [])
   pub at : gate ≡ length bytes
-  pub is : u.reads ≡ with_at t.reads (Log 1) (Some ((bytes ++ 1 ∷ records) ++ 0 ∷ []))
+  pub is : IsLog u ((bytes ++ 1 ∷ records) ++ 0 ∷ [])
+  pub reads : u.reads ≡ with_at t.reads (Log 1) (Some ((bytes ++ 1 ∷ records) ++ 0 ∷ []))
 
 -- the folder has a file, and reads as before
 abbrev pub Holds : Told → Told → Type 0

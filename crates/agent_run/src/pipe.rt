@@ -30,7 +30,11 @@ fn status_of(end: SessionEnd) -> u8
 }
 
 // One session on standard input and output.
-fn run_session<H: Host>(host: &mut H, mut lines: Lines, mut log: PlainLog<H::Disk>) -> (Outcome, H::Disk)
+fn run_session<H: Host>(
+    host: &mut H,
+    mut lines: Lines,
+    mut log: PlainLog<H::Disk>,
+) -> (Outcome, H::Disk)
     requires lines { lines ≡ record { max = 512; line = []; at = Cut.More } }
     requires ready { IsReady (H.Disk.told log.disk) log.gate }
     ensures piped { (start : Start) → Stands start (H.Disk.told log.disk) (H.Disk.faults log.disk) log.next []

@@ -70,7 +70,9 @@ pub fn run_agent<H: Host>(alloc: Global, words: &[String], host: &mut H) -> Outc
             outcome
         }
         None => {
-            host.say("usage: flume pipe DIR | agent -n NAME -f FILE | check -n NAME -f FILE | load N DIR");
+            host.say(
+                "usage: flume pipe DIR | agent -n NAME -f FILE | check -n NAME -f FILE | load N DIR",
+            );
             Outcome::ended(1)
         }
     }

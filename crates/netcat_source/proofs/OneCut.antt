@@ -1,8 +1,8 @@
 -- A text is cut into lines in one way.
-use Rattle.std.proofs.Common.{◌≡◌, ℕ, suc, ◌+◌, ◌<◌, ◌≤◌, List, [], ◌∷◌, ◌++◌, length, take, get_or, All, refl, sym, ap, ◌∙◌, subst, arith, append_assoc, length-append}
+use Rattle.std.proofs.Common.{◌≡◌, ℕ, List, [], ◌∷◌, ◌++◌, length, take, get_or, All, refl, sym, ap, ◌∙◌, arith, append_assoc, length-append}
 use Rattle.std.proofs.lemmas.List.{get_or_at, get_or-take, length-take-le}
 use Rattle.std.proofs.lemmas.List.Elements.{All-head, All-tail, All-get_or}
-use Rattle.netcat_source.specs.Lines.{IsLine, IsUnbroken, IsEnd, IsTooLong, IsCut, LinesEnd, Rest, TooLong, joined, ended}
+use Rattle.netcat_source.specs.Lines.{IsLine, IsUnbroken, IsEnd, IsCut, LinesEnd, Rest, TooLong, joined, ended}
 
 -- a newline stands behind an unbroken front in one place
 same_front : (l m x y : List ℕ) → IsUnbroken l → IsUnbroken m → l ++ 10 ∷ x ≡ m ++ 10 ∷ y → (l ≡ m) × (x ≡ y)

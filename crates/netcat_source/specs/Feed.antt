@@ -1,5 +1,5 @@
 -- What a piece does to the present line.
-use Rattle.std.specs.Prelude.{◌≡◌, ℕ, ◌<◌, ◌≤◌, List, [], ◌∷◌, ◌++◌, length, take}
+use Rattle.std.specs.Prelude.{◌≡◌, ℕ, ◌≤◌, List, [], ◌∷◌, ◌++◌, length, take}
 use Rattle.netcat_source.specs.Lines.{IsLine, IsUnbroken}
 use Rattle.netcat_source.specs.declared.lines.Cut.{Cut}
 use Rattle.netcat_source.specs.declared.lines.Cut.TheVariants.{More, Line, TooLong}

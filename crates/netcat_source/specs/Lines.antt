@@ -1,5 +1,5 @@
 -- How a text is cut into lines.
-use Rattle.std.specs.Prelude.{◌≡◌, ◌≢◌, ℕ, ◌+◌, ◌<◌, ◌≤◌, List, [], ◌∷◌, ◌++◌, length, take, ⊤, All, flat_map}
+use Rattle.std.specs.Prelude.{◌≡◌, ◌≢◌, ℕ, ◌<◌, ◌≤◌, List, [], ◌∷◌, ◌++◌, length, take, All, flat_map}
 
 -- What `max-line-length` may be. The event of a shorter line has less than 1,048,576 bytes.
 abbrev pub IsLineLimit : ℕ → Type 0

@@ -4,5 +4,4 @@ ghost use Rattle.netcat_source.specs.Lines.{OneCut};
 /// A text is cut into lines in one way.
 pub fn one_cut()
     ensures { OneCut }
-{
-}
+{}

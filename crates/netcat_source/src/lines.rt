@@ -3,7 +3,8 @@ ghost use Rattle.std.specs.Prelude.{◌≡◌, ◌<◌, ◌≤◌, ◌^◌, ◌+
 ghost use Rattle.netcat_source.specs.Lines.{IsUnbroken};
 ghost use Rattle.netcat_source.specs.Feed.{LineState, begun, Takes, Feeds, HoldsLine};
 
-use std::alloc::{AllocError, Global};
+use event_core::NoMemory;
+use std::alloc::Global;
 use std::marker::Model;
 
 /// What a piece brought to the present line.
@@ -89,7 +90,7 @@ fn take_piece(line: &mut Vec<u8>, max: usize, piece: &[u8]) -> (usize, Cut)
 
 impl Lines {
     /// A cutter at the start of a text. A line of `max` bytes without a newline is too long.
-    pub fn new(alloc: Global, max: u32) -> Result<Lines, AllocError>
+    pub fn new(alloc: Global, max: u32) -> Result<Lines, NoMemory>
         requires { 0 < max }
         ensures { IfOk result (λ lines. lines ≡ record { max = max; line = []; at = Cut.More }) }
     {

@@ -1,4 +1,4 @@
-use Rattle.std.proofs.Common.{◌≡◌, inl, inr, refl, ap, ◌∙◌, arith}
+use Rattle.std.proofs.Common.{◌≡◌, inl, inr, ap, arith}
 use Rattle.flume_host.specs.HostState.{HostState}
 use Rattle.agent_run.specs.declared.run.Outcome.{Outcome}
 use Rattle.agent_run.proofs.Outcomes.{early, given_back}

@@ -14,8 +14,8 @@ returns-clause-piped g c = λ start stands.
     let log = c.serve-session.new.store in
     rw c.close.ensures
     (piped _ _ _ _ _ _ _ _ _ _ _ _ _ c.take_input-source.ensures.left c.take_input-source.ensures.state c.take_output-sink.ensures.took c.take_output-sink.ensures.state
-      c.keep_input.ensures.state.1 c.keep_input.ensures.state.2 c.keep_output.ensures.state.1 c.keep_output.ensures.state.2
-      start (g.H.Disk.Disk.told log.disk) (g.H.Disk.Disk.faults log.disk) log.next c.serve-session.result.accepted c.serve-session.result.end _ c.take_output-sink.ensures.count
-      s.at_end (λ is. end is start stands) (λ is. long is start stands) (λ is. full is start stands) (λ is. stopped is start stands)
-      (λ is. let rose = s.in_doubt is in omega (arith, rose, stands.later)) (λ is. rw c.take_input-source.ensures.count at (s.read_fault is)) s.write_fault
-      c.status_of.result c.status_of.ensures)
+    c.keep_input.ensures.state.1 c.keep_input.ensures.state.2 c.keep_output.ensures.state.1 c.keep_output.ensures.state.2
+    start (g.H.Disk.Disk.told log.disk) (g.H.Disk.Disk.faults log.disk) log.next c.serve-session.result.accepted c.serve-session.result.end _ c.take_output-sink.ensures.count
+    s.at_end (λ is. end is start stands) (λ is. long is start stands) (λ is. full is start stands) (λ is. stopped is start stands)
+    (λ is. let rose = s.in_doubt is in omega (arith, rose, stands.later)) (λ is. rw c.take_input-source.ensures.count at (s.read_fault is)) s.write_fault
+    c.status_of.result c.status_of.ensures)

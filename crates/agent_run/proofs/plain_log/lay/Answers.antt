@@ -1,8 +1,7 @@
-use Rattle.std.proofs.Common.{◌≡◌, Option, None, refl, subst}
+use Rattle.std.proofs.Common.{None, refl}
 use Rattle.event_core.specs.Numbers.{u16_bytes, u32_bytes}
-use Rattle.flume_host.specs.declared.names.FileName.{FileName}
 use Rattle.flume_host.specs.Folder.{IsNext}
-use Rattle.flume_host.specs.Told.{Told, WhereTold}
+use Rattle.flume_host.specs.Told.{WhereTold}
 use Rattle.agent_run.specs.PlainLog.{header}
 use Rattle.agent_run.proofs.LogFile.{begun}
 use Rattle.agent_run.proofs.plain_log.lay.Goals as goal

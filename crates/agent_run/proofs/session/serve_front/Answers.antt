@@ -1,4 +1,4 @@
-use Rattle.std.proofs.Common.{◌≡◌, ◌++◌, [], ◌∷◌, take, ◌∙◌, arith}
+use Rattle.std.proofs.Common.{◌≡◌, ◌++◌, [], ◌∷◌, take, ◌∙◌}
 use Rattle.netcat_source.specs.Lines.{IsLine}
 use Rattle.netcat_source.specs.declared.lines.Cut.TheVariants.{Line}
 use Rattle.agent_run.specs.Session.{held_by}

@@ -1,8 +1,6 @@
-use Rattle.std.proofs.Common.{◌≡◌, ◌+◌, ◌++◌, ◌≤◌, ◌<◌, ◌^◌, ℕ, [], List, length, take, drop, ap, Err, refl, sym, ◌∙◌, arith, length-take, subst}
+use Rattle.std.proofs.Common.{◌≡◌, ◌+◌, ◌++◌, ◌≤◌, ◌<◌, ◌^◌, [], length, take, drop, ap, Err, refl, sym, ◌∙◌, arith, length-take}
 use Rattle.std.proofs.lemmas.List.{take-append-le}
 use Rattle.std.specs.Io.KnownBytes.{Consumes}
-use Rattle.agent_run.specs.Handled.{Start}
-use Rattle.agent_run.specs.Session.{Progress, held_by}
 use Rattle.agent_run.proofs.Bytes.{Keeps-same}
 use Rattle.agent_run.proofs.Steps.{earlier, fault_between, flushed, piece_read, resized, rest_done}
 use Rattle.agent_run.proofs.session.serve_until.Goals as goal

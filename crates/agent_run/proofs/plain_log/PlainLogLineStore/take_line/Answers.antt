@@ -1,4 +1,4 @@
-use Rattle.std.proofs.Common.{◌≡◌, ◌∙◌, refl, arith}
+use Rattle.std.proofs.Common.{◌∙◌, refl, arith}
 use Rattle.netcat_source.specs.declared.replies.LineVerdict.TheVariants.{InDoubt, NoMemory}
 use Rattle.agent_run.proofs.LogLines.{stands_more, stands_stopped}
 use Rattle.agent_run.proofs.plain_log.PlainLogLineStore.take_line.Goals as goal
