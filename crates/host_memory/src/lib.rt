@@ -15,3 +15,6 @@ pub use mem_disk::{DiskFault, MemDisk};
 pub use mem_host::MemHost;
 pub use parts::{MemFile, Part};
 pub use stream::{MemSink, MemSource};
+
+#[cfg(test)]
+mod tests;
