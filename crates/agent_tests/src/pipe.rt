@@ -85,7 +85,10 @@ fn empty_input_leaves_a_header(rt: HostRuntime) -> Result<(), Fail> {
     let mut host = host(rt.alloc(), given_lines(rt.alloc(), b"")?)?;
     assert_eq!(rt; run(rt.alloc(), &["pipe", "d"], &mut host)?, (0, 0));
     assert_eq!(rt; written(&host), b"".as_slice());
-    assert_eq!(rt; log_of(&host), Some(b"FLUMELOG\x00\x01\x00\x01\x00\x00\x00\x01\x00".as_slice()));
+    assert_eq!(rt;
+        log_of(&host),
+        Some(b"FLUMELOG\x00\x01\x00\x01\x00\x00\x00\x01\x00".as_slice())
+    );
     Ok(())
 }
 
@@ -108,9 +111,21 @@ fn every_line_has_its_answer_in_any_pieces(rt: HostRuntime) -> Result<(), Fail> 
         (b"a\r\n\nb\n".to_vec(alloc)?, (0, 3), b"OK\nOK\nOK\n"),
         (long_line(alloc, b"", 511, b"\n")?, (0, 1), b"OK\n"),
         (long_line(alloc, b"", 511, b"")?, (0, 0), b""),
-        (long_line(alloc, b"", 512, b"\n")?, (7, 0), b"FAILED: line too long\n"),
-        (long_line(alloc, b"a\n", 512, b"")?, (7, 1), b"OK\nFAILED: line too long\n"),
-        (long_line(alloc, b"", 9000, b"\na\n")?, (7, 0), b"FAILED: line too long\n"),
+        (
+            long_line(alloc, b"", 512, b"\n")?,
+            (7, 0),
+            b"FAILED: line too long\n",
+        ),
+        (
+            long_line(alloc, b"a\n", 512, b"")?,
+            (7, 1),
+            b"OK\nFAILED: line too long\n",
+        ),
+        (
+            long_line(alloc, b"", 9000, b"\na\n")?,
+            (7, 0),
+            b"FAILED: line too long\n",
+        ),
     ];
     for (input, outcome, answers) in &cases {
         for piece in [1, 3, 512, 10_000] {
@@ -118,7 +133,11 @@ fn every_line_has_its_answer_in_any_pieces(rt: HostRuntime) -> Result<(), Fail> 
             given.source = given.source.in_pieces(vec![in alloc; piece]?);
             given.sink = given.sink.in_pieces(vec![in alloc; 2]?);
             let mut host = host(alloc, given)?;
-            assert_eq!(rt; run(alloc, &["pipe", "d"], &mut host)?, *outcome, "pieces of {piece}");
+            assert_eq!(rt;
+                run(alloc, &["pipe", "d"], &mut host)?,
+                *outcome,
+                "pieces of {piece}"
+            );
             assert_eq!(rt; written(&host), *answers, "pieces of {piece}");
         }
     }
@@ -156,7 +175,10 @@ fn other_words_are_no_command(rt: HostRuntime) -> Result<(), Fail> {
         assert_eq!(rt; run(alloc, words, &mut host)?, (1, 0));
         assert_eq!(rt; written(&host), b"".as_slice());
         assert_eq!(rt; log_of(&host), None);
-        assert_eq!(rt; only_line(&host), "usage: flume pipe DIR | agent -n NAME -f FILE | check -n NAME -f FILE | load N DIR");
+        assert_eq!(rt;
+            only_line(&host),
+            "usage: flume pipe DIR | agent -n NAME -f FILE | check -n NAME -f FILE | load N DIR"
+        );
     }
     Ok(())
 }
@@ -174,9 +196,15 @@ fn a_failing_disk_leaves_the_line_in_doubt(rt: HostRuntime) -> Result<(), Fail> 
                 _ => ((0, 2), b"OK\nOK\n"),
             };
             let mut given = given_lines(alloc, b"a\nb\n")?;
-            given.disk = given.disk.failing_at(vec![in alloc; DiskFault { call, part }]?);
+            given.disk = given
+                .disk
+                .failing_at(vec![in alloc; DiskFault { call, part }]?);
             let mut host = host(alloc, given)?;
-            assert_eq!(rt; run(alloc, &["pipe", "d"], &mut host)?, outcome, "call {call}");
+            assert_eq!(rt;
+                run(alloc, &["pipe", "d"], &mut host)?,
+                outcome,
+                "call {call}"
+            );
             assert_eq!(rt; written(&host), answers, "call {call}");
             if outcome.0 == 3 {
                 assert_eq!(rt; only_line(&host), "flume: fault outside");
@@ -202,7 +230,11 @@ fn a_failing_output_cuts_the_answers(rt: HostRuntime) -> Result<(), Fail> {
         let mut given = given_lines(alloc, b"a\nb\n")?;
         given.sink = given.sink.failing_at(vec![in alloc; call as u64]?);
         let mut host = host(alloc, given)?;
-        assert_eq!(rt; run(alloc, &["pipe", "d"], &mut host)?, *outcome, "call {call}");
+        assert_eq!(rt;
+            run(alloc, &["pipe", "d"], &mut host)?,
+            *outcome,
+            "call {call}"
+        );
         assert_eq!(rt; written(&host), *answers, "call {call}");
     }
     Ok(())
@@ -212,7 +244,10 @@ fn a_failing_output_cuts_the_answers(rt: HostRuntime) -> Result<(), Fail> {
 fn a_failing_input_or_opening_ends_with_a_fault(rt: HostRuntime) -> Result<(), Fail> {
     let alloc = rt.alloc();
     let mut given = given_lines(alloc, b"a\nb\n")?;
-    given.source = given.source.in_pieces(vec![in alloc; 2]?).failing_at(vec![in alloc; 1]?);
+    given.source = given
+        .source
+        .in_pieces(vec![in alloc; 2]?)
+        .failing_at(vec![in alloc; 1]?);
     let mut first = host(alloc, given)?;
     assert_eq!(rt; run(alloc, &["pipe", "d"], &mut first)?, (3, 1));
     assert_eq!(rt; written(&first), b"OK\n".as_slice());
