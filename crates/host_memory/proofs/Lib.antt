@@ -3,3 +3,4 @@ mod Files
 mod Least
 mod Replay
 mod Paths
+mod Tearing

@@ -17,7 +17,7 @@ use Rattle.host_memory.specs.declared.parts.Outcome.TheVariants.{Whole, Partly, 
 use Rattle.host_memory.specs.Parts.{files_of, place, call_of, front_of, part_after, answer_of, step, step_by, run, start, told_of, told_by}
 use Rattle.host_memory.proofs.Files.{files_of-set, files_of-push, files_of-filter, other_than, placed, not_placed}
 
-run-push : (t : Told) (calls : List MemCall) (call : MemCall) → run t (calls ++ call ∷ []) ≡ step call (run t calls)
+pub run-push : (t : Told) (calls : List MemCall) (call : MemCall) → run t (calls ++ call ∷ []) ≡ step call (run t calls)
 run-push t [] call = refl
 run-push t (c ∷ calls) call = run-push (step c t) calls call
 

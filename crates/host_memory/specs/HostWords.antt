@@ -1,9 +1,11 @@
 -- What a host in memory tells.
-use Rattle.std.specs.Prelude.{ℕ, List, Option}
+use Rattle.std.specs.Prelude.{ℕ, List, Option, IsSome}
+use Rattle.std.specs.declared.string.String.{String}
+use Rattle.std.specs.declared.alloc.Global.{Global}
 use Rattle.flume_host.specs.Told.{Told}
 use Rattle.flume_host.specs.HostState.{HostState}
 use Rattle.host_memory.specs.declared.mem_host.MemHost.{MemHost}
-use Rattle.host_memory.specs.Folders.{input_of, output_of, folder_of}
+use Rattle.host_memory.specs.Folders.{input_of, output_of, folder_of, folder_place}
 
 abbrev pub state_in : MemHost → HostState
 state_in h = record { input = input_of h.input; output = output_of h.output; faults = h.faults; disk_faults = h.disk_faults }
@@ -11,3 +13,18 @@ state_in h = record { input = input_of h.input; output = output_of h.output; fau
 -- what the disk of a folder tells, by the folder's path
 abbrev pub folder_in : MemHost → List ℕ → Option Told
 folder_in h = folder_of h.folders.items
+
+-- the host has a folder of this path
+abbrev pub HasFolder : MemHost → List ℕ → Type 0
+HasFolder h path = IsSome (folder_place h.folders.items path)
+
+-- the lines that were said
+abbrev pub said_in : MemHost → List (String Global)
+said_in h = h.said.items
+
+-- the numbers of the openings that are to fail, and of the next one
+abbrev pub open_fails : MemHost → List ℕ
+open_fails h = h.opens.fails.items
+
+abbrev pub open_calls : MemHost → ℕ
+open_calls h = h.opens.calls

@@ -26,7 +26,7 @@ wider s at m k bytes le may = record {
   same = λ i below clear. may.same i below (clear_less i at m k le clear.0, clear.1);
 }
 
-wider_entry : (entry : Entry) (at m k : ℕ) (file : Option (List ℕ)) → m ≤ k → Allows (write_entry at m entry) file → Allows (write_entry at k entry) file
+pub wider_entry : (entry : Entry) (at m k : ℕ) (file : Option (List ℕ)) → m ≤ k → Allows (write_entry at m entry) file → Allows (write_entry at k entry) file
 wider_entry Gone at m k file le allows = allows
 wider_entry (There s) at m k None le allows = allows
 wider_entry (There s) at m k (Some bytes) le allows = wider s at m k bytes le allows
@@ -34,10 +34,10 @@ wider_entry (Unsure s) at m k None le allows = allows
 wider_entry (Unsure s) at m k (Some bytes) le allows = wider s at m k bytes le allows
 
 -- one file alone
-under_one : (change : Change) (entry : Entry) (file : Option (List ℕ)) → Allows entry file → Allows (entry_under change entry) file
+pub under_one : (change : Change) (entry : Entry) (file : Option (List ℕ)) → Allows entry file → Allows (entry_under change entry) file
 under_one change entry file allows = keeps_under (λ n. file) (λ n. entry) (λ n. allows) (On (Log 0) change) (Log 0)
 
-written_one : (at : ℕ) (bytes : List ℕ) (entry : Entry) (file : Option (List ℕ)) → Allows entry file → Allows (write_entry at (length bytes) entry) (file_after (Write at bytes) file)
+pub written_one : (at : ℕ) (bytes : List ℕ) (entry : Entry) (file : Option (List ℕ)) → Allows entry file → Allows (write_entry at (length bytes) entry) (file_after (Write at bytes) file)
 written_one at bytes entry file allows = keeps_done (λ n. file) (λ n. entry) (λ n. allows) (On (Log 0) (Write at bytes)) (Log 0)
 
 making : (entry : Entry) → Allows entry None → Allows (entry_under Make entry) (Some [])
@@ -53,7 +53,7 @@ removing Gone = tt
 removing (There s) = tt
 removing (Unsure s) = tt
 
-part_one : (n : ℕ) (change : Change) (entry : Entry) (file : Option (List ℕ)) → Allows entry file → Allows (entry_under change entry) (part_after n change file)
+pub part_one : (n : ℕ) (change : Change) (entry : Entry) (file : Option (List ℕ)) → Allows entry file → Allows (entry_under change entry) (part_after n change file)
 part_one n Make entry None allows = making entry allows
 part_one n Make entry (Some was) allows = under_one Make entry (Some was) allows
 part_one n (Write at bytes) entry file allows = wider_entry entry at (length (take n bytes)) (length bytes) (file_after (Write at (take n bytes)) file) (front_shorter n bytes) (written_one at (take n bytes) entry file allows)
@@ -63,7 +63,7 @@ part_one n (Write at bytes) entry file allows = wider_entry entry at (length (ta
 part_one n Sync entry file allows = allows
 part_one n Remove entry file allows = removing entry
 
-here_or_there : (b : Bool) (new old : Entry) (image other : Option (List ℕ)) → Allows new image → Allows old other → Allows (if b then new else old) (if b then image else other)
+pub here_or_there : (b : Bool) (new old : Entry) (image other : Option (List ℕ)) → Allows new image → Allows old other → Allows (if b then new else old) (if b then image else other)
 here_or_there true new old image other here there = here
 here_or_there false new old image other here there = there
 

@@ -6,6 +6,7 @@ use Rattle.host_memory.specs.declared.stream.MemSource.{MemSource}
 use Rattle.host_memory.specs.declared.stream.MemSink.{MemSink}
 use Rattle.host_memory.specs.declared.store.Store.{Store}
 use Rattle.host_memory.specs.declared.mem_disk.MemDisk.{MemDisk}
+use Rattle.host_memory.specs.declared.mem_disk.DiskFault.{DiskFault}
 use Rattle.host_memory.specs.Stream.{left_of, took_by}
 use Rattle.host_memory.specs.Parts.{told_of, told_by}
 
@@ -13,12 +14,34 @@ use Rattle.host_memory.specs.Parts.{told_of, told_by}
 abbrev pub left_in : MemSource → Option (List ℕ)
 left_in s = left_of s.tells s.bytes.items s.at
 
+-- the numbers of the reads that are to fail, and of the next one
+abbrev pub source_fails : MemSource → List ℕ
+source_fails s = s.script.fails.items
+
+abbrev pub source_calls : MemSource → ℕ
+source_calls s = s.script.calls
+
+-- the most that each read gives
+abbrev pub source_pieces : MemSource → List ℕ
+source_pieces s = s.pieces.items
+
 abbrev pub source_faults : MemSource → ℕ
 source_faults s = s.faults
 
 -- what a sink took, where it tells
 abbrev pub took_in : MemSink → Option (List ℕ)
 took_in s = took_by s.tells s.bytes.items
+
+-- the numbers of the calls that are to fail, and of the next one
+abbrev pub sink_fails : MemSink → List ℕ
+sink_fails s = s.script.fails.items
+
+abbrev pub sink_calls : MemSink → ℕ
+sink_calls s = s.script.calls
+
+-- the most that each write takes
+abbrev pub sink_pieces : MemSink → List ℕ
+sink_pieces s = s.pieces.items
 
 abbrev pub sink_faults : MemSink → ℕ
 sink_faults s = s.faults
@@ -31,6 +54,10 @@ replayed s = told_of s.first.items s.calls.items
 abbrev pub told_in : MemDisk → Option Told
 told_in d = told_by d.tells d.store.first.items d.store.calls.items
 
+-- what a disk would tell by its record, also where it tells nothing
+abbrev pub record_in : MemDisk → Told
+record_in d = replayed d.store
+
 -- what reads of a disk give
 abbrev pub reads_in : MemDisk → Files
 reads_in d = (replayed d.store).reads
@@ -38,6 +65,13 @@ reads_in d = (replayed d.store).reads
 -- how many of its recorded calls were syncs
 abbrev pub syncs_in : MemDisk → ℕ
 syncs_in d = (replayed d.store).syncs
+
+-- the calls that are to fail, and the number of the next one
+abbrev pub disk_script : MemDisk → List DiskFault
+disk_script d = d.script.faults.items
+
+abbrev pub disk_calls : MemDisk → ℕ
+disk_calls d = d.script.calls
 
 abbrev pub disk_faults : MemDisk → ℕ
 disk_faults d = d.faults

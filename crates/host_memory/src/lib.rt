@@ -7,6 +7,7 @@ mod mem_disk;
 mod mem_host;
 mod parts;
 mod script;
+mod stops;
 mod store;
 mod stream;
 
@@ -14,6 +15,7 @@ pub use folders::MemFolder;
 pub use mem_disk::{DiskFault, MemDisk};
 pub use mem_host::MemHost;
 pub use parts::{MemFile, Part};
+pub use stops::Stood;
 pub use stream::{MemSink, MemSource};
 
 #[cfg(test)]

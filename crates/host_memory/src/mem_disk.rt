@@ -4,6 +4,7 @@ ghost use Rattle.host_memory.specs.Parts.{answer_of, told_by};
 
 use crate::parts::{MemFile, Outcome, Part, least_above, place_of, read_bytes};
 use crate::script::counted;
+use crate::stops::{Stood, image_at};
 use crate::store::Store;
 use flume_host::{Disk, Failed, FileName};
 use std::alloc::{AllocError, Global};
@@ -65,9 +66,10 @@ pub struct MemDisk {
 }
 
 impl MemDisk {
-    ghost use Rattle.std.specs.Prelude.{[], None, Some, IfOk, MatchOption};
-    ghost use Rattle.host_memory.specs.Parts.{start};
-    ghost use Rattle.host_memory.specs.Words.{told_in, disk_faults, reads_in, syncs_in};
+    ghost use Rattle.std.specs.Prelude.{[], List, None, Some, IfOk, MatchOption};
+    ghost use Rattle.host_memory.specs.Parts.{files_of, start};
+    ghost use Rattle.flume_host.specs.Told.{IsLeftAt, clock};
+    ghost use Rattle.host_memory.specs.Words.{told_in, disk_calls, disk_faults, disk_script, reads_in, record_in, syncs_in};
 
     /// An empty disk that tells, no call of which is to fail.
     pub fn new(alloc: Global) -> Self
@@ -112,9 +114,28 @@ impl MemDisk {
         self.store.syncs()
     }
 
+    /// A disk as a stop at a moment may have left this one, its files stable: moment m is within the recorded call
+    /// number m, or after the last. Each recorded call has a choice of what stands of it, and the choices go round.
+    pub fn stopped_at(&self, moment: u64, choices: &[Stood]) -> Result<Self, AllocError>
+        ensures left { IfOk result (λ disk. (files : List MemFile) × (told_in disk ≡ Some (start files)) × IsLeftAt (record_in self.now) moment (files_of files)) }
+        ensures count { IfOk result (λ disk. disk_faults disk ≡ 0) }
+    {
+        let alloc = self.store.alloc;
+        let files = image_at(alloc, &self.store.first, &self.store.calls, moment, choices)?;
+        MemDisk::with_files(alloc, files)
+    }
+
+    /// How many calls were recorded: those that change the disk, but for those that want of memory kept from being so.
+    pub fn moments(&self) -> u64
+        ensures { result ≡ clock (record_in self.now) }
+    {
+        self.store.calls.len() as u64
+    }
+
     /// These calls are to fail.
     pub fn failing_at(mut self, faults: Vec<DiskFault>) -> Self
         ensures told { told_in result ≡ told_in self }
+        ensures script { (disk_script result ≡ faults.items) × (disk_calls result ≡ disk_calls self) }
         ensures count { disk_faults result ≡ disk_faults self }
     {
         self.script.faults = faults;
@@ -131,7 +152,9 @@ impl MemDisk {
     }
 
     /// How many calls there were, of all eight.
-    pub fn calls(&self) -> u64 {
+    pub fn calls(&self) -> u64
+        ensures { result ≡ disk_calls self.now }
+    {
         self.script.calls
     }
 }

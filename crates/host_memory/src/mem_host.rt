@@ -24,10 +24,9 @@ pub struct MemHost {
 }
 
 impl MemHost {
-    ghost use Rattle.std.specs.Prelude.{Some, None, IfSome, MatchOption, string_bytes, List};
-    ghost use Rattle.flume_host.specs.HostState.{HostState};
+    ghost use Rattle.std.specs.Prelude.{IfSome, IsSome};
     ghost use Rattle.host_memory.specs.Words.{left_in, took_in, told_in};
-    ghost use Rattle.host_memory.specs.HostWords.{state_in, folder_in};
+    ghost use Rattle.host_memory.specs.HostWords.{state_in, folder_in, open_calls, open_fails, said_in, HasFolder};
 
     /// A host with this input, this output and these folders. Where a path stands twice, its first folder counts.
     pub fn new(alloc: Global, input: MemSource, output: MemSink, folders: Vec<MemFolder>) -> Self
@@ -50,31 +49,38 @@ impl MemHost {
     pub fn failing_opens(mut self, calls: Vec<u64>) -> Self
         ensures state { state_in result ≡ state_in self }
         ensures folders { folder_in result ≡ folder_in self }
+        ensures script { (open_fails result ≡ calls.items) × (open_calls result ≡ open_calls self) }
     {
         self.opens.fails = calls;
         self
     }
 
     /// How many openings of disks there were.
-    pub fn opens(&self) -> u64 {
+    pub fn opens(&self) -> u64
+        ensures { result ≡ open_calls self.now }
+    {
         self.opens.calls
     }
 
     /// The lines that were said to standard error, for as many as there was memory.
-    pub fn said(&self) -> &[String] {
+    pub fn said(&self) -> &[String]
+        ensures { result.now ≡ said_in self.now }
+    {
         &self.said
     }
 
     /// Standard output, while it is not handed out.
     pub fn output(&self) -> Option<&MemSink>
-        ensures { IfSome result (λ sink. took_in sink.now ≡ (state_in self.now).output) }
+        ensures took { IfSome result (λ sink. took_in sink.now ≡ (state_in self.now).output) }
+        ensures there { IsSome (state_in self.now).output → IsSome result }
     {
         self.output.as_ref()
     }
 
     /// The disk of a folder, where the folder is there and not handed out.
     pub fn disk(&self, path: &str) -> Option<&MemDisk>
-        ensures { IfSome result (λ disk. told_in disk.now ≡ folder_in self.now path.now) }
+        ensures told { IfSome result (λ disk. told_in disk.now ≡ folder_in self.now path.now) }
+        ensures there { HasFolder self.now path.now → IsSome (folder_in self.now path.now) → IsSome result }
     {
         match place_of_folder(&self.folders, path) {
             Some(index) => self.folders[index].disk.as_ref(),

@@ -1,6 +1,7 @@
 // Which calls of an object are to fail.
 ghost use Rattle.std.specs.Prelude.{◌≡◌, ◌≤◌, ◌<◌, ◌+◌, ◌-◌, ◌*◌, ◌%◌, ◌^◌, ◌↔◌, ℕ, min, Contains, IsTrue, length};
 ghost use Rattle.flume_host.specs.Causes.{HasCause};
+ghost use Rattle.host_memory.specs.Stream.{piece_of};
 
 use flume_host::Failed;
 use std::alloc::Global;
@@ -47,7 +48,8 @@ pub fn counted<T>(faults: &mut u64, answer: Result<T, Failed>) -> Result<T, Fail
 
 /// The most that this call gives or takes: the numbers go round, a 0 counts as 1, and without numbers there is no bound.
 pub fn piece_at(pieces: &[usize], call: u64) -> usize
-    ensures { 1 ≤ result }
+    ensures turn { result ≡ piece_of pieces.now call }
+    ensures some { 1 ≤ result }
 {
     if pieces.is_empty() {
         return usize::MAX;

@@ -20,7 +20,7 @@ pub struct MemSource {
 }
 
 impl MemSource {
-    ghost use Rattle.host_memory.specs.Words.{left_in, source_faults};
+    ghost use Rattle.host_memory.specs.Words.{left_in, source_calls, source_fails, source_faults, source_pieces};
 
     /// A source that tells, gives all that is asked for, and never fails.
     pub fn new(alloc: Global, bytes: Vec<u8>) -> Self
@@ -40,6 +40,8 @@ impl MemSource {
     /// Read number n gives at most the n-th of these numbers. They go round, and a 0 counts as 1.
     pub fn in_pieces(mut self, pieces: Vec<usize>) -> Self
         ensures left { left_in result ≡ left_in self }
+        ensures pieces { source_pieces result ≡ pieces.items }
+        ensures script { (source_fails result ≡ source_fails self) × (source_calls result ≡ source_calls self) }
         ensures count { source_faults result ≡ source_faults self }
     {
         self.pieces = pieces;
@@ -49,6 +51,8 @@ impl MemSource {
     /// The reads of these numbers fail. The first read has the number 0.
     pub fn failing_at(mut self, calls: Vec<u64>) -> Self
         ensures left { left_in result ≡ left_in self }
+        ensures pieces { source_pieces result ≡ source_pieces self }
+        ensures script { (source_fails result ≡ calls.items) × (source_calls result ≡ source_calls self) }
         ensures count { source_faults result ≡ source_faults self }
     {
         self.script.fails = calls;
@@ -65,7 +69,9 @@ impl MemSource {
     }
 
     /// How many reads there were.
-    pub fn calls(&self) -> u64 {
+    pub fn calls(&self) -> u64
+        ensures { result ≡ source_calls self.now }
+    {
         self.script.calls
     }
 }
@@ -102,7 +108,7 @@ pub struct MemSink {
 }
 
 impl MemSink {
-    ghost use Rattle.host_memory.specs.Words.{took_in, sink_faults};
+    ghost use Rattle.host_memory.specs.Words.{took_in, sink_calls, sink_fails, sink_faults, sink_pieces};
 
     /// An empty sink that tells, takes all that it is given, and fails only for want of memory.
     pub fn new(alloc: Global) -> Self
@@ -121,6 +127,8 @@ impl MemSink {
     /// A write that is call number n takes at most the n-th of these numbers. They go round, and a 0 counts as 1.
     pub fn in_pieces(mut self, pieces: Vec<usize>) -> Self
         ensures took { took_in result ≡ took_in self }
+        ensures pieces { sink_pieces result ≡ pieces.items }
+        ensures script { (sink_fails result ≡ sink_fails self) × (sink_calls result ≡ sink_calls self) }
         ensures count { sink_faults result ≡ sink_faults self }
     {
         self.pieces = pieces;
@@ -130,6 +138,8 @@ impl MemSink {
     /// The calls of these numbers fail, writes and flushes counted together. The first has the number 0.
     pub fn failing_at(mut self, calls: Vec<u64>) -> Self
         ensures took { took_in result ≡ took_in self }
+        ensures pieces { sink_pieces result ≡ sink_pieces self }
+        ensures script { (sink_fails result ≡ calls.items) × (sink_calls result ≡ sink_calls self) }
         ensures count { sink_faults result ≡ sink_faults self }
     {
         self.script.fails = calls;
@@ -153,7 +163,9 @@ impl MemSink {
     }
 
     /// How many writes and flushes there were.
-    pub fn calls(&self) -> u64 {
+    pub fn calls(&self) -> u64
+        ensures { result ≡ sink_calls self.now }
+    {
         self.script.calls
     }
 }

@@ -1,7 +1,7 @@
 // What no clause says: chosen failures happen, and calls succeed with ample memory.
 ghost use Rattle.std.specs.Prelude.{◌≡◌};
 
-use crate::{DiskFault, MemDisk, MemFile, MemFolder, MemHost, MemSink, MemSource, Part};
+use crate::{DiskFault, MemDisk, MemFile, MemFolder, MemHost, MemSink, MemSource, Part, Stood};
 use flume_host::{Disk, Failed, FileName, Host, NameRefused, Sink, Source};
 use std::alloc::{AllocError, Global};
 use std::test::Fail;
@@ -163,6 +163,38 @@ fn a_disk_fails_where_chosen(rt: HostRuntime) -> Result<(), Fail> {
     assert_eq!(rt; disk.file(ONE), None);
     assert_eq!(rt; disk.file(TWO), Some(b"ayz".as_slice()));
     assert_eq!(rt; (disk.calls(), disk.syncs(), disk.faults()), (11, 1, 10));
+    Ok(())
+}
+
+#[test]
+fn a_stop_leaves_what_is_chosen(rt: HostRuntime) -> Result<(), Fail> {
+    let alloc = rt.alloc();
+    let mut disk = disk(alloc)?;
+    let steps = [
+        Step::Make(TWO),
+        Step::Write(TWO, 0, b"abc"),
+        Step::Sync(TWO),
+        Step::Write(TWO, 0, b"XY"),
+        Step::Remove(ONE),
+    ];
+    for step in steps {
+        assert_eq!(rt; try_step(&mut disk, step), Some(true));
+    }
+    assert_eq!(rt; disk.moments(), 5);
+    let old = Stood::Old;
+    for (moment, written, removed, two, one) in [
+        (2, old, old, b"abc".as_slice(), true),
+        (3, old, old, b"abc".as_slice(), true),
+        (3, Stood::New, old, b"XYc".as_slice(), true),
+        (3, Stood::Front(1), old, b"Xbc".as_slice(), true),
+        (4, Stood::Garbage(b'?'), old, b"??c".as_slice(), true),
+        (4, old, Stood::New, b"abc".as_slice(), false),
+        (5, old, old, b"abc".as_slice(), false),
+    ] {
+        let left = disk.stopped_at(moment, &[Stood::New, Stood::New, old, written, removed])?;
+        assert_eq!(rt; left.file(TWO), Some(two), "at {moment}");
+        assert_eq!(rt; left.file(ONE).is_some(), one, "at {moment}");
+    }
     Ok(())
 }
 

@@ -22,5 +22,5 @@ returns-clause-bytes c =
     let room : n ≤ length c.args.into.now = omega (arith, c.min-n.ensures, c.min.ensures) in
     let len : length c.copy_from_slice.new.self ≡ n = omega (arith, c.copy_from_slice.ensures.len, length-take n c.args.into.now, room) in (
       given c.args.self.now.tells items at n c.copy_from_slice.new.self (drop n c.args.into.now) e len,
-      λ zero more. none_left c.args.self.now.tells items (at + n) (omega (arith, zero, more, len, room, length-append c.copy_from_slice.new.self (drop n c.args.into.now), length-drop n c.args.into.now, c.min-n.ensures, c.min.ensures, c.len.ensures, c.piece_at-most.ensures, c.args.self.now.bytes.ok.0)),
+      λ zero more. none_left c.args.self.now.tells items (at + n) (omega (arith, zero, more, len, room, length-append c.copy_from_slice.new.self (drop n c.args.into.now), length-drop n c.args.into.now, c.min-n.ensures, c.min.ensures, c.len.ensures, c.piece_at-most.ensures.some, c.args.self.now.bytes.ok.0)),
     )
