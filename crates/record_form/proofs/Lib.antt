@@ -5,3 +5,4 @@ pub mod KindEnds
 pub mod HeaderWrites
 pub mod PutWrites
 pub mod Inversions
+pub mod Again

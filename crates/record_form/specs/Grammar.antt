@@ -99,3 +99,9 @@ as_read (Fault at) = Bad at
 
 abbrev pub read_of : List ℕ → Read
 read_of bytes = as_read (outcome_of bytes)
+
+-- a record stands at the front
+abbrev pub IsWhole : Read → Type 0
+IsWhole (Whole kind length) = Unit {0}
+IsWhole Part = ⊥
+IsWhole (Bad at) = ⊥

@@ -1,11 +1,13 @@
 //! The records of a channel's log, and their bytes.
 #![tactic(auto)]
 
+mod building;
 mod fields;
 mod reading;
 mod record;
 mod writing;
 
+pub use building::rec_of;
 pub use reading::read_record;
 pub use record::{MAX_PUT_SIZE, Pointer, Read, Rec};
 pub use writing::{write_put, write_record};

@@ -8,12 +8,9 @@ ghost use Rattle.record_form.specs.declared.record.Rec.{Rec};
 ghost use Rattle.record_form.specs.declared.record.Rec.TheVariants.{Put};
 
 use crate::fields::{Stop, count_end, skip, text_at, u32_at};
-use crate::record::{COMMIT_PUT, COMMIT_TAKE, END, MAX_PUT_SIZE, PUT, ROLLBACK, Read, TAKE};
-
-// Where a PUT has its event's length, its event, and the event's headers.
-const SIZE_AT: usize = 9;
-const EVENT_AT: usize = 13;
-const HEADERS_AT: usize = 17;
+use crate::record::{
+    COMMIT_PUT, COMMIT_TAKE, END, EVENT_AT, HEADERS_AT, MAX_PUT_SIZE, PUT, ROLLBACK, Read, SIZE_AT, TAKE,
+};
 
 // The place behind so many headers.
 fn headers_end(bytes: &[u8], start: usize, end: usize, number: u32) -> Result<usize, Stop>

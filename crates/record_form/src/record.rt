@@ -12,6 +12,11 @@ pub(crate) const COMMIT_PUT: u8 = 4;
 pub(crate) const COMMIT_TAKE: u8 = 5;
 pub(crate) const END: u8 = 6;
 
+// Where a PUT has its event's length, its event, and the event's headers.
+pub(crate) const SIZE_AT: usize = 9;
+pub(crate) const EVENT_AT: usize = 13;
+pub(crate) const HEADERS_AT: usize = 17;
+
 /// A record of the log.
 #[derive(Drop)]
 pub enum Rec {
