@@ -6,3 +6,5 @@ pub mod HeaderWrites
 pub mod PutWrites
 pub mod Inversions
 pub mod Again
+pub mod Cuts
+pub mod Spelled
