@@ -1,0 +1,15 @@
+//! The records of a channel's log, and their bytes.
+#![tactic(auto)]
+
+mod building;
+mod fields;
+mod laws;
+mod reading;
+mod record;
+mod writing;
+
+pub use building::rec_of;
+pub use laws::{cut_is_part, lengths, one_spelling, read_is_spelled, written_is_read};
+pub use reading::read_record;
+pub use record::{MAX_PUT_SIZE, Pointer, Read, Rec};
+pub use writing::{write_put, write_record};
