@@ -1,0 +1,5 @@
+pub mod Content
+pub mod Journal
+pub mod Numbers
+pub mod Refusals
+pub mod Texts
