@@ -14,7 +14,10 @@ use Rattle.std.specs.Prelude.{Result, Ok, Err, pos}
 use Rattle.avro_binary.proofs.Faults.{Moves, moved, moved_refusal, same_place, behind}
 
 pub shift-shift : (m n : ℕ) (f : Fault) → shift m (shift n f) ≡ shift (m + n) f
-shift-shift m n (Lacks k) = ap Lacks (omega arith)
+shift-shift m n (Lacks at k) =
+    let e : m + (n + at) ≡ m + n + at = omega arith in
+    let g : m + (n + k) ≡ m + n + k = omega arith in
+    cc
 shift-shift m n (Wrong k) = ap Wrong (omega arith)
 
 -- Behind this front so many items of a block are left, and these values came before.
@@ -23,7 +26,10 @@ pub record Continues {V : Type 0} (Item : List ℕ → V → Type 0) (Faults : L
   pub faults : Moves (ItemsFault Item Faults left) (ItemsFault Item Faults 0) front
 
 shift_zero : (f : Fault) → shift 0 f ≡ f
-shift_zero (Lacks k) = ap Lacks (omega arith)
+shift_zero (Lacks at k) =
+    let e : 0 + at ≡ at = omega arith in
+    let g : 0 + k ≡ k = omega arith in
+    cc
 shift_zero (Wrong k) = ap Wrong (omega arith)
 
 pub starts : {V : Type 0} (Item : List ℕ → V → Type 0) (Faults : List ℕ → Fault → Type 0) → Continues Item Faults [] 0 []

@@ -92,7 +92,7 @@ pub nothing_yet : (batch : List Content) → batch ≡ [] → Collects [] batch 
 nothing_yet batch e = record { large_is = refl; all = λ h. e }
 
 pub batch_refusal : (bytes : List ℕ) (at : ℕ) (e : ValueRefused) → IsRefusal BatchFault bytes at e → ReadsBatch bytes at (Err e)
-batch_refusal bytes at (Short need) f = f
+batch_refusal bytes at (Short field need) f = f
 batch_refusal bytes at (Bad place) f = f
 batch_refusal bytes at (TooLarge n) f = absurd f
 batch_refusal bytes at NoMemory f = tt

@@ -37,7 +37,7 @@ more_found b rest most TooLong low high some g other =
 more_found b rest most TooWide low high some g other = wide_front b rest most g.0 g.1 low high some g.2 (let h = g.3 in omega arith)
 
 -- why there is no number
-pub cut_fault : (most max : ℕ) (rest : List ℕ) → GroupsAre most rest Cut → NumberFault most max rest (Lacks (length rest + 1))
+pub cut_fault : (most max : ℕ) (rest : List ℕ) → GroupsAre most rest Cut → NumberFault most max rest (Lacks 0 (length rest + 1))
 cut_fault most max rest g = GoesOn g.0 g.1 refl
 
 pub large_fault : (most max : ℕ) (rest : List ℕ) (n used : ℕ) → IsFront most rest n used → max < n → NumberFault most max rest (Wrong 0)

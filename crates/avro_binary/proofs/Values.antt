@@ -6,7 +6,7 @@ use Rattle.std.specs.Str.{IsUtf8}
 use Rattle.avro_binary.specs.Fault.{Lacks, Wrong}
 use Rattle.avro_binary.specs.Number.{IsLong}
 use Rattle.avro_binary.specs.Value.{IsBytes, BytesFault, Negative, Cut, TextFault, NotUtf8}
-use Rattle.avro_binary.specs.Reading.{part, IsPart, FaultAt}
+use Rattle.avro_binary.specs.Reading.{part, IsPart, LacksAt, WrongAt}
 use Rattle.avro_binary.proofs.Lists.{rest_part, length-part, join_parts}
 
 -- content behind its length
@@ -19,18 +19,18 @@ counted bytes at start end n p q long e =
       counted = subst (λ (k : ℕ). IsLong (part bytes at start) (pos k)) (sym len) long;
     }
 
-pub negative : (bytes : List ℕ) (at start k : ℕ) → IsPart bytes at start → IsLong (part bytes at start) (negsuc k) → FaultAt BytesFault bytes at Wrong at
+pub negative : (bytes : List ℕ) (at start k : ℕ) → IsPart bytes at start → IsLong (part bytes at start) (negsuc k) → WrongAt BytesFault bytes at at
 negative bytes at start k p long =
     (0, omega arith, Negative (part bytes at start) (drop start bytes) k (rest_part bytes at start p) long refl)
 
-pub cut : (bytes : List ℕ) (at start n : ℕ) → IsPart bytes at start → IsLong (part bytes at start) (pos n) → length bytes - start < n → FaultAt BytesFault bytes at Lacks (start + n)
+pub cut : (bytes : List ℕ) (at start n : ℕ) → IsPart bytes at start → IsLong (part bytes at start) (pos n) → length bytes - start < n → LacksAt BytesFault bytes at start (start + n)
 cut bytes at start n p long short =
     let len = length-part bytes at start p in
     let front = p.0 in
-    (length (part bytes at start) + n, omega arith, Cut (part bytes at start) (drop start bytes) n (rest_part bytes at start p) long (omega (arith, length-drop start bytes)) refl)
+    (length (part bytes at start), length (part bytes at start) + n, omega arith, omega arith, Cut (part bytes at start) (drop start bytes) n (rest_part bytes at start p) long (omega (arith, length-drop start bytes)) refl)
 
 -- content that is no text
-pub not_text : (bytes : List ℕ) (at start end : ℕ) → IsPart bytes start end → at ≤ start → IsBytes (part bytes at end) (part bytes start end) → (IsUtf8 (part bytes start end) → ⊥) → FaultAt TextFault bytes at Wrong start
+pub not_text : (bytes : List ℕ) (at start end : ℕ) → IsPart bytes start end → at ≤ start → IsBytes (part bytes at end) (part bytes start end) → (IsUtf8 (part bytes start end) → ⊥) → WrongAt TextFault bytes at start
 not_text bytes at start end q before b other =
     let p : IsPart bytes at end = (let l = q.0 in omega arith, q.1) in
     let content = part bytes start end in

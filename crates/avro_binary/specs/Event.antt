@@ -6,7 +6,7 @@ use Rattle.avro_binary.specs.declared.refused.ValueRefused.TheVariants.{Short, B
 use Rattle.avro_binary.specs.Fault.{Fault, Lacks, Wrong, Behind}
 use Rattle.avro_binary.specs.Value.{IsBytes, BytesFault}
 use Rattle.avro_binary.specs.Items.{IsItems, ItemsFault, IsMap, MapFault}
-use Rattle.avro_binary.specs.Reading.{part, IsPart, FaultAt}
+use Rattle.avro_binary.specs.Reading.{part, IsPart, LacksAt, WrongAt}
 
 -- the headers that a map's entries make: the later of two equal keys wins
 abbrev pub headers_of : List Header → List Header
@@ -43,14 +43,14 @@ first_large (event ∷ events) = if nat_lt max_size (size event) then Some (size
 -- what a reader of an event answers; want of memory is free
 abbrev pub ReadsEvent : List ℕ → ℕ → Result (Content × ℕ) ValueRefused → Type 0
 ReadsEvent bytes at (Ok found) = IsPart bytes at found.1 × IsEvent (part bytes at found.1) found.0
-ReadsEvent bytes at (Err (Short need)) = FaultAt EventFault bytes at Lacks need
-ReadsEvent bytes at (Err (Bad place)) = FaultAt EventFault bytes at Wrong place
+ReadsEvent bytes at (Err (Short field need)) = LacksAt EventFault bytes at field need
+ReadsEvent bytes at (Err (Bad field)) = WrongAt EventFault bytes at field
 ReadsEvent bytes at (Err (TooLarge n)) = (end : ℕ) × (event : Content) × IsPart bytes at end × IsEvent (part bytes at end) event × (n ≡ size event) × (max_size < n)
 ReadsEvent bytes at (Err NoMemory) = Unit {0}
 
 abbrev pub ReadsBatch : List ℕ → ℕ → Result (List Content × ℕ) ValueRefused → Type 0
 ReadsBatch bytes at (Ok found) = IsPart bytes at found.1 × IsBatch (part bytes at found.1) found.0
-ReadsBatch bytes at (Err (Short need)) = FaultAt BatchFault bytes at Lacks need
-ReadsBatch bytes at (Err (Bad place)) = FaultAt BatchFault bytes at Wrong place
+ReadsBatch bytes at (Err (Short field need)) = LacksAt BatchFault bytes at field need
+ReadsBatch bytes at (Err (Bad field)) = WrongAt BatchFault bytes at field
 ReadsBatch bytes at (Err (TooLarge n)) = (end : ℕ) × (events : List Content) × IsPart bytes at end × IsBatch (part bytes at end) events × (first_large events ≡ Some n)
 ReadsBatch bytes at (Err NoMemory) = Unit {0}

@@ -3,13 +3,13 @@ use Rattle.std.specs.Prelude.{◌≡◌, ℕ, ◌+◌, List, ◌++◌, length}
 
 -- counted from the value's first byte
 pub data Fault : Type 0 where
-  -- the bytes end within a field, which could be whole with this many bytes
-  Lacks : ℕ → Fault
+  -- the bytes end within the field at the first offset, which could be whole with the second number of bytes
+  Lacks : ℕ → ℕ → Fault
   -- the field at this offset is whole, and is the first at fault
   Wrong : ℕ → Fault
 
 abbrev pub shift : ℕ → Fault → Fault
-shift n (Lacks m) = Lacks (n + m)
+shift n (Lacks at m) = Lacks (n + at) (n + m)
 shift n (Wrong m) = Wrong (n + m)
 
 -- a value, and behind it a fault

@@ -8,12 +8,12 @@ use Rattle.avro_binary.specs.declared.event.Found.TheVariants.{Event, Large}
 use Rattle.avro_binary.specs.Fault.{Fault, Lacks, Wrong}
 use Rattle.avro_binary.specs.Items.{IsMap, MapFault}
 use Rattle.avro_binary.specs.Event.{IsEvent, EventFault, headers_of, first_large, max_size}
-use Rattle.avro_binary.specs.Reading.{part, IsPart, FaultAt}
+use Rattle.avro_binary.specs.Reading.{part, IsPart, LacksAt, WrongAt}
 
 -- the first fault, or want of memory
 abbrev pub IsRefusal : (List ℕ → Fault → Type 0) → List ℕ → ℕ → ValueRefused → Type 0
-IsRefusal Faults bytes at (Short need) = FaultAt Faults bytes at Lacks need
-IsRefusal Faults bytes at (Bad place) = FaultAt Faults bytes at Wrong place
+IsRefusal Faults bytes at (Short field need) = LacksAt Faults bytes at field need
+IsRefusal Faults bytes at (Bad field) = WrongAt Faults bytes at field
 IsRefusal Faults bytes at (TooLarge n) = ⊥
 IsRefusal Faults bytes at NoMemory = Unit {0}
 

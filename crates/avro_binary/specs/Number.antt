@@ -39,7 +39,7 @@ AllGoOn bytes = AllByRecursion (λ b. 128 ≤ b) bytes
 
 -- why no such number is there
 pub data NumberFault (most max : ℕ) (bytes : List ℕ) (f : Fault) : Type 0 where
-  GoesOn : AllGoOn bytes → length bytes < most → f ≡ Lacks (length bytes + 1) → NumberFault most max bytes f
+  GoesOn : AllGoOn bytes → length bytes < most → f ≡ Lacks 0 (length bytes + 1) → NumberFault most max bytes f
   TooLong : (front rest : List ℕ) → bytes ≡ front ++ rest → AllGoOn front → length front ≡ most → f ≡ Wrong 0 → NumberFault most max bytes f
   TooWide : (front rest : List ℕ) (n : ℕ) → bytes ≡ front ++ rest → IsGroups front n → length front ≤ most → max < n → f ≡ Wrong 0 → NumberFault most max bytes f
 

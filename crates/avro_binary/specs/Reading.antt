@@ -12,13 +12,18 @@ part bytes at end = take (end - at) (drop at bytes)
 abbrev pub IsPart : List ℕ → ℕ → ℕ → Type 0
 IsPart bytes at end = (at ≤ end) × (end ≤ length bytes)
 
-abbrev pub FaultAt : (List ℕ → Fault → Type 0) → List ℕ → ℕ → (ℕ → Fault) → ℕ → Type 0
-FaultAt Faults bytes at kind place = (n : ℕ) × (place ≡ at + n) × Faults (drop at bytes) (kind n)
+-- the first field that isn't whole, and the number of bytes that it needs
+abbrev pub LacksAt : (List ℕ → Fault → Type 0) → List ℕ → ℕ → ℕ → ℕ → Type 0
+LacksAt Faults bytes at field need = (p : ℕ) × (n : ℕ) × (field ≡ at + p) × (need ≡ at + n) × Faults (drop at bytes) (Lacks p n)
+
+-- the first field at fault
+abbrev pub WrongAt : (List ℕ → Fault → Type 0) → List ℕ → ℕ → ℕ → Type 0
+WrongAt Faults bytes at field = (p : ℕ) × (field ≡ at + p) × Faults (drop at bytes) (Wrong p)
 
 -- the answer is the fault of the bytes from the offset on; it takes no memory
 abbrev pub IsFault : (List ℕ → Fault → Type 0) → List ℕ → ℕ → ValueRefused → Type 0
-IsFault Faults bytes at (Short need) = FaultAt Faults bytes at Lacks need
-IsFault Faults bytes at (Bad place) = FaultAt Faults bytes at Wrong place
+IsFault Faults bytes at (Short field need) = LacksAt Faults bytes at field need
+IsFault Faults bytes at (Bad field) = WrongAt Faults bytes at field
 IsFault Faults bytes at (TooLarge size) = ⊥
 IsFault Faults bytes at NoMemory = ⊥
 

@@ -9,7 +9,7 @@ IsBoolean bytes true = bytes ≡ 1 ∷ []
 IsBoolean bytes false = bytes ≡ 0 ∷ []
 
 pub data BooleanFault (bytes : List ℕ) (f : Fault) : Type 0 where
-  NoByte : bytes ≡ [] → f ≡ Lacks 1 → BooleanFault bytes f
+  NoByte : bytes ≡ [] → f ≡ Lacks 0 1 → BooleanFault bytes f
   OtherByte : (b : ℕ) (rest : List ℕ) → bytes ≡ b ∷ rest → 1 < b → f ≡ Wrong 0 → BooleanFault bytes f
 
 -- bytes behind their length
@@ -22,7 +22,7 @@ pub record IsBytes (bytes content : List ℕ) : Type 0 where
 pub data BytesFault (bytes : List ℕ) (f : Fault) : Type 0 where
   InLength : LongFault bytes f → BytesFault bytes f
   Negative : (front rest : List ℕ) (n : ℕ) → bytes ≡ front ++ rest → IsLong front (negsuc n) → f ≡ Wrong 0 → BytesFault bytes f
-  Cut : (front rest : List ℕ) (n : ℕ) → bytes ≡ front ++ rest → IsLong front (pos n) → length rest < n → f ≡ Lacks (length front + n) → BytesFault bytes f
+  Cut : (front rest : List ℕ) (n : ℕ) → bytes ≡ front ++ rest → IsLong front (pos n) → length rest < n → f ≡ Lacks (length front) (length front + n) → BytesFault bytes f
 
 pub record IsText (bytes text : List ℕ) : Type 0 where
   pub counted : IsBytes bytes text
@@ -36,4 +36,4 @@ abbrev pub IsFixed : List ℕ → List ℕ → Type 0
 IsFixed bytes content = (bytes ≡ content) × (length content ≡ 16)
 
 abbrev pub FixedFault : List ℕ → Fault → Type 0
-FixedFault bytes f = (length bytes < 16) × (f ≡ Lacks 16)
+FixedFault bytes f = (length bytes < 16) × (f ≡ Lacks 0 16)

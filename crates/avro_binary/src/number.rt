@@ -65,6 +65,7 @@ fn number_at(bytes: &[u8], at: usize, most: u32, max: u64) -> Result<(u64, usize
             Ok((number, at + used))
         }
         Groups::Cut => Err(ValueRefused::Short {
+            at: at as u64,
             need: bytes.len() as u64 + 1,
         }),
         _ => Err(ValueRefused::Bad { at: at as u64 }),

@@ -5,8 +5,8 @@ use std::alloc::AllocError;
 /// Why no value is read. Offsets count from the first of the bytes that were passed.
 #[derive(Clone, Copy, Debug, PartialEq, Eq)]
 pub enum ValueRefused {
-    /// The bytes end within a field, which could be whole with `need` bytes.
-    Short { need: u64 },
+    /// The bytes end within the field at this offset, which could be whole with `need` bytes.
+    Short { at: u64, need: u64 },
     /// The field at this offset is whole, and is the first at fault.
     Bad { at: u64 },
     /// The value is whole, and its first event above 33,554,432 bytes has this size.

@@ -56,14 +56,17 @@ fn numbers_at_the_limits(rt: HostRuntime) {
             &[0xff, 0xff, 0xff, 0xff, 0xff],
             Err(ValueRefused::Bad { at: 0 }),
         ),
-        (&[], Err(ValueRefused::Short { need: 1 })),
-        (&[0x80, 0x80], Err(ValueRefused::Short { need: 3 })),
+        (&[], Err(ValueRefused::Short { at: 0, need: 1 })),
+        (&[0x80, 0x80], Err(ValueRefused::Short { at: 0, need: 3 })),
     ];
     for (bytes, want) in ints {
         assert_eq!(rt; read_int(bytes, 0), want);
     }
     let nine = [0xff, 0xff, 0xff, 0xff, 0xff, 0xff, 0xff, 0xff, 0xff];
-    assert_eq!(rt; read_long(&nine, 0), Err(ValueRefused::Short { need: 10 }));
+    assert_eq!(rt;
+        read_long(&nine, 0),
+        Err(ValueRefused::Short { at: 0, need: 10 })
+    );
     let wide = [0x80, 0x80, 0x80, 0x80, 0x80, 0x80, 0x80, 0x80, 0x80, 0x02];
     assert_eq!(rt; read_long(&wide, 0), Err(ValueRefused::Bad { at: 0 }));
 }
@@ -73,12 +76,15 @@ fn small_values(rt: HostRuntime) -> Result<(), Fail> {
     assert_eq!(rt; read_bool(&[1, 0], 0), Ok((true, 1)));
     assert_eq!(rt; read_bool(&[1, 0], 1), Ok((false, 2)));
     assert_eq!(rt; read_bool(&[2], 0), Err(ValueRefused::Bad { at: 0 }));
-    assert_eq!(rt; read_bool(&[2], 1), Err(ValueRefused::Short { need: 2 }));
+    assert_eq!(rt;
+        read_bool(&[2], 1),
+        Err(ValueRefused::Short { at: 1, need: 2 })
+    );
     let foo = [0x36, 0x06, 0x66, 0x6f, 0x6f];
     assert_eq!(rt; read_text(&foo, 1), Ok((2, 5)));
     assert_eq!(rt;
         read_bytes(&[0x06, 0x66], 0),
-        Err(ValueRefused::Short { need: 4 })
+        Err(ValueRefused::Short { at: 1, need: 4 })
     );
     assert_eq!(rt;
         read_bytes(&[0x07, 0x01], 1),
@@ -88,7 +94,10 @@ fn small_values(rt: HostRuntime) -> Result<(), Fail> {
         read_text(&[0x02, 0xff], 0),
         Err(ValueRefused::Bad { at: 1 })
     );
-    assert_eq!(rt; read_fixed(&ZERO, 1), Err(ValueRefused::Short { need: 17 }));
+    assert_eq!(rt;
+        read_fixed(&ZERO, 1),
+        Err(ValueRefused::Short { at: 1, need: 17 })
+    );
     let mut out = Vec::new(rt.alloc());
     write_int(27, &mut out)?;
     write_text("foo", &mut out)?;
@@ -114,12 +123,18 @@ fn maps(rt: HostRuntime) {
     assert_eq!(rt; read_meta(&key, 0), Err(ValueRefused::Bad { at: 2 }));
     // 2^31 entries in ten bytes
     let many = [0x80, 0x80, 0x80, 0x80, 0x10, 0x00, 0x00, 0x00, 0x00, 0x02];
-    assert_eq!(rt; read_meta(&many, 0), Err(ValueRefused::Short { need: 11 }));
+    assert_eq!(rt;
+        read_meta(&many, 0),
+        Err(ValueRefused::Short { at: 10, need: 11 })
+    );
     // a count of -2^63 with its size
     let least = [
         0xff, 0xff, 0xff, 0xff, 0xff, 0xff, 0xff, 0xff, 0xff, 0x01, 0x00,
     ];
-    assert_eq!(rt; read_meta(&least, 0), Err(ValueRefused::Short { need: 12 }));
+    assert_eq!(rt;
+        read_meta(&least, 0),
+        Err(ValueRefused::Short { at: 11, need: 12 })
+    );
 }
 
 #[test]
@@ -175,7 +190,9 @@ fn batches(rt: HostRuntime) -> Result<(), Fail> {
     assert_eq!(rt; again.get(1).body(), b"y".as_slice());
     // 2^31 events in ten bytes
     let many = [0x80, 0x80, 0x80, 0x80, 0x10, 0x00, 0x00, 0x00, 0x00, 0x00];
-    assert!(rt; read_batch(alloc, &many, 0).is_err_and(|e| e == ValueRefused::Short { need: 11 }));
+    assert!(rt;
+        read_batch(alloc, &many, 0).is_err_and(|e| e == ValueRefused::Short { at: 10, need: 11 })
+    );
     Ok(())
 }
 
@@ -190,7 +207,11 @@ fn greatest_event(rt: HostRuntime) -> Result<(), Fail> {
     let body = vec![in alloc; 0u8; 33_554_425]?;
     bytes.extend_from_slice(&body)?;
     assert!(rt;
-        read_batch(alloc, &bytes, 0).is_err_and(|e| e == ValueRefused::Short { need: 33_554_432 })
+        read_batch(alloc, &bytes, 0).is_err_and(|e| e
+            == ValueRefused::Short {
+                at: 33_554_431,
+                need: 33_554_432
+            })
     );
     bytes.push(0)?;
     assert!(rt;

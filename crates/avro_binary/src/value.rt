@@ -14,6 +14,7 @@ pub fn read_bool(bytes: &[u8], at: usize) -> Result<(bool, usize), ValueRefused>
 {
     if at == bytes.len() {
         return Err(ValueRefused::Short {
+            at: at as u64,
             need: at as u64 + 1,
         });
     }
@@ -35,6 +36,7 @@ pub fn read_bytes(bytes: &[u8], at: usize) -> Result<(usize, usize), ValueRefuse
         Signed::Natural(len) => {
             if len > (bytes.len() - start) as u64 {
                 return Err(ValueRefused::Short {
+                    at: start as u64,
                     need: start as u64 + len,
                 });
             }
@@ -62,6 +64,7 @@ pub fn read_fixed(bytes: &[u8], at: usize) -> Result<(usize, usize), ValueRefuse
 {
     if bytes.len() - at < 16 {
         return Err(ValueRefused::Short {
+            at: at as u64,
             need: at as u64 + 16,
         });
     }

@@ -5,7 +5,9 @@ use Rattle.avro_binary.proofs.number.number_at.Goals as goal
 
 pub returns-in-Cut : goal.returns-in-Cut
 returns-in-Cut c = (
+  0,
   length (drop c.args.at c.args.bytes.now) + 1,
+  omega arith,
   omega (arith, length-drop c.args.at c.args.bytes.now, c.requires.at),
   cut_fault c.args.most c.args.max (drop c.args.at c.args.bytes.now) (rw take_rest at c.in-Cut.ensures),
 )
