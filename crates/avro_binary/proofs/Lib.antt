@@ -1,0 +1,10 @@
+pub mod Lists
+pub mod Groups
+pub mod Faults
+pub mod Values
+pub mod Blocks
+pub mod Collect
+pub mod Writing
+pub mod PrefixFree
+pub mod NoFault
+pub mod Spelled

@@ -1,0 +1,12 @@
+pub mod Blocks
+pub mod Fault
+pub mod Groups
+pub mod Number
+pub mod Reading
+pub mod Value
+pub mod Items
+pub mod Event
+pub mod Written
+pub mod Found
+pub mod Sign
+pub mod Laws
