@@ -1,6 +1,5 @@
 -- What is written is read again, whatever follows.
-use Rattle.std.proofs.Common.{◌≡◌, ◌≢◌, ◌<◌, ◌≤◌, ◌+◌, ◌^◌, ◌==◌, ◌++◌, ◌∷◌, [], ℕ, zero, suc, Bool, true, false, not, ◌&&◌, nat_lt, Option, Some, None, List, length, take, drop, slice_index, refl, sym, ap, ◌∙◌, subst, arith, append_assoc, length-append, add_comm}
-use Rattle.std.specs.declared.cmp.Ordering.{Ordering}
+use Rattle.std.proofs.Common.{◌≡◌, ◌<◌, ◌≤◌, ◌+◌, ◌^◌, ◌==◌, ◌++◌, ◌∷◌, [], ℕ, Bool, true, false, not, ◌&&◌, nat_lt, Option, Some, None, List, length, take, drop, refl, sym, ap, ◌∙◌, arith, append_assoc, length-append, add_comm}
 use Rattle.std.specs.declared.cmp.Ordering.TheVariants.{Less}
 use Rattle.std.specs.Ordering.{is_lt}
 use Rattle.std.specs.List.{AllByRecursion, flat_map}
@@ -14,14 +13,14 @@ use Rattle.std.proofs.lemmas.List.Concat.{flat_map-cons}
 use Rattle.std.proofs.lemmas.List.Sums.{sum_by-cons}
 use Rattle.std.proofs.lemmas.Map.Keys.{sorted_head, sorted_tail}
 use Rattle.std.proofs.Math.Seq.{take-append_seam, drop-append_seam}
-use borrow.Author.Tests.{lt-ltb, le-ltb}
+use borrow.Author.Tests.{le-ltb}
 use Rattle.event_core.specs.Numbers.{u32_bytes, u64_bytes}
 use Rattle.event_core.specs.Content.{Content, Header, AreHeaders, IsTextHeader, content, counted_bytes, event_bytes, header_bytes, header_size, headers_size, key_cmp, size}
-use Rattle.event_core.proofs.Sizes.{length-u32_bytes, length-u64_bytes, length-counted_bytes, size-sum}
-use Rattle.record_form.specs.Record.{HasFields, IsWithinLimits, record_kind, record_length, spelling}
+use Rattle.event_core.proofs.Sizes.{length-u32_bytes, length-u64_bytes, size-sum}
+use Rattle.record_form.specs.Record.{HasFields, IsWithinLimits, record_length, spelling}
 use Rattle.record_form.specs.declared.record.Rec.{Rec}
 use Rattle.record_form.specs.declared.record.Rec.TheVariants.{Put, Take, Rollback, CommitPut, CommitTake, End}
-use Rattle.record_form.specs.Grammar.{Grammar, Done, Field, Outcome, Complete, Incomplete, Fault, reads, u32_of, u64_of, is_above, is_kind, plain, count, text_grammar, body_grammar, headers_grammar, event_grammar, kind_grammar, record_grammar, outcome_of}
+use Rattle.record_form.specs.Grammar.{Grammar, Done, Field, Complete, reads, u32_of, u64_of, is_above, plain, count, text_grammar, body_grammar, headers_grammar, event_grammar, kind_grammar, outcome_of}
 use Rattle.record_form.proofs.Steps.{after_key, reads-next, reads-done, headers-none, headers-more, is_kind-true, record-kind}
 use Rattle.record_form.proofs.PutWrites.{length-headers}
 use Rattle.record_form.proofs.Values.{u32_of-u32_bytes, u64_of-u64_bytes}
@@ -81,7 +80,7 @@ headers-again (h ∷ hs) done txn end at last body rest texts rises ends short =
     let total : headers_size (h ∷ hs) ≡ header_size h + headers_size hs = sum_by-cons header_size h hs in
     let tail = flat_map header_bytes hs ++ (counted_bytes body ++ rest) in
     let bytes : flat_map header_bytes (h ∷ hs) ++ (counted_bytes body ++ rest) ≡ counted_bytes h.0 ++ (counted_bytes h.1 ++ tail) =
-      ap (λ b. b ++ (counted_bytes body ++ rest)) (flat_map-cons header_bytes h hs) ∙ append_assoc (header_bytes h) (flat_map header_bytes hs) (counted_bytes body ++ rest) ∙ append_assoc (counted_bytes h.0) (counted_bytes h.1) tail in
+    ap (λ b. b ++ (counted_bytes body ++ rest)) (flat_map-cons header_bytes h hs) ∙ append_assoc (header_bytes h) (flat_map header_bytes hs) (counted_bytes body ++ rest) ∙ append_assoc (counted_bytes h.0) (counted_bytes h.1) tail in
     let after = at + 4 + length h.0 + 4 + length h.1 in
     ap (λ b. reads (headers_grammar (length (h ∷ hs)) txn end at last done) b at) bytes
     ∙ ap (λ g. reads g (counted_bytes h.0 ++ (counted_bytes h.1 ++ tail)) at) (headers-more (length hs) (length (h ∷ hs)) txn end at last done refl)
@@ -151,13 +150,13 @@ record-again (CommitPut txn first number) rest fields limit =
     ∙ number-again (λ txn. plain 8 (λ first. count (λ number. Done (CommitPut (u64_of txn) (u64_of first) (u32_of number))))) txn (u64_bytes first ++ (u32_bytes number ++ rest)) 1
     ∙ number-again (λ first. count (λ number. Done (CommitPut (u64_of (u64_bytes txn)) (u64_of first) (u32_of number)))) first (u32_bytes number ++ rest) 9
     ∙ count-again (λ number. CommitPut (u64_of (u64_bytes txn)) (u64_of (u64_bytes first)) (u32_of number)) (CommitPut txn first number) number rest 17 fields.2 limit
-      (ap (λ t. CommitPut t (u64_of (u64_bytes first)) (u32_of (u32_bytes number))) (u64_of-u64_bytes txn fields.0) ∙ ap (λ f. CommitPut txn f (u32_of (u32_bytes number))) (u64_of-u64_bytes first fields.1) ∙ ap (CommitPut txn first) (u32_of-u32_bytes number fields.2))
+    (ap (λ t. CommitPut t (u64_of (u64_bytes first)) (u32_of (u32_bytes number))) (u64_of-u64_bytes txn fields.0) ∙ ap (λ f. CommitPut txn f (u32_of (u32_bytes number))) (u64_of-u64_bytes first fields.1) ∙ ap (CommitPut txn first) (u32_of-u32_bytes number fields.2))
 record-again (CommitTake txn number) rest fields limit =
     kind-again 5 ((u64_bytes txn ++ u32_bytes number) ++ rest) (omega arith) (omega arith)
     ∙ ap (λ b. reads (kind_grammar 5) b 1) (append_assoc (u64_bytes txn) (u32_bytes number) rest)
     ∙ number-again (λ txn. count (λ number. Done (CommitTake (u64_of txn) (u32_of number)))) txn (u32_bytes number ++ rest) 1
     ∙ count-again (λ number. CommitTake (u64_of (u64_bytes txn)) (u32_of number)) (CommitTake txn number) number rest 9 fields.1 limit
-      (ap (λ t. CommitTake t (u32_of (u32_bytes number))) (u64_of-u64_bytes txn fields.0) ∙ ap (CommitTake txn) (u32_of-u32_bytes number fields.1))
+    (ap (λ t. CommitTake t (u32_of (u32_bytes number))) (u64_of-u64_bytes txn fields.0) ∙ ap (CommitTake txn) (u32_of-u32_bytes number fields.1))
 record-again (End number) rest fields limit =
     kind-again 6 (u32_bytes number ++ rest) (omega arith) (omega arith)
     ∙ count-again (λ number. End (u32_of number)) (End number) number rest 1 fields limit (ap End (u32_of-u32_bytes number fields))

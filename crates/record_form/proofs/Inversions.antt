@@ -1,16 +1,12 @@
 -- What is known of bytes that are read as a whole record.
-use Rattle.std.proofs.Common.{◌≡◌, ◌≢◌, ◌<◌, ◌≤◌, ◌+◌, ◌==◌, ◌++◌, ◌∷◌, [], ℕ, zero, suc, Bool, true, false, cond, not, ◌&&◌, nat_lt, Option, Some, None, List, length, take, drop, slice_index, ⊎_elim, refl, sym, ap, ◌∙◌, subst, arith, length-drop}
-use Rattle.std.specs.Str.{is_utf8}
+use Rattle.std.proofs.Common.{◌≡◌, ◌≢◌, ◌≤◌, ◌+◌, ◌==◌, [], ℕ, Bool, true, false, not, None, List, length, take, drop, ⊎_elim, refl, sym, ap, ◌∙◌, arith, length-drop}
 use Rattle.std.proofs.lemmas.Bool.{eqb-true, eq-eqb, cases_lt}
-use Rattle.std.proofs.lemmas.Bool.Decides.{nat_tests}
-use Rattle.std.proofs.lemmas.List.{drop-drop, length-take-le}
-use borrow.Author.Tests.{ltb-true, ltb-false}
+use Rattle.std.proofs.lemmas.List.{drop-drop}
 use Rattle.event_core.specs.Content.{Header, content}
-use Rattle.record_form.specs.Record.{record_kind}
 use Rattle.record_form.specs.declared.record.Rec.{Rec}
 use Rattle.record_form.specs.declared.record.Rec.TheVariants.{Put, Take, Rollback, CommitPut, CommitTake, End}
-use Rattle.record_form.specs.Grammar.{Grammar, Done, Field, Outcome, Complete, Incomplete, Fault, reads, u32_of, u64_of, is_above, plain, count, text_grammar, body_grammar, headers_grammar, event_grammar, kind_grammar}
-use Rattle.record_form.proofs.Steps.{after_key, reads-cut, reads-fault, reads-next, reads-done, put-cut, put-fault, put-number-cut, put-headers, headers-none, headers-more}
+use Rattle.record_form.specs.Grammar.{Grammar, Done, Field, Complete, Incomplete, Fault, reads, u32_of, u64_of, plain, count, body_grammar, headers_grammar, kind_grammar}
+use Rattle.record_form.proofs.Steps.{reads-cut, reads-fault, reads-next, reads-done, put-cut, put-fault, put-number-cut, put-headers}
 
 -- a field of a whole record is there and right, and what follows it is whole
 pub record WholeField (width : ℕ) (fault : List ℕ → Bool) (next : List ℕ → Grammar) (bytes : List ℕ) (at : ℕ) (rec : Rec) (end : ℕ) : Type 0 where
@@ -23,17 +19,18 @@ whole_field width fault next bytes at rec end within whole =
     let rest = drop at bytes in
     let P : Bool → Type 0 = λ b. fault (take width rest) ≡ b → WholeField width fault next bytes at rec end in
     ⊎_elim
-      (λ short. let none : Incomplete ≡ Complete rec end = sym (reads-cut width fault next rest at short) ∙ whole in cc)
-      (λ long.
-        let cases : P (fault (take width rest)) = elim (fault (take width rest)) as P
-          [ true ↦ λ wrong. let none : Fault at ≡ Complete rec end = sym (reads-fault width fault next rest at long wrong) ∙ whole in cc
-          | false ↦ λ right. record {
-              there = omega (arith, long, length-drop at bytes);
-              right = right;
-              rest = ap (λ x. reads (next (take width rest)) x (at + width)) (sym (drop-drop width at bytes)) ∙ sym (reads-next width fault next rest at long right) ∙ whole;
-            } ] in
-        cases refl)
-      (cases_lt (length rest) width)
+    (λ short. let none : Incomplete ≡ Complete rec end = sym (reads-cut width fault next rest at short) ∙ whole in cc)
+    (λ long.
+    let cases : P (fault (take width rest)) = elim (fault (take width rest)) as P [
+      | true ↦ λ wrong. let none : Fault at ≡ Complete rec end = sym (reads-fault width fault next rest at long wrong) ∙ whole in cc
+      | false ↦ λ right. record {
+        there = omega (arith, long, length-drop at bytes);
+        right = right;
+        rest = ap (λ x. reads (next (take width rest)) x (at + width)) (sym (drop-drop width at bytes)) ∙ sym (reads-next width fault next rest at long right) ∙ whole;
+      }
+    ] in
+    cases refl)
+    (cases_lt (length rest) width)
 
 whole_done : (rec found : Rec) (bytes : List ℕ) (at end : ℕ) → reads (Done rec) bytes at ≡ Complete found end → (found ≡ rec) × (end ≡ at)
 whole_done rec found bytes at end whole =
@@ -99,17 +96,17 @@ pub whole_put : (bytes : List ℕ) (rec : Rec) (end : ℕ) → 1 ≤ length byte
 whole_put bytes rec end some whole =
     let size = u32_of (take 4 (drop 9 bytes)) in
     ⊎_elim
-      (λ short. let none : Incomplete ≡ Complete rec end = sym (put-cut bytes some short) ∙ whole in cc)
-      (λ sized. ⊎_elim
-        (λ high. let none : Fault 9 ≡ Complete rec end = sym (put-fault bytes size sized refl high) ∙ whole in cc)
-        (λ low. ⊎_elim
-          (λ short. let none : Incomplete ≡ Complete rec end = sym (put-number-cut bytes size sized refl low short) ∙ whole in cc)
-          (λ long. record { there = long; size = low; rest = sym (put-headers bytes size (u32_of (take 4 (drop 13 bytes))) long refl low refl) ∙ whole })
-          (cases_lt (length bytes) 17))
-        (cases_lt 1_048_576 size))
-      (cases_lt (length bytes) 13)
+    (λ short. let none : Incomplete ≡ Complete rec end = sym (put-cut bytes some short) ∙ whole in cc)
+    (λ sized. ⊎_elim
+    (λ high. let none : Fault 9 ≡ Complete rec end = sym (put-fault bytes size sized refl high) ∙ whole in cc)
+    (λ low. ⊎_elim
+    (λ short. let none : Incomplete ≡ Complete rec end = sym (put-number-cut bytes size sized refl low short) ∙ whole in cc)
+    (λ long. record { there = long; size = low; rest = sym (put-headers bytes size (u32_of (take 4 (drop 13 bytes))) long refl low refl) ∙ whole })
+    (cases_lt (length bytes) 17))
+    (cases_lt 1_048_576 size))
+    (cases_lt (length bytes) 13)
 
-not_not : (b : Bool) → not b ≡ false → b ≡ true
+pub not_not : (b : Bool) → not b ≡ false → b ≡ true
 not_not true h = refl
 not_not false h = cc
 

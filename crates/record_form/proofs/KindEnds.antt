@@ -1,5 +1,5 @@
 -- How the records of each kind end.
-use Rattle.std.proofs.Common.{◌≡◌, ◌≢◌, ◌<◌, ◌≤◌, ◌+◌, ◌==◌, ℕ, Bool, true, false, not, ◌&&◌, nat_lt, List, length, take, drop, Result, Ok, Err, ⊎_elim, refl, sym, ap, ◌∙◌, subst, arith}
+use Rattle.std.proofs.Common.{◌≡◌, ◌<◌, ◌≤◌, ◌+◌, ◌==◌, ℕ, false, List, length, take, drop, Result, Ok, Err, ⊎_elim, refl, sym, ap, ◌∙◌, arith}
 use Rattle.std.proofs.lemmas.Bool.{false_from_ne_true, eqb-true, eq-eqb, cases_lt}
 use Rattle.record_form.specs.Record.{record_kind}
 use Rattle.record_form.specs.declared.record.Rec.{Rec}
@@ -21,9 +21,9 @@ plain-two next bytes long =
 plain-two-cut : (next : List ℕ → List ℕ → Grammar) (bytes : List ℕ) → 1 ≤ length bytes → length bytes < 17 → reads (plain 8 (λ a. plain 8 (next a))) (drop 1 bytes) 1 ≡ Incomplete
 plain-two-cut next bytes some short =
     ⊎_elim
-      (λ less. at-cut 8 (λ b. false) (λ a. plain 8 (next a)) bytes 1 some less)
-      (λ more. at-next 8 (λ b. false) (λ a. plain 8 (next a)) bytes 1 more refl ∙ at-cut 8 (λ b. false) (next (take 8 (drop 1 bytes))) bytes 9 more short)
-      (cases_lt (length bytes) 9)
+    (λ less. at-cut 8 (λ b. false) (λ a. plain 8 (next a)) bytes 1 some less)
+    (λ more. at-next 8 (λ b. false) (λ a. plain 8 (next a)) bytes 1 more refl ∙ at-cut 8 (λ b. false) (next (take 8 (drop 1 bytes))) bytes 9 more short)
+    (cases_lt (length bytes) 9)
 
 -- a count is read, and then what follows it
 count-answers : (next : List ℕ → Grammar) (rec : List ℕ → Rec) (bytes : List ℕ) (at : ℕ) (r : Result ℕ Stop) → ((number : List ℕ) → next number ≡ Done (rec number)) → at ≤ length bytes → CountsAt r bytes at
@@ -93,13 +93,13 @@ commit_put-answers bytes r some counts =
     let rec : List ℕ → Rec = λ number. CommitPut (u64_of txn) (u64_of first) (u32_of number) in
     let here : reads (kind_grammar 4) (drop 1 bytes) 1 ≡ reads (plain 8 (λ txn. plain 8 (commit_put_count txn))) (drop 1 bytes) 1 = ap (λ g. reads g (drop 1 bytes) 1) commit_put-grammar in
     ⊎_elim
-      (λ less. count-short (Ends 4 bytes) bytes 17 r (reads (kind_grammar 4) (drop 1 bytes) 1) (omega (arith, less)) (here ∙ plain-two-cut commit_put_count bytes some less) counts)
-      (λ more.
-        let path : reads (kind_grammar 4) (drop 1 bytes) 1 ≡ reads (count (λ number. Done (rec number))) (drop 17 bytes) 17 = here ∙ plain-two commit_put_count bytes more ∙ ap (λ g. reads g (drop 17 bytes) 17) (commit_put-count txn first) in
-        answers-through (λ end. reads (count (λ number. Done (rec number))) (drop 17 bytes) 17 ≡ Complete (rec (take 4 (drop 17 bytes))) end) (Ends 4 bytes) r (reads (kind_grammar 4) (drop 1 bytes) 1) (reads (count (λ number. Done (rec number))) (drop 17 bytes) 17) path
-          (λ end found. (rec (take 4 (drop 17 bytes)), path ∙ found, refl))
-          (count-answers (λ number. Done (rec number)) rec bytes 17 r (λ number. refl) more counts))
-      (cases_lt (length bytes) 17)
+    (λ less. count-short (Ends 4 bytes) bytes 17 r (reads (kind_grammar 4) (drop 1 bytes) 1) (omega (arith, less)) (here ∙ plain-two-cut commit_put_count bytes some less) counts)
+    (λ more.
+    let path : reads (kind_grammar 4) (drop 1 bytes) 1 ≡ reads (count (λ number. Done (rec number))) (drop 17 bytes) 17 = here ∙ plain-two commit_put_count bytes more ∙ ap (λ g. reads g (drop 17 bytes) 17) (commit_put-count txn first) in
+    answers-through (λ end. reads (count (λ number. Done (rec number))) (drop 17 bytes) 17 ≡ Complete (rec (take 4 (drop 17 bytes))) end) (Ends 4 bytes) r (reads (kind_grammar 4) (drop 1 bytes) 1) (reads (count (λ number. Done (rec number))) (drop 17 bytes) 17) path
+    (λ end found. (rec (take 4 (drop 17 bytes)), path ∙ found, refl))
+    (count-answers (λ number. Done (rec number)) rec bytes 17 r (λ number. refl) more counts))
+    (cases_lt (length bytes) 17)
 
 -- COMMIT_TAKE
 
@@ -120,13 +120,13 @@ commit_take-answers bytes r some counts =
     let rec : List ℕ → Rec = λ number. CommitTake (u64_of txn) (u32_of number) in
     let here : reads (kind_grammar 5) (drop 1 bytes) 1 ≡ reads (plain 8 commit_take_count) (drop 1 bytes) 1 = ap (λ g. reads g (drop 1 bytes) 1) commit_take-grammar in
     ⊎_elim
-      (λ less. count-short (Ends 5 bytes) bytes 9 r (reads (kind_grammar 5) (drop 1 bytes) 1) (omega (arith, less)) (here ∙ at-cut 8 (λ b. false) commit_take_count bytes 1 some less) counts)
-      (λ more.
-        let path : reads (kind_grammar 5) (drop 1 bytes) 1 ≡ reads (count (λ number. Done (rec number))) (drop 9 bytes) 9 = here ∙ at-next 8 (λ b. false) commit_take_count bytes 1 more refl ∙ ap (λ g. reads g (drop 9 bytes) 9) (commit_take-count txn) in
-        answers-through (λ end. reads (count (λ number. Done (rec number))) (drop 9 bytes) 9 ≡ Complete (rec (take 4 (drop 9 bytes))) end) (Ends 5 bytes) r (reads (kind_grammar 5) (drop 1 bytes) 1) (reads (count (λ number. Done (rec number))) (drop 9 bytes) 9) path
-          (λ end found. (rec (take 4 (drop 9 bytes)), path ∙ found, refl))
-          (count-answers (λ number. Done (rec number)) rec bytes 9 r (λ number. refl) more counts))
-      (cases_lt (length bytes) 9)
+    (λ less. count-short (Ends 5 bytes) bytes 9 r (reads (kind_grammar 5) (drop 1 bytes) 1) (omega (arith, less)) (here ∙ at-cut 8 (λ b. false) commit_take_count bytes 1 some less) counts)
+    (λ more.
+    let path : reads (kind_grammar 5) (drop 1 bytes) 1 ≡ reads (count (λ number. Done (rec number))) (drop 9 bytes) 9 = here ∙ at-next 8 (λ b. false) commit_take_count bytes 1 more refl ∙ ap (λ g. reads g (drop 9 bytes) 9) (commit_take-count txn) in
+    answers-through (λ end. reads (count (λ number. Done (rec number))) (drop 9 bytes) 9 ≡ Complete (rec (take 4 (drop 9 bytes))) end) (Ends 5 bytes) r (reads (kind_grammar 5) (drop 1 bytes) 1) (reads (count (λ number. Done (rec number))) (drop 9 bytes) 9) path
+    (λ end found. (rec (take 4 (drop 9 bytes)), path ∙ found, refl))
+    (count-answers (λ number. Done (rec number)) rec bytes 9 r (λ number. refl) more counts))
+    (cases_lt (length bytes) 9)
 
 -- END
 
@@ -138,5 +138,5 @@ pub end-answers : (bytes : List ℕ) (r : Result ℕ Stop) → 1 ≤ length byte
 end-answers bytes r some counts =
     let path : reads (kind_grammar 6) (drop 1 bytes) 1 ≡ reads (count (λ number. Done (End (u32_of number)))) (drop 1 bytes) 1 = ap (λ g. reads g (drop 1 bytes) 1) end-grammar in
     answers-through (λ end. reads (count (λ number. Done (End (u32_of number)))) (drop 1 bytes) 1 ≡ Complete (End (u32_of (take 4 (drop 1 bytes)))) end) (Ends 6 bytes) r (reads (kind_grammar 6) (drop 1 bytes) 1) (reads (count (λ number. Done (End (u32_of number)))) (drop 1 bytes) 1) path
-      (λ end found. (End (u32_of (take 4 (drop 1 bytes))), path ∙ found, refl))
-      (count-answers (λ number. Done (End (u32_of number))) (λ number. End (u32_of number)) bytes 1 r (λ number. refl) some counts)
+    (λ end found. (End (u32_of (take 4 (drop 1 bytes))), path ∙ found, refl))
+    (count-answers (λ number. Done (End (u32_of number))) (λ number. End (u32_of number)) bytes 1 r (λ number. refl) some counts)

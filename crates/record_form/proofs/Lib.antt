@@ -8,3 +8,4 @@ pub mod Inversions
 pub mod Again
 pub mod Cuts
 pub mod Spelled
+pub mod SpelledPut

@@ -1,5 +1,5 @@
 -- Loops over headers.
-use Rattle.std.proofs.Common.{◌≡◌, ◌≤◌, ◌<◌, ◌+◌, ◌-◌, ◌^◌, ◌++◌, ◌∷◌, ℕ, suc, true, List, [], length, take, drop, slice_index, subst, ⊎_elim, Option, Some, None, refl, sym, ap, ◌∙◌, arith}
+use Rattle.std.proofs.Common.{◌≡◌, ◌≤◌, ◌<◌, ◌+◌, ◌-◌, ◌^◌, ◌++◌, ◌∷◌, ℕ, true, List, [], length, take, drop, slice_index, subst, ⊎_elim, Option, Some, None, refl, sym, ap, ◌∙◌, arith}
 use Rattle.std.specs.declared.cmp.Ordering.{Ordering}
 use Rattle.std.specs.declared.cmp.Ordering.TheVariants.{Less, Equal, Greater}
 use Rattle.std.specs.Ordering.{is_lt, match_ordering, ordering_reverse}
@@ -81,9 +81,9 @@ builds_none bytes txn size number headers long sized less counted named none =
       within = long;
       low = omega arith;
       same = put-headers bytes size number long sized less counted
-        ∙ ap (λ t. reads (headers_grammar number t (13 + size) 17 None []) (drop 17 bytes) 17) (sym named)
-        ∙ ap (λ n. reads (headers_grammar n txn (13 + size) 17 None []) (drop 17 bytes) 17) all
-        ∙ ap (λ hs. reads (headers_grammar (number - 0) txn (13 + size) 17 None hs) (drop 17 bytes) 17) (sym none);
+          ∙ ap (λ t. reads (headers_grammar number t (13 + size) 17 None []) (drop 17 bytes) 17) (sym named)
+          ∙ ap (λ n. reads (headers_grammar n txn (13 + size) 17 None []) (drop 17 bytes) 17) all
+          ∙ ap (λ hs. reads (headers_grammar (number - 0) txn (13 + size) 17 None hs) (drop 17 bytes) 17) (sym none);
       sizes = ap (λ hs. headers_size hs + 17) none;
       above = λ key high. subst (AllByRecursion (λ h. key_cmp key h.0 ≡ Greater)) (sym none) tt;
     }
@@ -104,8 +104,8 @@ builds_more bytes txn end number counter at last headers built key value on more
       within = within;
       low = low;
       same = builds_key bytes txn end number counter at last headers on more ∙ key_reads (after_key n txn end at headers)
-        ∙ value_reads (λ value. headers_grammar n txn end (at + 4 + length key + 4 + length value) (Some key) (headers ++ (key, value) ∷ []))
-        ∙ ap (λ hs. reads (headers_grammar n txn end after (Some key) hs) (drop after bytes) after) (sym pushed);
+          ∙ value_reads (λ value. headers_grammar n txn end (at + 4 + length key + 4 + length value) (Some key) (headers ++ (key, value) ∷ []))
+          ∙ ap (λ hs. reads (headers_grammar n txn end after (Some key) hs) (drop after bytes) after) (sym pushed);
       sizes = omega (arith, on.sizes, size, one, ap headers_size pushed);
       above = λ next above. subst (AllByRecursion (λ h. key_cmp next h.0 ≡ Greater)) (sym pushed) (still_above key value headers (on.above key high) next above);
     }
@@ -139,15 +139,15 @@ whole_record bytes whole =
     let found = whole_outcome (outcome_of bytes) whole in
     let kind = slice_index bytes 0 in
     ⊎_elim
-      (λ short. let none : Incomplete ≡ Complete found.0 found.1.0 = sym (record-cut bytes short) ∙ found.1.1 in cc)
-      (λ some. ⊎_elim
-        (λ zero. let none : Fault 0 ≡ Complete found.0 found.1.0 = sym (record-fault bytes some (is_kind-zero kind (omega arith))) ∙ found.1.1 in cc)
-        (λ low. ⊎_elim
-          (λ beyond. let none : Fault 0 ≡ Complete found.0 found.1.0 = sym (record-fault bytes some (is_kind-high kind beyond)) ∙ found.1.1 in cc)
-          (λ high. record { some = some; low = low; high = high; same = record-kind bytes some (is_kind-true kind low high) })
-          (cases_lt 6 kind))
-        (cases_lt kind 1))
-      (cases_lt (length bytes) 1)
+    (λ short. let none : Incomplete ≡ Complete found.0 found.1.0 = sym (record-cut bytes short) ∙ found.1.1 in cc)
+    (λ some. ⊎_elim
+    (λ zero. let none : Fault 0 ≡ Complete found.0 found.1.0 = sym (record-fault bytes some (is_kind-zero kind (omega arith))) ∙ found.1.1 in cc)
+    (λ low. ⊎_elim
+    (λ beyond. let none : Fault 0 ≡ Complete found.0 found.1.0 = sym (record-fault bytes some (is_kind-high kind beyond)) ∙ found.1.1 in cc)
+    (λ high. record { some = some; low = low; high = high; same = record-kind bytes some (is_kind-true kind low high) })
+    (cases_lt 6 kind))
+    (cases_lt kind 1))
+    (cases_lt (length bytes) 1)
 
 -- the record that a whole front spells, of this kind
 pub record KindWhole (bytes : List ℕ) (kind : ℕ) : Type 0 where

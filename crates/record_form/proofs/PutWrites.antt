@@ -1,5 +1,5 @@
 -- A PUT that is written part by part.
-use Rattle.std.proofs.Common.{◌≡◌, ◌<◌, ◌≤◌, ◌+◌, ◌-◌, ◌++◌, ◌∷◌, [], ℕ, List, length, get_or, All, refl, sym, ap, ◌∙◌, subst, arith, append_assoc, length-append}
+use Rattle.std.proofs.Common.{◌≡◌, ◌<◌, ◌≤◌, ◌+◌, ◌-◌, ◌++◌, ◌∷◌, [], ℕ, List, length, get_or, All, refl, ap, ◌∙◌, subst, arith, append_assoc, length-append}
 use Rattle.std.specs.List.{flat_map}
 use Rattle.std.proofs.lemmas.List.{get_or-append_right, get_or_default}
 use Rattle.std.proofs.lemmas.List.Sums.{sum_by-cons}
@@ -20,7 +20,7 @@ put-spelled event txn start one two three four five six n m hs body e1 e2 e3 e4 
     let count : u32_bytes m ≡ u32_bytes (length event.headers) = ap u32_bytes (counted ∙ ap length same) in
     let names : flat_map header_bytes hs ≡ flat_map header_bytes event.headers = ap (flat_map header_bytes) same in
     let tail : (u32_bytes m ++ flat_map header_bytes hs) ++ counted_bytes body ≡ event_bytes event =
-      ap (λ b. (u32_bytes m ++ flat_map header_bytes hs) ++ counted_bytes b) whole ∙ ap (λ x. (x ++ flat_map header_bytes hs) ++ counted_bytes event.body) count ∙ ap (λ x. (u32_bytes (length event.headers) ++ x) ++ counted_bytes event.body) names in
+    ap (λ b. (u32_bytes m ++ flat_map header_bytes hs) ++ counted_bytes b) whole ∙ ap (λ x. (x ++ flat_map header_bytes hs) ++ counted_bytes event.body) count ∙ ap (λ x. (u32_bytes (length event.headers) ++ x) ++ counted_bytes event.body) names in
     e6 ∙ ap (λ x. x ++ counted_bytes body) (e5 ∙ ap (λ x. x ++ flat_map header_bytes hs) (e4 ∙ ap (λ x. x ++ u32_bytes m) (e3 ∙ ap (λ x. x ++ u32_bytes n) (e2 ∙ ap (λ x. x ++ t) e1))))
     ∙ regroup start t (u32_bytes n) (u32_bytes m) (flat_map header_bytes hs) (counted_bytes body)
     ∙ ap (λ x. start ++ (1 ∷ (t ++ (u32_bytes n ++ x)))) tail

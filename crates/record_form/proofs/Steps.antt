@@ -1,5 +1,5 @@
 -- One step of reading: a field that is cut, at fault, or read.
-use Rattle.std.proofs.Common.{◌≡◌, ◌≢◌, ◌<◌, ◌≤◌, ◌+◌, ◌-◌, ◌==◌, ◌++◌, ◌∷◌, [], ℕ, suc, Some, None, Bool, true, false, not, slice_index, ◌&&◌, cond, nat_lt, Option, Result, Ok, Err, ⊎_elim, List, length, take, drop, refl, sym, ap, ◌∙◌, subst, arith, length-drop}
+use Rattle.std.proofs.Common.{◌≡◌, ◌≢◌, ◌<◌, ◌≤◌, ◌+◌, ◌==◌, ◌++◌, ◌∷◌, [], ℕ, suc, Some, None, Bool, true, false, not, slice_index, ◌&&◌, cond, nat_lt, Option, Result, Ok, Err, ⊎_elim, List, length, take, drop, refl, sym, ap, ◌∙◌, arith, length-drop}
 use Rattle.std.proofs.lemmas.List.{drop-drop, get_or-take, length-take-le}
 use Rattle.std.specs.List.{slice_get}
 use Rattle.std.specs.Str.{is_utf8}
@@ -11,7 +11,7 @@ use borrow.Author.Tests.{lt-ltb, le-ltb}
 use Rattle.record_form.specs.declared.record.Rec.{Rec}
 use Rattle.record_form.specs.declared.fields.Stop.{Stop}
 use Rattle.record_form.specs.Answers.{Answers, Takes, stopped}
-use Rattle.record_form.specs.Grammar.{Grammar, Done, Field, Outcome, Complete, Incomplete, Fault, reads, u32_of, is_above, u64_of, plain, text_grammar, body_grammar, headers_grammar, event_grammar, is_kind, kind_grammar, outcome_of, record_grammar}
+use Rattle.record_form.specs.Grammar.{Grammar, Done, Field, Complete, Incomplete, Fault, reads, u32_of, is_above, u64_of, plain, text_grammar, body_grammar, headers_grammar, event_grammar, is_kind, kind_grammar, outcome_of, record_grammar}
 
 pub reads-done : (rec : Rec) (bytes : List ℕ) (at : ℕ) → reads (Done rec) bytes at ≡ Complete rec at
 unfolding reads
@@ -59,14 +59,14 @@ pub text-long : (end : ℕ) (last : Option (List ℕ)) (next : List ℕ → Gram
 unfolding text_grammar
 text-long end last next bytes at n within is long =
     at-fault 4 (λ size. nat_lt end (at + 4 + u32_of size)) (λ size. Field (u32_of size) (λ text. not (is_utf8 text && is_above last text)) next) bytes at within
-      (lt-ltb end (at + 4 + u32_of (take 4 (drop at bytes))) (omega (arith, is)))
+    (lt-ltb end (at + 4 + u32_of (take 4 (drop at bytes))) (omega (arith, is)))
 
 pub text-size : (end : ℕ) (last : Option (List ℕ)) (next : List ℕ → Grammar) (bytes : List ℕ) (at n : ℕ) → at + 4 ≤ length bytes → n ≡ u32_of (take 4 (drop at bytes)) → at + 4 + n ≤ end
     → reads (text_grammar end at last next) (drop at bytes) at ≡ reads (Field n (λ text. not (is_utf8 text && is_above last text)) next) (drop (at + 4) bytes) (at + 4)
 unfolding text_grammar
 text-size end last next bytes at n within is inside =
     at-next 4 (λ size. nat_lt end (at + 4 + u32_of size)) (λ size. Field (u32_of size) (λ text. not (is_utf8 text && is_above last text)) next) bytes at within
-      (le-ltb end (at + 4 + u32_of (take 4 (drop at bytes))) (omega (arith, is, inside)))
+    (le-ltb end (at + 4 + u32_of (take 4 (drop at bytes))) (omega (arith, is, inside)))
     ∙ ap (λ m. reads (Field m (λ text. not (is_utf8 text && is_above last text)) next) (drop (at + 4) bytes) (at + 4)) (sym is)
 
 pub text-rest : (end : ℕ) (last : Option (List ℕ)) (next : List ℕ → Grammar) (bytes : List ℕ) (at n : ℕ) → at + 4 ≤ length bytes → n ≡ u32_of (take 4 (drop at bytes)) → at + 4 + n ≤ end → length bytes < at + 4 + n → reads (text_grammar end at last next) (drop at bytes) at ≡ Incomplete
@@ -100,14 +100,14 @@ pub body-fault : (txn end at : ℕ) (headers : List Header) (bytes : List ℕ) (
 unfolding body_grammar
 body-fault txn end at headers bytes n within is apart =
     at-fault 4 (λ size. not (at + 4 + u32_of size == end)) (λ size. plain (u32_of size) (λ body. Done (Put txn (content headers body)))) bytes at within
-      (ap not (false_from_ne_true (at + 4 + u32_of (take 4 (drop at bytes)) == end) (λ h. apart (ap (λ m. at + 4 + m) is ∙ eqb-true (at + 4 + u32_of (take 4 (drop at bytes))) end h))))
+    (ap not (false_from_ne_true (at + 4 + u32_of (take 4 (drop at bytes)) == end) (λ h. apart (ap (λ m. at + 4 + m) is ∙ eqb-true (at + 4 + u32_of (take 4 (drop at bytes))) end h))))
 
 body-size : (txn end at : ℕ) (headers : List Header) (bytes : List ℕ) (n : ℕ) → at + 4 ≤ length bytes → n ≡ u32_of (take 4 (drop at bytes)) → at + 4 + n ≡ end
     → reads (body_grammar txn end at headers) (drop at bytes) at ≡ reads (plain n (λ body. Done (Put txn (content headers body)))) (drop (at + 4) bytes) (at + 4)
 unfolding body_grammar
 body-size txn end at headers bytes n within is ends =
     at-next 4 (λ size. not (at + 4 + u32_of size == end)) (λ size. plain (u32_of size) (λ body. Done (Put txn (content headers body)))) bytes at within
-      (ap not (eq-eqb (at + 4 + u32_of (take 4 (drop at bytes))) end (ap (λ m. at + 4 + m) (sym is) ∙ ends)))
+    (ap not (eq-eqb (at + 4 + u32_of (take 4 (drop at bytes))) end (ap (λ m. at + 4 + m) (sym is) ∙ ends)))
     ∙ ap (λ m. reads (plain m (λ body. Done (Put txn (content headers body)))) (drop (at + 4) bytes) (at + 4)) (sym is)
 
 pub body-rest : (txn end at : ℕ) (headers : List Header) (bytes : List ℕ) (n : ℕ) → at + 4 ≤ length bytes → n ≡ u32_of (take 4 (drop at bytes)) → at + 4 + n ≡ end → length bytes < at + 4 + n → reads (body_grammar txn end at headers) (drop at bytes) at ≡ Incomplete
@@ -166,9 +166,9 @@ put-txn bytes long =
 pub put-cut : (bytes : List ℕ) → 1 ≤ length bytes → length bytes < 13 → reads (kind_grammar 1) (drop 1 bytes) 1 ≡ Incomplete
 put-cut bytes some short =
     ⊎_elim
-      (λ less. ap (λ g. reads g (drop 1 bytes) 1) put-grammar ∙ at-cut 8 (λ b. false) put_fields bytes 1 some less)
-      (λ more. put-txn bytes more ∙ at-cut 4 (λ size. nat_lt 1_048_576 (u32_of size)) (λ size. event_grammar (u64_of (take 8 (drop 1 bytes))) (13 + u32_of size) 13) bytes 9 more short)
-      (cases_lt (length bytes) 9)
+    (λ less. ap (λ g. reads g (drop 1 bytes) 1) put-grammar ∙ at-cut 8 (λ b. false) put_fields bytes 1 some less)
+    (λ more. put-txn bytes more ∙ at-cut 4 (λ size. nat_lt 1_048_576 (u32_of size)) (λ size. event_grammar (u64_of (take 8 (drop 1 bytes))) (13 + u32_of size) 13) bytes 9 more short)
+    (cases_lt (length bytes) 9)
 
 pub put-fault : (bytes : List ℕ) (size : ℕ) → 13 ≤ length bytes → size ≡ u32_of (take 4 (drop 9 bytes)) → 1_048_576 < size → reads (kind_grammar 1) (drop 1 bytes) 1 ≡ Fault 9
 put-fault bytes size long is more =

@@ -1,7 +1,6 @@
 -- Numbers as bytes, and back.
-use Rattle.std.proofs.Common.{◌≡◌, ◌<◌, ◌≤◌, ◌^◌, ◌+◌, ℕ, List, [], ◌++◌, length, take, get_or, refl, sym, ap, ◌∙◌, arith}
+use Rattle.std.proofs.Common.{◌≡◌, ◌<◌, ◌^◌, ℕ, List, [], length, take, get_or, refl, arith}
 use Rattle.std.proofs.lemmas.Nat.{be_bytes_4, be_bytes_8}
-use Rattle.std.proofs.lemmas.List.{append-nil}
 use Rattle.byteorder.specs.Numbers.{big_from-take, big_number-reads_back}
 use Rattle.byteorder.specs.Endian.{big_number}
 use Rattle.event_core.specs.Numbers.{u32_bytes, u64_bytes}

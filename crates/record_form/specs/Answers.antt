@@ -1,6 +1,6 @@
 -- What a step of a reader answers, against what reading gives.
 use Rattle.std.specs.Prelude.{◌≡◌, ◌≢◌, ◌<◌, ◌≤◌, ℕ, ◌+◌, List, length, take, drop, Result, Ok, Err}
-use Rattle.record_form.specs.Grammar.{Outcome, Complete, Incomplete, Fault, u32_of}
+use Rattle.record_form.specs.Grammar.{Outcome, Incomplete, Fault, u32_of}
 use Rattle.record_form.specs.declared.fields.Stop.{Stop}
 use Rattle.record_form.specs.declared.fields.Stop.TheVariants as stops
 

@@ -1,5 +1,5 @@
 -- The records of the log and their bytes.
-use Rattle.std.specs.Prelude.{◌≡◌, ◌<◌, ◌≤◌, ◌^◌, ◌+◌, ℕ, List, [], ◌∷◌, ◌++◌, All}
+use Rattle.std.specs.Prelude.{◌≡◌, ◌<◌, ◌≤◌, ◌^◌, ◌+◌, ℕ, List, ◌∷◌, ◌++◌, All}
 use Rattle.event_core.specs.Numbers.{u32_bytes, u64_bytes}
 use Rattle.event_core.specs.Content.{AreHeaders, event_bytes, size}
 use Rattle.record_form.specs.declared.record.Rec.{Rec}

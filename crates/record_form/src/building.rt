@@ -1,10 +1,13 @@
 // The record that bytes spell.
 ghost use Rattle.std.specs.Prelude.{◌≡◌, ◌≤◌, ◌+◌, ◌-◌, ℕ, length, take, drop, IfOk};
 ghost use Rattle.event_core.specs.Content.{content, size};
+ghost use Rattle.record_form.specs.Record.{Spells, record_length};
 ghost use Rattle.record_form.specs.Grammar.{Complete, IsWhole, as_read, kind_grammar, outcome_of, read_of, reads, u32_of, u64_of};
 
 use crate::fields::text_at;
-use crate::record::{COMMIT_PUT, COMMIT_TAKE, EVENT_AT, HEADERS_AT, PUT, ROLLBACK, Rec, SIZE_AT, TAKE};
+use crate::record::{
+    COMMIT_PUT, COMMIT_TAKE, EVENT_AT, HEADERS_AT, PUT, ROLLBACK, Rec, SIZE_AT, TAKE,
+};
 use byteorder::{BigEndian, ByteOrder};
 use event_core::{Event, Headers, NoMemory};
 use std::alloc::Global;
@@ -71,8 +74,8 @@ fn put_of(alloc: Global, bytes: &[u8]) -> Result<Rec, NoMemory>
     Ok(Rec::Put { txn, event })
 }
 
-/// The record that a front of the bytes spells.
-pub fn rec_of(alloc: Global, bytes: &[u8]) -> Result<Rec, NoMemory>
+// The record that the bytes begin with, by their kind.
+fn kind_of(alloc: Global, bytes: &[u8]) -> Result<Rec, NoMemory>
     requires { IsWhole (read_of bytes.now) }
     ensures { IfOk result (λ rec. (end : ℕ) × (outcome_of bytes.now ≡ Complete rec end)) }
 {
@@ -98,4 +101,13 @@ pub fn rec_of(alloc: Global, bytes: &[u8]) -> Result<Rec, NoMemory>
             count: u32_in(bytes, 1),
         }),
     }
+}
+
+/// The record that a front of the bytes spells.
+pub fn rec_of(alloc: Global, bytes: &[u8]) -> Result<Rec, NoMemory>
+    requires { IsWhole (read_of bytes.now) }
+    ensures read { IfOk result (λ rec. outcome_of bytes.now ≡ Complete rec (record_length rec)) }
+    ensures spelled { IfOk result (λ rec. Spells (take (record_length rec) bytes.now) rec) }
+{
+    kind_of(alloc, bytes)
 }

@@ -9,7 +9,8 @@ ghost use Rattle.record_form.specs.declared.record.Rec.TheVariants.{Put};
 
 use crate::fields::{Stop, count_end, skip, text_at, u32_at};
 use crate::record::{
-    COMMIT_PUT, COMMIT_TAKE, END, EVENT_AT, HEADERS_AT, MAX_PUT_SIZE, PUT, ROLLBACK, Read, SIZE_AT, TAKE,
+    COMMIT_PUT, COMMIT_TAKE, END, EVENT_AT, HEADERS_AT, MAX_PUT_SIZE, PUT, ROLLBACK, Read, SIZE_AT,
+    TAKE,
 };
 
 // The place behind so many headers.

@@ -6,15 +6,22 @@ pub const MAX_PUT_SIZE: u32 = 1_048_576;
 
 // The kind bytes.
 pub(crate) const PUT: u8 = 1;
+
 pub(crate) const TAKE: u8 = 2;
+
 pub(crate) const ROLLBACK: u8 = 3;
+
 pub(crate) const COMMIT_PUT: u8 = 4;
+
 pub(crate) const COMMIT_TAKE: u8 = 5;
+
 pub(crate) const END: u8 = 6;
 
 // Where a PUT has its event's length, its event, and the event's headers.
 pub(crate) const SIZE_AT: usize = 9;
+
 pub(crate) const EVENT_AT: usize = 13;
+
 pub(crate) const HEADERS_AT: usize = 17;
 
 /// A record of the log.

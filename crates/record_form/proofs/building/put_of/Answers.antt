@@ -1,4 +1,4 @@
-use Rattle.std.proofs.Common.{◌≡◌, ◌<◌, ◌≤◌, ◌+◌, ◌-◌, ◌^◌, ◌++◌, ◌∷◌, [], ℕ, List, length, take, drop, Some, None, refl, sym, ap, arith, ◌∙◌, length-drop}
+use Rattle.std.proofs.Common.{◌≡◌, ◌+◌, ◌-◌, ◌++◌, ◌∷◌, [], length, take, drop, Some, sym, ap, arith, ◌∙◌, length-drop}
 use Rattle.std.proofs.lemmas.List.{length-take-le}
 use Rattle.std.specs.Option.{option_copied}
 use Rattle.event_core.specs.Content.{content}
@@ -7,7 +7,7 @@ use Rattle.record_form.specs.declared.record.Rec.TheVariants.{Put}
 use Rattle.record_form.specs.Grammar.{Complete, kind_grammar, reads, headers_grammar, u32_of}
 use Rattle.record_form.proofs.Steps.{after_key}
 use Rattle.record_form.proofs.Inversions.{whole_put, whole_body}
-use Rattle.record_form.proofs.Loops.{BuildsOn, builds_key, builds_none, builds_more, builds_body, no_stop, whole_outcome}
+use Rattle.record_form.proofs.Loops.{builds_key, builds_none, builds_more, builds_body, no_stop, whole_outcome}
 use Rattle.record_form.proofs.building.put_of.Goals as goal
 
 pub u64_in-txn-requires : goal.u64_in-txn-requires
@@ -41,9 +41,9 @@ unreachable-requires c =
     let n = c.u32_in-number.result - (c.loop.counter + 1) in
     let end = 13 + c.u32_in-size.result in
     no_stop (reads (kind_grammar 1) (drop 1 bytes) 1) c.in_default.field-0
-      (builds_key bytes c.u64_in-txn.result end c.u32_in-number.result c.loop.counter c.loop.at (option_copied c.loop.last) c.loop.headers c.loop.invariant c.loop-test.true
-        ∙ c.in_default.ensures.reads (after_key n c.u64_in-txn.result end c.loop.at c.loop.headers))
-      c.requires.whole
+    (builds_key bytes c.u64_in-txn.result end c.u32_in-number.result c.loop.counter c.loop.at (option_copied c.loop.last) c.loop.headers c.loop.invariant c.loop-test.true
+    ∙ c.in_default.ensures.reads (after_key n c.u64_in-txn.result end c.loop.at c.loop.headers))
+    c.requires.whole
 
 pub text_at-requires-in-loop-clause-low : goal.text_at-requires-in-loop-clause-low
 text_at-requires-in-loop-clause-low c =
@@ -58,10 +58,10 @@ unreachable-requires-in_default-text_at c =
     let end = 13 + c.u32_in-size.result in
     let key = c.in-Ok.key.now in
     no_stop (reads (kind_grammar 1) (drop 1 bytes) 1) c.in_default-text_at.field-0
-      (builds_key bytes c.u64_in-txn.result end c.u32_in-number.result c.loop.counter c.loop.at (option_copied c.loop.last) c.loop.headers c.loop.invariant c.loop-test.true
-        ∙ c.in-Ok.ensures.reads (after_key n c.u64_in-txn.result end c.loop.at c.loop.headers)
-        ∙ c.in_default-text_at.ensures.reads (λ value. headers_grammar n c.u64_in-txn.result end (c.loop.at + 4 + length key + 4 + length value) (Some key) (c.loop.headers ++ (key, value) ∷ [])))
-      c.requires.whole
+    (builds_key bytes c.u64_in-txn.result end c.u32_in-number.result c.loop.counter c.loop.at (option_copied c.loop.last) c.loop.headers c.loop.invariant c.loop-test.true
+    ∙ c.in-Ok.ensures.reads (after_key n c.u64_in-txn.result end c.loop.at c.loop.headers)
+    ∙ c.in_default-text_at.ensures.reads (λ value. headers_grammar n c.u64_in-txn.result end (c.loop.at + 4 + length key + 4 + length value) (Some key) (c.loop.headers ++ (key, value) ∷ [])))
+    c.requires.whole
 
 pub loop-preserved : goal.loop-preserved
 loop-preserved c =
@@ -69,7 +69,7 @@ loop-preserved c =
     let o = whole_outcome (reads (kind_grammar 1) (drop 1 bytes) 1) c.requires.whole in
     let w = whole_put bytes o.0 o.1.0 c.requires.some o.1.1 in
     builds_more bytes c.u64_in-txn.result (13 + c.u32_in-size.result) c.u32_in-number.result c.loop.counter c.loop.at (option_copied c.loop.last) c.loop.headers c.set.new.self c.in-Ok.key.now c.in-Ok-text_at.value.now
-      c.loop.invariant c.loop-test.true c.in-Ok.ensures.reads c.in-Ok-text_at.ensures.reads c.in-Ok-text_at.ensures.within (omega (arith, w.size, c.u32_in-size.ensures, c.in-Ok-text_at.ensures.inside)) c.in-Ok.ensures.above c.in_ok-set.ensures.ok
+    c.loop.invariant c.loop-test.true c.in-Ok.ensures.reads c.in-Ok-text_at.ensures.reads c.in-Ok-text_at.ensures.within (omega (arith, w.size, c.u32_in-size.ensures, c.in-Ok-text_at.ensures.inside)) c.in-Ok.ensures.above c.in_ok-set.ensures.ok
 
 pub part-requires-clause-ordered : goal.part-requires-clause-ordered
 part-requires-clause-ordered c =

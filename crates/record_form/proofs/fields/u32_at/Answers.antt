@@ -1,4 +1,4 @@
-use Rattle.std.proofs.Common.{◌≡◌, ◌+◌, ◌-◌, take, drop, arith, ap, ◌∙◌}
+use Rattle.std.proofs.Common.{◌≡◌, ◌-◌, take, drop, arith, ap, ◌∙◌}
 use Rattle.byteorder.specs.Endian.{big_number}
 use Rattle.record_form.proofs.Values.{big_4-take}
 use Rattle.record_form.proofs.fields.u32_at.Goals as goal

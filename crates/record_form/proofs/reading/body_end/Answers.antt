@@ -1,4 +1,3 @@
-use Rattle.std.proofs.Common.{◌≡◌, ◌+◌, take, drop, sym, ap, ◌∙◌}
 use Rattle.std.proofs.lemmas.Result.{err_from_is_err_and}
 use Rattle.record_form.proofs.Steps.{body-cut, body-fault, body-answers}
 use Rattle.record_form.proofs.reading.body_end.Goals as goal

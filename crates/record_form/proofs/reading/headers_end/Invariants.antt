@@ -1,4 +1,3 @@
-use Rattle.std.proofs.Common.{◌≡◌, ◌≤◌, ◌<◌, ◌^◌, ◌-◌, ℕ, List, [], length, drop, None}
 use Rattle.std.specs.Option.{option_copied}
 use Rattle.record_form.proofs.Loops.{ReadsOn}
 use Rattle.record_form.proofs.reading.headers_end.Given as goal

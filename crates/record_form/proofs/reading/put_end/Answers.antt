@@ -1,4 +1,4 @@
-use Rattle.std.proofs.Common.{◌≡◌, ◌+◌, ◌<◌, ◌^◌, ℕ, List, take, drop, refl, sym, arith, ap, ◌∙◌}
+use Rattle.std.proofs.Common.{◌≡◌, ◌+◌, ℕ, List, take, drop, refl, ◌∙◌}
 use Rattle.std.proofs.lemmas.Result.{err_from_is_err_and}
 use Rattle.event_core.specs.Content.{content}
 use Rattle.record_form.specs.declared.record.Rec.TheVariants.{Put}
@@ -35,7 +35,7 @@ returns-clause-reads c =
     let there = c.in_ok-body_at.ensures.reads txn in
     let path = put-headers bytes c.in_ok-size.size c.in_ok-number.number c.in_ok-number.ensures.0 c.in_ok-size.ensures.1 c.if-size-gt-MAX_PUT_SIZE.false c.in_ok-number.ensures.1 ∙ there.1 in
     answers-through
-      (λ stop. (body : List ℕ) × (reads (body_grammar txn end at there.0) (drop at bytes) at ≡ Complete (Put txn (content there.0 body)) stop)) (Ends 1 bytes)
-      c.body_end.result (reads (kind_grammar 1) (drop 1 bytes) 1) (reads (body_grammar txn end at there.0) (drop at bytes) at) path
-      (λ stop found. (Put txn (content there.0 found.0), path ∙ found.1, refl))
-      (c.body_end.ensures.reads txn there.0)
+    (λ stop. (body : List ℕ) × (reads (body_grammar txn end at there.0) (drop at bytes) at ≡ Complete (Put txn (content there.0 body)) stop)) (Ends 1 bytes)
+    c.body_end.result (reads (kind_grammar 1) (drop 1 bytes) 1) (reads (body_grammar txn end at there.0) (drop at bytes) at) path
+    (λ stop found. (Put txn (content there.0 found.0), path ∙ found.1, refl))
+    (c.body_end.ensures.reads txn there.0)

@@ -1,5 +1,4 @@
-use Rattle.std.proofs.Common.{◌≡◌, ◌≤◌, Some, None, false, sym, ap, arith, ◌∙◌}
-use Rattle.std.specs.List.{slice_get}
+use Rattle.std.proofs.Common.{◌≡◌, false, sym, ap, arith, ◌∙◌}
 use Rattle.record_form.specs.declared.record.Read.TheVariants.{Whole}
 use Rattle.record_form.specs.Answers.{stopped}
 use Rattle.record_form.specs.Grammar.{as_read, is_kind}
@@ -13,9 +12,10 @@ returns-in_default c = sym (ap as_read (record-cut c.args.bytes.now (first_none 
 pub returns-then-kind-eq0 : goal.returns-then-kind-eq0
 returns-then-kind-eq0 c =
     let kind = c.in-Some.field-0.now in
-    let wrong : is_kind kind ≡ false = elim c.then-kind-eq0.branch
-      [ then-kind-eq0-via-then-kind-eq0 w ↦ is_kind-zero kind w.if-kind-eq0.true
-      | then-kind-eq0-via-else-kind-eq0+then-kind-gt-END w ↦ is_kind-high kind w.if-kind-gt-END.true ] in
+    let wrong : is_kind kind ≡ false = elim c.then-kind-eq0.branch [
+      | then-kind-eq0-via-then-kind-eq0 w ↦ is_kind-zero kind w.if-kind-eq0.true
+      | then-kind-eq0-via-else-kind-eq0+then-kind-gt-END w ↦ is_kind-high kind w.if-kind-gt-END.true
+    ] in
     sym (ap as_read (read-wrong c.args.bytes.now kind c.in-Some.ensures.value wrong))
 
 pub returns-in-Ok : goal.returns-in-Ok
