@@ -94,7 +94,7 @@ nothing_yet batch e = record { large_is = refl; all = λ h. e }
 pub batch_refusal : (bytes : List ℕ) (at : ℕ) (e : ValueRefused) → IsRefusal BatchFault bytes at e → ReadsBatch bytes at (Err e)
 batch_refusal bytes at (Short field need) f = f
 batch_refusal bytes at (Bad place) f = f
-batch_refusal bytes at (TooLarge n) f = absurd f
+batch_refusal bytes at (TooLarge n end) f = absurd f
 batch_refusal bytes at NoMemory f = tt
 
 pub batch_fault : (bytes : List ℕ) (at : ℕ) (e : ValueRefused) → IsFault BatchFault bytes at e → ReadsBatch bytes at (Err e)

@@ -27,33 +27,33 @@ moved_bad Inner Outer bytes at mid field p moves f =
 pub moved : (Inner Outer : List ℕ → Fault → Type 0) (bytes : List ℕ) (at mid : ℕ) (e : ValueRefused) → IsPart bytes at mid → Moves Inner Outer (part bytes at mid) → IsFault Inner bytes mid e → IsFault Outer bytes at e
 moved Inner Outer bytes at mid (Short field need) p moves f = moved_short Inner Outer bytes at mid field need p moves f
 moved Inner Outer bytes at mid (Bad place) p moves f = moved_bad Inner Outer bytes at mid place p moves f
-moved Inner Outer bytes at mid (TooLarge n) p moves f = absurd f
+moved Inner Outer bytes at mid (TooLarge n end) p moves f = absurd f
 moved Inner Outer bytes at mid NoMemory p moves f = absurd f
 
 pub moved_refusal : (Inner Outer : List ℕ → Fault → Type 0) (bytes : List ℕ) (at mid : ℕ) (e : ValueRefused) → IsPart bytes at mid → Moves Inner Outer (part bytes at mid) → IsRefusal Inner bytes mid e → IsRefusal Outer bytes at e
 moved_refusal Inner Outer bytes at mid (Short field need) p moves f = moved_short Inner Outer bytes at mid field need p moves f
 moved_refusal Inner Outer bytes at mid (Bad place) p moves f = moved_bad Inner Outer bytes at mid place p moves f
-moved_refusal Inner Outer bytes at mid (TooLarge n) p moves f = absurd f
+moved_refusal Inner Outer bytes at mid (TooLarge n end) p moves f = absurd f
 moved_refusal Inner Outer bytes at mid NoMemory p moves f = tt
 
 -- a fault that takes no memory
 pub refusal_of : (Faults : List ℕ → Fault → Type 0) (bytes : List ℕ) (at : ℕ) (e : ValueRefused) → IsFault Faults bytes at e → IsRefusal Faults bytes at e
 refusal_of Faults bytes at (Short field need) f = f
 refusal_of Faults bytes at (Bad place) f = f
-refusal_of Faults bytes at (TooLarge n) f = absurd f
+refusal_of Faults bytes at (TooLarge n end) f = absurd f
 refusal_of Faults bytes at NoMemory f = absurd f
 
 -- a fault of the first field is one of the whole
 pub same_place : (Inner Outer : List ℕ → Fault → Type 0) (bytes : List ℕ) (at : ℕ) (e : ValueRefused) → ((f : Fault) → Inner (drop at bytes) f → Outer (drop at bytes) f) → IsFault Inner bytes at e → IsFault Outer bytes at e
 same_place Inner Outer bytes at (Short field need) widens f = (f.0, f.1, f.2, f.3, widens (Lacks f.0 f.1) f.4)
 same_place Inner Outer bytes at (Bad place) widens f = (f.0, f.1, widens (Wrong f.0) f.2)
-same_place Inner Outer bytes at (TooLarge n) widens f = absurd f
+same_place Inner Outer bytes at (TooLarge n end) widens f = absurd f
 same_place Inner Outer bytes at NoMemory widens f = absurd f
 
 pub same_place_refusal : (Inner Outer : List ℕ → Fault → Type 0) (bytes : List ℕ) (at : ℕ) (e : ValueRefused) → ((f : Fault) → Inner (drop at bytes) f → Outer (drop at bytes) f) → IsRefusal Inner bytes at e → IsRefusal Outer bytes at e
 same_place_refusal Inner Outer bytes at (Short field need) widens f = (f.0, f.1, f.2, f.3, widens (Lacks f.0 f.1) f.4)
 same_place_refusal Inner Outer bytes at (Bad place) widens f = (f.0, f.1, widens (Wrong f.0) f.2)
-same_place_refusal Inner Outer bytes at (TooLarge n) widens f = absurd f
+same_place_refusal Inner Outer bytes at (TooLarge n end) widens f = absurd f
 same_place_refusal Inner Outer bytes at NoMemory widens f = tt
 
 -- a value, and then a fault

@@ -3,7 +3,6 @@ use Rattle.std.proofs.Common.{◌≡◌, ℕ, ◌+◌, ◌-◌, ◌<◌, ◌≤�
 use Rattle.std.proofs.lemmas.List.{length-append, length-drop}
 use Rattle.std.specs.Prelude.{pos, negsuc}
 use Rattle.std.specs.Str.{IsUtf8}
-use Rattle.avro_binary.specs.Fault.{Lacks, Wrong}
 use Rattle.avro_binary.specs.Number.{IsLong}
 use Rattle.avro_binary.specs.Value.{IsBytes, BytesFault, Negative, Cut, TextFault, NotUtf8}
 use Rattle.avro_binary.specs.Reading.{part, IsPart, LacksAt, WrongAt}

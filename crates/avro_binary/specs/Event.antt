@@ -3,7 +3,7 @@ use Rattle.std.specs.Prelude.{◌≡◌, ◌<◌, ℕ, List, [], ◌∷◌, ◌+
 use Rattle.event_core.specs.Content.{Header, Content, size, with_header}
 use Rattle.avro_binary.specs.declared.refused.ValueRefused.{ValueRefused}
 use Rattle.avro_binary.specs.declared.refused.ValueRefused.TheVariants.{Short, Bad, TooLarge, NoMemory}
-use Rattle.avro_binary.specs.Fault.{Fault, Lacks, Wrong, Behind}
+use Rattle.avro_binary.specs.Fault.{Fault, Behind}
 use Rattle.avro_binary.specs.Value.{IsBytes, BytesFault}
 use Rattle.avro_binary.specs.Items.{IsItems, ItemsFault, IsMap, MapFault}
 use Rattle.avro_binary.specs.Reading.{part, IsPart, LacksAt, WrongAt}
@@ -45,12 +45,12 @@ abbrev pub ReadsEvent : List ℕ → ℕ → Result (Content × ℕ) ValueRefuse
 ReadsEvent bytes at (Ok found) = IsPart bytes at found.1 × IsEvent (part bytes at found.1) found.0
 ReadsEvent bytes at (Err (Short field need)) = LacksAt EventFault bytes at field need
 ReadsEvent bytes at (Err (Bad field)) = WrongAt EventFault bytes at field
-ReadsEvent bytes at (Err (TooLarge n)) = (end : ℕ) × (event : Content) × IsPart bytes at end × IsEvent (part bytes at end) event × (n ≡ size event) × (max_size < n)
+ReadsEvent bytes at (Err (TooLarge n end)) = (event : Content) × IsPart bytes at end × IsEvent (part bytes at end) event × (n ≡ size event) × (max_size < n)
 ReadsEvent bytes at (Err NoMemory) = Unit {0}
 
 abbrev pub ReadsBatch : List ℕ → ℕ → Result (List Content × ℕ) ValueRefused → Type 0
 ReadsBatch bytes at (Ok found) = IsPart bytes at found.1 × IsBatch (part bytes at found.1) found.0
 ReadsBatch bytes at (Err (Short field need)) = LacksAt BatchFault bytes at field need
 ReadsBatch bytes at (Err (Bad field)) = WrongAt BatchFault bytes at field
-ReadsBatch bytes at (Err (TooLarge n)) = (end : ℕ) × (events : List Content) × IsPart bytes at end × IsBatch (part bytes at end) events × (first_large events ≡ Some n)
+ReadsBatch bytes at (Err (TooLarge n end)) = (events : List Content) × IsPart bytes at end × IsBatch (part bytes at end) events × (first_large events ≡ Some n)
 ReadsBatch bytes at (Err NoMemory) = Unit {0}

@@ -5,7 +5,7 @@ use Rattle.avro_binary.specs.declared.refused.ValueRefused.{ValueRefused}
 use Rattle.avro_binary.specs.declared.refused.ValueRefused.TheVariants.{Short, Bad, TooLarge, NoMemory}
 use Rattle.avro_binary.specs.declared.event.Found.{Found}
 use Rattle.avro_binary.specs.declared.event.Found.TheVariants.{Event, Large}
-use Rattle.avro_binary.specs.Fault.{Fault, Lacks, Wrong}
+use Rattle.avro_binary.specs.Fault.{Fault}
 use Rattle.avro_binary.specs.Items.{IsMap, MapFault}
 use Rattle.avro_binary.specs.Event.{IsEvent, EventFault, headers_of, first_large, max_size}
 use Rattle.avro_binary.specs.Reading.{part, IsPart, LacksAt, WrongAt}
@@ -14,7 +14,7 @@ use Rattle.avro_binary.specs.Reading.{part, IsPart, LacksAt, WrongAt}
 abbrev pub IsRefusal : (List ℕ → Fault → Type 0) → List ℕ → ℕ → ValueRefused → Type 0
 IsRefusal Faults bytes at (Short field need) = LacksAt Faults bytes at field need
 IsRefusal Faults bytes at (Bad field) = WrongAt Faults bytes at field
-IsRefusal Faults bytes at (TooLarge n) = ⊥
+IsRefusal Faults bytes at (TooLarge n end) = ⊥
 IsRefusal Faults bytes at NoMemory = Unit {0}
 
 abbrev pub ReadsHeaders : List ℕ → ℕ → Result (List Header × ℕ) ValueRefused → Type 0

@@ -24,7 +24,7 @@ WrongAt Faults bytes at field = (p : ℕ) × (field ≡ at + p) × Faults (drop 
 abbrev pub IsFault : (List ℕ → Fault → Type 0) → List ℕ → ℕ → ValueRefused → Type 0
 IsFault Faults bytes at (Short field need) = LacksAt Faults bytes at field need
 IsFault Faults bytes at (Bad field) = WrongAt Faults bytes at field
-IsFault Faults bytes at (TooLarge size) = ⊥
+IsFault Faults bytes at (TooLarge size end) = ⊥
 IsFault Faults bytes at NoMemory = ⊥
 
 -- a value and the offset behind it, or the fault

@@ -60,7 +60,10 @@ pub fn read_event(alloc: Global, bytes: &[u8], at: usize) -> Result<(Event, usiz
     let (found, end) = event_at(alloc, bytes, at)?;
     match found {
         Found::Event(event) => Ok((event, end)),
-        Found::Large(size) => Err(ValueRefused::TooLarge { size }),
+        Found::Large(size) => Err(ValueRefused::TooLarge {
+            size,
+            end: end as u64,
+        }),
     }
 }
 
@@ -101,7 +104,10 @@ pub fn read_batch(alloc: Global, bytes: &[u8], at: usize) -> Result<(Batch, usiz
         if todo == 0 {
             return match large {
                 None => Ok((batch, item)),
-                Some(size) => Err(ValueRefused::TooLarge { size }),
+                Some(size) => Err(ValueRefused::TooLarge {
+                    size,
+                    end: item as u64,
+                }),
             };
         }
         let (found, end) = event_at(alloc, bytes, item)?;

@@ -216,11 +216,17 @@ fn greatest_event(rt: HostRuntime) -> Result<(), Fail> {
     bytes.push(0)?;
     assert!(rt;
         read_batch(alloc, &bytes, 0).is_err_and(|e| e
-            == ValueRefused::TooLarge { size: 33_554_433 })
+            == ValueRefused::TooLarge {
+                size: 33_554_433,
+                end: 33_554_432
+            })
     );
     assert!(rt;
         read_event(alloc, &bytes, 1).is_err_and(|e| e
-            == ValueRefused::TooLarge { size: 33_554_433 })
+            == ValueRefused::TooLarge {
+                size: 33_554_433,
+                end: 33_554_431
+            })
     );
     one_spelling_at_a_place();
     no_fault_in_a_value();

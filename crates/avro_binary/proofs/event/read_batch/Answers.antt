@@ -23,7 +23,7 @@ returns-in-None c =
 pub returns-in-Some : goal.returns-in-Some
 returns-in-Some c =
     let k = closed IsEvent EventFault c.args.bytes.now c.args.at c.events.place c.events.left c.in_ok-todo.todo c.in_ok-todo.item c.events.invariant.0 c.events.invariant.1 c.in_ok-todo.ensures c.if-todo-eq0.true in
-    (c.in_ok-todo.item, c.events.invariant.0, k.0, k.1, sym c.events.invariant.2.large_is ∙ c.in-Some.is)
+    (c.events.invariant.0, k.0, k.1, sym c.events.invariant.2.large_is ∙ c.in-Some.is)
 
 pub returns-in_err-found : goal.returns-in_err-found
 returns-in_err-found c =
