@@ -5,9 +5,11 @@
 mod disk;
 mod host;
 mod names;
+mod steps;
 mod stream;
 
 pub use disk::Disk;
 pub use host::Host;
 pub use names::{Failed, FileName, NameRefused};
+pub use steps::Steps;
 pub use stream::{Sink, Source};

@@ -1,0 +1,11 @@
+pub mod Tallies
+pub mod Adding
+pub mod Leaving
+pub mod Loose
+pub mod Numbers
+pub mod Opened
+pub mod Sound
+pub mod LawLemmas
+pub mod Going
+pub mod Spent
+pub mod Grammar

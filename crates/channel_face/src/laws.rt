@@ -1,0 +1,27 @@
+// Laws of the channel machine.
+ghost use Rattle.channel_face.specs.Laws.{NumbersRise, TakesLeast, StandsForJournal, CommitsAreWellFormed, CountsOneCall};
+
+/// In every state that a run leads to, the numbers of the events that are left rise, and the next number is above them.
+pub fn numbers_rise()
+    ensures { NumbersRise }
+{}
+
+/// A take gives the event of the least number that no transaction holds.
+pub fn takes_least()
+    ensures { TakesLeast }
+{}
+
+/// What is left, and the next number, are what the journal leaves of the base.
+pub fn stands_for_journal()
+    ensures { StandsForJournal }
+{}
+
+/// The commits are a well-formed journal of the base, and none is empty.
+pub fn commits_are_well_formed()
+    ensures { CommitsAreWellFormed }
+{}
+
+/// What is counted of a history goes on call by call.
+pub fn counts_one_call()
+    ensures { CountsOneCall }
+{}

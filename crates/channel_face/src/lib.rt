@@ -1,0 +1,22 @@
+//! What a channel is to its callers: tokens of open transactions, replies, refusals, and the traits.
+#![tactic(auto)]
+
+mod channel;
+mod face;
+mod laws;
+mod own_face;
+mod replies;
+mod tokens;
+
+pub use channel::{Channel, Durable};
+pub use face::{PutFace, TakeFace};
+pub use laws::{
+    commits_are_well_formed, counts_one_call, numbers_rise, stands_for_journal, takes_least,
+};
+pub use own_face::OwnFace;
+pub use replies::{
+    BeginRefused, CheckRefused, CommitRefused, Counter, Counts, FaceRefused, FlushRefused, Kind,
+    Limits, OpenCause, PruneRefused, Put, PutRefused, Settled, StageCause, StageRefused,
+    TakeRefused, Taken, Ticket,
+};
+pub use tokens::{PutTxn, TakeTxn};
