@@ -57,11 +57,14 @@ module _ (start : Start) (told : Option Told) (faults next : ℕ) (done : List H
   before : done ≡ all_with Accepted s.lines
   before = s.split ∙ ap (λ l. all_with Accepted s.lines ++ l) none ∙ append-nil (all_with Accepted s.lines)
 
+  unstopped : All (λ h. h.verdict ≡ NoMemory) s.last
+  unstopped = let P : List Handled → Type 0 = λ l. All (λ h. h.verdict ≡ NoMemory) l in subst P (sym none) (All-nil (λ (h : Handled). h.verdict ≡ NoMemory))
+
   file : Logs start.told told s.lines
-  file = s.file (let P : List Handled → Type 0 = λ l. All (λ h. h.verdict ≡ NoMemory) l in subst P (sym none) (All-nil (λ (h : Handled). h.verdict ≡ NoMemory)))
+  file = s.file unstopped
 
   -- the line was accepted
-  pub stands_more : (new : Option Told) (faults' next' gate : ℕ) (line : List ℕ) → faults ≤ faults' → next' ≡ next + 1 → Tells told new (AddsFrame gate (records next line)) → Stands start new faults' next' (and_then done line Accepted)
+  pub stands_more : (new : Option Told) (faults' next' gate : ℕ) (line : List ℕ) → faults' ≡ faults → next' ≡ next + 1 → Tells told new (AddsFrame gate (records next line)) → Stands start new faults' next' (and_then done line Accepted)
   stands_more new faults' next' gate line later one adds = record {
     lines = s.lines ++ line ∷ [];
     last = [];
@@ -69,13 +72,14 @@ module _ (start : Start) (told : Option Told) (faults next : ℕ) (done : List H
     one = omega arith;
     stops = All-nil (λ (h : Handled). GoesOn h.verdict → ⊥);
     later = omega (arith, s.later, later);
+    well = λ _. later ∙ s.well unstopped;
     cause = All-nil (λ (h : Handled). h.verdict ≡ InDoubt → Rose start.faults faults');
     counted = one ∙ omega (arith, s.counted, length-append s.lines (line ∷ []));
     file = λ _. logs_more start.told told new gate next s.lines line s.counted file adds;
   }
 
   -- it was not
-  pub stands_stopped : (new : Option Told) (faults' : ℕ) (line : List ℕ) (verdict : LineVerdict) → (GoesOn verdict → ⊥) → faults ≤ faults' → (verdict ≡ InDoubt → Rose faults faults') → (verdict ≡ NoMemory → new ≡ told) → Stands start new faults' next (and_then done line verdict)
+  pub stands_stopped : (new : Option Told) (faults' : ℕ) (line : List ℕ) (verdict : LineVerdict) → (GoesOn verdict → ⊥) → faults ≤ faults' → (verdict ≡ InDoubt → Rose faults faults') → (verdict ≡ NoMemory → (new ≡ told) × (faults' ≡ faults)) → Stands start new faults' next (and_then done line verdict)
   stands_stopped new faults' line verdict stops later cause same = record {
     lines = s.lines;
     last = record { line = line; verdict = verdict } ∷ [];
@@ -83,19 +87,21 @@ module _ (start : Start) (told : Option Told) (faults next : ℕ) (done : List H
     one = omega arith;
     stops = All-push (λ (h : Handled). GoesOn h.verdict → ⊥) [] _ (All-nil (λ (h : Handled). GoesOn h.verdict → ⊥)) stops;
     later = omega (arith, s.later, later);
+    well = λ all. (same (All-head (λ (h : Handled). h.verdict ≡ NoMemory) _ [] all)).1 ∙ s.well unstopped;
     cause = All-push (λ (h : Handled). h.verdict ≡ InDoubt → Rose start.faults faults') [] _ (All-nil (λ (h : Handled). h.verdict ≡ InDoubt → Rose start.faults faults')) (λ is. let rose = cause is in omega (arith, rose, s.later));
     counted = s.counted;
-    file = λ all. let P : Option Told → Type 0 = λ o. Logs start.told o s.lines in subst P (sym (same (All-head (λ (h : Handled). h.verdict ≡ NoMemory) _ [] all))) file;
+    file = λ all. let P : Option Told → Type 0 = λ o. Logs start.told o s.lines in subst P (sym (same (All-head (λ (h : Handled). h.verdict ≡ NoMemory) _ [] all)).0) file;
   }
 
-pub stands_at_start : (start : Start) (told : Option Told) (faults : ℕ) → start.faults ≤ faults → Logs start.told told [] → Stands start told faults 0 []
-stands_at_start start told faults later logs = record {
+pub stands_at_start : (start : Start) (told : Option Told) (faults : ℕ) → faults ≡ start.faults → Logs start.told told [] → Stands start told faults 0 []
+stands_at_start start told faults same logs = record {
   lines = [];
   last = [];
   split = refl;
   one = omega arith;
   stops = All-nil (λ (h : Handled). GoesOn h.verdict → ⊥);
-  later = later;
+  later = omega (arith, same);
+  well = λ _. same;
   cause = All-nil (λ (h : Handled). h.verdict ≡ InDoubt → Rose start.faults faults);
   counted = refl;
   file = λ _. logs;

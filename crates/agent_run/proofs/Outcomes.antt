@@ -9,9 +9,9 @@ use Rattle.flume_host.specs.Told.{Told, Tells}
 use Rattle.netcat_source.specs.Lines.{IsLine, LinesEnd, Rest, TooLong}
 use Rattle.netcat_source.specs.declared.replies.LineVerdict.TheVariants as verdict
 use Rattle.agent_run.specs.Handled.{Handled, GoesOn, Start, lines_of, verdicts_of, all_with}
-use Rattle.agent_run.specs.Session.{Served, Stopped, IsStop}
+use Rattle.agent_run.specs.Session.{Served, Stopped, IsStop, IsWell}
 use Rattle.agent_run.specs.PlainLog.{Holds, Logs, Stands}
-use Rattle.agent_run.specs.Piped.{Stored, Interrupted, Piped, end_status}
+use Rattle.agent_run.specs.Piped.{Stored, Interrupted, Piped, IsWellStatus, end_status}
 use Rattle.agent_run.specs.declared.session.SessionEnd.{SessionEnd}
 use Rattle.agent_run.specs.declared.session.SessionEnd.TheVariants.{End, LongLine, Full, InDoubt, NoMemory, ReadFault, WriteFault}
 use Rattle.agent_run.proofs.LogLines.{none_stops}
@@ -60,6 +60,15 @@ is_stop InDoubt is = tt
 is_stop NoMemory is = tt
 is_stop ReadFault is = tt
 is_stop WriteFault is = tt
+
+is_well : (e : SessionEnd) → IsWellStatus (end_status e) → IsWell e
+is_well End is = tt
+is_well LongLine is = tt
+is_well Full is = tt
+is_well InDoubt is = elim is [ inl a ↦ absurd (omega arith) | inr b ↦ elim b [ inl c ↦ absurd (omega arith) | inr d ↦ absurd (omega arith) ] ]
+is_well NoMemory is = elim is [ inl a ↦ absurd (omega arith) | inr b ↦ elim b [ inl c ↦ absurd (omega arith) | inr d ↦ absurd (omega arith) ] ]
+is_well ReadFault is = elim is [ inl a ↦ absurd (omega arith) | inr b ↦ elim b [ inl c ↦ absurd (omega arith) | inr d ↦ absurd (omega arith) ] ]
+is_well WriteFault is = elim is [ inl a ↦ absurd (omega arith) | inr b ↦ elim b [ inl c ↦ absurd (omega arith) | inr d ↦ absurd (omega arith) ] ]
 
 is_fault : (e : SessionEnd) → end_status e ≡ 3 → (e ≡ InDoubt) ⊎ ((e ≡ ReadFault) ⊎ (e ≡ WriteFault))
 is_fault End is = absurd (omega arith)
@@ -117,8 +126,14 @@ stored start told faults next done going s =
       logs = let P : List (List ℕ) → Type 0 = λ ls. Logs start.told told ls in subst P (sym same) (s.file (let Q : List Handled → Type 0 = λ l. All (λ h. h.verdict ≡ verdict.NoMemory) l in subst Q (sym none) (All-nil (λ (h : Handled). h.verdict ≡ verdict.NoMemory))));
     }
 
-interrupted : (start : Start) (told : Option Told) (faults next : ℕ) (done : List Handled) → Stands start told faults next done → Interrupted start.faults faults done
-interrupted start told faults next done s = record { lines = s.lines; last = s.last; split = s.split; one = s.one; stops = s.stops; cause = s.cause }
+-- a session that nothing stopped counted no fault of the disk
+uncounted : (start : Start) (told : Option Told) (faults next : ℕ) (done : List Handled) → All GoesOn (verdicts_of done) → Stands start told faults next done → faults ≡ start.faults
+uncounted start told faults next done going s =
+    let none : s.last ≡ [] = none_stops (all_with verdict.Accepted s.lines) s.last (let P : List Handled → Type 0 = λ d. All GoesOn (verdicts_of d) in subst P s.split going) s.stops in
+    s.well (let Q : List Handled → Type 0 = λ l. All (λ h. h.verdict ≡ verdict.NoMemory) l in subst Q (sym none) (All-nil (λ (h : Handled). h.verdict ≡ verdict.NoMemory)))
+
+interrupted : (start : Start) (told : Option Told) (faults next : ℕ) (done : List Handled) → Stands start told faults next done → Interrupted start.told told start.faults faults done
+interrupted start told faults next done s = record { lines = s.lines; last = s.last; split = s.split; one = s.one; stops = s.stops; cause = s.cause; logs = λ _ none. s.file none }
 
 module _ (s0 s1 s2 s3 s4 : HostState) (left left' took took' : Option (List ℕ)) (n m own_in own_out : ℕ)
     (e1 : left ≡ s0.input) (e2 : s1 ≡ record s0 { input = None }) (e3 : took ≡ s1.output) (e4 : s2 ≡ record s1 { output = None })
@@ -147,6 +162,9 @@ module _ (s0 s1 s2 s3 s4 : HostState) (left left' took took' : Option (List ℕ)
   write_rose : Rose 0 own_out → Rose s0.faults s4.faults
   write_rose rose = let up = c6.raised (omega (arith, rose)) in omega (arith, up, c5.later, faults2, faults3, faults4)
 
+  unread : own_in ≡ 0 → own_out ≡ 0 → s4.faults ≡ s0.faults
+  unread none_in none_out = faults4 ∙ c6.clean none_out ∙ faults3 ∙ c5.clean none_in ∙ faults2
+
   module _ (start : Start) (told : Option Told) (faults next accepted : ℕ) (e : SessionEnd) (sink_before : ℕ) (clean : sink_before ≡ 0) where
     abbrev pub Here : List Handled → Type 0
     Here = Stands start told faults next
@@ -156,9 +174,10 @@ module _ (s0 s1 s2 s3 s4 : HostState) (left left' took took' : Option (List ℕ)
         → (e ≡ LongLine → Served 512 (λ size. size ≤ 2 ^ 40) TooLong left left' took took' accepted Here)
         → (e ≡ Full → Served 512 (λ size. size ≡ 2 ^ 40) Rest left left' took took' accepted Here)
         → (IsStop e → Stopped 512 left left' took took' sink_before own_out accepted Here)
+        → (IsWell e → (own_in ≡ 0) × (own_out ≡ sink_before))
         → (e ≡ InDoubt → Rose start.faults faults) → (e ≡ ReadFault → Rose 0 own_in) → (e ≡ WriteFault → Rose sink_before own_out)
         → (status : ℕ) → status ≡ end_status e → Piped s0 s4 start.told told start.faults faults status accepted
-    piped at_end end long full stopped in_doubt read write status is = record {
+    piped at_end end long full stopped well in_doubt read write status is = record {
       done = λ zero.
           let ended = is_end e (sym is ∙ zero) in
           (let P : Option (List ℕ) → Type 0 = λ o. IsAtEnd o in subst P (sym input_is) (at_end ended), rw (← e1, input_is, ← took_is, output_is) (served_as (stored start told faults next) (end ended)));
@@ -168,14 +187,24 @@ module _ (s0 s1 s2 s3 s4 : HostState) (left left' took took' : Option (List ℕ)
           let kind : (end_status e ≡ 3) ⊎ (end_status e ≡ 5) = elim which [ inl three ↦ inl (sym is ∙ three) | inr five ↦ inr (sym is ∙ five) ] in
           rw (← e1, input_is, ← took_is, output_is) (stopped_as (interrupted start told faults next) (λ rose. write_rose (rw clean at rose)) (stopped (is_stop e kind)));
       held = λ four. absurd (never_held e (sym is ∙ four));
+      well = λ which.
+          let none = well (is_well e (subst IsWellStatus is which)) in
+          let disk : faults ≡ start.faults = elim which [
+            | inl zero ↦ let s = end (is_end e (sym is ∙ zero)) in uncounted start told faults next s.done s.going s.stands
+            | inr other ↦ elim other [
+              | inl six ↦ let s = full (is_full e (sym is ∙ six)) in uncounted start told faults next s.done s.going s.stands
+              | inr seven ↦ let s = long (is_long e (sym is ∙ seven)) in uncounted start told faults next s.done s.going s.stands
+            ]
+          ] in
+          (unread none.0 (none.1 ∙ clean), disk);
       fault = λ three. elim (is_fault e (sym is ∙ three)) [
         | inl doubt ↦ inr (in_doubt doubt)
         | inr other ↦ elim other [ inl r ↦ inl (read_rose (read r)) | inr w ↦ inl (write_rose (rw clean at (write w))) ]
       ];
     }
 
-nothing : (max a b c d : ℕ) (input left output took : Option (List ℕ)) → left ≡ input → took ≡ output → (accepted : ℕ) → accepted ≡ 0 → Stopped max input left output took a b accepted (Interrupted c d)
-nothing max a b c d input left output took same_input same_output accepted none = record {
+nothing : (max a b c d : ℕ) (before after : Option Told) (input left output took : Option (List ℕ)) → left ≡ input → took ≡ output → (accepted : ℕ) → accepted ≡ 0 → Stopped max input left output took a b accepted (Interrupted before after c d)
+nothing max a b c d before after input left output took same_input same_output accepted none = record {
   bytes = [];
   read = rw same_input (Consumes-nil input);
   done = [];
@@ -195,6 +224,7 @@ nothing max a b c d input left output took same_input same_output accepted none 
     one = omega arith;
     stops = All-nil (λ (h : Handled). GoesOn h.verdict → ⊥);
     cause = All-nil (λ (h : Handled). h.verdict ≡ verdict.InDoubt → Rose c d);
+    logs = λ some none. absurd (omega arith);
   };
 }
 
@@ -205,8 +235,9 @@ early old new before after a b status accepted same_input same_output none which
   done = λ is. absurd (other is which);
   full = λ is. absurd (other6 is which);
   long = λ is. absurd (other7 is which);
-  stopped = λ _. nothing 512 old.faults new.faults a b old.input new.input old.output new.output same_input same_output accepted none;
+  stopped = λ _. nothing 512 old.faults new.faults a b before after old.input new.input old.output new.output same_input same_output accepted none;
   held = λ is. (held is, same_input, same_output, none);
+  well = λ is. elim is [ inl zero ↦ absurd (other zero which) | inr more ↦ elim more [ inl six ↦ absurd (other6 six which) | inr seven ↦ absurd (other7 seven which) ] ];
   fault = fault;
 }
   where
@@ -225,7 +256,7 @@ early old new before after a b status accepted same_input same_output none which
     other7 is (inr (inl b)) = omega arith
     other7 is (inr (inr c)) = omega arith
 
-interrupted_as : {a b c d : ℕ} → (Rose a b → Rose c d) → (done : List Handled) → Interrupted a b done → Interrupted c d done
+interrupted_as : {t u : Option Told} {a b c d : ℕ} → (Rose a b → Rose c d) → (done : List Handled) → Interrupted t u a b done → Interrupted t u c d done
 interrupted_as rose done i = record {
   lines = i.lines;
   last = i.last;
@@ -233,6 +264,7 @@ interrupted_as rose done i = record {
   one = i.one;
   stops = i.stops;
   cause = λ k d below is. rose (i.cause k d below is);
+  logs = i.logs;
 }
 
 -- the disk is handed out before, and given back after
@@ -252,7 +284,8 @@ given_back s0 s1 s2 s3 before before' after after' n m a own status accepted ope
       done = λ is. rw (input3, output3, ← input0, ← output0, is_after, ← is_before) (p.done is);
       full = λ is. rw (input3, output3, ← input0, ← output0, is_after, ← is_before) (p.full is);
       long = λ is. rw (input3, output3, ← input0, ← output0, is_after, ← is_before) (p.long is);
-      stopped = λ is. rw (input3, output3, ← input0, ← output0) (stopped_as (interrupted_as rose) (λ r. rw (faults3, ← faults0) r) (p.stopped is));
+      stopped = λ is. rw (input3, output3, ← input0, ← output0, is_after, ← is_before) (stopped_as (interrupted_as rose) (λ r. rw (faults3, ← faults0) r) (p.stopped is));
       held = λ is. let h = p.held is in (rw (is_after, ← is_before) h.0, input3 ∙ h.1 ∙ input0, output3 ∙ h.2 ∙ output0, h.3);
+      well = λ is. let none = p.well is in (faults3 ∙ none.0 ∙ faults0, disk3 ∙ counts.clean (none.1 ∙ clean) ∙ disks ∙ disk0);
       fault = λ is. elim (p.fault is) [ inl r ↦ inl (rw (faults3, ← faults0) r) | inr r ↦ inr (rose r) ];
     }

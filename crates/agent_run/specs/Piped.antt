@@ -18,14 +18,20 @@ pub record Stored (before after : Option Told) (done : List Handled) : Type 0 wh
   pub logs : Logs before after (lines_of done)
 
 -- The first lines were accepted, and at most one more was not: it is in doubt, for which the disk's count rose, or there
--- was no memory for it.
-pub record Interrupted (before now : ℕ) (done : List Handled) : Type 0 where
+-- was no memory for it. Where lines were accepted and none is in doubt, the folder, which was empty, holds the log of the
+-- accepted ones and nothing else.
+pub record Interrupted (before after : Option Told) (faults now : ℕ) (done : List Handled) : Type 0 where
   pub lines : List (List ℕ)
   pub last : List Handled
   pub split : done ≡ all_with verdict.Accepted lines ++ last
   pub one : length last ≤ 1
   pub stops : All (λ h. GoesOn h.verdict → ⊥) last
-  pub cause : All (λ h. h.verdict ≡ verdict.InDoubt → Rose before now) last
+  pub cause : All (λ h. h.verdict ≡ verdict.InDoubt → Rose faults now) last
+  pub logs : 0 < length lines → All (λ h. h.verdict ≡ verdict.NoMemory) last → Logs before after lines
+
+-- every line of what was read was handled
+abbrev pub IsWellStatus : ℕ → Type 0
+IsWellStatus n = (n ≡ 0) ⊎ (n ≡ 6) ⊎ (n ≡ 7)
 
 -- From one state of the host, of the folder and of its disk's count of faults to the next. At 0, 6 and 7 every line of
 -- what was read was handled: it was answered, and is in the folder.
@@ -37,9 +43,11 @@ pub record Piped (old new : HostState) (before after : Option Told) (disk_before
   -- a line was too long
   pub long : status ≡ 7 → Served 512 (λ size. size ≤ 2 ^ 40) TooLong old.input new.input old.output new.output accepted (Stored before after)
   -- a fault or want of memory ended it
-  pub stopped : (status ≡ 3) ⊎ (status ≡ 5) → Stopped 512 old.input new.input old.output new.output old.faults new.faults accepted (Interrupted disk_before disk_now)
+  pub stopped : (status ≡ 3) ⊎ (status ≡ 5) → Stopped 512 old.input new.input old.output new.output old.faults new.faults accepted (Interrupted before after disk_before disk_now)
   -- the folder holds a file: nothing was read or written
   pub held : status ≡ 4 → Tells before after Holds × (new.input ≡ old.input) × (new.output ≡ old.output) × (accepted ≡ 0)
+  -- where nothing stopped it, no fault was counted
+  pub well : IsWellStatus status → (new.faults ≡ old.faults) × (disk_now ≡ disk_before)
   -- a count of faults rose
   pub fault : status ≡ 3 → Rose old.faults new.faults ⊎ Rose disk_before disk_now
 

@@ -87,5 +87,7 @@ pub record Stands (start : Start) (told : Option Told) (faults next : ℕ) (done
   pub later : start.faults ≤ faults
   pub cause : All (λ h. h.verdict ≡ InDoubt → Rose start.faults faults) last
   pub counted : next ≡ length lines
+  -- unless it is in doubt, no fault was counted
+  pub well : All (λ h. h.verdict ≡ NoMemory) last → faults ≡ start.faults
   -- unless it is in doubt, the folder holds the accepted lines
   pub file : All (λ h. h.verdict ≡ NoMemory) last → Logs start.told told lines

@@ -85,3 +85,13 @@ IsStop InDoubt = Unit {0}
 IsStop NoMemory = Unit {0}
 IsStop ReadFault = Unit {0}
 IsStop WriteFault = Unit {0}
+
+-- nothing stopped a session before the end of its lines
+abbrev pub IsWell : SessionEnd → Type 0
+IsWell End = Unit {0}
+IsWell LongLine = Unit {0}
+IsWell Full = Unit {0}
+IsWell InDoubt = ⊥
+IsWell NoMemory = ⊥
+IsWell ReadFault = ⊥
+IsWell WriteFault = ⊥

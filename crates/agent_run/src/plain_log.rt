@@ -120,6 +120,7 @@ fn lay<D: Disk>(disk: &mut D) -> Result<(), BeginCause>
     ensures held { IsErrOf result BeginCause.NotEmpty → Tells (D.told disk.old) (D.told disk.new) Holds }
     ensures fault { IsErrOf result BeginCause.DiskFault → Rose (D.faults disk.old) (D.faults disk.new) }
     ensures later { D.faults disk.old ≤ D.faults disk.new }
+    ensures well { OnOk result (D.faults disk.new ≡ D.faults disk.old) }
 {
     disk.settle()?;
     match disk.next_name(None)? {

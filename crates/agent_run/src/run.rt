@@ -55,7 +55,7 @@ fn say_end<H: Host>(alloc: Global, dir: &str, host: &mut H, status: u8)
 pub fn run_agent<H: Host>(alloc: Global, words: &[String], host: &mut H) -> Outcome
     // The words are a command, or the status is 1 and nothing was touched.
     ensures usage { (result.status ≡ 1) ↔ ((dir : List ℕ) → ¬ IsPipe (texts words.now) dir) }
-    ensures nothing { result.status ≡ 1 → (H.state host.new ≡ H.state host.old) × (H.folder host.new ≡ H.folder host.old) }
+    ensures nothing { result.status ≡ 1 → (H.state host.new ≡ H.state host.old) × (H.folder host.new ≡ H.folder host.old) × (result.accepted ≡ 0) }
 
     // What `pipe` read, wrote and stored, and when each status comes.
     ensures piped { (dir : List ℕ) → IsPipe (texts words.now) dir

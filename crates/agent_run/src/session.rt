@@ -5,7 +5,7 @@ ghost use Rattle.flume_host.specs.Causes.{Rose};
 ghost use Rattle.netcat_source.specs.Lines.{IsLineLimit, Rest, TooLong};
 ghost use Rattle.netcat_source.specs.Replies.{reply};
 ghost use Rattle.agent_run.specs.Handled.{Start, GoesOn};
-ghost use Rattle.agent_run.specs.Session.{Progress, Served, Stopped, TakesLine, Fronts, EndsByLine, IsStop, held_by};
+ghost use Rattle.agent_run.specs.Session.{Progress, Served, Stopped, TakesLine, Fronts, EndsByLine, IsStop, IsWell, held_by};
 
 use crate::LineStore;
 use crate::write::write_all;
@@ -69,6 +69,7 @@ fn answer<K: Sink>(sink: &mut K, verdict: LineVerdict) -> Result<(), SessionEnd>
     ensures not_long { ¬ IsErrOf result SessionEnd.LongLine }
     ensures kind { IfErr result EndsByLine }
     ensures later { K.faults sink.old ≤ K.faults sink.new }
+    ensures well { OnOk result (K.faults sink.new ≡ K.faults sink.old) }
 {
     match write_all(sink, reply_to(verdict, true)) {
         Ok(()) => {}
@@ -111,6 +112,8 @@ fn serve_front<K: Sink, L: LineStore>(
     ensures kind { IfErr result EndsByLine }
     ensures store_later { L.faults store.old ≤ L.faults store.new }
     ensures sink_later { K.faults sink.old ≤ K.faults sink.new }
+    ensures well { OnOk result (K.faults sink.new ≡ K.faults sink.old) }
+    ensures long_well { IsErrOf result SessionEnd.LongLine → K.faults sink.new ≡ K.faults sink.old }
 {
     let (n, cut) = lines.feed(rest);
     match cut {
@@ -157,6 +160,8 @@ fn serve_piece<K: Sink, L: LineStore>(
     ensures kind { IfErr result EndsByLine }
     ensures store_later { L.faults store.old ≤ L.faults store.new }
     ensures sink_later { K.faults sink.old ≤ K.faults sink.new }
+    ensures well { OnOk result (K.faults sink.new ≡ K.faults sink.old) }
+    ensures long_well { IsErrOf result SessionEnd.LongLine → K.faults sink.new ≡ K.faults sink.old }
 {
     let mut rest = piece;
     while !rest.is_empty() {
@@ -203,6 +208,7 @@ fn serve_until<S: Source, K: Sink, L: LineStore>(
     ensures source_later { S.faults source.old ≤ S.faults source.new }
     ensures store_later { L.faults store.old ≤ L.faults store.new }
     ensures sink_later { K.faults sink.old ≤ K.faults sink.new }
+    ensures well { IsWell result → (S.faults source.new ≡ S.faults source.old) × (K.faults sink.new ≡ K.faults sink.old) }
 {
     let mut buf = [0u8; PIECE as usize];
     let mut taken = 0;
@@ -259,6 +265,9 @@ pub fn serve<S: Source, K: Sink, L: LineStore>(
     ensures source_later { S.faults source.old ≤ S.faults source.new }
     ensures store_later { L.faults store.old ≤ L.faults store.new }
     ensures sink_later { K.faults sink.old ≤ K.faults sink.new }
+
+    // Nothing stopped it: neither the source nor the sink counted a fault.
+    ensures well { IsWell result.end → (S.faults source.new ≡ S.faults source.old) × (K.faults sink.new ≡ K.faults sink.old) }
 {
     let mut accepted = 0;
     let end = serve_until(source, sink, store, lines, &mut accepted);

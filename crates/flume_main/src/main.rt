@@ -7,6 +7,7 @@ mod host;
 use agent_run::run_agent;
 use host::RealHost;
 use std::env;
+use std::fs::File;
 use std::process::ExitCode;
 
 // The words after the program's name. Where one isn't text there are none, which is no command.
@@ -17,12 +18,21 @@ fn words(rt: HostRuntime) -> Option<Vec<String>> {
     }
 }
 
+// A file that takes no bytes and gives none.
+fn nothing(rt: &HostRuntime) -> Option<File> {
+    File::open(rt, "/dev/null").ok()
+}
+
 fn main(rt: HostRuntime) -> ExitCode {
+    // A standard stream that was closed leaves its number free, and the next file that is opened gets it. These three take
+    // such numbers, so that no file of a folder is read or written as a stream.
+    let streams = [nothing(&rt), nothing(&rt), nothing(&rt)];
     let Some(words) = words(rt) else {
         return ExitCode::from(5);
     };
     let mut host = RealHost::new(rt);
     let outcome = run_agent(rt.alloc(), &words, &mut host);
+    drop(streams);
     ExitCode::from(outcome.status)
 }
 

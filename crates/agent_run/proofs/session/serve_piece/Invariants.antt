@@ -9,7 +9,7 @@ invariant-loop-rest g l = record {
   ready : g.L.LineStore.ready l.store;
   few : l.accepted + length l.rest ≤ l.initial.accepted + length l.piece;
   store_later : g.L.LineStore.faults l.initial.store ≤ g.L.LineStore.faults l.store;
-  sink_later : g.K.Sink.faults l.initial.sink ≤ g.K.Sink.faults l.sink;
+  sink_well : g.K.Sink.faults l.sink ≡ g.K.Sink.faults l.initial.sink;
   progress : (total : ℕ) (input left output : Option (List ℕ)) (start : Start)
       → Progress l.initial.lines.max total input left (held_by l.initial.lines) l.piece output (g.K.Sink.took l.initial.sink) l.initial.accepted (g.L.LineStore.stands l.initial.store start)
       → Progress l.initial.lines.max total input left (held_by l.lines) l.rest output (g.K.Sink.took l.sink) l.accepted (g.L.LineStore.stands l.store start);

@@ -33,8 +33,8 @@ loop-taken-preserved g c =
       ready = c.in-Ok-serve_piece.ensures.ready;
       limit = omega (arith, c.loop-taken.invariant.limit, c.in-Ok-read.ensures.bound.0, c.read.auto.into, c.min-room.ensures, length-take c.min-room.result c.loop-taken.buf);
       few = omega (arith, c.loop-taken.invariant.few, c.in-Ok-serve_piece.ensures.few, len);
-      source_later = omega (arith, c.loop-taken.invariant.source_later, c.in-Ok-read.ensures.cause.later);
-      sink_later = omega (arith, c.loop-taken.invariant.sink_later, c.in-Ok.ensures.cause.later, c.serve_piece.ensures.sink_later);
+      source_well = c.in-Ok-read.ensures.cause.well ∙ c.loop-taken.invariant.source_well;
+      sink_well = c.in-Ok-serve_piece.ensures.well ∙ c.in-Ok.ensures.cause.well ∙ c.loop-taken.invariant.sink_well;
       store_later = omega (arith, c.loop-taken.invariant.store_later, c.serve_piece.ensures.store_later);
       progress = λ start stands.
           let p = flushed (c.loop-taken.invariant.progress start stands) c.in-Ok.ensures.bytes in
@@ -67,4 +67,4 @@ returns-in-Err-serve_piece-clause-stopped g c = λ _ start stands.
     let p = flushed (c.loop-taken.invariant.progress start stands) c.in-Ok.ensures.bytes in
     let read = piece_read _ _ _ _ _ _ (take n whole) _ _ _ _ p consumed in
     let stopped = rw c.loop-taken.invariant.max at c.in-Err-serve_piece.ensures.stopped in
-    earlier (omega (arith, c.loop-taken.invariant.sink_later, c.in-Ok.ensures.cause.later)) (stopped _ _ _ _ start read)
+    earlier (omega (arith, c.loop-taken.invariant.sink_well, c.in-Ok.ensures.cause.later)) (stopped _ _ _ _ start read)

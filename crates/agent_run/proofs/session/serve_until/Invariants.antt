@@ -9,8 +9,8 @@ invariant-loop-taken g l = record {
   ready : g.L.LineStore.ready l.store;
   limit : l.taken ≤ 2 ^ 40;
   few : l.accepted ≤ l.taken;
-  source_later : g.S.Source.faults l.initial.source ≤ g.S.Source.faults l.source;
-  sink_later : g.K.Sink.faults l.initial.sink ≤ g.K.Sink.faults l.sink;
+  source_well : g.S.Source.faults l.source ≡ g.S.Source.faults l.initial.source;
+  sink_well : g.K.Sink.faults l.sink ≡ g.K.Sink.faults l.initial.sink;
   store_later : g.L.LineStore.faults l.initial.store ≤ g.L.LineStore.faults l.store;
   progress : (start : Start) → g.L.LineStore.stands l.initial.store start []
       → Progress l.initial.lines.max l.taken (g.S.Source.left l.initial.source) (g.S.Source.left l.source) (held_by l.lines) [] (g.K.Sink.took l.initial.sink) (g.K.Sink.took l.sink) l.accepted (g.L.LineStore.stands l.store start);
