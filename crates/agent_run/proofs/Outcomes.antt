@@ -61,6 +61,15 @@ is_stop NoMemory is = tt
 is_stop ReadFault is = tt
 is_stop WriteFault is = tt
 
+is_memory : (e : SessionEnd) → end_status e ≡ 5 → e ≡ NoMemory
+is_memory End is = absurd (omega arith)
+is_memory LongLine is = absurd (omega arith)
+is_memory Full is = absurd (omega arith)
+is_memory InDoubt is = absurd (omega arith)
+is_memory NoMemory is = refl
+is_memory ReadFault is = absurd (omega arith)
+is_memory WriteFault is = absurd (omega arith)
+
 is_well : (e : SessionEnd) → IsWellStatus (end_status e) → IsWell e
 is_well End is = tt
 is_well LongLine is = tt
@@ -127,7 +136,7 @@ stored start told faults next done going s =
     }
 
 -- a session that nothing stopped counted no fault of the disk
-uncounted : (start : Start) (told : Option Told) (faults next : ℕ) (done : List Handled) → All GoesOn (verdicts_of done) → Stands start told faults next done → faults ≡ start.faults
+pub uncounted : (start : Start) (told : Option Told) (faults next : ℕ) (done : List Handled) → All GoesOn (verdicts_of done) → Stands start told faults next done → faults ≡ start.faults
 uncounted start told faults next done going s =
     let none : s.last ≡ [] = none_stops (all_with verdict.Accepted s.lines) s.last (let P : List Handled → Type 0 = λ d. All GoesOn (verdicts_of d) in subst P s.split going) s.stops in
     s.well (let Q : List Handled → Type 0 = λ l. All (λ h. h.verdict ≡ verdict.NoMemory) l in subst Q (sym none) (All-nil (λ (h : Handled). h.verdict ≡ verdict.NoMemory)))
@@ -175,9 +184,10 @@ module _ (s0 s1 s2 s3 s4 : HostState) (left left' took took' : Option (List ℕ)
         → (e ≡ Full → Served 512 (λ size. size ≡ 2 ^ 40) Rest left left' took took' accepted Here)
         → (IsStop e → Stopped 512 left left' took took' sink_before own_out accepted Here)
         → (IsWell e → (own_in ≡ 0) × (own_out ≡ sink_before))
+        → (e ≡ NoMemory → faults ≡ start.faults)
         → (e ≡ InDoubt → Rose start.faults faults) → (e ≡ ReadFault → Rose 0 own_in) → (e ≡ WriteFault → Rose sink_before own_out)
         → (status : ℕ) → status ≡ end_status e → Piped s0 s4 start.told told start.faults faults status accepted
-    piped at_end end long full stopped well in_doubt read write status is = record {
+    piped at_end end long full stopped well memory in_doubt read write status is = record {
       done = λ zero.
           let ended = is_end e (sym is ∙ zero) in
           (let P : Option (List ℕ) → Type 0 = λ o. IsAtEnd o in subst P (sym input_is) (at_end ended), rw (← e1, input_is, ← took_is, output_is) (served_as (stored start told faults next) (end ended)));
@@ -197,6 +207,7 @@ module _ (s0 s1 s2 s3 s4 : HostState) (left left' took took' : Option (List ℕ)
             ]
           ] in
           (unread none.0 (none.1 ∙ clean), disk);
+      memory = λ five. memory (is_memory e (sym is ∙ five));
       fault = λ three. elim (is_fault e (sym is ∙ three)) [
         | inl doubt ↦ inr (in_doubt doubt)
         | inr other ↦ elim other [ inl r ↦ inl (read_rose (read r)) | inr w ↦ inl (write_rose (rw clean at (write w))) ]
@@ -230,14 +241,15 @@ nothing max a b c d before after input left output took same_input same_output a
 
 -- an end before any line
 pub early : (old new : HostState) (before after : Option Told) (a b status accepted : ℕ) → new.input ≡ old.input → new.output ≡ old.output → accepted ≡ 0 → (status ≡ 3) ⊎ ((status ≡ 4) ⊎ (status ≡ 5))
-    → (status ≡ 3 → Rose old.faults new.faults ⊎ Rose a b) → (status ≡ 4 → Tells before after Holds) → Piped old new before after a b status accepted
-early old new before after a b status accepted same_input same_output none which fault held = record {
+    → (status ≡ 3 → Rose old.faults new.faults ⊎ Rose a b) → (status ≡ 4 → Tells before after Holds) → (status ≡ 5 → b ≡ a) → Piped old new before after a b status accepted
+early old new before after a b status accepted same_input same_output none which fault held memory = record {
   done = λ is. absurd (other is which);
   full = λ is. absurd (other6 is which);
   long = λ is. absurd (other7 is which);
   stopped = λ _. nothing 512 old.faults new.faults a b before after old.input new.input old.output new.output same_input same_output accepted none;
   held = λ is. (held is, same_input, same_output, none);
   well = λ is. elim is [ inl zero ↦ absurd (other zero which) | inr more ↦ elim more [ inl six ↦ absurd (other6 six which) | inr seven ↦ absurd (other7 seven which) ] ];
+  memory = memory;
   fault = fault;
 }
   where
@@ -287,5 +299,6 @@ given_back s0 s1 s2 s3 before before' after after' n m a own status accepted ope
       stopped = λ is. rw (input3, output3, ← input0, ← output0, is_after, ← is_before) (stopped_as (interrupted_as rose) (λ r. rw (faults3, ← faults0) r) (p.stopped is));
       held = λ is. let h = p.held is in (rw (is_after, ← is_before) h.0, input3 ∙ h.1 ∙ input0, output3 ∙ h.2 ∙ output0, h.3);
       well = λ is. let none = p.well is in (faults3 ∙ none.0 ∙ faults0, disk3 ∙ counts.clean (none.1 ∙ clean) ∙ disks ∙ disk0);
+      memory = λ is. disk3 ∙ counts.clean (p.memory is ∙ clean) ∙ disks ∙ disk0;
       fault = λ is. elim (p.fault is) [ inl r ↦ inl (rw (faults3, ← faults0) r) | inr r ↦ inr (rose r) ];
     }

@@ -170,7 +170,7 @@ module _ (max total : ℕ) (input left : Option (List ℕ)) (held rest : List �
       first = ap (λ x. joined (lines_of p.done) ++ x) behind;
       each = p.each;
       end = TooLong;
-      ends = λ _. is_end;
+      ends = λ _. (is_end, p.going);
       sent = length (flat_map (reply true) (verdicts_of p.done)) + front.sent;
       wrote = partly output took took' (flat_map (reply true) (verdicts_of p.done)) (end_reply TooLong) front.sent p.wrote front.wrote;
       whole =
@@ -282,7 +282,7 @@ served_stops {max} {P} {end} {input} {left} {output} {took} {took'} before now k
   first = s.cut.whole;
   each = s.cut.each;
   end = end;
-  ends = λ is. let Q : LinesEnd → Type 0 = λ e. IsEnd max e s.cut.rest in subst Q is s.cut.ends;
+  ends = λ is. (let Q : LinesEnd → Type 0 = λ e. IsEnd max e s.cut.rest in subst Q is s.cut.ends, s.going);
   sent = length (replies true (verdicts_of s.done) end);
   wrote =
       let text = replies true (verdicts_of s.done) end in

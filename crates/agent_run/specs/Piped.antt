@@ -48,6 +48,8 @@ pub record Piped (old new : HostState) (before after : Option Told) (disk_before
   pub held : status ≡ 4 → Tells before after Holds × (new.input ≡ old.input) × (new.output ≡ old.output) × (accepted ≡ 0)
   -- where nothing stopped it, no fault was counted
   pub well : IsWellStatus status → (new.faults ≡ old.faults) × (disk_now ≡ disk_before)
+  -- want of memory: the disk counted no fault, so no line is in doubt
+  pub memory : status ≡ 5 → disk_now ≡ disk_before
   -- a count of faults rose
   pub fault : status ≡ 3 → Rose old.faults new.faults ⊎ Rose disk_before disk_now
 

@@ -48,7 +48,7 @@ pub record Stopped (max : ℕ) (input left output took : Option (List ℕ)) (bef
   pub first : bytes ≡ joined (lines_of done) ++ rest
   pub each : All (IsLine max) (lines_of done)
   pub end : LinesEnd
-  pub ends : end ≡ TooLong → IsEnd max TooLong rest
+  pub ends : end ≡ TooLong → IsEnd max TooLong rest × All GoesOn (verdicts_of done)
   pub sent : ℕ
   pub wrote : Appends output took (take sent (replies true (verdicts_of done) end))
   pub whole : (length (replies true (verdicts_of done) end) ≤ sent) ⊎ Rose before now

@@ -1,5 +1,5 @@
 // One session: the lines of a source go into a store, and each is answered.
-ghost use Rattle.std.specs.Prelude.{◌≡◌, ◌⊎◌, ◌<◌, ◌≤◌, ◌+◌, ◌^◌, [], List, ℕ, Option, length, drop, IfOk, OnOk, OnErr, IfErr, IsErrOf, true};
+ghost use Rattle.std.specs.Prelude.{◌≡◌, ◌≢◌, ◌⊎◌, ◌<◌, ◌≤◌, ◌+◌, ◌^◌, [], List, ℕ, Option, length, drop, IfOk, OnOk, OnErr, IfErr, IsErrOf, true};
 ghost use Rattle.std.specs.Io.KnownBytes.{Appends, IsAtEnd};
 ghost use Rattle.flume_host.specs.Causes.{Rose};
 ghost use Rattle.netcat_source.specs.Lines.{IsLineLimit, Rest, TooLong};
@@ -50,6 +50,7 @@ fn hand_over<L: LineStore>(store: &mut L, accepted: &mut u64, line: &[u8]) -> Li
     ensures ready { GoesOn result → L.ready store.new }
     ensures cause { result ≡ LineVerdict.InDoubt → Rose (L.faults store.old) (L.faults store.new) }
     ensures later { L.faults store.old ≤ L.faults store.new }
+    ensures well { result ≢ LineVerdict.InDoubt → L.faults store.new ≡ L.faults store.old }
 {
     let verdict = store.take_line(line);
     match verdict {
@@ -114,6 +115,8 @@ fn serve_front<K: Sink, L: LineStore>(
     ensures sink_later { K.faults sink.old ≤ K.faults sink.new }
     ensures well { OnOk result (K.faults sink.new ≡ K.faults sink.old) }
     ensures long_well { IsErrOf result SessionEnd.LongLine → K.faults sink.new ≡ K.faults sink.old }
+    ensures store_well { OnOk result (L.faults store.new ≡ L.faults store.old) }
+    ensures memory { IsErrOf result SessionEnd.NoMemory → L.faults store.new ≡ L.faults store.old }
 {
     let (n, cut) = lines.feed(rest);
     match cut {
@@ -162,6 +165,8 @@ fn serve_piece<K: Sink, L: LineStore>(
     ensures sink_later { K.faults sink.old ≤ K.faults sink.new }
     ensures well { OnOk result (K.faults sink.new ≡ K.faults sink.old) }
     ensures long_well { IsErrOf result SessionEnd.LongLine → K.faults sink.new ≡ K.faults sink.old }
+    ensures store_well { OnOk result (L.faults store.new ≡ L.faults store.old) }
+    ensures memory { IsErrOf result SessionEnd.NoMemory → L.faults store.new ≡ L.faults store.old }
 {
     let mut rest = piece;
     while !rest.is_empty() {
@@ -209,6 +214,7 @@ fn serve_until<S: Source, K: Sink, L: LineStore>(
     ensures store_later { L.faults store.old ≤ L.faults store.new }
     ensures sink_later { K.faults sink.old ≤ K.faults sink.new }
     ensures well { IsWell result → (S.faults source.new ≡ S.faults source.old) × (K.faults sink.new ≡ K.faults sink.old) }
+    ensures memory { result ≡ SessionEnd.NoMemory → L.faults store.new ≡ L.faults store.old }
 {
     let mut buf = [0u8; PIECE as usize];
     let mut taken = 0;
@@ -268,6 +274,8 @@ pub fn serve<S: Source, K: Sink, L: LineStore>(
 
     // Nothing stopped it: neither the source nor the sink counted a fault.
     ensures well { IsWell result.end → (S.faults source.new ≡ S.faults source.old) × (K.faults sink.new ≡ K.faults sink.old) }
+    // Want of memory alone: nor did the store.
+    ensures memory { result.end ≡ SessionEnd.NoMemory → L.faults store.new ≡ L.faults store.old }
 {
     let mut accepted = 0;
     let end = serve_until(source, sink, store, lines, &mut accepted);

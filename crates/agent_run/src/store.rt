@@ -1,5 +1,5 @@
 // Where the lines of a session go.
-ghost use Rattle.std.specs.Prelude.{◌≡◌, ◌<◌, ◌≤◌, List, ℕ, length, All};
+ghost use Rattle.std.specs.Prelude.{◌≡◌, ◌≢◌, ◌<◌, ◌≤◌, List, ℕ, length, All};
 ghost use Rattle.flume_host.specs.Causes.{Rose};
 ghost use Rattle.agent_run.specs.Handled.{Handled, Start, GoesOn, and_then, verdicts_of};
 
@@ -23,5 +23,6 @@ pub trait LineStore {
         ensures stands { (start : Start) (done : List Handled) → All GoesOn (verdicts_of done) → stands self.old start done → stands self.new start (and_then done line.now result) }
         ensures ready { GoesOn result → ready self.new }
         ensures cause { result ≡ LineVerdict.InDoubt → Rose (faults self.old) (faults self.new) }
-        ensures later { faults self.old ≤ faults self.new };
+        ensures later { faults self.old ≤ faults self.new }
+        ensures well { result ≢ LineVerdict.InDoubt → faults self.new ≡ faults self.old };
 }

@@ -1,6 +1,8 @@
-use Rattle.std.proofs.Common.{◌≡◌, ◌∙◌, ap, arith}
+use Rattle.std.proofs.Common.{[], ◌≡◌, ◌∙◌, ap, arith}
+use Rattle.std.proofs.lemmas.List.Elements.{All-nil}
 use Rattle.netcat_source.specs.Feed.{LineState}
-use Rattle.agent_run.proofs.Outcomes.{piped}
+use Rattle.agent_run.specs.Handled.{GoesOn}
+use Rattle.agent_run.proofs.Outcomes.{piped, uncounted}
 use Rattle.agent_run.proofs.pipe.run_session.Goals as goal
 
 pub returns-clause-piped : goal.returns-clause-piped
@@ -18,5 +20,6 @@ returns-clause-piped g c = λ start stands.
     start (g.H.Disk.Disk.told log.disk) (g.H.Disk.Disk.faults log.disk) log.next c.serve-session.result.accepted c.serve-session.result.end _ c.take_output-sink.ensures.count
     s.at_end (λ is. end is start stands) (λ is. long is start stands) (λ is. full is start stands) (λ is. stopped is start stands)
     (λ is. let none = s.well is in (none.0 ∙ c.take_input-source.ensures.count, none.1))
+    (λ is. s.memory is ∙ uncounted start _ _ _ [] (All-nil GoesOn) stands)
     (λ is. let rose = s.in_doubt is in omega (arith, rose, stands.later)) (λ is. rw c.take_input-source.ensures.count at (s.read_fault is)) s.write_fault
     c.status_of.result c.status_of.ensures)

@@ -8,7 +8,7 @@ invariant-loop-rest g l = record {
   max : l.lines.max ≡ l.initial.lines.max;
   ready : g.L.LineStore.ready l.store;
   few : l.accepted + length l.rest ≤ l.initial.accepted + length l.piece;
-  store_later : g.L.LineStore.faults l.initial.store ≤ g.L.LineStore.faults l.store;
+  store_well : g.L.LineStore.faults l.store ≡ g.L.LineStore.faults l.initial.store;
   sink_well : g.K.Sink.faults l.sink ≡ g.K.Sink.faults l.initial.sink;
   progress : (total : ℕ) (input left output : Option (List ℕ)) (start : Start)
       → Progress l.initial.lines.max total input left (held_by l.initial.lines) l.piece output (g.K.Sink.took l.initial.sink) l.initial.accepted (g.L.LineStore.stands l.initial.store start)

@@ -11,7 +11,7 @@ invariant-loop-taken g l = record {
   few : l.accepted ≤ l.taken;
   source_well : g.S.Source.faults l.source ≡ g.S.Source.faults l.initial.source;
   sink_well : g.K.Sink.faults l.sink ≡ g.K.Sink.faults l.initial.sink;
-  store_later : g.L.LineStore.faults l.initial.store ≤ g.L.LineStore.faults l.store;
+  store_well : g.L.LineStore.faults l.store ≡ g.L.LineStore.faults l.initial.store;
   progress : (start : Start) → g.L.LineStore.stands l.initial.store start []
       → Progress l.initial.lines.max l.taken (g.S.Source.left l.initial.source) (g.S.Source.left l.source) (held_by l.lines) [] (g.K.Sink.took l.initial.sink) (g.K.Sink.took l.sink) l.accepted (g.L.LineStore.stands l.store start);
 }
