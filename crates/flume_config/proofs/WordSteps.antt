@@ -1,6 +1,6 @@
 -- What one more byte does to lists and numbers.
-use Rattle.std.proofs.Common.{◌≡◌, ℕ, ◌+◌, ◌-◌, ◌*◌, ◌<◌, ◌≤◌, Bool, true, false, cond, ◌==◌, List, [], ◌∷◌, ◌++◌, filter, length, get_or, drop, take, refl, sym, ap, ◌∙◌, subst, append_assoc, arith, Option, None, Some, option_and_then, nat_le, if◌then◌else◌, ◌&&◌, ⊎_elim}
-use Rattle.std.proofs.lemmas.Bool.{cond-true, cond-false, cond_both, cases_Bool, and_right, and_left, lt-leb}
+use Rattle.std.proofs.Common.{◌≡◌, ℕ, ◌+◌, ◌-◌, ◌*◌, ◌<◌, ◌≤◌, true, false, List, [], ◌∷◌, ◌++◌, filter, length, get_or, drop, take, refl, sym, ap, ◌∙◌, append_assoc, arith, Option, None, Some, option_and_then, nat_le, if◌then◌else◌, ◌&&◌, ⊎_elim}
+use Rattle.std.proofs.lemmas.Bool.{cond-true, cond-false, cond_both, cases_Bool, and_right, lt-leb}
 use Rattle.std.proofs.lemmas.List.{drop_more, take_more, get_or-drop, length-drop, append-nil}
 use Rattle.std.specs.Char.{is_ascii_digit}
 use Rattle.prop_text.specs.Lines.{is_white_space, with_front}

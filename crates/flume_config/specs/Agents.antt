@@ -1,11 +1,10 @@
 -- An agent: what may be at fault in its configuration, and the first fault.
-use Rattle.std.specs.Prelude.{◌≡◌, ℕ, Bool, true, false, List, [], ◌∷◌, ◌++◌, map, nat_eq, Option, Some, None, codes, Result, Ok, Err, string_bytes, fold}
+use Rattle.std.specs.Prelude.{ℕ, Bool, true, false, List, ◌++◌, nat_eq, Option, None, codes, fold}
 use Rattle.std.specs.List.{flat_map, starts_with, list_any}
 use Rattle.prop_text.specs.Pairs.{Pair}
 use Rattle.prop_text.specs.Winners.{lookup}
 use Rattle.flume_config.specs.declared.findings.Fault.{Fault}
-use Rattle.flume_config.specs.declared.findings.FaultKind.TheVariants.{UnknownType, UnknownName, BadNumber, Unsupported, Clash}
-use Rattle.flume_config.specs.Candidates.{Candidates, Seen, nothing, ◌⊕◌, each, first_of, least_of}
+use Rattle.flume_config.specs.Candidates.{Candidates, ◌⊕◌, each, first_of, least_of}
 use Rattle.flume_config.specs.Rows.{list_row}
 use Rattle.flume_config.specs.Components.{front_of, names_in, source, channel, sink, group}
 use Rattle.flume_config.specs.Claims.{Wish, source_wish, channel_wish, sink_wish, group_wish, clashes}

@@ -1,6 +1,5 @@
 -- What a component claims for itself alone: standard input, an address to listen at, a folder, an object that is handed in, a sink.
 use Rattle.std.specs.Prelude.{◌≡◌, ℕ, Bool, ◌||◌, ◌&&◌, List, [], ◌∷◌, ◌++◌, drop, max, ◌==◌, if◌then◌else◌, Option, Some, None, codes, map, string_bytes}
-use Rattle.std.specs.List.{flat_map}
 use Rattle.std.specs.Str.{bytes_eq}
 use Rattle.prop_text.specs.Pairs.{Pair}
 use Rattle.prop_text.specs.Winners.{lookup}
@@ -11,7 +10,6 @@ use Rattle.flume_config.specs.declared.findings.FaultKind.TheVariants.{Clash}
 use Rattle.flume_config.specs.Candidates.{Candidates, nothing, ◌⊕◌, each}
 use Rattle.flume_config.specs.Words.{number_in}
 use Rattle.flume_config.specs.Rows.{is_type, is_plugin, one_fault}
-use Rattle.flume_config.specs.Components.{names_in}
 
 -- what is claimed, and the line that tells
 pub record Wish : Type 0 where

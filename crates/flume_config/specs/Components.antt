@@ -1,5 +1,5 @@
 -- The table of components: the rows of each, by its type.
-use Rattle.std.specs.Prelude.{◌≡◌, ℕ, ◌+◌, ◌-◌, ◌^◌, Bool, true, false, List, [], ◌∷◌, ◌++◌, length, nat_lt, nat_eq, if◌then◌else◌, Option, Some, None, option_map, codes}
+use Rattle.std.specs.Prelude.{ℕ, true, false, List, [], ◌∷◌, ◌++◌, length, nat_lt, nat_eq, if◌then◌else◌, Option, Some, None, option_map, codes}
 use Rattle.std.specs.List.{starts_with}
 use Rattle.std.specs.Str.{bytes_eq}
 use Rattle.prop_text.specs.Pairs.{Pair}
@@ -8,7 +8,7 @@ use Rattle.flume_config.specs.declared.findings.FaultKind.TheVariants.{Unsupport
 use Rattle.flume_config.specs.declared.rules.Rule.TheVariants.{Text, Number, Truth, False, Never, NoCompression, TextSerializer, RoundRobinOrRandom, OneFolder, SourceKind, ChannelKind, SinkKind, ProcessorKind}
 use Rattle.flume_config.specs.Candidates.{Candidates, nothing, ◌⊕◌, each}
 use Rattle.flume_config.specs.Words.{words, is_among}
-use Rattle.flume_config.specs.Rows.{is_type, is_plugin, row, list_row, names_row, name_row, one_fault}
+use Rattle.flume_config.specs.Rows.{is_type, row, names_row, name_row, one_fault}
 
 -- the front that a component's keys share
 abbrev pub front_of : List ℕ → List ℕ → List ℕ → List ℕ

@@ -1,10 +1,7 @@
 -- What planning an agent answers.
-use Rattle.std.specs.Prelude.{◌≡◌, ℕ, Bool, true, false, List, [], Option, Some, None, Result, Ok, Err, string_bytes}
-use Rattle.std.specs.declared.alloc.Global.{Global}
-use Rattle.std.specs.declared.string.String.{String}
+use Rattle.std.specs.Prelude.{◌≡◌, ℕ, true, false, List, Some, None, Result, Ok, Err, string_bytes}
 use Rattle.prop_text.specs.Pairs.{Pair}
 use Rattle.prop_text.specs.Views.{texts}
-use Rattle.flume_config.specs.declared.findings.Fault.{Fault}
 use Rattle.flume_config.specs.declared.findings.FaultKind.TheVariants as kinds
 use Rattle.flume_config.specs.declared.refused.PlanRefused.{PlanRefused}
 use Rattle.flume_config.specs.declared.refused.PlanRefused.TheVariants.{NoAgent, UnknownType, UnknownName, BadNumber, BadPattern, Unsupported, Clash, Missing, NoMemory}

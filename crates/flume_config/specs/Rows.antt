@@ -1,11 +1,10 @@
 -- A row of the table of components: a key, whether it is required, and what its value has to be.
-use Rattle.std.specs.Prelude.{◌≡◌, ℕ, ◌-◌, ◌^◌, Bool, true, false, ◌||◌, ◌&&◌, not, List, [], ◌∷◌, ◌++◌, length, take, ◌==◌, if◌then◌else◌, Option, Some, None, is_some, codes}
+use Rattle.std.specs.Prelude.{ℕ, Bool, true, false, ◌||◌, not, List, [], ◌∷◌, ◌++◌, ◌==◌, if◌then◌else◌, Option, Some, None, is_some, codes}
 use Rattle.std.specs.Str.{bytes_eq, str_eq_ignore_ascii_case}
 use Rattle.std.specs.List.{list_any, starts_with}
 use Rattle.std.specs.Prelude.{nat_eq}
 use Rattle.prop_text.specs.Pairs.{Pair}
 use Rattle.prop_text.specs.Winners.{lookup}
-use Rattle.flume_config.specs.declared.findings.Fault.{Fault}
 use Rattle.flume_config.specs.declared.findings.FaultKind.{FaultKind}
 use Rattle.flume_config.specs.declared.findings.FaultKind.TheVariants.{UnknownType, UnknownName, BadNumber, Unsupported, Clash}
 use Rattle.flume_config.specs.declared.rules.Rule.{Rule}

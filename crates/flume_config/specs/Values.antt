@@ -1,5 +1,5 @@
 -- The values of a plan, by the table of components. Of keys that are at fault nothing is said here.
-use Rattle.std.specs.Prelude.{◌≡◌, ℕ, Bool, true, false, ◌&&◌, not, List, [], ◌∷◌, ◌++◌, length, drop, map, Option, Some, None, codes, string_bytes, if◌then◌else◌, unwrap_or}
+use Rattle.std.specs.Prelude.{◌≡◌, ℕ, Bool, true, false, not, List, [], ◌∷◌, ◌++◌, drop, map, Option, Some, None, codes, string_bytes, if◌then◌else◌, unwrap_or}
 use Rattle.std.specs.List.{prefix_len}
 use Rattle.std.specs.Str.{bytes_eq}
 use Rattle.prop_text.specs.Pairs.{Pair}

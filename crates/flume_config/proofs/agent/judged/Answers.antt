@@ -1,4 +1,4 @@
-use Rattle.std.proofs.Common.{◌≡◌, ap, sym, ◌∙◌, None}
+use Rattle.std.proofs.Common.{◌≡◌, ap, ◌∙◌, None}
 use Rattle.prop_text.specs.Views.{texts}
 use Rattle.flume_config.specs.Candidates.{adds}
 use Rattle.flume_config.specs.Agents as agents

@@ -1,8 +1,8 @@
 use Rattle.std.proofs.Common.{◌≡◌, ◌+◌, ◌∷◌, List, drop, ap, sym, ◌∙◌, subst}
 use Rattle.std.proofs.lemmas.List.{take_rest, drop_more, drop_all}
 use Rattle.flume_config.specs.declared.claims.Claim.{Claim}
-use Rattle.flume_config.specs.Candidates.{Adds, seen, each}
-use Rattle.flume_config.specs.Claims.{wish, wishes, clash, clashes}
+use Rattle.flume_config.specs.Candidates.{Adds, seen}
+use Rattle.flume_config.specs.Claims.{wishes, clashes}
 use Rattle.flume_config.proofs.Joins.{join, add_nothing}
 use Rattle.flume_config.proofs.claims.check_claims.Goals as goal
 

@@ -1,4 +1,3 @@
-use Rattle.std.proofs.Common.{◌++◌}
 use Rattle.prop_text.specs.Views.{texts}
 use Rattle.flume_config.specs.Candidates.{seen}
 use Rattle.flume_config.specs.Components.{priority}

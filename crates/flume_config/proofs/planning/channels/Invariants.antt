@@ -1,4 +1,3 @@
-use Rattle.prop_text.specs.Views.{texts}
 use Rattle.flume_config.specs.Values.{ChannelNamed}
 use Rattle.flume_config.proofs.Joins.{Makes}
 use Rattle.flume_config.proofs.planning.channels.Given as goal

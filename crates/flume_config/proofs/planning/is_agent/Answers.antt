@@ -1,4 +1,4 @@
-use Rattle.std.proofs.Common.{◌≡◌, ◌++◌, true, false, nat_eq, codes, ap, sym, ◌∙◌}
+use Rattle.std.proofs.Common.{nat_eq, ap, sym, ◌∙◌}
 use Rattle.std.specs.List.{starts_with}
 use Rattle.flume_config.proofs.AgentSteps.{agent_found, agent_passed}
 use Rattle.flume_config.proofs.planning.is_agent.Goals as goal

@@ -1,6 +1,4 @@
-use Rattle.std.proofs.Common.{◌≡◌, ◌++◌, ap, sym, ◌∙◌, codes, arith}
-use Rattle.flume_config.specs.Candidates.{Adds, each, seen}
-use Rattle.flume_config.specs.Components.{selector_key}
+use Rattle.std.proofs.Common.{arith}
 use Rattle.flume_config.proofs.Joins.{goes_on, ends, drop_from_get}
 use Rattle.flume_config.proofs.source.check_selector.Goals as goal
 

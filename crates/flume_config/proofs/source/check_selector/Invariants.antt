@@ -1,5 +1,5 @@
-use Rattle.std.proofs.Common.{◌++◌, drop, codes}
-use Rattle.flume_config.specs.Candidates.{seen, each}
+use Rattle.std.proofs.Common.{◌++◌, codes}
+use Rattle.flume_config.specs.Candidates.{seen}
 use Rattle.flume_config.specs.Components.{selector_key}
 use Rattle.flume_config.proofs.Joins.{Goes}
 use Rattle.flume_config.proofs.source.check_selector.Given as goal

@@ -1,9 +1,9 @@
-use Rattle.std.proofs.Common.{◌≡◌, ◌<◌, ◌≤◌, ◌+◌, ◌-◌, ◌++◌, true, false, List, ℕ, length, get_or, drop, take, filter, ap, sym, ◌∙◌, arith}
+use Rattle.std.proofs.Common.{◌≡◌, ◌++◌, true, false, List, ℕ, get_or, filter, ap, sym, ◌∙◌, arith}
 use Rattle.std.proofs.lemmas.Str.{IsCharBoundary-start, IsCharBoundary-after_ascii}
 use Rattle.prop_text.specs.Lines.{is_white_space}
 use Rattle.prop_text.proofs.LineSteps.{white_space_is_ascii}
 use Rattle.prop_text.specs.Views.{texts}
-use Rattle.flume_config.specs.Words.{words, is_word}
+use Rattle.flume_config.specs.Words.{is_word}
 use Rattle.flume_config.proofs.WordSteps.{with_front-pieces, word_goes, word_joins}
 use Rattle.flume_config.proofs.words.words.Goals as goal
 
