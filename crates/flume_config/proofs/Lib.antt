@@ -1,0 +1,4 @@
+pub mod WordSteps
+pub mod Joins
+pub mod AgentSteps
+pub mod Outcomes

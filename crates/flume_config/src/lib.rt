@@ -1,0 +1,26 @@
+//! The plan of an agent: its sources, channels, sinks and groups, read from the pairs of a properties text.
+#![tactic(auto)]
+
+mod agent;
+mod channel;
+mod claims;
+mod findings;
+mod group;
+mod judging;
+mod plan;
+mod planning;
+mod refused;
+mod rules;
+mod sink;
+mod source;
+#[cfg(test)]
+mod tests;
+mod values;
+mod words;
+
+pub use agent::plan_of;
+pub use plan::{
+    ChannelKind, ChannelPlan, GroupPlan, Plan, Processor, SinkKind, SinkPlan, SourceKind,
+    SourcePlan,
+};
+pub use refused::PlanRefused;
