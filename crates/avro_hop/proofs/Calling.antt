@@ -1,6 +1,6 @@
 -- From the parts of a call to the call.
-use Rattle.std.proofs.Common.{◌≡◌, ℕ, zero, suc, ◌+◌, ◌-◌, ◌<◌, ◌≤◌, Bool, true, false, List, [], ◌∷◌, ◌++◌, length, drop, refl, sym, ap, subst, ◌∙◌, arith, inl, inr, Bor}
-use Rattle.std.specs.Prelude.{Result, Ok, Err, IsSome, ◌==◌}
+use Rattle.std.proofs.Common.{◌≡◌, ℕ, ◌+◌, true, false, List, [], ◌∷◌, length, drop, refl, sym, ap, subst, arith, Bor}
+use Rattle.std.specs.Prelude.{Result, Ok, Err, ◌==◌}
 use Rattle.std.specs.Str.{bytes_eq}
 use Rattle.std.proofs.lemmas.Bool.{eqb-true}
 use Rattle.std.proofs.lemmas.Slice.Eq.{bytes_eq-Decides}
@@ -10,19 +10,19 @@ use Rattle.avro_binary.specs.declared.refused.ValueRefused.TheVariants.{Short, B
 use Rattle.avro_binary.specs.Fault.{Fault, Lacks, Wrong, shift}
 use Rattle.avro_binary.specs.Value.{IsText, TextFault}
 use Rattle.avro_binary.specs.Items.{IsMeta, MetaFault}
-use Rattle.avro_binary.specs.Event.{IsEvent, EventFault, IsBatch, BatchFault, first_large}
-use Rattle.avro_binary.specs.Reading.{part, IsPart, IsFault, LacksAt, WrongAt, Reads}
+use Rattle.avro_binary.specs.Event.{IsEvent, EventFault, IsBatch, BatchFault}
+use Rattle.avro_binary.specs.Reading.{part, IsPart, IsFault, Reads}
 use Rattle.avro_binary.proofs.Lists.{rest_part, length-part}
 use Rattle.avro_binary.proofs.Blocks.{further}
 use Rattle.avro_hop.specs.declared.hop.Asked.{Asked}
 use Rattle.avro_hop.specs.declared.hop.Asked.TheVariants.{Reply, Events}
 use Rattle.avro_hop.specs.declared.hop.HopRefused.{HopRefused}
 use Rattle.avro_hop.specs.declared.hop.HopRefused.TheVariants as hops
-use Rattle.avro_hop.specs.Parts.{IsPair, WholeFault, place}
-use Rattle.avro_hop.specs.Calls.{append, append_batch, Call, Nothing, Other, Takes, IsHead, HeadFault, IsOne, Asks, Empty, Strange, One, Many, ParameterFault, OfOne, OfMany, IsCall, CallFault, InHead, InParameter, IsAsked, unknown_message}
+use Rattle.avro_hop.specs.Parts.{WholeFault, place}
+use Rattle.avro_hop.specs.Calls.{append, append_batch, Call, Nothing, Other, Takes, IsHead, HeadFault, IsOne, Asks, Empty, Strange, One, Many, ParameterFault, OfOne, OfMany, IsCall, InHead, InParameter}
 use Rattle.avro_hop.specs.Parameters.{ReadsAll, AsksFor, CallsAt}
 use Rattle.avro_hop.specs.Refusal.{hop_refusal}
-use Rattle.avro_hop.proofs.Sequences.{pair_at, first_fault, second_fault}
+use Rattle.avro_hop.proofs.Sequences.{pair_at, second_fault}
 
 pub place-shift : (n : ℕ) (f : Fault) → place (shift n f) ≡ n + place f
 place-shift n (Lacks at need) = refl
@@ -60,9 +60,9 @@ empty_call front bytes at mid name p h e = call_of bytes at mid name Nothing p h
 pub strange_call : (bytes : List ℕ) (at mid : ℕ) (name : List ℕ) → IsPart bytes at mid → IsHead (part bytes at mid) name → (length name == 0) ≡ false → bytes_eq name append ≡ false → bytes_eq name append_batch ≡ false → IsCall (drop at bytes) Other
 strange_call bytes at mid name p h some one many =
     call_of bytes at mid name Other p h (Strange
-      (λ e. let z : (length name == 0) ≡ true = ap (λ (n : List ℕ). length n == 0) e in cc)
-      (λ e. let z = (bytes_eq-Decides name append).1 e in cc)
-      (λ e. let z = (bytes_eq-Decides name append_batch).1 e in cc))
+    (λ e. let z : (length name == 0) ≡ true = ap (λ (n : List ℕ). length n == 0) e in cc)
+    (λ e. let z = (bytes_eq-Decides name append).1 e in cc)
+    (λ e. let z = (bytes_eq-Decides name append_batch).1 e in cc))
 
 -- the fault of a parameter is one of the call
 parameter_place : (front bytes : List ℕ) (at mid field : ℕ) (name : List ℕ) (f : Fault) → IsPart bytes at mid → IsHead (part bytes at mid) name → ParameterFault name (drop mid bytes) f → field ≡ mid + place f → CallsAt front bytes at (Err (hops.BadHandshake field))

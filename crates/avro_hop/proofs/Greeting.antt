@@ -1,27 +1,26 @@
 -- From the parts of a handshake to the answer.
-use Rattle.std.proofs.Common.{◌≡◌, ℕ, ◌+◌, ◌-◌, ◌<◌, ◌≤◌, Bool, true, false, List, [], ◌++◌, length, drop, refl, sym, ap, subst, ◌∙◌, arith, inl, inr}
-use Rattle.std.specs.Prelude.{Result, Ok, Err, Option, Some, None}
+use Rattle.std.proofs.Common.{◌≡◌, ℕ, true, false, List, [], length, drop, refl, arith}
+use Rattle.std.specs.Prelude.{Result, Ok, Err}
 use Rattle.avro_binary.specs.declared.refused.ValueRefused.{ValueRefused}
 use Rattle.avro_binary.specs.declared.refused.ValueRefused.TheVariants.{Short, Bad, TooLarge}
 use Rattle.avro_binary.specs.declared.refused.ValueRefused.TheVariants as values
-use Rattle.avro_binary.specs.Fault.{Fault, Lacks, Wrong, shift}
+use Rattle.avro_binary.specs.Fault.{Lacks, Wrong, shift}
 use Rattle.avro_binary.specs.Reading.{part, IsPart, IsFault}
-use Rattle.avro_binary.proofs.Lists.{rest_part, length-part, join_parts}
+use Rattle.avro_binary.proofs.Lists.{rest_part, length-part}
 use Rattle.avro_hop.specs.declared.handshake.Match.{Match}
 use Rattle.avro_hop.specs.declared.handshake.Match.TheVariants.{Both, Client, Stranger}
 use Rattle.avro_hop.specs.declared.hop.Asked.{Asked}
 use Rattle.avro_hop.specs.declared.hop.HopRefused.{HopRefused}
 use Rattle.avro_hop.specs.declared.hop.HopRefused.TheVariants.{BadHandshake, OtherProtocol, NoMemory}
-use Rattle.avro_hop.specs.Parts.{place}
-use Rattle.avro_hop.specs.Handshake.{Request, IsRequest, RequestFault, IsKnown, IsOther, IsMatch, greeting}
+use Rattle.avro_hop.specs.Handshake.{Request, IsRequest, RequestFault, IsKnown, IsMatch, greeting}
 use Rattle.avro_hop.specs.Told.{Matches}
 use Rattle.avro_hop.specs.Refusal.{hop_refusal}
 use Rattle.avro_hop.specs.Parameters.{CallsAt}
-use Rattle.avro_hop.specs.Dialogue.{Greets, Opens, FirstFault, InRequest, InCall, AnswersFirst, AnswersCall, AnswersFirstOf}
+use Rattle.avro_hop.specs.Dialogue.{Greets, Opens, InRequest, InCall, AnswersFirst, AnswersCall}
 use Rattle.avro_hop.proofs.Calling.{place-shift}
 
 pub greets : (bytes : List ℕ) (call : ℕ) (r : Request) → IsPart bytes 0 call → IsRequest (part bytes 0 call) r → Greets bytes (drop call bytes) r
-greets bytes call r p i = record { front = part bytes 0 call; whole = rest_part bytes 0 call p; request = i; }
+greets bytes call r p i = record { front = part bytes 0 call; whole = rest_part bytes 0 call p; request = i }
 
 pub request_refused : (bytes : List ℕ) (e : ValueRefused) → IsFault RequestFault bytes 0 e → AnswersFirst bytes (Err (hop_refusal e)) false
 request_refused bytes (Short field need) f = ((Lacks f.0 f.1, InRequest f.4, omega (arith, f.2)), refl)

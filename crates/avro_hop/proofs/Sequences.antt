@@ -1,15 +1,15 @@
 -- Fields one behind another.
-use Rattle.std.proofs.Common.{◌≡◌, ℕ, ◌+◌, ◌-◌, ◌<◌, ◌≤◌, List, ◌++◌, length, drop, refl, sym, ap, subst, ◌∙◌, append_assoc, arith, inl, inr}
-use Rattle.std.specs.Prelude.{Option, Some, None, ℤ, pos, Result, Ok, Err}
+use Rattle.std.proofs.Common.{◌≡◌, ℕ, List, ◌++◌, drop, refl, sym, ap, ◌∙◌, append_assoc, arith, inl, inr}
+use Rattle.std.specs.Prelude.{Some, ℤ, pos, Result, Ok, Err}
 use Rattle.avro_binary.specs.declared.refused.ValueRefused.{ValueRefused}
-use Rattle.avro_binary.specs.Fault.{Fault, Wrong, Behind}
+use Rattle.avro_binary.specs.Fault.{Fault}
 use Rattle.avro_binary.specs.Number.{IsInt, IntFault}
 use Rattle.avro_binary.specs.Reading.{part, IsPart, IsFault, WrongAt, ReadsOver}
 use Rattle.avro_binary.proofs.Lists.{join_parts, rest_part}
 use Rattle.avro_binary.proofs.Blocks.{further}
 use Rattle.avro_binary.proofs.Faults.{moved, same_place, behind}
 use Rattle.avro_hop.specs.Parts.{IsPair, PairFault, IsOption, OptionFault, InIndex, OtherIndex, InValue}
-use Rattle.avro_hop.specs.Told.{NoFault, IsIndex}
+use Rattle.avro_hop.specs.Told.{NoFault}
 
 pub pair_at : {V W : Type 0} (First : List ℕ → V → Type 0) (Second : List ℕ → W → Type 0) (bytes : List ℕ) (at mid end : ℕ) (v : V) (w : W) → IsPart bytes at mid → IsPart bytes mid end → First (part bytes at mid) v → Second (part bytes mid end) w → IsPair First Second (part bytes at end) v w
 pair_at First Second bytes at mid end v w p q a b = record {

@@ -1,5 +1,5 @@
 -- Calls and their responses (Avro specification, "Call Format").
-use Rattle.std.specs.Prelude.{◌≡◌, ℕ, List, [], ◌∷◌, ◌++◌, ◌⊎◌, length, Bool, true, false, IsSome, codes, pos}
+use Rattle.std.specs.Prelude.{◌≡◌, ℕ, List, [], ◌∷◌, ◌++◌, length, true, false, IsSome, codes, pos}
 use Rattle.event_core.specs.Content.{Content}
 use Rattle.avro_binary.specs.Fault.{Fault, shift}
 use Rattle.avro_binary.specs.Value.{IsText, TextFault}

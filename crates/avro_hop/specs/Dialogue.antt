@@ -1,5 +1,5 @@
 -- What a connection answers to a message.
-use Rattle.std.specs.Prelude.{◌≡◌, ℕ, ◌+◌, List, [], ◌++◌, ◌⊎◌, length, drop, Bool, true, false, Result, Ok, Err}
+use Rattle.std.specs.Prelude.{◌≡◌, ℕ, List, [], ◌++◌, length, Bool, true, false, Result, Ok, Err}
 use Rattle.avro_binary.specs.Fault.{Fault, shift}
 use Rattle.avro_hop.specs.declared.handshake.Match.{Match}
 use Rattle.avro_hop.specs.declared.handshake.Match.TheVariants.{Both, Client, Stranger}

@@ -1,5 +1,5 @@
 -- The handshake (Avro specification, "Protocol Declaration", "Handshake").
-use Rattle.std.specs.Prelude.{◌≡◌, ℕ, List, ◌++◌, ◌⊎◌, Bool, true, false, Option, Some, None, pos}
+use Rattle.std.specs.Prelude.{◌≡◌, ℕ, List, ◌++◌, ◌⊎◌, true, false, Option, Some, None, pos}
 use Rattle.md5.specs.Md5.{md5}
 use Rattle.avro_binary.specs.Fault.{Fault}
 use Rattle.avro_binary.specs.Value.{IsText, TextFault, IsFixed, FixedFault}

@@ -3,7 +3,7 @@ use Rattle.std.specs.Prelude.{◌≡◌, ◌+◌, ◌++◌, ℕ, List, IsSome, R
 use Rattle.event_core.specs.Content.{Content}
 use Rattle.avro_binary.specs.declared.refused.ValueRefused.{ValueRefused}
 use Rattle.avro_binary.specs.declared.refused.ValueRefused.TheVariants.{Short, Bad, TooLarge, NoMemory}
-use Rattle.avro_binary.specs.Fault.{Fault, Lacks, Wrong}
+use Rattle.avro_binary.specs.Fault.{Fault}
 use Rattle.avro_binary.specs.Event.{first_large}
 use Rattle.avro_binary.specs.Reading.{LacksAt, WrongAt}
 use Rattle.avro_hop.specs.declared.hop.Asked.{Asked}

@@ -3,7 +3,7 @@ use Rattle.avro_binary.specs.declared.refused.ValueRefused.{ValueRefused}
 use Rattle.avro_binary.specs.declared.refused.ValueRefused.TheVariants.{Short, Bad, TooLarge}
 use Rattle.avro_binary.specs.declared.refused.ValueRefused.TheVariants as values
 use Rattle.avro_hop.specs.declared.hop.HopRefused.{HopRefused}
-use Rattle.avro_hop.specs.declared.hop.HopRefused.TheVariants.{BadHandshake, OtherProtocol, NoMemory}
+use Rattle.avro_hop.specs.declared.hop.HopRefused.TheVariants.{BadHandshake, NoMemory}
 
 abbrev pub hop_refusal : ValueRefused → HopRefused
 hop_refusal (Short at need) = BadHandshake at

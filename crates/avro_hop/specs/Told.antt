@@ -1,5 +1,5 @@
 -- What the readers of a handshake answer.
-use Rattle.std.specs.Prelude.{◌≡◌, ℕ, List, Bool, true, false, Option, Result, Ok, Err, pos}
+use Rattle.std.specs.Prelude.{ℕ, List, Bool, true, false, Result, Ok, Err, pos}
 use Rattle.std.specs.Option.{option_map}
 use Rattle.avro_binary.specs.declared.refused.ValueRefused.{ValueRefused}
 use Rattle.avro_binary.specs.Fault.{Fault}

@@ -12,3 +12,8 @@ pub use accepted::accepts;
 pub use hop::{Asked, Hop, HopRefused};
 pub use protocol::PROTOCOL;
 pub use respond::{Status, write_response};
+
+#[cfg(test)]
+mod tests;
+#[cfg(test)]
+mod texts;

@@ -1,4 +1,4 @@
-use Rattle.std.proofs.Common.{◌≡◌, ◌≤◌, refl, sym, ap, ◌∙◌, arith, append_assoc}
+use Rattle.std.proofs.Common.{refl, sym}
 use Rattle.std.proofs.lemmas.Result.{err_from_is_err_and}
 use Rattle.avro_hop.specs.Calls.{Nothing, Other}
 use Rattle.avro_hop.proofs.Calling.{head_fault, empty_of, empty_call, strange_call, one_call, many_call}

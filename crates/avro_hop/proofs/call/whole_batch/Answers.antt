@@ -1,4 +1,3 @@
-use Rattle.std.proofs.Common.{◌≡◌}
 use Rattle.avro_binary.specs.Event.{IsBatch, BatchFault}
 use Rattle.avro_hop.proofs.Whole.{trailing, batch_refused}
 use Rattle.avro_hop.proofs.call.whole_batch.Goals as goal

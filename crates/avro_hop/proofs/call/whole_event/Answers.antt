@@ -1,4 +1,3 @@
-use Rattle.std.proofs.Common.{◌≡◌}
 use Rattle.avro_binary.specs.Event.{IsEvent, EventFault}
 use Rattle.avro_hop.proofs.Whole.{trailing, event_refused}
 use Rattle.avro_hop.proofs.call.whole_event.Goals as goal

@@ -1,4 +1,4 @@
-use Rattle.std.proofs.Common.{◌≡◌, ap, of_z, w32}
+use Rattle.std.proofs.Common.{ap, of_z, w32}
 use Rattle.std.proofs.lemmas.Result.{err_from_is_err_and}
 use Rattle.avro_hop.proofs.Sequences.{int_fault, other_index}
 use Rattle.avro_hop.proofs.handshake.index_at.Goals as goal

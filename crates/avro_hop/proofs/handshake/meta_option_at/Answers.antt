@@ -1,6 +1,4 @@
-use Rattle.std.proofs.Common.{◌≡◌, ◌≤◌, refl, sym, ap, ◌∙◌, arith, append_assoc}
 use Rattle.std.proofs.lemmas.Result.{err_from_is_err_and}
-use Rattle.std.specs.Prelude.{pos}
 use Rattle.avro_binary.specs.Items.{IsMeta, MetaFault}
 use Rattle.avro_hop.proofs.Sequences.{index_fault, over_value}
 use Rattle.avro_hop.proofs.handshake.meta_option_at.Goals as goal

@@ -1,4 +1,4 @@
-use Rattle.std.proofs.Common.{◌≡◌, ◌≤◌, ℕ, List, ◌++◌, sym, ap, ◌∙◌, arith}
+use Rattle.std.proofs.Common.{ℕ, List, ◌++◌, sym, ap, ◌∙◌}
 use Rattle.std.proofs.lemmas.Result.{err_from_is_err_and}
 use Rattle.std.specs.Option.{option_map}
 use Rattle.avro_binary.specs.Value.{IsText, TextFault, IsFixed, FixedFault}
@@ -30,14 +30,15 @@ returns c =
     let h = c.in_ok-hash.ensures in
     let t = c.in_ok-text.ensures in
     let e = c.in_ok-server_hash.ensures in
-    let q = further c.args.bytes.now c.in_ok-hash.text_at c.in_ok-text.tail c.in_ok-server_hash.end t.0 e.0 in
-    (further c.args.bytes.now 0 c.in_ok-hash.text_at c.in_ok-server_hash.end h.0 q,
-     record {
-       hash_bytes = part c.args.bytes.now 0 c.in_ok-hash.text_at;
-       text_bytes = part c.args.bytes.now c.in_ok-hash.text_at c.in_ok-text.tail;
-       tail_bytes = part c.args.bytes.now c.in_ok-text.tail c.in_ok-server_hash.end;
-       whole = sym (join_parts c.args.bytes.now 0 c.in_ok-hash.text_at c.in_ok-server_hash.end h.0 q) ∙ ap (λ (x : List ℕ). part c.args.bytes.now 0 c.in_ok-hash.text_at ++ x) (sym (join_parts c.args.bytes.now c.in_ok-hash.text_at c.in_ok-text.tail c.in_ok-server_hash.end t.0 e.0));
-       hash = h.1;
-       text = t.1;
-       tail = e.1;
-     })
+    let q = further c.args.bytes.now c.in_ok-hash.text_at c.in_ok-text.tail c.in_ok-server_hash.end t.0 e.0 in (
+      further c.args.bytes.now 0 c.in_ok-hash.text_at c.in_ok-server_hash.end h.0 q,
+      record {
+        hash_bytes = part c.args.bytes.now 0 c.in_ok-hash.text_at;
+        text_bytes = part c.args.bytes.now c.in_ok-hash.text_at c.in_ok-text.tail;
+        tail_bytes = part c.args.bytes.now c.in_ok-text.tail c.in_ok-server_hash.end;
+        whole = sym (join_parts c.args.bytes.now 0 c.in_ok-hash.text_at c.in_ok-server_hash.end h.0 q) ∙ ap (λ (x : List ℕ). part c.args.bytes.now 0 c.in_ok-hash.text_at ++ x) (sym (join_parts c.args.bytes.now c.in_ok-hash.text_at c.in_ok-text.tail c.in_ok-server_hash.end t.0 e.0));
+        hash = h.1;
+        text = t.1;
+        tail = e.1;
+      },
+    )

@@ -1,4 +1,3 @@
-use Rattle.std.proofs.Common.{◌≡◌, ◌≤◌, refl, sym, ap, ◌∙◌, arith, append_assoc}
 use Rattle.std.proofs.lemmas.Result.{err_from_is_err_and}
 use Rattle.avro_binary.specs.Value.{IsFixed, FixedFault}
 use Rattle.avro_binary.specs.Items.{IsMeta, MetaFault}
@@ -16,6 +15,7 @@ returns-in_err-end c =
 pub returns : goal.returns
 returns c =
     let h = c.in_ok-hash.ensures in
-    let e = c.in_ok-end.ensures in
-    (further c.args.bytes.now c.args.at c.in_ok-hash.behind c.in_ok-end.end h.0 e.0,
-     (e.1.0, pair_at IsFixed (IsOption IsMeta) c.args.bytes.now c.args.at c.in_ok-hash.behind c.in_ok-end.end c.in_ok-hash.hash.now e.1.0 h.0 e.0 h.1 e.1.1))
+    let e = c.in_ok-end.ensures in (
+      further c.args.bytes.now c.args.at c.in_ok-hash.behind c.in_ok-end.end h.0 e.0,
+      (e.1.0, pair_at IsFixed (IsOption IsMeta) c.args.bytes.now c.args.at c.in_ok-hash.behind c.in_ok-end.end c.in_ok-hash.hash.now e.1.0 h.0 e.0 h.1 e.1.1),
+    )

@@ -1,4 +1,3 @@
-use Rattle.std.proofs.Common.{◌≡◌, ◌≤◌, refl, sym, ap, ◌∙◌, arith, append_assoc}
 use Rattle.std.proofs.lemmas.Result.{err_from_is_err_and}
 use Rattle.std.specs.Prelude.{pos}
 use Rattle.avro_binary.specs.Number.{IsInt}
@@ -21,6 +20,7 @@ returns-in_err-text c =
 pub returns : goal.returns
 returns c =
     let i = rw c.if-not-some.false at c.in_ok-some.ensures.1 in
-    let t = c.in_ok-text.ensures in
-    (further c.args.bytes.now c.args.at c.in_ok-some.behind c.in_ok-text.end c.in_ok-some.ensures.0 t.0,
-     pair_at IsInt IsText c.args.bytes.now c.args.at c.in_ok-some.behind c.in_ok-text.end (pos 1) c.in_ok-text.text.now c.in_ok-some.ensures.0 t.0 i t.1)
+    let t = c.in_ok-text.ensures in (
+      further c.args.bytes.now c.args.at c.in_ok-some.behind c.in_ok-text.end c.in_ok-some.ensures.0 t.0,
+      pair_at IsInt IsText c.args.bytes.now c.args.at c.in_ok-some.behind c.in_ok-text.end (pos 1) c.in_ok-text.text.now c.in_ok-some.ensures.0 t.0 i t.1,
+    )

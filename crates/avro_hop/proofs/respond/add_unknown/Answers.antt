@@ -1,4 +1,4 @@
-use Rattle.std.proofs.Common.{◌≡◌, [], ◌∷◌}
+use Rattle.std.proofs.Common.{[], ◌∷◌}
 use Rattle.std.specs.Prelude.{codes, pos}
 use Rattle.avro_binary.specs.Written.{written_number, written_bytes}
 use Rattle.avro_hop.proofs.Sequences.{four_parts}
