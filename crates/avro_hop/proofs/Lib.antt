@@ -1,0 +1,5 @@
+pub mod Items
+pub mod Sequences
+pub mod Whole
+pub mod Calling
+pub mod Greeting

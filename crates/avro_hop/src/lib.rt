@@ -1,0 +1,19 @@
+//! One connection of Avro's handshake and calls, as a server answers it.
+#![tactic(auto)]
+
+mod accepted;
+mod call;
+mod handshake;
+mod hop;
+mod protocol;
+mod respond;
+
+pub use accepted::accepts;
+pub use hop::{Asked, Hop, HopRefused};
+pub use protocol::PROTOCOL;
+pub use respond::{Status, write_response};
+
+#[cfg(test)]
+mod tests;
+#[cfg(test)]
+mod texts;
