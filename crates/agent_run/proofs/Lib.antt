@@ -3,3 +3,4 @@ pub mod LogFile
 pub mod Steps
 pub mod LogLines
 pub mod Outcomes
+pub mod Stops

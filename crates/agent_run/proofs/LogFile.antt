@@ -29,14 +29,14 @@ with_at_twice {A} f name x y = λ i n. (point n (same_name n name)) i
     point n false = refl
 
 -- a write at the end of the file
-written_behind : (bytes frame : List ℕ) → over (bytes ++ 0 ∷ []) (length bytes + 1) frame ≡ bytes ++ 0 ∷ frame
+pub written_behind : (bytes frame : List ℕ) → over (bytes ++ 0 ∷ []) (length bytes + 1) frame ≡ bytes ++ 0 ∷ frame
 written_behind bytes frame =
     let whole = take_all (length bytes + 1) (bytes ++ 0 ∷ []) (omega (arith, length-append bytes (0 ∷ []))) in
     let none = drop_all (length bytes + 1 + length frame) (bytes ++ 0 ∷ []) (omega (arith, length-append bytes (0 ∷ []))) in
     rw (whole, none, append-nil, append_assoc) refl
 
 -- the commit byte is opened
-opened : (bytes rest : List ℕ) → over (bytes ++ 0 ∷ rest) (length bytes) (1 ∷ []) ≡ bytes ++ 1 ∷ rest
+pub opened : (bytes rest : List ℕ) → over (bytes ++ 0 ∷ rest) (length bytes) (1 ∷ []) ≡ bytes ++ 1 ∷ rest
 opened bytes rest = rw (take_at bytes (0 ∷ rest) (length bytes) refl, drop-append-add bytes (0 ∷ rest) 1, append_assoc) refl
 
 -- the log file after a change of it that was done, and all files as they read then

@@ -1,17 +1,19 @@
 -- What a log of lines stands for after one line more.
-use Rattle.std.proofs.Common.{◌≡◌, ℕ, ◌+◌, ◌≤◌, suc, List, [], ◌∷◌, ◌++◌, length, All, Option, Some, refl, sym, ap, subst, ◌∙◌, arith, append_assoc, length-append, append-nil}
+use Rattle.std.proofs.Common.{◌≡◌, ℕ, ◌+◌, ◌≤◌, suc, List, [], ◌∷◌, ◌++◌, length, get_or, All, Option, Some, None, IsSomeAnd, refl, sym, ap, subst, ◌∙◌, arith, append_assoc, length-append, append-nil}
 use Rattle.std.proofs.lemmas.List.{map-append, same_from_push}
 use Rattle.std.proofs.lemmas.List.Elements.{All-nil, All-head, All-tail, All-push}
 use Rattle.flume_host.specs.Causes.{Rose}
-use Rattle.flume_host.specs.Folder.{Files, with_at}
-use Rattle.flume_host.specs.Told.{Told, Tells}
+use Rattle.flume_host.specs.Folder.{Files, Folder, Entry, There, Allows, IsImage, stable, with_at}
+use Rattle.flume_host.specs.Told.{Told, Tells, WhereTold, Changes}
 use Rattle.flume_host.specs.declared.names.FileName.TheVariants.{Log}
-use Rattle.flume_host.proofs.Telling.{back, follows}
+use Rattle.flume_host.proofs.Telling.{back, follows, tells_more}
+use Rattle.flume_host.proofs.Images.{stable_only}
+use Rattle.std.proofs.Math.ListN.{get_or-eq_default}
 use Rattle.event_core.specs.Numbers.{u16_bytes, u32_bytes}
 use Rattle.netcat_source.specs.declared.replies.LineVerdict.{LineVerdict}
 use Rattle.netcat_source.specs.declared.replies.LineVerdict.TheVariants.{Accepted, InDoubt, NoMemory}
 use Rattle.agent_run.specs.Handled.{Handled, GoesOn, Start, verdicts_of, all_with, and_then}
-use Rattle.agent_run.specs.PlainLog.{AddsFrame, IsLog, IsReady, Logged, Logs, Stands, frames, front, header, no_files, plain_log, records}
+use Rattle.agent_run.specs.PlainLog.{AddsFrame, IsLeft, IsLog, IsReady, KeepsLines, Logged, Logs, Stands, frames, front, header, no_files, plain_log, records}
 use Rattle.agent_run.proofs.LogFile.{with_at_twice}
 
 frames-push : (i : ℕ) (lines : List (List ℕ)) (line : List ℕ) → frames i (lines ++ line ∷ []) ≡ frames i lines ++ 1 ∷ records (i + length lines) line
@@ -45,6 +47,26 @@ logs_more start old new gate next lines line counted logs adds = follows start o
           log = let P : List ℕ → Type 0 = λ x. IsLog v (x ++ 0 ∷ []) in subst P whole b.is;
         }
 
+some_more : {P Q : List ℕ → Type 0} (o : Option (List ℕ)) → ((bytes : List ℕ) → P bytes → Q bytes) → IsSomeAnd o P → IsSomeAnd o Q
+some_more None more is = is
+some_more (Some bytes) more is = more bytes is
+
+-- a log at rest keeps its lines
+pub logs_keep : (start told : Option Told) (lines : List (List ℕ)) → Logs start told lines → Tells start told (KeepsLines lines)
+logs_keep start told lines logs = tells_more start told (Logged lines) (KeepsLines lines) (λ t u _ _ logged image left. at_rest lines (image (Log 1)) (let P : Entry → Type 0 = λ e. Allows e (image (Log 1)) in subst P logged.log.stable (left (Log 1)))) logs
+  where
+    at_rest : (lines : List (List ℕ)) (o : Option (List ℕ)) → Allows (There (stable (plain_log lines))) o → IsSomeAnd o (λ bytes. (rest : List ℕ) × (bytes ≡ front lines ++ rest))
+    at_rest lines None bad = bad
+    at_rest lines (Some bytes) may = (0 ∷ [], stable_only (plain_log lines) bytes may)
+
+-- and so does one to which a frame was being added
+changes_keep : (lines : List (List ℕ)) (frame : List ℕ) (t u : Told) → Changes (Log 1) (IsLeft (front lines) frame) 2 t u → KeepsLines lines t u
+changes_keep lines frame t u changes image left =
+    let now : get_or u.past (length u.past) u.now ≡ u.now = get_or-eq_default u.past u.now (omega arith) in
+    let later : length t.past ≤ length u.past = omega (arith, ap length changes.images.past, length-append t.past changes.images.more) in
+    let one = changes.images.each (length u.past) image later (let P : Folder → Type 0 = λ f. IsImage f image in subst P (sym now) left) in
+    some_more (image (Log 1)) (λ bytes is. (is.0 ∷ is.1, is.2)) one.file
+
 pub none_stops : (front last : List Handled) → All GoesOn (verdicts_of (front ++ last)) → All (λ h. GoesOn h.verdict → ⊥) last → last ≡ []
 none_stops front [] going stops = refl
 none_stops [] (h ∷ last) going stops = absurd (All-head (λ (h : Handled). GoesOn h.verdict → ⊥) h last stops (All-head GoesOn h.verdict (verdicts_of last) going))
@@ -60,8 +82,20 @@ module _ (start : Start) (told : Option Told) (faults next : ℕ) (done : List H
   unstopped : All (λ h. h.verdict ≡ NoMemory) s.last
   unstopped = let P : List Handled → Type 0 = λ l. All (λ h. h.verdict ≡ NoMemory) l in subst P (sym none) (All-nil (λ (h : Handled). h.verdict ≡ NoMemory))
 
-  file : Logs start.told told s.lines
+  pub file : Logs start.told told s.lines
   file = s.file unstopped
+
+  -- whatever a write of the next frame did, the lines before it are kept
+  pub doubt_kept : (new : Option Told) (gate : ℕ) (frame : List ℕ) → IsReady told gate
+      → ((begin : List ℕ) → WhereTold told (λ t. IsLog t (begin ++ 0 ∷ []) × (gate ≡ length begin)) → Tells told new (Changes (Log 1) (IsLeft begin frame) 2)) → Tells start.told new (KeepsLines s.lines)
+  doubt_kept new gate frame ready changes =
+      let at : WhereTold told (λ t. IsLog t (plain_log s.lines) × (gate ≡ length (front s.lines))) = λ t is.
+          let log = (back start.told told (Logged s.lines) file t is).2.log in
+          let r = ready t is in
+          let same : Some (plain_log s.lines) ≡ Some (r.0 ++ 0 ∷ []) = sym log.reads ∙ r.1.reads in
+          let bytes : plain_log s.lines ≡ r.0 ++ 0 ∷ [] = cc in
+          (log, omega (arith, r.2, ap length bytes, length-append (front s.lines) (0 ∷ []), length-append r.0 (0 ∷ []))) in
+      follows start.told told new (Logged s.lines) (Changes (Log 1) (IsLeft (front s.lines) frame) 2) (KeepsLines s.lines) (λ t u v _ _ _ _ c. changes_keep s.lines frame u v c) file (changes (front s.lines) at)
 
   -- the line was accepted
   pub stands_more : (new : Option Told) (faults' next' gate : ℕ) (line : List ℕ) → faults' ≡ faults → next' ≡ next + 1 → Tells told new (AddsFrame gate (records next line)) → Stands start new faults' next' (and_then done line Accepted)
@@ -76,11 +110,12 @@ module _ (start : Start) (told : Option Told) (faults next : ℕ) (done : List H
     cause = All-nil (λ (h : Handled). h.verdict ≡ InDoubt → Rose start.faults faults');
     counted = one ∙ omega (arith, s.counted, length-append s.lines (line ∷ []));
     file = λ _. logs_more start.told told new gate next s.lines line s.counted file adds;
+    kept = logs_keep start.told new (s.lines ++ line ∷ []) (logs_more start.told told new gate next s.lines line s.counted file adds);
   }
 
   -- it was not
-  pub stands_stopped : (new : Option Told) (faults' : ℕ) (line : List ℕ) (verdict : LineVerdict) → (GoesOn verdict → ⊥) → faults ≤ faults' → (verdict ≡ InDoubt → Rose faults faults') → (verdict ≡ NoMemory → (new ≡ told) × (faults' ≡ faults)) → Stands start new faults' next (and_then done line verdict)
-  stands_stopped new faults' line verdict stops later cause same = record {
+  pub stands_stopped : (new : Option Told) (faults' : ℕ) (line : List ℕ) (verdict : LineVerdict) → (GoesOn verdict → ⊥) → faults ≤ faults' → (verdict ≡ InDoubt → Rose faults faults') → (verdict ≡ NoMemory → (new ≡ told) × (faults' ≡ faults)) → Tells start.told new (KeepsLines s.lines) → Stands start new faults' next (and_then done line verdict)
+  stands_stopped new faults' line verdict stops later cause same kept = record {
     lines = s.lines;
     last = record { line = line; verdict = verdict } ∷ [];
     split = ap (λ d. and_then d line verdict) before;
@@ -90,6 +125,7 @@ module _ (start : Start) (told : Option Told) (faults next : ℕ) (done : List H
     well = λ all. (same (All-head (λ (h : Handled). h.verdict ≡ NoMemory) _ [] all)).1 ∙ s.well unstopped;
     cause = All-push (λ (h : Handled). h.verdict ≡ InDoubt → Rose start.faults faults') [] _ (All-nil (λ (h : Handled). h.verdict ≡ InDoubt → Rose start.faults faults')) (λ is. let rose = cause is in omega (arith, rose, s.later));
     counted = s.counted;
+    kept = kept;
     file = λ all. let P : Option Told → Type 0 = λ o. Logs start.told o s.lines in subst P (sym (same (All-head (λ (h : Handled). h.verdict ≡ NoMemory) _ [] all)).0) file;
   }
 
@@ -105,6 +141,7 @@ stands_at_start start told faults same logs = record {
   cause = All-nil (λ (h : Handled). h.verdict ≡ InDoubt → Rose start.faults faults);
   counted = refl;
   file = λ _. logs;
+  kept = logs_keep start.told told [] logs;
 }
 
 pub ready_at_start : (start told : Option Told) → Logs start told [] → IsReady told 16

@@ -142,7 +142,7 @@ uncounted start told faults next done going s =
     s.well (let Q : List Handled → Type 0 = λ l. All (λ h. h.verdict ≡ verdict.NoMemory) l in subst Q (sym none) (All-nil (λ (h : Handled). h.verdict ≡ verdict.NoMemory)))
 
 interrupted : (start : Start) (told : Option Told) (faults next : ℕ) (done : List Handled) → Stands start told faults next done → Interrupted start.told told start.faults faults done
-interrupted start told faults next done s = record { lines = s.lines; last = s.last; split = s.split; one = s.one; stops = s.stops; cause = s.cause; logs = λ _ none. s.file none }
+interrupted start told faults next done s = record { lines = s.lines; last = s.last; split = s.split; one = s.one; stops = s.stops; cause = s.cause; kept = λ _. s.kept; logs = λ _ none. s.file none }
 
 module _ (s0 s1 s2 s3 s4 : HostState) (left left' took took' : Option (List ℕ)) (n m own_in own_out : ℕ)
     (e1 : left ≡ s0.input) (e2 : s1 ≡ record s0 { input = None }) (e3 : took ≡ s1.output) (e4 : s2 ≡ record s1 { output = None })
@@ -235,6 +235,7 @@ nothing max a b c d before after input left output took same_input same_output a
     one = omega arith;
     stops = All-nil (λ (h : Handled). GoesOn h.verdict → ⊥);
     cause = All-nil (λ (h : Handled). h.verdict ≡ verdict.InDoubt → Rose c d);
+    kept = λ some. absurd (omega arith);
     logs = λ some none. absurd (omega arith);
   };
 }
@@ -276,6 +277,7 @@ interrupted_as rose done i = record {
   one = i.one;
   stops = i.stops;
   cause = λ k d below is. rose (i.cause k d below is);
+  kept = i.kept;
   logs = i.logs;
 }
 

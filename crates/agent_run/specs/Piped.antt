@@ -8,7 +8,7 @@ use Rattle.netcat_source.specs.Lines.{Rest, TooLong}
 use Rattle.netcat_source.specs.declared.replies.LineVerdict.TheVariants as verdict
 use Rattle.agent_run.specs.Handled.{Handled, GoesOn, all_with, lines_of}
 use Rattle.agent_run.specs.Session.{Served, Stopped}
-use Rattle.agent_run.specs.PlainLog.{Holds, Logs}
+use Rattle.agent_run.specs.PlainLog.{Holds, KeepsLines, Logs}
 use Rattle.agent_run.specs.declared.session.SessionEnd.{SessionEnd}
 use Rattle.agent_run.specs.declared.session.SessionEnd.TheVariants.{End, LongLine, Full, InDoubt, NoMemory, ReadFault, WriteFault}
 
@@ -18,8 +18,8 @@ pub record Stored (before after : Option Told) (done : List Handled) : Type 0 wh
   pub logs : Logs before after (lines_of done)
 
 -- The first lines were accepted, and at most one more was not: it is in doubt, for which the disk's count rose, or there
--- was no memory for it. Where lines were accepted and none is in doubt, the folder, which was empty, holds the log of the
--- accepted ones and nothing else.
+-- was no memory for it. Where lines were accepted, a stop leaves them in the log; and where none is in doubt, the folder,
+-- which was empty, holds the log of the accepted ones and nothing else.
 pub record Interrupted (before after : Option Told) (faults now : ℕ) (done : List Handled) : Type 0 where
   pub lines : List (List ℕ)
   pub last : List Handled
@@ -27,6 +27,7 @@ pub record Interrupted (before after : Option Told) (faults now : ℕ) (done : L
   pub one : length last ≤ 1
   pub stops : All (λ h. GoesOn h.verdict → ⊥) last
   pub cause : All (λ h. h.verdict ≡ verdict.InDoubt → Rose faults now) last
+  pub kept : 0 < length lines → Tells before after (KeepsLines lines)
   pub logs : 0 < length lines → All (λ h. h.verdict ≡ verdict.NoMemory) last → Logs before after lines
 
 -- every line of what was read was handled

@@ -1,9 +1,9 @@
 -- A log file of one frame for each line.
-use Rattle.std.specs.Prelude.{◌≡◌, ℕ, ◌+◌, ◌≤◌, suc, Option, Some, None, List, [], ◌∷◌, ◌++◌, length, codes, All, IsSome}
+use Rattle.std.specs.Prelude.{◌≡◌, ◌≢◌, ◌⊎◌, ℕ, ◌+◌, ◌≤◌, suc, Option, Some, None, List, [], ◌∷◌, ◌++◌, length, codes, All, IsSome, IsSomeAnd}
 use Rattle.flume_host.specs.declared.names.FileName.{FileName}
 use Rattle.flume_host.specs.declared.names.FileName.TheVariants.{Log}
 use Rattle.flume_host.specs.Causes.{Rose}
-use Rattle.flume_host.specs.Folder.{Files, There, stable, with_at}
+use Rattle.flume_host.specs.Folder.{Files, There, IsImage, stable, with_at}
 use Rattle.flume_host.specs.Told.{Told, WhereTold, Tells}
 use Rattle.event_core.specs.Numbers.{u16_bytes, u32_bytes, u64_bytes}
 use Rattle.event_core.specs.Content.{content, event_bytes}
@@ -73,6 +73,14 @@ pub record AddsFrame (gate : ℕ) (records : List ℕ) (t u : Told) : Type 0 whe
   pub is : IsLog u ((bytes ++ 1 ∷ records) ++ 0 ∷ [])
   pub reads : u.reads ≡ with_at t.reads (Log 1) (Some ((bytes ++ 1 ∷ records) ++ 0 ∷ []))
 
+-- The log begins so, and goes on with a closed commit byte, or with an open one and the whole frame.
+abbrev pub IsLeft : List ℕ → List ℕ → Option (List ℕ) → Type 0
+IsLeft begin frame file = IsSomeAnd file (λ bytes. (commit : ℕ) × (rest : List ℕ) × (bytes ≡ begin ++ commit ∷ rest) × ((commit ≢ 1) ⊎ (rest ≡ frame)))
+
+-- whatever a stop leaves, the log begins with the frames of these lines
+abbrev pub KeepsLines : List (List ℕ) → Told → Told → Type 0
+KeepsLines lines t u = (image : Files) → IsImage u.now image → IsSomeAnd (image (Log 1)) (λ bytes. (rest : List ℕ) × (bytes ≡ front lines ++ rest))
+
 -- the folder has a file, and reads as before
 abbrev pub Holds : Told → Told → Type 0
 Holds t u = ((name : FileName) × IsSome (t.reads name)) × (u.reads ≡ t.reads)
@@ -91,3 +99,5 @@ pub record Stands (start : Start) (told : Option Told) (faults next : ℕ) (done
   pub well : All (λ h. h.verdict ≡ NoMemory) last → faults ≡ start.faults
   -- unless it is in doubt, the folder holds the accepted lines
   pub file : All (λ h. h.verdict ≡ NoMemory) last → Logs start.told told lines
+  -- in any case a stop leaves the accepted lines in the log
+  pub kept : Tells start.told told (KeepsLines lines)

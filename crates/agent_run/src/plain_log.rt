@@ -2,12 +2,12 @@
 ghost use Rattle.std.specs.Prelude.{◌≡◌, ◌<◌, ◌≤◌, ◌+◌, ◌^◌, ◌++◌, [], ◌∷◌, List, ℕ, Some, length, OnOk, OnErr, IfOk, IfErr, IsErrOf, IsSome};
 ghost use Rattle.flume_host.specs.Causes.{HasCause, Rose};
 ghost use Rattle.flume_host.specs.Folder.{with_at};
-ghost use Rattle.flume_host.specs.Told.{Told, Tells, WhereTold};
+ghost use Rattle.flume_host.specs.Told.{Told, Tells, WhereTold, Changes};
 ghost use Rattle.flume_host.specs.declared.names.FileName.TheVariants.{Log};
 ghost use Rattle.event_core.specs.Numbers.{u32_bytes, u64_bytes};
 ghost use Rattle.event_core.specs.Content.{content, event_bytes};
 ghost use Rattle.agent_run.specs.Handled.{Start};
-ghost use Rattle.agent_run.specs.PlainLog.{header, records, put_record, commit_put_record, end_record, no_files, log_alone, plain_log, AddsFrame, Holds, IsReady, Logs, Stands};
+ghost use Rattle.agent_run.specs.PlainLog.{header, records, put_record, commit_put_record, end_record, no_files, log_alone, plain_log, AddsFrame, Holds, IsLog, IsLeft, IsReady, Logs, Stands};
 
 use crate::LineStore;
 use flume_host::{Disk, Failed, FileName};
@@ -104,6 +104,8 @@ fn write_frame<D: Disk>(disk: &mut D, gate: u64, frame: &[u8]) -> Result<(), Fai
     requires ready { IsReady (D.told disk.old) gate }
     requires room { gate + 1 < 2 ^ 64 }
     ensures written { OnOk result ((records : List ℕ) → frame.now ≡ records ++ 0 ∷ [] → Tells (D.told disk.old) (D.told disk.new) (AddsFrame gate records)) }
+    // A stop at any moment of the call leaves the file without the frame, or with all of it.
+    ensures any_moment { (begin : List ℕ) → WhereTold (D.told disk.old) (λ t. IsLog t (begin ++ 0 ∷ []) × (gate ≡ length begin)) → Tells (D.told disk.old) (D.told disk.new) (Changes (Log 1) (IsLeft begin frame.now) 2) }
     ensures bounded { OnOk result (gate + 1 + length frame.now < 2 ^ 63) }
     ensures cause { HasCause (D.faults disk.old) (D.faults disk.new) result }
 {
