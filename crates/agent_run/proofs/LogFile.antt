@@ -4,15 +4,15 @@ use Rattle.std.proofs.lemmas.List.{take_all, drop_all, take_at}
 use Rattle.std.proofs.Math.Seq.{drop-append-add}
 use Rattle.flume_host.specs.declared.names.FileName.{FileName}
 use Rattle.flume_host.specs.declared.names.FileName.TheVariants.{Log}
-use Rattle.flume_host.specs.Folder.{Files, Entry, There, IsNext, same_name, with_at, over, stable, touch}
+use Rattle.flume_host.specs.Folder.{Files, Entry, There, Gone, IsNext, settle_entry, same_name, with_at, over, stable, touch}
 use Rattle.flume_host.specs.Told.{Told, WhereTold, Tells, Does, Change, Make, Write, Sync, On, Settle, file_after, entry_after}
-use Rattle.flume_host.proofs.OneFile.{all_done, with_at_self}
+use Rattle.flume_host.proofs.OneFile.{all_done, with_at_self, with_at_other}
 use Rattle.flume_host.proofs.Keeps.{with_at_same}
 use Rattle.flume_host.proofs.Telling.{follows, tells_more}
 use Rattle.event_core.specs.Numbers.{u32_bytes, u64_bytes}
 use Rattle.event_core.specs.Content.{content, event_bytes}
 use Rattle.event_core.proofs.Sizes.{size-sum}
-use Rattle.agent_run.specs.PlainLog.{header, put_record, no_files, plain_log, IsLog, IsReady, AddsFrame, Logged, Logs}
+use Rattle.agent_run.specs.PlainLog.{header, put_record, no_files, plain_log, IsLog, IsReady, SameOthers, AddsFrame, Logged, Logs}
 
 pub put_spelled : (old a b c d : List ℕ) (txn : ℕ) (line : List ℕ) → a ≡ old ++ 1 ∷ [] → b ≡ a ++ u64_bytes txn → c ≡ b ++ u32_bytes (8 + length line) → d ≡ c ++ event_bytes (content [] line) → d ≡ old ++ put_record txn line
 put_spelled old a b c d txn line is_a is_b is_c is_d =
@@ -43,18 +43,20 @@ opened bytes rest = rw (take_at bytes (0 ∷ rest) (length bytes) refl, drop-app
 pub record After (change : Change) (t u : Told) : Type 0 where
   pub reads : u.reads ≡ with_at t.reads (Log 1) (file_after change (t.reads (Log 1)))
   pub left : u.now (Log 1) ≡ entry_after change (t.reads (Log 1)) (t.now (Log 1))
+  pub others : SameOthers t u
 
 after : (change : Change) (o p : Option Told) → Does (On (Log 1) change) all_done o p → Tells o p (After change)
 after change o p does = tells_more o p _ _ (λ t u _ _ leads. record {
   reads = ap (λ (v : Told). v.reads) leads.ok;
   left = ap (λ (v : Told). v.now (Log 1)) leads.ok ∙ with_at_self t.now (Log 1) (entry_after change (t.reads (Log 1)) (t.now (Log 1)));
+  others = λ n other. ap (λ (v : Told). v.now n) leads.ok ∙ with_at_other t.now (Log 1) n (entry_after change (t.reads (Log 1)) (t.now (Log 1))) other;
 }) does
 
 abbrev pub Same : Told → Told → Type 0
-Same t u = u.reads ≡ t.reads
+Same t u = (u.reads ≡ t.reads) × ((n : FileName) → u.now n ≡ settle_entry (t.reads n))
 
 pub settled : (o p : Option Told) → Does Settle all_done o p → Tells o p Same
-settled o p does = tells_more o p _ _ (λ t u _ _ leads. ap (λ (v : Told). v.reads) leads.ok) does
+settled o p does = tells_more o p _ _ (λ t u _ _ leads. (ap (λ (v : Told). v.reads) leads.ok, λ n. ap (λ (v : Told). v.now n) leads.ok)) does
 
 -- the content after a change, where it and what a stop may leave are known before
 here : (change : Change) (t u : Told) (file : Option (List ℕ)) (entry : Entry) → t.reads (Log 1) ≡ file → t.now (Log 1) ≡ entry → After change t u
@@ -69,6 +71,7 @@ here change t u file entry is left after =
 pub record Wrote (was now : List ℕ) (t u : Told) : Type 0 where
   pub is : IsLog u now
   pub reads : u.reads ≡ with_at t.reads (Log 1) (Some now)
+  pub others : SameOthers t u
 
 write_and_sync : (at : ℕ) (bytes was now : List ℕ) → over was at bytes ≡ now → (t u v : Told) → IsLog t was → After (Write at bytes) t u → After Sync u v → Wrote was now t v
 write_and_sync at bytes was now becomes t u v log first second =
@@ -80,6 +83,7 @@ write_and_sync at bytes was now becomes t u v log first second =
       reads =
           second.reads ∙ with_at_same u.reads (Log 1) ∙ first.reads ∙ ap (λ (o : Option (List ℕ)). with_at t.reads (Log 1) (file_after (Write at bytes) o)) log.reads
           ∙ ap (λ (b : List ℕ). with_at t.reads (Log 1) (Some b)) becomes;
+      others = λ n other. second.others n other ∙ first.others n other;
     }
 
 module _ (gate : ℕ) (frame records : List ℕ) (is_frame : frame ≡ records ++ 0 ∷ []) where
@@ -97,6 +101,7 @@ module _ (gate : ℕ) (frame records : List ℕ) (is_frame : frame ≡ records +
         reads =
             second.reads ∙ ap (λ (f : Files). with_at f (Log 1) (Some (bytes ++ 1 ∷ frame))) first.reads ∙ with_at_twice t.reads (Log 1) (Some (bytes ++ 0 ∷ frame)) (Some (bytes ++ 1 ∷ frame))
             ∙ ap (λ b. with_at t.reads (Log 1) (Some b)) whole;
+        others = λ n other. second.others n other ∙ first.others n other;
       }
 
   pub frame_added : (o0 o1 o2 o3 o4 : Option Told) → IsReady o0 gate → Does (On (Log 1) (Write (gate + 1) frame)) all_done o0 o1 → Does (On (Log 1) Sync) all_done o1 o2
@@ -114,18 +119,18 @@ no_name files none = λ i n. (none n tt) i
 pub begun : (o0 o1 o2 o3 o4 : Option Told) (head : List ℕ) → head ≡ header ++ 0 ∷ [] → Does Settle all_done o0 o1 → WhereTold o1 (λ t. IsNext t.reads None None) → Does (On (Log 1) Make) all_done o1 o2
     → Does (On (Log 1) (Write 0 head)) all_done o2 o3 → Does (On (Log 1) Sync) all_done o3 o4 → Logs o0 o4 []
 begun o0 o1 o2 o3 o4 head is_head d1 none d2 d3 d4 =
-    let empty : Tells o0 o1 (λ t u. (t.reads ≡ no_files) × (u.reads ≡ no_files)) = tells_more o0 o1 Same _ (λ t u _ told same. let is = no_name u.reads (none u told) in (sym same ∙ is, is)) (settled o0 o1 d1) in
-    let P : Told → Told → Type 0 = λ t v. (u : Told) × (t.reads ≡ no_files) × (u.reads ≡ no_files) × After Make u v in
-    let made : Tells o0 o2 P = follows o0 o1 o2 _ (After Make) P (λ t u v _ _ _ a b. (u, a.0, a.1, b)) empty (after Make o1 o2 d2) in
+    let empty : Tells o0 o1 (λ t u. (t.reads ≡ no_files) × (u.reads ≡ no_files) × ((n : FileName) → u.now n ≡ Gone)) = tells_more o0 o1 Same _ (λ t u _ told same. let is = no_name u.reads (none u told) in let was = sym same.0 ∙ is in (was, is, λ n. same.1 n ∙ ap (λ (f : Files). settle_entry (f n)) was)) (settled o0 o1 d1) in
+    let P : Told → Told → Type 0 = λ t v. (u : Told) × (t.reads ≡ no_files) × (u.reads ≡ no_files) × ((n : FileName) → u.now n ≡ Gone) × After Make u v in
+    let made : Tells o0 o2 P = follows o0 o1 o2 _ (After Make) P (λ t u v _ _ _ a b. (u, a.0, a.1, a.2, b)) empty (after Make o1 o2 d2) in
     let Q : Told → Told → Type 0 = λ v x. (w : Told) × After (Write 0 head) v w × After Sync w x in
     let wrote : Tells o2 o4 Q = follows o2 o3 o4 (After (Write 0 head)) (After Sync) Q (λ t u v _ _ _ a s. (u, a, s)) (after (Write 0 head) o2 o3 d3) (after Sync o3 o4 d4) in
-    follows o0 o2 o4 P Q (Logged []) (λ t v x _ _ _ p q. laid t p.0 v q.0 x p.1 p.2 p.3 q.1 q.2) made wrote
+    follows o0 o2 o4 P Q (Logged []) (λ t v x _ _ _ p q. laid t p.0 v q.0 x p.1 p.2 p.3 p.4 q.1 q.2) made wrote
   where
     whole : over [] 0 head ≡ plain_log []
     whole = ap (λ x. head ++ x) (drop_all (0 + length head) [] (omega arith)) ∙ append-nil head ∙ is_head ∙ ap (λ x. x ++ 0 ∷ []) (sym (append-nil header))
 
-    laid : (t u v w x : Told) → t.reads ≡ no_files → u.reads ≡ no_files → After Make u v → After (Write 0 head) v w → After Sync w x → Logged [] t x
-    laid t u v w x empty none make write sync =
+    laid : (t u v w x : Told) → t.reads ≡ no_files → u.reads ≡ no_files → ((n : FileName) → u.now n ≡ Gone) → After Make u v → After (Write 0 head) v w → After Sync w x → Logged [] t x
+    laid t u v w x empty none gone make write sync =
         let made = here Make u v (u.reads (Log 1)) (u.now (Log 1)) refl refl make in
         let log : IsLog v [] = record { reads = made.0; stable = made.1 } in
         let wrote = write_and_sync 0 head [] (plain_log []) whole v w x log write sync in
@@ -134,4 +139,5 @@ begun o0 o1 o2 o3 o4 head is_head d1 none d2 d3 d4 =
           reads =
               wrote.reads ∙ ap (λ (f : Files). with_at f (Log 1) (Some (plain_log []))) (make.reads ∙ ap (λ (f : Files). with_at f (Log 1) (Some [])) none) ∙ with_at_twice no_files (Log 1) (Some []) (Some (plain_log []));
           log = wrote.is;
+          alone = λ n other. wrote.others n other ∙ make.others n other ∙ gone n;
         }

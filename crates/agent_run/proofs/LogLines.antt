@@ -45,6 +45,7 @@ logs_more start old new gate next lines line counted logs adds = follows start o
               b.reads ∙ ap (λ x. with_at u.reads (Log 1) (Some (x ++ 0 ∷ []))) whole ∙ ap (λ (f : Files). with_at f (Log 1) (Some (plain_log (lines ++ line ∷ [])))) a.reads
               ∙ with_at_twice no_files (Log 1) (Some (plain_log lines)) (Some (plain_log (lines ++ line ∷ [])));
           log = let P : List ℕ → Type 0 = λ x. IsLog v (x ++ 0 ∷ []) in subst P whole b.is;
+          alone = λ n other. b.others n other ∙ a.alone n other;
         }
 
 some_more : {P Q : List ℕ → Type 0} (o : Option (List ℕ)) → ((bytes : List ℕ) → P bytes → Q bytes) → IsSomeAnd o P → IsSomeAnd o Q
@@ -90,11 +91,11 @@ module _ (start : Start) (told : Option Told) (faults next : ℕ) (done : List H
       → ((begin : List ℕ) → WhereTold told (λ t. IsLog t (begin ++ 0 ∷ []) × (gate ≡ length begin)) → Tells told new (Changes (Log 1) (IsLeft begin frame) 2)) → Tells start.told new (KeepsLines s.lines)
   doubt_kept new gate frame ready changes =
       let at : WhereTold told (λ t. IsLog t (plain_log s.lines) × (gate ≡ length (front s.lines))) = λ t is.
-          let log = (back start.told told (Logged s.lines) file t is).2.log in
-          let r = ready t is in
-          let same : Some (plain_log s.lines) ≡ Some (r.0 ++ 0 ∷ []) = sym log.reads ∙ r.1.reads in
-          let bytes : plain_log s.lines ≡ r.0 ++ 0 ∷ [] = cc in
-          (log, omega (arith, r.2, ap length bytes, length-append (front s.lines) (0 ∷ []), length-append r.0 (0 ∷ []))) in
+      let log = (back start.told told (Logged s.lines) file t is).2.log in
+      let r = ready t is in
+      let same : Some (plain_log s.lines) ≡ Some (r.0 ++ 0 ∷ []) = sym log.reads ∙ r.1.reads in
+      let bytes : plain_log s.lines ≡ r.0 ++ 0 ∷ [] = cc in
+      (log, omega (arith, r.2, ap length bytes, length-append (front s.lines) (0 ∷ []), length-append r.0 (0 ∷ []))) in
       follows start.told told new (Logged s.lines) (Changes (Log 1) (IsLeft (front s.lines) frame) 2) (KeepsLines s.lines) (λ t u v _ _ _ _ c. changes_keep s.lines frame u v c) file (changes (front s.lines) at)
 
   -- the line was accepted

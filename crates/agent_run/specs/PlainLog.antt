@@ -1,9 +1,9 @@
 -- A log file of one frame for each line.
-use Rattle.std.specs.Prelude.{◌≡◌, ◌≢◌, ◌⊎◌, ℕ, ◌+◌, ◌≤◌, suc, Option, Some, None, List, [], ◌∷◌, ◌++◌, length, codes, All, IsSome, IsSomeAnd}
+use Rattle.std.specs.Prelude.{◌≡◌, ◌≢◌, ◌⊎◌, ℕ, ◌+◌, ◌≤◌, suc, Option, Some, None, false, List, [], ◌∷◌, ◌++◌, length, codes, All, IsSome, IsSomeAnd}
 use Rattle.flume_host.specs.declared.names.FileName.{FileName}
 use Rattle.flume_host.specs.declared.names.FileName.TheVariants.{Log}
 use Rattle.flume_host.specs.Causes.{Rose}
-use Rattle.flume_host.specs.Folder.{Files, There, IsImage, stable, with_at}
+use Rattle.flume_host.specs.Folder.{Files, There, Gone, IsImage, same_name, stable, with_at}
 use Rattle.flume_host.specs.Told.{Told, WhereTold, Tells}
 use Rattle.event_core.specs.Numbers.{u16_bytes, u32_bytes, u64_bytes}
 use Rattle.event_core.specs.Content.{content, event_bytes}
@@ -52,11 +52,16 @@ pub record IsLog (t : Told) (bytes : List ℕ) : Type 0 where
   pub reads : t.reads (Log 1) ≡ Some bytes
   pub stable : t.now (Log 1) ≡ There (stable bytes)
 
--- an empty folder now holds the log of these lines and nothing else, and a stop leaves the log so
+-- a stop leaves no other file than the log
+abbrev pub NoOther : Told → Type 0
+NoOther t = (name : FileName) → same_name name (Log 1) ≡ false → t.now name ≡ Gone
+
+-- An empty folder now holds the log of these lines and nothing else, and a stop leaves it so.
 pub record Logged (lines : List (List ℕ)) (t u : Told) : Type 0 where
   pub empty : t.reads ≡ no_files
   pub reads : u.reads ≡ log_alone (plain_log lines)
   pub log : IsLog u (plain_log lines)
+  pub alone : NoOther u
 
 abbrev pub Logs : Option Told → Option Told → List (List ℕ) → Type 0
 Logs before after lines = Tells before after (Logged lines)
@@ -65,6 +70,10 @@ Logs before after lines = Tells before after (Logged lines)
 abbrev pub IsReady : Option Told → ℕ → Type 0
 IsReady told gate = WhereTold told (λ t. (bytes : List ℕ) × IsLog t (bytes ++ 0 ∷ []) × (gate ≡ length bytes))
 
+-- what a stop may leave of the other files is as before
+abbrev pub SameOthers : Told → Told → Type 0
+SameOthers t u = (name : FileName) → same_name name (Log 1) ≡ false → u.now name ≡ t.now name
+
 -- a frame of these records was added to the log that ended at this offset
 pub record AddsFrame (gate : ℕ) (records : List ℕ) (t u : Told) : Type 0 where
   pub bytes : List ℕ
@@ -72,6 +81,7 @@ pub record AddsFrame (gate : ℕ) (records : List ℕ) (t u : Told) : Type 0 whe
   pub at : gate ≡ length bytes
   pub is : IsLog u ((bytes ++ 1 ∷ records) ++ 0 ∷ [])
   pub reads : u.reads ≡ with_at t.reads (Log 1) (Some ((bytes ++ 1 ∷ records) ++ 0 ∷ []))
+  pub others : SameOthers t u
 
 -- The log begins so, and goes on with a closed commit byte, or with an open one and the whole frame.
 abbrev pub IsLeft : List ℕ → List ℕ → Option (List ℕ) → Type 0
