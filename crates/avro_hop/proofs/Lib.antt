@@ -3,3 +3,4 @@ pub mod Sequences
 pub mod Whole
 pub mod Calling
 pub mod Greeting
+pub mod OneReading

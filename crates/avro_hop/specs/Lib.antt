@@ -6,3 +6,4 @@ pub mod Dialogue
 pub mod Told
 pub mod Parameters
 pub mod Refusal
+pub mod Laws

@@ -5,11 +5,13 @@ mod accepted;
 mod call;
 mod handshake;
 mod hop;
+mod laws;
 mod protocol;
 mod respond;
 
 pub use accepted::accepts;
 pub use hop::{Asked, Hop, HopRefused};
+pub use laws::one_reading;
 pub use protocol::PROTOCOL;
 pub use respond::{Status, write_response};
 

@@ -86,6 +86,7 @@ fn calls_behind_a_handshake(rt: HostRuntime) -> Result<(), Fail> {
     let mut failed = Vec::new(rt.alloc());
     write_response(Status::Failed, &mut failed)?;
     assert_eq!(rt; failed.as_slice(), [0u8, 0, 2].as_slice());
+    one_reading();
     Ok(())
 }
 
