@@ -1,9 +1,0 @@
-pub mod Accepted
-pub mod Parts
-pub mod Handshake
-pub mod Calls
-pub mod Dialogue
-pub mod Told
-pub mod Parameters
-pub mod Refusal
-pub mod Laws

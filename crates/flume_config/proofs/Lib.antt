@@ -1,4 +1,0 @@
-pub mod WordSteps
-pub mod Joins
-pub mod AgentSteps
-pub mod Outcomes
