@@ -1,0 +1,5 @@
+pub mod Frames
+pub mod Laws
+pub mod Reader
+pub mod Scan
+pub mod Writer

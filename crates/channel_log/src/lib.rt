@@ -1,0 +1,16 @@
+//! The log files of a channel: a header, and frames of records behind commit bytes.
+#![tactic(auto)]
+
+mod laws;
+mod loading;
+mod reader;
+mod scan;
+#[cfg(test)]
+mod tests;
+mod writer;
+
+pub use laws::one_content;
+pub use loading::FrameRefused;
+pub use reader::LogReader;
+pub use scan::{Scan, scan_frame};
+pub use writer::{LogBeginRefused, LogFlushRefused, LogWriter};

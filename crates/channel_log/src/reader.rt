@@ -1,0 +1,287 @@
+// Reads the records of a log file's frames.
+ghost use Rattle.std.specs.Prelude.{◌≡◌, ◌≤◌, ◌<◌, ◌+◌, ◌^◌, [], ◌∷◌, ℕ, List, ◌↔◌, length, take, drop, true, false, Option, Some, IsTrue, MatchOption, IfOk, IfErr, OnErr, IsErrOf};
+ghost use Rattle.std.specs.List.{AllByRecursion};
+ghost use Rattle.flume_host.specs.Causes.{Rose};
+ghost use Rattle.record_form.specs.declared.record.Rec.{Rec};
+ghost use Rattle.channel_log.specs.Frames.{BadHeader, Content, Holds, IsBirth, IsFramed, fault_of, header};
+ghost use Rattle.channel_log.specs.Reader.{AfterOpen, AreRecords, Gives, HasFile, IfTrue, IsCount, IsEntered, IsGiven, IsLoaded, Goes, IsBegun, IsBirthOf, IsSameFile, IsThere, OpensNone, Remains, Stands, WhereBad, closing, content_items, frame_items, kept, step};
+
+use crate::loading::{FrameRefused, load_frame};
+use crate::writer::header_of;
+use event_core::NoMemory;
+use flume_host::{Disk, FileName};
+use record_form::{Read, Rec, read_record, rec_of};
+use std::alloc::Global;
+use std::marker::Model;
+
+// The kind byte of END, and its length.
+const END: u8 = 6;
+
+const END_LENGTH: usize = 5;
+
+// The record at the place of a frame, and the place of the next one, which behind the last one is the frame's end.
+fn record_at(alloc: Global, frame: &[u8], place: usize) -> Result<(Rec, usize), NoMemory>
+    requires within { place ≤ length frame.now }
+    requires records { AreRecords (drop place frame.now) }
+    ensures given { IfOk result (λ r. (first : Rec) (records : List Rec) (count : ℕ) → IsFramed first → AllByRecursion IsFramed records → IsCount count → drop place frame.now ≡ closing (first ∷ records) count
+        → (r.0 ≡ first) × (r.1 ≡ place + step first records) × (drop r.1 frame.now ≡ kept records count)) }
+    ensures within { IfOk result (λ r. r.1 ≤ length frame.now) }
+    ensures above { IfOk result (λ r. place ≤ r.1) }
+{
+    let rest = &frame[place..];
+    let Read::Whole { length, .. } = read_record(rest) else {
+        unreachable!();
+    };
+    let rec = rec_of(alloc, rest)?;
+    let next = place + length as usize;
+    if frame[next] == END {
+        Ok((rec, next + END_LENGTH))
+    } else {
+        Ok((rec, next))
+    }
+}
+
+// The births of a file.
+const BEGUN: u16 = 1;
+
+const ROLLED: u16 = 2;
+
+// The length of a header.
+const HEADER_LENGTH: u64 = 16;
+
+// A file that is no longer counts as empty.
+const BLANK_LENGTH: u64 = 17;
+
+// How many bytes are read at a time.
+const PIECE_LENGTH: usize = 4096;
+
+// Whether this is the header of this birth and number.
+fn is_header(birth: u16, number: u32, head: &[u8]) -> bool
+    ensures { IsTrue result ↔ (head.now ≡ header birth number) }
+{
+    let header = header_of(birth, number);
+    head == &header[..16]
+}
+
+// The birth that the header of this number names.
+fn birth_of(number: u32, head: &[u8]) -> Option<u16>
+    ensures { MatchOption result ((birth : ℕ) → IsBirth birth → head.now ≡ header birth number → ⊥) (λ birth. IsBirth birth × (head.now ≡ header birth number)) }
+{
+    if is_header(BEGUN, number, head) {
+        Some(BEGUN)
+    } else if is_header(ROLLED, number, head) {
+        Some(ROLLED)
+    } else {
+        None
+    }
+}
+
+// Reads the header of a file of this length, and tests it. Its birth, if the file doesn't count as empty.
+fn read_birth<D: Disk>(disk: &mut D, number: u32, size: u64) -> Result<Option<u16>, FrameRefused>
+    requires { IsThere (D.told disk.old) number }
+    ensures birth { IfOk result (λ birth. (bytes : List ℕ) → HasFile (D.told disk.old) number bytes → length bytes ≡ size → IsBirthOf birth number bytes) }
+    ensures bad { IfErr result (λ e. WhereBad e (λ f at. (f ≡ number) × (at ≡ 0) × ((bytes : List ℕ) → HasFile (D.told disk.old) number bytes → length bytes ≡ size → Holds number bytes BadHeader))) }
+    ensures same { D.told disk.new ≡ D.told disk.old }
+    ensures fault { IsErrOf result FrameRefused.DiskFault → Rose (D.faults disk.old) (D.faults disk.new) }
+    ensures later { D.faults disk.old ≤ D.faults disk.new }
+{
+    if size <= BLANK_LENGTH {
+        return Ok(None);
+    }
+    let mut head = [0u8; 16];
+    let Ok(_) = disk.read(FileName::Log(number), 0, &mut head) else {
+        return Err(FrameRefused::DiskFault);
+    };
+    match birth_of(number, &head) {
+        Some(birth) => Ok(Some(birth)),
+        None => Err(FrameRefused::BadLog {
+            file: number,
+            at: 0,
+        }),
+    }
+}
+
+/// Gives the records of one log file's committed frames, each with its offset. It holds at most one frame in memory, and
+/// takes memory only for what was read.
+#[derive(Drop)]
+pub struct LogReader {
+    alloc: Global,
+    file: u32,
+    size: u64,
+    drops: bool,
+    // the file counts as empty
+    blank: bool,
+    // the offset of the next record, or of the next commit byte
+    at: u64,
+    frame: Vec<u8>,
+    // where the next record stands in the frame
+    place: usize,
+    piece: Vec<u8>,
+}
+
+impl Model for LogReader {
+    ghost use Rattle.std.specs.Prelude.{drop};
+    ghost use Rattle.channel_log.specs.Reader.{Reader, IsReader};
+
+    ghost Value = { Reader };
+
+    ghost view = { λ r. record { file = r.file; size = r.size; drops = r.drops; blank = r.blank; at = r.at; held = drop r.place r.frame.items } };
+
+    ghost invariant = { λ r. IsReader r.place r.at r.size r.frame.items r.piece.items };
+}
+
+impl LogReader {
+    /// The reader of a log file, whose records are given from the commit byte at this offset on: 16, where the first one
+    /// stands. The header is tested where the file has more than 17 bytes.
+    pub fn begin<D: Disk>(
+        alloc: Global,
+        disk: &mut D,
+        number: u32,
+        at: u64,
+    ) -> Result<LogReader, FrameRefused>
+        requires { IsThere (D.told disk.old) number }
+        ensures remains { IfOk result (λ r. (bytes : List ℕ) (content : Content) → HasFile (D.told disk.old) number bytes → Holds number bytes content → at ≡ 16 → Remains r bytes (content_items content) (fault_of content)) }
+        ensures drops { IfOk result (λ r. (bytes : List ℕ) (content : Content) → HasFile (D.told disk.old) number bytes → Holds number bytes content → IsTrue r.drops ↔ ((at ≡ 16) × IsBegun content)) }
+        ensures place { IfOk result (λ r. (bytes : List ℕ) (frames : List (List Rec)) (fault : Option ℕ) → HasFile (D.told disk.old) number bytes → 17 < length bytes → Goes (drop at bytes) at frames fault → Remains r bytes (frame_items at frames) fault) }
+        ensures file { IfOk result (λ r. r.file ≡ number) }
+        ensures bad { IfErr result (λ e. WhereBad e (λ f at. (f ≡ number) × (at ≡ 0) × ((bytes : List ℕ) → HasFile (D.told disk.old) number bytes → Holds number bytes BadHeader))) }
+        ensures same { D.told disk.new ≡ D.told disk.old }
+        ensures fault { IsErrOf result FrameRefused.DiskFault → Rose (D.faults disk.old) (D.faults disk.new) }
+        ensures later { D.faults disk.old ≤ D.faults disk.new }
+    {
+        let mut piece = Vec::new(alloc);
+        if piece.resize(PIECE_LENGTH, 0).is_err() {
+            return Err(FrameRefused::NoMemory);
+        }
+        let Ok(size) = disk.len(FileName::Log(number)) else {
+            return Err(FrameRefused::DiskFault);
+        };
+        let birth = read_birth(disk, number, size)?;
+        let frame = Vec::new(alloc);
+        match birth {
+            None => Ok(LogReader {
+                alloc,
+                file: number,
+                size,
+                drops: false,
+                blank: true,
+                at,
+                frame,
+                place: 0,
+                piece,
+            }),
+            Some(birth) => Ok(LogReader {
+                alloc,
+                file: number,
+                size,
+                drops: birth == BEGUN && at == HEADER_LENGTH,
+                blank: false,
+                at,
+                frame,
+                place: 0,
+                piece,
+            }),
+        }
+    }
+
+    // Gives the record that the reader stands before.
+    fn give(&mut self) -> Result<(Rec, u64), NoMemory>
+        requires { AreRecords self.old.held }
+        ensures given { IfOk result (λ given. (first : Rec) (records : List Rec) (count : ℕ) → IsFramed first → AllByRecursion IsFramed records → IsCount count → self.old.held ≡ closing (first ∷ records) count → IsGiven self.old self.new given first records count) }
+        ensures file { IsSameFile self.old self.new }
+        ensures refused { OnErr result (self.new ≡ self.old) }
+    {
+        let (rec, next) = record_at(self.alloc, &self.frame, self.place)?;
+        let at = self.at;
+        self.at += (next - self.place) as u64;
+        self.place = next;
+        Ok((rec, at))
+    }
+
+    // Loads the next frame. Whether there is one.
+    fn load<D: Disk>(&mut self, disk: &mut D) -> Result<bool, FrameRefused>
+        requires there { IsThere (D.told disk.old) self.old.file }
+        requires between { self.old.held ≡ [] }
+        ensures entered { IfOk result (λ found. IfTrue found (IsEntered self.old self.new)) }
+        ensures stays { IfOk result (λ found. found ≡ false → self.new ≡ self.old) }
+        ensures loaded { IfOk result (λ found. self.old.blank ≡ false → self.old.at < self.old.size → (bytes : List ℕ) → HasFile (D.told disk.old) self.old.file bytes → length bytes ≡ self.old.size → IsLoaded found (drop self.old.at bytes) self.new.held) }
+        ensures over { IfOk result (λ found. self.old.blank ≡ true → found ≡ false) }
+        ensures bad { IfErr result (λ e. WhereBad e (λ f at. (f ≡ self.old.file) × (at ≡ self.old.at) × (self.old.blank ≡ false) × (self.old.at < self.old.size) × ((bytes : List ℕ) → HasFile (D.told disk.old) self.old.file bytes → length bytes ≡ self.old.size → AfterOpen (drop self.old.at bytes) OpensNone))) }
+        ensures refused { OnErr result (self.new ≡ self.old) }
+        ensures same { D.told disk.new ≡ D.told disk.old }
+        ensures fault { IsErrOf result FrameRefused.DiskFault → Rose (D.faults disk.old) (D.faults disk.new) }
+        ensures later { D.faults disk.old ≤ D.faults disk.new }
+    {
+        if self.blank || self.at >= self.size {
+            return Ok(false);
+        }
+        self.frame.clear();
+        self.place = 0;
+        match load_frame(
+            disk,
+            self.file,
+            self.size,
+            self.at,
+            &mut self.piece,
+            &mut self.frame,
+        ) {
+            Ok(true) => {
+                self.at += 1;
+                Ok(true)
+            }
+            Ok(false) => Ok(false),
+            Err(refused) => {
+                self.frame.clear();
+                Err(refused)
+            }
+        }
+    }
+
+    // Comes to stand before a record, or before the end of the file's frames. Whether before a record.
+    fn enter<D: Disk>(&mut self, disk: &mut D) -> Result<bool, FrameRefused>
+        requires { IsThere (D.told disk.old) self.old.file }
+        ensures held { IfOk result (λ found. IfTrue found (AreRecords self.new.held)) }
+        ensures stands { IfOk result (λ found. (bytes : List ℕ) (items : List (Rec × ℕ)) (fault : Option ℕ) → HasFile (D.told disk.old) self.old.file bytes → Remains self.old bytes items fault → Stands found self.new bytes items fault) }
+        ensures bad { IfErr result (λ e. WhereBad e (λ f at. (f ≡ self.old.file) × ((bytes : List ℕ) (items : List (Rec × ℕ)) (fault : Option ℕ) → HasFile (D.told disk.old) self.old.file bytes → Remains self.old bytes items fault → (items ≡ []) × (fault ≡ Some at)))) }
+        ensures refused { OnErr result (self.new ≡ self.old) }
+        ensures file { IsSameFile self.old self.new }
+        ensures same { D.told disk.new ≡ D.told disk.old }
+        ensures fault { IsErrOf result FrameRefused.DiskFault → Rose (D.faults disk.old) (D.faults disk.new) }
+        ensures later { D.faults disk.old ≤ D.faults disk.new }
+    {
+        if self.place < self.frame.len() {
+            return Ok(true);
+        }
+        self.load(disk)
+    }
+
+    /// Whether the file first drops all open transactions: its birth is 1, it has more than 17 bytes, and it is read from
+    /// offset 16 on.
+    pub fn drops(&self) -> bool
+        ensures { result ≡ self.now.drops }
+    {
+        self.drops
+    }
+
+    /// The next record other than END of the file's committed frames, with its offset. None at the end of the frames. A
+    /// frame is whole in the file, its END's count included, and has a next commit byte, before its first record is given.
+    /// After a refusal the same record is still to come.
+    pub fn next<D: Disk>(&mut self, disk: &mut D) -> Result<Option<(Rec, u64)>, FrameRefused>
+        requires { IsThere (D.told disk.old) self.old.file }
+        ensures given { IfOk result (λ given. (bytes : List ℕ) (items : List (Rec × ℕ)) (fault : Option ℕ) → HasFile (D.told disk.old) self.old.file bytes → Remains self.old bytes items fault → Gives given self.new bytes items fault) }
+        ensures bad { IfErr result (λ e. WhereBad e (λ f at. (f ≡ self.old.file) × ((bytes : List ℕ) (items : List (Rec × ℕ)) (fault : Option ℕ) → HasFile (D.told disk.old) self.old.file bytes → Remains self.old bytes items fault → (items ≡ []) × (fault ≡ Some at)))) }
+        ensures refused { OnErr result ((bytes : List ℕ) (items : List (Rec × ℕ)) (fault : Option ℕ) → HasFile (D.told disk.old) self.old.file bytes → Remains self.old bytes items fault → Remains self.new bytes items fault) }
+        ensures file { IsSameFile self.old self.new }
+        ensures same { D.told disk.new ≡ D.told disk.old }
+        ensures fault { IsErrOf result FrameRefused.DiskFault → Rose (D.faults disk.old) (D.faults disk.new) }
+        ensures later { D.faults disk.old ≤ D.faults disk.new }
+    {
+        if !self.enter(disk)? {
+            return Ok(None);
+        }
+        match self.give() {
+            Ok(given) => Ok(Some(given)),
+            Err(_) => Err(FrameRefused::NoMemory),
+        }
+    }
+}

@@ -1,0 +1,252 @@
+// Writes the frames of a log file.
+ghost use Rattle.std.specs.Prelude.{◌≡◌, ◌<◌, ◌≤◌, ◌+◌, ◌^◌, ◌++◌, [], ◌∷◌, ◌↔◌, ℕ, List, length, false, true, OnOk, OnErr, IfOk, IsErrOf, IsOk, IsTrue, vec_len, vec_capacity};
+ghost use Rattle.flume_host.specs.Causes.{HasCause, Rose};
+ghost use Rattle.flume_host.specs.Told.{WhereTold, Tells, Changes};
+ghost use Rattle.flume_host.specs.declared.names.FileName.TheVariants.{Log};
+ghost use Rattle.event_core.specs.Content.{size};
+ghost use Rattle.record_form.specs.Record.{IsWithinLimits, record_length, spelling};
+ghost use Rattle.record_form.specs.declared.record.Rec.{Rec};
+ghost use Rattle.record_form.specs.declared.record.Rec.TheVariants.{End, Put};
+ghost use Rattle.channel_log.specs.Frames.{IsFrame, IsNoEnd, frame_bytes, header};
+ghost use Rattle.channel_log.specs.Writer.{Appends, HasRoom, IsBlank, IsPending, IsReady, IsUnused, LacksOrHas};
+
+use event_core::Event;
+use flume_host::{Disk, Failed, FileName};
+use record_form::{MAX_PUT_SIZE, Rec, write_put, write_record};
+use std::alloc::Global;
+use std::marker::Model;
+
+/// Why a log file could not be begun.
+#[derive(Clone, Copy, Debug, PartialEq, Eq)]
+pub enum LogBeginRefused {
+    /// A fault of the disk.
+    DiskFault,
+    /// Want of memory.
+    NoMemory,
+}
+
+/// Why a frame could not be flushed.
+#[derive(Clone, Copy, Debug, PartialEq, Eq)]
+pub enum LogFlushRefused {
+    /// A fault of the disk.
+    DiskFault,
+}
+
+// The header of a log file, and a closed commit byte.
+pub(crate) fn header_of(birth: u16, number: u32) -> [u8; 17]
+    ensures { result ≡ header birth number ++ 0 ∷ [] }
+{
+    let b = birth.to_be_bytes();
+    let n = number.to_be_bytes();
+    [
+        b'F', b'L', b'U', b'M', b'E', b'L', b'O', b'G', 0, 1, b[0], b[1], n[0], n[1], n[2], n[3], 0,
+    ]
+}
+
+// Makes a log file of its header and a closed commit byte.
+fn make_file<D: Disk>(disk: &mut D, number: u32, text: &[u8]) -> Result<(), Failed>
+    requires { IsUnused (D.told disk.old) number }
+
+    // A stop at any moment of the call leaves no file, or one that counts as empty.
+    ensures any_moment { (birth : ℕ) → text.now ≡ header birth number ++ 0 ∷ [] → Tells (D.told disk.old) (D.told disk.new) (Changes (Log number) IsBlank 1) }
+
+    // After Ok a stop leaves the header and no frame.
+    ensures begun { OnOk result ((birth : ℕ) → text.now ≡ header birth number ++ 0 ∷ [] → IsReady (D.told disk.new) birth number 16 []) }
+    ensures cause { HasCause (D.faults disk.old) (D.faults disk.new) result }
+{
+    let name = FileName::Log(number);
+    disk.make(name)?;
+    disk.write_at(name, 0, text)?;
+    disk.sync(name)?;
+    Ok(())
+}
+
+// Writes a frame and a closed commit byte behind the file's closed commit byte, and opens that one. Each step is made
+// stable before the next.
+fn write_frame<D: Disk>(disk: &mut D, number: u32, gate: u64, piece: &[u8]) -> Result<(), Failed>
+    requires ready { (birth : ℕ) × (frames : List (List Rec)) × (frame : List Rec) × IsReady (D.told disk.old) birth number gate frames × IsFrame frame × (piece.now ≡ frame_bytes frame ++ 0 ∷ []) }
+    requires room { gate < 2 ^ 63 }
+
+    // A stop at any moment of the call leaves the frames from before it, or these and the new one.
+    ensures any_moment { (birth : ℕ) (frames : List (List Rec)) (frame : List Rec) → IsReady (D.told disk.old) birth number gate frames → IsFrame frame → piece.now ≡ frame_bytes frame ++ 0 ∷ []
+        → Tells (D.told disk.old) (D.told disk.new) (Changes (Log number) (LacksOrHas birth number frames frame) 2) }
+
+    // After Ok a stop leaves them all.
+    ensures flushed { OnOk result ((birth : ℕ) (frames : List (List Rec)) (frame : List Rec) → IsReady (D.told disk.old) birth number gate frames → IsFrame frame → piece.now ≡ frame_bytes frame ++ 0 ∷ []
+        → IsReady (D.told disk.new) birth number (gate + length piece.now) (frames ++ frame ∷ [])) }
+    ensures bounded { OnOk result (gate + length piece.now < 2 ^ 63) }
+    ensures cause { HasCause (D.faults disk.old) (D.faults disk.new) result }
+{
+    let name = FileName::Log(number);
+    disk.write_at(name, gate + 1, piece)?;
+    disk.sync(name)?;
+    disk.write_at(name, gate, &[1])?;
+    disk.sync(name)?;
+    Ok(())
+}
+
+// The room of a frame: its records, END and a commit byte.
+const FRAME_ROOM: usize = 2_097_152;
+
+/// Writes the frames of one log file. Records wait in a buffer of 2,097,152 bytes until a flush. After `begin` it takes no
+/// memory.
+#[derive(Drop)]
+pub struct LogWriter {
+    number: u32,
+    // the offset of the closed commit byte
+    gate: u64,
+    max_file: u64,
+    started: bool,
+    frame: Vec<u8>,
+    count: u32,
+}
+
+impl Model for LogWriter {
+    ghost use Rattle.channel_log.specs.Writer.{Writer, IsWithin};
+    ghost use Rattle.std.specs.Prelude.{vec_capacity};
+
+    ghost Value = { Writer };
+
+    ghost view = { λ w. record { file = w.number; gate = w.gate; max_file = w.max_file; started = w.started; bytes = w.frame.items; count = w.count } };
+
+    ghost invariant = { λ w. IsWithin w.gate w.count w.frame.items (vec_capacity w.frame) };
+}
+
+// Adds END and a closed commit byte.
+fn seal(frame: &mut Vec<u8>, count: u32)
+    requires some { 1 ≤ count }
+    requires room { vec_len frame.old + 6 ≤ vec_capacity frame.old }
+    ensures items { frame.new.items ≡ (frame.old.items ++ spelling (End count)) ++ 0 ∷ [] }
+    ensures room { vec_capacity frame.old ≤ vec_capacity frame.new }
+{
+    write_record(&Rec::End { count }, frame);
+    if frame.push(0).is_err() {
+        unreachable!();
+    }
+}
+
+impl LogWriter {
+    /// Makes a log file of this number and birth, and its writer. The disk must have no log file of this number or of a
+    /// greater one.
+    pub fn begin<D: Disk>(
+        alloc: Global,
+        disk: &mut D,
+        number: u32,
+        birth: u16,
+        max_file: u64,
+    ) -> Result<LogWriter, LogBeginRefused>
+        requires { IsUnused (D.told disk.old) number }
+        ensures writer { IfOk result (λ w. w ≡ record { file = number; gate = 16; max_file = max_file; started = false; bytes = []; count = 0 }) }
+        ensures any_moment { Tells (D.told disk.old) (D.told disk.new) (Changes (Log number) IsBlank 1) }
+        ensures begun { OnOk result (IsReady (D.told disk.new) birth number 16 []) }
+        ensures no_memory { IsErrOf result LogBeginRefused.NoMemory → D.told disk.new ≡ D.told disk.old }
+        ensures fault { IsErrOf result LogBeginRefused.DiskFault → Rose (D.faults disk.old) (D.faults disk.new) }
+        ensures later { D.faults disk.old ≤ D.faults disk.new }
+    {
+        let Ok(frame) = Vec::with_capacity(alloc, FRAME_ROOM) else {
+            return Err(LogBeginRefused::NoMemory);
+        };
+        match make_file(disk, number, &header_of(birth, number)) {
+            Ok(()) => Ok(LogWriter {
+                number,
+                gate: 16,
+                max_file,
+                started: false,
+                frame,
+                count: 0,
+            }),
+            Err(_) => Err(LogBeginRefused::DiskFault),
+        }
+    }
+
+    /// Adds a record to the frame that waits for a flush.
+    pub fn append(&mut self, rec: &Rec)
+        requires limits { IsWithinLimits rec.now }
+        requires no_end { IsNoEnd rec.now }
+        requires room { HasRoom self.old (record_length rec.now) }
+        ensures { Appends self.old self.new rec.now }
+    {
+        write_record(rec, &mut self.frame);
+        self.count += 1;
+    }
+
+    /// Adds the PUT of an event to the frame that waits for a flush.
+    pub fn append_put(&mut self, txn: u64, event: &Event)
+        requires limit { size event.now ≤ MAX_PUT_SIZE }
+        requires room { HasRoom self.old (size event.now + 13) }
+        ensures { Appends self.old self.new (Put txn event.now) }
+    {
+        write_put(txn, event, &mut self.frame);
+        self.count += 1;
+    }
+
+    /// Makes the waiting records one committed frame more of the file, with two syncs. Without waiting records it touches
+    /// no device.
+    pub fn flush<D: Disk>(&mut self, disk: &mut D) -> Result<(), LogFlushRefused>
+        requires { (birth : ℕ) × (frames : List (List Rec)) × (records : List Rec) × IsReady (D.told disk.old) birth self.old.file self.old.gate frames × IsPending self.old records }
+
+        // A stop at any moment of the call leaves the frames from before it, or these and the new one.
+        ensures any_moment { (birth : ℕ) (frames : List (List Rec)) (records : List Rec) → IsReady (D.told disk.old) birth self.old.file self.old.gate frames → IsPending self.old records → 1 ≤ length records
+            → Tells (D.told disk.old) (D.told disk.new) (Changes (Log self.old.file) (LacksOrHas birth self.old.file frames records) 2) }
+
+        // After Ok a stop leaves them all.
+        ensures flushed { OnOk result ((birth : ℕ) (frames : List (List Rec)) (records : List Rec) → IsReady (D.told disk.old) birth self.old.file self.old.gate frames → IsPending self.old records → 1 ≤ length records
+            → IsReady (D.told disk.new) birth self.old.file self.new.gate (frames ++ records ∷ [])) }
+        ensures writer { OnOk result (1 ≤ self.old.count → self.new ≡ record self.old { gate = self.old.gate + length self.old.bytes + 6; started = true; bytes = []; count = 0 }) }
+        ensures refused { OnErr result (self.new ≡ self.old) }
+
+        // Nothing waits.
+        ensures empty { self.old.count ≡ 0 → IsOk result × (self.new ≡ self.old) × (D.told disk.new ≡ D.told disk.old) }
+        ensures cause { HasCause (D.faults disk.old) (D.faults disk.new) result }
+    {
+        if self.count == 0 {
+            return Ok(());
+        }
+        let before = self.frame.len();
+        seal(&mut self.frame, self.count);
+        match write_frame(disk, self.number, self.gate, &self.frame) {
+            Ok(()) => {
+                self.gate += self.frame.len() as u64;
+                self.frame.clear();
+                self.count = 0;
+                self.started = true;
+                Ok(())
+            }
+            Err(_) => {
+                self.frame.truncate(before);
+                Err(LogFlushRefused::DiskFault)
+            }
+        }
+    }
+
+    /// The number of the file.
+    pub fn file(&self) -> u32
+        ensures { result ≡ self.now.file }
+    {
+        self.number
+    }
+
+    /// The offset of the commit byte that the next flush opens.
+    pub fn gate_at(&self) -> u64
+        ensures { result ≡ self.now.gate }
+    {
+        self.gate
+    }
+
+    /// The offset at which the next record will stand, if the flush doesn't begin a file.
+    pub fn next_at(&self) -> u64
+        ensures { result ≡ self.now.gate + 1 + length self.now.bytes }
+    {
+        self.gate + 1 + self.frame.len() as u64
+    }
+
+    /// Whether a record of this length can be appended, and so many bytes besides.
+    pub fn has_room(&self, size: u64, kept: u64) -> bool
+        ensures { IsTrue result ↔ HasRoom self.now (size + kept) }
+    {
+        let used = self.frame.len() as u64 + 6;
+        used <= FRAME_ROOM as u64
+            && size <= FRAME_ROOM as u64 - used
+            && kept <= FRAME_ROOM as u64 - used - size
+    }
+}
