@@ -144,14 +144,17 @@ uncounted start told faults next done going s =
 interrupted : (start : Start) (told : Option Told) (faults next : ℕ) (done : List Handled) → Stands start told faults next done → Interrupted start.told told start.faults faults done
 interrupted start told faults next done s = record { lines = s.lines; last = s.last; split = s.split; one = s.one; stops = s.stops; cause = s.cause; kept = λ _. s.kept; logs = λ _ none. s.file none }
 
-module _ (s0 s1 s2 s3 s4 : HostState) (left left' took took' : Option (List ℕ)) (n m own_in own_out : ℕ)
-    (e1 : left ≡ s0.input) (e2 : s1 ≡ record s0 { input = None }) (e3 : took ≡ s1.output) (e4 : s2 ≡ record s1 { output = None })
-    (e5 : s3 ≡ record s2 { input = left'; faults = n }) (c5 : Counts s2.faults n own_in) (e6 : s4 ≡ record s3 { output = took'; faults = m }) (c6 : Counts s3.faults m own_out) where
+module _ (s0 s1 s2 s3 s4 : HostState) (left left' took took' handed' : Option (List ℕ)) (n m own_in own_out : ℕ)
+    (e1 : left ≡ s0.input) (e2 : s1 ≡ record s0 { input = None }) (e3 : took ≡ s1.output) (e4 : s2 ≡ record s1 { output = None; handed = None })
+    (e5 : s3 ≡ record s2 { input = left'; faults = n }) (c5 : Counts s2.faults n own_in) (e6 : s4 ≡ record s3 { output = took'; handed = handed'; faults = m }) (c6 : Counts s3.faults m own_out) where
   took_is : took ≡ s0.output
   took_is = e3 ∙ ap (λ (s : HostState). s.output) e2
 
   input_is : s4.input ≡ left'
   input_is = ap (λ (s : HostState). s.input) e6 ∙ ap (λ (s : HostState). s.input) e5
+
+  handed_is : s4.handed ≡ handed'
+  handed_is = ap (λ (s : HostState). s.handed) e6
 
   output_is : s4.output ≡ took'
   output_is = ap (λ (s : HostState). s.output) e6
@@ -183,11 +186,12 @@ module _ (s0 s1 s2 s3 s4 : HostState) (left left' took took' : Option (List ℕ)
         → (e ≡ LongLine → Served 512 (λ size. size ≤ 2 ^ 40) TooLong left left' took took' accepted Here)
         → (e ≡ Full → Served 512 (λ size. size ≡ 2 ^ 40) Rest left left' took took' accepted Here)
         → (IsStop e → Stopped 512 left left' took took' sink_before own_out accepted Here)
+        → (IsWell e → handed' ≡ took')
         → (IsWell e → (own_in ≡ 0) × (own_out ≡ sink_before))
         → (e ≡ NoMemory → faults ≡ start.faults)
         → (e ≡ InDoubt → Rose start.faults faults) → (e ≡ ReadFault → Rose 0 own_in) → (e ≡ WriteFault → Rose sink_before own_out)
         → (status : ℕ) → status ≡ end_status e → Piped s0 s4 start.told told start.faults faults status accepted
-    piped at_end end long full stopped well memory in_doubt read write status is = record {
+    piped at_end end long full stopped all well memory in_doubt read write status is = record {
       done = λ zero.
           let ended = is_end e (sym is ∙ zero) in
           (let P : Option (List ℕ) → Type 0 = λ o. IsAtEnd o in subst P (sym input_is) (at_end ended), rw (← e1, input_is, ← took_is, output_is) (served_as (stored start told faults next) (end ended)));
@@ -197,6 +201,7 @@ module _ (s0 s1 s2 s3 s4 : HostState) (left left' took took' : Option (List ℕ)
           let kind : (end_status e ≡ 3) ⊎ (end_status e ≡ 5) = elim which [ inl three ↦ inl (sym is ∙ three) | inr five ↦ inr (sym is ∙ five) ] in
           rw (← e1, input_is, ← took_is, output_is) (stopped_as (interrupted start told faults next) (λ rose. write_rose (rw clean at rose)) (stopped (is_stop e kind)));
       held = λ four. absurd (never_held e (sym is ∙ four));
+      handed = λ which. handed_is ∙ all (is_well e (subst IsWellStatus is which)) ∙ sym output_is;
       well = λ which.
           let none = well (is_well e (subst IsWellStatus is which)) in
           let disk : faults ≡ start.faults = elim which [
@@ -249,7 +254,8 @@ early old new before after a b status accepted same_input same_output none which
   long = λ is. absurd (other7 is which);
   stopped = λ _. nothing 512 old.faults new.faults a b before after old.input new.input old.output new.output same_input same_output accepted none;
   held = λ is. (held is, same_input, same_output, none);
-  well = λ is. elim is [ inl zero ↦ absurd (other zero which) | inr more ↦ elim more [ inl six ↦ absurd (other6 six which) | inr seven ↦ absurd (other7 seven which) ] ];
+  handed = λ is. absurd (not_well is);
+  well = λ is. absurd (not_well is);
   memory = memory;
   fault = fault;
 }
@@ -268,6 +274,9 @@ early old new before after a b status accepted same_input same_output none which
     other7 is (inl a) = omega arith
     other7 is (inr (inl b)) = omega arith
     other7 is (inr (inr c)) = omega arith
+
+    not_well : IsWellStatus status → ⊥
+    not_well is = elim is [ inl zero ↦ other zero which | inr more ↦ elim more [ inl six ↦ other6 six which | inr seven ↦ other7 seven which ] ]
 
 interrupted_as : {t u : Option Told} {a b c d : ℕ} → (Rose a b → Rose c d) → (done : List Handled) → Interrupted t u a b done → Interrupted t u c d done
 interrupted_as rose done i = record {
@@ -291,6 +300,7 @@ given_back s0 s1 s2 s3 before before' after after' n m a own status accepted ope
     let disk0 : s1.disk_faults ≡ s0.disk_faults = ap (λ (s : HostState). s.disk_faults) opened in
     let input3 : s3.input ≡ s2.input = ap (λ (s : HostState). s.input) kept in
     let output3 : s3.output ≡ s2.output = ap (λ (s : HostState). s.output) kept in
+    let handed3 : s3.handed ≡ s2.handed = ap (λ (s : HostState). s.handed) kept in
     let faults3 : s3.faults ≡ s2.faults = ap (λ (s : HostState). s.faults) kept in
     let disk3 : s3.disk_faults ≡ m = ap (λ (s : HostState). s.disk_faults) kept in
     let rose : Rose a own → Rose s0.disk_faults s3.disk_faults = λ (r : Rose a own). let up = counts.raised (omega (arith, r)) in omega (arith, up, disks, disk0, disk3) in
@@ -300,6 +310,7 @@ given_back s0 s1 s2 s3 before before' after after' n m a own status accepted ope
       long = λ is. rw (input3, output3, ← input0, ← output0, is_after, ← is_before) (p.long is);
       stopped = λ is. rw (input3, output3, ← input0, ← output0, is_after, ← is_before) (stopped_as (interrupted_as rose) (λ r. rw (faults3, ← faults0) r) (p.stopped is));
       held = λ is. let h = p.held is in (rw (is_after, ← is_before) h.0, input3 ∙ h.1 ∙ input0, output3 ∙ h.2 ∙ output0, h.3);
+      handed = λ is. handed3 ∙ p.handed is ∙ sym output3;
       well = λ is. let none = p.well is in (faults3 ∙ none.0 ∙ faults0, disk3 ∙ counts.clean (none.1 ∙ clean) ∙ disks ∙ disk0);
       memory = λ is. disk3 ∙ counts.clean (p.memory is ∙ clean) ∙ disks ∙ disk0;
       fault = λ is. elim (p.fault is) [ inl r ↦ inl (rw (faults3, ← faults0) r) | inr r ↦ inr (rose r) ];

@@ -47,6 +47,8 @@ pub record Piped (old new : HostState) (before after : Option Told) (disk_before
   pub stopped : (status ≡ 3) ⊎ (status ≡ 5) → Stopped 512 old.input new.input old.output new.output old.faults new.faults accepted (Interrupted before after disk_before disk_now)
   -- the folder holds a file: nothing was read or written
   pub held : status ≡ 4 → Tells before after Holds × (new.input ≡ old.input) × (new.output ≡ old.output) × (accepted ≡ 0)
+  -- where nothing stopped it, standard output handed on all that was written
+  pub handed : IsWellStatus status → new.handed ≡ new.output
   -- where nothing stopped it, no fault was counted
   pub well : IsWellStatus status → (new.faults ≡ old.faults) × (disk_now ≡ disk_before)
   -- want of memory: the disk counted no fault, so no line is in doubt

@@ -41,6 +41,7 @@ fn run_session<H: Host>(
         → Piped (H.state host.old) (H.state host.new) start.told (H.Disk.told result.1) start.faults (H.Disk.faults result.1) result.0.status result.0.accepted }
     ensures status { IsPipeStatus result.0.status }
     ensures named { KeepsNamed (H.folder host.old) (H.folder host.new) (H.room host.old) (H.room host.new) }
+    ensures rolls { KeepsNamed (H.rolled host.old) (H.rolled host.new) (H.roll_room host.old) (H.roll_room host.new) }
     ensures disks { (H.state host.new).disk_faults ≡ (H.state host.old).disk_faults }
     ensures later { (H.state host.old).faults ≤ (H.state host.new).faults }
     ensures disk_later { H.Disk.faults log.disk ≤ H.Disk.faults result.1 }
@@ -62,6 +63,7 @@ fn pipe_on<H: Host>(alloc: Global, host: &mut H, disk: H::Disk) -> (Outcome, H::
     ensures piped { Piped (H.state host.old) (H.state host.new) (H.Disk.told disk) (H.Disk.told result.1) (H.Disk.faults disk) (H.Disk.faults result.1) result.0.status result.0.accepted }
     ensures status { IsPipeStatus result.0.status }
     ensures named { KeepsNamed (H.folder host.old) (H.folder host.new) (H.room host.old) (H.room host.new) }
+    ensures rolls { KeepsNamed (H.rolled host.old) (H.rolled host.new) (H.roll_room host.old) (H.roll_room host.new) }
     ensures disks { (H.state host.new).disk_faults ≡ (H.state host.old).disk_faults }
     ensures later { (H.state host.old).faults ≤ (H.state host.new).faults }
     ensures disk_later { H.Disk.faults disk ≤ H.Disk.faults result.1 }
@@ -86,6 +88,7 @@ pub fn pipe<H: Host>(alloc: Global, dir: &str, host: &mut H) -> Outcome
     ensures piped { Piped (H.state host.old) (H.state host.new) (H.folder host.old dir.now) (H.folder host.new dir.now) (H.state host.old).disk_faults (H.state host.new).disk_faults result.status result.accepted }
     ensures status { IsPipeStatus result.status }
     ensures others { (path : List ℕ) → path ≢ dir.now → H.folder host.new path ≡ H.folder host.old path }
+    ensures rolls { H.rolled host.new ≡ H.rolled host.old }
 {
     match host.open_disk(dir) {
         Ok(disk) => {

@@ -34,6 +34,7 @@ impl Outcome {
 fn say_end<H: Host>(alloc: Global, dir: &str, host: &mut H, status: u8)
     ensures state { H.state host.new ≡ H.state host.old }
     ensures named { KeepsNamed (H.folder host.old) (H.folder host.new) (H.room host.old) (H.room host.new) }
+    ensures rolls { KeepsNamed (H.rolled host.old) (H.rolled host.new) (H.roll_room host.old) (H.roll_room host.new) }
 {
     match status {
         0 => {}
@@ -62,6 +63,7 @@ pub fn run_agent<H: Host>(alloc: Global, words: &[String], host: &mut H) -> Outc
         → Piped (H.state host.old) (H.state host.new) (H.folder host.old dir) (H.folder host.new dir) (H.state host.old).disk_faults (H.state host.new).disk_faults result.status result.accepted }
     ensures statuses { (result.status ≡ 1) ⊎ IsPipeStatus result.status }
     ensures others { (dir : List ℕ) → IsPipe (texts words.now) dir → (path : List ℕ) → path ≢ dir → H.folder host.new path ≡ H.folder host.old path }
+    ensures rolls { H.rolled host.new ≡ H.rolled host.old }
 {
     match pipe_dir(words) {
         Some(dir) => {

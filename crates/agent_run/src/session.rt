@@ -272,7 +272,8 @@ pub fn serve<S: Source, K: Sink, L: LineStore>(
     ensures store_later { L.faults store.old ≤ L.faults store.new }
     ensures sink_later { K.faults sink.old ≤ K.faults sink.new }
 
-    // Nothing stopped it: neither the source nor the sink counted a fault.
+    // Nothing stopped it: all that was written was handed on, and neither the source nor the sink counted a fault.
+    ensures handed { IsWell result.end → K.handed sink.new ≡ K.took sink.new }
     ensures well { IsWell result.end → (S.faults source.new ≡ S.faults source.old) × (K.faults sink.new ≡ K.faults sink.old) }
     // Want of memory alone: nor did the store.
     ensures memory { result.end ≡ SessionEnd.NoMemory → L.faults store.new ≡ L.faults store.old }

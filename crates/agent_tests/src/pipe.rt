@@ -1,7 +1,7 @@
 // `pipe DIR`, example by example.
 use agent_run::run_agent;
 use flume_host::FileName;
-use host_memory::{DiskFault, MemDisk, MemFolder, MemHost, MemSink, MemSource, Part};
+use host_memory::{DiskFault, MemDisk, MemHost, MemSink, MemSource, Named, Part};
 use std::alloc::{AllocError, Global};
 use std::test::Fail;
 
@@ -30,9 +30,9 @@ fn given_lines(alloc: Global, input: &[u8]) -> Result<Outside, AllocError> {
 }
 
 fn host(alloc: Global, outside: Outside) -> Result<MemHost, AllocError> {
-    let folder = MemFolder {
+    let folder = Named {
         path: String::from_str(alloc, "d")?,
-        disk: Some(outside.disk),
+        object: Some(outside.disk),
     };
     let folders = vec![in alloc; folder]?;
     Ok(MemHost::new(alloc, outside.source, outside.sink, folders))

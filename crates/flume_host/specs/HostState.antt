@@ -1,6 +1,8 @@
 -- What a host tells of itself.
-use Rattle.std.specs.Prelude.{◌≡◌, ℕ, List, Option}
-use Rattle.flume_host.specs.Told.{Told}
+use Rattle.std.specs.Prelude.{◌≡◌, ◌<◌, ◌≤◌, ℕ, List, length, Option, Some}
+use Rattle.flume_host.specs.Causes.{Rose}
+use Rattle.flume_host.specs.declared.names.FileRefused.{FileRefused}
+use Rattle.flume_host.specs.declared.names.FileRefused.TheVariants.{Failed, TooLarge, NoMemory}
 
 -- A stream is None where the host does not tell of it, and while it is handed out.
 pub record HostState : Type 0 where
@@ -8,12 +10,32 @@ pub record HostState : Type 0 where
   pub input : Option (List ℕ)
   -- what standard output took
   pub output : Option (List ℕ)
+  -- what standard output has surely handed on
+  pub handed : Option (List ℕ)
+  -- the bytes of each file that the host tells of, by its path; it never changes them
+  pub files : List ℕ → Option (List ℕ)
   -- the host's own faults, and those of the input and the output that were given back
   pub faults : ℕ
   -- the faults of the disks that were given back
   pub disk_faults : ℕ
 
 -- What is known by its path is as before, and what was opened can still be given back.
-pub record KeepsNamed (old new : List ℕ → Option Told) (was is : List ℕ → Type 0) : Type 0 where
+pub record KeepsNamed {T : Type 0} (old new : List ℕ → Option T) (was is : List ℕ → Type 0) : Type 0 where
   pub same : new ≡ old
   pub rooms : (path : List ℕ) → was path → is path
+
+-- the most bytes of a file that is read whole
+abbrev pub file_limit : ℕ
+file_limit = 1048576
+
+-- these are all its bytes, as far as the file is told of, and the host's count of faults did not rise
+pub record WasRead (file : Option (List ℕ)) (before now : ℕ) (bytes : List ℕ) : Type 0 where
+  pub whole : (told : List ℕ) → file ≡ Some told → bytes ≡ told
+  pub few : length bytes ≤ file_limit
+  pub well : now ≡ before
+
+-- why a file was not read, and what became of the host's count of faults
+abbrev pub NotRead : Option (List ℕ) → ℕ → ℕ → FileRefused → Type 0
+NotRead file before now Failed = Rose before now
+NotRead file before now (TooLarge size) = (file_limit < size) × ((told : List ℕ) → file ≡ Some told → size ≡ length told) × (now ≡ before)
+NotRead file before now NoMemory = now ≡ before

@@ -101,8 +101,8 @@ pub record Leads {T : Type 0} (call : Call) (result : Result T Failed) (old new 
 abbrev pub WhereTold : Option Told → (Told → Type 0) → Type 0
 WhereTold told P = (t : Told) → told ≡ Some t → P t
 
--- A disk that told goes on telling, and P leads from the one to the other. One that did not tell does not begin to.
-abbrev pub Tells : Option Told → Option Told → (Told → Told → Type 0) → Type 0
+-- What told goes on telling, and P leads from the one to the other. What did not tell does not begin to.
+abbrev pub Tells : {T : Type 0} → Option T → Option T → (T → T → Type 0) → Type 0
 Tells None None P = Unit {0}
 Tells None (Some u) P = ⊥
 Tells (Some t) None P = ⊥

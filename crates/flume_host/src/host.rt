@@ -2,9 +2,10 @@
 ghost use Rattle.std.specs.Prelude.{◌≡◌, ◌≢◌, ◌≤◌, List, ℕ, Option, None, MatchResult, IfOk, OnErr, OnOk};
 ghost use Rattle.flume_host.specs.Causes.{Counts, Rose};
 ghost use Rattle.flume_host.specs.Told.{Told};
-ghost use Rattle.flume_host.specs.HostState.{HostState, KeepsNamed};
+ghost use Rattle.flume_host.specs.HostState.{HostState, KeepsNamed, WasRead, NotRead};
+ghost use Rattle.flume_host.specs.Rolled.{Rolled, opened};
 
-use crate::{Disk, NameRefused, Sink, Source};
+use crate::{Clock, Disk, FileRefused, NameRefused, Random, RollDir, Sink, Source};
 
 /// The outside of one run. An object that is handed out starts with a count of 0 faults, and giving it back raises a
 /// count of the host exactly where the object's own count isn't 0. Giving back takes no memory.
@@ -15,6 +16,12 @@ pub trait Host {
 
     type Disk: Disk + Send + Drop;
 
+    type Roll: RollDir + Send + Drop;
+
+    type Clock: Clock + Send + Drop;
+
+    type Random: Random + Send + Drop;
+
     /// What it tells of itself.
     ghost state: { Self → HostState };
 
@@ -24,36 +31,47 @@ pub trait Host {
     /// A disk of this path can be given back: it was opened once.
     ghost room: { Self → List ℕ → Type 0 };
 
+    /// What a folder of rolled files tells, by its path, where it tells and isn't handed out.
+    ghost rolled: { Self → List ℕ → Option Rolled };
+
+    /// A folder of rolled files of this path can be given back: it was opened once.
+    ghost roll_room: { Self → List ℕ → Type 0 };
+
     /// Hands standard input out.
     fn take_input(&mut self) -> Self::Source
         ensures left { Self.Source.left result ≡ (state self.old).input }
         ensures count { Self.Source.faults result ≡ 0 }
         ensures state { state self.new ≡ record (state self.old) { input = None } }
-        ensures named { KeepsNamed (folder self.old) (folder self.new) (room self.old) (room self.new) };
+        ensures named { KeepsNamed (folder self.old) (folder self.new) (room self.old) (room self.new) }
+        ensures rolls { KeepsNamed (rolled self.old) (rolled self.new) (roll_room self.old) (roll_room self.new) };
 
     /// Takes standard input back.
     fn keep_input(&mut self, input: Self::Source)
         ensures state { (n : ℕ) × (state self.new ≡ record (state self.old) { input = Self.Source.left input; faults = n })
             × Counts (state self.old).faults n (Self.Source.faults input) }
-        ensures named { KeepsNamed (folder self.old) (folder self.new) (room self.old) (room self.new) };
+        ensures named { KeepsNamed (folder self.old) (folder self.new) (room self.old) (room self.new) }
+        ensures rolls { KeepsNamed (rolled self.old) (rolled self.new) (roll_room self.old) (roll_room self.new) };
 
     /// Hands standard output out.
     fn take_output(&mut self) -> Self::Sink
         ensures took { Self.Sink.took result ≡ (state self.old).output }
         ensures count { Self.Sink.faults result ≡ 0 }
-        ensures state { state self.new ≡ record (state self.old) { output = None } }
-        ensures named { KeepsNamed (folder self.old) (folder self.new) (room self.old) (room self.new) };
+        ensures state { state self.new ≡ record (state self.old) { output = None; handed = None } }
+        ensures named { KeepsNamed (folder self.old) (folder self.new) (room self.old) (room self.new) }
+        ensures rolls { KeepsNamed (rolled self.old) (rolled self.new) (roll_room self.old) (roll_room self.new) };
 
     /// Takes standard output back.
     fn keep_output(&mut self, output: Self::Sink)
-        ensures state { (n : ℕ) × (state self.new ≡ record (state self.old) { output = Self.Sink.took output; faults = n })
+        ensures state { (n : ℕ) × (state self.new ≡ record (state self.old) { output = Self.Sink.took output; handed = Self.Sink.handed output; faults = n })
             × Counts (state self.old).faults n (Self.Sink.faults output) }
-        ensures named { KeepsNamed (folder self.old) (folder self.new) (room self.old) (room self.new) };
+        ensures named { KeepsNamed (folder self.old) (folder self.new) (room self.old) (room self.new) }
+        ensures rolls { KeepsNamed (rolled self.old) (rolled self.new) (roll_room self.old) (roll_room self.new) };
 
     /// Writes a line to standard error. Its failures are ignored and not counted.
     fn say(&mut self, line: &str)
         ensures state { state self.new ≡ state self.old }
-        ensures named { KeepsNamed (folder self.old) (folder self.new) (room self.old) (room self.new) };
+        ensures named { KeepsNamed (folder self.old) (folder self.new) (room self.old) (room self.new) }
+        ensures rolls { KeepsNamed (rolled self.old) (rolled self.new) (roll_room self.old) (roll_room self.new) };
 
     /// Opens the disk of a folder, which it makes if it isn't there.
     fn open_disk(&mut self, path: &str) -> Result<Self::Disk, NameRefused>
@@ -64,7 +82,8 @@ pub trait Host {
         ensures others { (p : List ℕ) → p ≢ path.now → folder self.new p ≡ folder self.old p }
         ensures room { OnOk result (room self.new path.now) }
         ensures rooms { (p : List ℕ) → room self.old p → room self.new p }
-        ensures refused { OnErr result (folder self.new ≡ folder self.old) };
+        ensures refused { OnErr result (folder self.new ≡ folder self.old) }
+        ensures rolls { KeepsNamed (rolled self.old) (rolled self.new) (roll_room self.old) (roll_room self.new) };
 
     /// Takes the disk of a folder back.
     fn keep_disk(&mut self, path: &str, disk: Self::Disk)
@@ -73,7 +92,49 @@ pub trait Host {
         ensures others { (p : List ℕ) → p ≢ path.now → folder self.new p ≡ folder self.old p }
         ensures rooms { (p : List ℕ) → room self.old p → room self.new p }
         ensures state { (n : ℕ) × (state self.new ≡ record (state self.old) { disk_faults = n })
-            × Counts (state self.old).disk_faults n (Self.Disk.faults disk) };
+            × Counts (state self.old).disk_faults n (Self.Disk.faults disk) }
+        ensures rolls { KeepsNamed (rolled self.old) (rolled self.new) (roll_room self.old) (roll_room self.new) };
+
+    /// The bytes of a file, of which there are at most 1,048,576.
+    fn read_file(&mut self, path: &str) -> Result<Vec<u8>, FileRefused>
+        ensures state { (n : ℕ) × (state self.new ≡ record (state self.old) { faults = n })
+            × MatchResult result (λ bytes. WasRead ((state self.old).files path.now) (state self.old).faults n bytes.items)
+            (NotRead ((state self.old).files path.now) (state self.old).faults n) }
+        ensures named { KeepsNamed (folder self.old) (folder self.new) (room self.old) (room self.new) }
+        ensures rolls { KeepsNamed (rolled self.old) (rolled self.new) (roll_room self.old) (roll_room self.new) };
+
+    /// Opens a folder of rolled files, which it makes if it isn't there.
+    fn open_roll(&mut self, path: &str) -> Result<Self::Roll, NameRefused>
+        ensures told { IfOk result (λ roll. (Self.Roll.rolled roll ≡ opened (rolled self.old path.now)) × (Self.Roll.faults roll ≡ 0)) }
+        ensures state { (n : ℕ) × (state self.new ≡ record (state self.old) { faults = n })
+            × MatchResult result (λ _. n ≡ (state self.old).faults) (λ e. e ≡ NameRefused.Failed → Rose (state self.old).faults n) }
+        ensures later { (state self.old).faults ≤ (state self.new).faults }
+        ensures others { (p : List ℕ) → p ≢ path.now → rolled self.new p ≡ rolled self.old p }
+        ensures room { OnOk result (roll_room self.new path.now) }
+        ensures rooms { (p : List ℕ) → roll_room self.old p → roll_room self.new p }
+        ensures refused { OnErr result (rolled self.new ≡ rolled self.old) }
+        ensures named { KeepsNamed (folder self.old) (folder self.new) (room self.old) (room self.new) };
+
+    /// Takes a folder of rolled files back. Its faults are in no count of the host.
+    fn keep_roll(&mut self, path: &str, roll: Self::Roll)
+        requires { roll_room self.old path.now }
+        ensures told { rolled self.new path.now ≡ Self.Roll.rolled roll }
+        ensures others { (p : List ℕ) → p ≢ path.now → rolled self.new p ≡ rolled self.old p }
+        ensures rooms { (p : List ℕ) → roll_room self.old p → roll_room self.new p }
+        ensures state { state self.new ≡ state self.old }
+        ensures named { KeepsNamed (folder self.old) (folder self.new) (room self.old) (room self.new) };
+
+    /// The clock.
+    fn clock(&mut self) -> Self::Clock
+        ensures state { state self.new ≡ state self.old }
+        ensures named { KeepsNamed (folder self.old) (folder self.new) (room self.old) (room self.new) }
+        ensures rolls { KeepsNamed (rolled self.old) (rolled self.new) (roll_room self.old) (roll_room self.new) };
+
+    /// Chance.
+    fn random(&mut self) -> Self::Random
+        ensures state { state self.new ≡ state self.old }
+        ensures named { KeepsNamed (folder self.old) (folder self.new) (room self.old) (room self.new) }
+        ensures rolls { KeepsNamed (rolled self.old) (rolled self.new) (roll_room self.old) (roll_room self.new) };
 
     /// How often the host failed, and the input and the output that were given back.
     fn faults(&self) -> u64

@@ -21,3 +21,17 @@ pub enum NameRefused {
     /// Want of memory.
     NoMemory,
 }
+
+/// Why a file could not be read whole.
+#[derive(Clone, Copy, Debug, PartialEq, Eq)]
+pub enum FileRefused {
+    /// A fault of the outside, which the host has counted.
+    Failed,
+    /// The file has more than 1,048,576 bytes.
+    TooLarge {
+        /// How many it has.
+        size: u64,
+    },
+    /// Want of memory.
+    NoMemory,
+}

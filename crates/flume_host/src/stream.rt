@@ -1,5 +1,5 @@
 // A source and a sink of bytes.
-ghost use Rattle.std.specs.Prelude.{◌≡◌, ◌<◌, List, ℕ, Option, length, IfOk};
+ghost use Rattle.std.specs.Prelude.{◌≡◌, ◌<◌, List, ℕ, Option, length, IfOk, OnOk};
 ghost use Rattle.std.specs.Io.{ReadsAtMost, WritesAtMost};
 ghost use Rattle.std.specs.Io.KnownBytes.{Keeps, ReadConsumes, WriteAppends};
 ghost use Rattle.flume_host.specs.Causes.{HasCause};
@@ -30,6 +30,9 @@ pub trait Sink {
     /// The bytes that it took, where it tells.
     ghost took: { Self → Option (List ℕ) };
 
+    /// The bytes of these that it has surely handed on, where it tells.
+    ghost handed: { Self → Option (List ℕ) };
+
     /// How often it has failed. The count stops at 2^64 - 1.
     ghost faults: { Self → ℕ };
 
@@ -43,6 +46,7 @@ pub trait Sink {
     /// Hands on what was written.
     fn flush(&mut self) -> Result<(), Failed>
         ensures bytes { Keeps (took self.old) (took self.new) }
+        ensures handed { OnOk result (handed self.new ≡ took self.new) }
         ensures cause { HasCause (faults self.old) (faults self.new) result };
 
     /// How often it has failed.

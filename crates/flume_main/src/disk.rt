@@ -70,7 +70,7 @@ fn file_path(rt: &HostRuntime, folder: &str, name: FileName) -> io::Result<Strin
 }
 
 // Makes the names of a folder stable.
-fn sync_folder(rt: &HostRuntime, folder: &str) -> io::Result<()> {
+pub fn sync_folder(rt: &HostRuntime, folder: &str) -> io::Result<()> {
     File::open(rt, folder)?.sync_all()
 }
 
@@ -100,7 +100,7 @@ fn make_one_folder(rt: &HostRuntime, path: &str) -> io::Result<()> {
 }
 
 // Makes a folder and those above it where they aren't there, and their names stable.
-fn make_folder(rt: &HostRuntime, path: &str) -> io::Result<()> {
+pub fn make_folder(rt: &HostRuntime, path: &str) -> io::Result<()> {
     for end in 1..path.len() {
         if let Some((above, rest)) = path.split_at_checked(end)
             && rest.starts_with('/')

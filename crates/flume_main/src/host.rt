@@ -4,7 +4,10 @@ ghost use Rattle.std.specs.Io.{ReadsAtMost, WritesAtMost};
 ghost use Rattle.flume_host.specs.Causes.{Counts, HasCause};
 
 use crate::disk::RealDisk;
-use flume_host::{Failed, Host, NameRefused, Sink, Source};
+use crate::roll::RealRoll;
+use crate::times::{RealClock, RealRandom};
+use flume_host::{Failed, FileRefused, Host, NameRefused, Sink, Source};
+use std::fs::File;
 use std::io;
 use std::io::{ErrorKind, Read};
 
@@ -71,6 +74,8 @@ fn write_some(rt: &HostRuntime, bytes: &[u8]) -> io::Result<usize>
 impl Sink for RealSink {
     ghost took = { λ _. None };
 
+    ghost handed = { λ _. None };
+
     ghost faults = { λ s. s.faults };
 
     fn write(&mut self, bytes: &[u8]) -> Result<usize, Failed> {
@@ -111,6 +116,30 @@ impl RealHost {
     }
 }
 
+// The most bytes of a file that is read whole.
+const FILE_LIMIT: usize = 1_048_576;
+
+// Fills `into` from the front of a file, and tells how many bytes the file has.
+fn read_front(rt: &HostRuntime, path: &str, into: &mut [u8]) -> io::Result<u64> {
+    let mut file = File::open(rt, path)?;
+    let mut filled = 0;
+    for _ in 0..u64::MAX {
+        if filled >= into.len() {
+            break;
+        }
+        match file.read(&mut into[filled..]) {
+            Ok(0) => break,
+            Ok(n) => filled += n,
+            Err(e) if e.kind() == ErrorKind::Interrupted => {}
+            Err(e) => return Err(e),
+        }
+    }
+    if filled < into.len() {
+        return Ok(filled as u64);
+    }
+    Ok(file.metadata()?.len().max(filled as u64))
+}
+
 // The count after an object with this count was given back.
 fn counted(before: u64, own: u64) -> u64
     ensures { Counts before result own }
@@ -129,11 +158,21 @@ impl Host for RealHost {
 
     type Disk = RealDisk;
 
-    ghost state = { λ h. record { input = None; output = None; faults = h.faults; disk_faults = h.disk_faults } };
+    type Roll = RealRoll;
+
+    type Clock = RealClock;
+
+    type Random = RealRandom;
+
+    ghost state = { λ h. record { input = None; output = None; handed = None; files = λ _. None; faults = h.faults; disk_faults = h.disk_faults } };
 
     ghost folder = { λ _ _. None };
 
     ghost room = { λ _ _. Unit {0} };
+
+    ghost rolled = { λ _ _. None };
+
+    ghost roll_room = { λ _ _. Unit {0} };
 
     fn take_input(&mut self) -> RealSource {
         RealSource {
@@ -176,6 +215,47 @@ impl Host for RealHost {
 
     fn keep_disk(&mut self, _path: &str, disk: RealDisk) {
         self.disk_faults = counted(self.disk_faults, disk.faults);
+    }
+
+    fn read_file(&mut self, path: &str) -> Result<Vec<u8>, FileRefused> {
+        let Ok(mut bytes) = vec![in self.rt.alloc(); 0u8; FILE_LIMIT + 1] else {
+            return Err(FileRefused::NoMemory);
+        };
+        let size = match read_front(&self.rt, path, &mut bytes) {
+            Ok(size) => size,
+            Err(_) => {
+                self.faults = self.faults.saturating_add(1);
+                return Err(FileRefused::Failed);
+            }
+        };
+        if size > FILE_LIMIT as u64 {
+            return Err(FileRefused::TooLarge { size });
+        }
+        bytes.truncate(size as usize);
+        Ok(bytes)
+    }
+
+    fn open_roll(&mut self, path: &str) -> Result<RealRoll, NameRefused> {
+        let Ok(own) = String::from_str(self.rt.alloc(), path) else {
+            return Err(NameRefused::NoMemory);
+        };
+        match RealRoll::open(self.rt, own) {
+            Ok(roll) => Ok(roll),
+            Err(_) => {
+                self.faults = self.faults.saturating_add(1);
+                Err(NameRefused::Failed)
+            }
+        }
+    }
+
+    fn keep_roll(&mut self, _path: &str, _roll: RealRoll) {}
+
+    fn clock(&mut self) -> RealClock {
+        RealClock { rt: self.rt }
+    }
+
+    fn random(&mut self) -> RealRandom {
+        RealRandom { rt: self.rt }
     }
 
     fn faults(&self) -> u64 {

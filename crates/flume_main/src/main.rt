@@ -3,6 +3,8 @@
 
 mod disk;
 mod host;
+mod roll;
+mod times;
 
 use agent_run::run_agent;
 use host::RealHost;

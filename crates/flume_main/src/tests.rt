@@ -1,7 +1,9 @@
 // What the real host does with real files and streams.
 use crate::disk::RealDisk;
 use crate::host::RealHost;
-use flume_host::{Disk, Failed, FileName, Host, NameRefused, Sink, Source};
+use flume_host::{
+    Clock, Disk, Failed, FileName, FileRefused, Host, NameRefused, Random, RollDir, Sink, Source,
+};
 use std::fs;
 use std::test::Fail;
 
@@ -112,5 +114,58 @@ fn names_of_other_files_are_ignored(rt: HostRuntime) -> Result<(), Fail> {
         after = Some(want);
     }
     assert_eq!(rt; disk.next_name(after), Ok(None));
+    Ok(())
+}
+
+#[test]
+fn a_file_is_read_whole(rt: HostRuntime) -> Result<(), Fail> {
+    let mut host = RealHost::new(rt);
+    for (size, wanted) in [
+        (0, Ok(0)),
+        (1_048_576, Ok(1_048_576)),
+        (1_048_577, Err(FileRefused::TooLarge { size: 1_048_577 })),
+    ] {
+        fs::write(&rt, "a-text", &vec![in rt.alloc(); b'x'; size]?)?;
+        assert!(rt; host.read_file("a-text").map(|bytes| bytes.len()) == wanted);
+    }
+    assert!(rt; host.faults() == 0);
+    assert!(rt;
+        host.read_file("no-such-file").map(|bytes| bytes.len()) == Err(FileRefused::Failed)
+    );
+    assert!(rt; host.faults() == 1);
+    Ok(())
+}
+
+#[test]
+fn rolled_files_are_files_of_a_folder(rt: HostRuntime) -> Result<(), Fail> {
+    let _ = fs::remove_dir_all(&rt, "roll-test");
+    let mut host = RealHost::new(rt);
+    let Ok(mut roll) = host.open_roll("roll-test/inner") else {
+        return Err(Fail::from("not opened"));
+    };
+    assert!(rt; (roll.flush(), roll.write(b"x")) == (Ok(()), Err(Failed)));
+    assert!(rt; (roll.begin("1-1"), roll.write(b"one\n")) == (Ok(()), Ok(4)));
+    assert!(rt; (roll.begin("1-2"), roll.write(b"two\n"), roll.flush()) == (Ok(()), Ok(4), Ok(())));
+    assert!(rt; (roll.begin("1-1"), roll.write(b"x")) == (Err(Failed), Err(Failed)));
+    assert!(rt; roll.faults() == 3);
+    host.keep_roll("roll-test/inner", roll);
+    assert!(rt; fs::read(&rt, "roll-test/inner/1-1")?.as_slice() == b"one\n".as_slice());
+    assert!(rt; fs::read(&rt, "roll-test/inner/1-2")?.as_slice() == b"two\n".as_slice());
+    assert!(rt; (host.faults(), host.disk_faults()) == (0, 0));
+    Ok(())
+}
+
+#[test]
+fn time_goes_on(rt: HostRuntime) -> Result<(), Fail> {
+    let mut host = RealHost::new(rt);
+    let mut clock = host.clock();
+    let before = clock.now();
+    clock.pause(20);
+    let after = clock.now();
+    // 2020 in milliseconds
+    assert!(rt; before > 1_577_836_800_000);
+    assert!(rt; after >= before + 20);
+    let mut random = host.random();
+    assert!(rt; random.draw() != random.draw());
     Ok(())
 }

@@ -4,3 +4,4 @@ mod Least
 mod Replay
 mod Paths
 mod Tearing
+pub mod Rolling

@@ -1,10 +1,9 @@
--- A list of folders that is searched by a path.
-use Rattle.std.proofs.Common.{◌≡◌, ◌<◌, ℕ, suc, List, [], ◌∷◌, ◌++◌, length, set, get_or, take, refl, Option, Some, None, IsSome, Bool, true, false, cond, bytes_eq, string_bytes}
+-- Objects that are searched by a path.
+use Rattle.std.proofs.Common.{◌≡◌, ◌<◌, ◌∙◌, ap, sym, ℕ, suc, List, [], ◌∷◌, ◌++◌, length, set, get_or, take, refl, Option, Some, None, IsSome, Bool, true, false, cond, bytes_eq, string_bytes}
 use Rattle.std.proofs.lemmas.Slice.Eq.{bytes_eq-Decides}
-use Rattle.flume_host.specs.Told.{Told}
-use Rattle.host_memory.specs.declared.folders.MemFolder.{MemFolder}
-use Rattle.host_memory.specs.Parts.{start}
-use Rattle.host_memory.specs.Folders.{folder_of, folder_place, told_home}
+use Rattle.host_memory.specs.declared.named.Named.{Named}
+use Rattle.host_memory.specs.Folders.{place_in, with_object, IsAt}
+use Rattle.host_memory.specs.Look.{look_up}
 use Rattle.host_memory.proofs.Look as look
 
 pub path_is : (a b : List ℕ) → bytes_eq a b ≡ true → a ≡ b
@@ -20,42 +19,107 @@ path_other a b differ = by_cases (bytes_eq a b) refl
     by_cases true is = absurd (differ (path_is a b is))
     by_cases false is = is
 
-abbrev path_of : MemFolder → List ℕ
-path_of folder = string_bytes folder.path
+module _ {T : Type 0} where
+  abbrev name_of : Named T → List ℕ
+  name_of named = string_bytes named.path
 
-abbrev home_of : MemFolder → Option Told
-home_of folder = told_home folder.disk
+  abbrev nothing_of : Named T → Unit {0}
+  nothing_of named = tt
 
-pub place_found : (folders : List MemFolder) (path : List ℕ) (i : ℕ) (d : MemFolder) → i < length folders → folder_place (take i folders) path ≡ None → bytes_eq path (string_bytes (get_or folders i d).path) ≡ true → folder_place folders path ≡ Some i
-place_found = look.place_found bytes_eq path_is path_self path_of home_of (Some (start []))
+  pub place_found : (objects : List (Named T)) (path : List ℕ) (i : ℕ) (d : Named T) → i < length objects → place_in (take i objects) path ≡ None → bytes_eq path (string_bytes (get_or objects i d).path) ≡ true → place_in objects path ≡ Some i
+  place_found = look.place_found bytes_eq path_is path_self name_of nothing_of tt
 
-pub place_more : (folders : List MemFolder) (path : List ℕ) (i : ℕ) (d : MemFolder) → i < length folders → folder_place (take i folders) path ≡ None → bytes_eq path (string_bytes (get_or folders i d).path) ≡ false → folder_place (take (suc i) folders) path ≡ None
-place_more = look.place_more bytes_eq path_is path_self path_of home_of (Some (start []))
+  pub place_more : (objects : List (Named T)) (path : List ℕ) (i : ℕ) (d : Named T) → i < length objects → place_in (take i objects) path ≡ None → bytes_eq path (string_bytes (get_or objects i d).path) ≡ false → place_in (take (suc i) objects) path ≡ None
+  place_more = look.place_more bytes_eq path_is path_self name_of nothing_of tt
 
-pub record Placed (folders : List MemFolder) (path : List ℕ) (i : ℕ) : Type 0 where
-  pub below : i < length folders
-  pub found : (d : MemFolder) → folder_of folders path ≡ told_home (get_or folders i d).disk
-  pub named : (d : MemFolder) → string_bytes (get_or folders i d).path ≡ path
+  pub place-push : (objects : List (Named T)) (named : Named T) (p : List ℕ) → IsSome (place_in objects p) → IsSome (place_in (objects ++ named ∷ []) p)
+  place-push = look.place-push bytes_eq path_is path_self name_of nothing_of tt
 
-pub placed : (folders : List MemFolder) (path : List ℕ) (i : ℕ) → folder_place folders path ≡ Some i → Placed folders path i
-placed folders path i is = let p = look.placed bytes_eq path_is path_self path_of home_of (Some (start [])) folders path i is in record { below = p.below; found = p.found; named = p.named }
+  pub place-pushed : (objects : List (Named T)) (named : Named T) → IsSome (place_in (objects ++ named ∷ []) (string_bytes named.path))
+  place-pushed = look.place-pushed bytes_eq path_is path_self name_of nothing_of tt
 
--- the first folder of a path gets or loses its disk
-pub folder_of-set : (folders : List MemFolder) (path : List ℕ) (i : ℕ) (folder : MemFolder) → folder_place folders path ≡ Some i → string_bytes folder.path ≡ path → (p : List ℕ) → folder_of (set folders i folder) p ≡ cond (bytes_eq p path) (told_home folder.disk) (folder_of folders p)
-folder_of-set = look.look-set bytes_eq path_is path_self path_of home_of (Some (start []))
+module _ {T V : Type 0} (home : Option T → V) (other : V) where
+  abbrev path_of : Named T → List ℕ
+  path_of named = string_bytes named.path
 
-pub folder_place-set : (folders : List MemFolder) (path : List ℕ) (i : ℕ) (folder : MemFolder) → folder_place folders path ≡ Some i → string_bytes folder.path ≡ path → (p : List ℕ) → folder_place (set folders i folder) p ≡ folder_place folders p
-folder_place-set = look.place-set bytes_eq path_is path_self path_of home_of (Some (start []))
+  abbrev home_of : Named T → V
+  home_of named = home named.object
 
--- a folder of a new path
-pub folder_of-push : (folders : List MemFolder) (folder : MemFolder) → folder_place folders (string_bytes folder.path) ≡ None → (p : List ℕ) → folder_of (folders ++ folder ∷ []) p ≡ cond (bytes_eq p (string_bytes folder.path)) (told_home folder.disk) (folder_of folders p)
-folder_of-push = look.look-push bytes_eq path_is path_self path_of home_of (Some (start []))
+  -- what the first object of a path tells
+  abbrev pub told_at : List (Named T) → List ℕ → V
+  told_at = look_up bytes_eq path_of home_of other
 
-pub place-push : (folders : List MemFolder) (folder : MemFolder) (p : List ℕ) → IsSome (folder_place folders p) → IsSome (folder_place (folders ++ folder ∷ []) p)
-place-push = look.place-push bytes_eq path_is path_self path_of home_of (Some (start []))
+  pub record Placed (objects : List (Named T)) (path : List ℕ) (i : ℕ) : Type 0 where
+    pub below : i < length objects
+    pub found : (d : Named T) → told_at objects path ≡ home (get_or objects i d).object
+    pub named : (d : Named T) → string_bytes (get_or objects i d).path ≡ path
 
-pub place-pushed : (folders : List MemFolder) (folder : MemFolder) → IsSome (folder_place (folders ++ folder ∷ []) (string_bytes folder.path))
-place-pushed = look.place-pushed bytes_eq path_is path_self path_of home_of (Some (start []))
+  pub placed : (objects : List (Named T)) (path : List ℕ) (i : ℕ) → place_in objects path ≡ Some i → Placed objects path i
+  placed objects path i is = let p = look.placed bytes_eq path_is path_self path_of home_of other objects path i is in record { below = p.below; found = p.found; named = p.named }
 
-pub not_placed : (folders : List MemFolder) (path : List ℕ) → folder_place folders path ≡ None → folder_of folders path ≡ Some (start [])
-not_placed = look.not_placed bytes_eq path_is path_self path_of home_of (Some (start []))
+  pub not_placed : (objects : List (Named T)) (path : List ℕ) → place_in objects path ≡ None → told_at objects path ≡ other
+  not_placed = look.not_placed bytes_eq path_is path_self path_of home_of other
+
+  -- the first object of a path is replaced
+  pub told-set : (objects : List (Named T)) (path : List ℕ) (i : ℕ) (was : Named T) (object : Option T) → place_in objects path ≡ Some i → IsAt objects i was
+      → (p : List ℕ) → told_at (set objects i (with_object was object)) p ≡ cond (bytes_eq p path) (home object) (told_at objects p)
+  told-set objects path i was object is at = look.look-set bytes_eq path_is path_self path_of home_of other objects path i (with_object was object) is (ap (λ (n : Named T). string_bytes n.path) at ∙ (placed objects path i is).named was)
+
+  pub place-set : (objects : List (Named T)) (path : List ℕ) (i : ℕ) (was : Named T) (object : Option T) → place_in objects path ≡ Some i → IsAt objects i was
+      → (p : List ℕ) → place_in (set objects i (with_object was object)) p ≡ place_in objects p
+  place-set objects path i was object is at = look.place-set bytes_eq path_is path_self path_of home_of other objects path i (with_object was object) is (ap (λ (n : Named T). string_bytes n.path) at ∙ (placed objects path i is).named was)
+
+  -- an object of a new path
+  pub told-push : (objects : List (Named T)) (named : Named T) → place_in objects (string_bytes named.path) ≡ None
+      → (p : List ℕ) → told_at (objects ++ named ∷ []) p ≡ cond (bytes_eq p (string_bytes named.path)) (home named.object) (told_at objects p)
+  told-push = look.look-push bytes_eq path_is path_self path_of home_of other
+
+  not_at : (p path : List ℕ) (x y : V) → (p ≡ path → ⊥) → cond (bytes_eq p path) x y ≡ y
+  not_at p path x y differ = ap (λ (b : Bool). cond b x y) (path_other p path differ)
+
+  -- what handing out the object of a path does: what it told, and what the others tell
+  pub record Out (objects new : List (Named T)) (path : List ℕ) (value : V) : Type 0 where
+    pub told : told_at objects path ≡ value
+    pub others : (p : List ℕ) → (p ≡ path → ⊥) → told_at new p ≡ told_at objects p
+    pub room : IsSome (place_in new path)
+    pub rooms : (p : List ℕ) → IsSome (place_in objects p) → IsSome (place_in new p)
+
+  pub taken : (objects new : List (Named T)) (path : List ℕ) (i : ℕ) (was : Named T) → place_in objects path ≡ Some i → IsAt objects i was → new ≡ set objects i (with_object was None)
+      → Out objects new path (home was.object)
+  taken objects new path i was is at new_is = record {
+    told = (placed objects path i is).found was ∙ ap home_of (sym at);
+    others = λ p differ. ap (λ (l : List (Named T)). told_at l p) new_is ∙ told-set objects path i was None is at p ∙ not_at p path (home None) (told_at objects p) differ;
+    room = rw (new_is, place-set objects path i was None is at path, is) refl;
+    rooms = λ p has. rw (new_is, place-set objects path i was None is at p) has;
+  }
+
+  pub added : (objects new : List (Named T)) (path : List ℕ) (named : Named T) → place_in objects path ≡ None → string_bytes named.path ≡ path → new ≡ objects ++ named ∷ [] → Out objects new path other
+  added objects new path named none named_is new_is = record {
+    told = not_placed objects path none;
+    others = λ p differ. ap (λ (l : List (Named T)). told_at l p) new_is ∙ told-push objects named (rw named_is none) p ∙ rw named_is (not_at p path (home named.object) (told_at objects p) differ);
+    room = rw (new_is, ← named_is) (place-pushed objects named);
+    rooms = λ p has. rw new_is (place-push objects named p has);
+  }
+
+  -- what giving one back does
+  pub record Back (objects new : List (Named T)) (path : List ℕ) (value : V) : Type 0 where
+    pub told : told_at new path ≡ value
+    pub others : (p : List ℕ) → (p ≡ path → ⊥) → told_at new p ≡ told_at objects p
+    pub rooms : (p : List ℕ) → IsSome (place_in objects p) → IsSome (place_in new p)
+
+  pub given : (objects new : List (Named T)) (path : List ℕ) (i : ℕ) (was : Named T) (object : T) → place_in objects path ≡ Some i → IsAt objects i was → new ≡ set objects i (with_object was (Some object))
+      → Back objects new path (home (Some object))
+  given objects new path i was object is at new_is = record {
+    told = ap (λ (l : List (Named T)). told_at l path) new_is ∙ told-set objects path i was (Some object) is at path ∙ ap (λ (b : Bool). cond b (home (Some object)) (told_at objects path)) (path_self path);
+    others = λ p differ. ap (λ (l : List (Named T)). told_at l p) new_is ∙ told-set objects path i was (Some object) is at p ∙ not_at p path (home (Some object)) (told_at objects p) differ;
+    rooms = λ p has. rw (new_is, place-set objects path i was (Some object) is at p) has;
+  }
+
+  -- nothing was handed out, since it was out
+  pub unchanged : (objects new : List (Named T)) (path : List ℕ) (i : ℕ) (was : Named T) → place_in objects path ≡ Some i → IsAt objects i was → new ≡ set objects i (with_object was None) → None ≡ was.object
+      → told_at new ≡ told_at objects
+  unchanged objects new path i was is at new_is none = λ j p. (each p (bytes_eq p path) refl) j
+    where
+      each : (p : List ℕ) (b : Bool) → bytes_eq p path ≡ b → told_at new p ≡ told_at objects p
+      each p true same = ap (λ (l : List (Named T)). told_at l p) new_is ∙ told-set objects path i was None is at p ∙ ap (λ (b : Bool). cond b (home None) (told_at objects p)) same ∙ ap home none ∙ ap home_of at ∙ sym ((placed objects path i is).found was) ∙ ap (λ (q : List ℕ). told_at objects q) (sym (path_is p path same))
+      each p false same = ap (λ (l : List (Named T)). told_at l p) new_is ∙ told-set objects path i was None is at p ∙ ap (λ (b : Bool). cond b (home None) (told_at objects p)) same

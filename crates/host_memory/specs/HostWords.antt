@@ -3,12 +3,15 @@ use Rattle.std.specs.Prelude.{ℕ, List, Option, IsSome}
 use Rattle.std.specs.declared.string.String.{String}
 use Rattle.std.specs.declared.alloc.Global.{Global}
 use Rattle.flume_host.specs.Told.{Told}
+use Rattle.flume_host.specs.Rolled.{Rolled}
 use Rattle.flume_host.specs.HostState.{HostState}
+use Rattle.host_memory.specs.declared.mem_clock.MemClock.{MemClock}
+use Rattle.host_memory.specs.declared.mem_clock.MemRandom.{MemRandom}
 use Rattle.host_memory.specs.declared.mem_host.MemHost.{MemHost}
-use Rattle.host_memory.specs.Folders.{input_of, output_of, folder_of, folder_place}
+use Rattle.host_memory.specs.Folders.{input_of, output_of, handed_of, place_in, folder_of, roll_of, file_of}
 
 abbrev pub state_in : MemHost → HostState
-state_in h = record { input = input_of h.input; output = output_of h.output; faults = h.faults; disk_faults = h.disk_faults }
+state_in h = record { input = input_of h.input; output = output_of h.output; handed = handed_of h.output; files = file_of h.files.items; faults = h.faults; disk_faults = h.disk_faults }
 
 -- what the disk of a folder tells, by the folder's path
 abbrev pub folder_in : MemHost → List ℕ → Option Told
@@ -16,15 +19,30 @@ folder_in h = folder_of h.folders.items
 
 -- the host has a folder of this path
 abbrev pub HasFolder : MemHost → List ℕ → Type 0
-HasFolder h path = IsSome (folder_place h.folders.items path)
+HasFolder h path = IsSome (place_in h.folders.items path)
+
+-- what a folder of rolled files tells, by its path
+abbrev pub roll_in : MemHost → List ℕ → Option Rolled
+roll_in h = roll_of h.rolls.items
+
+-- the host has a folder of rolled files of this path
+abbrev pub HasRoll : MemHost → List ℕ → Type 0
+HasRoll h path = IsSome (place_in h.rolls.items path)
 
 -- the lines that were said
 abbrev pub said_in : MemHost → List (String Global)
 said_in h = h.said.items
 
--- the numbers of the openings that are to fail, and of the next one
+-- the numbers of the openings and readings that are to fail, and of the next one
 abbrev pub open_fails : MemHost → List ℕ
 open_fails h = h.opens.fails.items
 
 abbrev pub open_calls : MemHost → ℕ
 open_calls h = h.opens.calls
+
+-- what each clock and each chance that is handed out begins as
+abbrev pub clock_in : MemHost → MemClock
+clock_in h = h.clock
+
+abbrev pub random_in : MemHost → MemRandom
+random_in h = h.random

@@ -3,6 +3,7 @@ pub mod Stream
 pub mod Parts
 pub mod Laws
 pub mod Stops
+pub mod Rolls
 pub mod Words
 pub mod Folders
 pub mod HostWords

@@ -1,13 +1,16 @@
 -- What the objects in memory tell.
-use Rattle.std.specs.Prelude.{ℕ, List, Option}
+use Rattle.std.specs.Prelude.{ℕ, List, [], Option, take, true, false}
 use Rattle.flume_host.specs.Folder.{Files}
+use Rattle.flume_host.specs.Rolled.{Rolled}
 use Rattle.flume_host.specs.Told.{Told}
 use Rattle.host_memory.specs.declared.stream.MemSource.{MemSource}
 use Rattle.host_memory.specs.declared.stream.MemSink.{MemSink}
 use Rattle.host_memory.specs.declared.store.Store.{Store}
 use Rattle.host_memory.specs.declared.mem_disk.MemDisk.{MemDisk}
 use Rattle.host_memory.specs.declared.mem_disk.DiskFault.{DiskFault}
+use Rattle.host_memory.specs.declared.mem_roll.MemRoll.{MemRoll}
 use Rattle.host_memory.specs.Stream.{left_of, took_by}
+use Rattle.host_memory.specs.Rolls.{files_by, rolled_by}
 use Rattle.host_memory.specs.Parts.{told_of, told_by}
 
 -- what a source has left, where it tells
@@ -31,6 +34,10 @@ source_faults s = s.faults
 -- what a sink took, where it tells
 abbrev pub took_in : MemSink → Option (List ℕ)
 took_in s = took_by s.tells s.bytes.items
+
+-- what it has handed on
+abbrev pub handed_in : MemSink → Option (List ℕ)
+handed_in s = took_by s.tells (take s.handed s.bytes.items)
 
 -- the numbers of the calls that are to fail, and of the next one
 abbrev pub sink_fails : MemSink → List ℕ
@@ -75,3 +82,25 @@ disk_calls d = d.script.calls
 
 abbrev pub disk_faults : MemDisk → ℕ
 disk_faults d = d.faults
+
+-- what a folder of rolled files tells, where it tells
+abbrev pub rolled_in : MemRoll → Option Rolled
+rolled_in r = rolled_by r.tells (record { files = files_by r.files.items; flushed = r.flushed; begun = r.begun; failed = r.failed })
+
+-- without files
+abbrev pub no_files : Rolled
+no_files = record { files = []; flushed = true; begun = false; failed = false }
+
+-- the numbers of its calls that are to fail, and of the next one
+abbrev pub roll_fails : MemRoll → List ℕ
+roll_fails r = r.script.fails.items
+
+abbrev pub roll_calls : MemRoll → ℕ
+roll_calls r = r.script.calls
+
+-- the most that each write takes
+abbrev pub roll_pieces : MemRoll → List ℕ
+roll_pieces r = r.pieces.items
+
+abbrev pub roll_faults : MemRoll → ℕ
+roll_faults r = r.faults

@@ -2,18 +2,22 @@
 //! left of it at each moment.
 #![tactic(auto)]
 
-mod folders;
+mod mem_clock;
 mod mem_disk;
 mod mem_host;
+mod mem_roll;
+mod named;
 mod parts;
 mod script;
 mod stops;
 mod store;
 mod stream;
 
-pub use folders::MemFolder;
+pub use mem_clock::{MemClock, MemRandom};
 pub use mem_disk::{DiskFault, MemDisk};
 pub use mem_host::MemHost;
+pub use mem_roll::{MemRoll, RolledFile};
+pub use named::Named;
 pub use parts::{MemFile, Part};
 pub use stops::Stood;
 pub use stream::{MemSink, MemSource};

@@ -1,22 +1,29 @@
 // A host in memory, with folders by their paths.
-ghost use Rattle.std.specs.Prelude.{◌≡◌};
+ghost use Rattle.std.specs.Prelude.{◌≡◌, None, Some, MatchOption};
 ghost use Rattle.flume_host.specs.Causes.{Counts};
-ghost use Rattle.host_memory.specs.Folders.{folder_of, folder_place, input_of, output_of};
+ghost use Rattle.host_memory.specs.Folders.{file_of, folder_of, handed_of, input_of, output_of, place_in, roll_of};
 
-use crate::folders::{MemFolder, add_folder, give_disk, place_of_folder, take_disk};
+use crate::named::{add_room, give_back, place_of, take_out};
 use crate::script::Script;
-use crate::{MemDisk, MemSink, MemSource};
-use flume_host::{Host, NameRefused};
+use crate::{MemClock, MemDisk, MemRandom, MemRoll, MemSink, MemSource, Named};
+use flume_host::{FileRefused, Host, NameRefused};
 use std::alloc::Global;
 
-/// A host in memory. A folder of a path that it does not have is an empty disk, which opening makes.
+// The most bytes of a file that is read whole.
+const FILE_LIMIT: u64 = 1_048_576;
+
+/// A host in memory. A folder of a path that it does not have is empty, and opening makes it.
 #[derive(Drop)]
 pub struct MemHost {
     alloc: Global,
     // None while it is handed out
     input: Option<MemSource>,
     output: Option<MemSink>,
-    folders: Vec<MemFolder>,
+    folders: Vec<Named<MemDisk>>,
+    rolls: Vec<Named<MemRoll>>,
+    files: Vec<Named<Vec<u8>>>,
+    clock: MemClock,
+    random: MemRandom,
     said: Vec<String>,
     opens: Script,
     faults: u64,
@@ -24,20 +31,30 @@ pub struct MemHost {
 }
 
 impl MemHost {
-    ghost use Rattle.std.specs.Prelude.{IfSome, IsSome};
-    ghost use Rattle.host_memory.specs.Words.{left_in, took_in, told_in};
-    ghost use Rattle.host_memory.specs.HostWords.{state_in, folder_in, open_calls, open_fails, said_in, HasFolder};
+    ghost use Rattle.std.specs.Prelude.{[], IfSome, IsSome, Some};
+    ghost use Rattle.host_memory.specs.Words.{left_in, took_in, handed_in, told_in, rolled_in, no_files};
+    ghost use Rattle.host_memory.specs.HostWords.{state_in, folder_in, roll_in, open_calls, open_fails, said_in, clock_in, random_in, HasFolder, HasRoll};
 
-    /// A host with this input, this output and these folders. Where a path stands twice, its first folder counts.
-    pub fn new(alloc: Global, input: MemSource, output: MemSink, folders: Vec<MemFolder>) -> Self
-        ensures state { state_in result ≡ record { input = left_in input; output = took_in output; faults = 0; disk_faults = 0 } }
-        ensures folders { folder_in result ≡ folder_of folders.items }
+    /// A host with this input, this output and these folders with disks. Where a path stands twice, its first folder
+    /// counts. It has no files to be read and no rolled files, and its clocks stand at 0.
+    pub fn new(
+        alloc: Global,
+        input: MemSource,
+        output: MemSink,
+        folders: Vec<Named<MemDisk>>,
+    ) -> Self
+        ensures state { state_in result ≡ record { input = left_in input; output = took_in output; handed = handed_in output; files = file_of []; faults = 0; disk_faults = 0 } }
+        ensures folders { (folder_in result ≡ folder_of folders.items) × (roll_in result ≡ roll_of []) }
     {
         MemHost {
             alloc,
             input: Some(input),
             output: Some(output),
             folders,
+            rolls: Vec::new(alloc),
+            files: Vec::new(alloc),
+            clock: MemClock { moment: 0, step: 0 },
+            random: MemRandom { number: 0, step: 0 },
             said: Vec::new(alloc),
             opens: Script::new(alloc),
             faults: 0,
@@ -45,17 +62,49 @@ impl MemHost {
         }
     }
 
-    /// The openings of disks of these numbers fail. The first one has the number 0.
+    /// With these files to be read, by their paths. Where a path stands twice, its first file counts.
+    pub fn with_files(mut self, files: Vec<Named<Vec<u8>>>) -> Self
+        ensures state { state_in result ≡ record (state_in self) { files = file_of files.items } }
+        ensures folders { (folder_in result ≡ folder_in self) × (roll_in result ≡ roll_in self) }
+        ensures script { (open_fails result ≡ open_fails self) × (open_calls result ≡ open_calls self) }
+    {
+        self.files = files;
+        self
+    }
+
+    /// With these folders of rolled files. Where a path stands twice, its first folder counts.
+    pub fn with_rolls(mut self, rolls: Vec<Named<MemRoll>>) -> Self
+        ensures state { state_in result ≡ state_in self }
+        ensures folders { (folder_in result ≡ folder_in self) × (roll_in result ≡ roll_of rolls.items) }
+        ensures script { (open_fails result ≡ open_fails self) × (open_calls result ≡ open_calls self) }
+    {
+        self.rolls = rolls;
+        self
+    }
+
+    /// Each clock and each chance that is handed out begins as this one.
+    pub fn with_times(mut self, clock: MemClock, random: MemRandom) -> Self
+        ensures state { state_in result ≡ state_in self }
+        ensures folders { (folder_in result ≡ folder_in self) × (roll_in result ≡ roll_in self) }
+        ensures script { (open_fails result ≡ open_fails self) × (open_calls result ≡ open_calls self) }
+        ensures times { (clock_in result ≡ clock) × (random_in result ≡ random) }
+    {
+        self.clock = clock;
+        self.random = random;
+        self
+    }
+
+    /// The openings of disks and folders, and the readings of files, of these numbers fail. The first one has the number 0.
     pub fn failing_opens(mut self, calls: Vec<u64>) -> Self
         ensures state { state_in result ≡ state_in self }
-        ensures folders { folder_in result ≡ folder_in self }
+        ensures folders { (folder_in result ≡ folder_in self) × (roll_in result ≡ roll_in self) }
         ensures script { (open_fails result ≡ calls.items) × (open_calls result ≡ open_calls self) }
     {
         self.opens.fails = calls;
         self
     }
 
-    /// How many openings of disks there were.
+    /// How many openings and readings there were.
     pub fn opens(&self) -> u64
         ensures { result ≡ open_calls self.now }
     {
@@ -82,8 +131,30 @@ impl MemHost {
         ensures told { IfSome result (λ disk. told_in disk.now ≡ folder_in self.now path.now) }
         ensures there { HasFolder self.now path.now → IsSome (folder_in self.now path.now) → IsSome result }
     {
-        match place_of_folder(&self.folders, path) {
-            Some(index) => self.folders[index].disk.as_ref(),
+        match place_of(&self.folders, path) {
+            Some(index) => self.folders[index].object.as_ref(),
+            None => None,
+        }
+    }
+
+    /// The rolled files of a folder, where the folder is there and not handed out.
+    pub fn roll(&self, path: &str) -> Option<&MemRoll>
+        ensures told { IfSome result (λ roll. rolled_in roll.now ≡ roll_in self.now path.now) }
+        ensures there { HasRoll self.now path.now → IsSome (roll_in self.now path.now) → IsSome result }
+    {
+        match place_of(&self.rolls, path) {
+            Some(index) => self.rolls[index].object.as_ref(),
+            None => None,
+        }
+    }
+
+    // The bytes of the first file of a path.
+    fn bytes_of(&self, path: &str) -> Option<&[u8]>
+        ensures { MatchOption result (file_of self.now.files.items path.now ≡ None) (λ bytes. file_of self.now.files.items path.now ≡ Some bytes.now) }
+    {
+        let index = place_of(&self.files, path)?;
+        match &self.files[index].object {
+            Some(bytes) => Some(bytes),
             None => None,
         }
     }
@@ -109,11 +180,21 @@ impl Host for MemHost {
 
     type Disk = MemDisk;
 
-    ghost state = { λ h. record { input = input_of h.input; output = output_of h.output; faults = h.faults; disk_faults = h.disk_faults } };
+    type Roll = MemRoll;
+
+    type Clock = MemClock;
+
+    type Random = MemRandom;
+
+    ghost state = { λ h. record { input = input_of h.input; output = output_of h.output; handed = handed_of h.output; files = file_of h.files.items; faults = h.faults; disk_faults = h.disk_faults } };
 
     ghost folder = { λ h. folder_of h.folders.items };
 
-    ghost room = { λ h path. IsSome (folder_place h.folders.items path) };
+    ghost room = { λ h path. IsSome (place_in h.folders.items path) };
+
+    ghost rolled = { λ h. roll_of h.rolls.items };
+
+    ghost roll_room = { λ h path. IsSome (place_in h.rolls.items path) };
 
     fn take_input(&mut self) -> MemSource {
         match self.input.take() {
@@ -156,13 +237,13 @@ impl Host for MemHost {
             self.faults = self.faults.saturating_add(1);
             return Err(NameRefused::Failed);
         }
-        let Some(index) = place_of_folder(&self.folders, path) else {
-            return match add_folder(self.alloc, &mut self.folders, path) {
+        let Some(index) = place_of(&self.folders, path) else {
+            return match add_room(self.alloc, &mut self.folders, path) {
                 Ok(()) => Ok(MemDisk::new(self.alloc)),
                 Err(_) => Err(NameRefused::NoMemory),
             };
         };
-        match take_disk(&mut self.folders, index, path) {
+        match take_out(&mut self.folders, index) {
             Some(mut disk) => {
                 disk.faults = 0;
                 Ok(disk)
@@ -176,8 +257,65 @@ impl Host for MemHost {
 
     fn keep_disk(&mut self, path: &str, disk: MemDisk) {
         self.disk_faults = count_after(self.disk_faults, disk.faults);
-        let index = place_of_folder(&self.folders, path).unwrap();
-        give_disk(&mut self.folders, index, path, disk);
+        let index = place_of(&self.folders, path).unwrap();
+        give_back(&mut self.folders, index, disk);
+    }
+
+    fn read_file(&mut self, path: &str) -> Result<Vec<u8>, FileRefused> {
+        if self.opens.next_fails() {
+            self.faults = self.faults.saturating_add(1);
+            return Err(FileRefused::Failed);
+        }
+        let Some(bytes) = self.bytes_of(path) else {
+            self.faults = self.faults.saturating_add(1);
+            return Err(FileRefused::Failed);
+        };
+        let size = bytes.len() as u64;
+        if size > FILE_LIMIT {
+            return Err(FileRefused::TooLarge { size });
+        }
+        match bytes.to_vec(self.alloc) {
+            Ok(bytes) => Ok(bytes),
+            Err(_) => Err(FileRefused::NoMemory),
+        }
+    }
+
+    fn open_roll(&mut self, path: &str) -> Result<MemRoll, NameRefused> {
+        if self.opens.next_fails() {
+            self.faults = self.faults.saturating_add(1);
+            return Err(NameRefused::Failed);
+        }
+        let Some(index) = place_of(&self.rolls, path) else {
+            return match add_room(self.alloc, &mut self.rolls, path) {
+                Ok(()) => Ok(MemRoll::new(self.alloc)),
+                Err(_) => Err(NameRefused::NoMemory),
+            };
+        };
+        match take_out(&mut self.rolls, index) {
+            Some(mut roll) => {
+                roll.begun = false;
+                roll.failed = false;
+                roll.faults = 0;
+                Ok(roll)
+            }
+            None => {
+                self.faults = self.faults.saturating_add(1);
+                Err(NameRefused::Failed)
+            }
+        }
+    }
+
+    fn keep_roll(&mut self, path: &str, roll: MemRoll) {
+        let index = place_of(&self.rolls, path).unwrap();
+        give_back(&mut self.rolls, index, roll);
+    }
+
+    fn clock(&mut self) -> MemClock {
+        self.clock
+    }
+
+    fn random(&mut self) -> MemRandom {
+        self.random
     }
 
     fn faults(&self) -> u64 {

@@ -1,5 +1,5 @@
 // A source and a sink in memory.
-ghost use Rattle.std.specs.Prelude.{◌≡◌, ◌≤◌, ◌+◌, [], vec_len, Some, None, IfSome};
+ghost use Rattle.std.specs.Prelude.{◌≡◌, ◌≤◌, ◌+◌, [], vec_len, take, Some, None, IfSome};
 ghost use Rattle.host_memory.specs.Stream.{left_of, took_by};
 
 use crate::script::{Script, counted, piece_at};
@@ -101,6 +101,8 @@ impl Source for MemSource {
 #[derive(Drop)]
 pub struct MemSink {
     bytes: Vec<u8>,
+    // how many of them were handed on
+    handed: usize,
     pieces: Vec<usize>,
     script: Script,
     tells: bool,
@@ -108,15 +110,16 @@ pub struct MemSink {
 }
 
 impl MemSink {
-    ghost use Rattle.host_memory.specs.Words.{took_in, sink_calls, sink_fails, sink_faults, sink_pieces};
+    ghost use Rattle.host_memory.specs.Words.{took_in, handed_in, sink_calls, sink_fails, sink_faults, sink_pieces};
 
     /// An empty sink that tells, takes all that it is given, and fails only for want of memory.
     pub fn new(alloc: Global) -> Self
-        ensures took { took_in result ≡ Some [] }
+        ensures took { (took_in result ≡ Some []) × (handed_in result ≡ Some []) }
         ensures count { sink_faults result ≡ 0 }
     {
         MemSink {
             bytes: Vec::new(alloc),
+            handed: 0,
             pieces: Vec::new(alloc),
             script: Script::new(alloc),
             tells: true,
@@ -126,7 +129,7 @@ impl MemSink {
 
     /// A write that is call number n takes at most the n-th of these numbers. They go round, and a 0 counts as 1.
     pub fn in_pieces(mut self, pieces: Vec<usize>) -> Self
-        ensures took { took_in result ≡ took_in self }
+        ensures took { (took_in result ≡ took_in self) × (handed_in result ≡ handed_in self) }
         ensures pieces { sink_pieces result ≡ pieces.items }
         ensures script { (sink_fails result ≡ sink_fails self) × (sink_calls result ≡ sink_calls self) }
         ensures count { sink_faults result ≡ sink_faults self }
@@ -137,7 +140,7 @@ impl MemSink {
 
     /// The calls of these numbers fail, writes and flushes counted together. The first has the number 0.
     pub fn failing_at(mut self, calls: Vec<u64>) -> Self
-        ensures took { took_in result ≡ took_in self }
+        ensures took { (took_in result ≡ took_in self) × (handed_in result ≡ handed_in self) }
         ensures pieces { sink_pieces result ≡ sink_pieces self }
         ensures script { (sink_fails result ≡ calls.items) × (sink_calls result ≡ sink_calls self) }
         ensures count { sink_faults result ≡ sink_faults self }
@@ -148,7 +151,7 @@ impl MemSink {
 
     /// A sink that tells nothing.
     pub fn silent(mut self) -> Self
-        ensures took { took_in result ≡ None }
+        ensures took { (took_in result ≡ None) × (handed_in result ≡ None) }
         ensures count { sink_faults result ≡ sink_faults self }
     {
         self.tells = false;
@@ -173,6 +176,8 @@ impl MemSink {
 impl Sink for MemSink {
     ghost took = { λ s. took_by s.tells s.bytes.items };
 
+    ghost handed = { λ s. took_by s.tells (take s.handed s.bytes.items) };
+
     ghost faults = { λ s. s.faults };
 
     fn write(&mut self, bytes: &[u8]) -> Result<usize, Failed> {
@@ -188,6 +193,7 @@ impl Sink for MemSink {
         if self.script.next_fails() {
             return counted(&mut self.faults, Err(Failed));
         }
+        self.handed = self.bytes.len();
         Ok(())
     }
 

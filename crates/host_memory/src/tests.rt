@@ -1,8 +1,13 @@
 // What no clause says: chosen failures happen, and calls succeed with ample memory.
 ghost use Rattle.std.specs.Prelude.{◌≡◌};
 
-use crate::{DiskFault, MemDisk, MemFile, MemFolder, MemHost, MemSink, MemSource, Part, Stood};
-use flume_host::{Disk, Failed, FileName, Host, NameRefused, Sink, Source};
+use crate::{
+    DiskFault, MemClock, MemDisk, MemFile, MemHost, MemRandom, MemRoll, MemSink, MemSource, Named,
+    Part, Stood,
+};
+use flume_host::{
+    Clock, Disk, Failed, FileName, FileRefused, Host, NameRefused, Random, RollDir, Sink, Source,
+};
 use std::alloc::{AllocError, Global};
 use std::test::Fail;
 
@@ -200,9 +205,9 @@ fn a_stop_leaves_what_is_chosen(rt: HostRuntime) -> Result<(), Fail> {
 
 fn host(alloc: Global) -> Result<MemHost, AllocError> {
     let mut folders = Vec::new(alloc);
-    folders.push(MemFolder {
+    folders.push(Named {
         path: String::from_str(alloc, "kept")?,
-        disk: Some(disk(alloc)?),
+        object: Some(disk(alloc)?),
     })?;
     let input = source(alloc, b"in", &[], &[0])?;
     let fails = [2].as_slice().to_vec(alloc)?;
@@ -259,5 +264,89 @@ fn a_host_opens_folders(rt: HostRuntime) -> Result<(), Fail> {
         (host.opens(), host.faults(), host.disk_faults()),
         (6, 2, 0)
     );
+    Ok(())
+}
+
+// The bytes of the file of this name.
+fn rolled<'a>(roll: &'a MemRoll, name: &str) -> Option<&'a [u8]> {
+    for file in roll.files() {
+        if file.name.as_str() == name {
+            return Some(&file.bytes);
+        }
+    }
+    None
+}
+
+#[test]
+fn a_folder_of_rolled_files_takes_pieces_and_fails_where_chosen(
+    rt: HostRuntime,
+) -> Result<(), Fail> {
+    let alloc = rt.alloc();
+    let fails = [4].as_slice().to_vec(alloc)?;
+    let pieces = [2].as_slice().to_vec(alloc)?;
+    let mut roll = MemRoll::new(alloc).in_pieces(pieces).failing_at(fails);
+    assert!(rt; roll.write(b"abc") == Err(Failed));
+    assert!(rt; roll.begin("one") == Ok(()));
+    assert!(rt; roll.write(b"abc") == Ok(2));
+    assert!(rt; roll.begin("one") == Err(Failed));
+    assert!(rt; roll.begin("two") == Err(Failed));
+    assert!(rt; roll.write(b"lost") == Err(Failed));
+    assert!(rt; roll.begin("two") == Ok(()));
+    assert!(rt; (roll.write(b"z"), roll.flush()) == (Ok(1), Ok(())));
+    assert!(rt; rolled(&roll, "one") == Some(b"ab".as_slice()));
+    assert!(rt; rolled(&roll, "two") == Some(b"z".as_slice()));
+    assert!(rt; (roll.faults(), roll.calls()) == (4, 9));
+    Ok(())
+}
+
+#[test]
+fn a_host_hands_out_rolled_files_and_times(rt: HostRuntime) -> Result<(), Fail> {
+    let clock = MemClock {
+        moment: 5000,
+        step: 10,
+    };
+    let random = MemRandom {
+        number: u64::MAX,
+        step: 2,
+    };
+    let mut host = host(rt.alloc())?.with_times(clock, random);
+    let mut clock = host.clock();
+    assert!(rt; (clock.now(), clock.now()) == (5000, 5010));
+    let mut random = host.random();
+    assert!(rt; (random.draw(), random.draw()) == (u64::MAX, 1));
+    let Ok(mut roll) = host.open_roll("out") else {
+        return Err(Fail::from("not opened"));
+    };
+    assert!(rt; (roll.begin("5000-1"), roll.write(b"x\n")) == (Ok(()), Ok(2)));
+    assert!(rt; host.open_roll("out").is_err());
+    host.keep_roll("out", roll);
+    let kept = host.roll("out").and_then(|roll| rolled(roll, "5000-1"));
+    assert!(rt; kept == Some(b"x\n".as_slice()));
+    assert!(rt; (host.faults(), host.opens()) == (1, 2));
+    Ok(())
+}
+
+#[test]
+fn a_host_reads_whole_files(rt: HostRuntime) -> Result<(), Fail> {
+    let alloc = rt.alloc();
+    let mut files = Vec::new(alloc);
+    for (path, size) in [("small", 3), ("largest", 1_048_576), ("large", 1_048_577)] {
+        files.push(Named {
+            path: String::from_str(alloc, path)?,
+            object: Some(vec![in alloc; b'x'; size]?),
+        })?;
+    }
+    let mut host = host(alloc)?.with_files(files);
+    assert!(rt; host.read_file("small").map(|bytes| bytes.len()) == Ok(3));
+    assert!(rt; host.read_file("largest").map(|bytes| bytes.len()) == Ok(1_048_576));
+    assert!(rt; host.faults() == 0);
+    // the third reading is to fail
+    assert!(rt; host.read_file("small").map(|bytes| bytes.len()) == Err(FileRefused::Failed));
+    let size = 1_048_577;
+    assert!(rt;
+        host.read_file("large").map(|bytes| bytes.len()) == Err(FileRefused::TooLarge { size })
+    );
+    assert!(rt; host.read_file("none").map(|bytes| bytes.len()) == Err(FileRefused::Failed));
+    assert!(rt; host.faults() == 2);
     Ok(())
 }

@@ -15,10 +15,11 @@ returns-clause-piped g c = λ start stands.
     let stopped = rw max at s.stopped in
     let log = c.serve-session.new.store in
     rw c.close.ensures
-    (piped _ _ _ _ _ _ _ _ _ _ _ _ _ c.take_input-source.ensures.left c.take_input-source.ensures.state c.take_output-sink.ensures.took c.take_output-sink.ensures.state
+    (piped _ _ _ _ _ _ _ _ _ _ _ _ _ _ c.take_input-source.ensures.left c.take_input-source.ensures.state c.take_output-sink.ensures.took c.take_output-sink.ensures.state
     c.keep_input.ensures.state.1 c.keep_input.ensures.state.2 c.keep_output.ensures.state.1 c.keep_output.ensures.state.2
     start (g.H.Disk.Disk.told log.disk) (g.H.Disk.Disk.faults log.disk) log.next c.serve-session.result.accepted c.serve-session.result.end _ c.take_output-sink.ensures.count
     s.at_end (λ is. end is start stands) (λ is. long is start stands) (λ is. full is start stands) (λ is. stopped is start stands)
+    s.handed
     (λ is. let none = s.well is in (none.0 ∙ c.take_input-source.ensures.count, none.1))
     (λ is. s.memory is ∙ uncounted start _ _ _ [] (All-nil GoesOn) stands)
     (λ is. let rose = s.in_doubt is in omega (arith, rose, stands.later)) (λ is. rw c.take_input-source.ensures.count at (s.read_fault is)) s.write_fault

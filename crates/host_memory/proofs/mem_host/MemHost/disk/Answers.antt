@@ -1,10 +1,11 @@
-use Rattle.std.proofs.Common.{◌≡◌, ◌∙◌, List, Option, Some, None, IfSome, IsSome, Bor, refl, ap, sym, arith}
+use Rattle.std.proofs.Common.{◌≡◌, ◌∙◌, List, Option, Some, None, IfSome, IsSome, Bor, [], refl, ap, sym, arith}
 use Rattle.std.specs.Option.{option_copied}
-use Rattle.flume_host.specs.Told.{Told}
-use Rattle.host_memory.specs.declared.folders.MemFolder.{MemFolder}
+use Rattle.host_memory.specs.declared.named.Named.{Named}
 use Rattle.host_memory.specs.declared.mem_disk.MemDisk.{MemDisk}
+use Rattle.flume_host.specs.Told.{Told}
+use Rattle.host_memory.specs.Parts.{start}
 use Rattle.host_memory.specs.Words.{told_in}
-use Rattle.host_memory.specs.Folders.{folder_of, folder_place, told_home}
+use Rattle.host_memory.specs.Folders.{folder_of, place_in, told_home}
 use Rattle.host_memory.proofs.Paths.{placed}
 use Rattle.host_memory.proofs.mem_host.MemHost.disk.Goals as goal
 
@@ -20,18 +21,20 @@ at_home None None is tells = absurd (not_none tells)
 at_home None (Some t) is tells = cc
 at_home (Some d) told is tells = refl
 
-pub index-requires : goal.index-requires
-index-requires c =
-    let is : folder_place c.args.self.now.folders.items c.args.path.now ≡ Some c.in-Some.index = ap (λ (l : List MemFolder). folder_place l c.args.path.now) (sym c.deref.ensures.value) ∙ sym c.place_of_folder.ensures ∙ c.in-Some.is in
-    omega (arith, (placed c.args.self.now.folders.items c.args.path.now c.in-Some.index is).below, c.args.self.now.folders.ok.0)
+place : (c : goal.In-Some) → place_in c.args.self.now.folders.items c.args.path.now ≡ Some c.in-Some.index
+place c = ap (λ (l : List (Named MemDisk)). place_in l c.args.path.now) (sym c.deref.ensures.value) ∙ sym c.place_of.ensures ∙ c.in-Some.is
 
-pub returns-in-Some : goal.returns-in-Some
-returns-in-Some c =
-    let is : folder_place c.args.self.now.folders.items c.args.path.now ≡ Some c.in-Some.index = ap (λ (l : List MemFolder). folder_place l c.args.path.now) (sym c.deref.ensures.value) ∙ sym c.place_of_folder.ensures ∙ c.in-Some.is in
-    let found = (placed c.args.self.now.folders.items c.args.path.now c.in-Some.index is).found c.index.result.now in
-    let told : folder_of c.args.self.now.folders.items c.args.path.now ≡ told_home (option_copied c.as_ref.result) =
-    found ∙ ap (λ (f : MemFolder). told_home f.disk) (sym c.index.ensures) ∙ ap (λ (d : Option MemDisk). told_home d) (sym c.as_ref.ensures.value) in
-    record {
-      told = home c.as_ref.result (folder_of c.args.self.now.folders.items c.args.path.now) told;
-      there = λ has tells. at_home c.as_ref.result (folder_of c.args.self.now.folders.items c.args.path.now) told tells;
-    }
+pub index-requires : goal.index-requires
+index-requires c = omega (arith, (placed told_home (Some (start [])) c.args.self.now.folders.items c.args.path.now c.in-Some.index (place c)).below, c.args.self.now.folders.ok.0)
+
+tells : (c : goal.After-as_ref) → folder_of c.args.self.now.folders.items c.args.path.now ≡ told_home (option_copied c.as_ref.result)
+tells c =
+    let is = ap (λ (l : List (Named MemDisk)). place_in l c.args.path.now) (sym c.deref.ensures.value) ∙ sym c.place_of.ensures ∙ c.in-Some.is in
+    (placed told_home (Some (start [])) c.args.self.now.folders.items c.args.path.now c.in-Some.index is).found c.index.result.now
+    ∙ ap (λ (n : Named MemDisk). told_home n.object) (sym c.index.ensures) ∙ ap (λ (d : Option MemDisk). told_home d) (sym c.as_ref.ensures.value)
+
+pub returns-in-Some-clause-told : goal.returns-in-Some-clause-told
+returns-in-Some-clause-told c = home c.as_ref.result (folder_of c.args.self.now.folders.items c.args.path.now) (tells c)
+
+pub returns-in-Some-clause-there : goal.returns-in-Some-clause-there
+returns-in-Some-clause-there c has is_told = at_home c.as_ref.result (folder_of c.args.self.now.folders.items c.args.path.now) (tells c) is_told

@@ -1,26 +1,74 @@
-use Rattle.std.proofs.Common.{◌≡◌, ◌∙◌, List, ℕ, Option, None, Bool, true, false, cond, bytes_eq, refl, sym, ap}
-use Rattle.flume_host.specs.Told.{Told}
-use Rattle.host_memory.specs.declared.folders.MemFolder.{MemFolder}
+use Rattle.std.proofs.Common.{◌∙◌, List, [], Some, None, refl, sym, ap}
+use Rattle.host_memory.specs.declared.named.Named.{Named}
 use Rattle.host_memory.specs.declared.mem_disk.MemDisk.{MemDisk}
-use Rattle.host_memory.specs.Folders.{folder_of, folder_place, told_home}
-use Rattle.host_memory.proofs.Paths.{not_placed, path_is}
+use Rattle.host_memory.specs.Parts.{start}
+use Rattle.host_memory.specs.Folders.{place_in, told_home}
+use Rattle.host_memory.proofs.Paths.{Out, placed, taken, added, unchanged}
 use Rattle.host_memory.proofs.mem_host.MemHostHost.open_disk.Goals as goal
 
+new_room : (c : goal.After-new) → Out told_home (Some (start [])) c.args.self.now.folders.items c.add_room.new.objects.items c.args.path.now (Some (start []))
+new_room c =
+    let none = ap (λ (l : List (Named MemDisk)). place_in l c.args.path.now) (sym c.deref.ensures.value) ∙ sym c.place_of.ensures ∙ c.in_default.is in
+    let a = c.in-Ok.ensures.added in
+    added told_home (Some (start [])) c.args.self.now.folders.items c.add_room.new.objects.items c.args.path.now a.0 none a.1 a.3
+
 pub returns-in-Ok-clause-told : goal.returns-in-Ok-clause-told
-returns-in-Ok-clause-told c =
-    let is : folder_place c.args.self.now.folders.items c.args.path.now ≡ None = ap (λ (l : List MemFolder). folder_place l c.args.path.now) (sym c.deref.ensures.value) ∙ sym c.place_of_folder.ensures ∙ c.in_default.is in
-    (c.new.ensures.told ∙ sym (not_placed c.args.self.now.folders.items c.args.path.now is), c.new.ensures.count)
+returns-in-Ok-clause-told c = (c.new.ensures.told ∙ sym (new_room c).told, c.new.ensures.count)
+
+pub returns-in-Ok-clause-others : goal.returns-in-Ok-clause-others
+returns-in-Ok-clause-others c = (new_room c).others
+
+pub returns-in-Ok-clause-room : goal.returns-in-Ok-clause-room
+returns-in-Ok-clause-room c = (new_room c).room
+
+pub returns-in-Ok-clause-rooms : goal.returns-in-Ok-clause-rooms
+returns-in-Ok-clause-rooms c = (new_room c).rooms
 
 pub returns-in-Err-clause-state : goal.returns-in-Err-clause-state
 returns-in-Err-clause-state c = (c.args.self.now.faults, refl, λ e. cc)
 
--- nothing was handed out
-unchanged : (old new : List ℕ → Option Told) (path : List ℕ) → ((p : List ℕ) → new p ≡ cond (bytes_eq p path) None (old p)) → None ≡ old path → new ≡ old
-unchanged old new path left none = λ i p. (left p ∙ here p (bytes_eq p path) refl) i
-  where
-    here : (p : List ℕ) (b : Bool) → bytes_eq p path ≡ b → cond b None (old p) ≡ old p
-    here p true is = none ∙ ap old (sym (path_is p path is))
-    here p false is = refl
+pub take_out-requires : goal.take_out-requires
+take_out-requires c =
+    let is = ap (λ (l : List (Named MemDisk)). place_in l c.args.path.now) (sym c.deref.ensures.value) ∙ sym c.place_of.ensures ∙ c.in-Some.is in
+    (placed told_home (Some (start [])) c.args.self.now.folders.items c.args.path.now c.in-Some.index is).below
+
+handed_out : (c : goal.In-Some-take_out) → Out told_home (Some (start [])) c.args.self.now.folders.items c.take_out.new.objects.items c.args.path.now (told_home (Some c.in-Some-take_out.disk))
+handed_out c =
+    let is = ap (λ (l : List (Named MemDisk)). place_in l c.args.path.now) (sym c.deref.ensures.value) ∙ sym c.place_of.ensures ∙ c.in-Some.is in
+    let t = c.take_out.ensures in
+    let out = taken told_home (Some (start [])) c.args.self.now.folders.items c.take_out.new.objects.items c.args.path.now c.in-Some.index t.0 is t.1 t.3 in
+    let got = sym t.2 ∙ c.in-Some-take_out.is in
+    rw got at out
+
+pub returns-in-Some-take_out-clause-told : goal.returns-in-Some-take_out-clause-told
+returns-in-Some-take_out-clause-told c = (sym (handed_out c).told, refl)
+
+pub returns-in-Some-take_out-clause-others : goal.returns-in-Some-take_out-clause-others
+returns-in-Some-take_out-clause-others c = (handed_out c).others
+
+pub returns-in-Some-take_out-clause-room : goal.returns-in-Some-take_out-clause-room
+returns-in-Some-take_out-clause-room c = (handed_out c).room
+
+pub returns-in-Some-take_out-clause-rooms : goal.returns-in-Some-take_out-clause-rooms
+returns-in-Some-take_out-clause-rooms c = (handed_out c).rooms
+
+-- it was out already
+was_out : (c : goal.After-self-in-None-1) → Out told_home (Some (start [])) c.args.self.now.folders.items c.take_out.new.objects.items c.args.path.now (told_home None)
+was_out c =
+    let is = ap (λ (l : List (Named MemDisk)). place_in l c.args.path.now) (sym c.deref.ensures.value) ∙ sym c.place_of.ensures ∙ c.in-Some.is in
+    let t = c.take_out.ensures in
+    let out = taken told_home (Some (start [])) c.args.self.now.folders.items c.take_out.new.objects.items c.args.path.now c.in-Some.index t.0 is t.1 t.3 in
+    let got = sym t.2 ∙ c.in-None.is in
+    rw got at out
+
+pub returns-in-None-clause-others : goal.returns-in-None-clause-others
+returns-in-None-clause-others c = (was_out c).others
+
+pub returns-in-None-clause-rooms : goal.returns-in-None-clause-rooms
+returns-in-None-clause-rooms c = (was_out c).rooms
 
 pub returns-in-None-clause-refused : goal.returns-in-None-clause-refused
-returns-in-None-clause-refused c = unchanged (folder_of c.args.self.now.folders.items) (folder_of c.take_disk.new.folders.items) c.args.path.now c.take_disk.ensures.left (ap (λ (d : Option MemDisk). told_home d) (sym c.in-None.is) ∙ c.take_disk.ensures.told)
+returns-in-None-clause-refused c =
+    let is = ap (λ (l : List (Named MemDisk)). place_in l c.args.path.now) (sym c.deref.ensures.value) ∙ sym c.place_of.ensures ∙ c.in-Some.is in
+    let t = c.take_out.ensures in
+    unchanged told_home (Some (start [])) c.args.self.now.folders.items c.take_out.new.objects.items c.args.path.now c.in-Some.index t.0 is t.1 t.3 (sym c.in-None.is ∙ t.2)
