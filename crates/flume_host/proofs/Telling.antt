@@ -1,6 +1,6 @@
--- What a disk tells before and after calls.
+-- What is told before and after calls.
 use Rattle.std.proofs.Common.{◌≡◌, Option, Some, None, refl, subst}
-use Rattle.flume_host.specs.Told.{Told, Tells}
+use Rattle.flume_host.specs.Told.{Tells}
 
 pub some_same : {A : Type 0} (x y : A) → Some x ≡ Some y → x ≡ y
 some_same x y is = cc
@@ -9,33 +9,33 @@ pub silent : {A : Type 0} (x : A) → None ≡ Some x → ⊥
 silent x is = cc
 
 -- a disk that tells afterwards told before
-pub back : (old new : Option Told) (P : Told → Told → Type 0) → Tells old new P → (u : Told) → new ≡ Some u → (t : Told) × (old ≡ Some t) × P t u
+pub back : {T : Type 0} (old new : Option T) (P : T → T → Type 0) → Tells old new P → (u : T) → new ≡ Some u → (t : T) × (old ≡ Some t) × P t u
 back None None P tells u is = absurd (silent u is)
 back None (Some v) P tells u is = absurd tells
 back (Some t) None P tells u is = absurd tells
-back (Some t) (Some v) P tells u is = (t, refl, subst (λ (w : Told). P t w) (some_same v u is) tells)
+back (Some t) (Some v) P tells u is = (t, refl, subst (λ w. P t w) (some_same v u is) tells)
 
 -- a disk that told before tells afterwards
-pub forth : (old new : Option Told) (P : Told → Told → Type 0) → Tells old new P → (t : Told) → old ≡ Some t → (u : Told) × (new ≡ Some u) × P t u
+pub forth : {T : Type 0} (old new : Option T) (P : T → T → Type 0) → Tells old new P → (t : T) → old ≡ Some t → (u : T) × (new ≡ Some u) × P t u
 forth None None P tells t is = absurd (silent t is)
 forth None (Some v) P tells t is = absurd tells
 forth (Some s) None P tells t is = absurd tells
-forth (Some s) (Some v) P tells t is = (v, refl, subst (λ (w : Told). P w v) (some_same s t is) tells)
+forth (Some s) (Some v) P tells t is = (v, refl, subst (λ w. P w v) (some_same s t is) tells)
 
 -- what it tells may be used for what it told
-pub tells_more : (old new : Option Told) (P Q : Told → Told → Type 0) → ((t u : Told) → old ≡ Some t → new ≡ Some u → P t u → Q t u) → Tells old new P → Tells old new Q
+pub tells_more : {T : Type 0} (old new : Option T) (P Q : T → T → Type 0) → ((t u : T) → old ≡ Some t → new ≡ Some u → P t u → Q t u) → Tells old new P → Tells old new Q
 tells_more None None P Q more tells = tt
 tells_more None (Some v) P Q more tells = absurd tells
 tells_more (Some t) None P Q more tells = absurd tells
 tells_more (Some t) (Some v) P Q more tells = more t v refl refl tells
 
 -- nothing was called
-pub tells_same : (told : Option Told) (P : Told → Told → Type 0) → ((t : Told) → told ≡ Some t → P t t) → Tells told told P
+pub tells_same : {T : Type 0} (told : Option T) (P : T → T → Type 0) → ((t : T) → told ≡ Some t → P t t) → Tells told told P
 tells_same None P same = tt
 tells_same (Some t) P same = same t refl
 
 -- one call after another
-pub follows : (first second third : Option Told) (P Q R : Told → Told → Type 0) → ((t u v : Told) → first ≡ Some t → second ≡ Some u → third ≡ Some v → P t u → Q u v → R t v) → Tells first second P → Tells second third Q → Tells first third R
+pub follows : {T : Type 0} (first second third : Option T) (P Q R : T → T → Type 0) → ((t u v : T) → first ≡ Some t → second ≡ Some u → third ≡ Some v → P t u → Q u v → R t v) → Tells first second P → Tells second third Q → Tells first third R
 follows None None None P Q R both p q = tt
 follows None None (Some v) P Q R both p q = absurd q
 follows None (Some u) third P Q R both p q = absurd p
