@@ -4,3 +4,5 @@
 
 #[cfg(test)]
 mod pipe;
+#[cfg(test)]
+mod roll;

@@ -1,0 +1,114 @@
+// Rolled files over a folder in memory.
+use event_core::{Batch, Event, Headers};
+use host_memory::MemRoll;
+use plug_in::{EventSink, SinkRefused};
+use roll_sink::RollSink;
+use std::alloc::Global;
+use std::test::Fail;
+
+fn batch(alloc: Global, bodies: &[&[u8]]) -> Result<Batch, Fail> {
+    let mut batch = Batch::new(alloc);
+    for body in bodies {
+        let Ok(event) = Event::new(Headers::new(alloc), body.to_vec(alloc)?) else {
+            return Err(Fail::from("no event"));
+        };
+        if batch.push(event).is_err() {
+            return Err(Fail::from("no room"));
+        }
+    }
+    Ok(batch)
+}
+
+// The files as text: each name, a colon and its bytes.
+fn listing(alloc: Global, roll: &MemRoll) -> Result<Vec<u8>, Fail> {
+    let mut text = Vec::new(alloc);
+    for file in roll.files() {
+        text.extend_from_slice(file.name.as_str().as_bytes())?;
+        text.push(b':')?;
+        text.extend_from_slice(&file.bytes)?;
+    }
+    Ok(text)
+}
+
+// A batch's moment and bodies.
+type Delivery = (u64, &'static [&'static [u8]]);
+
+struct Case {
+    interval: u32,
+    // the calls of the folder that fail
+    fails: &'static [u64],
+    deliveries: &'static [Delivery],
+    // which of them are refused
+    refused: &'static [usize],
+    files: &'static [u8],
+}
+
+const CASES: &[Case] = &[
+    // the first moment names all files, whatever comes later
+    Case {
+        interval: 0,
+        fails: &[],
+        deliveries: &[(5000, &[b"x", b"y"]), (900_000, &[b"z"])],
+        refused: &[],
+        files: b"5000-1:x\ny\nz\n",
+    },
+    // thirty seconds from a file's begin
+    Case {
+        interval: 30,
+        fails: &[],
+        deliveries: &[(5000, &[b"a"]), (34_999, &[b"b"]), (35_000, &[b"c"]), (64_999, &[b""])],
+        refused: &[],
+        files: b"5000-1:a\nb\n5000-2:c\n\n",
+    },
+    // the clock was set back
+    Case {
+        interval: 30,
+        fails: &[],
+        deliveries: &[(50_000, &[b"a"]), (1000, &[b"b"])],
+        refused: &[],
+        files: b"50000-1:a\nb\n",
+    },
+    // a write fails between a body and its newline: what was written stays, and the batch comes whole into the next file
+    Case {
+        interval: 0,
+        fails: &[4],
+        deliveries: &[(7, &[b"a", b"b"]), (8, &[b"a", b"b"])],
+        refused: &[0],
+        files: b"7-1:a\nb7-2:a\nb\n",
+    },
+    // a begin that fails takes a number
+    Case {
+        interval: 0,
+        fails: &[0],
+        deliveries: &[(7, &[b"a"]), (8, &[b"a"])],
+        refused: &[0],
+        files: b"7-2:a\n",
+    },
+    // a batch whose flush fails is not delivered
+    Case {
+        interval: 0,
+        fails: &[3],
+        deliveries: &[(7, &[b"a"]), (8, &[b"a"])],
+        refused: &[0],
+        files: b"7-1:a\n7-2:a\n",
+    },
+];
+
+#[test]
+fn files_are_cut_by_time_and_after_a_fault(rt: HostRuntime) -> Result<(), Fail> {
+    let alloc = rt.alloc();
+    for case in CASES {
+        let folder = MemRoll::new(alloc).failing_at(case.fails.to_vec(alloc)?);
+        let mut sink = RollSink::new(alloc, folder, case.interval);
+        for i in 0..case.deliveries.len() {
+            let (moment, bodies) = case.deliveries[i];
+            let answer = EventSink::deliver(&mut sink, &batch(alloc, bodies)?, moment);
+            let refused = case.refused.contains(&i);
+            assert!(rt; answer == if refused { Err(SinkRefused::Refused) } else { Ok(()) });
+        }
+        assert!(rt; sink.faults() == case.refused.len() as u64);
+        let text = listing(alloc, &sink.close())?;
+        assert!(rt; text.as_slice() == case.files);
+    }
+    Ok(())
+}
