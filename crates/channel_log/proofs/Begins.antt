@@ -102,3 +102,6 @@ drops_then r at birth content is one begun = (λ h. (eqb-true at 16 (sym is ∙ 
 
 pub drops_else : (r : Bool) (at birth : ℕ) (content : Content) → r ≡ (birth == 1) → (birth ≡ 1 → ⊥) → (birth ≡ 1 → IsBegun content) × (IsBegun content → birth ≡ 1) → (IsTrue r → (at ≡ 16) × IsBegun content) × ((at ≡ 16) × IsBegun content → IsTrue r)
 drops_else r at birth content is other begun = (λ h. absurd (other (eqb-true birth 1 (sym is ∙ h))), λ h. absurd (other (begun.1 h.1)))
+
+pub not_bad : (number birth : ℕ) (bytes : List ℕ) → (17 < length bytes) × IsBirth birth × (take 16 bytes ≡ header birth number) → Holds number bytes BadHeader → ⊥
+not_bad number birth bytes is holds = holds.1 birth (is.1, (drop 16 bytes, split16 birth number bytes is.2, tt))

@@ -12,7 +12,7 @@ use Rattle.record_form.specs.declared.record.Read.TheVariants.{Whole}
 use Rattle.record_form.specs.Grammar.{Complete, outcome_of, read_of}
 use Rattle.record_form.specs.Record.{record_kind, record_length, spelling}
 use Rattle.record_form.proofs.Again.{length-spelling, record-again}
-use Rattle.channel_log.proofs.ReadOn.{read-again, read_at, sound}
+use Rattle.channel_log.proofs.ReadOn.{read-again, read_at, some_length, sound}
 use Rattle.channel_log.specs.Frames.{IsFramed, IsNoEnd, frame_bytes, record_bytes}
 use Rattle.channel_log.specs.Reader.{AreRecords, IsCount, IsFrameBytes, closing, kept, step}
 
@@ -41,6 +41,11 @@ read_first held first records count framed same = ap read_of (same ∙ cons_clos
 
 pub length_first : (held : List ℕ) (first : Rec) (records : List Rec) (count n kind : ℕ) → IsFramed first → held ≡ closing (first ∷ records) count → read_of held ≡ Whole kind n → n ≡ record_length first
 length_first held first records count n kind framed same read = let e : Whole kind n ≡ Whole (record_kind first) (record_length first) = sym read ∙ read_first held first records count framed same in cc
+
+pub some_more : (frame : List ℕ) (place n kind : ℕ) → AreRecords (drop place frame) → read_of (drop place frame) ≡ Whole kind n → 5 ≤ n
+some_more frame place n kind are read =
+    let s = stood (drop place frame) are in
+    omega (arith, length_first (drop place frame) s.first s.records s.count n kind s.framed s.split read, some_length s.first)
 
 pub rec_first : (held : List ℕ) (rec first : Rec) (records : List Rec) (count : ℕ) → IsFramed first → held ≡ closing (first ∷ records) count → outcome_of held ≡ Complete rec (record_length rec) → rec ≡ first
 rec_first held rec first records count framed same read =

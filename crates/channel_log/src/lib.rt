@@ -11,6 +11,6 @@ mod writer;
 
 pub use laws::one_content;
 pub use loading::FrameRefused;
-pub use reader::LogReader;
+pub use reader::{LogReader, birth_of, record_at};
 pub use scan::{Scan, scan_frame};
 pub use writer::{LogBeginRefused, LogFlushRefused, LogWriter};

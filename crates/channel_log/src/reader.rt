@@ -1,5 +1,5 @@
 // Reads the records of a log file's frames.
-ghost use Rattle.std.specs.Prelude.{◌≡◌, ◌≤◌, ◌<◌, ◌+◌, ◌^◌, [], ◌∷◌, ℕ, List, ◌↔◌, length, take, drop, true, false, Option, Some, IsTrue, MatchOption, IfOk, IfErr, OnErr, IsErrOf};
+ghost use Rattle.std.specs.Prelude.{◌≡◌, ◌≤◌, ◌<◌, ◌+◌, ◌^◌, [], ◌∷◌, ℕ, List, ◌↔◌, length, take, drop, true, false, Option, Some, IsTrue, MatchOption, IfOk, IfErr, OnOk, OnErr, IsErrOf, IsSome, is_some, if◌then◌else◌};
 ghost use Rattle.std.specs.List.{AllByRecursion};
 ghost use Rattle.flume_host.specs.Causes.{Rose};
 ghost use Rattle.record_form.specs.declared.record.Rec.{Rec};
@@ -9,24 +9,25 @@ ghost use Rattle.channel_log.specs.Reader.{AfterOpen, AreRecords, Gives, HasFile
 use crate::loading::{FrameRefused, load_frame};
 use crate::writer::header_of;
 use event_core::NoMemory;
-use flume_host::{Disk, FileName};
+use flume_host::{Disk, FileName, Steps};
 use record_form::{Read, Rec, read_record, rec_of};
 use std::alloc::Global;
 use std::marker::Model;
+use std::sync::ledger::Ledger;
 
 // The kind byte of END, and its length.
 const END: u8 = 6;
 
 const END_LENGTH: usize = 5;
 
-// The record at the place of a frame, and the place of the next one, which behind the last one is the frame's end.
-fn record_at(alloc: Global, frame: &[u8], place: usize) -> Result<(Rec, usize), NoMemory>
+/// The record at the place of a frame, and the place of the next one, which behind the last one is the frame's end.
+pub fn record_at(alloc: Global, frame: &[u8], place: usize) -> Result<(Rec, usize), NoMemory>
     requires within { place ≤ length frame.now }
     requires records { AreRecords (drop place frame.now) }
     ensures given { IfOk result (λ r. (first : Rec) (records : List Rec) (count : ℕ) → IsFramed first → AllByRecursion IsFramed records → IsCount count → drop place frame.now ≡ closing (first ∷ records) count
         → (r.0 ≡ first) × (r.1 ≡ place + step first records) × (drop r.1 frame.now ≡ kept records count)) }
     ensures within { IfOk result (λ r. r.1 ≤ length frame.now) }
-    ensures above { IfOk result (λ r. place ≤ r.1) }
+    ensures above { IfOk result (λ r. place < r.1) }
 {
     let rest = &frame[place..];
     let Read::Whole { length, .. } = read_record(rest) else {
@@ -63,8 +64,8 @@ fn is_header(birth: u16, number: u32, head: &[u8]) -> bool
     head == &header[..16]
 }
 
-// The birth that the header of this number names.
-fn birth_of(number: u32, head: &[u8]) -> Option<u16>
+/// The birth that the header of a log file of this number names, if it is one.
+pub fn birth_of(number: u32, head: &[u8]) -> Option<u16>
     ensures { MatchOption result ((birth : ℕ) → IsBirth birth → head.now ≡ header birth number → ⊥) (λ birth. IsBirth birth × (head.now ≡ header birth number)) }
 {
     if is_header(BEGUN, number, head) {
@@ -144,6 +145,7 @@ impl LogReader {
         ensures drops { IfOk result (λ r. (bytes : List ℕ) (content : Content) → HasFile (D.told disk.old) number bytes → Holds number bytes content → IsTrue r.drops ↔ ((at ≡ 16) × IsBegun content)) }
         ensures place { IfOk result (λ r. (bytes : List ℕ) (frames : List (List Rec)) (fault : Option ℕ) → HasFile (D.told disk.old) number bytes → 17 < length bytes → Goes (drop at bytes) at frames fault → Remains r bytes (frame_items at frames) fault) }
         ensures file { IfOk result (λ r. r.file ≡ number) }
+        ensures tested { OnOk result ((bytes : List ℕ) → HasFile (D.told disk.old) number bytes → Holds number bytes BadHeader → ⊥) }
         ensures bad { IfErr result (λ e. WhereBad e (λ f at. (f ≡ number) × (at ≡ 0) × ((bytes : List ℕ) → HasFile (D.told disk.old) number bytes → Holds number bytes BadHeader))) }
         ensures same { D.told disk.new ≡ D.told disk.old }
         ensures fault { IsErrOf result FrameRefused.DiskFault → Rose (D.faults disk.old) (D.faults disk.new) }
@@ -190,6 +192,7 @@ impl LogReader {
         ensures given { IfOk result (λ given. (first : Rec) (records : List Rec) (count : ℕ) → IsFramed first → AllByRecursion IsFramed records → IsCount count → self.old.held ≡ closing (first ∷ records) count → IsGiven self.old self.new given first records count) }
         ensures file { IsSameFile self.old self.new }
         ensures refused { OnErr result (self.new ≡ self.old) }
+        ensures rises { OnOk result ((self.old.at < self.new.at) × (self.new.at < 2 ^ 64)) }
     {
         let (rec, next) = record_at(self.alloc, &self.frame, self.place)?;
         let at = self.at;
@@ -206,6 +209,7 @@ impl LogReader {
         ensures stays { IfOk result (λ found. found ≡ false → self.new ≡ self.old) }
         ensures loaded { IfOk result (λ found. self.old.blank ≡ false → self.old.at < self.old.size → (bytes : List ℕ) → HasFile (D.told disk.old) self.old.file bytes → length bytes ≡ self.old.size → IsLoaded found (drop self.old.at bytes) self.new.held) }
         ensures over { IfOk result (λ found. self.old.blank ≡ true → found ≡ false) }
+        ensures rises { OnOk result (self.old.at ≤ self.new.at) }
         ensures bad { IfErr result (λ e. WhereBad e (λ f at. (f ≡ self.old.file) × (at ≡ self.old.at) × (self.old.blank ≡ false) × (self.old.at < self.old.size) × ((bytes : List ℕ) → HasFile (D.told disk.old) self.old.file bytes → length bytes ≡ self.old.size → AfterOpen (drop self.old.at bytes) OpensNone))) }
         ensures refused { OnErr result (self.new ≡ self.old) }
         ensures same { D.told disk.new ≡ D.told disk.old }
@@ -241,6 +245,7 @@ impl LogReader {
     fn enter<D: Disk>(&mut self, disk: &mut D) -> Result<bool, FrameRefused>
         requires { IsThere (D.told disk.old) self.old.file }
         ensures held { IfOk result (λ found. IfTrue found (AreRecords self.new.held)) }
+        ensures rises { OnOk result (self.old.at ≤ self.new.at) }
         ensures stands { IfOk result (λ found. (bytes : List ℕ) (items : List (Rec × ℕ)) (fault : Option ℕ) → HasFile (D.told disk.old) self.old.file bytes → Remains self.old bytes items fault → Stands found self.new bytes items fault) }
         ensures bad { IfErr result (λ e. WhereBad e (λ f at. (f ≡ self.old.file) × ((bytes : List ℕ) (items : List (Rec × ℕ)) (fault : Option ℕ) → HasFile (D.told disk.old) self.old.file bytes → Remains self.old bytes items fault → (items ≡ []) × (fault ≡ Some at)))) }
         ensures refused { OnErr result (self.new ≡ self.old) }
@@ -263,15 +268,22 @@ impl LogReader {
         self.drops
     }
 
-    /// The next record other than END of the file's committed frames, with its offset. None at the end of the frames. A
-    /// frame is whole in the file, its END's count included, and has a next commit byte, before its first record is given.
-    /// After a refusal the same record is still to come.
-    pub fn next<D: Disk>(&mut self, disk: &mut D) -> Result<Option<(Rec, u64)>, FrameRefused>
+    /// The next record other than END of the file's committed frames, with its offset, for which one step is counted. None
+    /// at the end of the frames. A frame is whole in the file, its END's count included, and has a next commit byte, before
+    /// its first record is given. After a refusal the same record is still to come.
+    pub fn next<D: Disk, L: Ledger>(
+        &mut self,
+        disk: &mut D,
+        steps: &mut Steps<L>,
+    ) -> Result<Option<(Rec, u64)>, FrameRefused>
         requires { IsThere (D.told disk.old) self.old.file }
         ensures given { IfOk result (λ given. (bytes : List ℕ) (items : List (Rec × ℕ)) (fault : Option ℕ) → HasFile (D.told disk.old) self.old.file bytes → Remains self.old bytes items fault → Gives given self.new bytes items fault) }
         ensures bad { IfErr result (λ e. WhereBad e (λ f at. (f ≡ self.old.file) × ((bytes : List ℕ) (items : List (Rec × ℕ)) (fault : Option ℕ) → HasFile (D.told disk.old) self.old.file bytes → Remains self.old bytes items fault → (items ≡ []) × (fault ≡ Some at)))) }
         ensures refused { OnErr result ((bytes : List ℕ) (items : List (Rec × ℕ)) (fault : Option ℕ) → HasFile (D.told disk.old) self.old.file bytes → Remains self.old bytes items fault → Remains self.new bytes items fault) }
         ensures file { IsSameFile self.old self.new }
+        ensures rises { IfOk result (λ given. IsSome given → (self.old.at < self.new.at) × (self.new.at < 2 ^ 64)) }
+        ensures ticks { IfOk result (λ given. steps.new ≡ steps.old + (if is_some given then 1 else 0)) }
+        ensures no_ticks { OnErr result (steps.new ≡ steps.old) }
         ensures same { D.told disk.new ≡ D.told disk.old }
         ensures fault { IsErrOf result FrameRefused.DiskFault → Rose (D.faults disk.old) (D.faults disk.new) }
         ensures later { D.faults disk.old ≤ D.faults disk.new }
@@ -280,7 +292,10 @@ impl LogReader {
             return Ok(None);
         }
         match self.give() {
-            Ok(given) => Ok(Some(given)),
+            Ok(given) => {
+                steps.tick();
+                Ok(Some(given))
+            }
             Err(_) => Err(FrameRefused::NoMemory),
         }
     }

@@ -1,7 +1,7 @@
 use Rattle.std.proofs.Common.{drop, arith}
 use Rattle.record_form.specs.declared.record.Read.TheVariants.{Whole}
 use Rattle.channel_log.proofs.ReadOn.{read_at}
-use Rattle.channel_log.proofs.Given.{next_within, length_first, rec_first, given_end, given_on, outcome_at, no_other}
+use Rattle.channel_log.proofs.Given.{next_within, some_more, length_first, rec_first, given_end, given_on, outcome_at, no_other}
 use Rattle.channel_log.proofs.reader.record_at.Goals as goal
 
 pub unreachable-requires : goal.unreachable-requires
@@ -31,3 +31,9 @@ returns-else-frame-next-eq-END-clause-given c = λ first records count framed ea
 
 pub returns-else-frame-next-eq-END-clause-within : goal.returns-else-frame-next-eq-END-clause-within
 returns-else-frame-next-eq-END-clause-within c = omega (arith, next_within c.args.frame.now c.args.place c.in-Whole.length c.in-Whole.kind c.requires.records (read_at c.args.frame.now c.args.place (Whole c.in-Whole.kind c.in-Whole.length) c.in-Whole.ensures))
+
+pub returns-then-frame-next-eq-END-clause-above : goal.returns-then-frame-next-eq-END-clause-above
+returns-then-frame-next-eq-END-clause-above c = omega (arith, some_more c.args.frame.now c.args.place c.in-Whole.length c.in-Whole.kind c.requires.records (read_at c.args.frame.now c.args.place (Whole c.in-Whole.kind c.in-Whole.length) c.in-Whole.ensures))
+
+pub returns-else-frame-next-eq-END-clause-above : goal.returns-else-frame-next-eq-END-clause-above
+returns-else-frame-next-eq-END-clause-above c = omega (arith, some_more c.args.frame.now c.args.place c.in-Whole.length c.in-Whole.kind c.requires.records (read_at c.args.frame.now c.args.place (Whole c.in-Whole.kind c.in-Whole.length) c.in-Whole.ensures))

@@ -1,0 +1,6 @@
+pub mod OpenLists
+pub mod Numbers
+pub mod Keys
+pub mod Applying
+pub mod Reading
+pub mod Lines

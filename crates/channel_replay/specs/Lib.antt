@@ -1,0 +1,6 @@
+pub mod Marks
+pub mod Rules
+pub mod Recover
+pub mod Open
+pub mod Recovery
+pub mod Plain

@@ -1,0 +1,350 @@
+// What log files leave, or their first fault. The expected answers follow from the rules of the format by hand; a few lines
+// of Python in bench/recover give the same.
+use crate::spelled::{Piece, files};
+use channel_replay::{RecoverRefused, Replayed, WholeFile, recover};
+use std::alloc::Global;
+use std::test::Fail;
+
+// What is expected.
+#[derive(Clone, Copy)]
+pub enum Want {
+    // The events that are left with their numbers, the next event number and the next transaction number.
+    Left(&'static [(u64, &'static [u8])], u64, u64),
+    // The file and the offset of the first fault.
+    Bad(u32, u64),
+}
+
+fn is_left(found: &Replayed, items: &[(u64, &[u8])], number: u64, txn: u64) -> bool {
+    if found.next.number != number || found.next.txn != txn || found.items.len() != items.len() {
+        return false;
+    }
+    for (item, (n, body)) in found.items.iter().zip(items) {
+        if item.0 != *n || item.1.body() != *body {
+            return false;
+        }
+    }
+    true
+}
+
+// Whether this is what is expected.
+pub fn is_wanted(found: &Result<Replayed, RecoverRefused>, want: &Want) -> bool {
+    match (found, want) {
+        (Ok(found), Want::Left(items, number, txn)) => is_left(found, items, *number, *txn),
+        (Err(RecoverRefused::BadLog { file, at }), Want::Bad(f, a)) => file == f && at == a,
+        _ => false,
+    }
+}
+
+// Some log files, and what they leave.
+struct Case {
+    files: &'static [(u32, &'static [Piece])],
+    want: Want,
+}
+
+const BEGUN: Piece = Piece::Header(1, 1, 1);
+
+const OPEN: Piece = Piece::Gate(1);
+
+const CLOSED: Piece = Piece::Gate(0);
+
+// The two lines a and b, one transaction each.
+const TWO: &[Piece] = &[
+    BEGUN,
+    OPEN,
+    Piece::Put(1, b'a'),
+    Piece::CommitPut(1, 0, 1),
+    Piece::End(2),
+    OPEN,
+    Piece::Put(2, b'b'),
+    Piece::CommitPut(2, 1, 1),
+    Piece::End(2),
+    CLOSED,
+];
+
+// A third line in a second file.
+const THIRD: &[Piece] = &[
+    Piece::Header(1, 1, 2),
+    OPEN,
+    Piece::Put(3, b'c'),
+    Piece::CommitPut(3, 2, 1),
+    Piece::End(2),
+    CLOSED,
+];
+
+// Transaction 1 puts x, transaction 2 puts y; the second commits first. Then two takes: one is rolled back, one commits.
+const INTERLEAVED: &[Piece] = &[
+    BEGUN,
+    OPEN,
+    Piece::Put(1, b'x'),
+    Piece::Put(2, b'y'),
+    Piece::CommitPut(2, 0, 1),
+    Piece::End(3),
+    OPEN,
+    Piece::CommitPut(1, 1, 1),
+    Piece::Take(3, 0),
+    Piece::Take(4, 1),
+    Piece::Rollback(3),
+    Piece::End(4),
+    OPEN,
+    Piece::CommitTake(4, 1),
+    Piece::End(1),
+    CLOSED,
+];
+
+// Puts that are open at the end of the first file.
+const LEFT_OPEN: &[Piece] = &[
+    BEGUN,
+    OPEN,
+    Piece::Put(7, b'u'),
+    Piece::Put(7, b'v'),
+    Piece::End(2),
+    CLOSED,
+];
+
+// They are committed in a file that follows a full one, but not in one that an opening began.
+const ROLLED: &[Piece] = &[
+    Piece::Header(1, 2, 2),
+    OPEN,
+    Piece::CommitPut(7, 0, 2),
+    Piece::End(1),
+    CLOSED,
+];
+
+const REOPENED: &[Piece] = &[
+    Piece::Header(1, 1, 2),
+    OPEN,
+    Piece::CommitPut(7, 0, 2),
+    Piece::End(1),
+    CLOSED,
+];
+
+// A file of 17 bytes drops nothing.
+const BLANK: &[Piece] = &[Piece::Header(1, 1, 2), CLOSED];
+
+const ROLLED_THIRD: &[Piece] = &[
+    Piece::Header(1, 2, 3),
+    OPEN,
+    Piece::CommitPut(7, 0, 2),
+    Piece::End(1),
+    CLOSED,
+];
+
+const LEFT: Want = Want::Left(&[(0, b"u"), (1, b"v")], 2, 8);
+
+const CASES: [Case; 16] = [
+    Case {
+        files: &[],
+        want: Want::Left(&[], 0, 1),
+    },
+    Case {
+        files: &[(1, &[BEGUN, CLOSED])],
+        want: Want::Left(&[], 0, 1),
+    },
+    Case {
+        files: &[(1, TWO), (2, THIRD)],
+        want: Want::Left(&[(0, b"a"), (1, b"b"), (2, b"c")], 3, 4),
+    },
+    Case {
+        files: &[(1, INTERLEAVED)],
+        want: Want::Left(&[(0, b"y")], 2, 5),
+    },
+    Case {
+        files: &[(1, LEFT_OPEN)],
+        want: Want::Left(&[], 0, 8),
+    },
+    Case {
+        files: &[(1, LEFT_OPEN), (2, ROLLED)],
+        want: LEFT,
+    },
+    Case {
+        files: &[(1, LEFT_OPEN), (2, REOPENED)],
+        want: Want::Bad(2, 17),
+    },
+    Case {
+        files: &[(1, LEFT_OPEN), (2, BLANK), (3, ROLLED_THIRD)],
+        want: LEFT,
+    },
+    // one byte behind an open commit byte
+    Case {
+        files: &[(1, &[BEGUN, OPEN, Piece::Garbage(1)])],
+        want: Want::Bad(1, 16),
+    },
+    // END counts one record too many
+    Case {
+        files: &[(
+            1,
+            &[
+                BEGUN,
+                OPEN,
+                Piece::Put(1, b'a'),
+                Piece::CommitPut(1, 0, 1),
+                Piece::End(3),
+                CLOSED,
+            ],
+        )],
+        want: Want::Bad(1, 16),
+    },
+    // a commit of a transaction that isn't open
+    Case {
+        files: &[(
+            1,
+            &[
+                BEGUN,
+                OPEN,
+                Piece::CommitPut(5, 0, 1),
+                Piece::End(1),
+                CLOSED,
+            ],
+        )],
+        want: Want::Bad(1, 17),
+    },
+    // 17 bytes count as empty, whatever they are
+    Case {
+        files: &[(1, &[Piece::Garbage(17)])],
+        want: Want::Left(&[], 0, 1),
+    },
+    // the header of another number
+    Case {
+        files: &[(3, THIRD)],
+        want: Want::Bad(3, 0),
+    },
+    // a number that an open take holds
+    Case {
+        files: &[(
+            1,
+            &[
+                BEGUN,
+                OPEN,
+                Piece::Put(1, b'a'),
+                Piece::CommitPut(1, 0, 1),
+                Piece::Take(2, 0),
+                Piece::Take(3, 0),
+                Piece::End(4),
+                CLOSED,
+            ],
+        )],
+        want: Want::Bad(1, 77),
+    },
+    // a transaction of puts takes
+    Case {
+        files: &[(
+            1,
+            &[
+                BEGUN,
+                OPEN,
+                Piece::Put(1, b'a'),
+                Piece::CommitPut(1, 0, 1),
+                Piece::Put(2, b'b'),
+                Piece::Take(2, 0),
+                Piece::End(4),
+                CLOSED,
+            ],
+        )],
+        want: Want::Bad(1, 82),
+    },
+    // transaction numbers end at 2^64 - 2
+    Case {
+        files: &[(
+            1,
+            &[
+                BEGUN,
+                OPEN,
+                Piece::Put(u64::MAX - 1, b'a'),
+                Piece::Put(u64::MAX, b'b'),
+                Piece::End(2),
+                CLOSED,
+            ],
+        )],
+        want: Want::Bad(1, 39),
+    },
+];
+
+#[test]
+fn log_files_leave_what_their_commits_say(rt: HostRuntime) -> Result<(), Fail> {
+    let alloc = rt.alloc();
+    for case in CASES.iter() {
+        let files = files(alloc, case.files)?;
+        assert!(&rt; is_wanted(&recover(alloc, &files), &case.want));
+    }
+    Ok(())
+}
+
+const FIRST: Want = Want::Left(&[(0, b"a")], 1, 2);
+
+const BOTH: Want = Want::Left(&[(0, b"a"), (1, b"b")], 2, 3);
+
+const NONE: Want = Want::Left(&[], 0, 1);
+
+// Up to these lengths, what is left of the two lines.
+const CUTS: [(usize, Want); 4] = [
+    (17, NONE),
+    (65, Want::Bad(1, 16)),
+    (114, Want::Bad(1, 65)),
+    (115, BOTH),
+];
+
+// Up to these offsets, what is left where the byte is ff.
+const CHANGES: [(usize, Want); 18] = [
+    (15, Want::Bad(1, 0)),
+    (16, NONE),
+    (17, Want::Bad(1, 16)),
+    (25, Want::Bad(1, 39)),
+    (37, Want::Bad(1, 16)),
+    (38, Want::Left(&[(0, b"\xff"), (1, b"b")], 2, 3)),
+    (39, Want::Bad(1, 16)),
+    (59, Want::Bad(1, 39)),
+    (64, Want::Bad(1, 16)),
+    (65, FIRST),
+    (66, Want::Bad(1, 65)),
+    (74, Want::Bad(1, 88)),
+    (86, Want::Bad(1, 65)),
+    (87, Want::Left(&[(0, b"a"), (1, b"\xff")], 2, 3)),
+    (88, Want::Bad(1, 65)),
+    (108, Want::Bad(1, 88)),
+    (113, Want::Bad(1, 65)),
+    (114, BOTH),
+];
+
+// What is expected at a length or offset.
+fn want_at(table: &[(usize, Want)], n: usize) -> Option<&Want> {
+    for (last, want) in table {
+        if n <= *last {
+            return Some(want);
+        }
+    }
+    None
+}
+
+// Whether the file of these bytes leaves what is expected.
+fn leaves(alloc: Global, bytes: Vec<u8>, want: Option<&Want>) -> bool {
+    let file = WholeFile { number: 1, bytes };
+    match want {
+        Some(want) => is_wanted(&recover(alloc, &[file]), want),
+        None => false,
+    }
+}
+
+#[test]
+fn a_file_is_cut_at_each_length(rt: HostRuntime) -> Result<(), Fail> {
+    let alloc = rt.alloc();
+    let whole = files(alloc, &[(1, TWO)])?;
+    assert!(&rt; whole[0].bytes.len() == 115);
+    for n in 0..116 {
+        let bytes = whole[0].bytes[..n].to_vec(alloc)?;
+        assert!(&rt; leaves(alloc, bytes, want_at(&CUTS, n)));
+    }
+    Ok(())
+}
+
+#[test]
+fn each_byte_of_a_file_is_changed(rt: HostRuntime) -> Result<(), Fail> {
+    let alloc = rt.alloc();
+    let whole = files(alloc, &[(1, TWO)])?;
+    for n in 0..115 {
+        let mut bytes = whole[0].bytes.clone()?;
+        assert!(&rt; n < bytes.len());
+        bytes[n] = 255;
+        assert!(&rt; leaves(alloc, bytes, want_at(&CHANGES, n)));
+    }
+    Ok(())
+}

@@ -1,0 +1,9 @@
+//! A channel in memory.
+#![tactic(auto)]
+
+mod channel;
+
+pub use channel::MemoryChannel;
+
+#[cfg(test)]
+mod tests;

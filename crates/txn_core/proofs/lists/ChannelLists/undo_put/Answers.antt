@@ -1,0 +1,58 @@
+use Rattle.std.proofs.Common.{◌≡◌, ◌∙◌, ◌≤◌, ◌-◌, ◌++◌, ◌∷◌, [], arith, subst, sym, refl}
+use Rattle.std.specs.Vec.{vec_capacity}
+use Rattle.event_core.specs.declared.journal.Entry.TheVariants.{Puts}
+use Rattle.channel_face.specs.Machine.{State, with_entry}
+use Rattle.txn_core.specs.Places.{IsAt}
+use Rattle.txn_core.specs.View.{state_of}
+use Rattle.txn_core.proofs.Undone.{was_added, put_undone, some_put}
+use Rattle.txn_core.proofs.lists.ChannelLists.undo_put.Goals as goal
+
+pub pop_at-requires : goal.pop_at-requires
+pop_at-requires c =
+    let m = c.self.inside in
+    let s : State = state_of m in
+    let before = c.requires.0 in
+    let number = c.requires.1 in
+    let events = c.requires.2 in
+    let event = c.requires.3 in
+    let at : IsAt before number c.args.place (Puts events) = c.requires.4 in
+    let is : s.opened ≡ with_entry number (Puts (events ++ event ∷ [])) before = subst (λ (t : State). t.opened ≡ with_entry number (Puts (events ++ event ∷ [])) before) (sym c.self.view_is) c.requires.5 in
+    let was = was_added before s.opened number c.args.place (Puts events) (Puts (events ++ event ∷ [])) at is in
+    was.in_range
+
+pub invariant_of-self : goal.invariant_of-self
+invariant_of-self c =
+    let m = c.self.inside in
+    let s : State = state_of m in
+    let before = c.requires.0 in
+    let number = c.requires.1 in
+    let events = c.requires.2 in
+    let event = c.requires.3 in
+    let at : IsAt before number c.args.place (Puts events) = c.requires.4 in
+    let is : s.opened ≡ with_entry number (Puts (events ++ event ∷ [])) before = subst (λ (t : State). t.opened ≡ with_entry number (Puts (events ++ event ∷ [])) before) (sym c.self.view_is) c.requires.5 in
+    let was = was_added before s.opened number c.args.place (Puts events) (Puts (events ++ event ∷ [])) at is in
+    let popped : c.pop_at.new.opened.items ≡ before = c.pop_at.ensures.puts number events event was.item ∙ was.back in
+    let some : 1 ≤ m.open_puts = some_put s before number c.args.place events event m.open_puts m.staged_puts (vec_capacity m.items) (vec_capacity m.staged) c.self.invariant at is in
+    rw popped (put_undone s before number c.args.place events event m.open_puts (m.open_puts - 1) m.staged_puts (vec_capacity m.items) (vec_capacity m.staged) c.self.invariant at is (omega (arith, some)))
+
+pub overflow_sub-self : goal.overflow_sub-self
+overflow_sub-self c =
+    let m = c.self.inside in
+    let s : State = state_of m in
+    let before = c.requires.0 in
+    let number = c.requires.1 in
+    let events = c.requires.2 in
+    let event = c.requires.3 in
+    let at : IsAt before number c.args.place (Puts events) = c.requires.4 in
+    let is : s.opened ≡ with_entry number (Puts (events ++ event ∷ [])) before = subst (λ (t : State). t.opened ≡ with_entry number (Puts (events ++ event ∷ [])) before) (sym c.self.view_is) c.requires.5 in
+    let was = was_added before s.opened number c.args.place (Puts events) (Puts (events ++ event ∷ [])) at is in
+    some_put s before number c.args.place events event m.open_puts m.staged_puts (vec_capacity m.items) (vec_capacity m.staged) c.self.invariant at is
+
+pub returns : goal.returns
+returns c = λ before number events event at is'.
+    let m = c.self.inside in
+    let s : State = state_of m in
+    let is : s.opened ≡ with_entry number (Puts (events ++ event ∷ [])) before = subst (λ (t : State). t.opened ≡ with_entry number (Puts (events ++ event ∷ [])) before) (sym c.self.view_is) is' in
+    let was = was_added before s.opened number c.args.place (Puts events) (Puts (events ++ event ∷ [])) at is in
+    let popped : c.pop_at.new.opened.items ≡ before = c.pop_at.ensures.puts number events event was.item ∙ was.back in
+    rw (← c.self.view_is, popped) refl

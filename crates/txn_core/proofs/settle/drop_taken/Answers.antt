@@ -1,0 +1,12 @@
+use Rattle.std.proofs.Common.{rules, ◌∙◌, ℕ, not}
+use Rattle.std.proofs.lemmas.Fn.{filter_same}
+use Rattle.event_core.specs.Content.{Content}
+use Rattle.event_core.specs.Journal.{taken_numbers, is_among}
+use Rattle.channel_face.specs.Machine.{entries}
+use Rattle.txn_core.proofs.Taken.{without_filter}
+use Rattle.txn_core.proofs.settle.drop_taken.Goals as goal
+
+pub returns-clause-items : goal.returns-clause-items
+returns-clause-items c =
+    filter_same _ (λ (item : ℕ × Content). not (is_among (taken_numbers (entries c.args.staged.now)) item.0)) _ (λ x b f' k. search rules) _ _ c.retain.ensures.filtered
+    ∙ without_filter (taken_numbers (entries c.args.staged.now)) c.args.items.now.items
