@@ -1,0 +1,10 @@
+//! Selectors: which channels of a source get an event, by its headers.
+#![tactic(auto)]
+
+mod choice;
+mod selector;
+
+pub use selector::{Choice, Selector, select};
+
+#[cfg(test)]
+mod tests;
