@@ -1,7 +1,7 @@
 -- What the events so far leave.
 use Rattle.std.proofs.Common.{◌≡◌, ℕ, ◌<◌, ◌≤◌, Bool, true, false, cond, ltb, List, [], ◌∷◌, ◌++◌, length, refl, sym, ap, subst, ◌∙◌, arith, inl, inr}
 use Rattle.std.specs.Prelude.{Option, Some, None, is_some, fold, Err, pos, negsuc}
-use Rattle.std.proofs.lemmas.Bool.{le-ltb, lt-ltb}
+use Rattle.std.proofs.lemmas.Bool.{cases_lt, le-ltb, lt-ltb}
 use Rattle.event_core.specs.Content.{Header, Content, content, size, with_header}
 use Rattle.avro_binary.specs.declared.refused.ValueRefused.{ValueRefused}
 use Rattle.avro_binary.specs.Value.{IsBytes, BytesFault, IsText}
@@ -15,6 +15,7 @@ use Rattle.avro_binary.proofs.Lists.{join_parts, length-part}
 use Rattle.avro_binary.proofs.Faults.{behind, moved, refusal_of, same_place_refusal}
 use Rattle.avro_binary.specs.Event.{first_large, max_size, headers_of, IsEvent, EventFault, BatchFault, ReadsBatch}
 use Rattle.avro_binary.specs.Found.{Collects, IsRefusal}
+use Rattle.avro_binary.specs.Laws.{AreSmall}
 
 -- one entry more
 fold_more : (entries : List Header) (entry : Header) (start : List Header) → fold (λ (headers : List Header) (e : Header). with_header headers e.0 e.1) start (entries ++ entry ∷ []) ≡ with_header (fold (λ (headers : List Header) (e : Header). with_header headers e.0 e.1) start entries) entry.0 entry.1
@@ -119,3 +120,25 @@ some_event bytes item end event p i =
     let some = some_items (IsEntry IsText) 0 i.front i.entries i.map refl in
     let len = length-part bytes item end p in
     omega (arith, ap length i.whole, length-append i.front i.back)
+
+-- ---- no event is too large
+
+pub none_large : (events : List Content) → AreSmall events → first_large events ≡ None
+none_large [] small = refl
+none_large (e ∷ events) small = ap (λ (b : Bool). choice b (size e) (first_large events)) (le-ltb max_size (size e) small.0) ∙ none_large events small.1
+
+some_or_none : {A : Type 0} (b : Bool) (n : ℕ) (rest : Option ℕ) → b ≡ true → choice b n rest ≡ None → A
+some_or_none true n rest e f = absurd cc
+some_or_none false n rest e f = absurd cc
+
+rest_none : (b : Bool) (n : ℕ) (rest : Option ℕ) → choice b n rest ≡ None → rest ≡ None
+rest_none true n rest e = absurd cc
+rest_none false n rest e = e
+
+pub small_events : (events : List Content) → first_large events ≡ None → AreSmall events
+small_events [] none = tt
+small_events (e ∷ events) none =
+    elim (cases_lt max_size (size e)) [
+      | inl lt ↦ some_or_none (ltb max_size (size e)) (size e) (first_large events) (lt-ltb max_size (size e) lt) none
+      | inr le ↦ (le, small_events events (rest_none (ltb max_size (size e)) (size e) (first_large events) none))
+    ]

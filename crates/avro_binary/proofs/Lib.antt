@@ -7,4 +7,6 @@ pub mod Collect
 pub mod Writing
 pub mod PrefixFree
 pub mod NoFault
+pub mod OneFault
+pub mod Shortest
 pub mod Spelled

@@ -12,7 +12,7 @@ use Rattle.avro_binary.specs.Laws.{IsPrefixFree, ExcludesFaults}
 use Rattle.avro_binary.proofs.Lists.{same_front}
 use Rattle.avro_binary.proofs.PrefixFree.{same_head, same_groups, same_long, same_natural, same_count, same_text, same_entry, same_bytes, same_map, same_event, rest_same}
 
-never_goes_on : (front rest : List ℕ) (n : ℕ) → IsGroups front n → AllGoOn (front ++ rest) → ⊥
+pub never_goes_on : (front rest : List ℕ) (n : ℕ) → IsGroups front n → AllGoOn (front ++ rest) → ⊥
 never_goes_on [] rest n g h = g
 never_goes_on (b ∷ []) rest n g h = omega (arith, g.0, h.0)
 never_goes_on (b ∷ c ∷ front) rest n g h = never_goes_on (c ∷ front) rest g.2 g.4 h.1
@@ -51,7 +51,7 @@ boolean_whole front rest false f p h = boolean_fault 0 rest f (omega arith) (sub
 parts : (a b w x : List ℕ) → w ≡ a ++ b → w ++ x ≡ a ++ (b ++ x)
 parts a b w x e = ap (λ (t : List ℕ). t ++ x) e ∙ append_assoc a b x
 
-long_at : (front : List ℕ) (rest : List ℕ) (z : ℤ) (bytes : List ℕ) (f : Fault) → IsLong front z → bytes ≡ front ++ rest → LongFault bytes f → ⊥
+pub long_at : (front : List ℕ) (rest : List ℕ) (z : ℤ) (bytes : List ℕ) (f : Fault) → IsLong front z → bytes ≡ front ++ rest → LongFault bytes f → ⊥
 long_at front rest z bytes f p e h = long_whole front rest z f p (subst (λ (t : List ℕ). LongFault t f) e h)
 
 pub bytes_whole : ExcludesFaults IsBytes BytesFault
@@ -77,7 +77,7 @@ text_whole front rest v f p (NotUtf8 other content more whole long not_utf8 e) =
 pub fixed_whole : ExcludesFaults IsFixed FixedFault
 fixed_whole front rest v f p h = omega (arith, h.0, length-append front rest, ap length p.0, p.1)
 
-count_whole : (front rest : List ℕ) (n : ℕ) (f : Fault) → IsCount front n → CountFault (front ++ rest) f → ⊥
+pub count_whole : (front rest : List ℕ) (n : ℕ) (f : Fault) → IsCount front n → CountFault (front ++ rest) f → ⊥
 count_whole front rest n f (Plain p) (InCount h) = long_whole front rest (pos n) f p h
 count_whole front rest n f (Plain p) (InSize other more k inner whole long h e) =
     let s = same_long front other rest more (pos n) (negsuc k) p long whole in
@@ -121,7 +121,7 @@ behind_whole First Second Faults a b front rest v w f free whole_second whole p 
     let s = free a h.front (b ++ rest) h.rest v h.value p h.spelled g in
     whole_second b rest w h.inner q (subst (λ (t : List ℕ). Faults t h.inner) (sym (rest_same a h.front (b ++ rest) h.rest s.0 g)) h.fault)
 
-entry_whole : (Spells : List ℕ → List ℕ → Type 0) (Faults : List ℕ → Fault → Type 0) → ExcludesFaults Spells Faults → ExcludesFaults (IsEntry Spells) (EntryFault Faults)
+pub entry_whole : (Spells : List ℕ → List ℕ → Type 0) (Faults : List ℕ → Fault → Type 0) → ExcludesFaults Spells Faults → ExcludesFaults (IsEntry Spells) (EntryFault Faults)
 entry_whole Spells Faults whole_value front rest v f p (inl h) = text_whole p.front (p.back ++ rest) v.0 f p.key (subst (λ (t : List ℕ). TextFault t f) (parts p.front p.back front rest p.whole) h)
 entry_whole Spells Faults whole_value front rest v f p (inr h) = behind_whole IsText Spells Faults p.front p.back front rest v.0 v.1 f same_text whole_value p.whole p.key p.value h
 

@@ -19,10 +19,10 @@ use Rattle.avro_binary.specs.Value.{IsText}
 use Rattle.avro_binary.specs.Items.{IsCount, Plain, IsItems, Next, Open, Close, IsEntry}
 use Rattle.avro_binary.specs.Event.{IsEvent, headers_of}
 use Rattle.avro_binary.specs.Written.{written_groups, written_number, written_bytes, written_items, written_entry, written_map, written_event}
-use Rattle.avro_binary.specs.Laws.{IntsAreSpelled, LongsAreSpelled, BooleansAreSpelled, BytesAreSpelled, TextsAreSpelled, IsShortHeader, FitsMemory, EventsAreSpelled, BatchesAreSpelled, NumbersAreShortest}
+use Rattle.avro_binary.specs.Laws.{IntsAreSpelled, LongsAreSpelled, BooleansAreSpelled, BytesAreSpelled, TextsAreSpelled, IsShortHeader, FitsMemory, EventsAreSpelled, BatchesAreSpelled}
 use Rattle.avro_binary.proofs.Groups.{cons_groups}
-use Rattle.avro_binary.proofs.Writing.{groups_none, groups_last, groups_more}
-use Rattle.avro_binary.proofs.Blocks.{some_groups}
+use Rattle.avro_binary.proofs.Writing.{groups_last, groups_more}
+use Rattle.avro_binary.proofs.Shortest.{shortest_groups}
 
 pub record AreGroups (most n : ℕ) : Type 0 where
   pub groups : IsGroups (written_groups most n) n
@@ -72,26 +72,6 @@ int_fits (negsuc n) h = omega (arith, ints, h)
 
 pub longs_spelled : LongsAreSpelled
 longs_spelled z h = spelled_number (zigzag z) (long_fits z h)
-
--- no spelling is shorter
-longer : (k n : ℕ) (bytes : List ℕ) → 128 ≤ n → IsGroups bytes n → ((high : ℕ) (rest : List ℕ) → IsGroups rest high → n / 128 ≡ high → length (written_groups k (n / 128)) ≤ length rest) → length (written_groups (suc k) n) ≤ length bytes
-longer k n [] large g more = absurd g
-longer k n (b ∷ []) large g more = absurd (omega (arith, g.0, g.1))
-longer k n (b ∷ c ∷ bytes) large g more =
-    let high : n / 128 ≡ g.2 = omega (arith, g.0, g.1, g.3) in
-    let rest = more g.2 (c ∷ bytes) g.4 high in
-    omega (arith, ap length (groups_more k n large))
-
-shortest_groups : (k n : ℕ) (bytes : List ℕ) → IsGroups bytes n → length (written_groups k n) ≤ length bytes
-shortest_groups zero n bytes g = omega (arith, ap length (groups_none n))
-shortest_groups (suc k) n bytes g =
-    elim (cases_lt n 128) [
-      | inl lt ↦ let some = some_groups bytes n g in omega (arith, ap length (groups_last k n lt))
-      | inr le ↦ longer k n bytes le g (λ high rest h e. shortest_groups k (n / 128) rest (subst (λ (m : ℕ). IsGroups rest m) (sym e) h))
-    ]
-
-pub shortest : NumbersAreShortest
-shortest bytes z p = shortest_groups 10 (zigzag z) bytes p.groups
 
 pub ints_spelled : IntsAreSpelled
 ints_spelled z h =

@@ -1,5 +1,5 @@
 -- Events and batches: the record AvroFlumeEvent, and an array of it.
-use Rattle.std.specs.Prelude.{◌≡◌, ◌<◌, ℕ, List, [], ◌∷◌, ◌++◌, ◌⊎◌, Option, Some, None, Result, Ok, Err, fold, if◌then◌else◌, nat_lt}
+use Rattle.std.specs.Prelude.{◌≡◌, ◌<◌, ◌≤◌, ℕ, List, [], ◌∷◌, ◌++◌, ◌⊎◌, Option, Some, None, Result, Ok, Err, fold, if◌then◌else◌, nat_lt}
 use Rattle.event_core.specs.Content.{Header, Content, size, with_header}
 use Rattle.avro_binary.specs.declared.refused.ValueRefused.{ValueRefused}
 use Rattle.avro_binary.specs.declared.refused.ValueRefused.TheVariants.{Short, Bad, TooLarge, NoMemory}
@@ -42,14 +42,14 @@ first_large (event ∷ events) = if nat_lt max_size (size event) then Some (size
 
 -- what a reader of an event answers; want of memory is free
 abbrev pub ReadsEvent : List ℕ → ℕ → Result (Content × ℕ) ValueRefused → Type 0
-ReadsEvent bytes at (Ok found) = IsPart bytes at found.1 × IsEvent (part bytes at found.1) found.0
+ReadsEvent bytes at (Ok found) = IsPart bytes at found.1 × IsEvent (part bytes at found.1) found.0 × (size found.0 ≤ max_size)
 ReadsEvent bytes at (Err (Short field need)) = LacksAt EventFault bytes at field need
 ReadsEvent bytes at (Err (Bad field)) = WrongAt EventFault bytes at field
 ReadsEvent bytes at (Err (TooLarge n end)) = (event : Content) × IsPart bytes at end × IsEvent (part bytes at end) event × (n ≡ size event) × (max_size < n)
 ReadsEvent bytes at (Err NoMemory) = Unit {0}
 
 abbrev pub ReadsBatch : List ℕ → ℕ → Result (List Content × ℕ) ValueRefused → Type 0
-ReadsBatch bytes at (Ok found) = IsPart bytes at found.1 × IsBatch (part bytes at found.1) found.0
+ReadsBatch bytes at (Ok found) = IsPart bytes at found.1 × IsBatch (part bytes at found.1) found.0 × (first_large found.0 ≡ None)
 ReadsBatch bytes at (Err (Short field need)) = LacksAt BatchFault bytes at field need
 ReadsBatch bytes at (Err (Bad field)) = WrongAt BatchFault bytes at field
 ReadsBatch bytes at (Err (TooLarge n end)) = (events : List Content) × IsPart bytes at end × IsBatch (part bytes at end) events × (first_large events ≡ Some n)

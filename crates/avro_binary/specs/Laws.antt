@@ -1,13 +1,13 @@
 -- What holds of all spellings.
-use Rattle.std.specs.Prelude.{◌≡◌, ◌<◌, ◌≤◌, ◌^◌, ℕ, Bool, List, ◌++◌, length, ℤ, FitsSigned}
+use Rattle.std.specs.Prelude.{◌≡◌, ◌<◌, ◌≤◌, ◌^◌, ℕ, ◌*◌, Bool, List, ◌++◌, length, ℤ, FitsSigned, None}
 use Rattle.std.specs.Int.{w32, w64}
 use Rattle.std.specs.List.{AllByRecursion}
 use Rattle.std.specs.Str.{IsUtf8}
-use Rattle.event_core.specs.Content.{Header, Content, AreHeaders}
+use Rattle.event_core.specs.Content.{Header, Content, AreHeaders, size}
 use Rattle.avro_binary.specs.Fault.{Fault}
 use Rattle.avro_binary.specs.Number.{IsInt, IsLong}
 use Rattle.avro_binary.specs.Value.{IsBoolean, IsBytes, IsText}
-use Rattle.avro_binary.specs.Event.{IsEvent, IsBatch}
+use Rattle.avro_binary.specs.Event.{IsEvent, IsBatch, first_large, max_size}
 use Rattle.avro_binary.specs.Written.{written_number, written_boolean, written_bytes, written_event, written_batch}
 
 -- No spelling begins another of its type, and each is of one value.
@@ -17,6 +17,10 @@ IsPrefixFree {V} Spells = (a b x y : List ℕ) (v w : V) → Spells a v → Spel
 -- Where a spelling stands there is no fault, whatever follows.
 abbrev pub ExcludesFaults : {V : Type 0} → (List ℕ → V → Type 0) → (List ℕ → Fault → Type 0) → Type 0
 ExcludesFaults {V} Spells Faults = (front rest : List ℕ) (value : V) (f : Fault) → Spells front value → Faults (front ++ rest) f → ⊥
+
+-- What is at fault is at fault at one place.
+abbrev pub HasOneFault : (List ℕ → Fault → Type 0) → Type 0
+HasOneFault Faults = (bytes : List ℕ) (f g : Fault) → Faults bytes f → Faults bytes g → f ≡ g
 
 -- What is written is a spelling.
 abbrev pub IntsAreSpelled : Type 0
@@ -50,6 +54,18 @@ EventsAreSpelled = (event : Content) → FitsMemory event → IsEvent (written_e
 abbrev pub BatchesAreSpelled : Type 0
 BatchesAreSpelled = (events : List Content) → length events < 2 ^ 63 → AllByRecursion FitsMemory events → IsBatch (written_batch events) events
 
--- No spelling of a number is shorter than what is written.
-abbrev pub NumbersAreShortest : Type 0
-NumbersAreShortest = (bytes : List ℕ) (z : ℤ) → IsLong bytes z → length (written_number z) ≤ length bytes
+-- No spelling is shorter than what is written.
+abbrev pub IsShortest : {V : Type 0} → (List ℕ → V → Type 0) → (V → List ℕ) → Type 0
+IsShortest {V} Spells written = (bytes : List ℕ) (value : V) → Spells bytes value → length (written value) ≤ length bytes
+
+-- An event takes two bytes at least, and the end of a batch one.
+abbrev pub EventsTakeBytes : Type 0
+EventsTakeBytes = (bytes : List ℕ) (events : List Content) → IsBatch bytes events → 2 * length events < length bytes
+
+-- no event is above the limit
+abbrev pub AreSmall : List Content → Type 0
+AreSmall events = AllByRecursion (λ event. size event ≤ max_size) events
+
+-- There is no first event above the limit exactly where there is none.
+abbrev pub NoneIsLarge : Type 0
+NoneIsLarge = (events : List Content) → (AreSmall events → first_large events ≡ None) × (first_large events ≡ None → AreSmall events)

@@ -11,7 +11,10 @@ mod write;
 
 pub use event::{read_batch, read_event};
 pub use items::read_meta;
-pub use laws::{no_fault_in_a_value, one_spelling_at_a_place, written_is_spelled};
+pub use laws::{
+    facts_of_batches, no_fault_in_a_value, one_fault_at_a_place, one_spelling_at_a_place,
+    shortest_is_written, written_is_spelled,
+};
 pub use number::{read_int, read_long};
 pub use refused::ValueRefused;
 pub use value::{read_bool, read_bytes, read_fixed, read_text};

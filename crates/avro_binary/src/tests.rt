@@ -5,6 +5,62 @@ use std::test::Fail;
 
 const ZERO: [u8; 8] = [0; 8];
 
+const INTS_AT_THE_LIMITS: [(&[u8], Result<(i32, usize), ValueRefused>); 9] = [
+    (&[0xfe, 0xff, 0xff, 0xff, 0x0f], Ok((i32::MAX, 5))),
+    (&[0xff, 0xff, 0xff, 0xff, 0x0f], Ok((i32::MIN, 5))),
+    // longer than it need be, and still read
+    (&[0x82, 0x80, 0x80, 0x80, 0x00], Ok((1, 5))),
+    (&[0x82, 0x00, 0x07], Ok((1, 2))),
+    // too long, or too wide
+    (
+        &[0x82, 0x80, 0x80, 0x80, 0x80, 0x00],
+        Err(ValueRefused::Bad { at: 0 }),
+    ),
+    (
+        &[0xff, 0xff, 0xff, 0xff, 0x1f],
+        Err(ValueRefused::Bad { at: 0 }),
+    ),
+    (
+        &[0xff, 0xff, 0xff, 0xff, 0xff],
+        Err(ValueRefused::Bad { at: 0 }),
+    ),
+    (&[], Err(ValueRefused::Short { at: 0, need: 1 })),
+    (&[0x80, 0x80], Err(ValueRefused::Short { at: 0, need: 3 })),
+];
+
+const LONGS_AT_THE_LIMITS: [(&[u8], Result<(i64, usize), ValueRefused>); 7] = [
+    // 1 in two bytes and in ten
+    (&[0x82, 0x00], Ok((1, 2))),
+    (
+        &[0x82, 0x80, 0x80, 0x80, 0x80, 0x80, 0x80, 0x80, 0x80, 0x00],
+        Ok((1, 10)),
+    ),
+    // in eleven
+    (
+        &[
+            0x82, 0x80, 0x80, 0x80, 0x80, 0x80, 0x80, 0x80, 0x80, 0x80, 0x00,
+        ],
+        Err(ValueRefused::Bad { at: 0 }),
+    ),
+    // more than 64 bits
+    (
+        &[0x80, 0x80, 0x80, 0x80, 0x80, 0x80, 0x80, 0x80, 0x80, 0x02],
+        Err(ValueRefused::Bad { at: 0 }),
+    ),
+    // -1 in ten bytes, and one byte more
+    (
+        &[
+            0x81, 0x80, 0x80, 0x80, 0x80, 0x80, 0x80, 0x80, 0x80, 0x00, 0x00,
+        ],
+        Ok((-1, 10)),
+    ),
+    (
+        &[0xff, 0xff, 0xff, 0xff, 0xff, 0xff, 0xff, 0xff, 0xff],
+        Err(ValueRefused::Short { at: 0, need: 10 }),
+    ),
+    (&[], Err(ValueRefused::Short { at: 0, need: 1 })),
+];
+
 #[test]
 fn longs(rt: HostRuntime) -> Result<(), Fail> {
     let cases: [(i64, &[u8]); 11] = [
@@ -37,38 +93,12 @@ fn longs(rt: HostRuntime) -> Result<(), Fail> {
 
 #[test]
 fn numbers_at_the_limits(rt: HostRuntime) {
-    let ints: [(&[u8], Result<(i32, usize), ValueRefused>); 9] = [
-        (&[0xfe, 0xff, 0xff, 0xff, 0x0f], Ok((i32::MAX, 5))),
-        (&[0xff, 0xff, 0xff, 0xff, 0x0f], Ok((i32::MIN, 5))),
-        // longer than it need be, and still read
-        (&[0x82, 0x80, 0x80, 0x80, 0x00], Ok((1, 5))),
-        (&[0x82, 0x00, 0x07], Ok((1, 2))),
-        // too long, or too wide
-        (
-            &[0x82, 0x80, 0x80, 0x80, 0x80, 0x00],
-            Err(ValueRefused::Bad { at: 0 }),
-        ),
-        (
-            &[0xff, 0xff, 0xff, 0xff, 0x1f],
-            Err(ValueRefused::Bad { at: 0 }),
-        ),
-        (
-            &[0xff, 0xff, 0xff, 0xff, 0xff],
-            Err(ValueRefused::Bad { at: 0 }),
-        ),
-        (&[], Err(ValueRefused::Short { at: 0, need: 1 })),
-        (&[0x80, 0x80], Err(ValueRefused::Short { at: 0, need: 3 })),
-    ];
-    for (bytes, want) in ints {
-        assert_eq!(rt; read_int(bytes, 0), want);
+    for (bytes, want) in INTS_AT_THE_LIMITS {
+        assert!(rt; read_int(bytes, 0) == want);
     }
-    let nine = [0xff, 0xff, 0xff, 0xff, 0xff, 0xff, 0xff, 0xff, 0xff];
-    assert_eq!(rt;
-        read_long(&nine, 0),
-        Err(ValueRefused::Short { at: 0, need: 10 })
-    );
-    let wide = [0x80, 0x80, 0x80, 0x80, 0x80, 0x80, 0x80, 0x80, 0x80, 0x02];
-    assert_eq!(rt; read_long(&wide, 0), Err(ValueRefused::Bad { at: 0 }));
+    for (bytes, want) in LONGS_AT_THE_LIMITS {
+        assert!(rt; read_long(bytes, 0) == want);
+    }
 }
 
 #[test]
@@ -230,6 +260,9 @@ fn greatest_event(rt: HostRuntime) -> Result<(), Fail> {
     );
     one_spelling_at_a_place();
     no_fault_in_a_value();
+    one_fault_at_a_place();
     written_is_spelled();
+    shortest_is_written();
+    facts_of_batches();
     Ok(())
 }

@@ -16,7 +16,7 @@ joined_small : (b : List ℕ) (bs : List (List ℕ)) → length (joined (b ∷ b
 joined_small b bs small = let e = length-append b (joined bs) in (omega arith, omega arith)
 
 -- as many buffers at the front of both
-same_buffers : (bs cs : List (List ℕ)) (x y : List ℕ) → length bs ≡ length cs → length (joined bs) < 2 ^ 32 → length (joined cs) < 2 ^ 32 → flat_map buffer bs ++ x ≡ flat_map buffer cs ++ y → bs ≡ cs
+pub same_buffers : (bs cs : List (List ℕ)) (x y : List ℕ) → length bs ≡ length cs → length (joined bs) < 2 ^ 32 → length (joined cs) < 2 ^ 32 → flat_map buffer bs ++ x ≡ flat_map buffer cs ++ y → bs ≡ cs
 same_buffers [] [] x y len bl cl e = refl
 same_buffers [] (c ∷ cs) x y len bl cl e = absurd (omega arith)
 same_buffers (b ∷ bs) [] x y len bl cl e = absurd (omega arith)
@@ -29,7 +29,7 @@ same_buffers (b ∷ bs) (c ∷ cs) x y len bl cl e =
     cc
 
 -- heads at the front of both
-same_head : (m n j k : ℕ) (x y : List ℕ) → m < 2 ^ 32 → n < 2 ^ 32 → j < 2 ^ 32 → k < 2 ^ 32 → head m j ++ x ≡ head n k ++ y → (m ≡ n) × (j ≡ k) × (x ≡ y)
+pub same_head : (m n j k : ℕ) (x y : List ℕ) → m < 2 ^ 32 → n < 2 ^ 32 → j < 2 ^ 32 → k < 2 ^ 32 → head m j ++ x ≡ head n k ++ y → (m ≡ n) × (j ≡ k) × (x ≡ y)
 same_head m n j k x y ml nl jl kl e =
     let f = same_number m n (u32_bytes j ++ x) (u32_bytes k ++ y) ml nl (sym (append_assoc (u32_bytes m) (u32_bytes j) x) ∙ e ∙ append_assoc (u32_bytes n) (u32_bytes k) y) in
     let g = same_number j k x y jl kl f.1 in
@@ -53,7 +53,7 @@ one_pack_lem a b x y m n p q i j e =
     (i.whole ∙ rw (serial, s) (sym j.whole), serial, i.joins ∙ ap joined s ∙ sym j.joins)
 
 -- the first buffer of the longer list that the shorter one lacks
-lacked : (bs cs : List (List ℕ)) (x y : List ℕ) → length cs < length bs → length (joined bs) < 2 ^ 32 → length (joined cs) < 2 ^ 32 → flat_map buffer bs ++ x ≡ flat_map buffer cs ++ y → (b : List ℕ) × (more : List ℕ) × (y ≡ buffer b ++ more) × (length (joined cs) + length b ≤ length (joined bs))
+pub lacked : (bs cs : List (List ℕ)) (x y : List ℕ) → length cs < length bs → length (joined bs) < 2 ^ 32 → length (joined cs) < 2 ^ 32 → flat_map buffer bs ++ x ≡ flat_map buffer cs ++ y → (b : List ℕ) × (more : List ℕ) × (y ≡ buffer b ++ more) × (length (joined cs) + length b ≤ length (joined bs))
 lacked [] cs x y less bl cl e = absurd (omega arith)
 lacked (b ∷ bs) [] x y less bl cl e =
     (b, flat_map buffer bs ++ x, sym e ∙ append_assoc (buffer b) (flat_map buffer bs) x, omega (arith, length-append b (joined bs)))
@@ -72,7 +72,7 @@ lacked_in a x m p serial count cs rest i g =
     let r = lacked i.buffers cs x rest (omega (arith, h.1, g.lacking)) (omega arith) (omega (arith, g.small)) h.2 in
     (r.0, r.1, r.2, omega (arith, r.3))
 
-same_len : (b more rest : List ℕ) (len : ℕ) → len < 2 ^ 32 → length b ≤ max_bytes → u32_bytes len ++ rest ≡ buffer b ++ more → (len ≡ length b) × (rest ≡ b ++ more)
+pub same_len : (b more rest : List ℕ) (len : ℕ) → len < 2 ^ 32 → length b ≤ max_bytes → u32_bytes len ++ rest ≡ buffer b ++ more → (len ≡ length b) × (rest ≡ b ++ more)
 same_len b more rest len fits small e = same_number len (length b) rest (b ++ more) fits (omega arith) (e ∙ append_assoc (u32_bytes (length b)) b more)
 
 pub no_part : (a x : List ℕ) (m : ℕ) (p : List ℕ) → IsPack a m p → IsPart (a ++ x) → ⊥

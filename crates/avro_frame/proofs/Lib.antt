@@ -1,3 +1,4 @@
 pub mod Bytes
 pub mod Walk
 pub mod Laws
+pub mod OneFeed

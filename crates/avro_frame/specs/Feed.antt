@@ -32,3 +32,26 @@ FeedsBytes old piece (Err e) new = Refuses old piece e new
 abbrev pub Feeds : Packing → List ℕ → Result (ℕ × Option Message) PackRefused → Packing → Type 0
 Feeds (Holds old) piece result new = FeedsBytes old piece result new
 Feeds (Failed e) piece result new = (result ≡ Err e) × (new ≡ Failed e)
+
+-- the same bytes taken, the same message and the same stream behind it; want of memory may come in place of any
+abbrev pub SameFeed : Result (ℕ × Option Message) PackRefused → Packing → Result (ℕ × Option Message) PackRefused → Packing → Type 0
+SameFeed (Ok (j, None)) new (Ok (k, None)) new' = (j ≡ k) × (new ≡ new')
+SameFeed (Ok (j, None)) new (Ok (k, Some n)) new' = ⊥
+SameFeed (Ok (j, Some m)) new (Ok (k, None)) new' = ⊥
+SameFeed (Ok (j, Some m)) new (Ok (k, Some n)) new' = (j ≡ k) × (m.serial ≡ n.serial) × (m.payload.items ≡ n.payload.items) × (new ≡ new')
+SameFeed (Ok found) new (Err (TooMany k)) new' = ⊥
+SameFeed (Ok found) new (Err (TooLarge k)) new' = ⊥
+SameFeed (Ok found) new (Err NoMemory) new' = Unit {0}
+SameFeed (Err (TooMany j)) new (Ok found) new' = ⊥
+SameFeed (Err (TooMany j)) new (Err (TooMany k)) new' = (j ≡ k) × (new ≡ new')
+SameFeed (Err (TooMany j)) new (Err (TooLarge k)) new' = ⊥
+SameFeed (Err (TooMany j)) new (Err NoMemory) new' = Unit {0}
+SameFeed (Err (TooLarge j)) new (Ok found) new' = ⊥
+SameFeed (Err (TooLarge j)) new (Err (TooMany k)) new' = ⊥
+SameFeed (Err (TooLarge j)) new (Err (TooLarge k)) new' = (j ≡ k) × (new ≡ new')
+SameFeed (Err (TooLarge j)) new (Err NoMemory) new' = Unit {0}
+SameFeed (Err NoMemory) new s new' = Unit {0}
+
+-- A piece has one outcome, but for want of memory.
+abbrev pub OneFeed : Type 0
+OneFeed = (old : Packing) (piece : List ℕ) (r s : Result (ℕ × Option Message) PackRefused) (new new' : Packing) → Feeds old piece r new → Feeds old piece s new' → SameFeed r new s new'

@@ -1,7 +1,7 @@
 // Cuts a stream of packs into messages.
 ghost use Rattle.std.specs.Prelude.{◌≡◌, [], IfOk};
 ghost use Rattle.avro_frame.specs.Pack.{IsPack, OnePack, NoPackInPart, NoPackInLarge};
-ghost use Rattle.avro_frame.specs.Feed.{Holds, packing, Feeds, FeedsBytes};
+ghost use Rattle.avro_frame.specs.Feed.{Holds, packing, Feeds, FeedsBytes, OneFeed};
 ghost use Rattle.avro_frame.specs.Pending.{IsAt, IsBehind, IsEnded};
 
 use crate::pending::{Cursor, Step, at_start, fill, join, number_at};
@@ -132,4 +132,9 @@ pub fn one_pack()
 pub fn no_pack_within()
     ensures part { NoPackInPart }
     ensures large { NoPackInLarge }
+{}
+
+/// A piece has one outcome, but for want of memory: `Packs::feed` leaves nothing open.
+pub fn one_feed()
+    ensures { OneFeed }
 {}

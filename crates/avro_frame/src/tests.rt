@@ -131,5 +131,6 @@ fn writes_a_reply(rt: HostRuntime) -> Result<(), Fail> {
     );
     one_pack();
     no_pack_within();
+    one_feed();
     Ok(())
 }

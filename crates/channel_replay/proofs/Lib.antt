@@ -4,3 +4,5 @@ pub mod Keys
 pub mod Applying
 pub mod Reading
 pub mod Lines
+pub mod Replaying
+pub mod Folders

@@ -126,7 +126,7 @@ pub record FramesOn (bytes : List ℕ) (gate file : ℕ) (was now : List Line) :
 pub frames_none : (bytes : List ℕ) (file : ℕ) (was : List Line) → 17 < length bytes → FramesOn bytes 16 file was was
 frames_none bytes file was long = record { done = []; each = tt; split = refl; at = refl; within = omega (arith, long); lines = sym (append-nil was) }
 
-record_lines-append : (file : ℕ) (a b : List (Rec × ℕ)) → record_lines file (a ++ b) ≡ record_lines file a ++ record_lines file b
+pub record_lines-append : (file : ℕ) (a b : List (Rec × ℕ)) → record_lines file (a ++ b) ≡ record_lines file a ++ record_lines file b
 record_lines-append file [] b = refl
 record_lines-append file (item ∷ a) b = ap (λ (l : List Line). Stands file item.1 item.0 ∷ l) (record_lines-append file a b)
 

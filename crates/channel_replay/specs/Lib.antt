@@ -4,3 +4,4 @@ pub mod Recover
 pub mod Open
 pub mod Recovery
 pub mod Plain
+pub mod Replay

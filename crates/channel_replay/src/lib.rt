@@ -1,6 +1,7 @@
 //! What a folder of log files stands for: its records applied in order.
 #![tactic(auto)]
 
+mod folder;
 mod items;
 mod line;
 mod open;
@@ -9,7 +10,8 @@ mod recovery;
 mod refused;
 mod whole;
 
+pub use folder::replay;
 pub use line::Line;
 pub use plain::{WholeFile, recover};
 pub use recovery::{Next, Replayed};
-pub use refused::RecoverRefused;
+pub use refused::{RecoverRefused, ReplayRefused};

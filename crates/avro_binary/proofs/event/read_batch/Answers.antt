@@ -1,8 +1,8 @@
-use Rattle.std.proofs.Common.{◌∙◌, List, [], ◌∷◌, ◌++◌, subst, sym, arith}
+use Rattle.std.proofs.Common.{◌∙◌, List, [], ◌∷◌, ◌++◌, subst, sym, ap, arith}
 use Rattle.std.proofs.lemmas.Result.{err_from_is_err_and}
 use Rattle.event_core.specs.Content.{Content}
 use Rattle.avro_binary.specs.Reading.{part}
-use Rattle.avro_binary.specs.Event.{IsEvent, EventFault, IsBatch}
+use Rattle.avro_binary.specs.Event.{IsEvent, EventFault, IsBatch, first_large}
 use Rattle.avro_binary.proofs.Collect.{nothing_yet, batch_refusal, batch_fault, some_event}
 use Rattle.avro_binary.proofs.Blocks.{begins, opened, closed, went, count_fault, item_refusal}
 use Rattle.avro_binary.proofs.event.read_batch.Goals as goal
@@ -18,7 +18,8 @@ returns-in_err-todo c =
 pub returns-in-None : goal.returns-in-None
 returns-in-None c =
     let k = closed IsEvent EventFault c.args.bytes.now c.args.at c.events.place c.events.left c.in_ok-todo.todo c.in_ok-todo.item c.events.invariant.0 c.events.invariant.1 c.in_ok-todo.ensures c.if-todo-eq0.true in
-    (k.0, subst (λ (b : List Content). IsBatch (part c.args.bytes.now c.args.at c.in_ok-todo.item) b) (sym (c.events.invariant.2.all c.in-None.is)) k.1)
+    let all = c.events.invariant.2.all c.in-None.is in
+    (k.0, subst (λ (b : List Content). IsBatch (part c.args.bytes.now c.args.at c.in_ok-todo.item) b) (sym all) k.1, ap first_large all ∙ sym c.events.invariant.2.large_is ∙ c.in-None.is)
 
 pub returns-in-Some : goal.returns-in-Some
 returns-in-Some c =

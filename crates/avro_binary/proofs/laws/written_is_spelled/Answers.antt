@@ -1,4 +1,4 @@
-use Rattle.avro_binary.proofs.Spelled.{ints_spelled, longs_spelled, booleans_spelled, bytes_spelled, texts_spelled, events_spelled, batches_spelled, shortest}
+use Rattle.avro_binary.proofs.Spelled.{ints_spelled, longs_spelled, booleans_spelled, bytes_spelled, texts_spelled, events_spelled, batches_spelled}
 use Rattle.avro_binary.proofs.laws.written_is_spelled.Goals as goal
 
 pub returns-clause-ints : goal.returns-clause-ints
@@ -21,6 +21,3 @@ returns-clause-events c = events_spelled
 
 pub returns-clause-batches : goal.returns-clause-batches
 returns-clause-batches c = batches_spelled
-
-pub returns-clause-shortest : goal.returns-clause-shortest
-returns-clause-shortest c = shortest

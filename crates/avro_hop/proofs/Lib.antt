@@ -1,0 +1,10 @@
+pub mod Items
+pub mod Sequences
+pub mod Whole
+pub mod Calling
+pub mod Greeting
+pub mod OneReading
+pub mod OneFault
+pub mod OneAnswer
+pub mod Lengths
+pub mod Within

@@ -1,0 +1,12 @@
+pub mod Accepted
+pub mod Sought
+pub mod Within
+pub mod Parts
+pub mod Handshake
+pub mod Calls
+pub mod Dialogue
+pub mod Told
+pub mod Parameters
+pub mod Refusal
+pub mod Bounds
+pub mod Laws

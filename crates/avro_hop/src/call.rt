@@ -1,0 +1,112 @@
+// Calls.
+ghost use Rattle.std.specs.Prelude.{◌≡◌, ◌≤◌, length};
+ghost use Rattle.avro_binary.specs.Event.{IsEvent, EventFault, IsBatch, BatchFault};
+ghost use Rattle.avro_binary.specs.Reading.{Reads};
+ghost use Rattle.avro_hop.specs.Parts.{WholeFault};
+ghost use Rattle.avro_hop.specs.Calls.{IsHead, HeadFault, IsOne};
+ghost use Rattle.avro_hop.specs.Parameters.{ReadsAll, behind_too_large, AsksFor, CallsAt};
+
+use crate::handshake::text_at;
+use crate::hop::{Asked, HopRefused};
+use crate::respond::{Status, add_response, add_unknown};
+use avro_binary::{ValueRefused, read_batch, read_event, read_meta};
+use event_core::Batch;
+use std::alloc::Global;
+
+// The name of the message, behind the metadata.
+fn name_at(bytes: &[u8], at: usize) -> Result<(&str, usize), ValueRefused>
+    requires { at ≤ length bytes.now }
+    ensures { Reads (λ s. s.now) IsHead HeadFault bytes.now at result }
+{
+    let behind = read_meta(bytes, at)?;
+    text_at(bytes, behind)
+}
+
+// The event that all of the bytes from the offset on are.
+fn whole_event(alloc: Global, bytes: &[u8], at: usize) -> Result<Batch, ValueRefused>
+    requires { at ≤ length bytes.now }
+    ensures { ReadsAll IsOne (WholeFault IsEvent EventFault) bytes.now at result }
+{
+    match read_event(alloc, bytes, at) {
+        Ok((event, end)) => {
+            if end < bytes.len() {
+                return Err(ValueRefused::Bad { at: end as u64 });
+            }
+            let mut batch = Batch::new(alloc);
+            match batch.push(event) {
+                Ok(()) => Ok(batch),
+                Err(_) => Err(ValueRefused::NoMemory),
+            }
+        }
+        Err(e) => Err(behind_large(bytes, e)),
+    }
+}
+
+// The events that all of the bytes from the offset on are.
+fn whole_batch(alloc: Global, bytes: &[u8], at: usize) -> Result<Batch, ValueRefused>
+    requires { at ≤ length bytes.now }
+    ensures { ReadsAll IsBatch (WholeFault IsBatch BatchFault) bytes.now at result }
+{
+    match read_batch(alloc, bytes, at) {
+        Ok((batch, end)) => {
+            if end < bytes.len() {
+                return Err(ValueRefused::Bad { at: end as u64 });
+            }
+            Ok(batch)
+        }
+        Err(e) => Err(behind_large(bytes, e)),
+    }
+}
+
+// A byte behind a value with too large an event is at fault.
+fn behind_large(bytes: &[u8], e: ValueRefused) -> ValueRefused
+    ensures { result ≡ behind_too_large (length bytes.now) e }
+{
+    match e {
+        ValueRefused::TooLarge { size, end } => {
+            if end < bytes.len() as u64 {
+                ValueRefused::Bad { at: end }
+            } else {
+                ValueRefused::TooLarge { size, end }
+            }
+        }
+        other => other,
+    }
+}
+
+// What a call of these events asks, behind the front of its payload.
+fn asked_of(front: Vec<u8>, events: Result<Batch, ValueRefused>) -> Result<Asked, HopRefused>
+    ensures { AsksFor front.items events result }
+{
+    match events {
+        Ok(batch) => Ok(Asked::Events { front, batch }),
+        Err(e) => match e {
+            ValueRefused::TooLarge { size: _, end: _ } => {
+                let mut payload = front;
+                add_response(Status::Failed, &mut payload)?;
+                Ok(Asked::Reply(payload))
+            }
+            other => Err(HopRefused::from(other)),
+        },
+    }
+}
+
+/// What the call at an offset asks, behind the front of its payload.
+pub fn call_at(alloc: Global, bytes: &[u8], at: usize, front: Vec<u8>) -> Result<Asked, HopRefused>
+    requires { at ≤ length bytes.now }
+    ensures { CallsAt front.items bytes.now at result }
+{
+    let (name, parameter) = name_at(bytes, at)?;
+    if name.is_empty() {
+        return Ok(Asked::Reply(front));
+    }
+    if name == "append" {
+        return asked_of(front, whole_event(alloc, bytes, parameter));
+    }
+    if name == "appendBatch" {
+        return asked_of(front, whole_batch(alloc, bytes, parameter));
+    }
+    let mut payload = front;
+    add_unknown(&mut payload)?;
+    Ok(Asked::Reply(payload))
+}

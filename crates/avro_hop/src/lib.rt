@@ -1,0 +1,23 @@
+//! One connection of Avro's handshake and calls, as a server answers it.
+#![tactic(auto)]
+
+mod accepted;
+mod call;
+mod handshake;
+mod hop;
+mod laws;
+mod look;
+mod protocol;
+mod respond;
+mod types;
+
+pub use accepted::accepts;
+pub use hop::{Asked, Hop, HopRefused};
+pub use laws::{one_answer, one_fault_at_a_place, one_reading, types_at_any_depth};
+pub use protocol::PROTOCOL;
+pub use respond::{Status, write_response};
+
+#[cfg(test)]
+mod tests;
+#[cfg(test)]
+mod texts;

@@ -1,0 +1,364 @@
+// Protocol texts of clients: this agent's text with one part written otherwise.
+use crate::protocol::hash_of;
+use crate::tests::HASH;
+use crate::{PROTOCOL, accepts};
+use event_core::NoMemory;
+use std::alloc::Global;
+use std::test::Fail;
+
+const ACCEPTED: [(&str, &str); 50] = [
+    ("\"AvroSourceProtocol\"", "\"Other\""),
+    ("\"protocol\":\"AvroSourceProtocol\",", ""),
+    ("\"namespace\":\"org.apache.flume.source.avro\",", ""),
+    ("org.apache.flume.source.avro", "some.other.space"),
+    (
+        "\"name\":\"Status\"",
+        "\"name\":\"Status\",\"namespace\":\"org.apache.flume.source.avro\"",
+    ),
+    (
+        "\"name\":\"Status\"",
+        "\"name\":\"org.apache.flume.source.avro.Status\"",
+    ),
+    (
+        "\"name\":\"AvroFlumeEvent\"",
+        "\"name\":\"org.apache.flume.source.avro.AvroFlumeEvent\"",
+    ),
+    (
+        "\"name\":\"AvroFlumeEvent\"",
+        "\"name\":\".AvroFlumeEvent\"",
+    ),
+    (
+        "\"response\":\"Status\"",
+        "\"response\":\"org.apache.flume.source.avro.Status\"",
+    ),
+    (
+        "\"type\":\"AvroFlumeEvent\"",
+        "\"type\":\"org.apache.flume.source.avro.AvroFlumeEvent\"",
+    ),
+    (
+        "\"items\":\"AvroFlumeEvent\"",
+        "\"items\":\"org.apache.flume.source.avro.AvroFlumeEvent\"",
+    ),
+    ("\"values\":\"string\"", "\"values\":{\"type\":\"string\"}"),
+    (
+        "\"values\":\"string\"",
+        "\"values\":{\"type\":\"string\",\"avro.java.string\":\"String\"}",
+    ),
+    (
+        "\"values\":\"string\"",
+        "\"values\":{\"avro.java.string\":\"String\",\"type\":\"string\"}",
+    ),
+    (
+        "\"values\":\"string\"",
+        "\"values\":\"string\",\"avro.java.string\":\"String\"",
+    ),
+    (
+        "{\"type\":\"map\",\"values\":\"string\"}",
+        "{\"values\":\"string\",\"type\":\"map\"}",
+    ),
+    (
+        "\"type\":\"enum\",\"name\":\"Status\"",
+        "\"name\":\"Status\",\"type\":\"enum\"",
+    ),
+    (
+        "\"type\":\"enum\"",
+        "\"type\":\"enum\",\"doc\":\"what became of the events\"",
+    ),
+    (
+        "\"type\":\"enum\"",
+        "\"type\":\"enum\",\"default\":\"UNKNOWN\"",
+    ),
+    (
+        "\"type\":\"enum\"",
+        "\"aliases\":[\"Reply\"],\"type\":\"enum\"",
+    ),
+    (
+        "\"type\":\"record\"",
+        "\"type\":\"record\",\"doc\":\"an event\"",
+    ),
+    ("\"type\":\"record\"", "\"type\":\"record\",\"aliases\":[]"),
+    (
+        "\"type\":\"record\"",
+        "\"type\":\"record\",\"namespace\":\"\"",
+    ),
+    (
+        "{\"name\":\"headers\"",
+        "{\"doc\":\"of the event\",\"name\":\"headers\"",
+    ),
+    (
+        "{\"name\":\"headers\"",
+        "{\"order\":\"ignore\",\"name\":\"headers\"",
+    ),
+    (
+        "{\"name\":\"headers\"",
+        "{\"aliases\":[\"head\"],\"default\":{},\"name\":\"headers\"",
+    ),
+    (
+        "{\"name\":\"body\",\"type\":\"bytes\"}",
+        "{\"name\":\"body\",\"type\":\"bytes\",\"order\":\"descending\"}",
+    ),
+    (
+        "{\"name\":\"body\",\"type\":\"bytes\"}",
+        "{\"name\":\"body\",\"type\":\"bytes\",\"default\":\"\"}",
+    ),
+    (
+        "{\"name\":\"body\",\"type\":\"bytes\"}",
+        "{\"type\":\"bytes\",\"name\":\"body\"}",
+    ),
+    ("\"append\":{", "\"append\":{\"doc\":\"one event\","),
+    ("\"appendBatch\":{", "\"appendBatch\":{\"doc\":\"many\","),
+    (
+        "\"response\":\"Status\"}",
+        "\"response\":\"Status\",\"errors\":[]}",
+    ),
+    (
+        "\"response\":\"Status\"}",
+        "\"response\":\"Status\",\"one-way\":false}",
+    ),
+    (
+        "\"response\":\"Status\"}",
+        "\"errors\":[],\"one-way\":false,\"response\":\"Status\"}",
+    ),
+    (
+        "{\"name\":\"event\"",
+        "{\"doc\":\"the event\",\"name\":\"event\"",
+    ),
+    (
+        "{\"name\":\"events\"",
+        "{\"name\":\"events\",\"default\":[]",
+    ),
+    (
+        "\"response\":\"Status\"",
+        "\"response\":{\"type\":\"enum\",\"name\":\"Status\",\"symbols\":[\"OK\",\"FAILED\",\"UNKNOWN\"]}",
+    ),
+    (
+        "\"type\":\"AvroFlumeEvent\"",
+        "\"type\":{\"type\":\"record\",\"name\":\"AvroFlumeEvent\",\"fields\":[{\"name\":\"headers\",\"type\":{\"type\":\"map\",\"values\":\"string\"}},{\"name\":\"body\",\"type\":\"bytes\"}]}",
+    ),
+    (
+        "\"items\":\"AvroFlumeEvent\"",
+        "\"items\":{\"type\":\"record\",\"name\":\"AvroFlumeEvent\",\"fields\":[{\"name\":\"headers\",\"type\":{\"type\":\"map\",\"values\":\"string\"}},{\"name\":\"body\",\"type\":\"bytes\"}]}",
+    ),
+    (",", " , "),
+    (":", ": "),
+    ("{", "{\n"),
+    (
+        "\"messages\":{",
+        "\"more\":{\"a\":[1,2.5,null,true]},\"messages\":{",
+    ),
+    ("\"types\":[", "\"doc\":\"types\",\"types\":["),
+    (
+        "\"types\":[",
+        "\"types\":[{\"type\":\"fixed\",\"name\":\"Hash\",\"size\":16},",
+    ),
+    (
+        "\"types\":[",
+        "\"types\":[{\"type\":\"enum\",\"name\":\"Colour\",\"symbols\":[\"RED\"]},",
+    ),
+    ("\"types\":[", "\"types\":[\"null\","),
+    ("\"name\":\"Status\"", "\"name\":\"\\u0053tatus\""),
+    ("\"OK\"", "\"\\u004fK\""),
+    (
+        "\"response\":\"Status\"",
+        "\"response\":\"Nothing\",\"response\":\"Status\"",
+    ),
+];
+
+// Whole texts: each type is written out somewhere, and nowhere is another under its name.
+const ACCEPTED_TEXTS: [&str; 7] = [
+    // as Avro's compiler for Java writes Flume's two messages, with texts as String
+    "{\"protocol\":\"AvroSourceProtocol\",\"namespace\":\"org.apache.flume.source.avro\",\"doc\":\"* Licensed to the Apache Software Foundation (ASF) under one\\n * or more contributor license agreements.\",\"types\":[{\"type\":\"enum\",\"name\":\"Status\",\"symbols\":[\"OK\",\"FAILED\",\"UNKNOWN\"]},{\"type\":\"record\",\"name\":\"AvroFlumeEvent\",\"fields\":[{\"name\":\"headers\",\"type\":{\"type\":\"map\",\"values\":{\"type\":\"string\",\"avro.java.string\":\"String\"},\"avro.java.string\":\"String\"}},{\"name\":\"body\",\"type\":\"bytes\"}]}],\"messages\":{\"append\":{\"request\":[{\"name\":\"event\",\"type\":\"AvroFlumeEvent\"}],\"response\":\"Status\"},\"appendBatch\":{\"request\":[{\"name\":\"events\",\"type\":{\"type\":\"array\",\"items\":\"AvroFlumeEvent\"}}],\"response\":\"Status\"}}}",
+    // both types where they are first used, and none before
+    "{\"messages\":{\"append\":{\"request\":[{\"name\":\"event\",\"type\":{\"type\":\"record\",\"name\":\"AvroFlumeEvent\",\"fields\":[{\"name\":\"headers\",\"type\":{\"type\":\"map\",\"values\":\"string\"}},{\"name\":\"body\",\"type\":\"bytes\"}]}}],\"response\":{\"type\":\"enum\",\"name\":\"Status\",\"symbols\":[\"OK\",\"FAILED\",\"UNKNOWN\"]}},\"appendBatch\":{\"request\":[{\"name\":\"events\",\"type\":{\"type\":\"array\",\"items\":\"AvroFlumeEvent\"}}],\"response\":\"Status\"}}}",
+    // messages before types, the record in the second of them, and its name with its namespace
+    "{\"messages\":{\"appendBatch\":{\"request\":[{\"type\":{\"items\":{\"name\":\"a.AvroFlumeEvent\",\"fields\":[{\"type\":{\"values\":\"string\",\"type\":\"map\"},\"name\":\"headers\"},{\"type\":\"bytes\",\"name\":\"body\"}],\"type\":\"record\"},\"type\":\"array\"},\"name\":\"events\"}],\"response\":\"a.Status\"},\"append\":{\"request\":[{\"type\":\"a.AvroFlumeEvent\",\"name\":\"event\"}],\"response\":\"a.Status\"}},\"types\":[{\"symbols\":[\"OK\",\"FAILED\",\"UNKNOWN\"],\"name\":\"Status\",\"namespace\":\"a\",\"type\":\"enum\"}]}",
+    // Status within a field of a further record, under a union
+    "{\"types\":[{\"type\":\"record\",\"name\":\"Answer\",\"fields\":[{\"name\":\"Status\",\"type\":[\"null\",{\"type\":\"enum\",\"name\":\"Status\",\"symbols\":[\"OK\",\"FAILED\",\"UNKNOWN\"]}]}]},{\"type\":\"record\",\"name\":\"AvroFlumeEvent\",\"fields\":[{\"name\":\"headers\",\"type\":{\"type\":\"map\",\"values\":\"string\"}},{\"name\":\"body\",\"type\":\"bytes\"}]}],\"messages\":{\"append\":{\"request\":[{\"name\":\"event\",\"type\":\"AvroFlumeEvent\"}],\"response\":\"Status\"},\"appendBatch\":{\"request\":[{\"name\":\"events\",\"type\":{\"type\":\"array\",\"items\":\"AvroFlumeEvent\"}}],\"response\":\"Status\"}}}",
+    // the record within a map of arrays, in a field of a further record
+    "{\"types\":[{\"type\":\"record\",\"name\":\"Store\",\"fields\":[{\"name\":\"events\",\"type\":{\"type\":\"map\",\"values\":{\"type\":\"array\",\"items\":{\"type\":\"record\",\"name\":\"AvroFlumeEvent\",\"fields\":[{\"name\":\"headers\",\"type\":{\"type\":\"map\",\"values\":\"string\"}},{\"name\":\"body\",\"type\":\"bytes\"}]}}}}]},{\"type\":\"enum\",\"name\":\"Status\",\"symbols\":[\"OK\",\"FAILED\",\"UNKNOWN\"]}],\"messages\":{\"append\":{\"request\":[{\"name\":\"event\",\"type\":\"AvroFlumeEvent\"}],\"response\":\"Status\"},\"appendBatch\":{\"request\":[{\"name\":\"events\",\"type\":{\"type\":\"array\",\"items\":\"AvroFlumeEvent\"}}],\"response\":\"Status\"}}}",
+    // a field, an alias and a default by the two names are no types
+    "{\"types\":[{\"type\":\"record\",\"name\":\"Note\",\"aliases\":[\"Status\"],\"fields\":[{\"name\":\"Status\",\"type\":\"int\"},{\"name\":\"AvroFlumeEvent\",\"type\":\"bytes\",\"default\":{\"type\":\"enum\",\"name\":\"Status\",\"symbols\":[]}}]},{\"type\":\"enum\",\"name\":\"Status\",\"symbols\":[\"OK\",\"FAILED\",\"UNKNOWN\"]},{\"type\":\"record\",\"name\":\"AvroFlumeEvent\",\"fields\":[{\"name\":\"headers\",\"type\":{\"type\":\"map\",\"values\":\"string\"}},{\"name\":\"body\",\"type\":\"bytes\"}]}],\"messages\":{\"append\":{\"request\":[{\"name\":\"event\",\"type\":\"AvroFlumeEvent\"}],\"response\":\"Status\"},\"appendBatch\":{\"request\":[{\"name\":\"events\",\"type\":{\"type\":\"array\",\"items\":\"AvroFlumeEvent\"}}],\"response\":\"Status\"}}}",
+    PROTOCOL,
+];
+
+// A further type among the types.
+const REFUSED_TYPES: [&str; 10] = [
+    "{\"type\":\"record\",\"name\":\"x.AvroFlumeEvent\",\"fields\":[]}",
+    "{\"type\":\"error\",\"name\":\"AvroFlumeEvent\",\"fields\":[]}",
+    "{\"type\":\"fixed\",\"name\":\"x.y.Status\",\"size\":16}",
+    "{\"type\":\"enum\",\"name\":\"Status\",\"symbols\":[\"FAILED\",\"OK\",\"UNKNOWN\"]}",
+    // within a further type
+    "{\"type\":\"array\",\"items\":{\"type\":\"record\",\"name\":\"x.AvroFlumeEvent\",\"fields\":[]}}",
+    "{\"type\":\"map\",\"values\":{\"type\":\"enum\",\"name\":\"x.Status\",\"symbols\":[\"A\"]}}",
+    "{\"type\":\"record\",\"name\":\"Note\",\"fields\":[{\"name\":\"a\",\"type\":{\"type\":\"fixed\",\"name\":\"Status\",\"size\":1}}]}",
+    "[\"null\",{\"type\":\"record\",\"name\":\"AvroFlumeEvent\",\"fields\":[]}]",
+    "{\"type\":\"record\",\"name\":\"Note\",\"fields\":[{\"name\":\"a\",\"type\":[\"null\",{\"type\":\"map\",\"values\":{\"type\":\"array\",\"items\":{\"type\":\"record\",\"name\":\"x.AvroFlumeEvent\",\"fields\":[]}}}]}]}",
+    // no JSON that is read: a number beyond the floats
+    "1e999",
+];
+
+const REFUSED: [(&str, &str); 56] = [
+    // a wrong type where it is used
+    (
+        "\"response\":\"Status\"",
+        "\"response\":{\"type\":\"enum\",\"name\":\"Status\",\"symbols\":[\"OK\",\"UNKNOWN\",\"FAILED\"]}",
+    ),
+    (
+        "\"response\":\"Status\"",
+        "\"response\":{\"type\":\"enum\",\"name\":\"Answer\",\"symbols\":[\"OK\",\"FAILED\",\"UNKNOWN\"]}",
+    ),
+    (
+        "\"type\":\"AvroFlumeEvent\"",
+        "\"type\":{\"type\":\"record\",\"name\":\"AvroFlumeEvent\",\"fields\":[{\"name\":\"body\",\"type\":\"bytes\"},{\"name\":\"headers\",\"type\":{\"type\":\"map\",\"values\":\"string\"}}]}",
+    ),
+    (
+        "\"type\":\"AvroFlumeEvent\"",
+        "\"type\":{\"type\":\"record\",\"name\":\"Event\",\"fields\":[{\"name\":\"headers\",\"type\":{\"type\":\"map\",\"values\":\"string\"}},{\"name\":\"body\",\"type\":\"bytes\"}]}",
+    ),
+    (
+        "\"items\":\"AvroFlumeEvent\"",
+        "\"items\":{\"type\":\"record\",\"name\":\"AvroFlumeEvent\",\"fields\":[{\"name\":\"headers\",\"type\":{\"type\":\"map\",\"values\":\"string\"}}]}",
+    ),
+    (
+        "\"items\":\"AvroFlumeEvent\"",
+        "\"items\":{\"type\":\"array\",\"items\":\"AvroFlumeEvent\"}",
+    ),
+    (
+        "\"OK\",\"FAILED\",\"UNKNOWN\"",
+        "\"FAILED\",\"OK\",\"UNKNOWN\"",
+    ),
+    ("\"OK\",\"FAILED\",\"UNKNOWN\"", "\"OK\",\"FAILED\""),
+    (
+        "\"OK\",\"FAILED\",\"UNKNOWN\"",
+        "\"OK\",\"FAILED\",\"UNKNOWN\",\"LATE\"",
+    ),
+    (
+        "\"OK\",\"FAILED\",\"UNKNOWN\"",
+        "\"ok\",\"FAILED\",\"UNKNOWN\"",
+    ),
+    ("[\"OK\",\"FAILED\",\"UNKNOWN\"]", "\"OK\""),
+    ("\"symbols\":", "\"symbol\":"),
+    ("\"type\":\"enum\"", "\"type\":\"fixed\""),
+    ("\"name\":\"Status\"", "\"name\":\"State\""),
+    ("\"name\":\"Status\"", "\"name\":\"MyStatus\""),
+    ("\"name\":\"Status\"", "\"name\":\"Status.Old\""),
+    ("\"name\":\"Status\"", "\"name\":7"),
+    ("\"response\":\"Status\"", "\"response\":\"State\""),
+    ("\"response\":\"Status\"", "\"response\":\"string\""),
+    ("\"response\":\"Status\"", "\"response\":null"),
+    (",\"response\":\"Status\"", ""),
+    ("\"name\":\"headers\"", "\"name\":\"header\""),
+    ("\"name\":\"body\"", "\"name\":\"data\""),
+    (
+        "{\"name\":\"headers\",\"type\":{\"type\":\"map\",\"values\":\"string\"}},{\"name\":\"body\",\"type\":\"bytes\"}",
+        "{\"name\":\"body\",\"type\":\"bytes\"},{\"name\":\"headers\",\"type\":{\"type\":\"map\",\"values\":\"string\"}}",
+    ),
+    (
+        "{\"name\":\"body\",\"type\":\"bytes\"}",
+        "{\"name\":\"body\",\"type\":\"bytes\"},{\"name\":\"time\",\"type\":\"long\"}",
+    ),
+    (",{\"name\":\"body\",\"type\":\"bytes\"}", ""),
+    ("\"type\":\"bytes\"", "\"type\":\"string\""),
+    ("\"type\":\"bytes\"", "\"type\":{\"type\":\"bytes\"}"),
+    ("\"values\":\"string\"", "\"values\":\"bytes\""),
+    ("\"values\":\"string\"", "\"values\":[\"null\",\"string\"]"),
+    ("\"type\":\"map\"", "\"type\":\"array\""),
+    ("\"type\":\"record\"", "\"type\":\"error\""),
+    ("\"name\":\"AvroFlumeEvent\"", "\"name\":\"Event\""),
+    ("\"name\":\"event\"", "\"name\":\"e\""),
+    ("\"name\":\"event\"", "\"name\":\"events\""),
+    ("\"name\":\"events\"", "\"name\":\"event\""),
+    ("\"type\":\"AvroFlumeEvent\"", "\"type\":\"bytes\""),
+    (
+        "\"type\":\"AvroFlumeEvent\"",
+        "\"type\":[\"null\",\"AvroFlumeEvent\"]",
+    ),
+    ("\"items\":\"AvroFlumeEvent\"", "\"items\":\"string\""),
+    (
+        "{\"type\":\"array\",\"items\":\"AvroFlumeEvent\"}",
+        "\"AvroFlumeEvent\"",
+    ),
+    (
+        "{\"type\":\"array\",\"items\":\"AvroFlumeEvent\"}",
+        "{\"type\":\"map\",\"values\":\"AvroFlumeEvent\"}",
+    ),
+    (
+        "[{\"name\":\"event\",\"type\":\"AvroFlumeEvent\"}]",
+        "[{\"name\":\"event\",\"type\":\"AvroFlumeEvent\"},{\"name\":\"more\",\"type\":\"int\"}]",
+    ),
+    ("[{\"name\":\"event\",\"type\":\"AvroFlumeEvent\"}]", "[]"),
+    (
+        "[{\"name\":\"event\",\"type\":\"AvroFlumeEvent\"}]",
+        "{\"name\":\"event\",\"type\":\"AvroFlumeEvent\"}",
+    ),
+    ("\"append\":", "\"Append\":"),
+    ("\"appendBatch\":", "\"appendbatch\":"),
+    (
+        "\"append\":{\"request\":[{\"name\":\"event\",\"type\":\"AvroFlumeEvent\"}],\"response\":\"Status\"},",
+        "",
+    ),
+    (
+        "\"messages\":{",
+        "\"messages\":{\"ping\":{\"request\":[],\"response\":\"null\"},",
+    ),
+    ("\"messages\":", "\"message\":"),
+    (
+        "\"response\":\"Status\"}",
+        "\"response\":\"Status\",\"errors\":[\"Failure\"]}",
+    ),
+    (
+        "\"response\":\"Status\"}",
+        "\"response\":\"Status\",\"one-way\":true}",
+    ),
+    ("\"types\":[", "\"types\":[],\"old\":["),
+    ("\"types\":[", "\"types\":{},\"old\":["),
+    (
+        "\"types\":[",
+        "\"types\":[{\"type\":\"enum\",\"name\":\"other.Status\",\"symbols\":[\"A\"]},",
+    ),
+    ("\"Status\"}}}", "\"Status\"}}"),
+    ("\"Status\"}}}", "\"Status\"}}} x"),
+];
+
+fn is_accepted_with(alloc: Global, from: &str, to: &str) -> Result<bool, NoMemory> {
+    let text = PROTOCOL.replace(alloc, from, to)?;
+    accepts(alloc, text.as_str())
+}
+
+#[test]
+fn accepted_texts(rt: HostRuntime) -> Result<(), Fail> {
+    for text in ACCEPTED_TEXTS {
+        assert!(rt; accepts(rt.alloc(), text)?, "{text}");
+    }
+    for (from, to) in ACCEPTED {
+        assert!(rt; PROTOCOL.contains(from), "{from}");
+        assert!(rt; is_accepted_with(rt.alloc(), from, to)?, "{from} as {to}");
+    }
+    Ok(())
+}
+
+#[test]
+fn refused_texts(rt: HostRuntime) -> Result<(), Fail> {
+    for text in ["", "null", "[]", "{}", "{\"messages\":{}}"] {
+        assert!(rt; !accepts(rt.alloc(), text)?, "{text}");
+    }
+    for (from, to) in REFUSED {
+        assert!(rt; PROTOCOL.contains(from), "{from}");
+        assert!(rt; !is_accepted_with(rt.alloc(), from, to)?, "{from} as {to}");
+    }
+    for further in REFUSED_TYPES {
+        let to = format!(in rt.alloc(); "\"types\":[{further},")?;
+        assert!(rt;
+            !is_accepted_with(rt.alloc(), "\"types\":[", to.as_str())?,
+            "{further}"
+        );
+    }
+    Ok(())
+}
+
+// RFC 1321, by another program.
+#[test]
+fn own_hash(rt: HostRuntime) {
+    assert!(rt; PROTOCOL.len() == 509);
+    assert!(rt; hash_of(PROTOCOL) == HASH);
+}

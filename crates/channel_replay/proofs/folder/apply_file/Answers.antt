@@ -1,0 +1,45 @@
+use Rattle.std.proofs.Common.{◌≡◌, ◌++◌, ℕ, List, Option, refl, sym, subst}
+use Rattle.flume_host.specs.Told.{Told}
+use Rattle.event_core.specs.Journal.{Base}
+use Rattle.record_form.specs.declared.record.Rec.{Rec}
+use Rattle.channel_log.specs.Frames.{fault_of}
+use Rattle.channel_log.specs.Reader.{HasFile, Remains, content_items}
+use Rattle.channel_replay.specs.Marks.{Past}
+use Rattle.channel_replay.specs.Recover.{HasFault, begin_lines, fault_lines, file_lines, record_lines}
+use Rattle.channel_replay.specs.Recovery.{Agrees}
+use Rattle.channel_replay.specs.Replay.{AppliesAll, WhereHolds, drop_lines}
+use Rattle.channel_replay.proofs.Replaying.{FaultOf, begins_as, err_log_maps, file_applies, file_fault, file_ticks, header_fault, ok_maps}
+use Rattle.channel_replay.proofs.folder.apply_file.Goals as goal
+
+pub returns-in-Ok-clause-ok : goal.returns-in-Ok-clause-ok
+returns-in-Ok-clause-ok g c =
+    ok_maps c.apply_rest.result
+    ((bytes : List ℕ) (items : List (Rec × ℕ)) (fault : Option ℕ) → HasFile (g.D.Disk.told c.begin.new.disk) c.args.file bytes → Remains c.in-Ok.reader bytes items fault → AppliesAll (record_lines c.args.file items ++ fault_lines c.args.file fault) c.begin_file.new.recovery c.apply_rest.new.recovery)
+    _
+    (λ rest bytes content has holds.
+    let here : HasFile (g.D.Disk.told c.begin.new.disk) c.args.file bytes = subst (λ (o : Option Told). HasFile o c.args.file bytes) (sym c.in-Ok.ensures.same) has in
+    let drops = c.in-Ok.ensures.drops bytes content has holds in
+    let begins : drop_lines c.in-Ok.reader.drops ≡ begin_lines content = begins_as c.in-Ok.reader.drops content drops.0 drops.1 in
+    file_applies c.args.file content c.in-Ok.reader.drops c.args.recovery.now c.begin_file.new.recovery c.apply_rest.new.recovery begins (rw c.drops.ensures at c.begin_file.ensures)
+    (rest bytes (content_items content) (fault_of content) here (c.in-Ok.ensures.remains bytes content has holds refl)))
+    c.apply_rest.ensures.ok
+
+pub returns-in-Ok-clause-bad : goal.returns-in-Ok-clause-bad
+returns-in-Ok-clause-bad g c =
+    err_log_maps c.apply_rest.result (FaultOf (g.D.Disk.told c.begin.new.disk) c.args.file c.in-Ok.reader c.begin_file.new.recovery)
+    (λ f at. WhereHolds (g.D.Disk.told c.args.disk.now) c.args.file (λ content. (base : Base) (past : Past) → Agrees base past c.args.recovery.now → HasFault base past (file_lines c.args.file content) f at))
+    (λ f at rest bytes content has holds.
+    let here : HasFile (g.D.Disk.told c.begin.new.disk) c.args.file bytes = subst (λ (o : Option Told). HasFile o c.args.file bytes) (sym c.in-Ok.ensures.same) has in
+    let drops = c.in-Ok.ensures.drops bytes content has holds in
+    let begins : drop_lines c.in-Ok.reader.drops ≡ begin_lines content = begins_as c.in-Ok.reader.drops content drops.0 drops.1 in
+    file_fault c.args.file content c.in-Ok.reader.drops c.args.recovery.now c.begin_file.new.recovery f at begins (rw c.drops.ensures at c.begin_file.ensures)
+    (rest bytes (content_items content) (fault_of content) here (c.in-Ok.ensures.remains bytes content has holds refl)))
+    c.apply_rest.ensures.bad
+
+pub returns-in-Ok-clause-ticks : goal.returns-in-Ok-clause-ticks
+returns-in-Ok-clause-ticks g c = λ bytes content has holds.
+    let here : HasFile (g.D.Disk.told c.begin.new.disk) c.args.file bytes = subst (λ (o : Option Told). HasFile o c.args.file bytes) (sym c.in-Ok.ensures.same) has in
+    file_ticks c.args.file content c.args.steps.now c.apply_rest.new.steps (c.apply_rest.ensures.ticks bytes (content_items content) (fault_of content) here (c.in-Ok.ensures.remains bytes content has holds refl))
+
+pub returns-in-Err-clause-bad : goal.returns-in-Err-clause-bad
+returns-in-Err-clause-bad g c = rw c.of_frame.ensures (header_fault (g.D.Disk.told c.args.disk.now) c.args.file c.args.recovery.now c.in-Err.refused c.in-Err.ensures.bad)
