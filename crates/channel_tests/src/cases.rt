@@ -1,8 +1,9 @@
 // What log files leave, or their first fault. The expected answers follow from the rules of the format by hand; a few lines
 // of Python in bench/recover give the same.
-use crate::spelled::{Piece, files};
+use crate::reading::{is_replayed, replayed};
+use crate::spelled::{Piece, file, files};
 use channel_replay::{RecoverRefused, Replayed, WholeFile, recover};
-use std::alloc::Global;
+use std::alloc::{AllocError, Global};
 use std::test::Fail;
 
 // What is expected.
@@ -14,7 +15,8 @@ pub enum Want {
     Bad(u32, u64),
 }
 
-fn is_left(found: &Replayed, items: &[(u64, &[u8])], number: u64, txn: u64) -> bool {
+// Whether these events are left, with these numbers.
+pub fn is_left(found: &Replayed, items: &[(u64, &[u8])], number: u64, txn: u64) -> bool {
     if found.next.number != number || found.next.txn != txn || found.items.len() != items.len() {
         return false;
     }
@@ -27,12 +29,18 @@ fn is_left(found: &Replayed, items: &[(u64, &[u8])], number: u64, txn: u64) -> b
 }
 
 // Whether this is what is expected.
-pub fn is_wanted(found: &Result<Replayed, RecoverRefused>, want: &Want) -> bool {
+fn is_wanted(found: &Result<Replayed, RecoverRefused>, want: &Want) -> bool {
     match (found, want) {
         (Ok(found), Want::Left(items, number, txn)) => is_left(found, items, *number, *txn),
         (Err(RecoverRefused::BadLog { file, at }), Want::Bad(f, a)) => file == f && at == a,
         _ => false,
     }
+}
+
+// Whether the plain program and the one that replays a folder give what is expected of these files.
+fn leave(alloc: Global, files: &[WholeFile], want: &Want) -> Result<bool, AllocError> {
+    let replayed = replayed(alloc, files, 100)?;
+    Ok(is_wanted(&recover(alloc, files), want) && is_replayed(&replayed, want))
 }
 
 // Some log files, and what they leave.
@@ -60,6 +68,9 @@ const TWO: &[Piece] = &[
     Piece::End(2),
     CLOSED,
 ];
+
+/// A folder with these two lines.
+pub const LINES: &[(u32, &[Piece])] = &[(1, TWO)];
 
 // A third line in a second file.
 const THIRD: &[Piece] = &[
@@ -264,7 +275,7 @@ fn log_files_leave_what_their_commits_say(rt: HostRuntime) -> Result<(), Fail> {
     let alloc = rt.alloc();
     for case in CASES.iter() {
         let files = files(alloc, case.files)?;
-        assert!(&rt; is_wanted(&recover(alloc, &files), &case.want));
+        assert!(&rt; leave(alloc, &files, &case.want)?);
     }
     Ok(())
 }
@@ -316,22 +327,22 @@ fn want_at(table: &[(usize, Want)], n: usize) -> Option<&Want> {
 }
 
 // Whether the file of these bytes leaves what is expected.
-fn leaves(alloc: Global, bytes: Vec<u8>, want: Option<&Want>) -> bool {
-    let file = WholeFile { number: 1, bytes };
+fn leaves(alloc: Global, bytes: Vec<u8>, want: Option<&Want>) -> Result<bool, AllocError> {
+    let files = vec![in alloc; WholeFile { number: 1, bytes }]?;
     match want {
-        Some(want) => is_wanted(&recover(alloc, &[file]), want),
-        None => false,
+        Some(want) => leave(alloc, &files, want),
+        None => Ok(false),
     }
 }
 
 #[test]
 fn a_file_is_cut_at_each_length(rt: HostRuntime) -> Result<(), Fail> {
     let alloc = rt.alloc();
-    let whole = files(alloc, &[(1, TWO)])?;
-    assert!(&rt; whole[0].bytes.len() == 115);
+    let whole = file(alloc, TWO)?;
+    assert!(&rt; whole.len() == 115);
     for n in 0..116 {
-        let bytes = whole[0].bytes[..n].to_vec(alloc)?;
-        assert!(&rt; leaves(alloc, bytes, want_at(&CUTS, n)));
+        let bytes = whole[..n].to_vec(alloc)?;
+        assert!(&rt; leaves(alloc, bytes, want_at(&CUTS, n))?);
     }
     Ok(())
 }
@@ -339,12 +350,11 @@ fn a_file_is_cut_at_each_length(rt: HostRuntime) -> Result<(), Fail> {
 #[test]
 fn each_byte_of_a_file_is_changed(rt: HostRuntime) -> Result<(), Fail> {
     let alloc = rt.alloc();
-    let whole = files(alloc, &[(1, TWO)])?;
     for n in 0..115 {
-        let mut bytes = whole[0].bytes.clone()?;
-        assert!(&rt; n < bytes.len());
+        let mut bytes = file(alloc, TWO)?;
+        assert!(&rt; bytes.len() == 115);
         bytes[n] = 255;
-        assert!(&rt; leaves(alloc, bytes, want_at(&CHANGES, n)));
+        assert!(&rt; leaves(alloc, bytes, want_at(&CHANGES, n))?);
     }
     Ok(())
 }

@@ -4,4 +4,6 @@
 #[cfg(test)]
 mod cases;
 #[cfg(test)]
+mod reading;
+#[cfg(test)]
 mod spelled;

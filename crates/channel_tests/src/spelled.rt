@@ -77,6 +77,15 @@ fn add(into: &mut Vec<u8>, piece: Piece) -> Result<(), AllocError> {
     }
 }
 
+/// A file of these pieces.
+pub fn file(alloc: Global, pieces: &[Piece]) -> Result<Vec<u8>, AllocError> {
+    let mut bytes = Vec::new(alloc);
+    for piece in pieces {
+        add(&mut bytes, *piece)?;
+    }
+    Ok(bytes)
+}
+
 /// The files of these numbers and pieces.
 pub fn files(
     alloc: Global,
@@ -84,13 +93,9 @@ pub fn files(
 ) -> Result<Vec<WholeFile>, AllocError> {
     let mut files = Vec::new(alloc);
     for (number, pieces) in pieces {
-        let mut bytes = Vec::new(alloc);
-        for piece in *pieces {
-            add(&mut bytes, *piece)?;
-        }
         files.push(WholeFile {
             number: *number,
-            bytes,
+            bytes: file(alloc, pieces)?,
         })?;
     }
     Ok(files)

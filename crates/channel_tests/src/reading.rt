@@ -1,0 +1,118 @@
+// Log files on a disk, read one record after another.
+ghost use Rattle.std.specs.Prelude.{◌≡◌, ◌<◌};
+
+use crate::cases::{LINES, Want, is_left};
+use channel_log::LogReader;
+use channel_replay::{ReplayRefused, Replayed, WholeFile, replay};
+use flume_host::{FileName, Steps};
+use host_memory::{MemDisk, MemFile};
+use record_form::Rec;
+use std::alloc::{AllocError, Global};
+use std::marker::Brand;
+use std::sync::ledger::{Blank, Ledger};
+use std::test::Fail;
+
+fn disk(alloc: Global, files: &[WholeFile]) -> Result<MemDisk, AllocError> {
+    let mut all = Vec::new(alloc);
+    for file in files {
+        all.push(MemFile {
+            name: FileName::Log(file.number),
+            bytes: file.bytes.clone()?,
+        })?;
+    }
+    MemDisk::with_files(alloc, all)
+}
+
+fn replay_by<L: Ledger>(
+    alloc: Global,
+    blank: Blank,
+    files: &[WholeFile],
+    capacity: u32,
+) -> Result<Result<Replayed, ReplayRefused>, AllocError>
+    requires name { blank.name ≡ L.name }
+    requires parts { blank.parts ≡ L.parts }
+    requires some { 0 < L.parts }
+{
+    let mut disk = disk(alloc, files)?;
+    let mut steps = Steps::<L>::new(blank);
+    Ok(replay(alloc, &mut disk, capacity, &mut steps))
+}
+
+/// What replaying a folder of these files answers.
+pub fn replayed(
+    alloc: Global,
+    files: &[WholeFile],
+    capacity: u32,
+) -> Result<Result<Replayed, ReplayRefused>, AllocError> {
+    replay_by::<Brand>(alloc, Blank::new(1), files, capacity)
+}
+
+/// Whether this is what is expected.
+pub fn is_replayed(found: &Result<Replayed, ReplayRefused>, want: &Want) -> bool {
+    match (found, want) {
+        (Ok(found), Want::Left(items, number, txn)) => is_left(found, items, *number, *txn),
+        (Err(ReplayRefused::BadLog { file, at }), Want::Bad(f, a)) => file == f && at == a,
+        _ => false,
+    }
+}
+
+// The kind, transaction and offset of each record, and 0 at the end.
+const RECORDS: [(u8, u64, u64); 5] = [(1, 1, 17), (4, 1, 39), (1, 2, 66), (4, 2, 88), (0, 0, 0)];
+
+fn seen(given: &Option<(Rec, u64)>) -> (u8, u64, u64) {
+    match given {
+        Some((Rec::Put { txn, .. }, at)) => (1, *txn, *at),
+        Some((Rec::CommitPut { txn, .. }, at)) => (4, *txn, *at),
+        Some(_) => (9, 0, 0),
+        None => (0, 0, 0),
+    }
+}
+
+// Whether the reader of the two lines gives each record, and counts a step for it.
+fn reads_all<L: Ledger>(alloc: Global, blank: Blank) -> Result<bool, AllocError>
+    requires name { blank.name ≡ L.name }
+    requires parts { blank.parts ≡ L.parts }
+    requires some { 0 < L.parts }
+{
+    let files = crate::spelled::files(alloc, LINES)?;
+    let mut disk = disk(alloc, &files)?.silent();
+    let mut steps = Steps::<L>::new(blank);
+    let Ok(mut reader) = LogReader::begin(alloc, &mut disk, 1, 16) else {
+        return Ok(false);
+    };
+    if !reader.drops() {
+        return Ok(false);
+    }
+    for want in RECORDS {
+        match reader.next(&mut disk, &mut steps) {
+            Ok(given) => {
+                if seen(&given) != want {
+                    return Ok(false);
+                }
+            }
+            Err(_) => return Ok(false),
+        }
+    }
+    Ok(true)
+}
+
+fn reads(alloc: Global) -> Result<bool, AllocError> {
+    reads_all::<Brand>(alloc, Blank::new(1))
+}
+
+#[test]
+fn a_reader_gives_each_record_with_its_offset(rt: HostRuntime) -> Result<(), Fail> {
+    assert!(&rt; reads(rt.alloc())?);
+    Ok(())
+}
+
+#[test]
+fn a_capacity_is_judged_at_the_end(rt: HostRuntime) -> Result<(), Fail> {
+    let alloc = rt.alloc();
+    let files = crate::spelled::files(alloc, LINES)?;
+    let over = replayed(alloc, &files, 1)?;
+    assert!(&rt; matches!(&over, Err(ReplayRefused::OverCapacity { count: 2 })));
+    let within = replayed(alloc, &files, 2)?;
+    assert!(&rt; within.is_ok());
+    Ok(())
+}
