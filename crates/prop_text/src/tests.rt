@@ -17,46 +17,49 @@ fn told(alloc: Global, bytes: &[u8]) -> Result<String, Fail> {
     Ok(out)
 }
 
+const VECTORS: [(&str, &str); 28] = [
+    ("", ""),
+    // separators, and white space round them
+    ("a=1\nb:2\nc 3\nd\t4\n", "a=1@1;b=2@2;c=3@3;d=4@4;"),
+    ("a = 1\nb : 2\nc == 3\nd  4", "a=1@1;b=2@2;c== 3@3;d=4@4;"),
+    ("\u{c} a\u{c}=\u{c}1 \t\u{c}", "a=1@1;"),
+    (" \\=a\\:\\ b=1", "=a: b=1@1;"),
+    // line ends
+    ("a=1\r\nb=2\rc=3\r\r\nd=4", "a=1@1;b=2@2;c=3@3;d=4@5;"),
+    // comments and blank lines
+    ("# a=1 \\\nb=2\n!c=3\n  # d=4\n \t\ne=5", "b=2@2;e=5@6;"),
+    // continuations, by an odd number of backslashes
+    ("a=1\\\n   2\nb=3", "a=12@1;b=3@3;"),
+    ("a=1\\\\\n2=3", "a=1\\@1;2=3@2;"),
+    ("a=1\\\\\\\n2", "a=1\\2@1;"),
+    ("a=1\\\r\n2\\\n\nb=3", "a=12@1;b=3@4;"),
+    ("\\\n# a=1", "#=a=1@1;"),
+    ("a=1\\", "a=1@1;"),
+    // the last of equal keys counts, where the first stands; an empty value leaves the key out
+    ("a=1\nb=2\na=3", "a=3@3;b=2@2;"),
+    ("a=1\nb=2\na=", "b=2@2;"),
+    ("a=\nb=2\na=3\n=4", "a=3@3;b=2@2;=4@4;"),
+    ("a\nb:\nc = \\t", ""),
+    // escapes; trimming comes after them
+    ("a=\\t1\\t2\\ \nb=\\n3\\r4\\f", "a=1\t2@1;b=\n3\r4@2;"),
+    ("a=\\u0041\\u00e9\\u20AC\\q\\\\", "a=Aé€q\\@1;"),
+    ("k\\u003d=\\ud83d\\ude00", "k==😀@1;"),
+    ("ü\\ä=\\ö", "üä=ö@1;"),
+    // bad escapes, of which the first line counts
+    ("a=1\nb=\\u12\nc=\\u", "line 2: bad escape"),
+    ("a=\\ud83d", "line 1: bad escape"),
+    ("a=\\ud83dx\\ude00", "line 1: bad escape"),
+    ("a=\\ude00", "line 1: bad escape"),
+    ("a=\\ud83d\\u0041", "line 1: bad escape"),
+    ("\na=1\\\n\\u00g0", "line 2: bad escape"),
+    ("a\\u00=41", "line 1: bad escape"),
+];
+
 /// Vectors of the syntax, with the values that its rules give.
 #[test]
 fn vectors(rt: HostRuntime) -> Result<(), Fail> {
-    for (text, want) in [
-        ("", ""),
-        // separators, and white space round them
-        ("a=1\nb:2\nc 3\nd\t4\n", "a=1@1;b=2@2;c=3@3;d=4@4;"),
-        ("a = 1\nb : 2\nc == 3\nd  4", "a=1@1;b=2@2;c== 3@3;d=4@4;"),
-        ("\u{c} a\u{c}=\u{c}1 \t\u{c}", "a=1@1;"),
-        (" \\=a\\:\\ b=1", "=a: b=1@1;"),
-        // line ends
-        ("a=1\r\nb=2\rc=3\r\r\nd=4", "a=1@1;b=2@2;c=3@3;d=4@5;"),
-        // comments and blank lines
-        ("# a=1 \\\nb=2\n!c=3\n  # d=4\n \t\ne=5", "b=2@2;e=5@6;"),
-        // continuations, by an odd number of backslashes
-        ("a=1\\\n   2\nb=3", "a=12@1;b=3@3;"),
-        ("a=1\\\\\n2=3", "a=1\\@1;2=3@2;"),
-        ("a=1\\\\\\\n2", "a=1\\2@1;"),
-        ("a=1\\\r\n2\\\n\nb=3", "a=12@1;b=3@4;"),
-        ("\\\n# a=1", "#=a=1@1;"),
-        ("a=1\\", "a=1@1;"),
-        // the last of equal keys counts, where the first stands; an empty value leaves the key out
-        ("a=1\nb=2\na=3", "a=3@3;b=2@2;"),
-        ("a=1\nb=2\na=", "b=2@2;"),
-        ("a=\nb=2\na=3\n=4", "a=3@3;b=2@2;=4@4;"),
-        ("a\nb:\nc = \\t", ""),
-        // escapes; trimming comes after them
-        ("a=\\t1\\t2\\ \nb=\\n3\\r4\\f", "a=1\t2@1;b=\n3\r4@2;"),
-        ("a=\\u0041\\u00e9\\u20AC\\q\\\\", "a=Aé€q\\@1;"),
-        ("k\\u003d=\\ud83d\\ude00", "k==😀@1;"),
-        ("ü\\ä=\\ö", "üä=ö@1;"),
-        // bad escapes, of which the first line counts
-        ("a=1\nb=\\u12\nc=\\u", "line 2: bad escape"),
-        ("a=\\ud83d", "line 1: bad escape"),
-        ("a=\\ud83dx\\ude00", "line 1: bad escape"),
-        ("a=\\ude00", "line 1: bad escape"),
-        ("a=\\ud83d\\u0041", "line 1: bad escape"),
-        ("\na=1\\\n\\u00g0", "line 2: bad escape"),
-        ("a\\u00=41", "line 1: bad escape"),
-    ] {
+    for case in &VECTORS {
+        let (text, want) = *case;
         assert_eq!(rt;
             told(rt.alloc(), text.as_bytes())?.as_str(),
             want,

@@ -1,0 +1,17 @@
+use Rattle.std.proofs.Common.{◌≡◌, ap, ◌∙◌, None}
+use Rattle.prop_text.specs.Views.{texts}
+use Rattle.flume_config.specs.Candidates.{adds}
+use Rattle.flume_config.specs.Agents as agents
+use Rattle.flume_config.specs.Agents.{candidates_of}
+use Rattle.flume_config.proofs.agent.judged.Goals as goal
+
+pub returns : goal.returns
+unfolding adds
+returns c =
+    let pairs = c.args.agent.now.properties.now in
+    let agent = c.args.agent.now.name.now in
+    let s : texts c.as_slice-sources.result.now ≡ agents.sources pairs agent = ap texts c.as_slice-sources.ensures.value ∙ c.requires.sources in
+    let h : texts c.as_slice-channels.result.now ≡ agents.channels pairs agent = ap texts c.as_slice-channels.ensures.value ∙ c.requires.channels in
+    let k : texts c.as_slice-sinks.result.now ≡ agents.sinks pairs agent = ap texts c.as_slice-sinks.ensures.value ∙ c.requires.sinks in
+    let g : texts c.as_slice-groups.result.now ≡ agents.groups pairs agent = ap texts c.as_slice-groups.ensures.value ∙ c.requires.groups in
+    c.in_ok-found.ensures.is ∙ (λ i. adds (record { fault = None; missing = None }) (candidates_of pairs agent (s i) (h i) (k i) (g i)))

@@ -1,0 +1,7 @@
+use Rattle.prop_text.specs.Views.{texts}
+use Rattle.flume_config.specs.Values.{GroupNamed}
+use Rattle.flume_config.proofs.Joins.{Makes}
+use Rattle.flume_config.proofs.planning.groups.Given as goal
+
+abbrev pub invariant-loop-name : goal.invariant-loop-name
+invariant-loop-name l = Makes (GroupNamed l.agent.properties.now l.agent.name.now (texts l.sinks)) l.name-index l.names l.plans.items

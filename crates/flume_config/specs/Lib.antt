@@ -1,0 +1,9 @@
+pub mod Words
+pub mod Candidates
+pub mod Rows
+pub mod Components
+pub mod Claims
+pub mod Agents
+pub mod Values
+pub mod Plans
+pub mod Laws

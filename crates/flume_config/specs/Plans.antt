@@ -1,0 +1,60 @@
+-- What planning an agent answers.
+use Rattle.std.specs.Prelude.{◌≡◌, ℕ, true, false, List, Some, None, Result, Ok, Err, string_bytes}
+use Rattle.prop_text.specs.Pairs.{Pair}
+use Rattle.prop_text.specs.Views.{texts}
+use Rattle.flume_config.specs.declared.findings.FaultKind.TheVariants as kinds
+use Rattle.flume_config.specs.declared.refused.PlanRefused.{PlanRefused}
+use Rattle.flume_config.specs.declared.refused.PlanRefused.TheVariants.{NoAgent, UnknownType, UnknownName, BadNumber, BadPattern, Unsupported, Clash, Missing, NoMemory}
+use Rattle.flume_config.specs.declared.plan.Plan.{Plan}
+use Rattle.flume_config.specs.declared.planning.AgentNames.{AgentNames}
+use Rattle.flume_config.specs.Candidates.{Seen}
+use Rattle.flume_config.specs.Agents as agents
+use Rattle.flume_config.specs.Agents.{is_agent, first_fault, least_missing}
+use Rattle.flume_config.specs.Values.{Match, SourceNamed, ChannelNamed, SinkNamed, GroupNamed}
+
+-- the first fault and the least missing key of an agent's configuration
+abbrev pub judged : List Pair → List ℕ → Seen
+judged pairs agent = record { fault = first_fault pairs agent; missing = least_missing pairs agent }
+
+-- nothing is at fault
+abbrev pub IsRight : Seen → Type 0
+IsRight s = (s.fault ≡ None) × (s.missing ≡ None)
+
+-- a fault comes before a missing key
+abbrev pub Refuses : Seen → PlanRefused → Type 0
+Refuses s NoAgent = ⊥
+Refuses s (UnknownType l) = s.fault ≡ Some (record { line = l; kind = kinds.UnknownType })
+Refuses s (UnknownName l) = s.fault ≡ Some (record { line = l; kind = kinds.UnknownName })
+Refuses s (BadNumber l) = s.fault ≡ Some (record { line = l; kind = kinds.BadNumber })
+Refuses s (BadPattern l) = ⊥
+Refuses s (Unsupported l) = s.fault ≡ Some (record { line = l; kind = kinds.Unsupported })
+Refuses s (Clash l) = s.fault ≡ Some (record { line = l; kind = kinds.Clash })
+Refuses s (Missing key) = (s.fault ≡ None) × (s.missing ≡ Some (string_bytes key))
+Refuses s NoMemory = ⊥
+
+-- the plan has the components of the agent's lists, in their order, with the values of the table
+pub record IsPlan (pairs : List Pair) (agent : List ℕ) (plan : Plan) : Type 0 where
+  pub sources : Match (SourceNamed pairs agent (agents.channels pairs agent)) (agents.sources pairs agent) plan.sources.items
+  pub channels : Match (ChannelNamed pairs agent) (agents.channels pairs agent) plan.channels.items
+  pub sinks : Match (SinkNamed pairs agent (agents.channels pairs agent)) (agents.sinks pairs agent) plan.sinks.items
+  pub groups : Match (GroupNamed pairs agent (agents.sinks pairs agent)) (agents.groups pairs agent) plan.groups.items
+
+-- the plan of the agent, or the first that is at fault; want of memory may come at any time
+abbrev pub Plans : List Pair → List ℕ → Result Plan PlanRefused → Type 0
+Plans pairs agent (Ok plan) = (is_agent pairs agent ≡ true) × IsRight (judged pairs agent) × IsPlan pairs agent plan
+Plans pairs agent (Err NoAgent) = is_agent pairs agent ≡ false
+Plans pairs agent (Err (UnknownType l)) = (is_agent pairs agent ≡ true) × Refuses (judged pairs agent) (UnknownType l)
+Plans pairs agent (Err (UnknownName l)) = (is_agent pairs agent ≡ true) × Refuses (judged pairs agent) (UnknownName l)
+Plans pairs agent (Err (BadNumber l)) = (is_agent pairs agent ≡ true) × Refuses (judged pairs agent) (BadNumber l)
+Plans pairs agent (Err (BadPattern l)) = ⊥
+Plans pairs agent (Err (Unsupported l)) = (is_agent pairs agent ≡ true) × Refuses (judged pairs agent) (Unsupported l)
+Plans pairs agent (Err (Clash l)) = (is_agent pairs agent ≡ true) × Refuses (judged pairs agent) (Clash l)
+Plans pairs agent (Err (Missing key)) = (is_agent pairs agent ≡ true) × Refuses (judged pairs agent) (Missing key)
+Plans pairs agent (Err NoMemory) = Unit {0}
+
+-- the names of the agent's components, as they were read
+pub record Names (pairs : List Pair) (agent : List ℕ) (names : AgentNames) : Type 0 where
+  pub sources : texts names.sources.items ≡ agents.sources pairs agent
+  pub channels : texts names.channels.items ≡ agents.channels pairs agent
+  pub sinks : texts names.sinks.items ≡ agents.sinks pairs agent
+  pub groups : texts names.groups.items ≡ agents.groups pairs agent

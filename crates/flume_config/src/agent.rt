@@ -1,0 +1,110 @@
+//! The plan of an agent, or its first fault.
+
+ghost use Rattle.std.specs.Prelude.{◌≡◌, IfOk, MatchOption, ◌++◌};
+ghost use Rattle.prop_text.specs.Views.{texts};
+ghost use Rattle.flume_config.specs.Candidates.{seen};
+ghost use Rattle.flume_config.specs.Components.{names_in};
+ghost use Rattle.flume_config.specs.Plans.{judged, IsRight, Refuses, IsPlan, Plans, Names};
+
+use crate::findings::{FaultKind, Findings};
+use crate::group::{Agent, names_in};
+use crate::judging::judge;
+use crate::plan::Plan;
+use crate::planning::{AgentNames, channels, groups, is_agent, sinks, sources};
+use crate::refused::PlanRefused;
+use crate::rules::joined;
+use prop_text::Properties;
+use std::alloc::{AllocError, Global};
+
+fn names_at<'a>(agent: &Agent<'a>, list: &str) -> Result<Vec<&'a str>, AllocError>
+    ensures { IfOk result (λ names. texts names.items ≡ names_in agent.now.properties.now (agent.now.name.now ++ list.now)) }
+{
+    let key = joined(agent.alloc, agent.name, list)?;
+    names_in(agent.alloc, agent.properties, key.as_str())
+}
+
+fn agent_names<'a>(agent: &Agent<'a>) -> Result<AgentNames<'a>, AllocError>
+    ensures { IfOk result (Names agent.now.properties.now agent.now.name.now) }
+{
+    Ok(AgentNames {
+        sources: names_at(agent, ".sources")?,
+        channels: names_at(agent, ".channels")?,
+        sinks: names_at(agent, ".sinks")?,
+        groups: names_at(agent, ".sinkgroups")?,
+    })
+}
+
+/// What is at fault in the agent's configuration.
+fn judged(agent: &Agent<'_>, names: &AgentNames<'_>) -> Result<Findings, AllocError>
+    requires { Names agent.now.properties.now agent.now.name.now names.now }
+    ensures { IfOk result (λ found. seen found ≡ judged agent.now.properties.now agent.now.name.now) }
+{
+    let sources = names.sources.as_slice();
+    let channels = names.channels.as_slice();
+    let sinks = names.sinks.as_slice();
+    let groups = names.groups.as_slice();
+    let found = judge(agent, sources, channels, sinks, groups)?;
+    Ok(found)
+}
+
+/// What a user is told of what is at fault.
+fn refusal(found: Findings) -> Option<PlanRefused>
+    ensures { MatchOption result (IsRight (seen found)) (Refuses (seen found)) }
+{
+    let Findings { fault, missing } = found;
+    match fault {
+        Some(fault) => {
+            let line = fault.line;
+            Some(match fault.kind {
+                FaultKind::UnknownType => PlanRefused::UnknownType { line },
+                FaultKind::UnknownName => PlanRefused::UnknownName { line },
+                FaultKind::BadNumber => PlanRefused::BadNumber { line },
+                FaultKind::Unsupported => PlanRefused::Unsupported { line },
+                FaultKind::Clash => PlanRefused::Clash { line },
+            })
+        }
+        None => match missing {
+            Some(key) => Some(PlanRefused::Missing { key }),
+            None => None,
+        },
+    }
+}
+
+fn plan(agent: &Agent<'_>, names: &AgentNames<'_>) -> Result<Plan, AllocError>
+    requires { Names agent.now.properties.now agent.now.name.now names.now }
+    ensures { IfOk result (IsPlan agent.now.properties.now agent.now.name.now) }
+{
+    let source_names = names.sources.as_slice();
+    let channel_names = names.channels.as_slice();
+    let sink_names = names.sinks.as_slice();
+    let group_names = names.groups.as_slice();
+    Ok(Plan {
+        sources: sources(agent, channel_names, source_names)?,
+        channels: channels(agent, channel_names)?,
+        sinks: sinks(agent, channel_names, sink_names)?,
+        groups: groups(agent, sink_names, group_names)?,
+    })
+}
+
+/// The plan of an agent, by the pairs of a properties text, or the first that applies: no key begins with the agent's name and a dot;
+/// the fault with the least line, and on one line the first of unknown type, unknown name, bad number, unsupported and clash; the
+/// least key by bytes that is required and not there. Want of memory may come at any time. The components and their keys are those
+/// of the Flume User Guide, as far as this agent has them.
+pub fn plan_of(alloc: Global, properties: &Properties, agent: &str) -> Result<Plan, PlanRefused>
+    ensures { Plans properties.now agent.now result }
+{
+    if !is_agent(alloc, properties, agent)? {
+        return Err(PlanRefused::NoAgent);
+    }
+    let agent = Agent {
+        alloc,
+        properties,
+        name: agent,
+    };
+    let names = agent_names(&agent)?;
+    let found = judged(&agent, &names)?;
+    if let Some(refused) = refusal(found) {
+        return Err(refused);
+    }
+    Ok(plan(&agent, &names)?)
+}

@@ -1,0 +1,413 @@
+//! The plan of an agent.
+
+ghost use Rattle.std.specs.Prelude.{◌≡◌, OnOk, IfOk, ◌++◌, codes, true, false, nat_eq, drop, map};
+ghost use Rattle.std.specs.List.{starts_with};
+ghost use Rattle.prop_text.specs.Views.{texts};
+ghost use Rattle.flume_config.specs.Components.{names_in};
+ghost use Rattle.flume_config.specs.Agents.{is_agent};
+ghost use Rattle.flume_config.specs.Values.{text_at, IsSourceKind, IsSource, IsChannel, SourceNamed, ChannelNamed, SinkWith, SinkNamed, processor_of, penalty_of, backoff_of, priority_of, GroupWith, GroupNamed, Match};
+ghost use Rattle.flume_config.specs.Rows.{is_type, is_plugin};
+
+use crate::claims::plugin_name;
+use crate::group::{Agent, front_of, names_in};
+use crate::plan::{
+    ChannelKind, ChannelPlan, GroupPlan, Processor, SinkKind, SinkPlan, SourceKind, SourcePlan,
+};
+use crate::rules::{Place, is_plugin, is_type, joined};
+use crate::values::{line_at, number_at, place_at, places, text_at, truth_at};
+use prop_text::Properties;
+use std::alloc::{AllocError, Global};
+
+fn begins(key: &str, front: &str) -> bool
+    ensures { result ≡ starts_with nat_eq key.now front.now }
+{
+    key.as_bytes().starts_with(front.as_bytes())
+}
+
+/// Whether some key begins with the agent's name and a dot.
+pub fn is_agent(alloc: Global, properties: &Properties, agent: &str) -> Result<bool, AllocError>
+    ensures { IfOk result (λ there. there ≡ is_agent properties.now agent.now) }
+{
+    let front = joined(alloc, agent, ".")?;
+    for at in 0..properties.len() {
+        let (key, _, _) = properties.at(at);
+        if begins(key, front.as_str()) {
+            return Ok(true);
+        }
+    }
+    Ok(false)
+}
+
+fn source_kind(place: &Place<'_>, kind: &str) -> Result<SourceKind, AllocError>
+    ensures { IfOk result (IsSourceKind place.now.properties.now place.now.front.now kind.now) }
+{
+    if is_type(kind, "netcat") {
+        return Ok(SourceKind::Netcat {
+            bind: text_at(place, "bind")?,
+            port: number_at(place, 1, 65_535, 1, "port")? as u16,
+            max_line: number_at(place, 1, 1_048_568, 512, "max-line-length")? as u32,
+            ack: truth_at(place, true, "ack-every-event")?,
+            threads: number_at(place, 1, 64, 4, "threads")? as u32,
+        });
+    }
+    if is_type(kind, "avro") {
+        return Ok(SourceKind::Avro {
+            bind: text_at(place, "bind")?,
+            port: number_at(place, 1, 65_535, 1, "port")? as u16,
+            threads: number_at(place, 1, 64, 4, "threads")? as u32,
+        });
+    }
+    Ok(SourceKind::Stdin {
+        max_line: number_at(place, 1, 1_048_568, 512, "max-line-length")? as u32,
+        ack: truth_at(place, true, "ack-every-event")?,
+    })
+}
+
+fn source_at(
+    place: &Place<'_>,
+    channels: &[&str],
+    chosen: &[&str],
+    name: &str,
+) -> Result<SourcePlan, AllocError>
+    requires { texts chosen.now ≡ names_in place.now.properties.now (place.now.front.now ++ codes "channels") }
+    ensures { IfOk result (IsSource place.now.properties.now place.now.front.now (texts channels.now) name.now) }
+{
+    let kind = text_at(place, "type")?;
+    Ok(SourcePlan {
+        name: String::from_str(place.alloc, name)?,
+        line: line_at(place, "type")?,
+        kind: source_kind(place, kind.as_str())?,
+        channels: places(place.alloc, channels, chosen)?,
+    })
+}
+
+fn source(agent: &Agent<'_>, channels: &[&str], name: &str) -> Result<SourcePlan, AllocError>
+    ensures { IfOk result (SourceNamed agent.now.properties.now agent.now.name.now (texts channels.now) name.now) }
+{
+    let front = front_of(agent.alloc, agent.name, ".sources.", name)?;
+    let key = joined(agent.alloc, front.as_str(), "channels")?;
+    let chosen = names_in(agent.alloc, agent.properties, key.as_str())?;
+    let place = Place {
+        alloc: agent.alloc,
+        properties: agent.properties,
+        front: front.as_str(),
+    };
+    source_at(&place, channels, chosen.as_slice(), name)
+}
+
+fn memory_channel(place: &Place<'_>, name: &str) -> Result<ChannelPlan, AllocError>
+    requires { is_type (codes "memory") (text_at place.now.properties.now (place.now.front.now ++ codes "type")) ≡ true }
+    ensures { IfOk result (IsChannel place.now.properties.now place.now.front.now name.now) }
+{
+    Ok(ChannelPlan {
+        name: String::from_str(place.alloc, name)?,
+        line: line_at(place, "type")?,
+        kind: ChannelKind::Memory,
+        capacity: number_at(place, 1, 10_000_000, 100, "capacity")? as u32,
+        txn_capacity: number_at(place, 1, 100_000, 100, "transactionCapacity")? as u32,
+    })
+}
+
+fn file_channel(place: &Place<'_>, name: &str) -> Result<ChannelPlan, AllocError>
+    requires { is_type (codes "memory") (text_at place.now.properties.now (place.now.front.now ++ codes "type")) ≡ false }
+    ensures { IfOk result (IsChannel place.now.properties.now place.now.front.now name.now) }
+{
+    Ok(ChannelPlan {
+        name: String::from_str(place.alloc, name)?,
+        line: line_at(place, "type")?,
+        kind: ChannelKind::File {
+            folder: text_at(place, "dataDirs")?,
+            max_file: number_at(place, 4096, 2_146_435_071, 2_146_435_071, "maxFileSize")?,
+            interval: number_at(place, 1000, 86_400_000, 30_000, "checkpointInterval")? as u32,
+            on_close: truth_at(place, true, "checkpointOnClose")?,
+        },
+        capacity: number_at(place, 1, 10_000_000, 1_000_000, "capacity")? as u32,
+        txn_capacity: number_at(place, 1, 100_000, 10_000, "transactionCapacity")? as u32,
+    })
+}
+
+fn channel_at(place: &Place<'_>, name: &str) -> Result<ChannelPlan, AllocError>
+    ensures { IfOk result (IsChannel place.now.properties.now place.now.front.now name.now) }
+{
+    let kind = text_at(place, "type")?;
+    if is_type(kind.as_str(), "memory") {
+        memory_channel(place, name)
+    } else {
+        file_channel(place, name)
+    }
+}
+
+fn channel(agent: &Agent<'_>, name: &str) -> Result<ChannelPlan, AllocError>
+    ensures { IfOk result (ChannelNamed agent.now.properties.now agent.now.name.now name.now) }
+{
+    let front = front_of(agent.alloc, agent.name, ".channels.", name)?;
+    let place = Place {
+        alloc: agent.alloc,
+        properties: agent.properties,
+        front: front.as_str(),
+    };
+    channel_at(&place, name)
+}
+
+/// The sources of an agent.
+pub fn sources(
+    agent: &Agent<'_>,
+    channels: &[&str],
+    names: &[&str],
+) -> Result<Vec<SourcePlan>, AllocError>
+    ensures { IfOk result (λ plans. Match (SourceNamed agent.now.properties.now agent.now.name.now (texts channels.now)) (texts names.now) plans.items) }
+{
+    let mut plans = Vec::new(agent.alloc);
+    for name in names {
+        plans.push(source(agent, channels, name)?)?;
+    }
+    Ok(plans)
+}
+
+/// The channels of an agent.
+pub fn channels(agent: &Agent<'_>, names: &[&str]) -> Result<Vec<ChannelPlan>, AllocError>
+    ensures { IfOk result (λ plans. Match (ChannelNamed agent.now.properties.now agent.now.name.now) (texts names.now) plans.items) }
+{
+    let mut plans = Vec::new(agent.alloc);
+    for name in names {
+        plans.push(channel(agent, name)?)?;
+    }
+    Ok(plans)
+}
+
+fn avro_sink(place: &Place<'_>, channel: u32, name: &str) -> Result<SinkPlan, AllocError>
+    requires kind { is_type (codes "avro") (text_at place.now.properties.now (place.now.front.now ++ codes "type")) ≡ true }
+    ensures { IfOk result (λ sink. SinkWith place.now.properties.now place.now.front.now channel name.now sink) }
+{
+    Ok(SinkPlan {
+        name: String::from_str(place.alloc, name)?,
+        line: line_at(place, "type")?,
+        kind: SinkKind::Avro {
+            host: text_at(place, "hostname")?,
+            port: number_at(place, 1, 65_535, 1, "port")? as u16,
+        },
+        channel,
+        batch: number_at(place, 1, 10_000, 100, "batch-size")? as u32,
+    })
+}
+
+fn roll_sink(place: &Place<'_>, channel: u32, name: &str) -> Result<SinkPlan, AllocError>
+    requires other { is_type (codes "avro") (text_at place.now.properties.now (place.now.front.now ++ codes "type")) ≡ false }
+    requires kind { is_type (codes "file_roll") (text_at place.now.properties.now (place.now.front.now ++ codes "type")) ≡ true }
+    ensures { IfOk result (λ sink. SinkWith place.now.properties.now place.now.front.now channel name.now sink) }
+{
+    Ok(SinkPlan {
+        name: String::from_str(place.alloc, name)?,
+        line: line_at(place, "type")?,
+        kind: SinkKind::Roll {
+            folder: text_at(place, "sink.directory")?,
+            interval: number_at(place, 0, 4_294_967_295, 30, "sink.rollInterval")? as u32,
+        },
+        channel,
+        batch: number_at(place, 1, 10_000, 100, "sink.batchSize")? as u32,
+    })
+}
+
+fn plugin_sink(
+    place: &Place<'_>,
+    channel: u32,
+    name: &str,
+    kind: &str,
+) -> Result<SinkPlan, AllocError>
+    requires same { kind.now ≡ text_at place.now.properties.now (place.now.front.now ++ codes "type") }
+    requires avro { is_type (codes "avro") kind.now ≡ false }
+    requires roll { is_type (codes "file_roll") kind.now ≡ false }
+    requires kind { is_plugin kind.now ≡ true }
+    ensures { IfOk result (λ sink. SinkWith place.now.properties.now place.now.front.now channel name.now sink) }
+{
+    Ok(SinkPlan {
+        name: String::from_str(place.alloc, name)?,
+        line: line_at(place, "type")?,
+        kind: SinkKind::Plugin {
+            name: String::from_str(place.alloc, plugin_name(kind))?,
+        },
+        channel,
+        batch: 100,
+    })
+}
+
+fn null_sink(place: &Place<'_>, channel: u32, name: &str) -> Result<SinkPlan, AllocError>
+    requires avro { is_type (codes "avro") (text_at place.now.properties.now (place.now.front.now ++ codes "type")) ≡ false }
+    requires roll { is_type (codes "file_roll") (text_at place.now.properties.now (place.now.front.now ++ codes "type")) ≡ false }
+    requires plugin { is_plugin (text_at place.now.properties.now (place.now.front.now ++ codes "type")) ≡ false }
+    ensures { IfOk result (λ sink. SinkWith place.now.properties.now place.now.front.now channel name.now sink) }
+{
+    Ok(SinkPlan {
+        name: String::from_str(place.alloc, name)?,
+        line: line_at(place, "type")?,
+        kind: SinkKind::Null,
+        channel,
+        batch: number_at(place, 1, 10_000, 100, "batchSize")? as u32,
+    })
+}
+
+fn sink_at(place: &Place<'_>, channel: u32, name: &str) -> Result<SinkPlan, AllocError>
+    ensures { IfOk result (λ sink. SinkWith place.now.properties.now place.now.front.now channel name.now sink) }
+{
+    let kind = text_at(place, "type")?;
+    if is_type(kind.as_str(), "avro") {
+        return avro_sink(place, channel, name);
+    }
+    if is_type(kind.as_str(), "file_roll") {
+        return roll_sink(place, channel, name);
+    }
+    if is_plugin(kind.as_str()) {
+        return plugin_sink(place, channel, name, kind.as_str());
+    }
+    null_sink(place, channel, name)
+}
+
+fn sink(agent: &Agent<'_>, channels: &[&str], name: &str) -> Result<SinkPlan, AllocError>
+    ensures { IfOk result (λ sink. SinkNamed agent.now.properties.now agent.now.name.now (texts channels.now) name.now sink) }
+{
+    let front = front_of(agent.alloc, agent.name, ".sinks.", name)?;
+    let place = Place {
+        alloc: agent.alloc,
+        properties: agent.properties,
+        front: front.as_str(),
+    };
+    let channel = text_at(&place, "channel")?;
+    let channel = place_at(channels, channel.as_str())?;
+    sink_at(&place, channel, name)
+}
+
+/// The sinks of an agent.
+pub fn sinks(
+    agent: &Agent<'_>,
+    channels: &[&str],
+    names: &[&str],
+) -> Result<Vec<SinkPlan>, AllocError>
+    ensures { IfOk result (λ plans. Match (SinkNamed agent.now.properties.now agent.now.name.now (texts channels.now)) (texts names.now) plans.items) }
+{
+    let mut plans = Vec::new(agent.alloc);
+    for name in names {
+        plans.push(sink(agent, channels, name)?)?;
+    }
+    Ok(plans)
+}
+
+fn processor(place: &Place<'_>, kind: &str) -> Result<Processor, AllocError>
+    ensures { IfOk result (λ processor. processor ≡ processor_of place.now.properties.now place.now.front.now kind.now) }
+{
+    if is_type(kind, "failover") {
+        return Ok(Processor::Failover);
+    }
+    if !is_type(kind, "load_balance") {
+        return Ok(Processor::Single);
+    }
+    let selector = text_at(place, "processor.selector")?;
+    if selector.as_str() == "random" {
+        Ok(Processor::Random)
+    } else {
+        Ok(Processor::RoundRobin)
+    }
+}
+
+fn penalty(place: &Place<'_>, kind: &str) -> Result<u64, AllocError>
+    ensures { IfOk result (λ penalty. penalty ≡ penalty_of place.now.properties.now place.now.front.now kind.now) }
+{
+    if is_type(kind, "failover") {
+        return number_at(place, 0, u64::MAX, 30_000, "processor.maxpenalty");
+    }
+    if is_type(kind, "load_balance") {
+        return number_at(place, 0, u64::MAX, 30_000, "processor.selector.maxTimeOut");
+    }
+    Ok(30_000)
+}
+
+fn backoff(place: &Place<'_>, kind: &str) -> Result<bool, AllocError>
+    ensures { IfOk result (λ on. on ≡ backoff_of place.now.properties.now place.now.front.now kind.now) }
+{
+    if is_type(kind, "load_balance") {
+        truth_at(place, false, "processor.backoff")
+    } else {
+        Ok(false)
+    }
+}
+
+fn priority(place: &Place<'_>, kind: &str, member: &str) -> Result<u32, AllocError>
+    ensures { IfOk result (λ priority. priority ≡ priority_of place.now.properties.now place.now.front.now kind.now member.now) }
+{
+    if !is_type(kind, "failover") {
+        return Ok(0);
+    }
+    let front = joined(place.alloc, place.front, "processor.priority.")?;
+    let priorities = Place {
+        alloc: place.alloc,
+        properties: place.properties,
+        front: front.as_str(),
+    };
+    Ok(number_at(&priorities, 0, 4_294_967_295, 0, member)? as u32)
+}
+
+fn priorities(place: &Place<'_>, kind: &str, members: &[&str]) -> Result<Vec<u32>, AllocError>
+    ensures { IfOk result (λ found. found.items ≡ map (priority_of place.now.properties.now place.now.front.now kind.now) (texts members.now)) }
+{
+    let mut found = Vec::new(place.alloc);
+    for member in members {
+        found.push(priority(place, kind, member)?)?;
+    }
+    Ok(found)
+}
+
+fn group_at(
+    place: &Place<'_>,
+    sinks: &[&str],
+    members: &[&str],
+    name: &str,
+) -> Result<GroupPlan, AllocError>
+    ensures { IfOk result (GroupWith place.now.properties.now place.now.front.now (texts sinks.now) (texts members.now) name.now) }
+{
+    let kind = text_at(place, "processor.type")?;
+    Ok(GroupPlan {
+        name: String::from_str(place.alloc, name)?,
+        sinks: places(place.alloc, sinks, members)?,
+        processor: processor(place, kind.as_str())?,
+        priorities: priorities(place, kind.as_str(), members)?,
+        penalty: penalty(place, kind.as_str())?,
+        backoff: backoff(place, kind.as_str())?,
+    })
+}
+
+fn group(agent: &Agent<'_>, sinks: &[&str], name: &str) -> Result<GroupPlan, AllocError>
+    ensures { IfOk result (λ group. GroupNamed agent.now.properties.now agent.now.name.now (texts sinks.now) name.now group) }
+{
+    let front = front_of(agent.alloc, agent.name, ".sinkgroups.", name)?;
+    let key = joined(agent.alloc, front.as_str(), "sinks")?;
+    let members = names_in(agent.alloc, agent.properties, key.as_str())?;
+    let place = Place {
+        alloc: agent.alloc,
+        properties: agent.properties,
+        front: front.as_str(),
+    };
+    group_at(&place, sinks, members.as_slice(), name)
+}
+
+/// The groups of an agent.
+pub fn groups(
+    agent: &Agent<'_>,
+    sinks: &[&str],
+    names: &[&str],
+) -> Result<Vec<GroupPlan>, AllocError>
+    ensures { IfOk result (λ plans. Match (GroupNamed agent.now.properties.now agent.now.name.now (texts sinks.now)) (texts names.now) plans.items) }
+{
+    let mut plans = Vec::new(agent.alloc);
+    for name in names {
+        plans.push(group(agent, sinks, name)?)?;
+    }
+    Ok(plans)
+}
+
+/// The names of an agent's components.
+#[derive(Drop)]
+pub struct AgentNames<'a> {
+    pub sources: Vec<&'a str>,
+    pub channels: Vec<&'a str>,
+    pub sinks: Vec<&'a str>,
+    pub groups: Vec<&'a str>,
+}

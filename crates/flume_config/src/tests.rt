@@ -1,0 +1,277 @@
+use crate::{
+    ChannelKind, ChannelPlan, GroupPlan, SinkKind, SinkPlan, SourceKind, SourcePlan, plan_of,
+};
+use prop_text::read_properties;
+use std::alloc::Global;
+use std::test::Fail;
+
+const WORKED: &str = "# example
+a1.sources = r1
+a1.channels = c1 c2
+a1.sinks = k1 k2
+a1.sources.r1.type = netcat
+a1.sources.r1.bind = localhost
+a1.sources.r1.port = 44444
+a1.sources.r1.channels = c1 \\
+    c2
+a1.channels.c1.type = memory
+a1.channels.c2.type = file
+a1.channels.c2.dataDirs = data
+a1.sinks.k1.type = file_roll
+a1.sinks.k1.sink.directory = out
+a1.sinks.k1.channel = c1
+a1.sinks.k2.type = avro
+a1.sinks.k2.hostname = localhost
+a1.sinks.k2.port = 4545
+a1.sinks.k2.channel = c2
+a1.channels.c1.capacity = 1000
+a1.channels.c1.capacity = 200
+";
+
+fn source_text(out: &mut String, source: &SourcePlan) -> Result<(), Fail> {
+    let name = source.name.as_str();
+    let line = source.line;
+    let channels = source.channels.as_slice();
+    match &source.kind {
+        SourceKind::Netcat {
+            bind,
+            port,
+            max_line,
+            ack,
+            threads,
+        } => write!(
+            out,
+            "{name}@{line} netcat {bind}:{port} {max_line} {ack} {threads} {channels:?};"
+        )?,
+        SourceKind::Avro {
+            bind,
+            port,
+            threads,
+        } => {
+            write!(
+                out,
+                "{name}@{line} avro {bind}:{port} {threads} {channels:?};"
+            )?
+        }
+        SourceKind::Stdin { max_line, ack } => {
+            write!(out, "{name}@{line} stdin {max_line} {ack} {channels:?};")?
+        }
+    }
+    Ok(())
+}
+
+fn channel_text(out: &mut String, channel: &ChannelPlan) -> Result<(), Fail> {
+    let name = channel.name.as_str();
+    let line = channel.line;
+    let capacity = channel.capacity;
+    let transaction = channel.txn_capacity;
+    match &channel.kind {
+        ChannelKind::Memory => write!(out, "{name}@{line} memory {capacity} {transaction};")?,
+        ChannelKind::File {
+            folder,
+            max_file,
+            interval,
+            on_close,
+        } => write!(
+            out,
+            "{name}@{line} file {folder} {max_file} {interval} {on_close} {capacity} {transaction};"
+        )?,
+    }
+    Ok(())
+}
+
+fn sink_text(out: &mut String, sink: &SinkPlan) -> Result<(), Fail> {
+    let name = sink.name.as_str();
+    let line = sink.line;
+    let channel = sink.channel;
+    let batch = sink.batch;
+    match &sink.kind {
+        SinkKind::Null => write!(out, "{name}@{line} null {channel} {batch};")?,
+        SinkKind::Roll { folder, interval } => {
+            write!(
+                out,
+                "{name}@{line} roll {folder} {interval} {channel} {batch};"
+            )?
+        }
+        SinkKind::Avro { host, port } => {
+            write!(out, "{name}@{line} avro {host}:{port} {channel} {batch};")?
+        }
+        SinkKind::Plugin { name: object } => {
+            write!(out, "{name}@{line} plugin {object} {channel} {batch};")?
+        }
+    }
+    Ok(())
+}
+
+fn group_text(out: &mut String, group: &GroupPlan) -> Result<(), Fail> {
+    let name = group.name.as_str();
+    let sinks = group.sinks.as_slice();
+    let priorities = group.priorities.as_slice();
+    let processor = group.processor;
+    let penalty = group.penalty;
+    let backoff = group.backoff;
+    write!(
+        out,
+        "{name} {processor:?} {sinks:?} {priorities:?} {penalty} {backoff};"
+    )?;
+    Ok(())
+}
+
+/// The line that a user reads of an agent, or its plan.
+fn told(alloc: Global, text: &str, agent: &str) -> Result<String, Fail> {
+    let properties = read_properties(alloc, text.as_bytes())?;
+    let mut out = String::new(alloc);
+    match plan_of(alloc, &properties, agent) {
+        Err(refused) => write!(out, "{refused}")?,
+        Ok(plan) => {
+            for source in &plan.sources {
+                source_text(&mut out, source)?;
+            }
+            for channel in &plan.channels {
+                channel_text(&mut out, channel)?;
+            }
+            for sink in &plan.sinks {
+                sink_text(&mut out, sink)?;
+            }
+            for group in &plan.groups {
+                group_text(&mut out, group)?;
+            }
+        }
+    }
+    Ok(out)
+}
+
+const WORKED_PLAN: &str = "r1@5 netcat localhost:44444 512 true 4 [0, 1];\
+    c1@10 memory 200 100;c2@11 file data 2146435071 30000 true 1000000 10000;\
+    k1@13 roll out 30 0 100;k2@16 avro localhost:4545 1 100;";
+
+const BASE: &str = "a1.sources=r
+a1.channels=c
+a1.sinks=k
+a1.sources.r.type=stdin
+a1.sources.r.channels=c
+a1.channels.c.type=memory
+a1.sinks.k.type=null
+a1.sinks.k.channel=c
+";
+
+/// Lines from the ninth on behind the lines above, and the plan or the fault that they make.
+const MORE: [(&str, &str); 31] = [
+    (
+        "a1.sources.r.type=STDIN\na1.channels.c.capacity=0300",
+        "r@9 stdin 512 true [0];c@6 memory 300 100;k@7 null 0 100;",
+    ),
+    // each fault
+    ("a1.sources.r.type=kafka", "line 9: unknown type"),
+    ("a1.sinks.k.type=Plugin.x", "line 9: unknown type"),
+    ("a1.sources.r.channels=c d", "line 9: unknown name"),
+    ("a1.sinks.k.channel=d", "line 9: unknown name"),
+    ("a1.channels.c.capacity=10000001", "line 9: bad number"),
+    ("a1.channels.c.capacity=+1", "line 9: bad number"),
+    ("a1.sources.r.ack-every-event=yes", "line 9: bad number"),
+    ("a1.sources.r.interceptors=i", "line 9: unsupported"),
+    (
+        "a1.sources.r.selector.type=replicating",
+        "line 9: unsupported",
+    ),
+    (
+        "a1.channels.c.type=file\na1.channels.c.dataDirs=d,",
+        "line 10: unsupported",
+    ),
+    (
+        "a1.channels.c.type=file\na1.channels.c.dataDirs=d\na1.channels.c.useDualCheckpoints=TRUE",
+        "line 11: unsupported",
+    ),
+    (
+        "a1.sinks.k.type=avro\na1.sinks.k.hostname=h\na1.sinks.k.port=65536\na1.sinks.k.compression-type=deflate",
+        "line 11: bad number",
+    ),
+    (
+        "a1.sinks.k.type=avro\na1.sinks.k.hostname=h\na1.sinks.k.port=65535\na1.sinks.k.compression-type=deflate",
+        "line 12: unsupported",
+    ),
+    (
+        "a1.sinks.k.type=file_roll\na1.sinks.k.sink.directory=o\na1.sinks.k.sink.serializer=text",
+        "line 11: unsupported",
+    ),
+    ("a1.channels=c c", "line 9: clash"),
+    (
+        "a1.sources=r s\na1.sources.s.type=stdin\na1.sources.s.channels=c",
+        "line 10: clash",
+    ),
+    (
+        "a1.sources=r s\na1.sources.r.type=netcat\na1.sources.r.bind=h\na1.sources.r.port=80\na1.sources.s.type=avro\na1.sources.s.bind=h\na1.sources.s.port=080\na1.sources.s.channels=c",
+        "line 15: clash",
+    ),
+    (
+        "a1.sinks=k l\na1.sinks.k.type=plugin.x\na1.sinks.l.type=plugin.x\na1.sinks.l.channel=c",
+        "line 11: clash",
+    ),
+    (
+        "a1.channels=c d\na1.channels.d.type=file\na1.channels.d.dataDirs=x\na1.channels.c.type=File\na1.channels.c.dataDirs=x",
+        "line 13: clash",
+    ),
+    // groups
+    (
+        "a1.sinkgroups=g\na1.sinkgroups.g.sinks=k",
+        "r@4 stdin 512 true [0];c@6 memory 100 100;k@7 null 0 100;g Single [0] [0] 30000 false;",
+    ),
+    (
+        "a1.sinks=k l\na1.sinks.l.type=null\na1.sinks.l.channel=c\na1.sinkgroups=g\na1.sinkgroups.g.sinks=k l",
+        "line 13: unsupported",
+    ),
+    (
+        "a1.channels=c d\na1.channels.d.type=memory\na1.sinks=k l\na1.sinks.l.type=null\na1.sinks.l.channel=d\na1.sinkgroups=g\na1.sinkgroups.g.sinks=k l\na1.sinkgroups.g.processor.type=failover",
+        "line 13: unsupported",
+    ),
+    (
+        "a1.sinkgroups=g h\na1.sinkgroups.g.sinks=k\na1.sinkgroups.h.sinks=k",
+        "line 11: clash",
+    ),
+    (
+        "a1.sinkgroups=g\na1.sinkgroups.g.sinks=k\na1.sinkgroups.g.processor.type=load_balance\na1.sinkgroups.g.processor.selector=RANDOM",
+        "line 12: unsupported",
+    ),
+    // the least line, the first of two on one line, the least key, and a fault before a key
+    (
+        "a1.channels.c.capacity=x\na1.sinks.k.channel=d",
+        "line 9: bad number",
+    ),
+    ("a1.sources.r.channels=c d d", "line 9: unknown name"),
+    ("a1.sources.r.type=netcat", "missing a1.sources.r.bind"),
+    (
+        "a1.sources.r.type=netcat\na1.channels.c.capacity=x",
+        "line 10: bad number",
+    ),
+    (
+        "a1.sinks=l k\na1.sinks.l.type=PLUGIN",
+        "line 10: unknown type",
+    ),
+    (
+        "a1.sinks=l k\na1.sinks.l.type=plugin.x\na1.sinks.l.channel=c\na1.sinkgroups=g\na1.sinkgroups.g.sinks=k l\na1.sinkgroups.g.processor.type=failover\na1.sinkgroups.g.processor.priority.l=7\na1.sinkgroups.g.processor.maxpenalty=9",
+        "r@4 stdin 512 true [0];c@6 memory 100 100;l@10 plugin x 0 100;k@7 null 0 100;g Failover [1, 0] [0, 7] 9 false;",
+    ),
+];
+
+#[test]
+fn plans_and_faults(rt: HostRuntime) -> Result<(), Fail> {
+    let alloc = rt.alloc();
+    assert_eq!(rt; told(alloc, WORKED, "a1")?.as_str(), WORKED_PLAN);
+    assert_eq!(rt; told(alloc, WORKED, "a2")?.as_str(), "no agent");
+    let unknown = WORKED.replace(alloc, "c2.type = file", "c2.type = kafka")?;
+    assert_eq!(rt;
+        told(alloc, unknown.as_str(), "a1")?.as_str(),
+        "line 11: unknown type"
+    );
+    for case in &MORE {
+        let (more, want) = *case;
+        let mut text = String::from_str(alloc, BASE)?;
+        text.push_str(more)?;
+        assert_eq!(rt;
+            told(alloc, text.as_str(), "a1")?.as_str(),
+            want,
+            "at {more:?}"
+        );
+    }
+    Ok(())
+}

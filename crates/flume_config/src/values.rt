@@ -1,0 +1,100 @@
+//! The values of a plan.
+
+ghost use Rattle.std.specs.Prelude.{◌≡◌, ◌≤◌, ◌<◌, ◌++◌, OnOk, IfOk, string_bytes, map};
+ghost use Rattle.prop_text.specs.Views.{texts};
+ghost use Rattle.flume_config.specs.Values.{text_at, line_at, number_at, truth_at, place_of};
+
+use crate::rules::{Place, joined};
+use crate::words::{number, truth};
+use std::alloc::{AllocError, Global};
+
+/// The text at a key.
+pub fn text_at(place: &Place<'_>, key: &str) -> Result<String, AllocError>
+    ensures { IfOk result (λ text. string_bytes text ≡ text_at place.now.properties.now (place.now.front.now ++ key.now)) }
+{
+    let key = joined(place.alloc, place.front, key)?;
+    match place.properties.get(key.as_str()) {
+        None => Ok(String::new(place.alloc)),
+        Some((value, _)) => String::from_str(place.alloc, value),
+    }
+}
+
+/// The line of a key.
+pub fn line_at(place: &Place<'_>, key: &str) -> Result<u32, AllocError>
+    ensures { IfOk result (λ line. line ≡ line_at place.now.properties.now (place.now.front.now ++ key.now)) }
+{
+    let key = joined(place.alloc, place.front, key)?;
+    match place.properties.get(key.as_str()) {
+        None => Ok(0),
+        Some((_, line)) => Ok(line),
+    }
+}
+
+/// The number at a key, within limits, or a default.
+pub fn number_at(
+    place: &Place<'_>,
+    low: u64,
+    high: u64,
+    default: u64,
+    key: &str,
+) -> Result<u64, AllocError>
+    requires { default ≤ high }
+    ensures value { IfOk result (λ number. number ≡ number_at place.now.properties.now low high default (place.now.front.now ++ key.now)) }
+    ensures bound { IfOk result (λ number. number ≤ high) }
+{
+    let key = joined(place.alloc, place.front, key)?;
+    match place.properties.get(key.as_str()) {
+        None => Ok(default),
+        Some((value, _)) => match number(value) {
+            Some(number) if low <= number && number <= high => Ok(number),
+            _ => Ok(default),
+        },
+    }
+}
+
+/// The truth value at a key, or a default.
+pub fn truth_at(place: &Place<'_>, default: bool, key: &str) -> Result<bool, AllocError>
+    ensures { IfOk result (λ on. on ≡ truth_at place.now.properties.now default (place.now.front.now ++ key.now)) }
+{
+    let key = joined(place.alloc, place.front, key)?;
+    match place.properties.get(key.as_str()) {
+        None => Ok(default),
+        Some((value, _)) => match truth(value) {
+            Some(on) => Ok(on),
+            None => Ok(default),
+        },
+    }
+}
+
+/// The place of a name among names, from 0.
+fn place_of(names: &[&str], name: &str) -> usize
+    ensures { result ≡ place_of (texts names.now) name.now }
+{
+    for (place, other) in names.iter().enumerate() {
+        if name == *other {
+            return place;
+        }
+    }
+    names.len()
+}
+
+/// The places of names among names, from 0.
+pub fn places(alloc: Global, names: &[&str], chosen: &[&str]) -> Result<Vec<u32>, AllocError>
+    ensures { IfOk result (λ places. places.items ≡ map (place_of (texts names.now)) (texts chosen.now)) }
+{
+    let mut places = Vec::new(alloc);
+    for name in chosen {
+        places.push(place_at(names, name)?)?;
+    }
+    Ok(places)
+}
+
+/// The place of a name among names, from 0.
+pub fn place_at(names: &[&str], name: &str) -> Result<u32, AllocError>
+    ensures { IfOk result (λ place. place ≡ place_of (texts names.now) name.now) }
+{
+    match u32::try_from(place_of(names, name)) {
+        Ok(place) => Ok(place),
+        Err(_) => Err(AllocError),
+    }
+}
