@@ -1,3 +1,5 @@
-pub mod Steps
 pub mod Fronts
+pub mod Steps
 pub mod Commands
+pub mod Unique
+pub mod Channels
