@@ -4,3 +4,5 @@ pub mod Steps
 pub mod LogLines
 pub mod Outcomes
 pub mod Stops
+pub mod Commands
+pub mod Checks

@@ -3,3 +3,4 @@ pub mod Session
 pub mod PlainLog
 pub mod Words
 pub mod Piped
+pub mod Checked

@@ -1,12 +1,12 @@
 //! The agent's top call.
 #![tactic(auto)]
 
+mod check;
 mod pipe;
 mod plain_log;
 mod run;
 mod session;
 mod store;
-mod words;
 mod write;
 
 pub use run::{Outcome, run_agent};

@@ -167,7 +167,7 @@ fn other_words_are_no_command(rt: HostRuntime) -> Result<(), Fail> {
         &["pipe", "d", "e"],
         &["Pipe", "d"],
         &["--help"],
-        &["check", "-n", "a", "-f", "f"],
+        &["agent", "-n", "a", "-f", "f"],
         &["load", "1", "d"],
     ];
     for words in cases {

@@ -1,0 +1,120 @@
+-- What a run of `check` amounts to over a host.
+use Rattle.std.proofs.Common.{◌≡◌, ◌⊎◌, inl, inr, ℕ, ◌≤◌, ◌<◌, length, List, Option, Some, None, Result, Ok, Err, refl, sym, ap, subst, ◌∙◌, arith}
+use Rattle.std.specs.Io.KnownBytes.{Appends}
+use Rattle.flume_host.specs.Causes.{Rose}
+use Rattle.flume_host.specs.HostState.{HostState, WasRead, file_limit}
+use Rattle.prop_text.specs.declared.fault.PropRefused.TheVariants as text
+use Rattle.flume_config.specs.declared.plan.Plan.{Plan}
+use Rattle.flume_config.specs.declared.refused.PlanRefused.TheVariants as plan
+use Rattle.agent_words.specs.Statuses.{status_of}
+use Rattle.agent_words.specs.declared.error.RunError.{RunError}
+use Rattle.agent_words.specs.declared.error.RunError.TheVariants.{Usage, FileTooLarge, Text, NoAgent, Plan as Plan', Fault, BadCheckpoint, BadLog, OverCapacity, Spent, Damaged, NoMemory, InputTooLong, LineTooLong}
+use Rattle.agent_run.specs.Session.{Fronts}
+use Rattle.agent_run.specs.Checked.{IsConfigFault, IsPlanIn, IsAtFault, IsBeside, Checked, plan_line}
+
+-- a fault of the bytes has the status 2, and want of memory 5
+pub fault_status : (bytes agent : List ℕ) (e : RunError) → IsConfigFault bytes agent e → (status_of e ≡ 2) ⊎ (status_of e ≡ 5)
+fault_status bytes agent Usage is = absurd is.2
+fault_status bytes agent FileTooLarge is = absurd is.2
+fault_status bytes agent (Text (text.NotUtf8 at)) is = inl refl
+fault_status bytes agent (Text (text.BadEscape line)) is = inl refl
+fault_status bytes agent (Text text.NoMemory) is = inr refl
+fault_status bytes agent (NoAgent name) is = inl refl
+fault_status bytes agent (Plan' plan.NoAgent) is = inl refl
+fault_status bytes agent (Plan' (plan.UnknownType line)) is = inl refl
+fault_status bytes agent (Plan' (plan.UnknownName line)) is = inl refl
+fault_status bytes agent (Plan' (plan.BadNumber line)) is = inl refl
+fault_status bytes agent (Plan' (plan.BadPattern line)) is = inl refl
+fault_status bytes agent (Plan' (plan.Unsupported line)) is = inl refl
+fault_status bytes agent (Plan' (plan.Clash line)) is = inl refl
+fault_status bytes agent (Plan' (plan.Missing key)) is = inl refl
+fault_status bytes agent (Plan' plan.NoMemory) is = inr refl
+fault_status bytes agent Fault is = absurd is.2
+fault_status bytes agent (BadCheckpoint dir file at) is = absurd is.2
+fault_status bytes agent (BadLog dir file at) is = absurd is.2
+fault_status bytes agent (OverCapacity dir count capacity) is = absurd is.2
+fault_status bytes agent (Spent dir) is = absurd is.2
+fault_status bytes agent (Damaged dir) is = absurd is.2
+fault_status bytes agent NoMemory is = inr refl
+fault_status bytes agent InputTooLong is = absurd is.2
+fault_status bytes agent LineTooLong is = absurd is.2
+
+-- nothing was written
+pub unwritten : (file : Option (List ℕ)) (agent : List ℕ) (old new : HostState) (status : ℕ) → IsBeside old new → new.output ≡ old.output → (status ≡ 2) ⊎ (status ≡ 3) ⊎ (status ≡ 5)
+    → (status ≡ 2 → (bytes : List ℕ) → file ≡ Some bytes → IsAtFault bytes agent) → (status ≡ 3 → Rose old.faults new.faults) → ((status ≡ 2) ⊎ (status ≡ 5) → new.faults ≡ old.faults)
+    → Checked file agent old new status
+unwritten file agent old new status rest output which fault rose well = record {
+  done = λ is. absurd (not_zero is which);
+  fault = fault;
+  quiet = λ is. output;
+  stopped = rose;
+  front = λ is. inl output;
+  handed = λ is. absurd (not_zero is which);
+  well = λ is. elim is [ inl zero ↦ absurd (not_zero zero which) | inr more ↦ well more ];
+  rest = rest;
+}
+  where
+    not_zero : status ≡ 0 → (status ≡ 2) ⊎ (status ≡ 3) ⊎ (status ≡ 5) → ⊥
+    not_zero is (inl a) = omega arith
+    not_zero is (inr (inl b)) = omega arith
+    not_zero is (inr (inr c)) = omega arith
+
+-- the plan's line was written
+pub written : (file : Option (List ℕ)) (agent : List ℕ) (old new : HostState) (p : Plan) → IsBeside old new → new.faults ≡ old.faults → new.handed ≡ new.output
+    → ((bytes : List ℕ) → file ≡ Some bytes → (length bytes ≤ file_limit) × IsPlanIn bytes agent p) → Appends old.output new.output (plan_line agent p) → Checked file agent old new 0
+written file agent old new p rest well handed is whole = record {
+  done = λ _. (p, is, whole);
+  fault = λ two. absurd (omega arith);
+  quiet = λ which. absurd (elim which [ inl a ↦ omega arith | inr b ↦ omega arith ]);
+  stopped = λ three. absurd (omega arith);
+  front = λ three. absurd (omega arith);
+  handed = λ _. handed;
+  well = λ _. well;
+  rest = rest;
+}
+
+-- a front of the plan's line was written
+pub cut_off : (file : Option (List ℕ)) (agent : List ℕ) (old new : HostState) (p : Plan) → IsBeside old new → Rose old.faults new.faults
+    → ((bytes : List ℕ) → file ≡ Some bytes → IsPlanIn bytes agent p) → Fronts old.output new.output old.faults new.faults (plan_line agent p) → Checked file agent old new 3
+cut_off file agent old new p rest rose is front = record {
+  done = λ zero. absurd (omega arith);
+  fault = λ two. absurd (omega arith);
+  quiet = λ which. absurd (elim which [ inl a ↦ omega arith | inr b ↦ omega arith ]);
+  stopped = λ _. rose;
+  front = λ _. inr (p, is, front);
+  handed = λ zero. absurd (omega arith);
+  well = λ which. absurd (elim which [ inl a ↦ omega arith | inr more ↦ elim more [ inl b ↦ omega arith | inr c ↦ omega arith ] ]);
+  rest = rest;
+}
+
+-- From the host before the file was read, to the host that was printed on.
+module _ (file : Option (List ℕ)) (agent : List ℕ) (s0 s1 s2 : HostState) (n : ℕ) (bytes text : List ℕ) (p : Plan)
+    (opened : s1 ≡ record s0 { faults = n }) (read : WasRead file s0.faults n bytes) (is : IsPlanIn bytes agent p) (line : text ≡ plan_line agent p) (beside : IsBeside s1 s2) where
+  rest : IsBeside s0 s2
+  rest = record {
+    input = beside.input ∙ ap (λ (s : HostState). s.input) opened;
+    files = beside.files ∙ ap (λ (s : HostState). s.files) opened;
+    disks = beside.disks ∙ ap (λ (s : HostState). s.disk_faults) opened;
+  }
+
+  output : s1.output ≡ s0.output
+  output = ap (λ (s : HostState). s.output) opened
+
+  faults : s1.faults ≡ s0.faults
+  faults = ap (λ (s : HostState). s.faults) opened ∙ read.well
+
+  plan_of_file : (told : List ℕ) → file ≡ Some told → IsPlanIn told agent p
+  plan_of_file told e = subst (λ (b : List ℕ). IsPlanIn b agent p) (read.whole told e) is
+
+  pub printed : s2.faults ≡ s1.faults → s2.handed ≡ s2.output → Appends s1.output s2.output text → Checked file agent s0 s2 0
+  printed well handed whole =
+      let A : Option (List ℕ) × List ℕ → Type 0 = λ x. Appends x.0 s2.output x.1 in
+      written file agent s0 s2 p rest (well ∙ faults) handed
+      (λ told e. (subst (λ (b : List ℕ). length b ≤ file_limit) (read.whole told e) read.few, plan_of_file told e))
+      (subst A (λ i. (output i, line i)) whole)
+
+  pub printed_part : Rose s1.faults s2.faults → Fronts s1.output s2.output s1.faults s2.faults text → Checked file agent s0 s2 3
+  printed_part rose front =
+      let F : Option (List ℕ) × (ℕ × List ℕ) → Type 0 = λ x. Fronts x.0 s2.output x.1.0 s2.faults x.1.1 in
+      cut_off file agent s0 s2 p rest (subst (λ (f : ℕ). Rose f s2.faults) faults rose) plan_of_file
+      (subst F (λ i. (output i, (faults i, line i))) front)

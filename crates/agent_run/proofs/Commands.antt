@@ -1,0 +1,54 @@
+-- Words that are one command are no other.
+use Rattle.std.proofs.Common.{◌≡◌, ℕ, List, [], ◌∷◌, codes, get_or, ap, sym, subst, ◌∙◌, arith, Option, Some, None, MatchOption}
+use Rattle.agent_words.specs.Commands.{IsPipe, IsLoad, IsAgent, IsCheck, IsNone, IsCommand}
+use Rattle.agent_words.specs.declared.command.Command.{Command}
+use Rattle.agent_run.specs.Words.{IsNoCommand}
+
+-- the second letter of the first word
+abbrev second : List (List ℕ) → ℕ
+second [] = 0
+second (w ∷ ws) = get_or w 1 0
+
+pipe_letter : (words : List (List ℕ)) (dir : List ℕ) → IsPipe words dir → second words ≡ get_or (codes "pipe") 1 0
+pipe_letter words dir is = ap second is.0
+
+check_letter : (words : List (List ℕ)) (name file : List ℕ) → IsCheck words name file → second words ≡ get_or (codes "check") 1 0
+check_letter words name file is = ap second is.1
+
+agent_letter : (words : List (List ℕ)) (name file : List ℕ) → IsAgent words name file → second words ≡ get_or (codes "agent") 1 0
+agent_letter words name file is = ap second is.1
+
+load_letter : (words : List (List ℕ)) (n : ℕ) (dir : List ℕ) → IsLoad words n dir → second words ≡ get_or (codes "load") 1 0
+load_letter words n dir is = ap second is.1
+
+pub no_pipe_and_check : (words : List (List ℕ)) (dir name file : List ℕ) → IsPipe words dir → IsCheck words name file → ⊥
+no_pipe_and_check words dir name file a b = let p = pipe_letter words dir a in let q = check_letter words name file b in omega (arith, p, q)
+
+pub same_dir : (words : List (List ℕ)) (dir other : List ℕ) → IsPipe words dir → IsPipe words other → dir ≡ other
+same_dir words dir other a b = cc (sym a.0 ∙ b.0)
+
+pub agent_does_not_run : (words : List (List ℕ)) (name file : List ℕ) → IsAgent words name file → IsNoCommand words
+agent_does_not_run words name file is =
+    let a = agent_letter words name file is in
+    record {
+      no_pipe = λ dir p. let b = pipe_letter words dir p in omega (arith, a, b);
+      no_check = λ name' file' c. let b = check_letter words name' file' c in omega (arith, a, b);
+    }
+
+pub load_does_not_run : (words : List (List ℕ)) (n : ℕ) (dir : List ℕ) → IsLoad words n dir → IsNoCommand words
+load_does_not_run words n dir is =
+    let a = load_letter words n dir is in
+    record {
+      no_pipe = λ other p. let b = pipe_letter words other p in omega (arith, a, b);
+      no_check = λ name file c. let b = check_letter words name file c in omega (arith, a, b);
+    }
+
+pub none_runs : (words : List (List ℕ)) → IsNone words → IsNoCommand words
+none_runs words is = record { no_pipe = is.pipe; no_check = is.check }
+
+-- what was read of the words
+pub read_some : (words : List (List ℕ)) (found : Option Command) (first command : Command) → MatchOption found (IsNone words) (λ c. IsCommand words c) → found ≡ Some first → first ≡ command → IsCommand words command
+read_some words found first command read is same = subst (IsCommand words) same (subst (λ (o : Option Command). MatchOption o (IsNone words) (λ c. IsCommand words c)) is read)
+
+pub read_none : (words : List (List ℕ)) (found : Option Command) → MatchOption found (IsNone words) (λ c. IsCommand words c) → found ≡ None → IsNone words
+read_none words found read is = subst (λ (o : Option Command). MatchOption o (IsNone words) (λ c. IsCommand words c)) is read

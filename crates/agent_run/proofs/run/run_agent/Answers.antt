@@ -1,0 +1,44 @@
+use Rattle.std.proofs.Common.{◌≡◌, List, ℕ, codes, inr, ap, subst, ◌∙◌, arith}
+use Rattle.flume_host.specs.HostState.{HostState}
+use Rattle.agent_words.specs.Words.{texts}
+use Rattle.agent_words.proofs.Unique.{one_asked}
+use Rattle.agent_run.specs.Checked.{Checked}
+use Rattle.agent_run.proofs.Commands.{agent_does_not_run, load_does_not_run, none_runs, read_none, read_some}
+use Rattle.agent_run.proofs.Outcomes.{early}
+use Rattle.agent_run.proofs.run.run_agent.Goals as goal
+
+pub returns-in-Ok-Some-Check-clause-no_command : goal.returns-in-Ok-Some-Check-clause-no_command
+returns-in-Ok-Some-Check-clause-no_command g c = λ none. absurd (none.no_check _ _ (read_some _ _ _ _ c.in-Ok-Some-Check.ensures c.in-Ok-Some-Check.field-0-is c.in-Ok-Some-Check.field-0-0-is))
+
+pub returns-in-Ok-Some-Check-clause-nothing : goal.returns-in-Ok-Some-Check-clause-nothing
+returns-in-Ok-Some-Check-clause-nothing g c = λ none. absurd (none.no_check _ _ (read_some _ _ _ _ c.in-Ok-Some-Check.ensures c.in-Ok-Some-Check.field-0-is c.in-Ok-Some-Check.field-0-0-is))
+
+pub returns-in-Ok-Some-Check-clause-checked : goal.returns-in-Ok-Some-Check-clause-checked
+returns-in-Ok-Some-Check-clause-checked g c = λ agent file is.
+    let same = one_asked (texts c.args.words.now) (codes "check") _ _ agent file (read_some _ _ _ _ c.in-Ok-Some-Check.ensures c.in-Ok-Some-Check.field-0-is c.in-Ok-Some-Check.field-0-0-is) is in
+    let n : c.as_str-in-Ok-Some-Check.result.now ≡ agent = c.as_str-in-Ok-Some-Check.ensures.value ∙ same.0 in
+    let f : c.as_str-in-Ok-Some-Check-2.result.now ≡ file = c.as_str-in-Ok-Some-Check-2.ensures.value ∙ same.1 in
+    let C : List ℕ × List ℕ → Type 0 = λ x. Checked ((g.H.Host.state c.args.host.now).files x.1) x.0 (g.H.Host.state c.args.host.now) (g.H.Host.state c.run_check.new.host) c.run_check.result.status in
+    subst C (λ i. (n i, f i)) c.run_check.ensures.checked
+
+pub returns-in-Ok-Some-Agent-clause-usage : goal.returns-in-Ok-Some-Agent-clause-usage
+returns-in-Ok-Some-Agent-clause-usage g c = λ one. agent_does_not_run _ _ _ (read_some _ _ _ _ c.in-Ok-Some-Agent.ensures c.in-Ok-Some-Agent.field-0-is c.in-Ok-Some-Agent.field-0-0-is)
+
+pub returns-in-Ok-Some-Agent-clause-check_statuses : goal.returns-in-Ok-Some-Agent-clause-check_statuses
+returns-in-Ok-Some-Agent-clause-check_statuses g c = λ agent file is. absurd ((agent_does_not_run _ _ _ (read_some _ _ _ _ c.in-Ok-Some-Agent.ensures c.in-Ok-Some-Agent.field-0-is c.in-Ok-Some-Agent.field-0-0-is)).no_check agent file is)
+
+pub returns-in-Ok-Some-Load-clause-usage : goal.returns-in-Ok-Some-Load-clause-usage
+returns-in-Ok-Some-Load-clause-usage g c = λ one. load_does_not_run _ _ _ (read_some _ _ _ _ c.in-Ok-Some-Load.ensures c.in-Ok-Some-Load.field-0-is c.in-Ok-Some-Load.field-0-0-is)
+
+pub returns-in-Ok-None-clause-usage : goal.returns-in-Ok-None-clause-usage
+returns-in-Ok-None-clause-usage g c = λ one. none_runs _ (read_none _ _ c.in-Ok-None.ensures c.in-Ok-None.field-0-is)
+
+pub returns-in-Ok-None-clause-check_statuses : goal.returns-in-Ok-None-clause-check_statuses
+returns-in-Ok-None-clause-check_statuses g c = λ agent file is. absurd ((read_none _ _ c.in-Ok-None.ensures c.in-Ok-None.field-0-is).check agent file is)
+
+pub returns-clause-piped : goal.returns-clause-piped
+returns-clause-piped g c = λ dir is.
+    let same = c.refuse-in-Err.ensures.state in
+    let five : c.refuse-in-Err.result.status ≡ 5 = c.refuse-in-Err.ensures.status in
+    early _ _ _ _ _ _ _ _ (ap (λ (s : HostState). s.input) same) (ap (λ (s : HostState). s.output) same) c.refuse-in-Err.ensures.none (inr (inr five))
+    (λ three. absurd (omega (arith, three, five))) (λ four. absurd (omega (arith, four, five))) (λ _. ap (λ (s : HostState). s.disk_faults) same)

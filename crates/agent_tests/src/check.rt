@@ -1,0 +1,141 @@
+// `check -n NAME -f FILE`, example by example.
+use agent_run::run_agent;
+use host_memory::{MemDisk, MemHost, MemSink, MemSource, Named};
+use std::alloc::{AllocError, Global};
+use std::test::Fail;
+
+const WORKED: &str = "# example
+a1.sources = r1
+a1.channels = c1 c2
+a1.sinks = k1 k2
+a1.sources.r1.type = netcat
+a1.sources.r1.bind = localhost
+a1.sources.r1.port = 44444
+a1.sources.r1.channels = c1 \\
+    c2
+a1.channels.c1.type = memory
+a1.channels.c2.type = file
+a1.channels.c2.dataDirs = data
+a1.sinks.k1.type = file_roll
+a1.sinks.k1.sink.directory = out
+a1.sinks.k1.channel = c1
+a1.sinks.k2.type = avro
+a1.sinks.k2.hostname = localhost
+a1.sinks.k2.port = 4545
+a1.sinks.k2.channel = c2
+a1.channels.c1.capacity = 1000
+a1.channels.c1.capacity = 200
+";
+
+// A host with one file, `x.conf`.
+fn host(alloc: Global, text: &str) -> Result<MemHost, AllocError> {
+    let source = MemSource::new(alloc, Vec::new(alloc));
+    let folders: Vec<Named<MemDisk>> = Vec::new(alloc);
+    let file = Named {
+        path: String::from_str(alloc, "x.conf")?,
+        object: Some(text.as_bytes().to_vec(alloc)?),
+    };
+    let files = vec![in alloc; file]?;
+    Ok(MemHost::new(alloc, source, MemSink::new(alloc), folders).with_files(files))
+}
+
+// What a run ends with: its status, what it printed and what it said.
+fn told(alloc: Global, words: &[&str], host: &mut MemHost) -> Result<String, Fail> {
+    let mut all = Vec::new(alloc);
+    for word in words {
+        all.push(String::from_str(alloc, word)?)?;
+    }
+    let outcome = run_agent(alloc, &all, host);
+    let mut text = format!(in alloc; "{} ", outcome.status)?;
+    if let Some(sink) = host.output() {
+        text.push_str(&String::from_utf8(sink.bytes().to_vec(alloc)?)?)?;
+    }
+    for line in host.said() {
+        text.push_str(line.as_str())?;
+    }
+    Ok(text)
+}
+
+const USAGE: &str =
+    "1 usage: flume pipe DIR | agent -n NAME -f FILE | check -n NAME -f FILE | load N DIR";
+
+const A1: [&str; 5] = ["check", "-n", "a1", "-f", "x.conf"];
+
+#[test]
+fn a_configuration_is_counted(rt: HostRuntime) -> Result<(), Fail> {
+    let alloc = rt.alloc();
+    let mut first = host(alloc, WORKED)?;
+    assert_eq!(rt;
+        told(alloc, &A1, &mut first)?.as_str(),
+        "0 a1: 1 sources, 2 channels, 2 sinks, 0 groups\n"
+    );
+    let unknown = WORKED.replace(alloc, "c2.type = file", "c2.type = kafka")?;
+    let mut second = host(alloc, unknown.as_str())?;
+    assert_eq!(rt;
+        told(alloc, &A1, &mut second)?.as_str(),
+        "2 flume: line 11: unknown type"
+    );
+    let mut third = host(alloc, WORKED)?;
+    let a2 = ["check", "-n", "a2", "-f", "x.conf"];
+    assert_eq!(rt;
+        told(alloc, &a2, &mut third)?.as_str(),
+        "2 flume: no agent a2"
+    );
+    let mut fourth = host(alloc, WORKED)?;
+    assert_eq!(rt;
+        told(alloc, &["check", "-n", "a1"], &mut fourth)?.as_str(),
+        USAGE
+    );
+    Ok(())
+}
+
+const FAULTS: [(&str, &str); 5] = [
+    ("a1.x = \\u12", "2 flume: line 1: bad escape"),
+    (
+        "a1.channels = c\na1.sinks = k",
+        "2 flume: missing a1.channels.c.type",
+    ),
+    ("a1.sources = r r", "2 flume: line 1: clash"),
+    ("", "2 flume: no agent a1"),
+    (
+        "a1.sources=r\na1.sources.r.type=stdin\na1.sources.r.channels=c\na1.channels=c\na1.channels.c.type=memory\na1.sinks=k l\na1.sinks.l.channel=c\na1.sinks.k.channel=c\na1.sinks.l.type=plugin.x\na1.sinks.k.type=plugin.y",
+        "2 flume: line 9: unknown type",
+    ),
+];
+
+#[test]
+fn faults_are_told(rt: HostRuntime) -> Result<(), Fail> {
+    let alloc = rt.alloc();
+    for case in &FAULTS {
+        let (text, want) = *case;
+        let mut host = host(alloc, text)?;
+        assert_eq!(rt; told(alloc, &A1, &mut host)?.as_str(), want, "at {text:?}");
+    }
+    Ok(())
+}
+
+#[test]
+fn a_file_too_large_or_unread_and_a_failing_output(rt: HostRuntime) -> Result<(), Fail> {
+    let alloc = rt.alloc();
+    let mut text = String::from_str(alloc, WORKED)?;
+    for _ in text.len()..1_048_576 {
+        text.push('#')?;
+    }
+    let mut full = host(alloc, text.as_str())?;
+    assert_eq!(rt;
+        told(alloc, &A1, &mut full)?.as_str(),
+        "0 a1: 1 sources, 2 channels, 2 sinks, 0 groups\n"
+    );
+    text.push('#')?;
+    let mut larger = host(alloc, text.as_str())?;
+    assert_eq!(rt;
+        told(alloc, &A1, &mut larger)?.as_str(),
+        "2 flume: configuration too large"
+    );
+    let mut failing = host(alloc, WORKED)?.failing_opens(vec![in alloc; 0]?);
+    assert_eq!(rt;
+        told(alloc, &A1, &mut failing)?.as_str(),
+        "3 flume: fault outside"
+    );
+    Ok(())
+}
