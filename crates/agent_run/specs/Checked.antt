@@ -45,6 +45,7 @@ pub record HasPlugin (pairs : List Pair) (agent : List ℕ) (line : ℕ) : Type 
 abbrev pub IsPlanFault : List Pair → List ℕ → RunError → Type 0
 IsPlanFault pairs agent (errors.NoAgent name) = Plans pairs agent (Err plan.NoAgent) × (string_bytes name ≡ agent)
 IsPlanFault pairs agent (errors.Plan (plan.UnknownType line)) = Plans pairs agent (Err (plan.UnknownType line)) ⊎ HasPlugin pairs agent line
+IsPlanFault pairs agent (errors.Plan plan.NoAgent) = ⊥
 IsPlanFault pairs agent (errors.Plan why) = Plans pairs agent (Err why)
 IsPlanFault pairs agent errors.NoMemory = Unit {0}
 IsPlanFault pairs agent other = ⊥

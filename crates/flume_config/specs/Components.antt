@@ -14,10 +14,14 @@ use Rattle.flume_config.specs.Rows.{is_type, row, names_row, name_row, one_fault
 abbrev pub front_of : List ℕ → List ℕ → List ℕ → List ℕ
 front_of agent part name = agent ++ part ++ name ++ codes "."
 
--- the names, each once
+-- the names that do not stand earlier in their list, nor before it
+abbrev pub first_times : List (List ℕ) → List (List ℕ) → List (List ℕ)
+first_times before [] = []
+first_times before (name ∷ names) = if is_among name before then first_times (before ++ name ∷ []) names else name ∷ first_times (before ++ name ∷ []) names
+
+-- the names, each once, where it stands first
 abbrev pub once : List (List ℕ) → List (List ℕ)
-once [] = []
-once (name ∷ names) = if is_among name names then once names else name ∷ once names
+once names = first_times [] names
 
 abbrev pub words_of : Option Pair → List (List ℕ)
 words_of None = []

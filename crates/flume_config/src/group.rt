@@ -23,20 +23,20 @@ const MILLIS: Rule = Rule::Number {
     high: u64::MAX,
 };
 
-/// The names, each once.
+/// The names, each once, where it stands first.
 pub fn once<'a>(alloc: Global, names: &[&'a str]) -> Result<Vec<&'a str>, AllocError>
     ensures { IfOk result (λ kept. texts kept.items ≡ once (texts names.now)) }
 {
     let mut kept = Vec::new(alloc);
     for (place, name) in names.iter().enumerate() {
-        if !is_among(name, &names[place + 1..]) {
+        if !is_among(name, &names[..place]) {
             kept.push(*name)?;
         }
     }
     Ok(kept)
 }
 
-/// The names in the list at a key, each once.
+/// The names in the list at a key, each once, where it stands first.
 pub fn names_in<'a>(
     alloc: Global,
     properties: &'a Properties,

@@ -156,7 +156,7 @@ a1.sinks.k.channel=c
 ";
 
 /// Lines from the ninth on behind the lines above, and the plan or the fault that they make.
-const MORE: [(&str, &str); 31] = [
+const MORE: [(&str, &str); 39] = [
     (
         "a1.sources.r.type=STDIN\na1.channels.c.capacity=0300",
         "r@9 stdin 512 true [0];c@6 memory 300 100;k@7 null 0 100;",
@@ -194,7 +194,16 @@ const MORE: [(&str, &str); 31] = [
         "a1.sinks.k.type=file_roll\na1.sinks.k.sink.directory=o\na1.sinks.k.sink.serializer=text",
         "line 11: unsupported",
     ),
+    (
+        "a1.sources.r.type=avro\na1.sources.r.bind=h\na1.sources.r.port=1\na1.sources.r.compression-type=zlib",
+        "line 12: unsupported",
+    ),
+    (
+        "a1.channels.c.type=file\na1.channels.c.dataDirs=d\na1.channels.c.useDualCheckpoints=no",
+        "line 11: bad number",
+    ),
     ("a1.channels=c c", "line 9: clash"),
+    ("a1.sinks=k k", "line 9: clash"),
     (
         "a1.sources=r s\na1.sources.s.type=stdin\na1.sources.s.channels=c",
         "line 10: clash",
@@ -231,6 +240,27 @@ const MORE: [(&str, &str); 31] = [
     (
         "a1.sinkgroups=g\na1.sinkgroups.g.sinks=k\na1.sinkgroups.g.processor.type=load_balance\na1.sinkgroups.g.processor.selector=RANDOM",
         "line 12: unsupported",
+    ),
+    (
+        "a1.sinkgroups=g\na1.sinkgroups.g.sinks=k\na1.sinkgroups.g.processor.type=other",
+        "line 11: unknown type",
+    ),
+    (
+        "a1.sinkgroups=g\na1.sinkgroups.g.sinks=x",
+        "line 10: unknown name",
+    ),
+    // the first sink of a group is the one that stands first, also where it stands twice
+    (
+        "a1.channels=c d\na1.channels.d.type=memory\na1.sinks=k l\na1.sinks.l.type=null\na1.sinks.l.channel=d\na1.sinkgroups=g\na1.sinkgroups.g.sinks=k l k\na1.sinkgroups.g.processor.type=failover",
+        "line 13: unsupported",
+    ),
+    (
+        "a1.sinkgroups=g\na1.sinkgroups.g.sinks=k\na1.sinkgroups.g.processor.type=load_balance",
+        "r@4 stdin 512 true [0];c@6 memory 100 100;k@7 null 0 100;g RoundRobin [0] [0] 30000 false;",
+    ),
+    (
+        "a1.sinkgroups=g\na1.sinkgroups.g.sinks=k\na1.sinkgroups.g.processor.type=load_balance\na1.sinkgroups.g.processor.selector=random\na1.sinkgroups.g.processor.backoff=true\na1.sinkgroups.g.processor.selector.maxTimeOut=7",
+        "r@4 stdin 512 true [0];c@6 memory 100 100;k@7 null 0 100;g Random [0] [0] 7 true;",
     ),
     // the least line, the first of two on one line, the least key, and a fault before a key
     (
