@@ -29,6 +29,11 @@ a1.channels.c1.capacity = 200
 
 // A host with one file, `x.conf`.
 fn host(alloc: Global, text: &str) -> Result<MemHost, AllocError> {
+    host_with(alloc, text, MemSink::new(alloc))
+}
+
+// A host with one file, `x.conf`, and this output.
+fn host_with(alloc: Global, text: &str, sink: MemSink) -> Result<MemHost, AllocError> {
     let source = MemSource::new(alloc, Vec::new(alloc));
     let folders: Vec<Named<MemDisk>> = Vec::new(alloc);
     let file = Named {
@@ -36,7 +41,7 @@ fn host(alloc: Global, text: &str) -> Result<MemHost, AllocError> {
         object: Some(text.as_bytes().to_vec(alloc)?),
     };
     let files = vec![in alloc; file]?;
-    Ok(MemHost::new(alloc, source, MemSink::new(alloc), folders).with_files(files))
+    Ok(MemHost::new(alloc, source, sink, folders).with_files(files))
 }
 
 // What a run ends with: its status, what it printed and what it said.
@@ -115,7 +120,7 @@ fn faults_are_told(rt: HostRuntime) -> Result<(), Fail> {
 }
 
 #[test]
-fn a_file_too_large_or_unread_and_a_failing_output(rt: HostRuntime) -> Result<(), Fail> {
+fn a_file_too_large_or_unread(rt: HostRuntime) -> Result<(), Fail> {
     let alloc = rt.alloc();
     let mut text = String::from_str(alloc, WORKED)?;
     for _ in text.len()..1_048_576 {
@@ -137,5 +142,26 @@ fn a_file_too_large_or_unread_and_a_failing_output(rt: HostRuntime) -> Result<()
         told(alloc, &A1, &mut failing)?.as_str(),
         "3 flume: fault outside"
     );
+    Ok(())
+}
+
+// The call of the output that fails, and what is told.
+const OUTPUTS: [(u64, &str); 2] = [
+    (0, "3 flume: fault outside"),
+    (
+        1,
+        "3 a1: 1 sources, 2 channels, 2 sinks, 0 groups\nflume: fault outside",
+    ),
+];
+
+#[test]
+fn an_output_that_fails_is_a_fault(rt: HostRuntime) -> Result<(), Fail> {
+    let alloc = rt.alloc();
+    for case in &OUTPUTS {
+        let (call, want) = *case;
+        let sink = MemSink::new(alloc).failing_at(vec![in alloc; call]?);
+        let mut host = host_with(alloc, WORKED, sink)?;
+        assert_eq!(rt; told(alloc, &A1, &mut host)?.as_str(), want);
+    }
     Ok(())
 }

@@ -56,7 +56,12 @@ const CASES: &[Case] = &[
     Case {
         interval: 30,
         fails: &[],
-        deliveries: &[(5000, &[b"a"]), (34_999, &[b"b"]), (35_000, &[b"c"]), (64_999, &[b""])],
+        deliveries: &[
+            (5000, &[b"a"]),
+            (34_999, &[b"b"]),
+            (35_000, &[b"c"]),
+            (64_999, &[b""]),
+        ],
         refused: &[],
         files: b"5000-1:a\nb\n5000-2:c\n\n",
     },
@@ -104,7 +109,14 @@ fn files_are_cut_by_time_and_after_a_fault(rt: HostRuntime) -> Result<(), Fail> 
             let (moment, bodies) = case.deliveries[i];
             let answer = EventSink::deliver(&mut sink, &batch(alloc, bodies)?, moment);
             let refused = case.refused.contains(&i);
-            assert!(rt; answer == if refused { Err(SinkRefused::Refused) } else { Ok(()) });
+            assert!(rt;
+                answer
+                    == if refused {
+                        Err(SinkRefused::Refused)
+                    } else {
+                        Ok(())
+                    }
+            );
         }
         assert!(rt; sink.faults() == case.refused.len() as u64);
         let text = listing(alloc, &sink.close())?;
