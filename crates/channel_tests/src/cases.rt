@@ -38,7 +38,7 @@ fn is_wanted(found: &Result<Replayed, RecoverRefused>, want: &Want) -> bool {
 }
 
 // Whether the plain program and the one that replays a folder give what is expected of these files.
-fn leave(alloc: Global, files: &[WholeFile], want: &Want) -> Result<bool, AllocError> {
+pub fn leave(alloc: Global, files: &[WholeFile], want: &Want) -> Result<bool, AllocError> {
     let replayed = replayed(alloc, files, 100)?;
     Ok(is_wanted(&recover(alloc, files), want) && is_replayed(&replayed, want))
 }
@@ -280,11 +280,13 @@ fn log_files_leave_what_their_commits_say(rt: HostRuntime) -> Result<(), Fail> {
     Ok(())
 }
 
-const FIRST: Want = Want::Left(&[(0, b"a")], 1, 2);
+/// The event of the first line.
+pub const FIRST: Want = Want::Left(&[(0, b"a")], 1, 2);
 
 const BOTH: Want = Want::Left(&[(0, b"a"), (1, b"b")], 2, 3);
 
-const NONE: Want = Want::Left(&[], 0, 1);
+/// No event.
+pub const NONE: Want = Want::Left(&[], 0, 1);
 
 // Up to these lengths, what is left of the two lines.
 const CUTS: [(usize, Want); 4] = [

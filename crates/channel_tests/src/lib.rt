@@ -7,3 +7,5 @@ mod cases;
 mod reading;
 #[cfg(test)]
 mod spelled;
+#[cfg(test)]
+mod torn;

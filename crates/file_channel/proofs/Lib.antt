@@ -1,0 +1,12 @@
+pub mod Among
+pub mod Opens
+pub mod Mirroring
+pub mod Taking
+pub mod Ending
+pub mod Recovering
+pub mod Writes
+pub mod Flushing
+pub mod Whole
+pub mod Putting
+pub mod Freeing
+pub mod Starting

@@ -1,0 +1,215 @@
+-- What a folder recovers to, whose last log file a channel writes.
+use Rattle.std.proofs.Common.{◌⊎◌, inl, inr, ◌≡◌, ◌<◌, ◌≤◌, ◌+◌, ◌^◌, ◌++◌, ◌∷◌, [], ℕ, List, length, length-append, map, Option, Some, None, refl, sym, ◌∙◌, ap, subst, arith, append_assoc}
+use Rattle.std.proofs.lemmas.List.{append-nil}
+use Rattle.std.specs.Prelude.{IsSomeAnd}
+use Rattle.flume_host.specs.Folder.{Files}
+use Rattle.flume_host.specs.declared.names.FileName.TheVariants.{Log}
+use Rattle.event_core.specs.Journal.{Base, after_journal}
+use Rattle.event_core.specs.Numbers.{u16_bytes, u32_bytes}
+use Rattle.record_form.specs.declared.record.Rec.{Rec}
+use Rattle.channel_log.specs.Frames.{Content, Blank, Whole, Holds, frame_bytes, header, opened}
+use Rattle.channel_log.specs.Reader.{frame_items, record_items}
+use Rattle.channel_log.specs.Writer.{HasFrames}
+use Rattle.channel_log.proofs.Contents.{one-content}
+use Rattle.channel_face.specs.Machine.{State, base_of, settle}
+use Rattle.channel_replay.specs.declared.line.Line.{Line}
+use Rattle.record_form.specs.Record.{record_length}
+use Rattle.channel_replay.specs.Marks.{Past, Dropped, Applied, journal, next_txn}
+use Rattle.channel_replay.specs.Recover.{AreLogs, AreSound, LogFile, Recovers, StandsFor, empty_base, file_lines, lines, past_lines, record_lines}
+use Rattle.channel_replay.proofs.Lines.{past_lines-append, sound_append, lines-append}
+use Rattle.file_channel.specs.Mirrors.{AreLegal, Mirrors, applied}
+use Rattle.file_channel.specs.Logs.{HasLog, Logs, begun, flat}
+use Rattle.file_channel.specs.Laws.{FramesRecover, FlushRecovers, FlushIsLogged}
+use Rattle.file_channel.proofs.Ending.{flush_mirrored, staged_base}
+
+length-header : (birth number : ℕ) → length (header birth number) ≡ 16
+unfolding header u16_bytes u32_bytes
+length-header birth number = refl
+
+-- records after records
+
+pub applied-append : (past : Past) (a b : List Rec) → applied past (a ++ b) ≡ applied (applied past a) b
+applied-append past [] b = refl
+applied-append past (rec ∷ a) b = applied-append (Applied rec ∷ past) a b
+
+pub legal-append : (past : Past) (a b : List Rec) → AreLegal past a → AreLegal (applied past a) b → AreLegal past (a ++ b)
+legal-append past [] b first later = later
+legal-append past (rec ∷ a) b first later = (first.0, legal-append (Applied rec ∷ past) a b first.1 later)
+
+pub flat-push : (frames : List (List Rec)) (frame : List Rec) → flat (frames ++ frame ∷ []) ≡ flat frames ++ frame
+flat-push [] frame = append-nil frame
+flat-push (f ∷ frames) frame = ap (λ (l : List Rec). f ++ l) (flat-push frames frame) ∙ sym (append_assoc f (flat frames) frame)
+
+-- the lines of records
+
+abbrev firsts : List (Rec × ℕ) → List Rec
+firsts items = map (λ (item : Rec × ℕ). item.0) items
+
+firsts-append : (a b : List (Rec × ℕ)) → firsts (a ++ b) ≡ firsts a ++ firsts b
+firsts-append [] b = refl
+firsts-append (item ∷ a) b = ap (λ (l : List Rec). item.0 ∷ l) (firsts-append a b)
+
+firsts-records : (at : ℕ) (records : List Rec) → firsts (record_items at records) ≡ records
+firsts-records at [] = refl
+firsts-records at (rec ∷ records) = ap (λ (l : List Rec). rec ∷ l) (firsts-records (at + record_length rec) records)
+
+firsts-frames : (gate : ℕ) (frames : List (List Rec)) → firsts (frame_items gate frames) ≡ flat frames
+firsts-frames gate [] = refl
+firsts-frames gate (frame ∷ frames) =
+    firsts-append (record_items (gate + 1) frame) (frame_items (gate + 1 + length (frame_bytes frame)) frames)
+    ∙ (ap (λ (l : List Rec). l ++ firsts (frame_items (gate + 1 + length (frame_bytes frame)) frames)) (firsts-records (gate + 1) frame)
+    ∙ ap (λ (l : List Rec). frame ++ l) (firsts-frames (gate + 1 + length (frame_bytes frame)) frames))
+
+past_records : (file : ℕ) (past : Past) (items : List (Rec × ℕ)) → past_lines past (record_lines file items) ≡ applied past (firsts items)
+past_records file past [] = refl
+past_records file past (item ∷ items) = past_records file (Applied item.0 ∷ past) items
+
+sound_records : (file : ℕ) (past : Past) (items : List (Rec × ℕ)) → AreLegal past (firsts items) → AreSound empty_base past (record_lines file items)
+sound_records file past [] legal = tt
+sound_records file past (item ∷ items) legal = (legal.0, sound_records file (Applied item.0 ∷ past) items legal.1)
+
+-- The file that is written has these lines, as far as recovery goes.
+record LastLines (past : Past) (found : List Line) (frames : List (List Rec)) : Type 0 where
+  sound : AreSound empty_base past found
+  journal_is : journal (past_lines past found) ≡ journal (applied (Dropped ∷ past) (flat frames))
+  txn_is : next_txn (past_lines past found) ≡ next_txn (applied (Dropped ∷ past) (flat frames))
+
+whole_lines : (past : Past) (number : ℕ) (frames : List (List Rec)) → AreLegal (Dropped ∷ past) (flat frames) → LastLines past (file_lines number (Whole 1 frames)) frames
+whole_lines past number frames legal =
+    let items : List (Rec × ℕ) = frame_items 16 frames in
+    let same : record_lines number items ++ [] ≡ record_lines number items = append-nil (record_lines number items) in
+    let there : past_lines (Dropped ∷ past) (record_lines number items ++ []) ≡ applied (Dropped ∷ past) (flat frames) =
+    ap (λ (l : List Line). past_lines (Dropped ∷ past) l) same ∙ (past_records number (Dropped ∷ past) items ∙ ap (λ (l : List Rec). applied (Dropped ∷ past) l) (firsts-frames 16 frames)) in
+    record {
+      sound = (tt, subst (λ (l : List Line). AreSound empty_base (Dropped ∷ past) l) (sym same) (sound_records number (Dropped ∷ past) items (subst (λ (l : List Rec). AreLegal (Dropped ∷ past) l) (sym (firsts-frames 16 frames)) legal)));
+      journal_is = ap journal there;
+      txn_is = ap next_txn there;
+    }
+
+no_lines : (past : Past) (number : ℕ) → LastLines past (file_lines number Blank) []
+no_lines past number = record { sound = tt; journal_is = refl; txn_is = refl }
+
+-- a file of these frames holds them, or counts as empty and has none
+held_content : (number : ℕ) (frames : List (List Rec)) (bytes : List ℕ) (past : Past) → HasFrames 1 number frames bytes → AreLegal (Dropped ∷ past) (flat frames) → (content : Content) × Holds number bytes content × LastLines past (file_lines number content) frames
+held_content number frames bytes past has legal = from (longer (length bytes))
+  where
+    longer : (n : ℕ) → (17 < n) ⊎ (n ≤ 17)
+    longer n = grind arith
+
+    no_frames : (frames : List (List Rec)) (gate : ℕ) (rest : List ℕ) → length bytes ≤ 17 → bytes ≡ header 1 number ++ (opened frames ++ gate ∷ rest) → frames ≡ []
+    no_frames [] gate rest short is = refl
+    no_frames (frame ∷ frames) gate rest short is =
+        let all : length bytes ≡ length (header 1 number) + length (opened (frame ∷ frames) ++ gate ∷ rest) = ap (λ (l : List ℕ). length l) is ∙ length-append (header 1 number) (opened (frame ∷ frames) ++ gate ∷ rest) in
+        let two : length (opened (frame ∷ frames) ++ gate ∷ rest) ≡ length (opened (frame ∷ frames)) + length (gate ∷ rest) = length-append (opened (frame ∷ frames)) (gate ∷ rest) in
+        absurd (omega (arith, all, two, short, length-header 1 number))
+
+    from : ((17 < length bytes) ⊎ (length bytes ≤ 17)) → (content : Content) × Holds number bytes content × LastLines past (file_lines number content) frames
+    from (inl long) = (Whole 1 frames, (long, (inl refl, has)), whole_lines past number frames legal)
+    from (inr short) =
+        let none : frames ≡ [] = no_frames frames has.2.gate has.2.rest short (has.1 ∙ ap (λ (l : List ℕ). header 1 number ++ l) has.2.split) in
+        (Blank, short, subst (λ (fs : List (List Rec)). LastLines past (file_lines number Blank) fs) (sym none) (no_lines past number))
+
+-- a folder has one list of log files
+
+some_none : (file : Option (List ℕ)) (P : List ℕ → Type 0) → IsSomeAnd file P → file ≡ None → ⊥
+some_none None P some none = some
+some_none (Some bytes) P some none = absurd (cc)
+
+one_held : (number : ℕ) (file : Option (List ℕ)) (a b : Content) → IsSomeAnd file (λ bytes. Holds number bytes a) → IsSomeAnd file (λ bytes. Holds number bytes b) → a ≡ b
+one_held number None a b x y = absurd x
+one_held number (Some bytes) a b x y = one-content number bytes a b x y
+
+which : (m n : ℕ) → (m < n) ⊎ (m ≡ n) ⊎ (n < m)
+which m n = grind arith
+
+same_log : (a b : LogFile) → a.number ≡ b.number → a.content ≡ b.content → a ≡ b
+same_log a b number content = rw (number, content) refl
+
+pub one_list : (files : Files) (from to : ℕ) (a b : List LogFile) → AreLogs files from to a → AreLogs files from to b → a ≡ b
+one_list files from to [] [] x y = refl
+one_list files from to [] (log ∷ b) x y = absurd (some_none (files (Log log.number)) (λ bytes. Holds log.number bytes log.content) y.3 (x log.number y.0 y.1))
+one_list files from to (log ∷ a) [] x y = absurd (some_none (files (Log log.number)) (λ bytes. Holds log.number bytes log.content) x.3 (y log.number x.0 x.1))
+one_list files from to (log ∷ a) (log' ∷ b) x y = by_number (which log.number log'.number) (λ y'. one_list files (log.number + 1) to a b x.4 y')
+  where
+    by_number : (log.number < log'.number) ⊎ (log.number ≡ log'.number) ⊎ (log'.number < log.number) → (AreLogs files (log.number + 1) to b → a ≡ b) → log ∷ a ≡ log' ∷ b
+    by_number (inl lower) rest = absurd (some_none (files (Log log.number)) (λ bytes. Holds log.number bytes log.content) x.3 (y.2 log.number x.0 lower))
+    by_number (inr (inr higher)) rest = absurd (some_none (files (Log log'.number)) (λ bytes. Holds log'.number bytes log'.content) y.3 (x.2 log'.number y.0 higher))
+    by_number (inr (inl same)) rest =
+        let there : IsSomeAnd (files (Log log.number)) (λ bytes. Holds log.number bytes log'.content) = subst (λ (n : ℕ). IsSomeAnd (files (Log n)) (λ bytes. Holds n bytes log'.content)) (sym same) y.3 in
+        let one : log ≡ log' = same_log log log' same (one_held log.number (files (Log log.number)) log.content log'.content x.3 there) in
+        let others : a ≡ b = rest (subst (λ (n : ℕ). AreLogs files (n + 1) to b) (sym same) y.4) in
+        ap (λ (l : LogFile). l ∷ a) one ∙ ap (λ (l : List LogFile). log' ∷ l) others
+
+logs_and_one : (files : Files) (from number to : ℕ) (earlier : List LogFile) (content : Content) → AreLogs files from number earlier → from ≤ number → number < to → IsSomeAnd (files (Log number)) (λ bytes. Holds number bytes content)
+    → ((n : ℕ) → number < n → files (Log n) ≡ None) → AreLogs files from to (earlier ++ record { number = number; content = content } ∷ [])
+logs_and_one files from number to [] content before low small last none = (low, small, before, last, λ n up down. none n (omega (arith, up)))
+logs_and_one files from number to (log ∷ earlier) content before low small last none =
+    (before.0, omega (arith, before.1, small), before.2, before.3, logs_and_one files (log.number + 1) number to earlier content before.4 (omega (arith, before.1)) small last none)
+
+some_held : (number : ℕ) (frames : List (List Rec)) (file : Option (List ℕ)) (past : Past) → IsSomeAnd file (HasFrames 1 number frames) → AreLegal (Dropped ∷ past) (flat frames)
+    → (content : Content) × IsSomeAnd file (λ bytes. Holds number bytes content) × LastLines past (file_lines number content) frames
+some_held number frames None past has legal = absurd has
+some_held number frames (Some bytes) past has legal = held_content number frames bytes past has legal
+
+pub frames_recover : FramesRecover
+frames_recover image earlier number frames has sound legal logs are =
+    let past : Past = past_lines [] (lines earlier) in
+    let held = some_held number frames (image (Log number)) past has.last legal in
+    let content : Content = held.0 in
+    let found : List Line = file_lines number content in
+    let last : LogFile = record { number = number; content = content } in
+    let mine : logs ≡ earlier ++ last ∷ [] = one_list image 0 (2 ^ 32) logs (earlier ++ last ∷ []) are (logs_and_one image 0 number (2 ^ 32) earlier content has.before (omega arith) has.small held.1 has.none) in
+    let all_lines : lines (earlier ++ last ∷ []) ≡ lines earlier ++ found = lines-append earlier (last ∷ []) ∙ ap (λ (l : List Line). lines earlier ++ l) (append-nil found) in
+    let whole : past_lines [] (lines (earlier ++ last ∷ [])) ≡ past_lines past found = ap (λ (l : List Line). past_lines [] l) all_lines ∙ past_lines-append [] (lines earlier) found in
+    subst (λ (l : List LogFile). StandsFor l (after_journal empty_base (journal (applied (begun earlier) (flat frames)))) (next_txn (applied (begun earlier) (flat frames)))) (sym mine)
+    (record {
+      sound = subst (λ (l : List Line). AreSound empty_base [] l) (sym all_lines) (sound_append empty_base [] (lines earlier) found sound held.2.sound);
+      left_is = ap (λ (j : List _). after_journal empty_base j) (sym (ap journal whole ∙ held.2.journal_is));
+      txn_is = sym (ap next_txn whole ∙ held.2.txn_is);
+    })
+
+-- while a frame more is written
+
+or_some : (file : Option (List ℕ)) (P Q : List ℕ → Type 0) → IsSomeAnd file (λ bytes. P bytes ⊎ Q bytes) → IsSomeAnd file P ⊎ IsSomeAnd file Q
+or_some None P Q some = absurd some
+or_some (Some bytes) P Q some = some
+
+next_less : (past : Past) (records : List Rec) → next_txn past ≤ next_txn (applied past records)
+next_less past [] = omega arith
+next_less past (rec ∷ records) = omega (arith, next_less (Applied rec ∷ past) records)
+
+-- the frames that are there are what is settled
+pub settled_recovers : (s : State) (image : Files) (earlier : List LogFile) (number : ℕ) (frames : List (List Rec)) (records : List Rec) → Logs s earlier frames records → HasLog image earlier number (HasFrames 1 number frames) → (txn : ℕ) × (txn ≤ s.txn) × Recovers image (base_of s) txn
+settled_recovers s image earlier number frames records log has =
+    let settled : Past = applied (begun earlier) (flat frames) in
+    let it = frames_recover image earlier number frames has log.sound log.legal in
+    (next_txn settled, omega (arith, next_less settled records, log.mirrors.next), subst (λ (b : Base). Recovers image b (next_txn settled)) (sym log.mirrors.base) it)
+
+pub flush_recovers : FlushRecovers
+flush_recovers s image earlier number frames records log has = from (or_some (image (Log number)) (HasFrames 1 number frames) (HasFrames 1 number (frames ++ records ∷ [])) has.last)
+  where
+    settled : Past
+    settled = applied (begun earlier) (flat frames)
+
+    more : applied (begun earlier) (flat (frames ++ records ∷ [])) ≡ applied settled records
+    more = ap (λ (l : List Rec). applied (begun earlier) l) (flat-push frames records) ∙ applied-append (begun earlier) (flat frames) records
+
+    from : IsSomeAnd (image (Log number)) (HasFrames 1 number frames) ⊎ IsSomeAnd (image (Log number)) (HasFrames 1 number (frames ++ records ∷ []))
+        → (txn : ℕ) × (txn ≤ s.txn) × (Recovers image (base_of s) txn ⊎ Recovers image (after_journal (base_of s) s.staged) txn)
+    from (inl lacks) =
+        let it = frames_recover image earlier number frames (record { small = has.small; before = has.before; last = lacks; none = has.none }) log.sound log.legal in
+        (next_txn settled, omega (arith, next_less settled records, log.mirrors.next), inl (subst (λ (b : Base). Recovers image b (next_txn settled)) (sym log.mirrors.base) it))
+    from (inr holds) =
+        let legal : AreLegal (begun earlier) (flat (frames ++ records ∷ [])) = subst (λ (l : List Rec). AreLegal (begun earlier) l) (sym (flat-push frames records)) (legal-append (begun earlier) (flat frames) records log.legal log.mirrors.legal) in
+        let it = frames_recover image earlier number (frames ++ records ∷ []) (record { small = has.small; before = has.before; last = holds; none = has.none }) log.sound legal in
+        let same : Recovers image (after_journal empty_base (journal (applied settled records))) (next_txn (applied settled records)) = subst (λ (p : Past). Recovers image (after_journal empty_base (journal p)) (next_txn p)) more it in
+        (next_txn (applied settled records), log.mirrors.next, inr (subst (λ (b : Base). Recovers image b (next_txn (applied settled records))) (sym (staged_base s settled records log.mirrors)) same))
+
+pub flush_logged : FlushIsLogged
+flush_logged s earlier frames records log staged_earlier =
+    let more : applied (begun earlier) (flat (frames ++ records ∷ [])) ≡ applied (applied (begun earlier) (flat frames)) records = ap (λ (l : List Rec). applied (begun earlier) l) (flat-push frames records) ∙ applied-append (begun earlier) (flat frames) records in
+    record {
+      sound = log.sound;
+      legal = subst (λ (l : List Rec). AreLegal (begun earlier) l) (sym (flat-push frames records)) (legal-append (begun earlier) (flat frames) records log.legal log.mirrors.legal);
+      mirrors = subst (λ (p : Past). Mirrors (settle s) p []) (sym more) (flush_mirrored s (applied (begun earlier) (flat frames)) records log.mirrors staged_earlier);
+    }

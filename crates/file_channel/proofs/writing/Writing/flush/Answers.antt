@@ -1,0 +1,34 @@
+use Rattle.file_channel.proofs.Flushing.{ready_frames, moments, logged_after, nothing_left}
+use Rattle.file_channel.proofs.writing.Writing.flush.Goals as goal
+
+pub flush-requires : goal.flush-requires
+flush-requires g c =
+    let told = g.D.Disk.told c.args.self.now.disk in
+    let waits = c.requires.1.waits c.requires.2 in
+    let ready = ready_frames told c.args.self.now.log c.requires.0 waits in
+    (1, ready.0, waits.records, ready.1, waits.pending)
+
+pub returns-in-Ok-clause-any_moment : goal.returns-in-Ok-clause-any_moment
+returns-in-Ok-clause-any_moment g c = λ s log whole.
+    let waits = log.waits whole in
+    moments (g.D.Disk.told c.args.self.now.disk) (g.D.Disk.told c.flush.new.disk) c.args.self.now.log s waits
+    (λ frames ready some. c.flush.ensures.any_moment 1 frames waits.records ready waits.pending some) (λ none. (c.flush.ensures.empty none).2)
+
+pub returns-in-Err-clause-any_moment : goal.returns-in-Err-clause-any_moment
+returns-in-Err-clause-any_moment g c = λ s log whole.
+    let waits = log.waits whole in
+    moments (g.D.Disk.told c.args.self.now.disk) (g.D.Disk.told c.flush.new.disk) c.args.self.now.log s waits
+    (λ frames ready some. c.flush.ensures.any_moment 1 frames waits.records ready waits.pending some) (λ none. (c.flush.ensures.empty none).2)
+
+pub returns-in-Ok-clause-logged : goal.returns-in-Ok-clause-logged
+returns-in-Ok-clause-logged g c = λ s log whole earlier.
+    let waits = log.waits whole in
+    logged_after (g.D.Disk.told c.args.self.now.disk) (g.D.Disk.told c.flush.new.disk) c.args.self.now.log c.flush.new.self c.args.self.now.busy s log whole earlier
+    (λ frames ready some. c.flush.ensures.any_moment 1 frames waits.records ready waits.pending some)
+    (λ frames ready some. c.in-Ok.ensures.flushed 1 frames waits.records ready waits.pending some)
+    c.in-Ok.ensures.writer (λ none. ((c.flush.ensures.empty none).1, (c.flush.ensures.empty none).2))
+
+pub returns-in-Ok-clause-empty : goal.returns-in-Ok-clause-empty
+returns-in-Ok-clause-empty g c =
+    let waits = c.requires.1.waits c.requires.2 in
+    nothing_left (g.D.Disk.told c.args.self.now.disk) c.args.self.now.log c.flush.new.self c.requires.0 waits c.in-Ok.ensures.writer (λ none. (c.flush.ensures.empty none).1)

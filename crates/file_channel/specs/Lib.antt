@@ -1,0 +1,6 @@
+pub mod Mirrors
+pub mod Logs
+pub mod Laws
+pub mod Written
+pub mod Whole
+pub mod Folders

@@ -1,0 +1,31 @@
+-- The log files of a channel: earlier ones, and the one that it writes.
+use Rattle.std.specs.Prelude.{◌≡◌, ◌<◌, ◌^◌, ℕ, List, [], ◌∷◌, ◌++◌, None, IsSomeAnd}
+use Rattle.flume_host.specs.Folder.{Files}
+use Rattle.flume_host.specs.declared.names.FileName.TheVariants.{Log}
+use Rattle.record_form.specs.declared.record.Rec.{Rec}
+use Rattle.channel_face.specs.Machine.{State}
+use Rattle.channel_replay.specs.Marks.{Past, Dropped}
+use Rattle.channel_replay.specs.Recover.{AreLogs, AreSound, LogFile, empty_base, lines, past_lines}
+use Rattle.file_channel.specs.Mirrors.{AreLegal, Mirrors, applied}
+
+-- the records of frames
+abbrev pub flat : List (List Rec) → List Rec
+flat [] = []
+flat (frame ∷ frames) = frame ++ flat frames
+
+-- the marks up to the file that is written: it drops what earlier files had open
+abbrev pub begun : List LogFile → Past
+begun earlier = Dropped ∷ past_lines [] (lines earlier)
+
+-- A folder has these log files and then one more, whose bytes have P.
+pub record HasLog (files : Files) (earlier : List LogFile) (number : ℕ) (P : List ℕ → Type 0) : Type 0 where
+  pub small : number < 2 ^ 32
+  pub before : AreLogs files 0 number earlier
+  pub last : IsSomeAnd (files (Log number)) P
+  pub none : (n : ℕ) → number < n → files (Log n) ≡ None
+
+-- A channel's log has these files without fault before it, and in its own file these frames and then these records, which mirror its state.
+pub record Logs (s : State) (earlier : List LogFile) (frames : List (List Rec)) (records : List Rec) : Type 0 where
+  pub sound : AreSound empty_base [] (lines earlier)
+  pub legal : AreLegal (begun earlier) (flat frames)
+  pub mirrors : Mirrors s (applied (begun earlier) (flat frames)) records

@@ -1,0 +1,121 @@
+// The log of a channel as it is written: each change of the channel's state has its record.
+ghost use Rattle.std.specs.Prelude.{◌≡◌, ◌<◌, ◌≤◌, ◌+◌, ◌-◌, ◌*◌, ◌^◌, ◌++◌, ◌∷◌, [], ◌↔◌, ◌==◌, ℕ, List, length, Some, None, OnOk, OnErr, IsTrue, if◌then◌else◌, false, true};
+ghost use Rattle.flume_host.specs.Causes.{HasCause};
+ghost use Rattle.flume_host.specs.Told.{LeavesOnly, Tells};
+ghost use Rattle.event_core.specs.Content.{Content, size};
+ghost use Rattle.event_core.specs.Journal.{is_among, taken_numbers};
+ghost use Rattle.event_core.specs.declared.journal.Entry.{Entry};
+ghost use Rattle.channel_face.specs.Machine.{State, close, entry_of, free, next_number, settle, stage, with_entry};
+ghost use Rattle.channel_log.specs.Writer.{HasRoom};
+ghost use Rattle.file_channel.specs.Mirrors.{done_of};
+ghost use Rattle.file_channel.specs.Written.{IsLogged, MayRecover, kept};
+
+use channel_log::LogWriter;
+use event_core::Event;
+use flume_host::{Disk, Failed};
+use record_form::{MAX_PUT_SIZE, Rec};
+
+/// The room that is kept for the record that ends a transaction.
+const END_ROOM: u64 = 21;
+
+/// A disk with the log that a channel writes on it.
+#[derive(Drop)]
+pub(crate) struct Writing<D: Disk + Drop> {
+    pub(crate) disk: D,
+    pub(crate) log: LogWriter,
+    /// How many open transactions have records in the log.
+    pub(crate) busy: u64,
+}
+
+impl<D: Disk + Drop> Writing<D> {
+    /// Whether the frame has room for a record of this length, the first one of its transaction or a later one.
+    pub(crate) fn has_room(&self, length: u64, first: bool) -> bool
+        requires { self.now.busy ≤ 1024 }
+        ensures { IsTrue result ↔ HasRoom self.now.log (length + kept self.now.busy first) }
+    {
+        let more = if first { 1 } else { 0 };
+        self.log.has_room(length, END_ROOM * (self.busy + more))
+    }
+
+    /// Adds the record of a put.
+    pub(crate) fn add_put(&mut self, txn: u64, event: &Event, first: bool)
+        requires limit { size event.now ≤ MAX_PUT_SIZE }
+        requires room { HasRoom self.old.log (size event.now + 13 + kept self.old.busy first) }
+        requires few { self.old.busy ≤ 1024 }
+        ensures logged { (s : State) (events : List Content) → IsLogged (D.told self.old.disk) self.old.log self.old.busy s → entry_of txn s.opened ≡ Some (Entry.Puts events) → first ≡ (length events == 0)
+            → IsLogged (D.told self.new.disk) self.new.log self.new.busy (record s { opened = with_entry txn (Entry.Puts (events ++ event.now ∷ [])) s.opened }) }
+        ensures disk { self.new.disk ≡ self.old.disk }
+    {
+        self.log.append_put(txn, event);
+        if first {
+            self.busy += 1;
+        }
+    }
+
+    /// Adds the record of a take.
+    pub(crate) fn add_take(&mut self, txn: u64, number: u64, first: bool)
+        requires room { HasRoom self.old.log (17 + kept self.old.busy first) }
+        requires few { self.old.busy ≤ 1024 }
+        ensures logged { (s : State) (numbers : List ℕ) (event : Content) (rest : List (ℕ × Content)) → IsLogged (D.told self.old.disk) self.old.log self.old.busy s → entry_of txn s.opened ≡ Some (Entry.Takes numbers) → free s ≡ (number, event) ∷ rest → first ≡ (length numbers == 0)
+            → IsLogged (D.told self.new.disk) self.new.log self.new.busy (record s { opened = with_entry txn (Entry.Takes (numbers ++ number ∷ [])) s.opened }) }
+        ensures disk { self.new.disk ≡ self.old.disk }
+    {
+        self.log.append(&Rec::Take { txn, number });
+        if first {
+            self.busy += 1;
+        }
+    }
+
+    /// Adds the record of a transaction that is given up, which did something.
+    pub(crate) fn add_rollback(&mut self, txn: u64)
+        requires { (s : State) × (entry : Entry) × IsLogged (D.told self.old.disk) self.old.log self.old.busy s × (entry_of txn s.opened ≡ Some entry) × (done_of (Some entry) ≡ Some entry) }
+        ensures logged { (s : State) (entry : Entry) → IsLogged (D.told self.old.disk) self.old.log self.old.busy s → entry_of txn s.opened ≡ Some entry → done_of (Some entry) ≡ Some entry
+            → IsLogged (D.told self.new.disk) self.new.log self.new.busy (close txn s) }
+        ensures disk { self.new.disk ≡ self.old.disk }
+    {
+        self.log.append(&Rec::Rollback { txn });
+        self.busy -= 1;
+    }
+
+    /// Adds the record of puts that are staged.
+    pub(crate) fn add_commit_put(&mut self, txn: u64, first: u64, count: u32)
+        requires some { 1 ≤ count }
+        requires logged { (s : State) × (events : List Content) × IsLogged (D.told self.old.disk) self.old.log self.old.busy s × (entry_of txn s.opened ≡ Some (Entry.Puts events)) × (count ≡ length events) }
+        ensures logged { (s : State) (events : List Content) → IsLogged (D.told self.old.disk) self.old.log self.old.busy s → entry_of txn s.opened ≡ Some (Entry.Puts events) → count ≡ length events → first ≡ next_number s → next_number s + length events ≤ 2 ^ 64 - 1
+            → IsLogged (D.told self.new.disk) self.new.log self.new.busy (stage txn (Some (Entry.Puts events)) s) }
+        ensures disk { self.new.disk ≡ self.old.disk }
+    {
+        self.log.append(&Rec::CommitPut { txn, first, count });
+        self.busy -= 1;
+    }
+
+    /// Adds the record of takes that are staged.
+    pub(crate) fn add_commit_take(&mut self, txn: u64, count: u32)
+        requires some { 1 ≤ count }
+        requires logged { (s : State) × (numbers : List ℕ) × IsLogged (D.told self.old.disk) self.old.log self.old.busy s × (entry_of txn s.opened ≡ Some (Entry.Takes numbers)) × (count ≡ length numbers) }
+        ensures logged { (s : State) (numbers : List ℕ) → IsLogged (D.told self.old.disk) self.old.log self.old.busy s → entry_of txn s.opened ≡ Some (Entry.Takes numbers) → count ≡ length numbers
+            → IsLogged (D.told self.new.disk) self.new.log self.new.busy (stage txn (Some (Entry.Takes numbers)) s) }
+        ensures disk { self.new.disk ≡ self.old.disk }
+    {
+        self.log.append(&Rec::CommitTake { txn, count });
+        self.busy -= 1;
+    }
+
+    /// Writes the waiting records as a frame. A stop at any moment of the call leaves what is settled, or that with what is
+    /// staged.
+    pub(crate) fn flush(&mut self) -> Result<(), Failed>
+        requires { (s : State) × IsLogged (D.told self.old.disk) self.old.log self.old.busy s × (s.broken ≡ false) }
+        ensures any_moment { (s : State) → IsLogged (D.told self.old.disk) self.old.log self.old.busy s → s.broken ≡ false → Tells (D.told self.old.disk) (D.told self.new.disk) (λ t u. LeavesOnly t u (MayRecover s)) }
+        ensures logged { OnOk result ((s : State) → IsLogged (D.told self.old.disk) self.old.log self.old.busy s → s.broken ≡ false → ((n : ℕ) → next_number s ≤ n → is_among (taken_numbers s.staged) n ≡ false)
+            → IsLogged (D.told self.new.disk) self.new.log self.new.busy (settle s)) }
+        ensures empty { OnOk result (self.new.log.bytes ≡ []) }
+        ensures busy { self.new.busy ≡ self.old.busy }
+        ensures refused { OnErr result (self.new.log ≡ self.old.log) }
+        ensures cause { HasCause (D.faults self.old.disk) (D.faults self.new.disk) result }
+    {
+        match self.log.flush(&mut self.disk) {
+            Ok(()) => Ok(()),
+            Err(_) => Err(Failed),
+        }
+    }
+}
