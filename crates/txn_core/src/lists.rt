@@ -8,6 +8,7 @@ ghost use Rattle.channel_face.specs.Counters.{capped};
 ghost use Rattle.channel_face.specs.History.{Moves, opening};
 ghost use Rattle.channel_face.specs.Machine as Face;
 ghost use Rattle.channel_face.specs.Machine.{State, BeginPut, BeginTake, StagePut, StageTake, Flush, RollbackPut, RollbackTake, Reopen, Front, begin_refusal, put_refusal, take_refusal, stage_put_refusal, puts_of, takes_of, free, with_entry, close, stage, ticket};
+ghost use Rattle.channel_face.specs.declared.replies.FlushRefused.{FlushRefused};
 ghost use Rattle.channel_face.specs.declared.replies.Kind.{Kind};
 ghost use Rattle.channel_face.specs.declared.replies.OpenCause.{OpenCause};
 ghost use Rattle.txn_core.specs.Places.{IsAt};
@@ -454,9 +455,10 @@ impl ChannelLists {
         Ok(ticket)
     }
 
-    /// Settles what is staged.
+    /// Settles what is staged. `Broken` is its only refusal.
     pub fn flush(&mut self) -> Result<(), FlushRefused>
-        ensures { Moves true self.old (Flush result) self.new }
+        ensures step { Moves true self.old (Flush result) self.new }
+        ensures refused { IfErr result (λ refused. refused ≡ FlushRefused.Broken) }
     {
         if self.broken {
             return Err(FlushRefused::Broken);
