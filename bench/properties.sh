@@ -28,7 +28,7 @@ fn text(alloc: Global, kind: usize, size: usize) -> Result<String> {
         }
         match kind {
             0 => text.push_str("value ")?,
-            1 => write!(text, "key{number}=1\n")?,
+            1 => write!(text, "k{number}=1\n")?,
             2 => text.push_str("a\\\n  ")?,
             _ => text.push_str(" \n")?,
         }
