@@ -19,10 +19,11 @@ pub record HostState : Type 0 where
   -- the faults of the disks that were given back
   pub disk_faults : ℕ
 
--- What is known by its path is as before, and what was opened can still be given back.
+-- What is known by its path is as before, what was opened can still be given back, and no more was opened.
 pub record KeepsNamed {T : Type 0} (old new : List ℕ → Option T) (was is : List ℕ → Type 0) : Type 0 where
   pub same : new ≡ old
   pub rooms : (path : List ℕ) → was path → is path
+  pub no_more : (path : List ℕ) → is path → was path
 
 -- the most bytes of a file that is read whole
 abbrev pub file_limit : ℕ

@@ -82,6 +82,7 @@ pub trait Host {
         ensures others { (p : List ℕ) → p ≢ path.now → folder self.new p ≡ folder self.old p }
         ensures room { OnOk result (room self.new path.now) }
         ensures rooms { (p : List ℕ) → room self.old p → room self.new p }
+        ensures no_more { (p : List ℕ) → p ≢ path.now → room self.new p → room self.old p }
         ensures refused { OnErr result (folder self.new ≡ folder self.old) }
         ensures rolls { KeepsNamed (rolled self.old) (rolled self.new) (roll_room self.old) (roll_room self.new) };
 
@@ -91,6 +92,7 @@ pub trait Host {
         ensures told { folder self.new path.now ≡ Self.Disk.told disk }
         ensures others { (p : List ℕ) → p ≢ path.now → folder self.new p ≡ folder self.old p }
         ensures rooms { (p : List ℕ) → room self.old p → room self.new p }
+        ensures no_more { (p : List ℕ) → room self.new p → room self.old p }
         ensures state { (n : ℕ) × (state self.new ≡ record (state self.old) { disk_faults = n })
             × Counts (state self.old).disk_faults n (Self.Disk.faults disk) }
         ensures rolls { KeepsNamed (rolled self.old) (rolled self.new) (roll_room self.old) (roll_room self.new) };
@@ -112,6 +114,7 @@ pub trait Host {
         ensures others { (p : List ℕ) → p ≢ path.now → rolled self.new p ≡ rolled self.old p }
         ensures room { OnOk result (roll_room self.new path.now) }
         ensures rooms { (p : List ℕ) → roll_room self.old p → roll_room self.new p }
+        ensures no_more { (p : List ℕ) → p ≢ path.now → roll_room self.new p → roll_room self.old p }
         ensures refused { OnErr result (rolled self.new ≡ rolled self.old) }
         ensures named { KeepsNamed (folder self.old) (folder self.new) (room self.old) (room self.new) };
 
@@ -121,6 +124,7 @@ pub trait Host {
         ensures told { rolled self.new path.now ≡ Self.Roll.rolled roll }
         ensures others { (p : List ℕ) → p ≢ path.now → rolled self.new p ≡ rolled self.old p }
         ensures rooms { (p : List ℕ) → roll_room self.old p → roll_room self.new p }
+        ensures no_more { (p : List ℕ) → roll_room self.new p → roll_room self.old p }
         ensures state { state self.new ≡ state self.old }
         ensures named { KeepsNamed (folder self.old) (folder self.new) (room self.old) (room self.new) };
 

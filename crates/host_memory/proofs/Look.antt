@@ -140,6 +140,14 @@ module _ {A K V : Type 0} (same : K → K → Bool) (same_is : (a b : K) → sam
   place-push [] item n is = cc
   place-push (x ∷ xs) item n is = some_first (same n (key x)) (place xs n) (place (xs ++ item ∷ []) n) is (λ later. place-push xs item n later)
 
+  pub place-push-back : (items : List A) (item : A) (n : K) → same n (key item) ≡ false → IsSome (place (items ++ item ∷ []) n) → IsSome (place items n)
+  place-push-back [] item n differ is = absurd (none_has (same n (key item)) differ is)
+    where
+      none_has : (b : Bool) → b ≡ false → IsSome (cond {A = Option ℕ} b (Some 0) None) → ⊥
+      none_has true b_is has = cc
+      none_has false b_is has = cc
+  place-push-back (x ∷ xs) item n differ is = some_first (same n (key x)) (place (xs ++ item ∷ []) n) (place xs n) is (λ later. place-push-back xs item n differ later)
+
   pub place-pushed : (items : List A) (item : A) → IsSome (place (items ++ item ∷ []) (key item))
   place-pushed [] item = ap (λ (b : Bool). is_some {T = ℕ} (cond b (Some 0) None)) (same_self (key item))
   place-pushed (x ∷ xs) item = found (same (key item) (key x)) (place (xs ++ item ∷ []) (key item)) (place-pushed xs item)

@@ -35,6 +35,9 @@ module _ {T : Type 0} where
   pub place-push : (objects : List (Named T)) (named : Named T) (p : List ℕ) → IsSome (place_in objects p) → IsSome (place_in (objects ++ named ∷ []) p)
   place-push = look.place-push bytes_eq path_is path_self name_of nothing_of tt
 
+  pub place-push-back : (objects : List (Named T)) (named : Named T) (p : List ℕ) → (p ≡ string_bytes named.path → ⊥) → IsSome (place_in (objects ++ named ∷ []) p) → IsSome (place_in objects p)
+  place-push-back objects named p differ = look.place-push-back bytes_eq path_is path_self name_of nothing_of tt objects named p (path_other p (string_bytes named.path) differ)
+
   pub place-pushed : (objects : List (Named T)) (named : Named T) → IsSome (place_in (objects ++ named ∷ []) (string_bytes named.path))
   place-pushed = look.place-pushed bytes_eq path_is path_self name_of nothing_of tt
 
@@ -83,6 +86,7 @@ module _ {T V : Type 0} (home : Option T → V) (other : V) where
     pub others : (p : List ℕ) → (p ≡ path → ⊥) → told_at new p ≡ told_at objects p
     pub room : IsSome (place_in new path)
     pub rooms : (p : List ℕ) → IsSome (place_in objects p) → IsSome (place_in new p)
+    pub no_more : (p : List ℕ) → (p ≡ path → ⊥) → IsSome (place_in new p) → IsSome (place_in objects p)
 
   pub taken : (objects new : List (Named T)) (path : List ℕ) (i : ℕ) (was : Named T) → place_in objects path ≡ Some i → IsAt objects i was → new ≡ set objects i (with_object was None)
       → Out objects new path (home was.object)
@@ -91,6 +95,7 @@ module _ {T V : Type 0} (home : Option T → V) (other : V) where
     others = λ p differ. ap (λ (l : List (Named T)). told_at l p) new_is ∙ told-set objects path i was None is at p ∙ not_at p path (home None) (told_at objects p) differ;
     room = rw (new_is, place-set objects path i was None is at path, is) refl;
     rooms = λ p has. rw (new_is, place-set objects path i was None is at p) has;
+    no_more = λ p differ has. rw (← place-set objects path i was None is at p, ← new_is) has;
   }
 
   pub added : (objects new : List (Named T)) (path : List ℕ) (named : Named T) → place_in objects path ≡ None → string_bytes named.path ≡ path → new ≡ objects ++ named ∷ [] → Out objects new path other
@@ -99,6 +104,7 @@ module _ {T V : Type 0} (home : Option T → V) (other : V) where
     others = λ p differ. ap (λ (l : List (Named T)). told_at l p) new_is ∙ told-push objects named (rw named_is none) p ∙ rw named_is (not_at p path (home named.object) (told_at objects p) differ);
     room = rw (new_is, ← named_is) (place-pushed objects named);
     rooms = λ p has. rw new_is (place-push objects named p has);
+    no_more = λ p differ has. place-push-back objects named p (λ is. differ (is ∙ named_is)) (rw (← new_is) has);
   }
 
   -- what giving one back does
@@ -106,6 +112,7 @@ module _ {T V : Type 0} (home : Option T → V) (other : V) where
     pub told : told_at new path ≡ value
     pub others : (p : List ℕ) → (p ≡ path → ⊥) → told_at new p ≡ told_at objects p
     pub rooms : (p : List ℕ) → IsSome (place_in objects p) → IsSome (place_in new p)
+    pub no_more : (p : List ℕ) → IsSome (place_in new p) → IsSome (place_in objects p)
 
   pub given : (objects new : List (Named T)) (path : List ℕ) (i : ℕ) (was : Named T) (object : T) → place_in objects path ≡ Some i → IsAt objects i was → new ≡ set objects i (with_object was (Some object))
       → Back objects new path (home (Some object))
@@ -113,6 +120,7 @@ module _ {T V : Type 0} (home : Option T → V) (other : V) where
     told = ap (λ (l : List (Named T)). told_at l path) new_is ∙ told-set objects path i was (Some object) is at path ∙ ap (λ (b : Bool). cond b (home (Some object)) (told_at objects path)) (path_self path);
     others = λ p differ. ap (λ (l : List (Named T)). told_at l p) new_is ∙ told-set objects path i was (Some object) is at p ∙ not_at p path (home (Some object)) (told_at objects p) differ;
     rooms = λ p has. rw (new_is, place-set objects path i was (Some object) is at p) has;
+    no_more = λ p has. rw (← place-set objects path i was (Some object) is at p, ← new_is) has;
   }
 
   -- nothing was handed out, since it was out

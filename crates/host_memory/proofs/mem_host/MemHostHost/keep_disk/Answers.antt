@@ -25,3 +25,6 @@ returns-clause-others c = (back c).others
 
 pub returns-clause-rooms : goal.returns-clause-rooms
 returns-clause-rooms c = (back c).rooms
+
+pub returns-clause-no_more : goal.returns-clause-no_more
+returns-clause-no_more c = (back c).no_more

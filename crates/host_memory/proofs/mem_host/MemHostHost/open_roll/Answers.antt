@@ -26,6 +26,9 @@ returns-in-Ok-clause-room c = (new_room c).room
 pub returns-in-Ok-clause-rooms : goal.returns-in-Ok-clause-rooms
 returns-in-Ok-clause-rooms c = (new_room c).rooms
 
+pub returns-in-Ok-clause-no_more : goal.returns-in-Ok-clause-no_more
+returns-in-Ok-clause-no_more c = (new_room c).no_more
+
 pub returns-in-Err-clause-state : goal.returns-in-Err-clause-state
 returns-in-Err-clause-state c = (c.args.self.now.faults, refl, λ e. cc)
 
@@ -61,6 +64,9 @@ returns-in-Some-take_out-clause-room c = (handed_out c).room
 pub returns-in-Some-take_out-clause-rooms : goal.returns-in-Some-take_out-clause-rooms
 returns-in-Some-take_out-clause-rooms c = (handed_out c).rooms
 
+pub returns-in-Some-take_out-clause-no_more : goal.returns-in-Some-take_out-clause-no_more
+returns-in-Some-take_out-clause-no_more c = (handed_out c).no_more
+
 -- it was out already
 was_out : (c : goal.After-self-in-None-1) → Out rolled_home (Some no_files) c.args.self.now.rolls.items c.take_out.new.objects.items c.args.path.now (rolled_home None)
 was_out c =
@@ -75,6 +81,9 @@ returns-in-None-clause-others c = (was_out c).others
 
 pub returns-in-None-clause-rooms : goal.returns-in-None-clause-rooms
 returns-in-None-clause-rooms c = (was_out c).rooms
+
+pub returns-in-None-clause-no_more : goal.returns-in-None-clause-no_more
+returns-in-None-clause-no_more c = (was_out c).no_more
 
 pub returns-in-None-clause-refused : goal.returns-in-None-clause-refused
 returns-in-None-clause-refused c =
