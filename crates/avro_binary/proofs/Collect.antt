@@ -1,8 +1,13 @@
 -- What the events so far leave.
-use Rattle.std.proofs.Common.{◌≡◌, ℕ, ◌<◌, ◌≤◌, Bool, true, false, cond, ltb, List, [], ◌∷◌, ◌++◌, length, refl, sym, ap, subst, ◌∙◌, arith, inl, inr}
+use Rattle.std.proofs.Common.{◌≡◌, ℕ, ◌<◌, ◌≤◌, ◌+◌, ◌-◌, Bool, true, false, cond, ltb, List, [], ◌∷◌, ◌++◌, length, refl, sym, ap, subst, ◌∙◌, arith, inl, inr}
 use Rattle.std.specs.Prelude.{Option, Some, None, is_some, fold, Err, pos, negsuc}
 use Rattle.std.proofs.lemmas.Bool.{cases_lt, le-ltb, lt-ltb}
-use Rattle.event_core.specs.Content.{Header, Content, content, size, with_header}
+use Rattle.event_core.specs.Content.{Header, Content, content, size, headers_size, with_header}
+use Rattle.event_core.specs.Refusals.{IsTooLarge}
+use Rattle.event_core.specs.declared.refused.EventRefused.{EventRefused}
+use Rattle.event_core.specs.declared.refused.EventRefused.TheVariants.{RepeatedKey}
+use Rattle.event_core.specs.declared.refused.EventRefused.TheVariants as events
+use Rattle.event_core.proofs.Sizes.{size-sum}
 use Rattle.avro_binary.specs.declared.refused.ValueRefused.{ValueRefused}
 use Rattle.avro_binary.specs.Value.{IsBytes, BytesFault, IsText}
 use Rattle.avro_binary.specs.declared.refused.ValueRefused.TheVariants.{Short, Bad, TooLarge, NoMemory}
@@ -70,6 +75,16 @@ keep_large events batch None event n some c e large = record {
   all = λ h. absurd cc;
 }
 keep_large events batch (Some m) event n some c e large = absurd cc
+
+-- a refusal of a new event tells that it is too large
+pub too_large : (event : Content) (e : EventRefused) → IsTooLarge event e → max_size < size event
+too_large event (RepeatedKey key) t = absurd t
+too_large event (events.TooLarge n) t = subst (λ (k : ℕ). max_size < k) t.0 t.1
+too_large event events.NoMemory t = absurd t
+
+-- the size of an event by its headers and the ends of its body
+pub size_of : (bytes : List ℕ) (start end : ℕ) (headers : List Header) (body : List ℕ) → IsPart bytes start end → body ≡ part bytes start end → size (content headers body) ≡ headers_size headers + (end - start) + 8
+size_of bytes start end headers body p e = omega (arith, size-sum (content headers body), ap length e, length-part bytes start end p)
 
 -- headers, and behind them a body
 pub event_of : (bytes : List ℕ) (at mid start end : ℕ) (headers : List Header) (body : List ℕ) (entries : List (List ℕ × List ℕ)) → IsPart bytes at mid → IsPart bytes mid end → IsMap (part bytes at mid) entries → headers ≡ headers_of entries → IsBytes (part bytes mid end) (part bytes start end) → body ≡ part bytes start end → IsEvent (part bytes at end) (content headers body)

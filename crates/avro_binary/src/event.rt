@@ -6,7 +6,7 @@ ghost use Rattle.avro_binary.specs.Found.{ReadsHeaders, FindsEvent, Keeps};
 use crate::items::next_item;
 use crate::refused::ValueRefused;
 use crate::value::{read_bytes, text_at};
-use event_core::{Batch, Event, EventRefused, Headers};
+use event_core::{Batch, Event, Headers, MAX_EVENT_SIZE};
 use std::alloc::Global;
 
 // A whole event, or the size of one that is too large.
@@ -42,13 +42,15 @@ fn event_at(alloc: Global, bytes: &[u8], at: usize) -> Result<(Found, usize), Va
 {
     let (headers, body_at) = headers_at(alloc, bytes, at)?;
     let (start, end) = read_bytes(bytes, body_at)?;
+    let size = headers.size() + (end - start) as u64 + 8;
+    // so no memory is taken for a body that is too large
+    if size > MAX_EVENT_SIZE {
+        return Ok((Found::Large(size), end));
+    }
     let body = Vec::from_slice(alloc, &bytes[start..end])?;
     match Event::new(headers, body) {
         Ok(event) => Ok((Found::Event(event), end)),
-        Err(refused) => match refused {
-            EventRefused::TooLarge { size } => Ok((Found::Large(size), end)),
-            _ => unreachable!(),
-        },
+        Err(_) => unreachable!(),
     }
 }
 

@@ -1,3 +1,4 @@
 pub mod Pack
 pub mod Feed
 pub mod Pending
+pub mod Stream

@@ -5,7 +5,7 @@ mod packs;
 mod pending;
 mod write;
 
-pub use packs::{Message, PackRefused, Packs, no_pack_within, one_feed, one_pack};
+pub use packs::{Message, PackRefused, Packs, no_pack_within, one_cut, one_feed, one_pack};
 pub use pending::{MAX_BUFFERS, MAX_BYTES};
 pub use write::write_pack;
 

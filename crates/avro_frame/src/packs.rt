@@ -3,6 +3,7 @@ ghost use Rattle.std.specs.Prelude.{◌≡◌, [], IfOk};
 ghost use Rattle.avro_frame.specs.Pack.{IsPack, OnePack, NoPackInPart, NoPackInLarge};
 ghost use Rattle.avro_frame.specs.Feed.{Holds, packing, Feeds, FeedsBytes, OneFeed};
 ghost use Rattle.avro_frame.specs.Pending.{IsAt, IsBehind, IsEnded};
+ghost use Rattle.avro_frame.specs.Stream.{FeedingCuts, OneCut, WrittenIsPack};
 
 use crate::pending::{Cursor, Step, at_start, fill, join, number_at};
 use std::alloc::{AllocError, Global};
@@ -137,4 +138,12 @@ pub fn no_pack_within()
 /// A piece has one outcome, but for want of memory: `Packs::feed` leaves nothing open.
 pub fn one_feed()
     ensures { OneFeed }
+{}
+
+/// A whole stream is cut in one way, and `Packs::feed` gives just its packs, in whatever pieces the stream comes. What
+/// `write_pack` adds is one.
+pub fn one_cut()
+    ensures pieces { FeedingCuts }
+    ensures one { OneCut }
+    ensures written { WrittenIsPack }
 {}

@@ -4,7 +4,7 @@ use Rattle.std.specs.Prelude.{Result, Ok, Err}
 use Rattle.avro_binary.specs.declared.refused.ValueRefused.{ValueRefused}
 use Rattle.avro_binary.specs.declared.refused.ValueRefused.TheVariants.{Short, Bad, TooLarge}
 use Rattle.avro_binary.specs.declared.refused.ValueRefused.TheVariants as values
-use Rattle.avro_binary.specs.Fault.{Lacks, Wrong, shift}
+use Rattle.avro_binary.specs.Fault.{Fault, Lacks, Wrong, shift}
 use Rattle.avro_binary.specs.Reading.{part, IsPart, IsFault}
 use Rattle.avro_binary.proofs.Lists.{rest_part, length-part}
 use Rattle.avro_hop.specs.declared.handshake.Match.{Match}
@@ -14,7 +14,7 @@ use Rattle.avro_hop.specs.declared.hop.HopRefused.{HopRefused}
 use Rattle.avro_hop.specs.declared.hop.HopRefused.TheVariants.{BadHandshake, OtherProtocol, NoMemory}
 use Rattle.avro_hop.specs.Handshake.{Request, IsRequest, RequestFault, IsKnown, IsMatch, greeting}
 use Rattle.avro_hop.specs.Told.{Matches}
-use Rattle.avro_hop.specs.Refusal.{hop_refusal}
+use Rattle.avro_hop.specs.Refusal.{IsPlaceOf}
 use Rattle.avro_hop.specs.Parameters.{CallsAt}
 use Rattle.avro_hop.specs.Dialogue.{Greets, Opens, InRequest, InCall, AnswersFirst, AnswersCall}
 use Rattle.avro_hop.proofs.Calling.{place-shift}
@@ -22,11 +22,18 @@ use Rattle.avro_hop.proofs.Calling.{place-shift}
 pub greets : (bytes : List ℕ) (call : ℕ) (r : Request) → IsPart bytes 0 call → IsRequest (part bytes 0 call) r → Greets bytes (drop call bytes) r
 greets bytes call r p i = record { front = part bytes 0 call; whole = rest_part bytes 0 call p; request = i }
 
-pub request_refused : (bytes : List ℕ) (e : ValueRefused) → IsFault RequestFault bytes 0 e → AnswersFirst bytes (Err (hop_refusal e)) false
-request_refused bytes (Short field need) f = ((Lacks f.0 f.1, InRequest f.4, omega (arith, f.2)), refl)
-request_refused bytes (Bad field) f = ((Wrong f.0, InRequest f.2, omega (arith, f.1)), refl)
-request_refused bytes (TooLarge n end) f = absurd f
-request_refused bytes values.NoMemory f = absurd f
+-- a field that is refused is at some place
+pub placed : (Faults : List ℕ → Fault → Type 0) (bytes : List ℕ) (at : ℕ) (e : ValueRefused) → IsFault Faults bytes at e → (field : ℕ) × IsPlaceOf e field
+placed Faults bytes at (Short field need) f = (field, refl)
+placed Faults bytes at (Bad field) f = (field, refl)
+placed Faults bytes at (TooLarge n end) f = absurd f
+placed Faults bytes at values.NoMemory f = absurd f
+
+pub request_refused : (bytes : List ℕ) (at : ℕ) (e : ValueRefused) → IsFault RequestFault bytes 0 e → IsPlaceOf e at → AnswersFirst bytes (Err (BadHandshake at)) false
+request_refused bytes at (Short field need) f p = ((Lacks f.0 f.1, InRequest f.4, omega (arith, f.2, p)), refl)
+request_refused bytes at (Bad field) f p = ((Wrong f.0, InRequest f.2, omega (arith, f.1, p)), refl)
+request_refused bytes at (TooLarge n end) f p = absurd f
+request_refused bytes at values.NoMemory f p = absurd f
 
 pub match_refused : (bytes : List ℕ) (call : ℕ) (r : Request) (e : HopRefused) → IsPart bytes 0 call → IsRequest (part bytes 0 call) r → Matches r (Err e) → AnswersFirst bytes (Err e) false
 match_refused bytes call r (BadHandshake at) p i m = absurd m

@@ -22,7 +22,7 @@ use Rattle.avro_hop.specs.Bounds.{max_greeting, IsBounded}
 
 -- ---- what is written
 
-text_len : length own_text ≡ 509
+pub text_len : length own_text ≡ 509
 unfolding own_text
 text_len = refl
 
@@ -32,7 +32,7 @@ digest_len state zero = refl
 digest_len state (suc n) =
     omega (arith, digest_len state n, length-append (digest_bytes state n) (to_le_bytes w32 (slice_index state n)))
 
-hash_len : length own_hash ≡ 16
+pub hash_len : length own_hash ≡ 16
 unfolding md5
 hash_len = digest_len _ 4
 

@@ -8,3 +8,5 @@ pub mod OneFault
 pub mod OneAnswer
 pub mod Lengths
 pub mod Within
+pub mod Responses
+pub mod Connection

@@ -16,7 +16,7 @@ use Rattle.avro_hop.specs.Handshake.{Request, IsTail, TailFault}
 use Rattle.avro_hop.specs.Calls.{append, append_batch, Call, Takes, IsHead, HeadFault, IsOne, Asks, Empty, Strange, One, Many, ParameterFault, OfOne, OfMany, InHead, InParameter}
 use Rattle.avro_hop.specs.Laws.{OneRequest, NoRequestFault, OneCall, NoCallFault}
 
-whole_same : (a b c d w z : List ℕ) → w ≡ a ++ b → z ≡ c ++ d → a ≡ c → b ≡ d → w ≡ z
+pub whole_same : (a b c d w z : List ℕ) → w ≡ a ++ b → z ≡ c ++ d → a ≡ c → b ≡ d → w ≡ z
 whole_same a b c d w z p q e f = cc
 
 -- a front of two parts
@@ -25,7 +25,7 @@ parts a b w x e = ap (λ (t : List ℕ). t ++ x) e ∙ append_assoc a b x
 
 -- ---- pairs
 
-same_pair : {V W : Type 0} (First : List ℕ → V → Type 0) (Second : List ℕ → W → Type 0) → IsPrefixFree First → IsPrefixFree Second → (a b x y : List ℕ) (v v' : V) (w w' : W) → IsPair First Second a v w → IsPair First Second b v' w' → a ++ x ≡ b ++ y → (a ≡ b) × (v ≡ v') × (w ≡ w')
+pub same_pair : {V W : Type 0} (First : List ℕ → V → Type 0) (Second : List ℕ → W → Type 0) → IsPrefixFree First → IsPrefixFree Second → (a b x y : List ℕ) (v v' : V) (w w' : W) → IsPair First Second a v w → IsPair First Second b v' w' → a ++ x ≡ b ++ y → (a ≡ b) × (v ≡ v') × (w ≡ w')
 same_pair First Second free free' a b x y v v' w w' p q e =
     let f = regroup p.front p.back x q.front q.back y a b p.whole q.whole e in
     let s = free p.front q.front (p.back ++ x) (q.back ++ y) v v' p.first q.first f in

@@ -95,12 +95,20 @@ is_other d = (defines (codes "Status") d && not (is_status d)) || (defines (code
 
 -- ---- types within types
 
--- the keys of an object under which types stand
+-- the keys of a type under which types stand
 abbrev pub is_nesting : List ℕ → Bool
-is_nesting key = bytes_eq key (codes "type") || bytes_eq key (codes "items") || bytes_eq key (codes "values") || bytes_eq key (codes "fields")
+is_nesting key = bytes_eq key (codes "type") || bytes_eq key (codes "items") || bytes_eq key (codes "values")
 
--- Some type passes: the one that is written here, or one within it at any depth.
+-- the key of a record under which its fields stand
+abbrev pub is_fields : List ℕ → Bool
+is_fields key = bytes_eq key (codes "fields")
+
+-- the key of a field or a parameter under which its type stands
+abbrev pub is_typing : List ℕ → Bool
+is_typing key = bytes_eq key (codes "type")
+
 abbrev mutual
+  -- Some type passes: the one that is written here, or one within it at any depth.
   pub has_type : (Data → Bool) → Data → Bool
   has_type passes null = false
   has_type passes (boolean b) = false
@@ -115,7 +123,32 @@ abbrev mutual
 
   pub has_type_in_members : (Data → Bool) → Members → Bool
   has_type_in_members passes no_members = false
-  has_type_in_members passes (member key d ms) = (is_nesting key && has_type passes d) || has_type_in_members passes ms
+  has_type_in_members passes (member key d ms) = (is_nesting key && has_type passes d || is_fields key && has_field_type passes d) || has_type_in_members passes ms
+
+  -- Some type passes in a list of fields or of parameters. These are no types themselves, whatever they are named.
+  pub has_field_type : (Data → Bool) → Data → Bool
+  has_field_type passes null = false
+  has_field_type passes (boolean b) = false
+  has_field_type passes (number n) = false
+  has_field_type passes (string s) = false
+  has_field_type passes (array ds) = has_type_in_fields passes ds
+  has_field_type passes (object ms) = false
+
+  pub has_type_in_fields : (Data → Bool) → Items → Bool
+  has_type_in_fields passes no_items = false
+  has_type_in_fields passes (item d ds) = has_own_type passes d || has_type_in_fields passes ds
+
+  pub has_own_type : (Data → Bool) → Data → Bool
+  has_own_type passes null = false
+  has_own_type passes (boolean b) = false
+  has_own_type passes (number n) = false
+  has_own_type passes (string s) = false
+  has_own_type passes (array ds) = false
+  has_own_type passes (object ms) = has_type_of_field passes ms
+
+  pub has_type_of_field : (Data → Bool) → Members → Bool
+  has_type_of_field passes no_members = false
+  has_type_of_field passes (member key d ms) = is_typing key && has_type passes d || has_type_of_field passes ms
 
 -- ---- the messages
 
@@ -136,7 +169,7 @@ are_messages d = is_object_of 2 d && has (codes "append") (is_message (codes "ev
 
 -- among a message's parameters and in its response
 abbrev pub has_in_message : (Data → Bool) → Data → Bool
-has_in_message passes d = has (codes "request") (has_type passes) d || has (codes "response") (has_type passes) d
+has_in_message passes d = has (codes "request") (has_field_type passes) d || has (codes "response") (has_type passes) d
 
 abbrev pub has_in_messages : (Data → Bool) → Data → Bool
 has_in_messages passes d = has (codes "append") (has_in_message passes) d || has (codes "appendBatch") (has_in_message passes) d

@@ -10,3 +10,5 @@ pub mod Parameters
 pub mod Refusal
 pub mod Bounds
 pub mod Laws
+pub mod Responses
+pub mod Connection

@@ -1,12 +1,11 @@
--- A value's refusal as one of the connection.
+-- The place that the refusal of a field names.
+use Rattle.std.specs.Prelude.{◌≡◌, ℕ}
 use Rattle.avro_binary.specs.declared.refused.ValueRefused.{ValueRefused}
-use Rattle.avro_binary.specs.declared.refused.ValueRefused.TheVariants.{Short, Bad, TooLarge}
-use Rattle.avro_binary.specs.declared.refused.ValueRefused.TheVariants as values
-use Rattle.avro_hop.specs.declared.hop.HopRefused.{HopRefused}
-use Rattle.avro_hop.specs.declared.hop.HopRefused.TheVariants.{BadHandshake, NoMemory}
+use Rattle.avro_binary.specs.declared.refused.ValueRefused.TheVariants.{Short, Bad, TooLarge, NoMemory}
 
-abbrev pub hop_refusal : ValueRefused → HopRefused
-hop_refusal (Short at need) = BadHandshake at
-hop_refusal (Bad at) = BadHandshake at
-hop_refusal (TooLarge size end) = BadHandshake end
-hop_refusal values.NoMemory = NoMemory
+-- where the field is that is not whole or at fault; no other refusal names one
+abbrev pub IsPlaceOf : ValueRefused → ℕ → Type 0
+IsPlaceOf (Short at need) field = field ≡ at
+IsPlaceOf (Bad at) field = field ≡ at
+IsPlaceOf (TooLarge size end) field = ⊥
+IsPlaceOf NoMemory field = ⊥

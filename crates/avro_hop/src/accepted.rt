@@ -5,7 +5,9 @@ ghost use Rattle.avro_hop.specs.Accepted as spec;
 ghost use Rattle.avro_hop.specs.Sought.{is_sought};
 
 use crate::look::{has_text, is_array_of, is_object_of, item_at, items_of, member};
-use crate::types::{Sought, has_type, is_event_type, is_events_type, is_status_type};
+use crate::types::{
+    Sought, has_field_type, has_type, is_event_type, is_events_type, is_status_type,
+};
 use event_core::NoMemory;
 use serde_json::Value;
 use std::alloc::Global;
@@ -155,12 +157,20 @@ fn has_type_at(d: &Value, name: &str, sought: Sought) -> bool
     }
 }
 
+fn has_parameter_type(d: &Value, sought: Sought) -> bool
+    ensures { result ≡ spec.has (codes "request") (spec.has_field_type (is_sought sought)) (view d.now) }
+{
+    match member(d, "request") {
+        Some(request) => has_field_type(request, sought),
+        None => false,
+    }
+}
+
 fn has_in_message(d: &Value, name: &str, sought: Sought) -> bool
     ensures { result ≡ spec.has name.now (spec.has_in_message (is_sought sought)) (view d.now) }
 {
     match member(d, name) {
-        Some(found) => has_type_at(found, "request", sought)
-            || has_type_at(found, "response", sought),
+        Some(found) => has_parameter_type(found, sought) || has_type_at(found, "response", sought),
         None => false,
     }
 }

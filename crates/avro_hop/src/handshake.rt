@@ -1,16 +1,17 @@
 // The handshake.
-ghost use Rattle.std.specs.Prelude.{◌≡◌, ◌≤◌, ◌++◌, ◌↔◌, IsTrue, length, OnOk};
+ghost use Rattle.std.specs.Prelude.{◌≡◌, ◌≤◌, ◌++◌, ◌↔◌, ℕ, IsTrue, length, OnOk};
 ghost use Rattle.std.specs.Option.{option_map};
 ghost use Rattle.avro_binary.specs.Value.{IsText, TextFault, IsFixed, FixedFault};
 ghost use Rattle.avro_binary.specs.Items.{IsMeta, MetaFault};
 ghost use Rattle.avro_binary.specs.Reading.{Reads, ReadsOver};
 ghost use Rattle.avro_hop.specs.Parts.{IsOption, OptionFault};
 ghost use Rattle.avro_hop.specs.Handshake.{own_hash, greeting, IsTail, TailFault, IsRequest, RequestFault, written_own, written_null};
+ghost use Rattle.avro_hop.specs.Refusal.{IsPlaceOf};
 ghost use Rattle.avro_hop.specs.Told.{ReadsIndex, told, Matches};
 
 use crate::accepted::accepts;
 use crate::hop::HopRefused;
-use crate::protocol::own_text;
+use crate::protocol::protocol_text;
 use avro_binary::{
     ValueRefused, read_fixed, read_int, read_meta, read_text, write_fixed, write_int, write_text,
 };
@@ -35,6 +36,18 @@ pub struct Told<'a> {
     pub hash: &'a [u8],
     pub text: Option<&'a str>,
     pub server_hash: &'a [u8],
+}
+
+// Where a field is that is not whole or at fault.
+pub fn place_of(e: ValueRefused) -> u64
+    requires { (at : ℕ) × IsPlaceOf e at }
+    ensures { IsPlaceOf e result }
+{
+    match e {
+        ValueRefused::Short { at, need: _ } => at,
+        ValueRefused::Bad { at } => at,
+        _ => unreachable!(),
+    }
 }
 
 // The index of a union of null and a value: whether the value follows.
@@ -153,7 +166,7 @@ fn add_own(hash: &[u8; 16], out: &mut Vec<u8>) -> Result<(), NoMemory>
     ensures { OnOk result (out.new.items ≡ out.old.items ++ written_own) }
 {
     write_int(1, out)?;
-    write_text(own_text(), out)?;
+    write_text(protocol_text(), out)?;
     write_int(1, out)?;
     write_fixed(hash, out)?;
     write_int(0, out)

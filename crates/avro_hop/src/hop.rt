@@ -5,9 +5,8 @@ ghost use Rattle.avro_hop.specs.Dialogue.{Answers, AnswersFirstOf};
 ghost use Rattle.avro_hop.specs.Bounds.{IsBounded};
 
 use crate::call::call_at;
-use crate::handshake::{Match, add_greeting, match_of, request_at};
-use crate::protocol::{hash_of, own_text};
-use avro_binary::ValueRefused;
+use crate::handshake::{Match, add_greeting, match_of, place_of, request_at};
+use crate::protocol::{hash_of, protocol_text};
 use event_core::{Batch, NoMemory};
 use std::alloc::{AllocError, Global};
 use std::marker::Model;
@@ -54,22 +53,6 @@ impl From<AllocError> for HopRefused {
     }
 }
 
-impl From<ValueRefused> for HopRefused {
-    ghost use Rattle.std.specs.Prelude.{◌≡◌};
-    ghost use Rattle.avro_hop.specs.Refusal.{hop_refusal};
-
-    ghost from_gives = { λ e f. f ≡ hop_refusal e };
-
-    fn from(refused: ValueRefused) -> HopRefused {
-        match refused {
-            ValueRefused::Short { at, need: _ } => HopRefused::BadHandshake { at },
-            ValueRefused::Bad { at } => HopRefused::BadHandshake { at },
-            ValueRefused::TooLarge { size: _, end } => HopRefused::BadHandshake { at: end },
-            ValueRefused::NoMemory => HopRefused::NoMemory,
-        }
-    }
-}
-
 /// A connection as its server sees it (Avro specification, "Protocol Wire Format").
 #[derive(Drop)]
 pub struct Hop {
@@ -94,7 +77,10 @@ fn first_at(alloc: Global, hash: &[u8; 16], bytes: &[u8]) -> Result<(Asked, bool
     requires { hash.now ≡ own_hash }
     ensures { AnswersFirstOf bytes.now result }
 {
-    let (request, call) = request_at(bytes)?;
+    let (request, call) = match request_at(bytes) {
+        Ok(read) => read,
+        Err(e) => return Err(HopRefused::BadHandshake { at: place_of(e) }),
+    };
     let found = match_of(alloc, &request, hash)?;
     let mut front = Vec::new(alloc);
     add_greeting(found, hash, &mut front)?;
@@ -113,7 +99,7 @@ impl Hop {
         ensures { IsOkAnd result (λ hop. hop ≡ false) }
     {
         Ok(Hop {
-            hash: hash_of(own_text()),
+            hash: hash_of(protocol_text()),
             greeted: false,
             alloc,
         })

@@ -1,6 +1,8 @@
 // What holds of all messages.
 ghost use Rattle.avro_hop.specs.Laws.{OneRequest, NoRequestFault, OneCall, NoCallFault, OneRequestFault, OneCallFault, OneMatch, OneAnswer};
-ghost use Rattle.avro_hop.specs.Within.{TypesAreFound};
+ghost use Rattle.avro_hop.specs.Within.{TypesAreFound, FieldTypesAreFound};
+ghost use Rattle.avro_hop.specs.Responses.{GreetingsAreSpelled, ResponsesAreSpelled, UnknownIsSpelled, OneGreeting, OneResponse};
+ghost use Rattle.avro_hop.specs.Connection.{OneDialogue, DialoguesJoin, SerialsAreKept, EndsAreFinal};
 
 /// A message is read in one way: a handshake or call that is spelled has one meaning and no fault.
 pub fn one_reading()
@@ -22,7 +24,27 @@ pub fn one_answer()
     ensures { OneAnswer }
 {}
 
-/// A type of a protocol's text is found at any depth: `accepts` misses none that is written out within another.
+/// A connection has one dialogue, which goes on from message to message: each is answered once, in order and under its
+/// serial, up to the first that is refused, and nothing behind that one counts.
+pub fn one_dialogue()
+    ensures one { OneDialogue }
+    ensures join { DialoguesJoin }
+    ensures serials { SerialsAreKept }
+    ensures ends { EndsAreFinal }
+{}
+
+/// What is answered to a handshake and to a call is spelled as the specification says, and no answer begins another.
+pub fn answers_are_spelled()
+    ensures greetings { GreetingsAreSpelled }
+    ensures responses { ResponsesAreSpelled }
+    ensures unknown { UnknownIsSpelled }
+    ensures one_greeting { OneGreeting }
+    ensures one_response { OneResponse }
+{}
+
+/// A type of a protocol's text is found at any depth: `accepts` misses none that is written out within another, and
+/// takes no field and no parameter for one.
 pub fn types_at_any_depth()
-    ensures { TypesAreFound }
+    ensures types { TypesAreFound }
+    ensures fields { FieldTypesAreFound }
 {}

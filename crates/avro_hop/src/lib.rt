@@ -13,8 +13,11 @@ mod types;
 
 pub use accepted::accepts;
 pub use hop::{Asked, Hop, HopRefused};
-pub use laws::{one_answer, one_fault_at_a_place, one_reading, types_at_any_depth};
-pub use protocol::PROTOCOL;
+pub use laws::{
+    answers_are_spelled, one_answer, one_dialogue, one_fault_at_a_place, one_reading,
+    types_at_any_depth,
+};
+pub use protocol::protocol_text;
 pub use respond::{Status, write_response};
 
 #[cfg(test)]

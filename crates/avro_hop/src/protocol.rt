@@ -5,12 +5,13 @@ ghost use Rattle.avro_hop.specs.Handshake.{own_text};
 
 use md5::{Digest, Md5};
 
-/// This agent's protocol text, in one line.
-pub const PROTOCOL: &str =
+const PROTOCOL: &str =
     "{\"protocol\":\"AvroSourceProtocol\",\"namespace\":\"org.apache.flume.source.avro\",\"types\":[{\"type\":\"enum\",\"name\":\"Status\",\"symbols\":[\"OK\",\"FAILED\",\"UNKNOWN\"]},{\"type\":\"record\",\"name\":\"AvroFlumeEvent\",\"fields\":[{\"name\":\"headers\",\"type\":{\"type\":\"map\",\"values\":\"string\"}},{\"name\":\"body\",\"type\":\"bytes\"}]}],\"messages\":{\"append\":{\"request\":[{\"name\":\"event\",\"type\":\"AvroFlumeEvent\"}],\"response\":\"Status\"},\"appendBatch\":{\"request\":[{\"name\":\"events\",\"type\":{\"type\":\"array\",\"items\":\"AvroFlumeEvent\"}}],\"response\":\"Status\"}}}";
 
+/// This agent's protocol text, in one line (Avro specification, "Protocol Declaration"). Its MD5 is
+/// 30da54059df72d9584b867d5202e2069.
 #[tactic(auto, unfolding(crate::specs::Handshake::own_text))]
-pub fn own_text() -> &'static str
+pub fn protocol_text() -> &'static str
     ensures { result.now ≡ own_text }
 {
     PROTOCOL

@@ -1,5 +1,6 @@
 // Handshakes and calls, in bytes worked out by the Avro specification's rules.
 use super::*;
+use crate::texts::OWN_ORDER;
 use std::alloc::Global;
 use std::test::Fail;
 
@@ -47,8 +48,15 @@ const NEGATIVE_SIZE: [u8; 17] = [
     0x61,
 ];
 
+// appendBatch of the bodies x and y, in a block of the count -2 with its size
+const NEGATIVE_COUNT: [u8; 22] = [
+    0x00, 0x16, 0x61, 0x70, 0x70, 0x65, 0x6e, 0x64, 0x42, 0x61, 0x74, 0x63, 0x68, 0x03, 0x0c, 0x00,
+    0x02, 0x78, 0x00, 0x02, 0x79, 0x00,
+];
+
 // Calls, and how many events each has.
-const CALLS: [(&[u8], usize); 7] = [
+const CALLS: [(&[u8], usize); 8] = [
+    (&NEGATIVE_COUNT, 2),
     (&APPEND, 1),
     (&SIZED, 1),
     (&BATCH, 2),
@@ -153,7 +161,7 @@ fn request(alloc: Global, hash: &[u8], text: Option<&str>, server: &[u8]) -> Res
 // The text and the hash of this agent, as CLIENT (02) and NONE (04) tell them.
 fn own_greeting(alloc: Global, found: u8) -> Result<Vec<u8>, Fail> {
     let mut bytes = Vec::from_slice(alloc, &[found, 0x02])?;
-    avro_binary::write_text(PROTOCOL, &mut bytes)?;
+    avro_binary::write_text(protocol_text(), &mut bytes)?;
     bytes.push(0x02)?;
     bytes.extend_from_slice(&HASH)?;
     bytes.push(0x00)?;
@@ -170,6 +178,13 @@ fn answered(asked: Asked) -> Result<(Vec<u8>, usize), Fail> {
             Ok((payload, batch.len()))
         }
     }
+}
+
+// The response to an unknown name.
+fn unknown_message(alloc: Global) -> Result<Vec<u8>, Fail> {
+    let mut bytes = Vec::from_slice(alloc, &[0x00, 0x01, 0x00, 0x1e])?;
+    bytes.extend_from_slice(b"unknown message")?;
+    Ok(bytes)
 }
 
 fn greeted(alloc: Global) -> Result<Hop, Fail> {
@@ -198,6 +213,8 @@ fn calls_behind_a_handshake(rt: HostRuntime) -> Result<(), Fail> {
     one_reading();
     one_fault_at_a_place();
     one_answer();
+    one_dialogue();
+    answers_are_spelled();
     types_at_any_depth();
     Ok(())
 }
@@ -231,8 +248,7 @@ fn a_stranger_sends_its_text(rt: HostRuntime) -> Result<(), Fail> {
     let (payload, events) = answered(hop.answer(&first)?)?;
     assert!(rt; events == 0);
     assert!(rt; payload.as_slice() == own_greeting(alloc, 0x04)?.as_slice());
-    let text = PROTOCOL.replace(alloc, "\"messages\"", "\"doc\":\"d\",\"messages\"")?;
-    let mut second = request(alloc, &hash, Some(text.as_str()), &HASH)?;
+    let mut second = request(alloc, &hash, Some(OWN_ORDER), &HASH)?;
     second.extend_from_slice(&BATCH)?;
     let (payload, events) = answered(hop.answer(&second)?)?;
     assert!(rt; events == 2);
@@ -248,15 +264,32 @@ fn a_stranger_sends_its_text(rt: HostRuntime) -> Result<(), Fail> {
 #[test]
 fn a_client_with_an_old_server_hash(rt: HostRuntime) -> Result<(), Fail> {
     let alloc = rt.alloc();
-    let mut hop = Hop::new(alloc)?;
-    // a known hash needs no text, and a text is not tested then
-    let mut message = request(alloc, &HASH, Some("no JSON"), &[1; 16])?;
-    message.extend_from_slice(&APPEND)?;
-    let (payload, events) = answered(hop.answer(&message)?)?;
-    assert!(rt; events == 1);
     let mut want = own_greeting(alloc, 0x02)?;
     want.extend_from_slice(&[0, 0, 0])?;
+    // a known hash needs no text, and a text is not tested then; an unknown one needs a text that is accepted
+    for (hash, text) in [(HASH, "no JSON"), ([7; 16], OWN_ORDER)] {
+        let mut hop = Hop::new(alloc)?;
+        let mut message = request(alloc, &hash, Some(text), &[1; 16])?;
+        message.extend_from_slice(&APPEND)?;
+        let (payload, events) = answered(hop.answer(&message)?)?;
+        assert!(rt; events == 1);
+        assert!(rt; payload.as_slice() == want.as_slice());
+    }
+    Ok(())
+}
+
+#[test]
+fn an_unknown_name_in_the_first_message(rt: HostRuntime) -> Result<(), Fail> {
+    let mut hop = Hop::new(rt.alloc())?;
+    let mut message = request(rt.alloc(), &HASH, None, &HASH)?;
+    message.extend_from_slice(&[0x00, 0x02, 0x78, 0xff])?;
+    let (payload, _) = answered(hop.answer(&message)?)?;
+    let mut want = Vec::from_slice(rt.alloc(), &[0, 0, 0, 0])?;
+    want.extend_from_slice(&unknown_message(rt.alloc())?)?;
     assert!(rt; payload.as_slice() == want.as_slice());
+    // the handshake was made all the same
+    let (_, events) = answered(hop.answer(&APPEND)?)?;
+    assert!(rt; events == 1);
     Ok(())
 }
 
@@ -332,9 +365,7 @@ fn refused_calls(rt: HostRuntime) -> Result<(), Fail> {
     }
     // an unknown name, and what stands behind it is left aside
     let (payload, _) = answered(hop.answer(&[0x00, 0x02, 0x78, 0xff])?)?;
-    let mut want = Vec::from_slice(rt.alloc(), &[0x00, 0x01, 0x00, 0x1e])?;
-    want.extend_from_slice(b"unknown message")?;
-    assert!(rt; payload.as_slice() == want.as_slice());
+    assert!(rt; payload.as_slice() == unknown_message(rt.alloc())?.as_slice());
     // an empty name
     let (payload, _) = answered(hop.answer(&[0x00, 0x00, 0xff])?)?;
     assert!(rt; payload.is_empty());
@@ -359,5 +390,18 @@ fn too_large_an_event(rt: HostRuntime) -> Result<(), Fail> {
         hop.answer(&call)
             .is_err_and(|e| e == HopRefused::BadHandshake { at: 33_554_438 })
     );
+    // appendBatch of the body x and of this one
+    let mut batch = Vec::from_slice(
+        rt.alloc(),
+        &[
+            0x00, 0x16, 0x61, 0x70, 0x70, 0x65, 0x6e, 0x64, 0x42, 0x61, 0x74, 0x63, 0x68, 0x04,
+            0x00, 0x02, 0x78, 0x00,
+        ],
+    )?;
+    avro_binary::write_bytes(&body, &mut batch)?;
+    batch.push(0)?;
+    let (payload, events) = answered(hop.answer(&batch)?)?;
+    assert!(rt; payload.as_slice() == [0u8, 0, 2].as_slice());
+    assert!(rt; events == 0);
     Ok(())
 }

@@ -1,7 +1,7 @@
 // Protocol texts of clients: this agent's text with one part written otherwise.
 use crate::protocol::hash_of;
 use crate::tests::HASH;
-use crate::{PROTOCOL, accepts};
+use crate::{accepts, protocol_text};
 use event_core::NoMemory;
 use std::alloc::Global;
 use std::test::Fail;
@@ -164,8 +164,17 @@ const ACCEPTED: [(&str, &str); 50] = [
     ),
 ];
 
+// A client's text: with docs, and with keys, types and messages in an order of its own.
+pub const OWN_ORDER: &str =
+    "{\"doc\":\"events of a client\",\"namespace\":\"org.apache.flume.source.avro\",\"protocol\":\"AvroSourceProtocol\",\"messages\":{\"appendBatch\":{\"doc\":\"many\",\"request\":[{\"doc\":\"in order\",\"name\":\"events\",\"type\":{\"type\":\"array\",\"items\":\"org.apache.flume.source.avro.AvroFlumeEvent\"}}],\"response\":\"Status\"},\"append\":{\"doc\":\"one\",\"request\":[{\"name\":\"event\",\"type\":\"AvroFlumeEvent\"}],\"response\":\"org.apache.flume.source.avro.Status\"}},\"types\":[{\"doc\":\"an event\",\"name\":\"AvroFlumeEvent\",\"type\":\"record\",\"fields\":[{\"doc\":\"texts\",\"name\":\"headers\",\"type\":{\"type\":\"map\",\"values\":\"string\"}},{\"name\":\"body\",\"type\":\"bytes\",\"doc\":\"all else\"}],\"namespace\":\"org.apache.flume.source.avro\"},{\"doc\":\"what became of them\",\"namespace\":\"org.apache.flume.source.avro\",\"name\":\"Status\",\"type\":\"enum\",\"symbols\":[\"OK\",\"FAILED\",\"UNKNOWN\"]}]}";
+
+// A field that is named and written as Status is no type, and Status is nowhere written out.
+const FIELD_FOR_STATUS: &str =
+    "{\"types\":[{\"type\":\"record\",\"name\":\"Note\",\"fields\":[{\"name\":\"Status\",\"type\":\"enum\",\"symbols\":[\"OK\",\"FAILED\",\"UNKNOWN\"]}]},{\"type\":\"record\",\"name\":\"AvroFlumeEvent\",\"fields\":[{\"name\":\"headers\",\"type\":{\"type\":\"map\",\"values\":\"string\"}},{\"name\":\"body\",\"type\":\"bytes\"}]}],\"messages\":{\"append\":{\"request\":[{\"name\":\"event\",\"type\":\"AvroFlumeEvent\"}],\"response\":\"Status\"},\"appendBatch\":{\"request\":[{\"name\":\"events\",\"type\":{\"type\":\"array\",\"items\":\"AvroFlumeEvent\"}}],\"response\":\"Status\"}}}";
+
 // Whole texts: each type is written out somewhere, and nowhere is another under its name.
 const ACCEPTED_TEXTS: [&str; 7] = [
+    OWN_ORDER,
     // as Avro's compiler for Java writes Flume's two messages, with texts as String
     "{\"protocol\":\"AvroSourceProtocol\",\"namespace\":\"org.apache.flume.source.avro\",\"doc\":\"* Licensed to the Apache Software Foundation (ASF) under one\\n * or more contributor license agreements.\",\"types\":[{\"type\":\"enum\",\"name\":\"Status\",\"symbols\":[\"OK\",\"FAILED\",\"UNKNOWN\"]},{\"type\":\"record\",\"name\":\"AvroFlumeEvent\",\"fields\":[{\"name\":\"headers\",\"type\":{\"type\":\"map\",\"values\":{\"type\":\"string\",\"avro.java.string\":\"String\"},\"avro.java.string\":\"String\"}},{\"name\":\"body\",\"type\":\"bytes\"}]}],\"messages\":{\"append\":{\"request\":[{\"name\":\"event\",\"type\":\"AvroFlumeEvent\"}],\"response\":\"Status\"},\"appendBatch\":{\"request\":[{\"name\":\"events\",\"type\":{\"type\":\"array\",\"items\":\"AvroFlumeEvent\"}}],\"response\":\"Status\"}}}",
     // both types where they are first used, and none before
@@ -178,7 +187,6 @@ const ACCEPTED_TEXTS: [&str; 7] = [
     "{\"types\":[{\"type\":\"record\",\"name\":\"Store\",\"fields\":[{\"name\":\"events\",\"type\":{\"type\":\"map\",\"values\":{\"type\":\"array\",\"items\":{\"type\":\"record\",\"name\":\"AvroFlumeEvent\",\"fields\":[{\"name\":\"headers\",\"type\":{\"type\":\"map\",\"values\":\"string\"}},{\"name\":\"body\",\"type\":\"bytes\"}]}}}}]},{\"type\":\"enum\",\"name\":\"Status\",\"symbols\":[\"OK\",\"FAILED\",\"UNKNOWN\"]}],\"messages\":{\"append\":{\"request\":[{\"name\":\"event\",\"type\":\"AvroFlumeEvent\"}],\"response\":\"Status\"},\"appendBatch\":{\"request\":[{\"name\":\"events\",\"type\":{\"type\":\"array\",\"items\":\"AvroFlumeEvent\"}}],\"response\":\"Status\"}}}",
     // a field, an alias and a default by the two names are no types
     "{\"types\":[{\"type\":\"record\",\"name\":\"Note\",\"aliases\":[\"Status\"],\"fields\":[{\"name\":\"Status\",\"type\":\"int\"},{\"name\":\"AvroFlumeEvent\",\"type\":\"bytes\",\"default\":{\"type\":\"enum\",\"name\":\"Status\",\"symbols\":[]}}]},{\"type\":\"enum\",\"name\":\"Status\",\"symbols\":[\"OK\",\"FAILED\",\"UNKNOWN\"]},{\"type\":\"record\",\"name\":\"AvroFlumeEvent\",\"fields\":[{\"name\":\"headers\",\"type\":{\"type\":\"map\",\"values\":\"string\"}},{\"name\":\"body\",\"type\":\"bytes\"}]}],\"messages\":{\"append\":{\"request\":[{\"name\":\"event\",\"type\":\"AvroFlumeEvent\"}],\"response\":\"Status\"},\"appendBatch\":{\"request\":[{\"name\":\"events\",\"type\":{\"type\":\"array\",\"items\":\"AvroFlumeEvent\"}}],\"response\":\"Status\"}}}",
-    PROTOCOL,
 ];
 
 // A further type among the types.
@@ -321,17 +329,18 @@ const REFUSED: [(&str, &str); 56] = [
 ];
 
 fn is_accepted_with(alloc: Global, from: &str, to: &str) -> Result<bool, NoMemory> {
-    let text = PROTOCOL.replace(alloc, from, to)?;
+    let text = protocol_text().replace(alloc, from, to)?;
     accepts(alloc, text.as_str())
 }
 
 #[test]
 fn accepted_texts(rt: HostRuntime) -> Result<(), Fail> {
+    assert!(rt; accepts(rt.alloc(), protocol_text())?);
     for text in ACCEPTED_TEXTS {
         assert!(rt; accepts(rt.alloc(), text)?, "{text}");
     }
     for (from, to) in ACCEPTED {
-        assert!(rt; PROTOCOL.contains(from), "{from}");
+        assert!(rt; protocol_text().contains(from), "{from}");
         assert!(rt; is_accepted_with(rt.alloc(), from, to)?, "{from} as {to}");
     }
     Ok(())
@@ -339,11 +348,18 @@ fn accepted_texts(rt: HostRuntime) -> Result<(), Fail> {
 
 #[test]
 fn refused_texts(rt: HostRuntime) -> Result<(), Fail> {
-    for text in ["", "null", "[]", "{}", "{\"messages\":{}}"] {
+    for text in [
+        "",
+        "null",
+        "[]",
+        "{}",
+        "{\"messages\":{}}",
+        FIELD_FOR_STATUS,
+    ] {
         assert!(rt; !accepts(rt.alloc(), text)?, "{text}");
     }
     for (from, to) in REFUSED {
-        assert!(rt; PROTOCOL.contains(from), "{from}");
+        assert!(rt; protocol_text().contains(from), "{from}");
         assert!(rt; !is_accepted_with(rt.alloc(), from, to)?, "{from} as {to}");
     }
     for further in REFUSED_TYPES {
@@ -359,6 +375,6 @@ fn refused_texts(rt: HostRuntime) -> Result<(), Fail> {
 // RFC 1321, by another program.
 #[test]
 fn own_hash(rt: HostRuntime) {
-    assert!(rt; PROTOCOL.len() == 509);
-    assert!(rt; hash_of(PROTOCOL) == HASH);
+    assert!(rt; protocol_text().len() == 509);
+    assert!(rt; hash_of(protocol_text()) == HASH);
 }

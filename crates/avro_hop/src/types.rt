@@ -166,11 +166,25 @@ fn is_sought(d: &Value, sought: Sought) -> bool
     }
 }
 
-// Whether types stand under this key of an object.
+// Whether types stand under this key of a type.
 fn is_nesting(key: &str) -> bool
     ensures { result ≡ spec.is_nesting key.now }
 {
-    key == "type" || key == "items" || key == "values" || key == "fields"
+    key == "type" || key == "items" || key == "values"
+}
+
+// Whether a record's fields stand under this key.
+fn is_fields(key: &str) -> bool
+    ensures { result ≡ spec.is_fields key.now }
+{
+    key == "fields"
+}
+
+// Whether the type of a field or a parameter stands under this key.
+fn is_typing(key: &str) -> bool
+    ensures { result ≡ spec.is_typing key.now }
+{
+    key == "type"
 }
 
 // Whether the type, or one within it, is the one that is looked for.
@@ -205,7 +219,62 @@ fn has_type_in_members(members: &Map<String, Value>, sought: Sought) -> bool
     ensures { result ≡ spec.has_type_in_members (is_sought sought) (members_view members.now.entries) }
 {
     'types: for (key, member) in members.iter() {
-        if is_nesting(key) && has_type(member, sought) {
+        if (is_nesting(key) && has_type(member, sought))
+            || (is_fields(key) && has_field_type(member, sought))
+        {
+            return true;
+        }
+    }
+    false
+}
+
+// Whether the type of one of these fields or parameters, or one within it, is the one that is looked for.
+#[cycle(has_type)]
+pub fn has_field_type(d: &Value, sought: Sought) -> bool
+    ensures { result ≡ spec.has_field_type (is_sought sought) (view d.now) }
+{
+    match d {
+        Value::Null => false,
+        Value::Bool(_) => false,
+        Value::Number(_) => false,
+        Value::String(_) => false,
+        Value::Array(fields) => has_type_in_fields(fields, sought),
+        Value::Object(_) => false,
+    }
+}
+
+#[cycle(has_type)]
+fn has_type_in_fields(fields: &Vec<Value>, sought: Sought) -> bool
+    ensures { result ≡ spec.has_type_in_fields (is_sought sought) (items_view fields.now.items) }
+{
+    'fields: for field in fields {
+        if has_own_type(field, sought) {
+            return true;
+        }
+    }
+    false
+}
+
+#[cycle(has_type)]
+fn has_own_type(field: &Value, sought: Sought) -> bool
+    ensures { result ≡ spec.has_own_type (is_sought sought) (view field.now) }
+{
+    match field {
+        Value::Null => false,
+        Value::Bool(_) => false,
+        Value::Number(_) => false,
+        Value::String(_) => false,
+        Value::Array(_) => false,
+        Value::Object(members) => has_type_of_field(members, sought),
+    }
+}
+
+#[cycle(has_type)]
+fn has_type_of_field(members: &Map<String, Value>, sought: Sought) -> bool
+    ensures { result ≡ spec.has_type_of_field (is_sought sought) (members_view members.now.entries) }
+{
+    'types: for (key, member) in members.iter() {
+        if is_typing(key) && has_type(member, sought) {
             return true;
         }
     }

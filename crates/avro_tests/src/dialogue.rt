@@ -2,7 +2,7 @@
 ghost use Rattle.std.specs.Prelude.{◌≤◌, length, IfOk};
 
 use avro_frame::{Packs, write_pack};
-use avro_hop::{Asked, Hop, HopRefused, PROTOCOL, Status, write_response};
+use avro_hop::{Asked, Hop, HopRefused, Status, protocol_text, write_response};
 use std::alloc::Global;
 use std::test::Fail;
 
@@ -60,7 +60,7 @@ const LATER_REPLIES: [u8; 34] = [
 
 // What a client sends: its text has a `doc`.
 fn requests(alloc: Global) -> Result<Vec<u8>, Fail> {
-    let text = PROTOCOL.replace(alloc, "\"messages\"", "\"doc\":\"d\",\"messages\"")?;
+    let text = protocol_text().replace(alloc, "\"messages\"", "\"doc\":\"d\",\"messages\"")?;
     let mut stream = Vec::from_slice(alloc, &FIRST)?;
     stream.extend_from_slice(&SECOND)?;
     stream.extend_from_slice(text.as_bytes())?;
@@ -72,45 +72,91 @@ fn requests(alloc: Global) -> Result<Vec<u8>, Fail> {
 
 fn replies(alloc: Global) -> Result<Vec<u8>, Fail> {
     let mut stream = Vec::from_slice(alloc, &FIRST_REPLY)?;
-    stream.extend_from_slice(PROTOCOL.as_bytes())?;
+    stream.extend_from_slice(protocol_text().as_bytes())?;
     stream.extend_from_slice(&OWN_HASH)?;
     stream.extend_from_slice(&LATER_REPLIES)?;
     Ok(stream)
 }
 
-// The payload that answers a message. Two events are taken, and one finds the channel full.
-fn reply_to(hop: &mut Hop, message: &[u8]) -> Result<Vec<u8>, HopRefused>
-    ensures { IfOk result (λ payload. length payload.items ≤ 1_000) }
+// Serial 6, a buffer of 36 bytes: a handshake of both hashes, and no call behind it; and BOTH.
+const KNOWN: [u8; 48] = [
+    0x00, 0x00, 0x00, 0x06, 0x00, 0x00, 0x00, 0x01, 0x00, 0x00, 0x00, 0x24, 0x30, 0xda, 0x54, 0x05,
+    0x9d, 0xf7, 0x2d, 0x95, 0x84, 0xb8, 0x67, 0xd5, 0x20, 0x2e, 0x20, 0x69, 0x00, 0x30, 0xda, 0x54,
+    0x05, 0x9d, 0xf7, 0x2d, 0x95, 0x84, 0xb8, 0x67, 0xd5, 0x20, 0x2e, 0x20, 0x69, 0x00, 0x00, 0x00,
+];
+
+const KNOWN_REPLY: [u8; 16] = [
+    0x00, 0x00, 0x00, 0x06, 0x00, 0x00, 0x00, 0x01, 0x00, 0x00, 0x00, 0x04, 0x00, 0x00, 0x00, 0x00,
+];
+
+// Serial 7: append of the body a with h = v, and the same headers in a block with its size.
+const APPENDS: [&[u8]; 2] = [
+    &[
+        0x00, 0x00, 0x00, 0x07, 0x00, 0x00, 0x00, 0x01, 0x00, 0x00, 0x00, 0x10, 0x00, 0x0c, 0x61,
+        0x70, 0x70, 0x65, 0x6e, 0x64, 0x02, 0x02, 0x68, 0x02, 0x76, 0x00, 0x02, 0x61,
+    ],
+    &[
+        0x00, 0x00, 0x00, 0x07, 0x00, 0x00, 0x00, 0x01, 0x00, 0x00, 0x00, 0x11, 0x00, 0x0c, 0x61,
+        0x70, 0x70, 0x65, 0x6e, 0x64, 0x01, 0x08, 0x02, 0x68, 0x02, 0x76, 0x00, 0x02, 0x61,
+    ],
+];
+
+// OK, and FAILED where the channel refused.
+const APPEND_REPLIES: [(Status, [u8; 15]); 2] = [
+    (
+        Status::Ok,
+        [
+            0x00, 0x00, 0x00, 0x07, 0x00, 0x00, 0x00, 0x01, 0x00, 0x00, 0x00, 0x03, 0x00, 0x00,
+            0x00,
+        ],
+    ),
+    (
+        Status::Failed,
+        [
+            0x00, 0x00, 0x00, 0x07, 0x00, 0x00, 0x00, 0x01, 0x00, 0x00, 0x00, 0x03, 0x00, 0x00,
+            0x02,
+        ],
+    ),
+];
+
+// The payload that answers a message, where this is the verdict on its events, and whether it has any.
+fn reply_to(hop: &mut Hop, message: &[u8], verdict: Status) -> Result<(Vec<u8>, bool), HopRefused>
+    ensures { IfOk result (λ found. length found.0.items ≤ 1_000) }
 {
     match hop.answer(message)? {
-        Asked::Reply(payload) => Ok(payload),
-        Asked::Events { front, batch } => {
+        Asked::Reply(payload) => Ok((payload, false)),
+        Asked::Events { front, batch: _ } => {
             let mut payload = front;
-            let verdict = if batch.len() == 2 {
-                Status::Ok
-            } else {
-                Status::Failed
-            };
             write_response(verdict, &mut payload)?;
-            Ok(payload)
+            Ok((payload, true))
         }
     }
 }
 
-// What a server writes to a stream in pieces of this length, and why it ends.
-fn served(alloc: Global, stream: &[u8], len: usize) -> Result<(Vec<u8>, Option<HopRefused>), Fail> {
+// What a server writes to a stream in pieces of this length with these verdicts, and why it ends.
+fn served(
+    alloc: Global,
+    stream: &[u8],
+    len: usize,
+    verdicts: &[Status],
+) -> Result<(Vec<u8>, Option<HopRefused>), Fail> {
     let mut packs = Packs::new(alloc);
     let mut hop = Hop::new(alloc)?;
     let mut out = Vec::new(alloc);
     let mut from = 0usize;
+    let mut told = 0usize;
     for _ in 0..stream.len() {
         let to = from.saturating_add(len).min(stream.len());
         let piece = stream.get(from..to).ok_or("no piece")?;
         let (taken, found) = packs.feed(piece)?;
         from = from.saturating_add(taken);
         if let Some(message) = found {
-            match reply_to(&mut hop, &message.payload) {
-                Ok(payload) => write_pack(message.serial, &payload, &mut out)?,
+            let verdict = verdicts.get(told).copied().unwrap_or(Status::Unknown);
+            match reply_to(&mut hop, &message.payload, verdict) {
+                Ok((payload, waited)) => {
+                    write_pack(message.serial, &payload, &mut out)?;
+                    told = told.saturating_add(usize::from(waited));
+                }
                 Err(e) => return Ok((out, Some(e))),
             }
         }
@@ -118,14 +164,31 @@ fn served(alloc: Global, stream: &[u8], len: usize) -> Result<(Vec<u8>, Option<H
     Ok((out, None))
 }
 
+// Two events are taken, and one finds the channel full.
 #[test]
 fn a_dialogue(rt: HostRuntime) -> Result<(), Fail> {
     let stream = requests(rt.alloc())?;
     let want = replies(rt.alloc())?;
     for len in [1usize, 5, 64, 10_000] {
-        let (out, end) = served(rt.alloc(), &stream, len)?;
+        let (out, end) = served(rt.alloc(), &stream, len, &[Status::Ok, Status::Failed])?;
         assert!(rt; out.as_slice() == want.as_slice(), "{len}");
         assert!(rt; end == Some(HopRefused::BadHandshake { at: 9 }), "{len}");
+    }
+    Ok(())
+}
+
+#[test]
+fn an_append_behind_a_handshake(rt: HostRuntime) -> Result<(), Fail> {
+    for append in APPENDS {
+        for (verdict, reply) in APPEND_REPLIES {
+            let mut stream = Vec::from_slice(rt.alloc(), &KNOWN)?;
+            stream.extend_from_slice(append)?;
+            let mut want = Vec::from_slice(rt.alloc(), &KNOWN_REPLY)?;
+            want.extend_from_slice(&reply)?;
+            let (out, end) = served(rt.alloc(), &stream, 64, &[verdict])?;
+            assert!(rt; out.as_slice() == want.as_slice());
+            assert!(rt; end.is_none());
+        }
     }
     Ok(())
 }
