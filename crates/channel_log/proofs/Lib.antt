@@ -3,6 +3,8 @@ pub mod Bytes
 mod Calls
 pub mod Contents
 pub mod Loads
+pub mod LowBytes
+pub mod Every
 pub mod Entering
 pub mod Given
 mod Opening

@@ -9,7 +9,7 @@ mod scan;
 mod tests;
 mod writer;
 
-pub use laws::one_content;
+pub use laws::{one_content, some_content};
 pub use loading::FrameRefused;
 pub use reader::{LogReader, birth_of, record_at};
 pub use scan::{Scan, scan_frame};

@@ -84,7 +84,7 @@ put_applies false txn event old new is items number above goes base past a = λ 
 
 -- an opened transaction of takes
 
-among_below : (number low : ℕ) (items : Items) → AllByRecursion (λ item. item.0 < low) items → is_among (map (λ item. item.0) items) number ≡ true → number < low
+pub among_below : (number low : ℕ) (items : Items) → AllByRecursion (λ item. item.0 < low) items → is_among (map (λ item. item.0) items) number ≡ true → number < low
 among_below number low [] below is = absurd (let e : false ≡ true = is in cc)
 among_below number low (item ∷ items) below is = from (eqb_tells item.0 number) is (among_below number low items below.1)
   where
@@ -92,7 +92,7 @@ among_below number low (item ∷ items) below is = from (eqb_tells item.0 number
     from (inl here) is rest = omega (arith, below.0, here.1)
     from (inr there) is rest = rest (rw there.0 at is)
 
-not_that : (number n low : ℕ) → number < low → low ≤ n → (number == n) ≡ false
+pub not_that : (number n low : ℕ) → number < low → low ≤ n → (number == n) ≡ false
 not_that number n low less more = from (eqb_tells number n)
   where
     from : Tells number n → (number == n) ≡ false

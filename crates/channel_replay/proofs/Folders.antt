@@ -1,5 +1,5 @@
 -- The log files of a folder, one after another.
-use Rattle.std.proofs.Common.{◌≡◌, ◌⊎◌, inl, inr, ◌<◌, ◌≤◌, ◌+◌, ◌^◌, ℕ, List, [], ◌∷◌, ◌++◌, Option, Some, None, true, false, IsSome, IsSomeAnd, refl, sym, ◌∙◌, ap, subst, arith, append_assoc, ⊎_elim}
+use Rattle.std.proofs.Common.{◌≡◌, ◌⊎◌, inl, inr, ◌<◌, ◌≤◌, ◌+◌, ◌^◌, ℕ, List, [], ◌∷◌, ◌++◌, Option, Some, None, true, false, IsSome, IsSomeAnd, Result, Ok, Err, IfOk, vec_len, refl, sym, ◌∙◌, ap, subst, arith, append_assoc, ⊎_elim}
 use Rattle.std.proofs.lemmas.Bool.{cases_lt}
 use Rattle.std.proofs.lemmas.Bool.Decides.{nat_tests}
 use Rattle.std.proofs.lemmas.List.{append-nil}
@@ -7,16 +7,17 @@ use Rattle.flume_host.specs.Folder.{Files, IsAbove, IsNext}
 use Rattle.flume_host.specs.Told.{Told, WhereTold}
 use Rattle.flume_host.specs.declared.names.FileName.{FileName}
 use Rattle.flume_host.specs.declared.names.FileName.TheVariants.{Log, Check}
-use Rattle.event_core.specs.Journal.{Base, after_journal}
+use Rattle.event_core.specs.Journal.{Base, IsBase, after_journal}
 use Rattle.channel_log.specs.Frames.{Holds}
 use Rattle.channel_log.specs.Reader.{HasFile}
 use Rattle.channel_replay.specs.declared.recovery.Recovery.{Recovery}
 use Rattle.channel_replay.specs.declared.recovery.Replayed.{Replayed}
 use Rattle.channel_replay.specs.declared.refused.ReplayRefused.{ReplayRefused}
-use Rattle.channel_replay.specs.Marks.{Past, journal}
+use Rattle.channel_face.proofs.Numbers.{base_rising, rising-left}
+use Rattle.channel_replay.specs.Marks.{Applied, Dropped, Past, journal, next_txn}
 use Rattle.channel_replay.specs.Plain.{base_of}
 use Rattle.channel_replay.specs.Recover.{AreLogs, AreSound, HasFault, IsBadLog, Line, LogFile, StandsFor, WhereLogs, empty_base, file_lines, lines, past_lines}
-use Rattle.channel_replay.specs.Recovery.{Agrees}
+use Rattle.channel_replay.specs.Recovery.{Agrees, IsReached}
 use Rattle.channel_replay.specs.Replay.{AppliesAll, WhereBadLog, WhereHolds, floor, record_count}
 use Rattle.channel_replay.proofs.Lines.{fault_append, fault_front, lines-append, past_lines-append, sound_append}
 use Rattle.channel_replay.proofs.Replaying.{log_maps, record_count-append}
@@ -34,12 +35,14 @@ pub record FilesUpTo (files : Files) (logs : List LogFile) (from : ℕ) (now : R
 pub record FoldersOn (was told : Option Told) (faulty faults from : ℕ) (now : Recovery) (none steps : ℕ) : Type 0 where
   pub same : told ≡ was
   pub later : faulty ≤ faults
+  pub reached : IsReached now
   pub on : WhereTold was (λ t. WhereLogs t.reads (λ logs. FilesUpTo t.reads logs from now none steps))
 
 pub folders_none : (was : Option Told) (faulty : ℕ) (start : Recovery) (none : ℕ) → Agrees empty_base [] start → FoldersOn was was faulty faulty 0 start none none
 folders_none was faulty start none agrees = record {
   same = refl;
   later = omega arith;
+  reached = ([], agrees);
   on = λ t is logs are. record { done = []; rest = logs; split = refl; are = are; sound = tt; agrees = agrees; ticks = omega arith };
 }
 
@@ -120,11 +123,12 @@ no_rest files after (log ∷ rest) are none = absurd (gone (files (Log log.numbe
 -- a file more was applied
 pub folders_more : (was told after_told : Option Told) (faulty faults more_faults : ℕ) (after : Option FileName) (file : ℕ) (now new : Recovery) (none steps more_steps : ℕ)
     → FoldersOn was told faulty faults (floor after) now none steps → WhereTold told (λ t. IsNext t.reads after (Some (Log file))) → file < 2 ^ 32
-    → WhereHolds told file (λ content. AppliesAll (file_lines file content) now new) → WhereHolds told file (λ content. more_steps ≤ steps + record_count (file_lines file content)) → after_told ≡ told → faults ≤ more_faults
+    → WhereHolds told file (λ content. AppliesAll (file_lines file content) now new) → WhereHolds told file (λ content. more_steps ≤ steps + record_count (file_lines file content)) → after_told ≡ told → faults ≤ more_faults → (IsReached now → IsReached new)
     → FoldersOn was after_told faulty more_faults (file + 1) new none more_steps
-folders_more was told after_told faulty faults more_faults after file now new none steps more_steps on next high applies ticks same later = record {
+folders_more was told after_told faulty faults more_faults after file now new none steps more_steps on next high applies ticks same later reached = record {
   same = same ∙ on.same;
   later = omega (arith, later, on.later);
+  reached = reached on.reached;
   on = λ t is logs are.
       let u = on.on t is logs are in
       let told_is : told ≡ Some t = on.same ∙ is in
@@ -205,3 +209,22 @@ recovered logs now r is items number txn = record {
   left_is = same_base (base_of r) (after_journal empty_base (journal (past_lines [] (lines logs)))) (items ∙ is.1.items) (number ∙ is.1.number);
   txn_is = txn ∙ is.1.txn;
 }
+
+-- and whether the disk tells or not
+pub replayed_base : (now : Recovery) (r : Replayed) → IsReached now → r.items.items ≡ now.items.items → r.next.number ≡ now.number → IsBase (base_of r)
+replayed_base now r reached items number =
+    let all : base_of r ≡ after_journal empty_base (journal reached.0) = same_base (base_of r) (after_journal empty_base (journal reached.0)) (items ∙ reached.1.items) (number ∙ reached.1.number) in
+    subst IsBase (sym all) (base_rising (after_journal empty_base (journal reached.0)) (rising-left empty_base (journal reached.0) (omega arith)))
+
+some_txn : (past : Past) → 1 ≤ next_txn past
+some_txn [] = omega arith
+some_txn (Dropped ∷ past) = some_txn past
+some_txn (Applied rec ∷ past) = omega (arith, some_txn past)
+
+pub replayed_txn : (now : Recovery) (r : Replayed) → IsReached now → r.next.txn ≡ now.txn → 1 ≤ r.next.txn
+replayed_txn now r reached txn = omega (arith, txn, reached.1.txn, some_txn reached.0)
+
+-- of what is within the capacity
+pub within_maps : (r : Result Replayed ReplayRefused) (made : Replayed) (capacity : ℕ) (P : Replayed → Type 0) → P made → IfOk r (λ x. (x ≡ made) × (vec_len x.items ≤ capacity)) → IfOk r P
+within_maps (Ok x) made capacity P is ok = subst P (sym ok.0) is
+within_maps (Err e) made capacity P is ok = tt

@@ -6,3 +6,6 @@ pub mod Reading
 pub mod Lines
 pub mod Replaying
 pub mod Folders
+pub mod OneList
+pub mod Earlier
+pub mod OneFault

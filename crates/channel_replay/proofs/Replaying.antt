@@ -17,8 +17,8 @@ use Rattle.channel_replay.specs.declared.refused.ReplayRefused.{ReplayRefused}
 use Rattle.channel_replay.specs.declared.refused.ReplayRefused.TheVariants as refusals
 use Rattle.channel_replay.specs.Marks.{Past}
 use Rattle.channel_replay.specs.Plain.{WhereBad}
-use Rattle.channel_replay.specs.Recover.{Begins, Faulty, HasFault, IsAt, IsSound, Line, Stands, begin_lines, fault_lines, file_lines, past_line, past_lines, record_lines}
-use Rattle.channel_replay.specs.Recovery.{Agrees}
+use Rattle.channel_replay.specs.Recover.{Begins, Faulty, HasFault, IsAt, IsSound, Line, Stands, begin_lines, empty_base, fault_lines, file_lines, past_line, past_lines, record_lines}
+use Rattle.channel_replay.specs.Recovery.{Agrees, IsReached}
 use Rattle.channel_replay.specs.Replay.{AppliesAll, WhereBadLog, WhereHolds, WhereOver, as_frame, as_record, drop_lines, record_count}
 use Rattle.channel_replay.proofs.Lines.{fault_append, past_lines-append, sound_append}
 use Rattle.channel_replay.proofs.Reading.{record_lines-append}
@@ -85,6 +85,7 @@ pub record ReadsOn (was told : Option Told) (faulty faults file : ℕ) (first re
   pub same : told ≡ was
   pub later : faulty ≤ faults
   pub file_is : reader.file ≡ file
+  pub reached : IsReached start → IsReached now
   pub on : (bytes : List ℕ) (items : List (Rec × ℕ)) (fault : Option ℕ) → HasFile was file bytes → Remains first bytes items fault → ReadUpTo file reader bytes items fault start now none steps
 
 pub reads_none : (was : Option Told) (faulty file : ℕ) (first : Reader) (start : Recovery) (none : ℕ) → first.file ≡ file → ReadsOn was was faulty faulty file first first start start none none
@@ -92,6 +93,7 @@ reads_none was faulty file first start none is = record {
   same = refl;
   later = omega arith;
   file_is = is;
+  reached = λ from. from;
   on = λ bytes items fault has remains. record { done = []; rest = items; split = refl; remains = remains; applies = λ base past agrees. (tt, agrees); ticks = omega arith };
 }
 
@@ -126,6 +128,7 @@ reads_more was told after faulty faults more_faults file first reader next start
   same = same ∙ on.same;
   later = omega (arith, later, on.later);
   file_is = same_file ∙ on.file_is;
+  reached = λ from. let r = on.reached from in (past_line r.0 (Stands file at rec), (applies empty_base r.0 r.1).1);
   on = λ bytes items fault has remains.
       let u = on.on bytes items fault has remains in
       let g = given_some u.rest (rec, at) next bytes fault (gives bytes u.rest fault (there was told file reader.file bytes on.same on.file_is has) u.remains) in
@@ -268,6 +271,10 @@ header_fault told file old e bad =
     subst (λ (c : Content). HasFault base past (file_lines file c) f at) (sym same)
     (record { before = []; line = Faulty file 0; behind = []; split = refl; sound = tt; bad = λ no. no; place = (h.0, h.1) }))
     bad)
+
+-- what is reached is so still
+pub reaches : (lines : List Line) (old new : Recovery) → AppliesAll lines old new → IsReached old → IsReached new
+reaches lines old new applies from = (past_lines from.0 lines, (applies empty_base from.0 from.1).1)
 
 -- of answers
 

@@ -5,3 +5,4 @@ pub mod Open
 pub mod Recovery
 pub mod Plain
 pub mod Replay
+pub mod Laws

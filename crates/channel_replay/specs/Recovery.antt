@@ -24,6 +24,10 @@ pub record Agrees (base : Base) (past : Past) (r : Recovery) : Type 0 where
   pub held_below : (t n : ℕ) → r.number ≤ n → is_among (numbers_of (opened t past)) n ≡ false
   pub taken_below : (n : ℕ) → r.number ≤ n → is_among (taken_numbers (journal past)) n ≡ false
 
+-- some marks lead to it
+abbrev pub IsReached : Recovery → Type 0
+IsReached r = (past : Past) × Agrees empty_base past r
+
 -- a record was applied, where it is legal
 abbrev pub Applies : Bool → Base → Past → Rec → Recovery → Type 0
 Applies true base past rec new = IsLegal base past rec × Agrees base (Applied rec ∷ past) new

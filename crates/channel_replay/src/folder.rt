@@ -2,13 +2,13 @@
 ghost use Rattle.std.specs.Prelude.{◌≡◌, ◌<◌, ◌≤◌, ◌+◌, ◌^◌, [], ◌∷◌, ◌++◌, ℕ, List, Option, length, IfOk, IfErr, OnOk, IsErrOf, vec_len};
 ghost use Rattle.flume_host.specs.Causes.{Rose};
 ghost use Rattle.flume_host.specs.Told.{WhereTold};
-ghost use Rattle.event_core.specs.Journal.{Base};
+ghost use Rattle.event_core.specs.Journal.{Base, IsBase};
 ghost use Rattle.record_form.specs.declared.record.Rec.{Rec};
 ghost use Rattle.channel_log.specs.Reader.{HasFile, IsThere, Remains};
 ghost use Rattle.channel_replay.specs.Marks.{Past};
 ghost use Rattle.channel_replay.specs.Plain.{base_of};
 ghost use Rattle.channel_replay.specs.Recover.{AreSound, HasFault, IsBadLog, Recovers, WhereLogs, empty_base, fault_lines, file_lines, lines, past_lines, record_lines};
-ghost use Rattle.channel_replay.specs.Recovery.{Agrees};
+ghost use Rattle.channel_replay.specs.Recovery.{Agrees, IsReached};
 ghost use Rattle.channel_replay.specs.Replay.{AppliesAll, LeavesCount, WhereBadLog, WhereHolds, WhereOver, drop_lines, record_count};
 
 use crate::line::Line;
@@ -35,6 +35,7 @@ fn apply_rest<D: Disk, L: Ledger>(
     ensures ok { OnOk result ((bytes : List ℕ) (items : List (Rec × ℕ)) (fault : Option ℕ) → HasFile (D.told disk.old) file bytes → Remains reader.old bytes items fault → AppliesAll (record_lines file items ++ fault_lines file fault) recovery.old recovery.new) }
     ensures bad { IfErr result (λ e. WhereBadLog e (λ f at. (bytes : List ℕ) (items : List (Rec × ℕ)) (fault : Option ℕ) → HasFile (D.told disk.old) file bytes → Remains reader.old bytes items fault → (base : Base) (past : Past) → Agrees base past recovery.old → HasFault base past (record_lines file items ++ fault_lines file fault) f at)) }
     ensures not_over { IfErr result (λ e. WhereOver e (λ count. ⊥)) }
+    ensures reached { OnOk result (IsReached recovery.old → IsReached recovery.new) }
     ensures ticks { (bytes : List ℕ) (items : List (Rec × ℕ)) (fault : Option ℕ) → HasFile (D.told disk.old) file bytes → Remains reader.old bytes items fault → steps.new ≤ steps.old + length items }
     ensures same { D.told disk.new ≡ D.told disk.old }
     ensures fault { IsErrOf result ReplayRefused.DiskFault → Rose (D.faults disk.old) (D.faults disk.new) }
@@ -74,6 +75,7 @@ fn apply_file<D: Disk, L: Ledger>(
     ensures ok { OnOk result (WhereHolds (D.told disk.old) file (λ content. AppliesAll (file_lines file content) recovery.old recovery.new)) }
     ensures bad { IfErr result (λ e. WhereBadLog e (λ f at. WhereHolds (D.told disk.old) file (λ content. (base : Base) (past : Past) → Agrees base past recovery.old → HasFault base past (file_lines file content) f at))) }
     ensures not_over { IfErr result (λ e. WhereOver e (λ count. ⊥)) }
+    ensures reached { OnOk result (IsReached recovery.old → IsReached recovery.new) }
     ensures ticks { WhereHolds (D.told disk.old) file (λ content. steps.new ≤ steps.old + record_count (file_lines file content)) }
     ensures same { D.told disk.new ≡ D.told disk.old }
     ensures fault { IsErrOf result ReplayRefused.DiskFault → Rose (D.faults disk.old) (D.faults disk.new) }
@@ -99,6 +101,7 @@ fn apply_files<D: Disk, L: Ledger>(
     ensures ok { OnOk result (WhereTold (D.told disk.old) (λ t. WhereLogs t.reads (λ logs. AreSound empty_base [] (lines logs) × Agrees empty_base (past_lines [] (lines logs)) recovery.new))) }
     ensures bad { IfErr result (λ e. WhereBadLog e (λ file at. WhereTold (D.told disk.old) (λ t. IsBadLog t.reads file at))) }
     ensures not_over { IfErr result (λ e. WhereOver e (λ count. ⊥)) }
+    ensures reached { OnOk result (IsReached recovery.new) }
     ensures ticks { WhereTold (D.told disk.old) (λ t. WhereLogs t.reads (λ logs. steps.new ≤ steps.old + record_count (lines logs))) }
     ensures same { D.told disk.new ≡ D.told disk.old }
     ensures fault { IsErrOf result ReplayRefused.DiskFault → Rose (D.faults disk.old) (D.faults disk.new) }
@@ -144,6 +147,10 @@ pub fn replay<D: Disk, L: Ledger>(
 ) -> Result<Replayed, ReplayRefused>
     ensures ok { IfOk result (λ r. WhereTold (D.told disk.old) (λ t. Recovers t.reads (base_of r) r.next.txn)) }
     ensures within { IfOk result (λ r. vec_len r.items ≤ capacity) }
+
+    // Also where the disk tells nothing, numbers rise, and transactions have numbers from 1 on.
+    ensures base { IfOk result (λ r. IsBase (base_of r)) }
+    ensures txn { IfOk result (λ r. 1 ≤ r.next.txn) }
     ensures bad { IfErr result (λ e. WhereBadLog e (λ file at. WhereTold (D.told disk.old) (λ t. IsBadLog t.reads file at))) }
     ensures over { IfErr result (λ e. WhereOver e (λ count. (capacity < count) × WhereTold (D.told disk.old) (λ t. WhereLogs t.reads (λ logs. LeavesCount logs count)))) }
     ensures ticks { WhereTold (D.told disk.old) (λ t. WhereLogs t.reads (λ logs. steps.new ≤ steps.old + record_count (lines logs))) }

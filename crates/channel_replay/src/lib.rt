@@ -3,6 +3,7 @@
 
 mod folder;
 mod items;
+mod laws;
 mod line;
 mod open;
 mod plain;
@@ -11,6 +12,7 @@ mod refused;
 mod whole;
 
 pub use folder::replay;
+pub use laws::{no_fault_where_it_recovers, one_fault, one_list, recovers_once};
 pub use line::Line;
 pub use plain::{WholeFile, recover};
 pub use recovery::{Next, Replayed};

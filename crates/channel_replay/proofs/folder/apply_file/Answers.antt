@@ -6,9 +6,9 @@ use Rattle.channel_log.specs.Frames.{fault_of}
 use Rattle.channel_log.specs.Reader.{HasFile, Remains, content_items}
 use Rattle.channel_replay.specs.Marks.{Past}
 use Rattle.channel_replay.specs.Recover.{HasFault, begin_lines, fault_lines, file_lines, record_lines}
-use Rattle.channel_replay.specs.Recovery.{Agrees}
+use Rattle.channel_replay.specs.Recovery.{Agrees, IsReached}
 use Rattle.channel_replay.specs.Replay.{AppliesAll, WhereHolds, drop_lines}
-use Rattle.channel_replay.proofs.Replaying.{FaultOf, begins_as, err_log_maps, file_applies, file_fault, file_ticks, header_fault, ok_maps}
+use Rattle.channel_replay.proofs.Replaying.{FaultOf, begins_as, err_log_maps, file_applies, file_fault, file_ticks, header_fault, ok_maps, reaches}
 use Rattle.channel_replay.proofs.folder.apply_file.Goals as goal
 
 pub returns-in-Ok-clause-ok : goal.returns-in-Ok-clause-ok
@@ -43,3 +43,9 @@ returns-in-Ok-clause-ticks g c = λ bytes content has holds.
 
 pub returns-in-Err-clause-bad : goal.returns-in-Err-clause-bad
 returns-in-Err-clause-bad g c = rw c.of_frame.ensures (header_fault (g.D.Disk.told c.args.disk.now) c.args.file c.args.recovery.now c.in-Err.refused c.in-Err.ensures.bad)
+
+pub returns-in-Ok-clause-reached : goal.returns-in-Ok-clause-reached
+returns-in-Ok-clause-reached g c =
+    ok_maps c.apply_rest.result (IsReached c.begin_file.new.recovery → IsReached c.apply_rest.new.recovery) _
+    (λ rest from. rest (reaches (drop_lines c.drops.result) c.args.recovery.now c.begin_file.new.recovery c.begin_file.ensures from))
+    c.apply_rest.ensures.reached
