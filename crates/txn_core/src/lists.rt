@@ -7,7 +7,7 @@ ghost use Rattle.channel_face.specs.Calls.{cause_of};
 ghost use Rattle.channel_face.specs.Counters.{capped};
 ghost use Rattle.channel_face.specs.History.{Moves, opening};
 ghost use Rattle.channel_face.specs.Machine as Face;
-ghost use Rattle.channel_face.specs.Machine.{State, BeginPut, BeginTake, StagePut, StageTake, Flush, RollbackPut, RollbackTake, Reopen, Front, begin_refusal, put_refusal, take_refusal, stage_put_refusal, puts_of, takes_of, free, with_entry, close, stage, ticket};
+ghost use Rattle.channel_face.specs.Machine.{State, BeginPut, BeginTake, StagePut, StageTake, Flush, RollbackPut, RollbackTake, Reopen, Front, Read, after_reopen, begin_refusal, put_refusal, take_refusal, stage_put_refusal, puts_of, takes_of, free, with_entry, close, stage, ticket};
 ghost use Rattle.channel_face.specs.declared.replies.FlushRefused.{FlushRefused};
 ghost use Rattle.channel_face.specs.declared.replies.Kind.{Kind};
 ghost use Rattle.channel_face.specs.declared.replies.OpenCause.{OpenCause};
@@ -538,6 +538,20 @@ impl ChannelLists {
         self.limits.capacity as u64
     }
 
+    /// In which of its lives the channel is, from 1 on.
+    pub fn life(&self) -> u64
+        ensures { result ≡ self.now.life }
+    {
+        self.life
+    }
+
+    /// The limits.
+    pub fn limits(&self) -> Limits
+        ensures { result ≡ self.now.rules.limits }
+    {
+        self.limits
+    }
+
     /// Whether the channel is broken.
     pub fn is_broken(&self) -> bool
         ensures { result ≡ self.now.broken }
@@ -564,6 +578,37 @@ impl ChannelLists {
         ensures { self.new ≡ record self.old { broken = true } }
     {
         self.broken = true;
+    }
+
+    /// The frames that the lives so far end with, should this one end now.
+    pub fn next_ends(&self) -> Result<Vec<u64>, NoMemory>
+        ensures { IfOk result (λ ends. ends.items ≡ self.now.ends ++ self.now.frame ∷ []) }
+    {
+        let mut ends = self.ends.clone()?;
+        ends.push(self.frame)?;
+        Ok(ends)
+    }
+
+    /// A new life of the channel, with these events left and these next numbers. `ends` are those that
+    /// [`ChannelLists::next_ends`] gave.
+    pub fn renew(&mut self, ends: Vec<u64>, items: Vec<Item>, first: u64, txn: u64)
+        requires ends { ends.items ≡ self.old.ends ++ self.old.frame ∷ [] }
+        requires capacity { length items.items ≤ self.old.rules.limits.capacity }
+        requires txn { 1 ≤ txn }
+        requires life { self.old.life < 2 ^ 64 - 1 }
+        ensures { self.new ≡ after_reopen self.old (Ok (record { kept = Read (record { items = items.items; first = first }); txn = txn })) }
+    {
+        self.items = items;
+        self.first = first;
+        self.txn = txn;
+        self.opened = Vec::new(self.alloc);
+        self.staged = Vec::new(self.alloc);
+        self.open_puts = 0;
+        self.staged_puts = 0;
+        self.broken = false;
+        self.life += 1;
+        self.frame = 1;
+        self.ends = ends;
     }
 
     /// A reopen that keeps so many of the staged entries. After want of memory the channel is broken.
