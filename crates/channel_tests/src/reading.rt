@@ -12,7 +12,7 @@ use std::marker::Brand;
 use std::sync::ledger::{Blank, Ledger};
 use std::test::Fail;
 
-fn disk(alloc: Global, files: &[WholeFile]) -> Result<MemDisk, AllocError> {
+pub fn disk(alloc: Global, files: &[WholeFile]) -> Result<MemDisk, AllocError> {
     let mut all = Vec::new(alloc);
     for file in files {
         all.push(MemFile {

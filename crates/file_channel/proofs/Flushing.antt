@@ -8,6 +8,7 @@ use Rattle.flume_host.specs.Folder.{Allows, Entry, Files, Folder, IsImage, same_
 use Rattle.flume_host.specs.Told.{Changes, LeavesOnly, OneFile, Tells, Told}
 use Rattle.flume_host.specs.declared.names.FileName.TheVariants.{Log}
 use Rattle.flume_host.proofs.Images.{stable_only}
+use Rattle.flume_host.proofs.Telling.{tells_more, tells_same}
 use Rattle.event_core.specs.Journal.{is_among, taken_numbers}
 use Rattle.record_form.specs.declared.record.Rec.{Rec}
 use Rattle.channel_log.specs.Frames.{Holds, IsFrame, header, opened}
@@ -38,13 +39,13 @@ other_log n number other = from (eqb_tells n number)
     from (inl same) = absurd (other same.1)
     from (inr differs) = differs.0
 
-as_read : (file image : Option (List ℕ)) → Allows (settle_entry file) image → image ≡ file
+pub as_read : (file image : Option (List ℕ)) → Allows (settle_entry file) image → image ≡ file
 as_read None None may = refl
 as_read None (Some bytes) may = absurd may
 as_read (Some was) None may = absurd may
 as_read (Some was) (Some bytes) may = ap (λ (l : List ℕ). Some l) (stable_only was bytes may)
 
-same_logs : (files files' : Files) (from number : ℕ) (logs : List LogFile) → ((n : ℕ) → n < number → files' (Log n) ≡ files (Log n)) → AreLogs files from number logs → AreLogs files' from number logs
+pub same_logs : (files files' : Files) (from number : ℕ) (logs : List LogFile) → ((n : ℕ) → n < number → files' (Log n) ≡ files (Log n)) → AreLogs files from number logs → AreLogs files' from number logs
 same_logs files files' from number [] same are = λ n low high. same n high ∙ are n low high
 same_logs files files' from number (log ∷ logs) same are = (
   are.0,
@@ -241,3 +242,15 @@ nothing_left told w w' s waits writer none = from waits.records waits.pending (s
     from [] pending (inl nothing) = ap (λ (v : Writer). v.bytes) (none nothing) ∙ pending.spelled
     from (r ∷ records) pending (inl nothing) = absurd (omega (arith, nothing, pending.counted))
     from records pending (inr some) = ap (λ (v : Writer). v.bytes) (writer some)
+
+-- a flush makes two syncs, and none where nothing waits
+pub syncs_of : (told told' : Option Told) (w : Writer) (s : State) (waits : Waits told w s)
+    → ((frames : List (List Rec)) → IsReady told 1 w.file w.gate frames → 1 ≤ length waits.records → Tells told told' (Changes (Log w.file) (LacksOrHas 1 w.file frames waits.records) 2))
+    → (w.count ≡ 0 → told' ≡ told) → Tells told told' (λ t u. u.syncs ≤ t.syncs + 2)
+syncs_of told told' w s waits given none = from (some_or_none (length waits.records))
+  where
+    from : (length waits.records ≡ 0) ⊎ (1 ≤ length waits.records) → Tells told told' (λ t u. u.syncs ≤ t.syncs + 2)
+    from (inl nothing) = subst (λ (v : Option Told). Tells told v (λ t u. u.syncs ≤ t.syncs + 2)) (sym (none (waits.pending.counted ∙ nothing))) (tells_same told (λ t u. u.syncs ≤ t.syncs + 2) (λ t is. omega arith))
+    from (inr some) =
+        let ready = ready_frames told w s waits in
+        tells_more told told' (Changes (Log w.file) (LacksOrHas 1 w.file ready.0 waits.records) 2) (λ t u. u.syncs ≤ t.syncs + 2) (λ t u old new changes. changes.syncs) (given ready.0 ready.1 some)

@@ -22,7 +22,7 @@ use Rattle.txn_core.specs.Sound.{first_of}
 use Rattle.txn_core.proofs.Kept.{take_allows}
 use Rattle.file_channel.specs.Written.{IsLogged, kept}
 use Rattle.file_channel.specs.Whole.{IsWhole}
-use Rattle.file_channel.proofs.Whole.{sound_then}
+use Rattle.file_channel.proofs.Whole.{sound_then, still_not}
 use Rattle.file_channel.proofs.Putting.{flushed_state}
 
 without_same : (xs ys : List ℕ) (items : Items) → ((n : ℕ) → is_among xs n ≡ is_among ys n) → without xs items ≡ without ys items
@@ -82,6 +82,7 @@ take_whole told w b s s' token number numbers item rest spilled sound list allow
     let to : s' ≡ take_in s spilled token.number numbers item.0 = is ∙ ap (λ (n : ℕ). take_in s spilled n numbers item.0) same in
     record {
       logged = λ still. subst (λ (v : State). IsLogged told w b v) (sym is) log;
+      left = λ broken. absurd (still_not s s' (take_still s numbers allowed) (ap (λ (v : State). v.broken) is ∙ same_broken spilled) broken);
       sound = sound_then s (Take token (Ok (record { event = Some item.1; spilled = spilled }))) s' (take_moves s s' token numbers item rest spilled list allowed kind first to) sound;
       kind = ap (λ (v : State). v.rules.kind) is ∙ (same_kind spilled ∙ kind);
     }
@@ -89,6 +90,10 @@ take_whole told w b s s' token number numbers item rest spilled sound list allow
     same_kind : (b : Bool) → (settle_if b s).rules.kind ≡ s.rules.kind
     same_kind true = refl
     same_kind false = refl
+
+    same_broken : (b : Bool) → (settle_if b s).broken ≡ s.broken
+    same_broken true = refl
+    same_broken false = refl
 
 pub taken_state : (s lists settled : State) (reply : Result (Unit {0}) FlushRefused) (number : ℕ) (numbers : List ℕ) (taken : ℕ) → s.broken ≡ false → lists ≡ take_in s false number numbers taken → Moves true lists (Flush reply) settled → IfErr reply (λ e. e ≡ FlushNo.Broken) → settled ≡ take_in s true number numbers taken
 taken_state s lists settled reply number numbers taken still is moves refused =

@@ -9,4 +9,6 @@ pub mod Flushing
 pub mod Whole
 pub mod Putting
 pub mod Freeing
-pub mod Starting
+pub mod Standing
+pub mod Opening
+pub mod Reopening

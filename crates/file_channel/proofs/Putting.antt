@@ -19,7 +19,7 @@ use Rattle.txn_core.proofs.Kept.{put_allows}
 use Rattle.file_channel.specs.Written.{IsLogged, kept}
 use Rattle.file_channel.specs.Whole.{IsWhole}
 use Rattle.file_channel.proofs.Opens.{busy_most}
-use Rattle.file_channel.proofs.Whole.{sound_then}
+use Rattle.file_channel.proofs.Whole.{sound_then, still_not}
 
 pub busy_few : (told : Option Told) (w : Writer) (b : ℕ) (s : State) → IsLogged told w b s → b ≤ 1024
 busy_few told w b s log = omega (arith, log.busy_is, busy_most s.opened, log.few)
@@ -59,6 +59,7 @@ put_whole told w b s s' token number events event spilled sound list allowed kin
     let to : s' ≡ put_in s spilled token.number events event = is ∙ ap (λ (n : ℕ). put_in s spilled n events event) same in
     record {
       logged = λ still. subst (λ (v : State). IsLogged told w b v) (sym is) log;
+      left = λ broken. absurd (still_not s s' (put_may s events event kind allowed).0 (ap (λ (v : State). v.broken) is ∙ same_broken spilled) broken);
       sound = sound_then s (Put token event (Ok (record { spilled = spilled }))) s' (put_moves s s' token events event spilled list allowed kind to) sound;
       kind = ap (λ (v : State). v.rules.kind) is ∙ (same_kind spilled ∙ kind);
     }
@@ -66,6 +67,10 @@ put_whole told w b s s' token number events event spilled sound list allowed kin
     same_kind : (b : Bool) → (settle_if b s).rules.kind ≡ s.rules.kind
     same_kind true = refl
     same_kind false = refl
+
+    same_broken : (b : Bool) → (settle_if b s).broken ≡ s.broken
+    same_broken true = refl
+    same_broken false = refl
 
 -- what the lists' flush leads to
 pub flushed_state : (s s' : State) (reply : Result (Unit {0}) FlushRefused) → s.broken ≡ false → Moves true s (Flush reply) s' → IfErr reply (λ e. e ≡ FlushNo.Broken) → s' ≡ settle s

@@ -10,13 +10,13 @@ use Rattle.record_form.specs.declared.record.Rec.{Rec}
 use Rattle.channel_log.specs.Frames.{Content, Blank, Whole, Holds, frame_bytes, header, opened}
 use Rattle.channel_log.specs.Reader.{frame_items, record_items}
 use Rattle.channel_log.specs.Writer.{HasFrames}
-use Rattle.channel_log.proofs.Contents.{one-content}
 use Rattle.channel_face.specs.Machine.{State, base_of, settle}
 use Rattle.channel_replay.specs.declared.line.Line.{Line}
 use Rattle.record_form.specs.Record.{record_length}
 use Rattle.channel_replay.specs.Marks.{Past, Dropped, Applied, journal, next_txn}
 use Rattle.channel_replay.specs.Recover.{AreLogs, AreSound, LogFile, Recovers, StandsFor, empty_base, file_lines, lines, past_lines, record_lines}
 use Rattle.channel_replay.proofs.Lines.{past_lines-append, sound_append, lines-append}
+use Rattle.channel_replay.proofs.OneList.{one_list}
 use Rattle.file_channel.specs.Mirrors.{AreLegal, Mirrors, applied}
 use Rattle.file_channel.specs.Logs.{HasLog, Logs, begun, flat}
 use Rattle.file_channel.specs.Laws.{FramesRecover, FlushRecovers, FlushIsLogged}
@@ -109,38 +109,9 @@ held_content number frames bytes past has legal = from (longer (length bytes))
         let none : frames ≡ [] = no_frames frames has.2.gate has.2.rest short (has.1 ∙ ap (λ (l : List ℕ). header 1 number ++ l) has.2.split) in
         (Blank, short, subst (λ (fs : List (List Rec)). LastLines past (file_lines number Blank) fs) (sym none) (no_lines past number))
 
--- a folder has one list of log files
+-- a folder's log files and one more
 
-some_none : (file : Option (List ℕ)) (P : List ℕ → Type 0) → IsSomeAnd file P → file ≡ None → ⊥
-some_none None P some none = some
-some_none (Some bytes) P some none = absurd (cc)
-
-one_held : (number : ℕ) (file : Option (List ℕ)) (a b : Content) → IsSomeAnd file (λ bytes. Holds number bytes a) → IsSomeAnd file (λ bytes. Holds number bytes b) → a ≡ b
-one_held number None a b x y = absurd x
-one_held number (Some bytes) a b x y = one-content number bytes a b x y
-
-which : (m n : ℕ) → (m < n) ⊎ (m ≡ n) ⊎ (n < m)
-which m n = grind arith
-
-same_log : (a b : LogFile) → a.number ≡ b.number → a.content ≡ b.content → a ≡ b
-same_log a b number content = rw (number, content) refl
-
-pub one_list : (files : Files) (from to : ℕ) (a b : List LogFile) → AreLogs files from to a → AreLogs files from to b → a ≡ b
-one_list files from to [] [] x y = refl
-one_list files from to [] (log ∷ b) x y = absurd (some_none (files (Log log.number)) (λ bytes. Holds log.number bytes log.content) y.3 (x log.number y.0 y.1))
-one_list files from to (log ∷ a) [] x y = absurd (some_none (files (Log log.number)) (λ bytes. Holds log.number bytes log.content) x.3 (y log.number x.0 x.1))
-one_list files from to (log ∷ a) (log' ∷ b) x y = by_number (which log.number log'.number) (λ y'. one_list files (log.number + 1) to a b x.4 y')
-  where
-    by_number : (log.number < log'.number) ⊎ (log.number ≡ log'.number) ⊎ (log'.number < log.number) → (AreLogs files (log.number + 1) to b → a ≡ b) → log ∷ a ≡ log' ∷ b
-    by_number (inl lower) rest = absurd (some_none (files (Log log.number)) (λ bytes. Holds log.number bytes log.content) x.3 (y.2 log.number x.0 lower))
-    by_number (inr (inr higher)) rest = absurd (some_none (files (Log log'.number)) (λ bytes. Holds log'.number bytes log'.content) y.3 (x.2 log'.number y.0 higher))
-    by_number (inr (inl same)) rest =
-        let there : IsSomeAnd (files (Log log.number)) (λ bytes. Holds log.number bytes log'.content) = subst (λ (n : ℕ). IsSomeAnd (files (Log n)) (λ bytes. Holds n bytes log'.content)) (sym same) y.3 in
-        let one : log ≡ log' = same_log log log' same (one_held log.number (files (Log log.number)) log.content log'.content x.3 there) in
-        let others : a ≡ b = rest (subst (λ (n : ℕ). AreLogs files (n + 1) to b) (sym same) y.4) in
-        ap (λ (l : LogFile). l ∷ a) one ∙ ap (λ (l : List LogFile). log' ∷ l) others
-
-logs_and_one : (files : Files) (from number to : ℕ) (earlier : List LogFile) (content : Content) → AreLogs files from number earlier → from ≤ number → number < to → IsSomeAnd (files (Log number)) (λ bytes. Holds number bytes content)
+pub logs_and_one : (files : Files) (from number to : ℕ) (earlier : List LogFile) (content : Content) → AreLogs files from number earlier → from ≤ number → number < to → IsSomeAnd (files (Log number)) (λ bytes. Holds number bytes content)
     → ((n : ℕ) → number < n → files (Log n) ≡ None) → AreLogs files from to (earlier ++ record { number = number; content = content } ∷ [])
 logs_and_one files from number to [] content before low small last none = (low, small, before, last, λ n up down. none n (omega (arith, up)))
 logs_and_one files from number to (log ∷ earlier) content before low small last none =

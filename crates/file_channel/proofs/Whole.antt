@@ -1,6 +1,9 @@
 -- Each call leaves a channel whole.
 use Rattle.std.proofs.Common.{◌⊎◌, inl, inr, ◌≡◌, ◌<◌, ◌≤◌, ◌+◌, ◌-◌, ◌^◌, ◌++◌, ◌∷◌, [], ℕ, List, length, length-append, Option, Some, None, Ok, Err, Result, Bool, true, false, nat_lt, cond, refl, sym, ◌∙◌, ap, subst, arith}
-use Rattle.flume_host.specs.Told.{Told}
+use Rattle.flume_host.specs.Folder.{Folder, IsImage}
+use Rattle.flume_host.proofs.Moments.{clock_rises}
+use Rattle.flume_host.proofs.Telling.{back}
+use Rattle.flume_host.specs.Told.{LeavesOnly, Tells, Told, clock}
 use Rattle.event_core.specs.Content.{Content}
 use Rattle.event_core.specs.Journal.{is_among, taken_numbers}
 use Rattle.event_core.specs.declared.journal.Entry.{Entry}
@@ -20,15 +23,22 @@ use Rattle.channel_face.proofs.Opened.{puts_of-some, takes_of-some}
 use Rattle.channel_face.proofs.Sound.{IsSoundState, sound_after}
 use Rattle.txn_core.proofs.Kept.{few_opened}
 use Rattle.file_channel.specs.Mirrors.{busy, done_of, one_if_done}
-use Rattle.file_channel.specs.Written.{IsLogged, OnDisk, Waits}
+use Rattle.file_channel.specs.Written.{IsLogged, MayRecover, MayRest, OnDisk, Waits}
 use Rattle.file_channel.specs.Whole.{IsWhole}
 use Rattle.file_channel.proofs.Opens.{busy_push, busy_without, length_without}
 use Rattle.file_channel.proofs.Ending.{begin_mirrored, end_mirrored}
+use Rattle.file_channel.proofs.Flushing.{rest_exactly}
+use Rattle.file_channel.specs.Touches.{IsSpentLog, Rests}
+use Rattle.std.specs.Prelude.{IsSomeAnd}
+use Rattle.flume_host.specs.declared.names.FileName.TheVariants.{Log}
+use Rattle.channel_log.specs.Frames.{header, opened}
+use Rattle.channel_log.specs.Writer.{file_of}
 use Rattle.file_channel.specs.Mirrors.{Mirrors}
 use Rattle.channel_replay.specs.Marks.{Past}
 use Rattle.record_form.specs.declared.record.Rec.{Rec}
 use Rattle.std.specs.Prelude.{IfErr}
 use Rattle.std.proofs.lemmas.Bool.Decides.{nat_tests}
+use Rattle.std.proofs.lemmas.List.{get_or_past}
 use Rattle.channel_face.proofs.Sound.{sound_broken}
 use Rattle.channel_face.specs.Machine.{is_some_of, stage_put_refusal, stage_take_refusal, or_else, room_refusal, Admits}
 use Rattle.channel_face.specs.declared.replies.StageCause.TheVariants as StageNo
@@ -61,6 +71,20 @@ log_same told w b s s' log many few broken step = record {
     same : Waits told w s → Waits told w s'
     same waits = record { records = waits.records; pending = waits.pending; disk = λ t is. same_disk t waits.records (waits.disk t is) }
 
+-- a call that leaves the disk and what is settled and staged alone leaves the images, too
+rests_closed : (told : Option Told) (s s' : State) (number : ℕ) (b : Bool) → s' ≡ cond b (close number s) s → MayRest told s → MayRest told s'
+rests_closed told s s' number true is rests = subst (λ (v : State). MayRest told v) (sym is) rests
+rests_closed told s s' number false is rests = subst (λ (v : State). MayRest told v) (sym is) rests
+
+-- what a stop leaves after a run at each moment of which it leaves this
+pub rests_over : (told told' : Option Told) (s : State) → Tells told told' (λ t u. LeavesOnly t u (MayRecover s)) → MayRest told' s
+rests_over told told' s tells u is image are =
+    let b = back told told' (λ t v. LeavesOnly t v (MayRecover s)) tells u is in
+    b.2.each (clock u) image (clock_rises b.0 u (MayRecover s) b.2) (subst (λ (f : Folder). IsImage f image) (sym (get_or_past u.past (clock u) u.now (omega arith))) are)
+
+pub still_not : (s s' : State) → s.broken ≡ false → s'.broken ≡ s.broken → s'.broken ≡ true → ⊥
+still_not s s' still same broken = differ (sym broken ∙ (same ∙ still))
+
 pub sound_then : (s : State) (call : Call) (s' : State) → Moves true s call s' → IsSoundState s → IsSoundState s'
 sound_then s call s' moves sound = subst IsSoundState (sym moves.state) (sound_after true s call sound moves.admitted)
 
@@ -74,6 +98,7 @@ begun_whole told w b s s' entry (Ok token) whole may is sound idle =
     let few = few_opened s may.0 in
     record {
       logged = λ still. subst (λ (v : State). IsLogged told w b v) (sym is) (begun_logged told w b s entry (whole.logged few.0) idle few.1 few.2);
+      left = λ broken. absurd (still_not s s' few.0 (ap (λ (v : State). v.broken) is) broken);
       sound = sound;
       kind = ap (λ (v : State). v.rules.kind) is ∙ whole.kind;
     }
@@ -92,6 +117,7 @@ staged_below s sound n more = from (among_times n (taken_numbers s.staged))
 pub flushed_whole : (told : Option Told) (w : Writer) (b : ℕ) (s s' : State) (reply : Result (Unit {0}) FlushRefused) → s.rules.kind ≡ OnFile → s.broken ≡ false → IsLogged told w b (settle s) → Moves true s (Flush reply) s' → IfErr reply (λ e. e ≡ FlushNo.Broken) → IsSoundState s' → IsWhole told w b s'
 flushed_whole told w b s s' (Ok done) kind whole log moves refused sound = record {
   logged = λ still. subst (λ (v : State). IsLogged told w b v) (sym moves.state) log;
+  left = λ broken. absurd (still_not s s' whole (ap (λ (v : State). v.broken) moves.state) broken);
   sound = sound;
   kind = ap (λ (v : State). v.rules.kind) moves.state ∙ kind;
 }
@@ -99,8 +125,8 @@ flushed_whole told w b s s' (Err e) kind whole log moves refused sound =
     let broken : Admits true s (Flush (Err FlushNo.Broken)) = subst (λ (x : FlushRefused). Admits true s (Flush (Err x))) refused moves.admitted in
     differ (sym broken ∙ whole)
 
-pub failed_whole : (told : Option Told) (w : Writer) (b : ℕ) (s : State) → IsSoundState s → s.rules.kind ≡ OnFile → IsWhole told w b (record s { broken = true })
-failed_whole told w b s sound kind = record { logged = λ still. differ still; sound = sound_broken s sound; kind = kind }
+pub failed_whole : (told : Option Told) (w : Writer) (b : ℕ) (s : State) → MayRest told s → IsSoundState s → s.rules.kind ≡ OnFile → IsWhole told w b (record s { broken = true })
+failed_whole told w b s rests sound kind = record { logged = λ still. differ still; left = λ _. rests; sound = sound_broken s sound; kind = kind }
 
 pub no_fault : (reply : Result (Unit {0}) FlushRefused) → IfErr reply (λ e. e ≡ FlushNo.Broken) → reply ≡ Err FlushNo.DiskFault → ⊥
 no_fault (Ok done) refused is = absurd (cc)
@@ -135,6 +161,7 @@ rollback_put_idle told w b s s' token ended whole moves none =
     let to : s' ≡ cond (is_some_of (puts_of s token)) (close token.number s) s = moves.state ∙ ap (λ (e : Bool). cond e (close token.number s) s) moves.admitted in
     record {
       logged = λ still. rolled_put told w b s s' token (puts_of s token) whole (sym (same_broken (is_some_of (puts_of s token)) to) ∙ still) refl to none;
+      left = λ broken. rests_closed told s s' token.number (is_some_of (puts_of s token)) to (whole.left (sym (same_broken (is_some_of (puts_of s token)) to) ∙ broken));
       sound = sound_then s (RollbackPut token ended) s' moves whole.sound;
       kind = same_kind (is_some_of (puts_of s token)) to ∙ whole.kind;
     }
@@ -150,10 +177,15 @@ rollback_put_idle told w b s s' token ended whole moves none =
 pub rollback_put_broken : (told : Option Told) (w : Writer) (b : ℕ) (s s' : State) (token : Token) (ended : Bool) → IsWhole told w b s → Moves true s (RollbackPut token ended) s' → s'.broken ≡ true → IsWhole told w b s'
 rollback_put_broken told w b s s' token ended whole moves broken = record {
   logged = λ still. differ (sym broken ∙ still);
+  left = λ _. rests_closed told s s' token.number ended moves.state (whole.left (sym (same_broken ended moves.state) ∙ broken));
   sound = sound_then s (RollbackPut token ended) s' moves whole.sound;
   kind = same_kind ended moves.state ∙ whole.kind;
 }
   where
+    same_broken : (b : Bool) → s' ≡ cond b (close token.number s) s → s'.broken ≡ s.broken
+    same_broken true is = ap (λ (v : State). v.broken) is
+    same_broken false is = ap (λ (v : State). v.broken) is
+
     same_kind : (b : Bool) → s' ≡ cond b (close token.number s) s → s'.rules.kind ≡ s.rules.kind
     same_kind true is = ap (λ (v : State). v.rules.kind) is
     same_kind false is = ap (λ (v : State). v.rules.kind) is
@@ -176,12 +208,13 @@ pub put_was_done : (events : List Content) → 0 < length events → done_of (So
 put_was_done [] some = absurd (omega (arith, some))
 put_was_done (x ∷ xs) some = refl
 
-pub rollback_put_whole : (told : Option Told) (w : Writer) (b : ℕ) (s s' : State) (token : Token) (ended : Bool) → IsSoundState s → s.rules.kind ≡ OnFile → Moves true s (RollbackPut token ended) s' → DidPut s token → IsLogged told w b (close token.number s) → IsWhole told w b s'
-rollback_put_whole told w b s s' token ended sound kind moves did log =
+pub rollback_put_whole : (told : Option Told) (w : Writer) (b : ℕ) (s s' : State) (token : Token) (ended : Bool) → s.broken ≡ false → IsSoundState s → s.rules.kind ≡ OnFile → Moves true s (RollbackPut token ended) s' → DidPut s token → IsLogged told w b (close token.number s) → IsWhole told w b s'
+rollback_put_whole told w b s s' token ended whole sound kind moves did log =
     let is : ended ≡ true = moves.admitted ∙ ap is_some_of did.list in
     let to : s' ≡ close token.number s = moves.state ∙ ap (λ (e : Bool). cond e (close token.number s) s) is in
     record {
       logged = λ still. subst (λ (v : State). IsLogged told w b v) (sym to) log;
+      left = λ broken. absurd (still_not s s' whole (ap (λ (v : State). v.broken) to) broken);
       sound = sound_then s (RollbackPut token ended) s' moves sound;
       kind = ap (λ (v : State). v.rules.kind) to ∙ kind;
     }
@@ -196,6 +229,7 @@ rollback_take_idle told w b s s' token ended whole moves none =
     let to : s' ≡ cond (is_some_of (takes_of s token)) (close token.number s) s = moves.state ∙ ap (λ (e : Bool). cond e (close token.number s) s) moves.admitted in
     record {
       logged = λ still. rolled_take told w b s s' token (takes_of s token) whole (sym (same_broken (is_some_of (takes_of s token)) to) ∙ still) refl to none;
+      left = λ broken. rests_closed told s s' token.number (is_some_of (takes_of s token)) to (whole.left (sym (same_broken (is_some_of (takes_of s token)) to) ∙ broken));
       sound = sound_then s (RollbackTake token ended) s' moves whole.sound;
       kind = same_kind (is_some_of (takes_of s token)) to ∙ whole.kind;
     }
@@ -211,10 +245,15 @@ rollback_take_idle told w b s s' token ended whole moves none =
 pub rollback_take_broken : (told : Option Told) (w : Writer) (b : ℕ) (s s' : State) (token : Token) (ended : Bool) → IsWhole told w b s → Moves true s (RollbackTake token ended) s' → s'.broken ≡ true → IsWhole told w b s'
 rollback_take_broken told w b s s' token ended whole moves broken = record {
   logged = λ still. differ (sym broken ∙ still);
+  left = λ _. rests_closed told s s' token.number ended moves.state (whole.left (sym (same_broken ended moves.state) ∙ broken));
   sound = sound_then s (RollbackTake token ended) s' moves whole.sound;
   kind = same_kind ended moves.state ∙ whole.kind;
 }
   where
+    same_broken : (b : Bool) → s' ≡ cond b (close token.number s) s → s'.broken ≡ s.broken
+    same_broken true is = ap (λ (v : State). v.broken) is
+    same_broken false is = ap (λ (v : State). v.broken) is
+
     same_kind : (b : Bool) → s' ≡ cond b (close token.number s) s → s'.rules.kind ≡ s.rules.kind
     same_kind true is = ap (λ (v : State). v.rules.kind) is
     same_kind false is = ap (λ (v : State). v.rules.kind) is
@@ -237,12 +276,13 @@ pub take_was_done : (numbers : List ℕ) → 0 < length numbers → done_of (Som
 take_was_done [] some = absurd (omega (arith, some))
 take_was_done (x ∷ xs) some = refl
 
-pub rollback_take_whole : (told : Option Told) (w : Writer) (b : ℕ) (s s' : State) (token : Token) (ended : Bool) → IsSoundState s → s.rules.kind ≡ OnFile → Moves true s (RollbackTake token ended) s' → DidTake s token → IsLogged told w b (close token.number s) → IsWhole told w b s'
-rollback_take_whole told w b s s' token ended sound kind moves did log =
+pub rollback_take_whole : (told : Option Told) (w : Writer) (b : ℕ) (s s' : State) (token : Token) (ended : Bool) → s.broken ≡ false → IsSoundState s → s.rules.kind ≡ OnFile → Moves true s (RollbackTake token ended) s' → DidTake s token → IsLogged told w b (close token.number s) → IsWhole told w b s'
+rollback_take_whole told w b s s' token ended whole sound kind moves did log =
     let is : ended ≡ true = moves.admitted ∙ ap is_some_of did.list in
     let to : s' ≡ close token.number s = moves.state ∙ ap (λ (e : Bool). cond e (close token.number s) s) is in
     record {
       logged = λ still. subst (λ (v : State). IsLogged told w b v) (sym to) log;
+      left = λ broken. absurd (still_not s s' whole (ap (λ (v : State). v.broken) to) broken);
       sound = sound_then s (RollbackTake token ended) s' moves sound;
       kind = ap (λ (v : State). v.rules.kind) to ∙ kind;
     }
@@ -310,15 +350,23 @@ pub staged_takes : (s s' : State) (token : Token) (given : Ticket) → Moves tru
 staged_takes s s' token given moves = staged_takes_list s token given (takes_of s token) refl moves.admitted.0 moves.admitted.1
 
 -- what was staged leaves the channel whole
-pub stage_whole : (told : Option Told) (w : Writer) (b : ℕ) (s s' : State) (number : ℕ) (entry : Entry) → s.rules.kind ≡ OnFile → IsSoundState s' → s' ≡ stage number (entry_of number s.opened) s → entry_of number s.opened ≡ Some entry → IsLogged told w b (stage number (Some entry) s) → IsWhole told w b s'
-stage_whole told w b s s' number entry kind sound is found log =
+pub stage_whole : (told : Option Told) (w : Writer) (b : ℕ) (s s' : State) (number : ℕ) (entry : Entry) → s.broken ≡ false → s.rules.kind ≡ OnFile → IsSoundState s' → s' ≡ stage number (entry_of number s.opened) s → entry_of number s.opened ≡ Some entry → IsLogged told w b (stage number (Some entry) s) → IsWhole told w b s'
+stage_whole told w b s s' number entry whole kind sound is found log =
     let to : s' ≡ stage number (Some entry) s = is ∙ ap (λ (e : Option Entry). stage number e s) found in
     record {
       logged = λ still. subst (λ (v : State). IsLogged told w b v) (sym to) log;
+      left = λ broken. absurd (still_not s s' whole (ap (λ (v : State). v.broken) to ∙ stage_broken number (Some entry) s) broken);
       sound = sound;
       kind = ap (λ (v : State). v.rules.kind) to ∙ (stage_kind number (Some entry) s ∙ kind);
     }
   where
+    stage_broken : (n : ℕ) (e : Option Entry) (s : State) → (stage n e s).broken ≡ s.broken
+    stage_broken n None s = refl
+    stage_broken n (Some (Puts [])) s = refl
+    stage_broken n (Some (Takes [])) s = refl
+    stage_broken n (Some (Puts (x ∷ xs))) s = refl
+    stage_broken n (Some (Takes (x ∷ xs))) s = refl
+
     stage_kind : (n : ℕ) (e : Option Entry) (s : State) → (stage n e s).rules.kind ≡ s.rules.kind
     stage_kind n None s = refl
     stage_kind n (Some (Puts [])) s = refl
@@ -334,3 +382,45 @@ stage_puts_idle told w b s number (e ∷ events) log is none = absurd (omega (ar
 pub stage_takes_idle : (told : Option Told) (w : Writer) (b : ℕ) (s : State) (number : ℕ) (numbers : List ℕ) → IsLogged told w b s → entry_of number s.opened ≡ Some (Takes numbers) → length numbers ≡ 0 → IsLogged told w b (stage number (Some (Takes numbers)) s)
 stage_takes_idle told w b s number [] log is none = ended_logged told w b s number (Takes []) log is refl
 stage_takes_idle told w b s number (n ∷ numbers) log is none = absurd (omega (arith, none))
+
+-- what a stop leaves between two calls
+pub whole_rests : (told : Option Told) (w : Writer) (b : ℕ) (s : State) → IsWhole told w b s → Rests told s
+whole_rests told w b s whole still t is image are =
+    let waits : Waits told w s = (whole.logged still).waits still in
+    rest_exactly t w s waits.records image (waits.disk t is) are
+
+some_side : (a b : ℕ) → (a < b) ⊎ (b ≤ a)
+some_side a b = grind arith
+
+-- the writer's file is the last that there can be, and has that length
+pub whole_spent : (told : Option Told) (w : Writer) (b : ℕ) (s : State) (P : Type 0) → IsWhole told w b s → s.broken ≡ false → (P → (w.file ≡ 4_294_967_295) × (s.rules.limits.max_file ≤ w.gate + 1)) → ((w.file ≡ 4_294_967_295) × (s.rules.limits.max_file ≤ w.gate + 1) → P)
+    → (t : Told) → told ≡ Some t → (P → IsSpentLog t s.rules.limits.max_file) × (IsSpentLog t s.rules.limits.max_file → P)
+whole_spent told w b s P whole still to back t is = (λ p. spent (to p), λ there. back (at_end there (some_side w.file 4_294_967_295)))
+  where
+    most : ℕ
+    most = s.rules.limits.max_file
+
+    waits : Waits told w s
+    waits = (whole.logged still).waits still
+
+    disk : OnDisk t w s waits.records
+    disk = waits.disk t is
+
+    bytes : List ℕ
+    bytes = file_of 1 w.file disk.frames
+
+    size : length bytes ≡ w.gate + 1
+    size = omega (arith, length-append (header 1 w.file ++ opened disk.frames) (0 ∷ []), disk.rest.offset)
+
+    here : w.file ≡ 4_294_967_295 → t.reads (Log 4_294_967_295) ≡ Some bytes
+    here file = ap (λ (n : ℕ). t.reads (Log n)) (sym file) ∙ disk.rest.reads
+
+    spent : (w.file ≡ 4_294_967_295) × (most ≤ w.gate + 1) → IsSpentLog t most
+    spent at = subst (λ (o : Option (List ℕ)). IsSomeAnd o (λ bytes. most ≤ length bytes)) (sym (here at.0)) (omega (arith, at.1, size))
+
+    at_end : IsSpentLog t most → (w.file < 4_294_967_295) ⊎ (4_294_967_295 ≤ w.file) → (w.file ≡ 4_294_967_295) × (most ≤ w.gate + 1)
+    at_end there (inl less) = absurd (subst (λ (o : Option (List ℕ)). IsSomeAnd o (λ bytes. most ≤ length bytes)) (disk.none 4_294_967_295 less) there)
+    at_end there (inr more) =
+        let file : w.file ≡ 4_294_967_295 = omega (arith, more, disk.small) in
+        let long : most ≤ length bytes = subst (λ (o : Option (List ℕ)). IsSomeAnd o (λ bytes. most ≤ length bytes)) (here file) there in
+        (file, omega (arith, long, size))

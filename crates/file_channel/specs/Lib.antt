@@ -4,3 +4,5 @@ pub mod Laws
 pub mod Written
 pub mod Whole
 pub mod Folders
+pub mod Touches
+pub mod Stands

@@ -1,10 +1,10 @@
 -- What a channel writes of its state, and what a stop leaves of it.
-use Rattle.std.specs.Prelude.{◌≡◌, ◌⊎◌, ◌<◌, ◌≤◌, ◌+◌, ◌*◌, ◌^◌, ℕ, List, length, Option, None, Bool, false, if◌then◌else◌}
-use Rattle.flume_host.specs.Folder.{Files, same_name, settle_entry}
+use Rattle.std.specs.Prelude.{◌≡◌, ◌⊎◌, ◌<◌, ◌≤◌, ◌+◌, ◌*◌, ◌^◌, ℕ, List, [], length, Option, None, Bool, false, if◌then◌else◌}
+use Rattle.flume_host.specs.Folder.{Files, IsImage, same_name, settle_entry}
 use Rattle.flume_host.specs.Told.{Told, WhereTold}
 use Rattle.flume_host.specs.declared.names.FileName.{FileName}
 use Rattle.flume_host.specs.declared.names.FileName.TheVariants.{Log}
-use Rattle.event_core.specs.Journal.{after_journal}
+use Rattle.event_core.specs.Journal.{Base, after_journal}
 use Rattle.record_form.specs.declared.record.Rec.{Rec}
 use Rattle.channel_log.specs.Writer.{IsAtRest, IsPending, Writer}
 use Rattle.channel_face.specs.Machine.{State, base_of}
@@ -48,6 +48,17 @@ pub record IsLogged (told : Option Told) (w : Writer) (busy_ones : ℕ) (s : Sta
 abbrev pub MayRecover : State → Files → Type 0
 MayRecover s image = (txn : ℕ) × (txn ≤ s.txn) × (Recovers image (base_of s) txn ⊎ Recovers image (after_journal (base_of s) s.staged) txn)
 
+-- whatever a stop now leaves recovers so
+abbrev pub MayRest : Option Told → State → Type 0
+MayRest told s = WhereTold told (λ t. (image : Files) → IsImage t.now image → MayRecover s image)
+
 -- an image recovers to just what is settled
 abbrev pub RecoversSettled : State → Files → Type 0
 RecoversSettled s image = (txn : ℕ) × (txn ≤ s.txn) × Recovers image (base_of s) txn
+
+-- A state of these events and next numbers, in which nothing is open or staged.
+pub record IsFresh (s : State) (base : Base) (txn : ℕ) : Type 0 where
+  pub base_is : base_of s ≡ base
+  pub txn_is : s.txn ≡ txn
+  pub opened : s.opened ≡ []
+  pub staged : s.staged ≡ []

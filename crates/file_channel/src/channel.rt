@@ -1,73 +1,39 @@
 // A channel on a disk.
-ghost use Rattle.std.specs.Prelude.{◌⊎◌, ◌≡◌, ◌≤◌, ℕ, length, Ok, Err, OnOk, OnErr, IfOk, IfErr, IsErrOf, true, false};
+ghost use Rattle.std.specs.Prelude.{[], ◌⊎◌, ◌↔◌, ◌≡◌, ◌≤◌, ◌+◌, ◌-◌, ◌^◌, ℕ, Err, IsSome, OnOk, IfOk, IfErr, IsErrOf, false, true, if◌then◌else◌};
 ghost use Rattle.flume_host.specs.Causes.{Rose};
-ghost use Rattle.flume_host.specs.Folder.{Files, IsImage};
-ghost use Rattle.flume_host.specs.Told.{LeavesOnly, Tells, WhereTold};
+ghost use Rattle.flume_host.specs.Told.{LeavesOnly, Tells, WhereTold, moment_of};
 ghost use Rattle.channel_face.specs.Calls.{cause_of};
-ghost use Rattle.channel_face.specs.History.{Moves, opening};
+ghost use Rattle.channel_face.specs.Counters.{counts_with};
+ghost use Rattle.channel_face.specs.History.{AddsOne, Moves, opening, reopen_reply};
+ghost use Rattle.channel_face.specs.Machine as Face;
+ghost use Rattle.channel_face.specs.Machine.{BeginPut, BeginTake, Flush, Reopen, Reopened, RollbackPut, RollbackTake, StagePut, StageTake, base_of, is_some_of, puts_of, takes_of};
+ghost use Rattle.channel_face.specs.declared.replies.Counter.{Counter};
+ghost use Rattle.channel_face.specs.declared.replies.FlushRefused.{FlushRefused};
 ghost use Rattle.channel_face.specs.declared.replies.Kind.{Kind};
 ghost use Rattle.channel_face.specs.declared.replies.OpenCause.{OpenCause};
-ghost use Rattle.channel_replay.specs.Recover.{empty_base};
-ghost use Rattle.file_channel.specs.Folders.{IsEmptyFolder};
-ghost use Rattle.channel_face.specs.Machine as Face;
+ghost use Rattle.channel_face.specs.declared.replies.Counter.TheVariants.{File};
 ghost use Rattle.channel_face.specs.declared.replies.PutRefused.{PutRefused};
 ghost use Rattle.channel_face.specs.declared.replies.TakeRefused.{TakeRefused};
-ghost use Rattle.channel_face.specs.Machine.{BeginPut, BeginTake, Flush, RollbackPut, RollbackTake, StagePut, StageTake, puts_of, takes_of, size_of_list};
-ghost use Rattle.channel_face.specs.declared.replies.FlushRefused.{FlushRefused};
-ghost use Rattle.file_channel.specs.Written.{MayRecover, RecoversSettled};
+ghost use Rattle.channel_replay.specs.Recover.{WhereLogs, lines};
+ghost use Rattle.channel_replay.specs.Replay.{record_count};
+ghost use Rattle.file_channel.specs.Folders.{GainsLog, IsBegun, IsRefused, Opens, OpensFrom, OpensOver};
+ghost use Rattle.file_channel.specs.Written.{MayRecover};
+ghost use Rattle.file_channel.specs.Stands.{StandsOver, is_fault};
+ghost use Rattle.file_channel.specs.Touches.{Flushed, IsSpentLog, Rests, flushes};
+ghost use Rattle.txn_core.specs.Counted.{Makes};
+ghost use Rattle.txn_core.specs.Noted.{noted};
 
-use crate::writing::Writing;
+use crate::logged::LoggedLists;
 use channel_face::{
-    BeginRefused, FlushRefused, Kind, Limits, OpenCause, Put, PutRefused, PutTxn, Settled,
-    StageRefused, TakeRefused, TakeTxn, Taken, Ticket,
+    BeginRefused, Channel, Counts, FlushRefused, Limits, OpenCause, Put, PutRefused, PutTxn,
+    Settled, StageRefused, TakeRefused, TakeTxn, Taken, Ticket,
 };
-use channel_log::{LogBeginRefused, LogWriter};
 use event_core::Event;
-use flume_host::Disk;
+use flume_host::{Disk, Steps};
 use std::alloc::Global;
 use std::marker::Model;
-use txn_core::ChannelLists;
-
-/// The length of the record of a take.
-const TAKE_LENGTH: u64 = 17;
-
-/// A channel in a folder of a disk.
-#[derive(Drop)]
-pub struct FileChannel<D: Disk + Drop> {
-    lists: ChannelLists,
-    writing: Writing<D>,
-}
-
-impl<D: Disk + Drop> Model for FileChannel<D> {
-    ghost use Rattle.channel_face.specs.Machine.{State};
-    ghost use Rattle.file_channel.specs.Whole.{IsWhole};
-
-    ghost Value = { D × State };
-
-    ghost view = { λ c. (c.writing.disk, c.lists) };
-
-    ghost invariant = { λ c. IsWhole (D.told c.writing.disk) c.writing.log c.writing.busy c.lists };
-}
-
-// How many puts the token's transaction has, or 0 where the token is stale.
-fn held_puts(lists: &ChannelLists, txn: &PutTxn) -> usize
-    ensures { result ≡ size_of_list (puts_of lists.now txn.now) }
-{
-    match lists.find_puts(txn) {
-        Some((_, held)) => held,
-        None => 0,
-    }
-}
-
-// How many takes the token's transaction has, or 0 where the token is stale.
-fn held_takes(lists: &ChannelLists, txn: &TakeTxn) -> usize
-    ensures { result ≡ size_of_list (takes_of lists.now txn.now) }
-{
-    match lists.find_takes(txn) {
-        Some((_, held)) => held,
-        None => 0,
-    }
-}
+use std::sync::ledger::Ledger;
+use txn_core::{Call, Reply, note};
 
 /// A channel that was not opened, with its disk.
 pub struct OpenRefused<D> {
@@ -75,252 +41,306 @@ pub struct OpenRefused<D> {
     pub cause: OpenCause,
 }
 
+/// A channel in a folder of a disk (Flume User Guide, "File Channel"). Each change has its record in a log file, and what a
+/// flush settled a stop leaves there.
+#[derive(Drop)]
+pub struct FileChannel<D: Disk + Drop> {
+    logged: LoggedLists<D>,
+    counts: Counts,
+}
+
+impl<D: Disk + Drop> Model for FileChannel<D> {
+    ghost use Rattle.txn_core.specs.Counted.{Counted, tally_of};
+    ghost use Rattle.file_channel.specs.Touches.{Rests};
+
+    ghost Value = { D × Counted };
+
+    ghost view = { λ c. (c.logged.0, record { state = c.logged.1; tally = tally_of c.counts }) };
+
+    ghost invariant = { λ c. Rests (D.told c.logged.0) c.logged.1 };
+}
+
+// Counts a call that was made.
+fn count<D: Disk + Drop>(logged: &LoggedLists<D>, counts: &mut Counts, call: Call, reply: Reply)
+    ensures counts { counts.new ≡ noted counts.old call reply }
+    ensures rests { Rests (D.told logged.now.0) logged.now.1 }
+{
+    logged.rests();
+    note(counts, call, reply);
+}
+
+// The reply of a call that settled so many events of puts and of takes, if it flushed.
+fn reply_of(done: bool, flushed: bool, staged: (u64, u64)) -> Reply
+    ensures puts { result.settled_puts ≡ (if flushed then staged.0 else 0) }
+    ensures takes { result.settled_takes ≡ (if flushed then staged.1 else 0) }
+{
+    if !flushed {
+        return Reply::quiet(done);
+    }
+    Reply {
+        done,
+        settled_puts: staged.0,
+        settled_takes: staged.1,
+    }
+}
+
+/// Opens the channel of a folder: it is settled and replayed, and a log file is begun behind those that are there; no other
+/// file is written. `steps` counts the records that are read. 1. `DiskFault`. 2. `BadCheck`, where a checkpoint is there:
+/// they are not read yet. 3. `BadLog`, at the first fault of the log. 4. `OverCapacity`, where more events are left than
+/// the limits allow. 5. `Spent` of `Counter::File`, where log file 4,294,967,295 is there. 6. `NoMemory`. After a refusal
+/// the files are as they were, and after `DiskFault` one log file more of at most 17 bytes may be there.
+pub fn open_channel<D: Disk + Drop, L: Ledger>(
+    alloc: Global,
+    disk: D,
+    limits: Limits,
+    steps: &mut Steps<L>,
+) -> Result<FileChannel<D>, OpenRefused<D>>
+    ensures state { IfOk result (λ c. (faults from : ℕ) → c.1.state ≡ opening (record { rules = record { kind = Kind.File; limits = limits }; base = base_of c.1.state; txn = c.1.state.txn; faults = faults; from = from })) }
+    ensures tally { IfOk result (λ c. c.1.tally ≡ record { put_attempts = 0; put_successes = 0; take_attempts = 0; take_successes = 0 }) }
+    ensures opens { IfOk result (λ c. WhereTold (D.told disk) (λ t. Opens t.reads limits.capacity (base_of c.1.state) c.1.state.txn)) }
+    ensures gains { IfOk result (λ c. Tells (D.told disk) (D.told c.0) (λ t u. GainsLog t.reads IsBegun u.reads)) }
+    ensures refused { IfErr result (λ refused. IsRefused (D.told disk) (D.told refused.disk) (D.faults disk) (D.faults refused.disk) limits.capacity refused.cause) }
+
+    // It stands for no calls: since the folder was settled, whatever a stop leaves recovers to what the folder recovers to.
+    ensures stands { IfOk result (λ c. StandsOver (D.told c.0) (D.faults c.0) c.1 (record { rules = record { kind = Kind.File; limits = limits }; base = base_of c.1.state; txn = c.1.state.txn; faults = D.faults disk; from = moment_of (D.told disk) + 1 }) []) }
+    ensures any_moment { IfOk result (λ c. Tells (D.told disk) (D.told c.0) OpensOver) }
+    ensures settled { IfOk result (λ c. Tells (D.told disk) (D.told c.0) OpensFrom) }
+    ensures settled_or { IfErr result (λ refused. (refused.cause ≡ OpenCause.DiskFault) ⊎ Tells (D.told disk) (D.told refused.disk) OpensFrom) }
+    ensures ticks { WhereTold (D.told disk) (λ t. WhereLogs t.reads (λ logs. steps.new ≤ steps.old + record_count (lines logs))) }
+{
+    match LoggedLists::open(alloc, disk, limits, steps) {
+        Ok(logged) => {
+            logged.rests();
+            Ok(FileChannel {
+                logged,
+                counts: Counts {
+                    put_attempts: 0,
+                    put_successes: 0,
+                    take_attempts: 0,
+                    take_successes: 0,
+                    size: 0,
+                    capacity: 0,
+                },
+            })
+        }
+        Err(refused) => Err(refused),
+    }
+}
+
 impl<D: Disk + Drop> FileChannel<D> {
-    /// A channel in an empty folder, with one log file. 1. `DiskFault`: one log file of at most 17 bytes may be there.
-    /// 2. `NoMemory`.
-    pub fn begin(alloc: Global, disk: D, limits: Limits) -> Result<FileChannel<D>, OpenRefused<D>>
-        requires { WhereTold (D.told disk) IsEmptyFolder }
-        ensures state { IfOk result (λ c. (faults from : ℕ) → c.1 ≡ opening (record { rules = record { kind = Kind.File; limits = limits }; base = empty_base; txn = 1; faults = faults; from = from })) }
-        ensures fault { IfErr result (λ refused. refused.cause ≡ OpenCause.DiskFault → Rose (D.faults disk) (D.faults refused.disk)) }
+    /// Opens the folder anew, with the causes of [`open_channel`]; before them comes `Spent` of `Counter::Life`, exactly where
+    /// the life is 2^64 - 1. On Ok the life is one more and earlier tokens are stale. What was settled is left, and with it
+    /// all that was staged or nothing of that. After a refusal the channel is broken, and has what it had.
+    pub fn reopen<L: Ledger>(&mut self, steps: &mut Steps<L>) -> Result<(), OpenCause>
+        ensures step { (kept : Reopened) × AddsOne (StandsOver (D.told self.old.0) (D.faults self.old.0) self.old.1) (StandsOver (D.told self.new.0) (D.faults self.new.0) self.new.1) (Reopen (reopen_reply result kept)) (moment_of (D.told self.new.0)) }
+        ensures moves { (kept : Reopened) × Moves (is_some_of (D.told self.old.0)) self.old.1.state (Reopen (reopen_reply result kept)) self.new.1.state }
+        ensures tally { self.new.1.tally ≡ self.old.1.tally }
+        ensures opens { OnOk result (WhereTold (D.told self.old.0) (λ t. Opens t.reads self.old.1.state.rules.limits.capacity (base_of self.new.1.state) self.new.1.state.txn)) }
+        ensures gains { OnOk result (Tells (D.told self.old.0) (D.told self.new.0) (λ t u. GainsLog t.reads IsBegun u.reads)) }
+        ensures any_moment { Tells (D.told self.old.0) (D.told self.new.0) (λ t u. LeavesOnly t u (MayRecover self.old.1.state)) }
+        ensures later { D.faults self.old.0 ≤ D.faults self.new.0 }
+        ensures spent { 2 ^ 64 - 1 ≤ self.old.1.state.life → (result ≡ Err (OpenCause.Spent Counter.Life)) × (self.new.0 ≡ self.old.0) }
+        ensures refused { IfErr result (λ cause. ((cause ≡ OpenCause.Spent Counter.Life) × (self.new.0 ≡ self.old.0)) ⊎ IsRefused (D.told self.old.0) (D.told self.new.0) (D.faults self.old.0) (D.faults self.new.0) self.old.1.state.rules.limits.capacity cause) }
+        ensures ticks { WhereTold (D.told self.old.0) (λ t. WhereLogs t.reads (λ logs. steps.new ≤ steps.old + record_count (lines logs))) }
     {
-        let mut disk = disk;
-        match LogWriter::begin(alloc, &mut disk, 1, 1, limits.max_file) {
-            Ok(log) => {
-                let lists = ChannelLists::begin(alloc, Kind::File, limits, Vec::new(alloc), 0, 1);
-                Ok(FileChannel {
-                    lists,
-                    writing: Writing { disk, log, busy: 0 },
-                })
-            }
-            Err(LogBeginRefused::DiskFault) => Err(OpenRefused {
-                disk,
-                cause: OpenCause::DiskFault,
-            }),
-            Err(LogBeginRefused::NoMemory) => Err(OpenRefused {
-                disk,
-                cause: OpenCause::NoMemory,
-            }),
-        }
+        let result = self.logged.reopen(steps);
+        let reply = Reply::quiet(result.is_ok());
+        count(&self.logged, &mut self.counts, Call::Reopen, reply);
+        result
     }
 
-    /// Begins a transaction of puts.
-    pub fn begin_put(&mut self) -> Result<PutTxn, BeginRefused>
-        ensures step { Moves true self.old.1 (BeginPut result) self.new.1 }
-        ensures disk { self.new.0 ≡ self.old.0 }
+    /// Between two calls, whatever a stop leaves recovers to just what is settled, unless the channel is broken.
+    pub fn rests(&self)
+        ensures { Rests (D.told self.now.0) self.now.1.state }
     {
-        self.lists.begin_put()
+        let _ = &self.logged;
     }
 
-    /// Begins a transaction of takes.
-    pub fn begin_take(&mut self) -> Result<TakeTxn, BeginRefused>
-        ensures step { Moves true self.old.1 (BeginTake result) self.new.1 }
-        ensures disk { self.new.0 ≡ self.old.0 }
-    {
-        self.lists.begin_take()
-    }
-
-    /// Puts an event. Where the frame has no room for its record, it flushes first. A stop at any moment of the call leaves what
-    /// is settled, or that with what is staged.
-    pub fn put(&mut self, txn: &mut PutTxn, event: &Event) -> Result<Put, PutRefused>
-        ensures step { Moves true self.old.1 (Face.Put txn.old event.now result) self.new.1 }
-        ensures same { txn.new ≡ txn.old }
-        ensures any_moment { (self.new.0 ≡ self.old.0) ⊎ Tells (D.told self.old.0) (D.told self.new.0) (λ t u. LeavesOnly t u (MayRecover self.old.1)) }
-        ensures fault { IsErrOf result PutRefused.DiskFault → Rose (D.faults self.old.0) (D.faults self.new.0) }
-    {
-        let Some((place, held)) = self.lists.find_puts(txn) else {
-            return Err(PutRefused::Stale);
-        };
-        if let Some(refused) = self.lists.put_refusal(held, event) {
-            return Err(refused);
-        }
-        let Ok(copy) = event.copy() else {
-            return Err(PutRefused::NoMemory);
-        };
-        if self.lists.add_put(place, copy).is_err() {
-            return Err(PutRefused::NoMemory);
-        }
-        if self.writing.has_room(event.size() + 13, held == 0) {
-            self.writing.add_put(txn.number(), event, held == 0);
-            return Ok(Put { spilled: false });
-        }
-        if self.writing.flush().is_err() {
-            self.lists.undo_put(place);
-            self.lists.fail();
-            return Err(PutRefused::DiskFault);
-        }
-        let _settled = self.lists.flush();
-        self.writing.add_put(txn.number(), event, held == 0);
-        Ok(Put { spilled: true })
-    }
-
-    /// Takes the first event that no transaction took. Where the frame has no room for its record, it flushes first, as
-    /// [`FileChannel::put`].
-    pub fn take(&mut self, txn: &mut TakeTxn) -> Result<Taken, TakeRefused>
-        ensures step { Moves true self.old.1 (Face.Take txn.old result) self.new.1 }
-        ensures same { txn.new ≡ txn.old }
-        ensures any_moment { (self.new.0 ≡ self.old.0) ⊎ Tells (D.told self.old.0) (D.told self.new.0) (λ t u. LeavesOnly t u (MayRecover self.old.1)) }
-        ensures fault { IsErrOf result TakeRefused.DiskFault → Rose (D.faults self.old.0) (D.faults self.new.0) }
-    {
-        let Some((place, held)) = self.lists.find_takes(txn) else {
-            return Err(TakeRefused::Stale);
-        };
-        if let Some(refused) = self.lists.take_refusal(held) {
-            return Err(refused);
-        }
-        let Ok(item) = self.lists.free_item() else {
-            return Err(TakeRefused::NoMemory);
-        };
-        let Some((number, event)) = item else {
-            return Ok(Taken {
-                event: None,
-                spilled: false,
-            });
-        };
-        if self.lists.add_take(place, number).is_err() {
-            return Err(TakeRefused::NoMemory);
-        }
-        if self.writing.has_room(TAKE_LENGTH, held == 0) {
-            self.writing.add_take(txn.number(), number, held == 0);
-            return Ok(Taken {
-                event: Some(event),
-                spilled: false,
-            });
-        }
-        if self.writing.flush().is_err() {
-            self.lists.undo_take(place);
-            self.lists.fail();
-            return Err(TakeRefused::DiskFault);
-        }
-        let _settled = self.lists.flush();
-        self.writing.add_take(txn.number(), number, held == 0);
-        Ok(Taken {
-            event: Some(event),
-            spilled: true,
-        })
-    }
-
-    /// Settles all that is staged. A stop at any moment of the call leaves what is settled, or that with what is staged.
-    pub fn flush(&mut self) -> Result<(), FlushRefused>
-        ensures step { Moves true self.old.1 (Flush result) self.new.1 }
-        ensures any_moment { self.old.1.broken ≡ false → Tells (D.told self.old.0) (D.told self.new.0) (λ t u. LeavesOnly t u (MayRecover self.old.1)) }
-        ensures fault { IsErrOf result FlushRefused.DiskFault → Rose (D.faults self.old.0) (D.faults self.new.0) }
-    {
-        if self.lists.is_broken() {
-            return Err(FlushRefused::Broken);
-        }
-        match self.writing.flush() {
-            Ok(()) => self.lists.flush(),
-            Err(_) => {
-                self.lists.fail();
-                Err(FlushRefused::DiskFault)
-            }
-        }
-    }
-
-    /// Gives a transaction of puts up.
-    pub fn rollback_put(&mut self, txn: PutTxn) -> bool
-        ensures step { Moves true self.old.1 (RollbackPut txn result) self.new.1 }
-        ensures disk { self.new.0 ≡ self.old.0 }
-    {
-        let number = txn.number();
-        let held = held_puts(&self.lists, &txn);
-        let ended = self.lists.rollback_put(txn);
-        if held > 0 && !self.lists.is_broken() {
-            self.writing.add_rollback(number);
-        }
-        ended
-    }
-
-    /// Gives a transaction of takes up.
-    pub fn rollback_take(&mut self, txn: TakeTxn) -> bool
-        ensures step { Moves true self.old.1 (RollbackTake txn result) self.new.1 }
-        ensures disk { self.new.0 ≡ self.old.0 }
-    {
-        let number = txn.number();
-        let held = held_takes(&self.lists, &txn);
-        let ended = self.lists.rollback_take(txn);
-        if held > 0 && !self.lists.is_broken() {
-            self.writing.add_rollback(number);
-        }
-        ended
-    }
-
-    /// Stages a transaction of puts.
-    pub fn stage_put(&mut self, txn: PutTxn) -> Result<Ticket, StageRefused<PutTxn>>
-        ensures step { Moves true self.old.1 (StagePut txn (cause_of result)) self.new.1 }
-        ensures back { IfErr result (λ refused. refused.txn ≡ txn) }
-        ensures disk { self.new.0 ≡ self.old.0 }
-    {
-        let number = txn.number();
-        match self.lists.stage_put(txn) {
-            Ok(ticket) => {
-                if ticket.count > 0 {
-                    self.writing
-                        .add_commit_put(number, ticket.first, ticket.count);
-                }
-                Ok(ticket)
-            }
-            Err(refused) => Err(refused),
-        }
-    }
-
-    /// Stages a transaction of takes.
-    pub fn stage_take(&mut self, txn: TakeTxn) -> Result<Ticket, StageRefused<TakeTxn>>
-        ensures step { Moves true self.old.1 (StageTake txn (cause_of result)) self.new.1 }
-        ensures back { IfErr result (λ refused. refused.txn ≡ txn) }
-        ensures disk { self.new.0 ≡ self.old.0 }
-    {
-        let number = txn.number();
-        match self.lists.stage_take(txn) {
-            Ok(ticket) => {
-                if ticket.count > 0 {
-                    self.writing.add_commit_take(number, ticket.count);
-                }
-                Ok(ticket)
-            }
-            Err(refused) => Err(refused),
-        }
-    }
-
-    /// Whether what the ticket stands for is settled.
-    pub fn settled(&self, ticket: &Ticket) -> Settled
-        ensures { result ≡ Face.settled self.now.1 ticket.now }
-    {
-        self.lists.settled(ticket)
-    }
-
-    /// How many events are left.
-    pub fn size(&self) -> u64
-        ensures { result ≡ length self.now.1.items }
-    {
-        self.lists.size()
-    }
-
-    /// The most events.
-    pub fn capacity(&self) -> u64
-        ensures { result ≡ self.now.1.rules.limits.capacity }
-    {
-        self.lists.capacity()
-    }
-
-    /// Whether the channel is broken.
-    pub fn is_broken(&self) -> bool
-        ensures { result ≡ self.now.1.broken }
-    {
-        self.lists.is_broken()
-    }
-
-    /// Hands the disk back. Whatever a stop now leaves of it recovers to just what is settled, unless the channel was broken.
+    /// Hands the disk back. It touches no device. Whatever a stop now leaves recovers to just what is settled, unless the channel was broken.
     pub fn close(self) -> D
         ensures disk { result ≡ self.0 }
-        ensures settled { self.1.broken ≡ false → WhereTold (D.told result) (λ t. (image : Files) → IsImage t.now image → RecoversSettled self.1 image) }
+        ensures settled { Rests (D.told result) self.1.state }
     {
-        let FileChannel { lists: _, writing } = self;
-        let Writing {
-            disk,
-            log: _,
-            busy: _,
-        } = writing;
-        disk
+        let FileChannel { logged, counts: _ } = self;
+        logged.rests();
+        logged.close()
     }
+}
+
+impl<D: Disk + Drop> Channel for FileChannel<D> {
+    ghost use Rattle.flume_host.specs.Told.{moment_of};
+    ghost use Rattle.channel_face.specs.Machine.{is_some_of};
+    ghost use Rattle.file_channel.specs.Stands.{StandsOver};
+
+    ghost stands = { λ c. StandsOver (D.told c.0) (D.faults c.0) c.1 };
+
+    ghost tells = { λ c. is_some_of (D.told c.0) };
+
+    ghost moment = { λ c. moment_of (D.told c.0) };
+
+    /// It touches no device.
+    fn begin_put(&mut self) -> Result<PutTxn, BeginRefused>
+        ensures step { AddsOne (StandsOver (D.told self.old.0) (D.faults self.old.0) self.old.1) (StandsOver (D.told self.new.0) (D.faults self.new.0) self.new.1) (BeginPut result) (moment_of (D.told self.new.0)) }
+        ensures makes { Makes self.old.1 (BeginPut result) self.new.1 }
+        ensures disk { self.new.0 ≡ self.old.0 }
+    {
+        let result = self.logged.begin_put();
+        let reply = Reply::quiet(result.is_ok());
+        count(&self.logged, &mut self.counts, Call::BeginPut, reply);
+        result
+    }
+
+    /// It touches no device.
+    fn begin_take(&mut self) -> Result<TakeTxn, BeginRefused>
+        ensures step { AddsOne (StandsOver (D.told self.old.0) (D.faults self.old.0) self.old.1) (StandsOver (D.told self.new.0) (D.faults self.new.0) self.new.1) (BeginTake result) (moment_of (D.told self.new.0)) }
+        ensures makes { Makes self.old.1 (BeginTake result) self.new.1 }
+        ensures disk { self.new.0 ≡ self.old.0 }
+    {
+        let result = self.logged.begin_take();
+        let reply = Reply::quiet(result.is_ok());
+        count(&self.logged, &mut self.counts, Call::BeginTake, reply);
+        result
+    }
+
+    /// Where the frame has no room for the event's record, it flushes first, with at most two syncs. A stop at any moment of
+    /// the call leaves what is settled, or that with what is staged.
+    fn put(&mut self, txn: &mut PutTxn, event: &Event) -> Result<Put, PutRefused>
+        ensures step { AddsOne (StandsOver (D.told self.old.0) (D.faults self.old.0) self.old.1) (StandsOver (D.told self.new.0) (D.faults self.new.0) self.new.1) (Face.Put txn.old event.now result) (moment_of (D.told self.new.0)) }
+        ensures same { txn.new ≡ txn.old }
+        ensures makes { Makes self.old.1 (Face.Put txn.old event.now result) self.new.1 }
+        ensures spent { self.old.1.state.broken ≡ false → IsSome (puts_of self.old.1.state txn.old) → WhereTold (D.told self.old.0) (λ t. (result ≡ Err (PutRefused.Spent File)) ↔ IsSpentLog t self.old.1.state.rules.limits.max_file) }
+        ensures quiet { flushes (Face.Put txn.old event.now result) ≡ false → self.new.0 ≡ self.old.0 }
+        ensures any_moment { flushes (Face.Put txn.old event.now result) ≡ true → Tells (D.told self.old.0) (D.told self.new.0) (λ t u. Flushed self.old.1.state t u) }
+        ensures later { D.faults self.old.0 ≤ D.faults self.new.0 }
+        ensures well { is_fault (Face.Put txn.old event.now result) ≡ false → D.faults self.new.0 ≡ D.faults self.old.0 }
+        ensures fault { IsErrOf result PutRefused.DiskFault → Rose (D.faults self.old.0) (D.faults self.new.0) }
+    {
+        let staged = self.logged.staged();
+        let result = self.logged.put(txn, event);
+        let spilled = match &result {
+            Ok(done) => done.spilled,
+            Err(_) => false,
+        };
+        let reply = reply_of(result.is_ok(), spilled, staged);
+        count(&self.logged, &mut self.counts, Call::Put, reply);
+        result
+    }
+
+    /// Where the frame has no room for the record, it flushes first, as a put does.
+    fn take(&mut self, txn: &mut TakeTxn) -> Result<Taken, TakeRefused>
+        ensures step { AddsOne (StandsOver (D.told self.old.0) (D.faults self.old.0) self.old.1) (StandsOver (D.told self.new.0) (D.faults self.new.0) self.new.1) (Face.Take txn.old result) (moment_of (D.told self.new.0)) }
+        ensures same { txn.new ≡ txn.old }
+        ensures makes { Makes self.old.1 (Face.Take txn.old result) self.new.1 }
+        ensures spent { self.old.1.state.broken ≡ false → IsSome (takes_of self.old.1.state txn.old) → WhereTold (D.told self.old.0) (λ t. (result ≡ Err (TakeRefused.Spent File)) ↔ IsSpentLog t self.old.1.state.rules.limits.max_file) }
+        ensures quiet { flushes (Face.Take txn.old result) ≡ false → self.new.0 ≡ self.old.0 }
+        ensures any_moment { flushes (Face.Take txn.old result) ≡ true → Tells (D.told self.old.0) (D.told self.new.0) (λ t u. Flushed self.old.1.state t u) }
+        ensures later { D.faults self.old.0 ≤ D.faults self.new.0 }
+        ensures well { is_fault (Face.Take txn.old result) ≡ false → D.faults self.new.0 ≡ D.faults self.old.0 }
+        ensures reads { ¬ IsErrOf result TakeRefused.ReadFault }
+        ensures fault { IsErrOf result TakeRefused.DiskFault → Rose (D.faults self.old.0) (D.faults self.new.0) }
+    {
+        let staged = self.logged.staged();
+        let result = self.logged.take(txn);
+        let spilled = match &result {
+            Ok(taken) => taken.spilled,
+            Err(_) => false,
+        };
+        let reply = reply_of(result.is_ok(), spilled, staged);
+        count(&self.logged, &mut self.counts, Call::Take, reply);
+        result
+    }
+
+    /// It touches no device.
+    fn stage_put(&mut self, txn: PutTxn) -> Result<Ticket, StageRefused<PutTxn>>
+        ensures step { AddsOne (StandsOver (D.told self.old.0) (D.faults self.old.0) self.old.1) (StandsOver (D.told self.new.0) (D.faults self.new.0) self.new.1) (StagePut txn (cause_of result)) (moment_of (D.told self.new.0)) }
+        ensures back { IfErr result (λ refused. refused.txn ≡ txn) }
+        ensures makes { Makes self.old.1 (StagePut txn (cause_of result)) self.new.1 }
+        ensures disk { self.new.0 ≡ self.old.0 }
+    {
+        let result = self.logged.stage_put(txn);
+        let reply = Reply::quiet(result.is_ok());
+        count(&self.logged, &mut self.counts, Call::StagePut, reply);
+        result
+    }
+
+    /// It touches no device.
+    fn stage_take(&mut self, txn: TakeTxn) -> Result<Ticket, StageRefused<TakeTxn>>
+        ensures step { AddsOne (StandsOver (D.told self.old.0) (D.faults self.old.0) self.old.1) (StandsOver (D.told self.new.0) (D.faults self.new.0) self.new.1) (StageTake txn (cause_of result)) (moment_of (D.told self.new.0)) }
+        ensures back { IfErr result (λ refused. refused.txn ≡ txn) }
+        ensures makes { Makes self.old.1 (StageTake txn (cause_of result)) self.new.1 }
+        ensures disk { self.new.0 ≡ self.old.0 }
+    {
+        let result = self.logged.stage_take(txn);
+        let reply = Reply::quiet(result.is_ok());
+        count(&self.logged, &mut self.counts, Call::StageTake, reply);
+        result
+    }
+
+    /// At most two syncs. A stop at any moment of the call leaves what is settled, or that with what is staged. A broken
+    /// channel's flush touches no device.
+    fn flush(&mut self) -> Result<(), FlushRefused>
+        ensures step { AddsOne (StandsOver (D.told self.old.0) (D.faults self.old.0) self.old.1) (StandsOver (D.told self.new.0) (D.faults self.new.0) self.new.1) (Flush result) (moment_of (D.told self.new.0)) }
+        ensures makes { Makes self.old.1 (Flush result) self.new.1 }
+        ensures quiet { flushes (Flush result) ≡ false → self.new.0 ≡ self.old.0 }
+        ensures any_moment { flushes (Flush result) ≡ true → Tells (D.told self.old.0) (D.told self.new.0) (λ t u. Flushed self.old.1.state t u) }
+        ensures later { D.faults self.old.0 ≤ D.faults self.new.0 }
+        ensures well { is_fault (Flush result) ≡ false → D.faults self.new.0 ≡ D.faults self.old.0 }
+        ensures fault { IsErrOf result FlushRefused.DiskFault → Rose (D.faults self.old.0) (D.faults self.new.0) }
+    {
+        let staged = self.logged.staged();
+        let result = self.logged.flush();
+        let reply = reply_of(result.is_ok(), result.is_ok(), staged);
+        count(&self.logged, &mut self.counts, Call::Flush, reply);
+        result
+    }
+
+    /// It touches no device.
+    fn rollback_put(&mut self, txn: PutTxn) -> bool
+        ensures step { AddsOne (StandsOver (D.told self.old.0) (D.faults self.old.0) self.old.1) (StandsOver (D.told self.new.0) (D.faults self.new.0) self.new.1) (RollbackPut txn result) (moment_of (D.told self.new.0)) }
+        ensures makes { Makes self.old.1 (RollbackPut txn result) self.new.1 }
+        ensures disk { self.new.0 ≡ self.old.0 }
+    {
+        let ended = self.logged.rollback_put(txn);
+        let reply = Reply::quiet(ended);
+        count(&self.logged, &mut self.counts, Call::RollbackPut, reply);
+        ended
+    }
+
+    /// It touches no device.
+    fn rollback_take(&mut self, txn: TakeTxn) -> bool
+        ensures step { AddsOne (StandsOver (D.told self.old.0) (D.faults self.old.0) self.old.1) (StandsOver (D.told self.new.0) (D.faults self.new.0) self.new.1) (RollbackTake txn result) (moment_of (D.told self.new.0)) }
+        ensures makes { Makes self.old.1 (RollbackTake txn result) self.new.1 }
+        ensures disk { self.new.0 ≡ self.old.0 }
+    {
+        let ended = self.logged.rollback_take(txn);
+        let reply = Reply::quiet(ended);
+        count(&self.logged, &mut self.counts, Call::RollbackTake, reply);
+        ended
+    }
+
+    fn settled(&self, ticket: &Ticket) -> Settled {
+        self.logged.settled(ticket)
+    }
+
+    fn size(&self) -> u64 {
+        self.logged.size()
+    }
+
+    fn capacity(&self) -> u64 {
+        self.logged.capacity()
+    }
+
+    fn counts(&self) -> Counts {
+        Counts {
+            size: self.logged.size(),
+            capacity: self.logged.capacity(),
+            ..self.counts
+        }
+    }
+
+    fn is_broken(&self) -> bool {
+        self.logged.is_broken()
+    }
+
+    ghost is_run = { λ c start h stands. stands.run };
 }

@@ -3,9 +3,11 @@
 
 mod channel;
 mod laws;
+mod logged;
+mod open;
 mod writing;
 
-pub use channel::{FileChannel, OpenRefused};
+pub use channel::{FileChannel, OpenRefused, open_channel};
 pub use laws::{
     a_begin_is_mirrored, a_flush_is_logged, a_flush_is_mirrored, a_flush_recovers,
     a_put_is_mirrored, a_rollback_is_mirrored, a_staged_put_is_mirrored, a_staged_take_is_mirrored,

@@ -14,6 +14,7 @@ use channel_log::LogWriter;
 use event_core::Event;
 use flume_host::{Disk, Failed};
 use record_form::{MAX_PUT_SIZE, Rec};
+use std::alloc::Global;
 
 /// The room that is kept for the record that ends a transaction.
 const END_ROOM: u64 = 21;
@@ -21,6 +22,7 @@ const END_ROOM: u64 = 21;
 /// A disk with the log that a channel writes on it.
 #[derive(Drop)]
 pub(crate) struct Writing<D: Disk + Drop> {
+    pub(crate) alloc: Global,
     pub(crate) disk: D,
     pub(crate) log: LogWriter,
     /// How many open transactions have records in the log.
@@ -106,6 +108,7 @@ impl<D: Disk + Drop> Writing<D> {
     pub(crate) fn flush(&mut self) -> Result<(), Failed>
         requires { (s : State) × IsLogged (D.told self.old.disk) self.old.log self.old.busy s × (s.broken ≡ false) }
         ensures any_moment { (s : State) → IsLogged (D.told self.old.disk) self.old.log self.old.busy s → s.broken ≡ false → Tells (D.told self.old.disk) (D.told self.new.disk) (λ t u. LeavesOnly t u (MayRecover s)) }
+        ensures syncs { Tells (D.told self.old.disk) (D.told self.new.disk) (λ t u. u.syncs ≤ t.syncs + 2) }
         ensures logged { OnOk result ((s : State) → IsLogged (D.told self.old.disk) self.old.log self.old.busy s → s.broken ≡ false → ((n : ℕ) → next_number s ≤ n → is_among (taken_numbers s.staged) n ≡ false)
             → IsLogged (D.told self.new.disk) self.new.log self.new.busy (settle s)) }
         ensures empty { OnOk result (self.new.log.bytes ≡ []) }

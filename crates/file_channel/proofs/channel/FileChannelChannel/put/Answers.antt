@@ -1,0 +1,25 @@
+use Rattle.std.proofs.Common.{rules, ap}
+use Rattle.channel_face.specs.Machine.{Call, Put}
+use Rattle.txn_core.specs.Counted.{Counted, Makes, tally_of}
+use Rattle.file_channel.proofs.Standing.{adds_did, put_fault}
+use Rattle.file_channel.proofs.channel.FileChannelChannel.put.Goals as goal
+
+pub returns-clause-step : goal.returns-clause-step
+returns-clause-step g c =
+    let m = c.self.inside in
+    let told = g.D.Disk.told in
+    let faults = g.D.Disk.faults in
+    let call : Call = Put c.args.txn.now c.args.event.now c.put-result.result in
+    let old : Counted = record { state = m.logged.1; tally = tally_of m.counts } in
+    let new : Counted = record { state = c.put-result.new.self.1; tally = tally_of c.count.new.counts } in
+    let makes : Makes old call new = search rules in
+    adds_did (told m.logged.0) (told c.put-result.new.self.0) (told c.args.self.now.0) (faults m.logged.0) (faults c.put-result.new.self.0) (faults c.args.self.now.0) old new c.args.self.now.1 call
+    (ap (λ p. told p.0) c.self.view_is) (ap (λ p. faults p.0) c.self.view_is) (ap (λ p. p.1) c.self.view_is)
+    (record {
+      makes = makes;
+      up = c.put-result.ensures.later;
+      cause = λ is. c.put-result.ensures.fault (put_fault c.args.txn.now c.args.event.now c.put-result.result is);
+      quiet = λ is. ap told (c.put-result.ensures.quiet is);
+      flushed = c.put-result.ensures.any_moment;
+      rests = c.count.ensures.rests;
+    })

@@ -1,0 +1,19 @@
+use Rattle.std.proofs.Common.{rules, refl, ap}
+use Rattle.channel_face.specs.Calls.{cause_of}
+use Rattle.channel_face.specs.Machine.{Call, StagePut}
+use Rattle.txn_core.specs.Counted.{Counted, Makes, tally_of}
+use Rattle.file_channel.proofs.Standing.{adds_did, did_quietly}
+use Rattle.file_channel.proofs.channel.FileChannelChannel.stage_put.Goals as goal
+
+pub returns-clause-step : goal.returns-clause-step
+returns-clause-step g c =
+    let m = c.self.inside in
+    let told = g.D.Disk.told in
+    let faults = g.D.Disk.faults in
+    let call : Call = StagePut c.args.txn (cause_of c.stage_put-result.result) in
+    let old : Counted = record { state = m.logged.1; tally = tally_of m.counts } in
+    let new : Counted = record { state = c.stage_put-result.new.self.1; tally = tally_of c.count.new.counts } in
+    let makes : Makes old call new = search rules in
+    adds_did (told m.logged.0) (told c.stage_put-result.new.self.0) (told c.args.self.now.0) (faults m.logged.0) (faults c.stage_put-result.new.self.0) (faults c.args.self.now.0) old new c.args.self.now.1 call
+    (ap (λ p. told p.0) c.self.view_is) (ap (λ p. faults p.0) c.self.view_is) (ap (λ p. p.1) c.self.view_is)
+    (did_quietly (told m.logged.0) (told c.stage_put-result.new.self.0) (faults m.logged.0) (faults c.stage_put-result.new.self.0) old call new makes (ap told c.stage_put-result.ensures.disk) (ap faults c.stage_put-result.ensures.disk) refl refl c.count.ensures.rests)

@@ -1,0 +1,30 @@
+use Rattle.std.proofs.Common.{◌≡◌, refl, sym, ap, subst}
+use Rattle.event_core.specs.Journal.{Base, IsBase}
+use Rattle.channel_face.specs.History.{Opening, opening}
+use Rattle.channel_face.specs.Machine as Face
+use Rattle.channel_face.specs.Machine.{State}
+use Rattle.channel_face.specs.declared.replies.Kind.TheVariants.{File as OnFile}
+use Rattle.channel_replay.specs.Plain.{base_of}
+use Rattle.file_channel.proofs.Reopening.{opened_as, opened_fresh, opened_opens, opened_whole}
+use Rattle.file_channel.proofs.logged.LoggedLists.open.Goals as goal
+
+pub invariant_of-result : goal.invariant_of-result
+invariant_of-result g c =
+    let base : Base = base_of c.in-Ok.replayed in
+    let o : Opening = record { rules = record { kind = OnFile; limits = c.args.limits }; base = base; txn = c.in-Ok.replayed.next.txn; faults = 0; from = 0 } in
+    let s : State = c.begin-lists.result in
+    let is : s ≡ opening o = c.begin-lists.ensures 0 0 in
+    opened_whole (g.D.Disk.told c.open_log.new.disk) c.in-Ok.log 0 s o is refl c.in-Ok.ensures.base (c.in-Ok.ensures.logged s (opened_fresh s o is))
+
+pub returns-in-Ok-clause-state : goal.returns-in-Ok-clause-state
+returns-in-Ok-clause-state g c = opened_as c.begin-lists.result (record { kind = OnFile; limits = c.args.limits }) (base_of c.in-Ok.replayed) c.in-Ok.replayed.next.txn c.begin-lists.ensures
+
+pub returns-in-Ok-clause-base : goal.returns-in-Ok-clause-base
+returns-in-Ok-clause-base g c =
+    let same : Face.base_of c.begin-lists.result ≡ base_of c.in-Ok.replayed = ap Face.base_of (c.begin-lists.ensures 0 0) in
+    subst IsBase (sym same) c.in-Ok.ensures.base
+
+pub returns-in-Ok-clause-opens : goal.returns-in-Ok-clause-opens
+returns-in-Ok-clause-opens g c = λ t told.
+    let same : Face.base_of c.begin-lists.result ≡ base_of c.in-Ok.replayed = ap Face.base_of (c.begin-lists.ensures 0 0) in
+    opened_opens c.begin-lists.result t.reads c.args.limits.capacity (base_of c.in-Ok.replayed) c.in-Ok.replayed.next.txn same (ap (λ (v : State). v.txn) (c.begin-lists.ensures 0 0)) (c.in-Ok.ensures.opens t told)

@@ -1,0 +1,34 @@
+-- What a call does to the disk.
+use Rattle.std.specs.Prelude.{◌≡◌, ◌≤◌, ◌+◌, ℕ, length, Ok, Err, Option, Bool, true, false, IsSomeAnd}
+use Rattle.flume_host.specs.Folder.{Files, IsImage}
+use Rattle.flume_host.specs.Told.{LeavesOnly, Told, WhereTold}
+use Rattle.flume_host.specs.declared.names.FileName.TheVariants.{Log}
+use Rattle.channel_face.specs.Machine.{State, Call, Put, Take, Flush}
+use Rattle.channel_face.specs.declared.replies.PutRefused.TheVariants as PutNo
+use Rattle.channel_face.specs.declared.replies.TakeRefused.TheVariants as TakeNo
+use Rattle.channel_face.specs.declared.replies.FlushRefused.TheVariants as FlushNo
+use Rattle.file_channel.specs.Written.{MayRecover, RecoversSettled}
+
+-- the call came to a flush; every other leaves the disk alone
+abbrev pub flushes : Call → Bool
+flushes (Put token event (Ok done)) = done.spilled
+flushes (Put token event (Err PutNo.DiskFault)) = true
+flushes (Take token (Ok taken)) = taken.spilled
+flushes (Take token (Err TakeNo.DiskFault)) = true
+flushes (Flush (Ok done)) = true
+flushes (Flush (Err FlushNo.DiskFault)) = true
+flushes call = false
+
+-- A channel that was not broken flushed: a stop at any moment leaves what was settled, or that with what was staged. There were at most two syncs.
+pub record Flushed (s : State) (t u : Told) : Type 0 where
+  pub whole : s.broken ≡ false
+  pub images : LeavesOnly t u (MayRecover s)
+  pub syncs : u.syncs ≤ t.syncs + 2
+
+-- the last log file that there can be has reached the length at which a file is left
+abbrev pub IsSpentLog : Told → ℕ → Type 0
+IsSpentLog t max_file = IsSomeAnd (t.reads (Log 4_294_967_295)) (λ bytes. max_file ≤ length bytes)
+
+-- Unless the channel is broken, whatever a stop now leaves recovers to just what is settled.
+abbrev pub Rests : Option Told → State → Type 0
+Rests told s = s.broken ≡ false → WhereTold told (λ t. (image : Files) → IsImage t.now image → RecoversSettled s image)
