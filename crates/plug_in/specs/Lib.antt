@@ -1,1 +1,3 @@
 pub mod Sinks
+pub mod Named
+pub mod Handed

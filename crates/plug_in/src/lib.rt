@@ -1,6 +1,12 @@
-//! What takes the events of a channel out of the agent: the trait of sinks.
+//! What is handed in to the agent: interceptors, which change events on their way into the channels, and sinks, which take
+//! events out of them.
 #![tactic(auto)]
 
+mod named;
+mod plugins;
 mod sink;
+mod step;
 
+pub use plugins::{MAX_PLUGINS, Plugins, PluginsRefused};
 pub use sink::{EventSink, SinkRefused};
+pub use step::{Intercepted, Interceptor};

@@ -17,7 +17,7 @@ pub enum SinkRefused {
 }
 
 /// Takes batches of events out of the agent (Flume User Guide, "Flume Sinks").
-pub trait EventSink {
+pub trait EventSink: Drop {
     /// What a delivery means: the sink before it, the batch, its moment in milliseconds since 1970, the answer, and the
     /// sink after it.
     ghost delivers: { Self → List Content → ℕ → Result (Unit {0}) SinkRefused → Self → Type 0 };
@@ -34,4 +34,19 @@ pub trait EventSink {
     /// How often it has refused.
     fn faults(&self) -> u64
         ensures { result ≡ faults self.now };
+}
+
+/// A boxed sink's answers and changes are those of the object in it, and the box stays as it is.
+impl EventSink for Box<dyn EventSink + Send> {
+    ghost delivers = { λ b batch moment result c. (object : _) × (c ≡ record b { value = object }) × (EventSink-box b).delivers b.value batch moment result object };
+
+    ghost faults = { λ b. (EventSink-box b).faults b.value };
+
+    fn deliver(&mut self, batch: &Batch, moment: u64) -> Result<(), SinkRefused> {
+        (**self).deliver(batch, moment)
+    }
+
+    fn faults(&self) -> u64 {
+        (**self).faults()
+    }
 }
