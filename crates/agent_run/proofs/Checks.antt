@@ -1,5 +1,5 @@
 -- What a run of `check` amounts to over a host.
-use Rattle.std.proofs.Common.{◌≡◌, ◌⊎◌, inl, inr, ℕ, ◌≤◌, ◌<◌, length, List, Option, Some, None, Result, Ok, Err, refl, sym, ap, subst, ◌∙◌, arith}
+use Rattle.std.proofs.Common.{◌≡◌, ◌⊎◌, inl, inr, ℕ, ◌≤◌, length, List, Option, Some, Result, Ok, Err, IsErr, IsErrAnd, refl, ap, subst, ◌∙◌, arith}
 use Rattle.std.specs.Io.KnownBytes.{Appends}
 use Rattle.flume_host.specs.Causes.{Rose}
 use Rattle.flume_host.specs.HostState.{HostState, WasRead, file_limit}
@@ -10,7 +10,7 @@ use Rattle.agent_words.specs.Statuses.{status_of}
 use Rattle.agent_words.specs.declared.error.RunError.{RunError}
 use Rattle.agent_words.specs.declared.error.RunError.TheVariants.{Usage, FileTooLarge, Text, NoAgent, Plan as Plan', Fault, BadCheckpoint, BadLog, OverCapacity, Spent, Damaged, NoMemory, InputTooLong, LineTooLong}
 use Rattle.agent_run.specs.Session.{Fronts}
-use Rattle.agent_run.specs.Checked.{IsConfigFault, IsPlanIn, IsAtFault, IsBeside, Checked, plan_line}
+use Rattle.agent_run.specs.Checked.{IsConfigFault, IsPlanIn, IsAtFault, IsBeside, Checked, end_of, plan_line}
 
 -- a fault of the bytes has the status 2, and want of memory 5
 pub fault_status : (bytes agent : List ℕ) (e : RunError) → IsConfigFault bytes agent e → (status_of e ≡ 2) ⊎ (status_of e ≡ 5)
@@ -38,6 +38,36 @@ fault_status bytes agent (Damaged dir) is = absurd is.2
 fault_status bytes agent NoMemory is = inr refl
 fault_status bytes agent InputTooLong is = absurd is.2
 fault_status bytes agent LineTooLong is = absurd is.2
+
+-- such a fault, by its cause
+pub at_fault : (bytes agent : List ℕ) (e : RunError) → IsConfigFault bytes agent e → status_of e ≡ 2 → IsAtFault bytes agent
+at_fault bytes agent Usage is two = absurd is.2
+at_fault bytes agent FileTooLarge is two = absurd is.2
+at_fault bytes agent (Text (text.NotUtf8 at)) is two = inr (inl (text.NotUtf8 at, (λ e. cc), is))
+at_fault bytes agent (Text (text.BadEscape line)) is two = inr (inl (text.BadEscape line, (λ e. cc), is))
+at_fault bytes agent (Text text.NoMemory) is two = absurd (omega (arith, two))
+at_fault bytes agent (NoAgent name) is two = inr (inr (is.0, is.1, inl (plan.NoAgent, (λ e. cc), is.2.0)))
+at_fault bytes agent (Plan' plan.NoAgent) is two = absurd is.2
+at_fault bytes agent (Plan' (plan.UnknownType line)) is two = elim is.2 [
+  | inl refused ↦ inr (inr (is.0, is.1, inl (plan.UnknownType line, (λ e. cc), refused)))
+  | inr plugin ↦ inr (inr (is.0, is.1, inr (line, plugin)))
+]
+at_fault bytes agent (Plan' (plan.UnknownName line)) is two = inr (inr (is.0, is.1, inl (plan.UnknownName line, (λ e. cc), is.2)))
+at_fault bytes agent (Plan' (plan.BadNumber line)) is two = inr (inr (is.0, is.1, inl (plan.BadNumber line, (λ e. cc), is.2)))
+at_fault bytes agent (Plan' (plan.BadPattern line)) is two = absurd is.2
+at_fault bytes agent (Plan' (plan.Unsupported line)) is two = inr (inr (is.0, is.1, inl (plan.Unsupported line, (λ e. cc), is.2)))
+at_fault bytes agent (Plan' (plan.Clash line)) is two = inr (inr (is.0, is.1, inl (plan.Clash line, (λ e. cc), is.2)))
+at_fault bytes agent (Plan' (plan.Missing key)) is two = inr (inr (is.0, is.1, inl (plan.Missing key, (λ e. cc), is.2)))
+at_fault bytes agent (Plan' plan.NoMemory) is two = absurd (omega (arith, two))
+at_fault bytes agent Fault is two = absurd is.2
+at_fault bytes agent (BadCheckpoint dir file at) is two = absurd is.2
+at_fault bytes agent (BadLog dir file at) is two = absurd is.2
+at_fault bytes agent (OverCapacity dir count capacity) is two = absurd is.2
+at_fault bytes agent (Spent dir) is two = absurd is.2
+at_fault bytes agent (Damaged dir) is two = absurd is.2
+at_fault bytes agent NoMemory is two = absurd (omega (arith, two))
+at_fault bytes agent InputTooLong is two = absurd is.2
+at_fault bytes agent LineTooLong is two = absurd is.2
 
 -- nothing was written
 pub unwritten : (file : Option (List ℕ)) (agent : List ℕ) (old new : HostState) (status : ℕ) → IsBeside old new → new.output ≡ old.output → (status ≡ 2) ⊎ (status ≡ 3) ⊎ (status ≡ 5)
@@ -75,7 +105,7 @@ written file agent old new p rest well handed is whole = record {
 
 -- a front of the plan's line was written
 pub cut_off : (file : Option (List ℕ)) (agent : List ℕ) (old new : HostState) (p : Plan) → IsBeside old new → Rose old.faults new.faults
-    → ((bytes : List ℕ) → file ≡ Some bytes → IsPlanIn bytes agent p) → Fronts old.output new.output old.faults new.faults (plan_line agent p) → Checked file agent old new 3
+    → ((bytes : List ℕ) → file ≡ Some bytes → (length bytes ≤ file_limit) × IsPlanIn bytes agent p) → Fronts old.output new.output old.faults new.faults (plan_line agent p) → Checked file agent old new 3
 cut_off file agent old new p rest rose is front = record {
   done = λ zero. absurd (omega arith);
   fault = λ two. absurd (omega arith);
@@ -103,14 +133,14 @@ module _ (file : Option (List ℕ)) (agent : List ℕ) (s0 s1 s2 : HostState) (n
   faults : s1.faults ≡ s0.faults
   faults = ap (λ (s : HostState). s.faults) opened ∙ read.well
 
-  plan_of_file : (told : List ℕ) → file ≡ Some told → IsPlanIn told agent p
-  plan_of_file told e = subst (λ (b : List ℕ). IsPlanIn b agent p) (read.whole told e) is
+  plan_of_file : (told : List ℕ) → file ≡ Some told → (length told ≤ file_limit) × IsPlanIn told agent p
+  plan_of_file told e = (subst (λ (b : List ℕ). length b ≤ file_limit) (read.whole told e) read.few, subst (λ (b : List ℕ). IsPlanIn b agent p) (read.whole told e) is)
 
   pub printed : s2.faults ≡ s1.faults → s2.handed ≡ s2.output → Appends s1.output s2.output text → Checked file agent s0 s2 0
   printed well handed whole =
       let A : Option (List ℕ) × List ℕ → Type 0 = λ x. Appends x.0 s2.output x.1 in
       written file agent s0 s2 p rest (well ∙ faults) handed
-      (λ told e. (subst (λ (b : List ℕ). length b ≤ file_limit) (read.whole told e) read.few, plan_of_file told e))
+      plan_of_file
       (subst A (λ i. (output i, line i)) whole)
 
   pub printed_part : Rose s1.faults s2.faults → Fronts s1.output s2.output s1.faults s2.faults text → Checked file agent s0 s2 3
@@ -118,3 +148,19 @@ module _ (file : Option (List ℕ)) (agent : List ℕ) (s0 s1 s2 : HostState) (n
       let F : Option (List ℕ) × (ℕ × List ℕ) → Type 0 = λ x. Fronts x.0 s2.output x.1.0 s2.faults x.1.1 in
       cut_off file agent s0 s2 p rest (subst (λ (f : ℕ). Rose f s2.faults) faults rose) plan_of_file
       (subst F (λ i. (output i, (faults i, line i))) front)
+
+-- the file was read, and has a fault
+pub faulted : (file : Option (List ℕ)) (agent : List ℕ) (s0 s1 : HostState) (n : ℕ) (bytes : List ℕ) (e : RunError) → s1 ≡ record s0 { faults = n } → WasRead file s0.faults n bytes → IsConfigFault bytes agent e → Checked file agent s0 s1 (status_of e)
+faulted file agent s0 s1 n bytes e opened read is =
+    unwritten file agent s0 s1 (status_of e)
+    (record { input = ap (λ (s : HostState). s.input) opened; files = ap (λ (s : HostState). s.files) opened; disks = ap (λ (s : HostState). s.disk_faults) opened })
+    (ap (λ (s : HostState). s.output) opened)
+    (elim (fault_status bytes agent e is) [ inl two ↦ inl two | inr five ↦ inr (inr five) ])
+    (λ two told e_is. subst (λ (b : List ℕ). IsAtFault b agent) (read.whole told e_is) (at_fault bytes agent e is two))
+    (λ three. absurd (elim (fault_status bytes agent e is) [ inl two ↦ omega (arith, two, three) | inr five ↦ omega (arith, five, three) ]))
+    (λ which. ap (λ (s : HostState). s.faults) opened ∙ read.well)
+
+-- the error that a call handed on
+pub handed_on : (r : Result (Unit {0}) RunError) (P : RunError → Type 0) → IsErr r → IsErrAnd r P → (e : RunError) × P e × (end_of r ≡ status_of e)
+handed_on (Ok done) P is and = cc
+handed_on (Err e) P is and = (e, and, refl)

@@ -1,13 +1,16 @@
 -- What a run of `check` has done, by its status.
-use Rattle.std.specs.Prelude.{◌≡◌, ◌⊎◌, ℕ, ◌≤◌, ◌<◌, min, Bool, true, false, List, ◌++◌, length, map, filter, fold, codes, decimal, Option, Some, None, Result, Ok, Err, string_bytes}
+use Rattle.std.specs.Prelude.{◌≡◌, ◌≢◌, ◌⊎◌, ℕ, ◌≤◌, ◌<◌, min, Bool, true, false, List, ◌++◌, length, map, filter, fold, codes, decimal, Option, Some, None, Result, Ok, Err, string_bytes}
 use Rattle.std.specs.Io.KnownBytes.{Appends}
 use Rattle.prop_text.specs.Pairs.{Pair}
 use Rattle.prop_text.specs.Reads.{Reads}
+use Rattle.prop_text.specs.declared.fault.PropRefused.{PropRefused}
+use Rattle.prop_text.specs.declared.fault.PropRefused.TheVariants as text
 use Rattle.flume_config.specs.Plans.{Plans}
 use Rattle.flume_config.specs.declared.plan.Plan.{Plan}
 use Rattle.flume_config.specs.declared.plan.SinkPlan.{SinkPlan}
 use Rattle.flume_config.specs.declared.plan.SinkKind.{SinkKind}
 use Rattle.flume_config.specs.declared.plan.SinkKind.TheVariants.{Null, Roll, Avro, Plugin}
+use Rattle.flume_config.specs.declared.refused.PlanRefused.{PlanRefused}
 use Rattle.flume_config.specs.declared.refused.PlanRefused.TheVariants as plan
 use Rattle.agent_words.specs.Statuses.{status_of}
 use Rattle.agent_words.specs.declared.error.RunError.{RunError}
@@ -73,9 +76,15 @@ plan_line agent p =
     agent ++ (codes ": " ++ (decimal (length p.sources.items) ++ (codes " sources, " ++ (decimal (length p.channels.items) ++ (codes " channels, "
     ++ (decimal (length p.sinks.items) ++ (codes " sinks, " ++ (decimal (length p.groups.items) ++ codes " groups\n"))))))))
 
--- the file is too large, or its bytes have a fault with the status of one
+-- the agent has no plan, or a plug-in is in it
+abbrev pub IsUnplanned : List Pair → List ℕ → Type 0
+IsUnplanned pairs agent = ((why : PlanRefused) × (why ≢ plan.NoMemory) × Plans pairs agent (Err why)) ⊎ ((line : ℕ) × HasPlugin pairs agent line)
+
+-- the file is too large, its text is at fault, or the agent has no plan in it
 abbrev pub IsAtFault : List ℕ → List ℕ → Type 0
-IsAtFault bytes agent = (file_limit < length bytes) ⊎ ((e : RunError) × (status_of e ≡ 2) × IsConfigFault bytes agent e)
+IsAtFault bytes agent =
+    (file_limit < length bytes) ⊎ ((why : PropRefused) × (why ≢ text.NoMemory) × Reads bytes (Err why))
+    ⊎ ((pairs : List Pair) × Reads bytes (Ok pairs) × IsUnplanned pairs agent)
 
 -- the input, the files and the disks' count of faults are as before
 pub record IsBeside (old new : HostState) : Type 0 where
@@ -92,7 +101,7 @@ pub record Checked (file : Option (List ℕ)) (agent : List ℕ) (old new : Host
   pub quiet : (status ≡ 2) ⊎ (status ≡ 5) → new.output ≡ old.output
   -- a count of faults rose: nothing was written, or a front of the plan's line
   pub stopped : status ≡ 3 → Rose old.faults new.faults
-  pub front : status ≡ 3 → (new.output ≡ old.output) ⊎ ((p : Plan) × ((bytes : List ℕ) → file ≡ Some bytes → IsPlanIn bytes agent p) × Fronts old.output new.output old.faults new.faults (plan_line agent p))
+  pub front : status ≡ 3 → (new.output ≡ old.output) ⊎ ((p : Plan) × ((bytes : List ℕ) → file ≡ Some bytes → (length bytes ≤ file_limit) × IsPlanIn bytes agent p) × Fronts old.output new.output old.faults new.faults (plan_line agent p))
   -- where nothing stopped it, standard output handed on all that was written, and no fault was counted
   pub handed : status ≡ 0 → new.handed ≡ new.output
   pub well : (status ≡ 0) ⊎ (status ≡ 2) ⊎ (status ≡ 5) → new.faults ≡ old.faults

@@ -98,8 +98,8 @@ fn print<H: Host>(host: &mut H, text: &str) -> Result<(), Failed>
 pub fn check<H: Host>(alloc: Global, agent: &str, file: &str, host: &mut H) -> Result<(), RunError>
     ensures checked { Checked ((H.state host.old).files file.now) agent.now (H.state host.old) (H.state host.new) (end_of result) }
     ensures status { IsCheckStatus (end_of result) }
-    ensures folders { H.folder host.new ≡ H.folder host.old }
-    ensures rolls { H.rolled host.new ≡ H.rolled host.old }
+    ensures named { KeepsNamed (H.folder host.old) (H.folder host.new) (H.room host.old) (H.room host.new) }
+    ensures rolls { KeepsNamed (H.rolled host.old) (H.rolled host.new) (H.roll_room host.old) (H.roll_room host.new) }
 {
     let bytes = match host.read_file(file) {
         Ok(bytes) => bytes,

@@ -88,7 +88,8 @@ pub fn pipe<H: Host>(alloc: Global, dir: &str, host: &mut H) -> Outcome
     ensures piped { Piped (H.state host.old) (H.state host.new) (H.folder host.old dir.now) (H.folder host.new dir.now) (H.state host.old).disk_faults (H.state host.new).disk_faults result.status result.accepted }
     ensures status { IsPipeStatus result.status }
     ensures others { (path : List ℕ) → path ≢ dir.now → H.folder host.new path ≡ H.folder host.old path }
-    ensures rolls { H.rolled host.new ≡ H.rolled host.old }
+    ensures no_more { (path : List ℕ) → path ≢ dir.now → H.room host.new path → H.room host.old path }
+    ensures rolls { KeepsNamed (H.rolled host.old) (H.rolled host.new) (H.roll_room host.old) (H.roll_room host.new) }
 {
     match host.open_disk(dir) {
         Ok(disk) => {

@@ -71,7 +71,8 @@ fn run_pipe<H: Host>(alloc: Global, dir: &str, host: &mut H) -> Outcome
     ensures piped { Piped (H.state host.old) (H.state host.new) (H.folder host.old dir.now) (H.folder host.new dir.now) (H.state host.old).disk_faults (H.state host.new).disk_faults result.status result.accepted }
     ensures status { IsPipeStatus result.status }
     ensures others { (path : List ℕ) → path ≢ dir.now → H.folder host.new path ≡ H.folder host.old path }
-    ensures rolls { H.rolled host.new ≡ H.rolled host.old }
+    ensures no_more { (path : List ℕ) → path ≢ dir.now → H.room host.new path → H.room host.old path }
+    ensures rolls { KeepsNamed (H.rolled host.old) (H.rolled host.new) (H.roll_room host.old) (H.roll_room host.new) }
 {
     let outcome = pipe(alloc, dir, host);
     say_end(alloc, dir, host, outcome.status);
@@ -82,8 +83,8 @@ fn run_pipe<H: Host>(alloc: Global, dir: &str, host: &mut H) -> Outcome
 fn run_check<H: Host>(alloc: Global, agent: &str, file: &str, host: &mut H) -> Outcome
     ensures checked { Checked ((H.state host.old).files file.now) agent.now (H.state host.old) (H.state host.new) result.status }
     ensures status { IsCheckStatus result.status }
-    ensures folders { H.folder host.new ≡ H.folder host.old }
-    ensures rolls { H.rolled host.new ≡ H.rolled host.old }
+    ensures named { KeepsNamed (H.folder host.old) (H.folder host.new) (H.room host.old) (H.room host.new) }
+    ensures rolls { KeepsNamed (H.rolled host.old) (H.rolled host.new) (H.roll_room host.old) (H.roll_room host.new) }
     ensures none { result.accepted ≡ 0 }
 {
     match check(alloc, agent, file, host) {
@@ -99,8 +100,8 @@ fn run_check<H: Host>(alloc: Global, agent: &str, file: &str, host: &mut H) -> O
 fn refuse<H: Host>(alloc: Global, host: &mut H, error: &RunError) -> Outcome
     ensures status { result.status ≡ status_of error.now }
     ensures state { H.state host.new ≡ H.state host.old }
-    ensures folders { H.folder host.new ≡ H.folder host.old }
-    ensures rolls { H.rolled host.new ≡ H.rolled host.old }
+    ensures named { KeepsNamed (H.folder host.old) (H.folder host.new) (H.room host.old) (H.room host.new) }
+    ensures rolls { KeepsNamed (H.rolled host.old) (H.rolled host.new) (H.roll_room host.old) (H.roll_room host.new) }
     ensures none { result.accepted ≡ 0 }
 {
     say_error(alloc, host, error);
@@ -116,21 +117,25 @@ pub fn run_agent<H: Host>(alloc: Global, words: &[String], host: &mut H) -> Outc
     // The words are a command that runs, or the status is 1 and nothing was touched; want of memory may come before.
     ensures usage { result.status ≡ 1 → IsNoCommand (texts words.now) }
     ensures no_command { IsNoCommand (texts words.now) → (result.status ≡ 1) ⊎ (result.status ≡ 5) }
-    ensures nothing { IsNoCommand (texts words.now) → (H.state host.new ≡ H.state host.old) × (H.folder host.new ≡ H.folder host.old) × (result.accepted ≡ 0) }
+    ensures nothing { IsNoCommand (texts words.now) → (H.state host.new ≡ H.state host.old) × (result.accepted ≡ 0) }
+    ensures nothing_opened { IsNoCommand (texts words.now) → KeepsNamed (H.folder host.old) (H.folder host.new) (H.room host.old) (H.room host.new) }
 
     // What `pipe` read, wrote and stored, and when each status comes.
     ensures piped { (dir : List ℕ) → IsPipe (texts words.now) dir
         → Piped (H.state host.old) (H.state host.new) (H.folder host.old dir) (H.folder host.new dir) (H.state host.old).disk_faults (H.state host.new).disk_faults result.status result.accepted }
     ensures pipe_statuses { (dir : List ℕ) → IsPipe (texts words.now) dir → IsPipeStatus result.status }
     ensures others { (dir : List ℕ) → IsPipe (texts words.now) dir → (path : List ℕ) → path ≢ dir → H.folder host.new path ≡ H.folder host.old path }
+    ensures no_more { (dir : List ℕ) → IsPipe (texts words.now) dir → (path : List ℕ) → path ≢ dir → H.room host.new path → H.room host.old path }
 
     // What `check` found in the file and wrote, and when each status comes.
     ensures checked { (agent file : List ℕ) → IsCheck (texts words.now) agent file
         → Checked ((H.state host.old).files file) agent (H.state host.old) (H.state host.new) result.status }
     ensures check_statuses { (agent file : List ℕ) → IsCheck (texts words.now) agent file → IsCheckStatus result.status }
-    ensures folders { (agent file : List ℕ) → IsCheck (texts words.now) agent file → (H.folder host.new ≡ H.folder host.old) × (result.accepted ≡ 0) }
+    ensures none { (agent file : List ℕ) → IsCheck (texts words.now) agent file → result.accepted ≡ 0 }
+    ensures unopened { (agent file : List ℕ) → IsCheck (texts words.now) agent file → KeepsNamed (H.folder host.old) (H.folder host.new) (H.room host.old) (H.room host.new) }
 
-    ensures rolls { H.rolled host.new ≡ H.rolled host.old }
+    // No folder of rolled files was opened, and each is as before.
+    ensures rolls { KeepsNamed (H.rolled host.old) (H.rolled host.new) (H.roll_room host.old) (H.roll_room host.new) }
 {
     match read_words(alloc, words) {
         Ok(Some(Command::Pipe { dir })) => run_pipe(alloc, dir.as_str(), host),
