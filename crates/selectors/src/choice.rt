@@ -6,8 +6,8 @@ ghost use Rattle.selectors.specs.Choices.{without, places_below, mapped};
 use event_core::NoMemory;
 use std::alloc::Global;
 
-// Whether a place is among these.
-fn is_among(places: &[u32], place: u32) -> bool
+/// Whether a place is among these.
+pub fn is_among(places: &[u32], place: u32) -> bool
     ensures { result ≡ is_among places.now place }
 {
     for i in 0..places.len() {

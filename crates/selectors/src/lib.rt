@@ -4,6 +4,7 @@
 mod choice;
 mod selector;
 
+pub use choice::is_among;
 pub use selector::{Choice, Selector, select};
 
 #[cfg(test)]

@@ -1,0 +1,9 @@
+use Rattle.regex.proofs.ReplaceLemmas.{IfOk-weaker}
+use Rattle.regex.specs.Bytes.{IsWrittenBy}
+use Rattle.regex_steps.proofs.patterns.replace_in_bytes.Goals as goal
+
+pub returns : goal.returns
+returns c =
+    IfOk-weaker (λ out. IsWrittenBy c.in_ok-template.template _ _ out.items) _
+    (λ out written. rw (← c.as_bytes.ensures.value, ← c.capture_names.ensures, ← c.in_ok-matcher.ensures.pattern) (written.read _ _ c.in_ok-template.ensures.read))
+    _ c.replace_all.ensures.written

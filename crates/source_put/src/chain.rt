@@ -1,0 +1,119 @@
+// A chain of interceptors.
+ghost use Rattle.std.specs.Prelude.{◌≡◌, length};
+ghost use Rattle.source_put.specs.Chains.{Intercepts, Links, Passes, host_text};
+
+use event_core::{Batch, Event, EventRefused};
+use interceptors::{Step, apply};
+use std::alloc::Global;
+
+/// The name and the address of this host.
+#[derive(Debug, Drop)]
+pub struct HostNames {
+    pub name: String,
+    pub address: String,
+}
+
+/// One interceptor.
+#[derive(Drop)]
+pub enum ChainLink {
+    /// One that sets or removes headers.
+    Step(Step),
+}
+
+/// Interceptors in their order (Flume User Guide, "Flume Interceptors").
+#[derive(Drop)]
+pub struct Chain {
+    pub links: Vec<ChainLink>,
+}
+
+/// What became of an event.
+#[derive(Drop)]
+pub enum Passed {
+    /// This event goes on in its place.
+    Event(Event),
+    /// No event goes on.
+    Dropped,
+    /// An event of this size would have been made, which is more than an event may have.
+    TooLarge { size: u64 },
+    /// Want of memory.
+    NoMemory,
+}
+
+/// Why no event of a batch goes on.
+#[derive(Clone, Copy, Debug, PartialEq, Eq)]
+pub enum Stopped {
+    /// An event of this size would have been made, which is more than an event may have.
+    TooLarge { size: u64 },
+    /// Want of memory.
+    NoMemory,
+}
+
+// What a step is told of the host.
+fn host_text<'a>(step: &Step, host: &'a HostNames) -> &'a str
+    ensures { result.now ≡ host_text step.now host.now }
+{
+    match step {
+        Step::Host { use_ip: true, .. } => host.address.as_str(),
+        Step::Host { use_ip: false, .. } => host.name.as_str(),
+        _ => "",
+    }
+}
+
+// An event passes an interceptor.
+fn pass_link(link: &mut ChainLink, event: Event, moment: u64, host: &HostNames) -> Passed
+    ensures { Links moment host.now link.old event result link.new }
+{
+    match link {
+        ChainLink::Step(step) => match apply(step, event, moment, host_text(step, host)) {
+            Ok(event) => Passed::Event(event),
+            Err(EventRefused::TooLarge { size }) => Passed::TooLarge { size },
+            Err(_) => Passed::NoMemory,
+        },
+    }
+}
+
+// An event passes interceptors.
+fn pass_event(links: &mut [ChainLink], event: Event, moment: u64, host: &HostNames) -> Passed
+    ensures passes { Passes moment host.now links.old event result links.new }
+    ensures len { length links.new ≡ length links.old }
+{
+    let mut event = event;
+    for place in 0..links.len() {
+        match pass_link(&mut links[place], event, moment, host) {
+            Passed::Event(made) => event = made,
+            Passed::Dropped => return Passed::Dropped,
+            Passed::TooLarge { size } => return Passed::TooLarge { size },
+            Passed::NoMemory => return Passed::NoMemory,
+        }
+    }
+    Passed::Event(event)
+}
+
+impl Chain {
+    /// The events of a batch pass the interceptors, in order.
+    pub(crate) fn pass(
+        &mut self,
+        alloc: Global,
+        batch: Batch,
+        moment: u64,
+        host: &HostNames,
+    ) -> Result<Batch, Stopped>
+        ensures { Intercepts moment host.now self.old.links.items batch result self.new.links.items }
+    {
+        let mut left = batch;
+        let mut kept = Batch::new(alloc);
+        while let Some(event) = left.take_first() {
+            match pass_event(self.links.as_mut_slice(), event, moment, host) {
+                Passed::Event(event) => {
+                    if kept.push(event).is_err() {
+                        return Err(Stopped::NoMemory);
+                    }
+                }
+                Passed::Dropped => {}
+                Passed::TooLarge { size } => return Err(Stopped::TooLarge { size }),
+                Passed::NoMemory => return Err(Stopped::NoMemory),
+            }
+        }
+        Ok(kept)
+    }
+}

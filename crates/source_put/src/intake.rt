@@ -1,0 +1,126 @@
+// Where the batches of a source go.
+ghost use Rattle.std.specs.Prelude.{◌≡◌, ◌⊎◌, ◌<◌, ◌^◌, IfOk, length};
+ghost use Rattle.source_put.specs.Accepts.{Accepts, Gives, NamesBelow, is_want, verdict_of};
+ghost use Rattle.source_put.specs.Tries.{Puts};
+
+use crate::chain::{Chain, HostNames, Stopped};
+use crate::pick::pick;
+use crate::put::{Refusal, give_all};
+use channel_face::{BeginRefused, FaceRefused, PutFace, PutRefused};
+use event_core::{Batch, NoMemory};
+use selectors::Selector;
+use std::alloc::Global;
+
+/// What became of a batch.
+#[derive(Clone, Copy, Debug, PartialEq, Eq)]
+pub enum Verdict {
+    /// Each channel that has to take some of its events took them.
+    Taken,
+    /// A channel that has to take some of its events refused them. Those before it took theirs.
+    Refused {
+        /// Its place among the channels of the source, from 0.
+        channel: u32,
+        /// Its reply.
+        cause: FaceRefused,
+    },
+    /// The chain would have made an event of this size, which is more than an event may have. No channel was given any.
+    TooLarge {
+        size: u64,
+    },
+    /// Want of memory. The channels before the one that wanted it took their events.
+    NoMemory,
+}
+
+/// Takes the batches of a source: the chain is applied to the events, and the selector names the channels of each.
+#[derive(Drop)]
+pub struct Intake<F: PutFace + Drop> {
+    alloc: Global,
+    chain: Chain,
+    selector: Selector,
+    host: HostNames,
+    ports: Vec<F>,
+    ghost few: { length ports.items < 2 ^ 32 },
+}
+
+// Whether a channel refused for want of memory.
+fn is_want(cause: &FaceRefused) -> bool
+    ensures { result ≡ is_want cause.now }
+{
+    matches!(
+        cause,
+        FaceRefused::Begin(BeginRefused::NoMemory) | FaceRefused::Put(PutRefused::NoMemory)
+    )
+}
+
+// By the first channel that refused.
+fn verdict_of(refusal: Option<Refusal>) -> Verdict
+    ensures { result ≡ verdict_of refusal }
+{
+    match refusal {
+        None => Verdict::Taken,
+        Some(Refusal { channel, cause }) => {
+            if is_want(&cause) {
+                Verdict::NoMemory
+            } else {
+                Verdict::Refused { channel, cause }
+            }
+        }
+    }
+}
+
+impl<F: PutFace + Drop> Intake<F> {
+    /// Takes batches into these channels, which are in the order of the source's. The selector names them by their places.
+    pub fn new(
+        alloc: Global,
+        chain: Chain,
+        selector: Selector,
+        host: HostNames,
+        ports: Vec<F>,
+    ) -> Result<Intake<F>, NoMemory>
+        requires few { length ports.items < 2 ^ 32 }
+        requires named { NamesBelow selector (length ports.items) }
+        ensures { IfOk result (λ intake. (intake.chain ≡ chain) × (intake.selector ≡ selector) × (intake.host ≡ host) × (intake.ports ≡ ports)) }
+    {
+        Ok(Intake {
+            alloc,
+            chain,
+            selector,
+            host,
+            ports,
+        })
+    }
+
+    // The verdict on events that passed the chain.
+    fn give(&mut self, batch: &Batch) -> Verdict
+        requires { length batch.now < 2 ^ 32 }
+        ensures gives { Gives (Puts F.own F.saw F.seen) self.old.selector batch.now self.old.ports.items self.new.ports.items result ⊎ ((result ≡ Verdict.NoMemory) × (self.new.ports.items ≡ self.old.ports.items)) }
+        ensures same { (self.new.selector ≡ self.old.selector) × (self.new.host ≡ self.old.host) × (self.new.chain ≡ self.old.chain) }
+    {
+        let ports = self.ports.as_mut_slice();
+        let Ok(picked) = pick(self.alloc, &self.selector, batch, ports.len() as u32) else {
+            return Verdict::NoMemory;
+        };
+        let required = picked.required.as_slice();
+        verdict_of(give_all(ports, batch, required, picked.optional.as_slice()))
+    }
+
+    /// Takes a batch at a moment, in milliseconds since 1970.
+    pub fn accept(&mut self, batch: Batch, moment: u64) -> Verdict
+        requires { length batch < 2 ^ 32 }
+        ensures accepts { Accepts (Puts F.own F.saw F.seen) self.old.selector moment self.old.host self.old.chain.links.items batch self.old.ports.items result self.new.chain.links.items self.new.ports.items }
+        ensures same { (self.new.selector ≡ self.old.selector) × (self.new.host ≡ self.old.host) }
+    {
+        match self.chain.pass(self.alloc, batch, moment, &self.host) {
+            Ok(batch) => self.give(&batch),
+            Err(Stopped::TooLarge { size }) => Verdict::TooLarge { size },
+            Err(Stopped::NoMemory) => Verdict::NoMemory,
+        }
+    }
+
+    /// Hands the channels back, in order. It takes no memory.
+    pub fn close(self) -> Vec<F>
+        ensures { result ≡ self.ports }
+    {
+        self.ports
+    }
+}

@@ -1,0 +1,11 @@
+//! How a source puts a batch of events: they pass a chain of interceptors, a selector names the channels of each, and each
+//! channel is given its own in one transaction.
+#![tactic(auto)]
+
+mod chain;
+mod intake;
+mod pick;
+mod put;
+
+pub use chain::{Chain, ChainLink, HostNames, Passed, Stopped};
+pub use intake::{Intake, Verdict};
