@@ -1,0 +1,4 @@
+pub mod Ranking
+pub mod Scheduler
+pub mod Deliveries
+pub mod Laws

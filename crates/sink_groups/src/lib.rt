@@ -1,0 +1,15 @@
+//! Groups of sinks: which member is handed a batch, and which are left alone for a time after they failed.
+#![tactic(auto)]
+
+mod laws;
+mod ranking;
+mod rules;
+mod run;
+mod schedule;
+mod sink;
+mod standing;
+
+pub use laws::{leaves_alone_after_a_failure, tries_all_that_are_due};
+pub use rules::{GroupKind, GroupRefused, GroupRules};
+pub use run::GroupRun;
+pub use sink::GroupSink;

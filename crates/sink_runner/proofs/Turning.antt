@@ -1,0 +1,98 @@
+-- Calls of a face, one after the other, in a turn.
+use Rattle.std.proofs.Common.{◌≡◌, ◌∙◌, ◌<◌, ◌≤◌, ◌⊎◌, inl, inr, ap, sym, refl, subst, ℕ, List, [], ◌∷◌, ◌++◌, length, take, append-nil, append_assoc, Bool, true, false, Option, Some, None, Result, Ok, Err, arith}
+use Rattle.std.proofs.lemmas.List.{length-append, take-append-le, take_all}
+use Rattle.std.proofs.lemmas.Bool.{cases_order}
+use Rattle.event_core.specs.Content.{Content}
+use Rattle.channel_face.specs.Faces.{Own, Gains, IsMade, IsTakeBegun, IsTake, IsTakeRolledBack}
+use Rattle.channel_face.specs.Machine.{State, Call}
+use Rattle.channel_face.specs.Token.{Token}
+use Rattle.channel_face.specs.declared.replies.FaceRefused.{FaceRefused}
+use Rattle.plug_in.specs.declared.sink.SinkRefused.{SinkRefused}
+use Rattle.sink_runner.specs.declared.turn.Turn.{Turn}
+use Rattle.sink_runner.specs.Turns.{HasRoom, HadRoom, AreTaken, EndsTaking, AreTakenUpTo, IsHandedOver, IsTurn}
+
+-- no call
+pub gains_none : (own : List Own → Type 0) → Gains own own (λ more. more ≡ [])
+gains_none own calls is = ([], subst own (sym (append-nil calls)) is, refl)
+
+-- calls, and then further ones
+pub gains_then : (before between later : List Own → Type 0) (P Q R : List Own → Type 0) → Gains before between P → Gains between later Q → ((x y : List Own) → P x → Q y → R (x ++ y)) → Gains before later R
+gains_then before between later P Q R first second join calls is =
+    let a = first calls is in
+    let b = second (calls ++ a.0) a.1 in
+    (a.0 ++ b.0, subst later (append_assoc calls a.0 b.0) b.1, join a.0 b.0 a.2 b.2)
+
+-- the same of three rows of calls
+pub gains_three : (a b c d : List Own → Type 0) (P Q R T : List Own → Type 0) → Gains a b P → Gains b c Q → Gains c d R → ((x y z : List Own) → P x → Q y → R z → T (x ++ (y ++ z))) → Gains a d T
+gains_three a b c d P Q R T first second third join =
+    let Both : List Own → Type 0 = λ l. ((y z : List Own) × (l ≡ y ++ z) × Q y × R z) in
+    let both : Gains b d Both = gains_then b c d Q R Both second third (λ y z p q. (y, z, refl, p, q)) in
+    gains_then a b d P Both T first both (λ x l p q. subst (λ (m : List Own). T (x ++ m)) (sym q.2) (join x q.0 q.1 p q.3 q.4))
+
+pub gains_so : (before later : List Own → Type 0) (P Q : List Own → Type 0) → Gains before later P → ((x : List Own) → P x → Q x) → Gains before later Q
+gains_so before later P Q gained weaker calls is = let a = gained calls is in (a.0, a.1, weaker a.0 a.2)
+
+made_later : (seen later : ℕ) → seen ≤ later → (spent : Bool) (call : Call) (s : State) (own : List Own) → IsMade seen spent call s own → IsMade later spent call s own
+made_later seen later up false call s own is = is
+made_later seen later up true call s own is = (is.0, omega (arith, is.1))
+
+pub begun_later : (seen later : ℕ) → seen ≤ later → (begun : Result Token FaceRefused) (own : List Own) → IsTakeBegun seen begun own → IsTakeBegun later begun own
+begun_later seen later up begun own is = (is.0, is.1, made_later seen later up _ _ is.1 own is.2, is.3)
+
+pub take_later : (seen later : ℕ) → seen ≤ later → (token : Token) (taken : Result (Option Content) FaceRefused) (own : List Own) → IsTake seen token taken own → IsTake later token taken own
+take_later seen later up token taken own is = (is.0, is.1, made_later seen later up _ _ is.1 own is.2, is.3)
+
+pub taken_later : (seen later : ℕ) → seen ≤ later → (token : Token) (events : List Content) (own : List Own) → AreTaken seen token events own → AreTaken later token events own
+taken_later seen later up token [] own is = is
+taken_later seen later up token (event ∷ events) own is = (is.0, is.1, is.2, take_later seen later up token (Ok (Some event)) is.0 is.3, taken_later seen later up token events is.1 is.4)
+
+pub ends_later : (seen later : ℕ) → seen ≤ later → (token : Token) (batch : ℕ) (events : List Content) (stop : Result (Unit {0}) Turn) (own : List Own) → EndsTaking seen token batch events stop own → EndsTaking later token batch events stop own
+ends_later seen later up token batch events (Ok done) own (inl full) = inl full
+ends_later seen later up token batch events (Ok done) own (inr none) = inr (none.0, take_later seen later up token (Ok None) own none.1)
+ends_later seen later up token batch events (Err turn) own (inl refused) = inl (refused.0, (refused.1.0, take_later seen later up token (Err refused.1.0) own refused.1.1, refused.1.2))
+ends_later seen later up token batch events (Err turn) own (inr memory) = inr memory
+
+pub up_to_later : (seen later : ℕ) → seen ≤ later → (token : Token) (batch : ℕ) (events : List Content) (stop : Result (Unit {0}) Turn) (own : List Own) → AreTakenUpTo seen token batch events stop own → AreTakenUpTo later token batch events stop own
+up_to_later seen later up token batch events stop own is =
+    (is.0, (is.1.0, is.1.1, is.1.2, taken_later seen later up token events is.1.0 is.1.3, ends_later seen later up token batch events stop is.1.1 is.1.4))
+
+-- one more event
+pub taken_more : (seen : ℕ) (token : Token) (events : List Content) (event : Content) (own last : List Own) → AreTaken seen token events own → IsTake seen token (Ok (Some event)) last → AreTaken seen token (events ++ event ∷ []) (own ++ last)
+taken_more seen token [] event own last are is =
+    (last, [], ap (λ (l : List Own). l ++ last) are ∙ sym (append-nil last), is, refl)
+taken_more seen token (first ∷ events) event own last are is =
+    (are.0, are.1 ++ last, ap (λ (l : List Own). l ++ last) are.2 ∙ append_assoc are.0 are.1 last, are.3, taken_more seen token events event are.1 last are.4 is)
+
+room_at : (batch : ℕ) (events : List Content) → HadRoom batch events → HasRoom batch events → (k : ℕ) → (k ≡ length events) ⊎ ((k < length events) ⊎ (length events < k)) → k ≤ length events → HasRoom batch (take k events)
+room_at batch events had has k (inl all) within = subst (HasRoom batch) (sym (ap (λ (n : ℕ). take n events) all ∙ take_all (length events) events (omega arith))) has
+room_at batch events had has k (inr (inl below)) within = had k below
+room_at batch events had has k (inr (inr above)) within = absurd (omega arith)
+
+pub room_more : (batch : ℕ) (events : List Content) (event : Content) → HadRoom batch events → HasRoom batch events → HadRoom batch (events ++ event ∷ [])
+room_more batch events event had has k below =
+    let within : k ≤ length events = omega (arith, below, length-append events (event ∷ [])) in
+    subst (HasRoom batch) (sym (take-append-le k events (event ∷ []) within)) (room_at batch events had has k (cases_order k (length events)) within)
+
+module _ {S : Type 0} (saw : State → Type 0) (delivers : S → List Content → ℕ → Result (Unit {0}) SinkRefused → S → Type 0) (batch moment : ℕ) (sink after : S) (first second seen : ℕ) (early : first ≤ seen) (late : second ≤ seen) (token : Token) (turn : Turn) where
+  -- what was taken is handed over
+  pub turn_handed : (events : List Content) (x y z : List Own) → IsTakeBegun first (Ok token) x → AreTakenUpTo second token batch events (Ok tt) y → IsHandedOver saw seen delivers token events moment sink turn after z → IsTurn saw seen delivers batch moment sink turn after (x ++ (y ++ z))
+  turn_handed events x y z begun taken handed =
+      (Ok token, x, y ++ z, refl, begun_later first seen early (Ok token) x begun, (events, Ok tt, y, z, refl, up_to_later second seen late token batch events (Ok tt) y taken, handed))
+
+  -- the turn is over
+  pub turn_over : (x y z : List Own) → IsTakeBegun first (Ok token) x → ((events : List Content) × AreTakenUpTo second token batch events (Err turn) y) → IsTakeRolledBack saw token z → after ≡ sink → IsTurn saw seen delivers batch moment sink turn after (x ++ (y ++ z))
+  turn_over x y z begun taken rolled same =
+      (Ok token, x, y ++ z, refl, begun_later first seen early (Ok token) x begun, (taken.0, Err turn, y, z, refl, up_to_later second seen late token batch taken.0 (Err turn) y taken.1, (rolled, refl, same)))
+
+module _ (a b c : List Own → Type 0) (before seen : ℕ) (up : before ≤ seen) (token : Token) (events : List Content) (so_far : Gains a b (AreTaken before token events)) where
+  -- a take gave one more event
+  pub one_taken : (event : Content) → Gains b c (IsTake seen token (Ok (Some event))) → Gains a c (AreTaken seen token (events ++ event ∷ []))
+  one_taken event more =
+      gains_then a b c (AreTaken before token events) (IsTake seen token (Ok (Some event))) (AreTaken seen token (events ++ event ∷ [])) so_far more
+      (λ x y p q. taken_more seen token events event x y (taken_later before seen up token events x p) q)
+
+  -- the takes ended
+  pub taken_all : (batch : ℕ) (stop : Result (Unit {0}) Turn) (P : List Own → Type 0) → HadRoom batch events → Gains b c P → ((y : List Own) → P y → EndsTaking seen token batch events stop y) → Gains a c (AreTakenUpTo seen token batch events stop)
+  taken_all batch stop P had last ends =
+      gains_then a b c (AreTaken before token events) P (AreTakenUpTo seen token batch events stop) so_far last
+      (λ x y p q. (had, (x, y, refl, taken_later before seen up token events x p, ends y q)))

@@ -1,0 +1,18 @@
+use Rattle.std.proofs.Common.{◌≡◌, ◌≤◌, ◌-◌, length}
+use Rattle.std.specs.List.{sum_by}
+use Rattle.event_core.specs.Content as content
+use Rattle.channel_face.specs.Faces.{Gains}
+use Rattle.sink_runner.specs.Turns.{HadRoom, AreTaken}
+use Rattle.sink_runner.proofs.take.take_events.Given as goal
+
+abbrev pub invariant-loop-from : goal.invariant-loop-from
+invariant-loop-from g l = record {
+  seen : g.T.TakeFace.seen l.initial.from ≤ g.T.TakeFace.seen l.from;
+  same : l.txn ≡ l.initial.txn;
+  size : l.size ≡ sum_by content.size l.taken;
+  had : HadRoom l.most l.taken;
+  calls : Gains (g.T.TakeFace.own l.initial.from) (g.T.TakeFace.own l.from) (AreTaken (g.T.TakeFace.seen l.from) l.initial.txn l.taken);
+}
+
+abbrev pub decreases-loop-from : goal.decreases-loop-from
+decreases-loop-from g l = l.most - length l.taken

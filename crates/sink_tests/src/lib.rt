@@ -1,0 +1,13 @@
+//! Tests of sinks: groups, turns over a channel in memory, rolled files with failing calls, and objects that are handed in.
+#![tactic(auto)]
+
+#[cfg(test)]
+mod fixtures;
+#[cfg(test)]
+mod groups;
+#[cfg(test)]
+mod plugins;
+#[cfg(test)]
+mod schedules;
+#[cfg(test)]
+mod turns;
