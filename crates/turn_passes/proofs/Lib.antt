@@ -1,0 +1,4 @@
+mod Histories
+mod Moves
+mod Shares
+mod Making
