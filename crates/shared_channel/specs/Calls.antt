@@ -1,0 +1,81 @@
+-- What a call through a pass did.
+use Rattle.std.specs.Prelude.{◌≡◌, ◌<◌, ◌≤◌, ◌-◌, ◌^◌, ◌⊎◌, ℕ, List, [], ◌∷◌, ◌++◌, length, Bool, true, false, Option, None, Result, Ok, Err, MatchBool}
+use Rattle.atomic_table.specs.Table.{Me}
+use Rattle.channel_face.specs.Token.{Token}
+use Rattle.channel_face.specs.Machine.{State, Call, Flush}
+use Rattle.channel_face.specs.History.{Opening, Step, opening, state_after, IsRun}
+use Rattle.channel_face.specs.declared.replies.FlushRefused.{FlushRefused}
+use Rattle.turn_passes.specs.Calls.{has}
+use Rattle.turn_passes.specs.Views.{View, counted}
+use Rattle.turn_passes.specs.Turns.{Making, Made}
+use Rattle.shared_channel.specs.Counting.{StandsCounting, Keeps}
+
+-- a call of the pass with this number
+abbrev pub step : ℕ → Call → ℕ → Step
+step by call moment = record { pass = by; call = call; moment = moment }
+
+-- the state that the pass has seen
+abbrev pub state_seen : View → State
+state_seen v = state_after (opening v.base) v.seen
+
+-- Nothing was called. What was seen may be more, and has no further call of one's own.
+abbrev pub Looked : View → View → Type 0
+Looked v w = Made v [] w
+
+-- The seat has no turn.
+abbrev pub IsOut : {S : Type 0} → Me S View → Type 0
+IsOut m = (m.0.turn ≡ false) × (m.1 ≡ []) × (m.0.live ≡ true)
+
+-- The seat has the turn, and took this channel out.
+abbrev pub IsIn : {S C : Type 0} → (C → Opening → List Step → Type 0) → Me (Option S) View → C → Type 0
+IsIn stands m c = (m.0.turn ≡ true) × (m.0.live ≡ true) × (m.1 ≡ (0, None) ∷ []) × Keeps stands c m.0.base m.0.seen
+
+-- the call, where it was made
+abbrev pub made_if : Bool → Step → List Step
+made_if true s = s ∷ []
+made_if false s = []
+
+-- A call that is spent was not made, since so many calls were counted.
+abbrev pub Bounds : Bool → ℕ → ℕ → Type 0
+Bounds true most calls = most ≤ calls
+Bounds false most calls = calls < most
+
+-- In its turn a seat made a call or not, and the channel is then this one.
+pub record Makes {S C : Type 0} (stands : C → Opening → List Step → Type 0) (made : Bool) (s : Step) (m : Me (Option S) View) (d : C) (w : Me (Option S) View) : Type 0 where
+  pub within : IsIn stands w d
+  pub seen : w.0.seen ≡ m.0.seen ++ made_if made s
+  pub goes_on : (v : View) (es : List Step) → Making v es m.0 → has v.numbers s.pass ≡ true → Making v (es ++ made_if made s) w.0
+
+module _ {C : Type 0} (stands : C → Opening → List Step → Type 0) (tells : C → Bool) where
+  -- This channel stands for what was seen, of which each call was answered as the machine answers it there.
+  pub record IsSeen (c : C) (w : View) : Type 0 where
+    pub calls : StandsCounting stands c w.base w.seen
+    pub run : IsRun (tells c) (opening w.base) w.seen
+
+  -- The pass made these calls in one turn, and left the channel so.
+  pub record Left (v : View) (calls : List Step) (w : View) (c : C) : Type 0 where
+    pub made : Made v calls w
+    pub seen : IsSeen c w
+
+module _ {C : Type 0} (stands : C → Opening → List Step → Type 0) (tells : C → Bool) (moment : C → ℕ) where
+  -- it made this call
+  abbrev pub Called : View → ℕ → Call → View → Type 0
+  Called v by call w = (c : C) × Left stands tells v (step by call (moment c) ∷ []) w c
+
+  -- it made these two calls, and none was between
+  abbrev pub CalledTwice : View → ℕ → Call → Call → View → Type 0
+  CalledTwice v by one two w = (c : C) × (m : ℕ) × Left stands tells v (step by one m ∷ step by two (moment c) ∷ []) w c
+
+  -- A call that is spent was not made, since so many calls were counted; each other one was, while they were fewer.
+  abbrev pub Counted : Bool → ℕ → View → ℕ → Call → View → Type 0
+  Counted true most v by call w = Looked v w × (most ≤ length w.seen)
+  Counted false most v by call w = Called v by call w × (length w.seen ≤ most)
+
+  -- so it is with a call that no rollback needs the count for
+  abbrev pub Answers : Bool → View → ℕ → Call → View → Type 0
+  Answers spent v by call w = Counted spent (2 ^ 64 - 1025) v by call w
+
+  -- A rollback was made, or its token was stale.
+  abbrev pub RolledBack : Bool → View → ℕ → Call → (State → Type 0) → View → Type 0
+  RolledBack true v by call IsStale w = Called v by call w
+  RolledBack false v by call IsStale w = Looked v w × IsStale (state_seen w)

@@ -1,0 +1,12 @@
+//! A channel that threads share: any channel behind one turn, many callers, one legal history.
+#![tactic(auto)]
+
+mod home;
+mod making;
+mod pass;
+mod puts;
+mod shared;
+mod takes;
+
+pub use pass::Pass;
+pub use shared::Shared;
