@@ -1,10 +1,17 @@
 -- What a call through a pass did.
-use Rattle.std.specs.Prelude.{◌≡◌, ◌<◌, ◌≤◌, ◌-◌, ◌^◌, ◌⊎◌, ℕ, List, [], ◌∷◌, ◌++◌, length, Bool, true, false, Option, None, Result, Ok, Err, MatchBool}
+use Rattle.std.specs.Prelude.{◌≡◌, ◌<◌, ◌≤◌, ◌+◌, ◌-◌, ◌^◌, ℕ, List, [], ◌∷◌, ◌++◌, length, Bool, true, false, Option, None, Result, Ok, Err, MatchBool}
 use Rattle.atomic_table.specs.Table.{Me}
 use Rattle.channel_face.specs.Token.{Token}
-use Rattle.channel_face.specs.Machine.{State, Call, Flush}
-use Rattle.channel_face.specs.History.{Opening, Step, opening, state_after, IsRun}
-use Rattle.channel_face.specs.declared.replies.FlushRefused.{FlushRefused}
+use Rattle.channel_face.specs.Machine.{State, Call}
+use Rattle.channel_face.specs.History.{Opening, Step, Said, opening, state_after, IsRun, by_pass, calls}
+use Rattle.channel_face.specs.Calls.{IsCommit}
+use Rattle.channel_face.specs.Faces.{is_spent_stage}
+use Rattle.channel_face.specs.declared.replies.Counter.TheVariants.{Calls as CallsCount}
+use Rattle.channel_face.specs.declared.replies.Ticket.{Ticket}
+use Rattle.channel_face.specs.declared.replies.StageCause.{StageCause}
+use Rattle.channel_face.specs.declared.replies.StageCause.TheVariants.{Spent}
+use Rattle.channel_face.specs.declared.replies.CommitRefused.{CommitRefused}
+use Rattle.channel_face.specs.declared.replies.CommitRefused.TheVariants.{Stage}
 use Rattle.turn_passes.specs.Calls.{has}
 use Rattle.turn_passes.specs.Views.{View, counted}
 use Rattle.turn_passes.specs.Turns.{Making, Made}
@@ -40,11 +47,11 @@ abbrev pub Bounds : Bool → ℕ → ℕ → Type 0
 Bounds true most calls = most ≤ calls
 Bounds false most calls = calls < most
 
--- In its turn a seat made a call or not, and the channel is then this one.
-pub record Makes {S C : Type 0} (stands : C → Opening → List Step → Type 0) (made : Bool) (s : Step) (m : Me (Option S) View) (d : C) (w : Me (Option S) View) : Type 0 where
+-- In its turn a seat made these calls with this number, and the channel is then this one.
+pub record Makes {S C : Type 0} (stands : C → Opening → List Step → Type 0) (by : ℕ) (calls : List Step) (m : Me (Option S) View) (d : C) (w : Me (Option S) View) : Type 0 where
   pub within : IsIn stands w d
-  pub seen : w.0.seen ≡ m.0.seen ++ made_if made s
-  pub goes_on : (v : View) (es : List Step) → Making v es m.0 → has v.numbers s.pass ≡ true → Making v (es ++ made_if made s) w.0
+  pub seen : w.0.seen ≡ m.0.seen ++ calls
+  pub goes_on : (v : View) (es : List Step) → Making v es m.0 → has v.numbers by ≡ true → Making v (es ++ calls) w.0
 
 module _ {C : Type 0} (stands : C → Opening → List Step → Type 0) (tells : C → Bool) where
   -- This channel stands for what was seen, of which each call was answered as the machine answers it there.
@@ -62,10 +69,6 @@ module _ {C : Type 0} (stands : C → Opening → List Step → Type 0) (tells :
   abbrev pub Called : View → ℕ → Call → View → Type 0
   Called v by call w = (c : C) × Left stands tells v (step by call (moment c) ∷ []) w c
 
-  -- it made these two calls, and none was between
-  abbrev pub CalledTwice : View → ℕ → Call → Call → View → Type 0
-  CalledTwice v by one two w = (c : C) × (m : ℕ) × Left stands tells v (step by one m ∷ step by two (moment c) ∷ []) w c
-
   -- A call that is spent was not made, since so many calls were counted; each other one was, while they were fewer.
   abbrev pub Counted : Bool → ℕ → View → ℕ → Call → View → Type 0
   Counted true most v by call w = Looked v w × (most ≤ length w.seen)
@@ -79,3 +82,23 @@ module _ {C : Type 0} (stands : C → Opening → List Step → Type 0) (tells :
   abbrev pub RolledBack : Bool → View → ℕ → Call → (State → Type 0) → View → Type 0
   RolledBack true v by call IsStale w = Called v by call w
   RolledBack false v by call IsStale w = Looked v w × IsStale (state_seen w)
+
+-- a commit that was refused because no more calls are counted
+abbrev pub is_spent_commit : Result Ticket (CommitRefused Token) → Bool
+is_spent_commit (Err (Stage refused)) = is_spent_stage (Err refused.cause)
+is_spent_commit reply = false
+
+-- In its turn a seat made a commit, or it was spent.
+abbrev pub MakesCommit : {S C : Type 0} → (C → Opening → List Step → Type 0) → Bool → ℕ → (Result Ticket StageCause → Call) → Token → Result Ticket (CommitRefused Token) → Me (Option S) View → C → Me (Option S) View → Type 0
+MakesCommit stands true by stage token result m d w = Makes stands by [] m d w × (2 ^ 64 - 1026 ≤ length m.0.seen) × (result ≡ Err (Stage (record { txn = token; cause = Spent CallsCount })))
+MakesCommit stands false by stage token result m d w = (own : List Said) × Makes stands by (by_pass by own) m d w × IsCommit stage token (calls own) result × (length m.0.seen < 2 ^ 64 - 1026)
+
+-- The commit's calls were made while so many fewer were counted. Where it is spent, none was made and the token comes back.
+abbrev pub Commits : {C : Type 0} → (C → Opening → List Step → Type 0) → (C → Bool) → Bool → View → ℕ → (Result Ticket StageCause → Call) → Token → Result Ticket (CommitRefused Token) → View → Type 0
+Commits stands tells true v by stage token result w = Looked v w × (2 ^ 64 - 1026 ≤ length w.seen) × (result ≡ Err (Stage (record { txn = token; cause = Spent CallsCount })))
+Commits stands tells false v by stage token result w =
+    (own : List Said) × (c : _) × Left stands tells v (by_pass by own) w c × IsCommit stage token (calls own) result × (length w.seen < 2 ^ 64 - 1026 + length own)
+
+-- What the channel was seen to be: nothing was called, and it stands for all that is seen.
+abbrev pub Looks : {C : Type 0} → (C → Opening → List Step → Type 0) → (C → Bool) → View → View → Type 0
+Looks stands tells v w = (c : _) × Left stands tells v [] w c

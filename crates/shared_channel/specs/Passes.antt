@@ -1,5 +1,5 @@
 -- What contracts see of a pass.
-use Rattle.std.specs.Prelude.{◌≡◌, ◌+◌, ◌<◌, ◌≤◌, ℕ, zero, suc, List, [], ◌∷◌, ◌++◌, length, Bool, true, false, not, ◌&&◌, nat_lt}
+use Rattle.std.specs.Prelude.{◌≡◌, ◌+◌, ◌<◌, ◌≤◌, ℕ, zero, suc, List, [], ◌∷◌, ◌++◌, length, get_or, Bool, true, false}
 use Rattle.atomic_table.specs.Seated.{TableId}
 use Rattle.channel_face.specs.History.{Opening}
 use Rattle.turn_passes.specs.Calls.{has}
@@ -24,22 +24,12 @@ abbrev pub new_passes : TableId → Opening → ℕ → ℕ → List Known
 new_passes table start passes zero = []
 new_passes table start passes (suc n) = new_passes table start passes n ++ new_pass table start passes n ∷ []
 
-abbrev pub bool_eq : Bool → Bool → Bool
-bool_eq true b = b
-bool_eq false b = not b
-
--- the marks from this number on say which numbers there are
-abbrev pub are_marks : ℕ → List ℕ → List Bool → Bool
-are_marks n numbers [] = true
-are_marks n numbers (m ∷ ms) = bool_eq m (has numbers n) && are_marks (n + 1) numbers ms
-
--- each number is below
-abbrev pub are_below : ℕ → List ℕ → Bool
-are_below bound [] = true
-are_below bound (n ∷ ns) = nat_lt n bound && are_below bound ns
+-- the marks say which numbers there are
+abbrev pub AreMarks : List ℕ → List Bool → Type 0
+AreMarks numbers marks = (n : ℕ) → n < length marks → get_or marks n false ≡ has numbers n
 
 -- what holds of a pass: it has no turn, its next call's number is one of its own, and it knows how many calls it saw and which numbers it has
 abbrev pub IsPass : List View → ℕ → ℕ → List Bool → Type 0
 IsPass views number calls marks =
     (views ≡ view_of views ∷ []) × ((view_of views).turn ≡ false) × ((view_of views).live ≡ true) × (has (view_of views).numbers number ≡ true) × (calls ≡ length (view_of views).seen)
-    × (are_marks 0 (view_of views).numbers marks ≡ true) × (are_below (view_of views).passes (view_of views).numbers ≡ true) × (length marks ≡ (view_of views).passes)
+    × AreMarks (view_of views).numbers marks × ((n : ℕ) → has (view_of views).numbers n ≡ true → n < (view_of views).passes) × (length marks ≡ (view_of views).passes)

@@ -4,7 +4,7 @@ ghost use Rattle.channel_face.specs.Calls.{cause_of};
 ghost use Rattle.channel_face.specs.Faces.{is_spent_begin, is_spent_put, is_spent_take, is_spent_stage, is_spent_flush};
 ghost use Rattle.channel_face.specs.Machine.{BeginPut, BeginTake, Put, Take, StagePut, StageTake, Flush};
 ghost use Rattle.turn_passes.specs.Calls.{has};
-ghost use Rattle.shared_channel.specs.Calls.{IsIn, Makes, Bounds, step};
+ghost use Rattle.shared_channel.specs.Calls.{IsIn, Makes, Bounds, made_if, step};
 
 use crate::home::Home;
 use crate::shared::Shared;
@@ -32,7 +32,7 @@ impl<C: Channel> Shared<C> {
         requires own { has seat.old.me.0.numbers by ≡ true }
         requires calls { calls ≡ length seat.old.me.0.seen }
         ensures same { seat.new.table_id ≡ seat.old.table_id }
-        ensures makes { Makes C.stands (not (is_spent_begin result)) (step by (BeginPut result) (C.moment home.new.channel)) seat.old.me home.new.channel seat.new.me }
+        ensures makes { Makes C.stands by (made_if (not (is_spent_begin result)) (step by (BeginPut result) (C.moment home.new.channel))) seat.old.me home.new.channel seat.new.me }
         ensures bound { Bounds (is_spent_begin result) (2 ^ 64 - 1025) (length seat.old.me.0.seen) }
     {
         if calls >= MOST {
@@ -57,7 +57,7 @@ impl<C: Channel> Shared<C> {
         requires own { has seat.old.me.0.numbers by ≡ true }
         requires calls { calls ≡ length seat.old.me.0.seen }
         ensures same { seat.new.table_id ≡ seat.old.table_id }
-        ensures makes { Makes C.stands (not (is_spent_begin result)) (step by (BeginTake result) (C.moment home.new.channel)) seat.old.me home.new.channel seat.new.me }
+        ensures makes { Makes C.stands by (made_if (not (is_spent_begin result)) (step by (BeginTake result) (C.moment home.new.channel))) seat.old.me home.new.channel seat.new.me }
         ensures bound { Bounds (is_spent_begin result) (2 ^ 64 - 1025) (length seat.old.me.0.seen) }
     {
         if calls >= MOST {
@@ -84,7 +84,7 @@ impl<C: Channel> Shared<C> {
         requires own { has seat.old.me.0.numbers by ≡ true }
         requires calls { calls ≡ length seat.old.me.0.seen }
         ensures same { seat.new.table_id ≡ seat.old.table_id }
-        ensures makes { Makes C.stands (not (is_spent_put result)) (step by (Put txn.old event.now result) (C.moment home.new.channel)) seat.old.me home.new.channel seat.new.me }
+        ensures makes { Makes C.stands by (made_if (not (is_spent_put result)) (step by (Put txn.old event.now result) (C.moment home.new.channel))) seat.old.me home.new.channel seat.new.me }
         ensures bound { Bounds (is_spent_put result) (2 ^ 64 - 1025) (length seat.old.me.0.seen) }
         ensures token { txn.new ≡ txn.old }
     {
@@ -111,7 +111,7 @@ impl<C: Channel> Shared<C> {
         requires own { has seat.old.me.0.numbers by ≡ true }
         requires calls { calls ≡ length seat.old.me.0.seen }
         ensures same { seat.new.table_id ≡ seat.old.table_id }
-        ensures makes { Makes C.stands (not (is_spent_take result)) (step by (Take txn.old result) (C.moment home.new.channel)) seat.old.me home.new.channel seat.new.me }
+        ensures makes { Makes C.stands by (made_if (not (is_spent_take result)) (step by (Take txn.old result) (C.moment home.new.channel))) seat.old.me home.new.channel seat.new.me }
         ensures bound { Bounds (is_spent_take result) (2 ^ 64 - 1025) (length seat.old.me.0.seen) }
         ensures token { txn.new ≡ txn.old }
     {
@@ -138,7 +138,7 @@ impl<C: Channel> Shared<C> {
         requires own { has seat.old.me.0.numbers by ≡ true }
         requires calls { calls ≡ length seat.old.me.0.seen }
         ensures same { seat.new.table_id ≡ seat.old.table_id }
-        ensures makes { Makes C.stands (not (is_spent_stage (cause_of result))) (step by (StagePut txn (cause_of result)) (C.moment home.new.channel)) seat.old.me home.new.channel seat.new.me }
+        ensures makes { Makes C.stands by (made_if (not (is_spent_stage (cause_of result))) (step by (StagePut txn (cause_of result)) (C.moment home.new.channel))) seat.old.me home.new.channel seat.new.me }
         ensures bound { Bounds (is_spent_stage (cause_of result)) (2 ^ 64 - 1025) (length seat.old.me.0.seen) }
         ensures back { IfErr result (λ refused. refused.txn ≡ txn) }
     {
@@ -169,7 +169,7 @@ impl<C: Channel> Shared<C> {
         requires own { has seat.old.me.0.numbers by ≡ true }
         requires calls { calls ≡ length seat.old.me.0.seen }
         ensures same { seat.new.table_id ≡ seat.old.table_id }
-        ensures makes { Makes C.stands (not (is_spent_stage (cause_of result))) (step by (StageTake txn (cause_of result)) (C.moment home.new.channel)) seat.old.me home.new.channel seat.new.me }
+        ensures makes { Makes C.stands by (made_if (not (is_spent_stage (cause_of result))) (step by (StageTake txn (cause_of result)) (C.moment home.new.channel))) seat.old.me home.new.channel seat.new.me }
         ensures bound { Bounds (is_spent_stage (cause_of result)) (2 ^ 64 - 1025) (length seat.old.me.0.seen) }
         ensures back { IfErr result (λ refused. refused.txn ≡ txn) }
     {
@@ -199,7 +199,7 @@ impl<C: Channel> Shared<C> {
         requires own { has seat.old.me.0.numbers by ≡ true }
         requires calls { calls ≡ length seat.old.me.0.seen }
         ensures same { seat.new.table_id ≡ seat.old.table_id }
-        ensures makes { Makes C.stands (not (is_spent_flush result)) (step by (Flush result) (C.moment home.new.channel)) seat.old.me home.new.channel seat.new.me }
+        ensures makes { Makes C.stands by (made_if (not (is_spent_flush result)) (step by (Flush result) (C.moment home.new.channel))) seat.old.me home.new.channel seat.new.me }
         ensures bound { Bounds (is_spent_flush result) (2 ^ 64 - 1025) (length seat.old.me.0.seen) }
     {
         if calls >= MOST {

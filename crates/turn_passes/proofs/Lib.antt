@@ -1,4 +1,4 @@
-mod Histories
-mod Moves
-mod Shares
-mod Making
+pub mod Histories
+pub mod Moves
+pub mod Shares
+pub mod Making

@@ -219,8 +219,8 @@ module _ {C : Type 0} (stands : C → Opening → List Step → Type 0) (base : 
           (λ (p : (a.0 ≡ other) × (i ≡ id)). ⊎_elim (λ (q : b.0 ≡ j). absurd (b.4 (sym q ∙ sym e ∙ p.0))) (λ (q : (b.0 ≡ other) × (j ≡ id)). p.1 ∙ sym q.1) b.5)
           a.5
 
-  pub settles : (id : ℕ) (v w : View) → Allows (Kept stands base passes) 1 id (both v w, []) 0 (λ n. n) (Settles (step 1 0 0 0 maybe.none) (both v w, []))
-  settles id v w s k wide at small = (settled (both v w), keeps, tt, after, (refl, mine_has, theirs_has))
+  pub settles : (id : ℕ) (v w : View) → v.live ≡ true → Allows (Kept stands base passes) 1 id (both v w, []) 0 (λ n. n) (Settles (step 1 0 0 0 maybe.none) (both v w, []))
+  settles id v w live s k wide at small = (settled (both v w), keeps, tt, after, (refl, mine_has, theirs_has, λ n h. let lt = mine.drawn n h in let p = (mine.same live).1 in let r = k.room in omega arith))
     where
       mine : Fits k.log base passes k.turn k.holder k.dealt id (both v w)
       mine = k.fits id (both v w) at
@@ -258,8 +258,8 @@ module _ {C : Type 0} (stands : C → Opening → List Step → Type 0) (base : 
         apart = apart_set s.views id (both v w) (settled (both v w)) at (λ n h. h) k.apart;
       }
 
-  pub settles_as : (id : ℕ) (me : Me (Option C) View) (v w : View) → me ≡ (both v w, []) → Allows (Kept stands base passes) 1 id me 0 (λ n. n) (Settles (step 1 0 0 0 maybe.none) me)
-  settles_as id me v w is = subst (λ (m : Me (Option C) View). Allows (Kept stands base passes) 1 id m 0 (λ n. n) (Settles (step 1 0 0 0 maybe.none) m)) (sym is) (settles id v w)
+  pub settles_as : (id : ℕ) (me : Me (Option C) View) (v w : View) → v.live ≡ true → me ≡ (both v w, []) → Allows (Kept stands base passes) 1 id me 0 (λ n. n) (Settles (step 1 0 0 0 maybe.none) me)
+  settles_as id me v w live is = subst (λ (m : Me (Option C) View). Allows (Kept stands base passes) 1 id m 0 (λ n. n) (Settles (step 1 0 0 0 maybe.none) m)) (sym is) (settles id v w live)
 
 module _ {C : Type 0} (stands : C → Opening → List Step → Type 0) where
   pub begins_as : (base : Opening) (passes : ℕ) (c : C) (items : List (Option C)) → items ≡ Some c ∷ [] → stands c base [] → Kept stands base passes (opening (0 ∷ 0 ∷ []) items (dealer base passes))

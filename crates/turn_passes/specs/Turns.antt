@@ -71,9 +71,9 @@ module _ {C : Type 0} where
   abbrev pub Leaves : TableStep (Option C) → Me (Option C) View → ℕ → Me (Option C) View → Type 0
   Leaves s m n w = w ≡ (idle m.0, rest m.1)
 
-  -- look after a join: both had seen beginnings of the history that is seen now, which has no further call of either
+  -- look after a join: both had seen beginnings of the history that is seen now, which has no further call of either, and each number is one of a pass
   abbrev pub Settles : TableStep (Option C) → Me (Option C) View → ℕ → Me (Option C) View → Type 0
-  Settles s m n w = (w ≡ (settled m.0, m.1)) × Has m.0.seen m.0.one × Has m.0.seen m.0.other
+  Settles s m n w = (w ≡ (settled m.0, m.1)) × Has m.0.seen m.0.one × Has m.0.seen m.0.other × ((n : ℕ) → has m.0.numbers n ≡ true → n < m.0.passes)
 
 -- A seat with the turn, and the calls that it made in it: what it sees begins with what it saw, ends with these calls, and has no other further call of its own.
 abbrev pub Making : View → List Step → View → Type 0

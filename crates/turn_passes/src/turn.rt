@@ -1,5 +1,5 @@
 //! The turn: taken, used for calls, and given back.
-ghost use Rattle.std.specs.Prelude.{◌≡◌, ◌<◌, ◌+◌, ◌++◌, ◌^◌, [], ◌∷◌, true, false, length, None, MatchOption, List, IfOk, IfErr};
+ghost use Rattle.std.specs.Prelude.{◌≡◌, ◌<◌, ◌+◌, ◌++◌, ◌^◌, [], ◌∷◌, true, false, length, None, MatchOption, ℕ, List, IfOk, IfErr};
 ghost use Rattle.channel_face.specs.History.{Opening, Step};
 ghost use Rattle.turn_passes.specs.Calls.{has, Below};
 ghost use Rattle.turn_passes.specs.Views.{View, dealer, dealing, newcomer, both, settled, part, idle, counted};
@@ -95,6 +95,7 @@ impl<C: Guarded> Turn<C> {
         requires from { (from.table_id ≡ self.now.table.shared.table_id) × (from.me.0.turn ≡ false) × (from.me.1 ≡ []) }
         ensures same { (into.new.table_id ≡ into.old.table_id) × (into.new.me ≡ (settled (both into.old.me.0 from.me.0), [])) }
         ensures seen { Has into.new.me.0.seen (part into.old.me.0) × Has into.new.me.0.seen (part from.me.0) }
+        ensures numbers { (n : ℕ) → has into.new.me.0.numbers n ≡ true → n < into.new.me.0.passes }
     {
         self.table.shared.join_seat::<Both>(into, from);
         self.table.shared.load::<Settle>(into, 0);

@@ -8,13 +8,13 @@ use Rattle.channel_face.specs.History.{Step}
 use Rattle.turn_passes.specs.Calls.{has}
 use Rattle.turn_passes.specs.Turns.{Making}
 use Rattle.turn_passes.specs.Views.{View, counted}
-use Rattle.shared_channel.specs.Calls.{step, state_seen, Makes, Bounds}
+use Rattle.shared_channel.specs.Calls.{step, state_seen, made_if, Makes, Bounds}
 use Rattle.shared_channel.proofs.Keeping.{answered_by}
 use Rattle.shared_channel.proofs.Turning.{makes_none, makes_one}
 use Rattle.shared_channel.proofs.shared.Shared.make_stage_put.Goals as goal
 
 pub returns-then-calls-ge-MOST-clause-makes : goal.returns-then-calls-ge-MOST-clause-makes
-returns-then-calls-ge-MOST-clause-makes g c = makes_none g.C.Channel.stands g.C.Channel.tells _ c.args.seat.now.me c.args.home.now.channel c.requires.within
+returns-then-calls-ge-MOST-clause-makes g c = makes_none g.C.Channel.stands g.C.Channel.tells c.args.by c.args.seat.now.me c.args.home.now.channel c.requires.within
 
 pub returns-clause-makes : goal.returns-clause-makes
 returns-clause-makes g c =
