@@ -51,6 +51,78 @@ pub counted_run : (tells : Bool) (s : State) (h : List Step) → IsRun tells s h
 counted_run tells s [] run = tt
 counted_run tells s (x ∷ h) run = keep_run (is_counted x.call) tells s x h (stays s x.call) run.0 (counted_run tells (after s x.call) h run.1)
 
+-- nor is anything counted of it
+
+no_puts : (call : Call) → is_counted call ≡ false → put_calls call ≡ 0
+no_puts (RollbackPut token true) is = absurd (cc)
+no_puts (RollbackPut token false) is = refl
+no_puts (RollbackTake token true) is = absurd (cc)
+no_puts (RollbackTake token false) is = refl
+no_puts call is = absurd (cc)
+
+no_takes : (call : Call) → is_counted call ≡ false → take_calls call ≡ 0
+no_takes (RollbackPut token true) is = absurd (cc)
+no_takes (RollbackPut token false) is = refl
+no_takes (RollbackTake token true) is = absurd (cc)
+no_takes (RollbackTake token false) is = refl
+no_takes call is = absurd (cc)
+
+settles_none : (s : State) (call : Call) → is_counted call ≡ false → settled_by s call ≡ []
+settles_none s (RollbackPut token true) is = absurd (cc)
+settles_none s (RollbackPut token false) is = refl
+settles_none s (RollbackTake token true) is = absurd (cc)
+settles_none s (RollbackTake token false) is = refl
+settles_none s call is = absurd (cc)
+
+same_puts : (h : List Step) → put_attempts (counted_calls h) ≡ put_attempts h
+same_puts [] = refl
+same_puts (x ∷ h) = by_count (is_counted x.call) refl (same_puts h)
+  where
+    by_count : (b : Bool) → is_counted x.call ≡ b → put_attempts (counted_calls h) ≡ put_attempts h → put_attempts (keep b x (counted_calls h)) ≡ put_calls x.call + put_attempts h
+    by_count true is more = omega (arith, more)
+    by_count false is more = omega (arith, more, no_puts x.call is)
+
+same_takes : (h : List Step) → take_attempts (counted_calls h) ≡ take_attempts h
+same_takes [] = refl
+same_takes (x ∷ h) = by_count (is_counted x.call) refl (same_takes h)
+  where
+    by_count : (b : Bool) → is_counted x.call ≡ b → take_attempts (counted_calls h) ≡ take_attempts h → take_attempts (keep b x (counted_calls h)) ≡ take_calls x.call + take_attempts h
+    by_count true is more = omega (arith, more)
+    by_count false is more = omega (arith, more, no_takes x.call is)
+
+same_put_successes : (s : State) (h : List Step) → put_successes s (counted_calls h) ≡ put_successes s h
+same_put_successes s [] = refl
+same_put_successes s (x ∷ h) = by_count (is_counted x.call) refl (same_put_successes (after s x.call) h)
+  where
+    by_count : (b : Bool) → is_counted x.call ≡ b → put_successes (after s x.call) (counted_calls h) ≡ put_successes (after s x.call) h → put_successes s (keep b x (counted_calls h)) ≡ length (put_events (settled_by s x.call)) + put_successes (after s x.call) h
+    by_count true is more = omega (arith, more)
+    by_count false is more =
+        let same = ap (λ (t : State). put_successes t (counted_calls h)) (stays s x.call is) in
+        let none : length (put_events (settled_by s x.call)) ≡ 0 = ap (λ (l : List _). length (put_events l)) (settles_none s x.call is) in
+        omega (arith, more, same, none)
+
+same_take_successes : (s : State) (h : List Step) → take_successes s (counted_calls h) ≡ take_successes s h
+same_take_successes s [] = refl
+same_take_successes s (x ∷ h) = by_count (is_counted x.call) refl (same_take_successes (after s x.call) h)
+  where
+    by_count : (b : Bool) → is_counted x.call ≡ b → take_successes (after s x.call) (counted_calls h) ≡ take_successes (after s x.call) h → take_successes s (keep b x (counted_calls h)) ≡ length (taken_numbers (settled_by s x.call)) + take_successes (after s x.call) h
+    by_count true is more = omega (arith, more)
+    by_count false is more =
+        let same = ap (λ (t : State). take_successes t (counted_calls h)) (stays s x.call is) in
+        let none : length (taken_numbers (settled_by s x.call)) ≡ 0 = ap (λ (l : List _). length (taken_numbers l)) (settles_none s x.call is) in
+        omega (arith, more, same, none)
+
+same_tally : (s : State) (h : List Step) → tally s (counted_calls h) ≡ tally s h
+same_tally s h = λ i. record {
+  put_attempts = capped (same_puts h i);
+  put_successes = capped (same_put_successes s h i);
+  take_attempts = capped (same_takes h i);
+  take_successes = capped (same_take_successes s h i);
+}
+
+same_counts : (start : Opening) (h : List Step) → counts_of start (counted_calls h) ≡ counts_of start h
+same_counts start h = λ i. counts_with (same_tally (opening start) h i) (counted_state (opening start) h i)
+
 module _ {C : Type 0} (stands : C → Opening → List Step → Type 0) (tells : C → Bool) where
   abbrev pub Law : Type 0
   Law = (c : C) (start : Opening) (h : List Step) → stands c start h → IsRun (tells c) (opening start) h
@@ -64,6 +136,9 @@ module _ {C : Type 0} (stands : C → Opening → List Step → Type 0) (tells :
   -- what is shown of a channel is shown of the counted calls
   pub kept_shows : (c : C) (start : Opening) (h : List Step) (P : State → Type 0) → Shows (stands c) P → StandsCounting stands c start h → P (state_after (opening start) h)
   kept_shows c start h P shows k = subst P (same_state c start h k) (shows start k.0 k.1)
+
+  pub kept_counts : (c : C) (start : Opening) (h : List Step) (counts : Counts) → ((o : Opening) (l : List Step) → stands c o l → counts ≡ counts_of o l) → StandsCounting stands c start h → counts ≡ counts_of start h
+  kept_counts c start h counts told k = told start k.0 k.1 ∙ sym (same_counts start k.0) ∙ ap (counts_of start) k.2
 
   -- the last call was answered as the machine answers it
   answered : Law → (c d : C) (start : Opening) (h : List Step) (call : Call) (moment : ℕ) → AddsOne (stands c) (stands d) call moment → StandsCounting stands c start h → Admits (tells d) (state_after (opening start) h) call

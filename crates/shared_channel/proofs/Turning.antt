@@ -16,12 +16,18 @@ use Rattle.shared_channel.specs.Calls.{step, made_if, Bounds, IsIn, Makes, IsSee
 use Rattle.shared_channel.specs.Passes.{view_of, AreMarks, IsPass}
 use Rattle.shared_channel.proofs.Keeping.{Law, kept_run, keeps_more}
 
+-- while fewer calls were counted, none is spent
+pub unspent : (spent : Bool) (most calls : ℕ) → Bounds spent most calls → calls < most → spent ≡ false
+unspent true most calls bound below = absurd (omega arith)
+unspent false most calls bound below = refl
+
 module _ {S C : Type 0} (stands : C → Opening → List Step → Type 0) (tells : C → Bool) where
   -- no call was made
   pub makes_none : (by : ℕ) (m : Me (Option S) View) (c : C) → IsIn stands m c → Makes stands by [] m c m
   makes_none by m c inside = record {
     within = inside;
     seen = sym (append-nil m.0.seen);
+    numbers = refl;
     goes_on = λ v es making own. subst (λ (l : List Step). Making v l m.0) (sym (append-nil es)) making;
   }
 
@@ -31,6 +37,7 @@ module _ {S C : Type 0} (stands : C → Opening → List Step → Type 0) (tells
   makes_kept s m w c d inside keeps is goes = record {
     within = subst (λ (x : Me (Option S) View). IsIn stands x d) (sym is) (inside.0, inside.1, inside.2, keeps);
     seen = ap (λ (x : Me (Option S) View). x.0.seen) is;
+    numbers = ap (λ (x : Me (Option S) View). x.0.numbers) is;
     goes_on = goes;
   }
 
@@ -44,6 +51,7 @@ module _ {S C : Type 0} (stands : C → Opening → List Step → Type 0) (tells
   makes_then by x y m n w c d f h = record {
     within = h.within;
     seen = h.seen ∙ ap (λ (l : List Step). l ++ y) f.seen ∙ append_assoc m.0.seen x y;
+    numbers = h.numbers ∙ f.numbers;
     goes_on = λ v es making own. subst (λ (l : List Step). Making v l w.0) (append_assoc es x y) (h.goes_on v (es ++ x) (f.goes_on v es making own) own);
   }
 
@@ -97,6 +105,21 @@ module _ {S C : Type 0} (stands : C → Opening → List Step → Type 0) (tells
       by_spent false m =
           let q : length w.seen ≡ length (k.0.seen ++ by_pass by m.0) = ap length (same ∙ m.1.seen) in
           (m.0, d, leaves v (by_pass by m.0) (m.1.goes_on v [] making own), m.2, let b = m.3 in omega (arith, length-append k.0.seen (by_pass by m.0), length-by_pass by m.0))
+
+module _ {S C : Type 0} (stands : C → Opening → List Step → Type 0) (tells : C → Bool) where
+  -- so goes the turn of a commit
+  pub committed_on : (v : View) (by : ℕ) (stage : Result Ticket StageCause → Call) (token : Token) (result : Result Ticket (CommitRefused Token)) (k : Me (Option S) View) (d : C) (n : Me (Option S) View) → Making v [] k.0 → has v.numbers by ≡ true → MakesCommit stands (is_spent_commit result) by stage token result k d n → (calls : List Step) × Making v calls n.0
+  committed_on v by stage token result k d n making own makes = by_spent (is_spent_commit result) makes
+    where
+      by_spent : (spent : Bool) → MakesCommit stands spent by stage token result k d n → (calls : List Step) × Making v calls n.0
+      by_spent true m = ([], m.0.goes_on v [] making own)
+      by_spent false m = (by_pass by m.0, m.1.goes_on v [] making own)
+
+-- what was so with the turn is so once it is over
+pub shown : (P : Opening → List Step → Type 0) (v w k : View) → Making v [] k → w ≡ saw v w.seen → w.seen ≡ k.seen → P k.base k.seen → P w.base w.seen
+shown P v w k making same seen holds =
+    let base : k.base ≡ w.base = ap (λ (x : View). x.base) making.1 ∙ sym (ap (λ (x : View). x.base) same) in
+    subst (λ (x : Opening × List Step). P x.0 x.1) (λ i. (base i, sym seen i)) holds
 
 -- a pass once its turn is over
 pub pass_after : (before after : List View) (number calls calls' : ℕ) (marks : List Bool) (v w : View) → before ≡ v ∷ [] → after ≡ w ∷ [] → IsPass before number calls marks → w ≡ saw v w.seen → calls' ≡ length w.seen → IsPass after number calls' marks

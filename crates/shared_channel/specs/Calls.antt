@@ -51,6 +51,7 @@ Bounds false most calls = calls < most
 pub record Makes {S C : Type 0} (stands : C → Opening → List Step → Type 0) (by : ℕ) (calls : List Step) (m : Me (Option S) View) (d : C) (w : Me (Option S) View) : Type 0 where
   pub within : IsIn stands w d
   pub seen : w.0.seen ≡ m.0.seen ++ calls
+  pub numbers : w.0.numbers ≡ m.0.numbers
   pub goes_on : (v : View) (es : List Step) → Making v es m.0 → has v.numbers by ≡ true → Making v (es ++ calls) w.0
 
 module _ {C : Type 0} (stands : C → Opening → List Step → Type 0) (tells : C → Bool) where

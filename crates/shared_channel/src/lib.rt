@@ -2,11 +2,13 @@
 #![tactic(auto)]
 
 mod home;
+mod looks;
 mod making;
 mod pass;
 mod puts;
 mod shared;
 mod takes;
 
+pub use looks::Look;
 pub use pass::Pass;
 pub use shared::Shared;

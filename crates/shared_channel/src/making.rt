@@ -1,15 +1,15 @@
 // The calls of the one who has the turn, each counted as it is made.
-ghost use Rattle.std.specs.Prelude.{◌≡◌, ◌^◌, ◌-◌, IfErr, length, true, not};
+ghost use Rattle.std.specs.Prelude.{◌≡◌, ◌^◌, ◌-◌, IfErr, None, length, true, false, not};
 ghost use Rattle.channel_face.specs.Calls.{cause_of};
 ghost use Rattle.channel_face.specs.Faces.{is_spent_begin, is_spent_put, is_spent_take, is_spent_stage, is_spent_flush};
-ghost use Rattle.channel_face.specs.Machine.{BeginPut, BeginTake, Put, Take, StagePut, StageTake, Flush};
+ghost use Rattle.channel_face.specs.Machine.{BeginPut, BeginTake, Put, Take, StagePut, StageTake, Flush, RollbackPut, RollbackTake, puts_of, takes_of};
 ghost use Rattle.turn_passes.specs.Calls.{has};
-ghost use Rattle.shared_channel.specs.Calls.{IsIn, Makes, Bounds, made_if, step};
+ghost use Rattle.shared_channel.specs.Calls.{IsIn, Makes, MakesCommit, Bounds, is_spent_commit, made_if, state_seen, step};
 
 use crate::home::Home;
 use crate::shared::Shared;
 use channel_face::{
-    BeginRefused, Channel, Counter, FlushRefused, PutRefused, PutTxn, StageCause, StageRefused,
+    BeginRefused, Channel, CommitRefused, Counter, FlushRefused, PutRefused, PutTxn, StageCause, StageRefused,
     TakeRefused, TakeTxn, Taken, Ticket,
 };
 use event_core::Event;
@@ -210,5 +210,121 @@ impl<C: Channel> Shared<C> {
         let reply = home.channel.flush();
         self.turn.count::<Brand, (&Result<(), FlushRefused>, &Home<C>)>(seat, by, &(&reply, &*home));
         reply
+    }
+
+    // Answers whether the token was not stale. A rollback of a stale token is not counted.
+    pub(crate) fn make_rollback_put(
+        &self,
+        seat: &mut Place<Home<C>>,
+        home: &mut Home<C>,
+        by: u64,
+        txn: PutTxn,
+    ) -> bool
+        requires table { seat.old.table_id ≡ self.now.turn.table.shared.table_id }
+        requires within { IsIn C.stands seat.old.me home.old.channel }
+        requires own { has seat.old.me.0.numbers by ≡ true }
+        ensures same { seat.new.table_id ≡ seat.old.table_id }
+        ensures makes { Makes C.stands by (made_if result (step by (RollbackPut txn true) (C.moment home.new.channel))) seat.old.me home.new.channel seat.new.me }
+        ensures stale { result ≡ false → puts_of (state_seen seat.new.me.0) txn ≡ None }
+    {
+        let (life, number) = (txn.life(), txn.number());
+        let ended = home.channel.rollback_put(txn);
+        if !ended {
+            return false;
+        }
+        self.turn
+            .count::<Brand, (&u64, &u64, &Home<C>)>(seat, by, &(&life, &number, &*home));
+        true
+    }
+
+    // Answers whether the token was not stale. A rollback of a stale token is not counted.
+    pub(crate) fn make_rollback_take(
+        &self,
+        seat: &mut Place<Home<C>>,
+        home: &mut Home<C>,
+        by: u64,
+        txn: TakeTxn,
+    ) -> bool
+        requires table { seat.old.table_id ≡ self.now.turn.table.shared.table_id }
+        requires within { IsIn C.stands seat.old.me home.old.channel }
+        requires own { has seat.old.me.0.numbers by ≡ true }
+        ensures same { seat.new.table_id ≡ seat.old.table_id }
+        ensures makes { Makes C.stands by (made_if result (step by (RollbackTake txn true) (C.moment home.new.channel))) seat.old.me home.new.channel seat.new.me }
+        ensures stale { result ≡ false → takes_of (state_seen seat.new.me.0) txn ≡ None }
+    {
+        let (life, number) = (txn.life(), txn.number());
+        let ended = home.channel.rollback_take(txn);
+        if !ended {
+            return false;
+        }
+        self.turn
+            .count::<Brand, (&u64, &u64, &Home<C>)>(seat, by, &(&life, &number, &*home));
+        true
+    }
+
+    // Stages a transaction, then flushes.
+    pub(crate) fn make_commit_put(
+        &self,
+        seat: &mut Place<Home<C>>,
+        home: &mut Home<C>,
+        calls: u64,
+        by: u64,
+        txn: PutTxn,
+    ) -> Result<Ticket, CommitRefused<PutTxn>>
+        requires table { seat.old.table_id ≡ self.now.turn.table.shared.table_id }
+        requires within { IsIn C.stands seat.old.me home.old.channel }
+        requires own { has seat.old.me.0.numbers by ≡ true }
+        requires calls { calls ≡ length seat.old.me.0.seen }
+        ensures same { seat.new.table_id ≡ seat.old.table_id }
+        ensures commit { MakesCommit C.stands (is_spent_commit result) by (StagePut txn) txn result seat.old.me home.new.channel seat.new.me }
+    {
+        if calls >= MOST - 1 {
+            return Err(CommitRefused::Stage(StageRefused {
+                txn,
+                cause: StageCause::Spent {
+                    counter: Counter::Calls,
+                },
+            }));
+        }
+        match self.make_stage_put(seat, home, calls, by, txn) {
+            Ok(ticket) => match self.make_flush(seat, home, calls + 1, by) {
+                Ok(()) => Ok(ticket),
+                Err(_) => Err(CommitRefused::InDoubt),
+            },
+            Err(refused) => Err(CommitRefused::Stage(refused)),
+        }
+    }
+
+    // Stages a transaction, then flushes.
+    pub(crate) fn make_commit_take(
+        &self,
+        seat: &mut Place<Home<C>>,
+        home: &mut Home<C>,
+        calls: u64,
+        by: u64,
+        txn: TakeTxn,
+    ) -> Result<Ticket, CommitRefused<TakeTxn>>
+        requires table { seat.old.table_id ≡ self.now.turn.table.shared.table_id }
+        requires within { IsIn C.stands seat.old.me home.old.channel }
+        requires own { has seat.old.me.0.numbers by ≡ true }
+        requires calls { calls ≡ length seat.old.me.0.seen }
+        ensures same { seat.new.table_id ≡ seat.old.table_id }
+        ensures commit { MakesCommit C.stands (is_spent_commit result) by (StageTake txn) txn result seat.old.me home.new.channel seat.new.me }
+    {
+        if calls >= MOST - 1 {
+            return Err(CommitRefused::Stage(StageRefused {
+                txn,
+                cause: StageCause::Spent {
+                    counter: Counter::Calls,
+                },
+            }));
+        }
+        match self.make_stage_take(seat, home, calls, by, txn) {
+            Ok(ticket) => match self.make_flush(seat, home, calls + 1, by) {
+                Ok(()) => Ok(ticket),
+                Err(_) => Err(CommitRefused::InDoubt),
+            },
+            Err(refused) => Err(CommitRefused::Stage(refused)),
+        }
     }
 }
