@@ -28,6 +28,10 @@ new_passes table start passes (suc n) = new_passes table start passes n ++ new_p
 abbrev pub AreMarks : List ℕ → List Bool → Type 0
 AreMarks numbers marks = (n : ℕ) → n < length marks → get_or marks n false ≡ has numbers n
 
+-- so many marks, and none is set
+abbrev pub IsBlank : ℕ → List Bool → Type 0
+IsBlank passes marks = AreMarks [] marks × (length marks ≡ passes)
+
 -- what holds of a pass: it has no turn, its next call's number is one of its own, and it knows how many calls it saw and which numbers it has
 abbrev pub IsPass : List View → ℕ → ℕ → List Bool → Type 0
 IsPass views number calls marks =

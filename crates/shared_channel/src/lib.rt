@@ -10,5 +10,5 @@ mod shared;
 mod takes;
 
 pub use looks::Look;
-pub use pass::Pass;
+pub use pass::{Closed, Pass, Unshared};
 pub use shared::Shared;
