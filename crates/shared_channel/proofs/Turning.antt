@@ -1,5 +1,5 @@
 -- What a turn tells, call by call.
-use Rattle.std.proofs.Common.{◌≡◌, ◌<◌, ◌≤◌, ◌+◌, ◌-◌, ◌^◌, ℕ, suc, Result, List, [], ◌∷◌, ◌++◌, length, length-append, append_assoc, Option, Bool, true, false, not, refl, sym, ◌∙◌, ap, subst, arith}
+use Rattle.std.proofs.Common.{◌≡◌, ◌<◌, ◌≤◌, ◌+◌, ◌-◌, ◌^◌, ◌||◌, max, get_or, ℕ, zero, suc, Result, List, [], ◌∷◌, ◌++◌, length, length-append, append_assoc, Option, Bool, true, false, not, ⊎_elim, refl, sym, ◌∙◌, ap, subst, arith}
 use Rattle.std.proofs.lemmas.List.{append-nil}
 use Rattle.atomic_table.specs.Table.{Me}
 use Rattle.channel_face.specs.Token.{Token}
@@ -9,7 +9,9 @@ use Rattle.channel_face.specs.declared.replies.Ticket.{Ticket}
 use Rattle.channel_face.specs.declared.replies.StageCause.{StageCause}
 use Rattle.channel_face.specs.declared.replies.CommitRefused.{CommitRefused}
 use Rattle.turn_passes.specs.Calls.{has}
-use Rattle.turn_passes.specs.Views.{View, idle, counted, saw}
+use Rattle.turn_passes.specs.Views.{View, idle, counted, saw, longer, both, settled}
+use Rattle.turn_passes.proofs.Histories.{has_left, has-append}
+use Rattle.std.proofs.lemmas.Bool.{cases_lt}
 use Rattle.turn_passes.specs.Turns.{Making, Made}
 use Rattle.shared_channel.specs.Counting.{StandsCounting, Keeps, is_counted}
 use Rattle.shared_channel.specs.Calls.{step, made_if, Bounds, IsIn, Makes, IsSeen, Left, Answers, RolledBack, Looks, Commits, MakesCommit, is_spent_commit, state_seen}
@@ -149,3 +151,35 @@ pass_after before after number calls calls' marks v w was is pass same count = s
 -- the same of the views of a pass as of those of its seat
 pub of_views : (P : View → View → Type 0) (before after : List View) (v w : View) → before ≡ v ∷ [] → after ≡ w ∷ [] → P v w → P (view_of before) (view_of after)
 of_views P before after v w was is holds = subst (λ (x : View). P x (view_of after)) (sym (ap view_of was)) (subst (λ (x : View). P v x) (sym (ap view_of is)) holds)
+
+longer_length : (a b : List Step) → length (longer a b) ≡ max (length a) (length b)
+longer_length [] b = omega arith
+longer_length (x ∷ xs) [] = omega arith
+longer_length (x ∷ xs) (y ∷ ys) = omega (arith, longer_length xs ys)
+
+beyond : (marks : List Bool) (n : ℕ) → length marks ≤ n → get_or marks n false ≡ false
+beyond [] n le = refl
+beyond (m ∷ ms) zero le = absurd (omega arith)
+beyond (m ∷ ms) (suc n) le = beyond ms n (omega arith)
+
+not_true : (b : Bool) → ¬ (b ≡ true) → b ≡ false
+not_true true never = absurd (never refl)
+not_true false never = refl
+
+-- a mark says whether a pass has the number, also where there is none
+mark_of : (v : View) (number calls : ℕ) (marks : List Bool) → IsPass (v ∷ []) number calls marks → (n : ℕ) → get_or marks n false ≡ has v.numbers n
+mark_of v number calls marks pass n = ⊎_elim (λ (lt : n < length marks). pass.5 n lt) (λ (ge : length marks ≤ n). beyond marks n (omega arith) ∙ sym (not_true (has v.numbers n) (λ h. let lt = pass.6 n h in let same = pass.7 in absurd (omega arith)))) (cases_lt n (length marks))
+
+-- a pass after it took in another
+pub joined : (v w j : View) (number number' calls calls' : ℕ) (mine theirs after : List Bool) → IsPass (v ∷ []) number calls mine → IsPass (w ∷ []) number' calls' theirs → j ≡ settled (both v w) → ((n : ℕ) → has j.numbers n ≡ true → n < j.passes)
+    → ((n : ℕ) → n < length mine → get_or after n false ≡ (get_or mine n false || get_or theirs n false)) → length after ≡ length mine → IsPass (j ∷ []) number (max calls calls') after
+joined v w j number number' calls calls' mine theirs after p q is below each same = (
+  refl,
+  ap (λ (x : View). x.turn) is ∙ p.1,
+  ap (λ (x : View). x.live) is ∙ p.2,
+  ap (λ (x : View). has x.numbers number) is ∙ has_left v.numbers w.numbers number p.3,
+  (λ i. max (p.4 i) (q.4 i)) ∙ sym (longer_length v.seen w.seen) ∙ sym (ap (λ (x : View). length x.seen) is),
+  λ n lt. each n (subst (λ (k : ℕ). n < k) same lt) ∙ (λ i. mark_of v number calls mine p n i || mark_of w number' calls' theirs q n i) ∙ sym (has-append v.numbers w.numbers n) ∙ sym (ap (λ (x : View). has x.numbers n) is),
+  below,
+  same ∙ p.7 ∙ sym (ap (λ (x : View). x.passes) is),
+)

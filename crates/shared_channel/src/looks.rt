@@ -20,12 +20,7 @@ pub struct Look {
 
 impl<C: Channel> Shared<C> {
     /// Whether what the ticket stands for is settled, as [`Channel::settled`].
-    pub fn settled<R: Wait>(
-        &self,
-        rt: &R,
-        pass: &mut Pass,
-        ticket: &Ticket,
-    ) -> Settled
+    pub fn settled<R: Wait>(&self, rt: &R, pass: &mut Pass, ticket: &Ticket) -> Settled
         requires { pass.old.table_id ≡ self.now.turn.table.shared.table_id }
         ensures same { (pass.new.table_id ≡ pass.old.table_id) × (pass.new.number ≡ pass.old.number) }
         ensures look { Looks C.stands C.tells pass.old.view pass.new.view }
@@ -41,11 +36,7 @@ impl<C: Channel> Shared<C> {
     }
 
     /// How many events are left.
-    pub fn size<R: Wait>(
-        &self,
-        rt: &R,
-        pass: &mut Pass,
-    ) -> u64
+    pub fn size<R: Wait>(&self, rt: &R, pass: &mut Pass) -> u64
         requires { pass.old.table_id ≡ self.now.turn.table.shared.table_id }
         ensures same { (pass.new.table_id ≡ pass.old.table_id) × (pass.new.number ≡ pass.old.number) }
         ensures look { Looks C.stands C.tells pass.old.view pass.new.view }
@@ -61,11 +52,7 @@ impl<C: Channel> Shared<C> {
     }
 
     /// The most events.
-    pub fn capacity<R: Wait>(
-        &self,
-        rt: &R,
-        pass: &mut Pass,
-    ) -> u64
+    pub fn capacity<R: Wait>(&self, rt: &R, pass: &mut Pass) -> u64
         requires { pass.old.table_id ≡ self.now.turn.table.shared.table_id }
         ensures same { (pass.new.table_id ≡ pass.old.table_id) × (pass.new.number ≡ pass.old.number) }
         ensures look { Looks C.stands C.tells pass.old.view pass.new.view }
@@ -81,11 +68,7 @@ impl<C: Channel> Shared<C> {
     }
 
     /// Whether the channel is broken until it is reopened.
-    pub fn is_broken<R: Wait>(
-        &self,
-        rt: &R,
-        pass: &mut Pass,
-    ) -> bool
+    pub fn is_broken<R: Wait>(&self, rt: &R, pass: &mut Pass) -> bool
         requires { pass.old.table_id ≡ self.now.turn.table.shared.table_id }
         ensures same { (pass.new.table_id ≡ pass.old.table_id) × (pass.new.number ≡ pass.old.number) }
         ensures look { Looks C.stands C.tells pass.old.view pass.new.view }

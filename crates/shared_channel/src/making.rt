@@ -9,8 +9,8 @@ ghost use Rattle.shared_channel.specs.Calls.{IsIn, Makes, MakesCommit, Bounds, i
 use crate::home::Home;
 use crate::shared::Shared;
 use channel_face::{
-    BeginRefused, Channel, CommitRefused, Counter, FlushRefused, PutRefused, PutTxn, StageCause, StageRefused,
-    TakeRefused, TakeTxn, Taken, Ticket,
+    BeginRefused, Channel, CommitRefused, Counter, FlushRefused, PutRefused, PutTxn, StageCause,
+    StageRefused, TakeRefused, TakeTxn, Taken, Ticket,
 };
 use event_core::Event;
 use std::marker::Brand;
@@ -41,7 +41,8 @@ impl<C: Channel> Shared<C> {
             });
         }
         let reply = home.channel.begin_put();
-        self.turn.count::<Brand, (&Result<PutTxn, BeginRefused>, &Home<C>)>(seat, by, &(&reply, &*home));
+        self.turn
+            .count::<Brand, (&Result<PutTxn, BeginRefused>, &Home<C>)>(seat, by, &(&reply, &*home));
         reply
     }
 
@@ -66,7 +67,12 @@ impl<C: Channel> Shared<C> {
             });
         }
         let reply = home.channel.begin_take();
-        self.turn.count::<Brand, (&Result<TakeTxn, BeginRefused>, &Home<C>)>(seat, by, &(&reply, &*home));
+        self.turn
+            .count::<Brand, (&Result<TakeTxn, BeginRefused>, &Home<C>)>(
+                seat,
+                by,
+                &(&reply, &*home),
+            );
         reply
     }
 
@@ -94,7 +100,16 @@ impl<C: Channel> Shared<C> {
             });
         }
         let reply = home.channel.put(txn, event);
-        self.turn.count::<Brand, (&PutTxn, &Event, &Result<channel_face::Put, PutRefused>, &Home<C>)>(seat, by, &(&*txn, event, &reply, &*home));
+        self.turn
+            .count::<
+                Brand,
+                (
+                    &PutTxn,
+                    &Event,
+                    &Result<channel_face::Put, PutRefused>,
+                    &Home<C>,
+                ),
+            >(seat, by, &(&*txn, event, &reply, &*home));
         reply
     }
 
@@ -121,7 +136,12 @@ impl<C: Channel> Shared<C> {
             });
         }
         let reply = home.channel.take(txn);
-        self.turn.count::<Brand, (&TakeTxn, &Result<Taken, TakeRefused>, &Home<C>)>(seat, by, &(&*txn, &reply, &*home));
+        self.turn
+            .count::<Brand, (&TakeTxn, &Result<Taken, TakeRefused>, &Home<C>)>(
+                seat,
+                by,
+                &(&*txn, &reply, &*home),
+            );
         reply
     }
 
@@ -152,7 +172,12 @@ impl<C: Channel> Shared<C> {
         }
         let (life, number) = (txn.life(), txn.number());
         let reply = home.channel.stage_put(txn);
-        self.turn.count::<Brand, (&u64, &u64, &Result<Ticket, StageRefused<PutTxn>>, &Home<C>)>(seat, by, &(&life, &number, &reply, &*home));
+        self.turn
+            .count::<Brand, (&u64, &u64, &Result<Ticket, StageRefused<PutTxn>>, &Home<C>)>(
+                seat,
+                by,
+                &(&life, &number, &reply, &*home),
+            );
         reply
     }
 
@@ -183,7 +208,12 @@ impl<C: Channel> Shared<C> {
         }
         let (life, number) = (txn.life(), txn.number());
         let reply = home.channel.stage_take(txn);
-        self.turn.count::<Brand, (&u64, &u64, &Result<Ticket, StageRefused<TakeTxn>>, &Home<C>)>(seat, by, &(&life, &number, &reply, &*home));
+        self.turn
+            .count::<Brand, (&u64, &u64, &Result<Ticket, StageRefused<TakeTxn>>, &Home<C>)>(
+                seat,
+                by,
+                &(&life, &number, &reply, &*home),
+            );
         reply
     }
 
@@ -208,7 +238,8 @@ impl<C: Channel> Shared<C> {
             });
         }
         let reply = home.channel.flush();
-        self.turn.count::<Brand, (&Result<(), FlushRefused>, &Home<C>)>(seat, by, &(&reply, &*home));
+        self.turn
+            .count::<Brand, (&Result<(), FlushRefused>, &Home<C>)>(seat, by, &(&reply, &*home));
         reply
     }
 

@@ -96,16 +96,16 @@ fn blanks(alloc: Global, passes: u32) -> Result<Vec<Vec<bool>>, AllocError>
     ensures each { IfOk result (λ all. length all.items ≡ passes) }
 {
     let mut all = Vec::new(alloc);
-    for _ in 0..passes {
+    while all.len() < passes as usize {
         all.push(blank(alloc, passes)?)?;
     }
     Ok(all)
 }
 
 // Marks what either marks.
-fn add_marks(into: &mut [bool], from: &[bool])
-    ensures each { (n : ℕ) → n < length into.old → get_or into.new n false ≡ (get_or into.old n false || get_or from.now n false) }
-    ensures same { length into.new ≡ length into.old }
+fn add_marks(into: &mut Vec<bool>, from: &Vec<bool>)
+    ensures each { (n : ℕ) → n < length into.old.items → get_or into.new.items n false ≡ (get_or into.old.items n false || get_or from.now.items n false) }
+    ensures same { length into.new.items ≡ length into.old.items }
 {
     for (i, mark) in from.iter().enumerate() {
         if *mark && i < into.len() {

@@ -8,18 +8,16 @@ ghost use Rattle.shared_channel.specs.Calls.{Answers, RolledBack, Commits, is_sp
 use crate::pass::Pass;
 use crate::shared::Shared;
 use atomic_table::Badge;
-use channel_face::{BeginRefused, Channel, CommitRefused, FlushRefused, PutRefused, PutTxn, StageRefused, Ticket};
+use channel_face::{
+    BeginRefused, Channel, CommitRefused, FlushRefused, PutRefused, PutTxn, StageRefused, Ticket,
+};
 use event_core::Event;
 use std::mem;
 use std::sync::Wait;
 
 impl<C: Channel> Shared<C> {
     /// Begins a transaction of puts, as [`Channel::begin_put`], or is refused as `Spent` of `Counter::Calls`.
-    pub fn begin_put<R: Wait>(
-        &self,
-        rt: &R,
-        pass: &mut Pass,
-    ) -> Result<PutTxn, BeginRefused>
+    pub fn begin_put<R: Wait>(&self, rt: &R, pass: &mut Pass) -> Result<PutTxn, BeginRefused>
         requires { pass.old.table_id ≡ self.now.turn.table.shared.table_id }
         ensures same { (pass.new.table_id ≡ pass.old.table_id) × (pass.new.number ≡ pass.old.number) }
         ensures call { Answers C.stands C.tells C.moment (is_spent_begin result) pass.old.view pass.old.number (BeginPut result) pass.new.view }
@@ -77,11 +75,7 @@ impl<C: Channel> Shared<C> {
     }
 
     /// Settles all that is staged, as [`Channel::flush`], or is refused as `Spent` of `Counter::Calls`.
-    pub fn flush<R: Wait>(
-        &self,
-        rt: &R,
-        pass: &mut Pass,
-    ) -> Result<(), FlushRefused>
+    pub fn flush<R: Wait>(&self, rt: &R, pass: &mut Pass) -> Result<(), FlushRefused>
         requires { pass.old.table_id ≡ self.now.turn.table.shared.table_id }
         ensures same { (pass.new.table_id ≡ pass.old.table_id) × (pass.new.number ≡ pass.old.number) }
         ensures call { Answers C.stands C.tells C.moment (is_spent_flush result) pass.old.view pass.old.number (Flush result) pass.new.view }

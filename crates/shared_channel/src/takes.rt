@@ -8,17 +8,15 @@ ghost use Rattle.shared_channel.specs.Calls.{Answers, RolledBack, Commits, is_sp
 use crate::pass::Pass;
 use crate::shared::Shared;
 use atomic_table::Badge;
-use channel_face::{BeginRefused, Channel, CommitRefused, StageRefused, TakeRefused, TakeTxn, Taken, Ticket};
+use channel_face::{
+    BeginRefused, Channel, CommitRefused, StageRefused, TakeRefused, TakeTxn, Taken, Ticket,
+};
 use std::mem;
 use std::sync::Wait;
 
 impl<C: Channel> Shared<C> {
     /// Begins a transaction of takes, as [`Channel::begin_take`], or is refused as `Spent` of `Counter::Calls`.
-    pub fn begin_take<R: Wait>(
-        &self,
-        rt: &R,
-        pass: &mut Pass,
-    ) -> Result<TakeTxn, BeginRefused>
+    pub fn begin_take<R: Wait>(&self, rt: &R, pass: &mut Pass) -> Result<TakeTxn, BeginRefused>
         requires { pass.old.table_id ≡ self.now.turn.table.shared.table_id }
         ensures same { (pass.new.table_id ≡ pass.old.table_id) × (pass.new.number ≡ pass.old.number) }
         ensures call { Answers C.stands C.tells C.moment (is_spent_begin result) pass.old.view pass.old.number (BeginTake result) pass.new.view }

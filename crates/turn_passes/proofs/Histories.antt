@@ -87,7 +87,7 @@ or_assoc : (a b c : Bool) → (a || (b || c)) ≡ ((a || b) || c)
 or_assoc true b c = refl
 or_assoc false b c = refl
 
-has-append : (ns ms : List ℕ) (n : ℕ) → has (ns ++ ms) n ≡ (has ns n || has ms n)
+pub has-append : (ns ms : List ℕ) (n : ℕ) → has (ns ++ ms) n ≡ (has ns n || has ms n)
 has-append [] ms n = refl
 has-append (m ∷ ns) ms n = ap (λ b. (m == n) || b) (has-append ns ms n) ∙ or_assoc (m == n) (has ns n) (has ms n)
 

@@ -29,6 +29,6 @@ returns-clause-call g c =
     let was : c.pass.inside.badge.views ≡ v ∷ [] = search rules in
     let own : has v.numbers by ≡ true = search rules in
     let here : Answers S T M (is_spent_begin reply) v by call w =
-        answers S T M (is_spent_begin reply) v w by call c.enter-home.new.seat.me c.make_begin_put-reply.new.home.channel c.make_begin_put-reply.new.seat.me c.enter-home.ensures.making own c.make_begin_put-reply.ensures.makes c.make_begin_put-reply.ensures.bound c.leave-pass-inside.ensures.left c.leave-pass-inside.ensures.seen in
+    answers S T M (is_spent_begin reply) v w by call c.enter-home.new.seat.me c.make_begin_put-reply.new.home.channel c.make_begin_put-reply.new.seat.me c.enter-home.ensures.making own c.make_begin_put-reply.ensures.makes c.make_begin_put-reply.ensures.bound c.leave-pass-inside.ensures.left c.leave-pass-inside.ensures.seen in
     subst (λ (p : Known). Answers S T M (is_spent_begin reply) p.view p.number call (view_of c.into_badge.result.views)) c.pass.view_is
     (of_views (λ x y. Answers S T M (is_spent_begin reply) x by call y) c.pass.inside.badge.views c.into_badge.result.views v w was c.into_badge.ensures.2 here)

@@ -27,6 +27,6 @@ returns-clause-call g c =
     let was : c.pass.inside.badge.views ≡ v ∷ [] = search rules in
     let own : has v.numbers by ≡ true = search rules in
     let here : Commits S T (is_spent_commit reply) v by (λ r. StageTake c.args.txn r) c.args.txn reply w =
-        commits S T v w by (λ r. StageTake c.args.txn r) c.args.txn reply c.enter-home.new.seat.me c.make_commit_take-reply.new.home.channel c.make_commit_take-reply.new.seat.me c.enter-home.ensures.making own c.make_commit_take-reply.ensures.commit c.leave-pass-inside.ensures.left c.leave-pass-inside.ensures.seen in
+    commits S T v w by (λ r. StageTake c.args.txn r) c.args.txn reply c.enter-home.new.seat.me c.make_commit_take-reply.new.home.channel c.make_commit_take-reply.new.seat.me c.enter-home.ensures.making own c.make_commit_take-reply.ensures.commit c.leave-pass-inside.ensures.left c.leave-pass-inside.ensures.seen in
     subst (λ (p : Known). Commits S T (is_spent_commit reply) p.view p.number (λ r. StageTake c.args.txn r) c.args.txn reply (view_of c.into_badge.result.views)) c.pass.view_is
     (of_views (λ x y. Commits S T (is_spent_commit reply) x by (λ r. StageTake c.args.txn r) c.args.txn reply y) c.pass.inside.badge.views c.into_badge.result.views v w was c.into_badge.ensures.2 here)

@@ -29,6 +29,6 @@ returns-clause-call g c =
     let was : c.pass.inside.badge.views ≡ v ∷ [] = search rules in
     let own : has v.numbers by ≡ true = search rules in
     let here : RolledBack S T M ended v by call IsStale w =
-        rolled_back S T M ended v w by call IsStale c.enter-home.new.seat.me c.make_rollback_take-ended.new.home.channel c.make_rollback_take-ended.new.seat.me c.enter-home.ensures.making own c.make_rollback_take-ended.ensures.makes c.make_rollback_take-ended.ensures.stale c.leave-pass-inside.ensures.left c.leave-pass-inside.ensures.seen in
+    rolled_back S T M ended v w by call IsStale c.enter-home.new.seat.me c.make_rollback_take-ended.new.home.channel c.make_rollback_take-ended.new.seat.me c.enter-home.ensures.making own c.make_rollback_take-ended.ensures.makes c.make_rollback_take-ended.ensures.stale c.leave-pass-inside.ensures.left c.leave-pass-inside.ensures.seen in
     subst (λ (p : Known). RolledBack S T M ended p.view p.number call IsStale (view_of c.into_badge.result.views)) c.pass.view_is
     (of_views (λ x y. RolledBack S T M ended x by call IsStale y) c.pass.inside.badge.views c.into_badge.result.views v w was c.into_badge.ensures.2 here)
