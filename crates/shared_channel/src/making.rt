@@ -4,13 +4,14 @@ ghost use Rattle.channel_face.specs.Calls.{cause_of};
 ghost use Rattle.channel_face.specs.Faces.{is_spent_begin, is_spent_put, is_spent_take, is_spent_stage, is_spent_flush};
 ghost use Rattle.channel_face.specs.Machine.{BeginPut, BeginTake, Put, Take, StagePut, StageTake, Flush, RollbackPut, RollbackTake, puts_of, takes_of};
 ghost use Rattle.turn_passes.specs.Calls.{has};
+ghost use Rattle.shared_channel.specs.Ports.{MakesSettled};
 ghost use Rattle.shared_channel.specs.Calls.{IsIn, Makes, MakesCommit, Bounds, is_spent_commit, made_if, state_seen, step};
 
 use crate::home::Home;
 use crate::shared::Shared;
 use channel_face::{
-    BeginRefused, Channel, CommitRefused, Counter, FlushRefused, PutRefused, PutTxn, StageCause,
-    StageRefused, TakeRefused, TakeTxn, Taken, Ticket,
+    BeginRefused, Channel, CommitRefused, Counter, FlushRefused, PutRefused, PutTxn, Settled,
+    StageCause, StageRefused, TakeRefused, TakeTxn, Taken, Ticket,
 };
 use event_core::Event;
 use std::marker::Brand;
@@ -356,6 +357,29 @@ impl<C: Channel> Shared<C> {
                 Err(_) => Err(CommitRefused::InDoubt),
             },
             Err(refused) => Err(CommitRefused::Stage(refused)),
+        }
+    }
+
+    // Flushes where the ticket is not settled, and answers whether it then is.
+    pub(crate) fn make_settled(
+        &self,
+        seat: &mut Place<Home<C>>,
+        home: &mut Home<C>,
+        calls: u64,
+        by: u64,
+        ticket: &Ticket,
+    ) -> bool
+        requires table { seat.old.table_id ≡ self.now.turn.table.shared.table_id }
+        requires within { IsIn C.stands seat.old.me home.old.channel }
+        requires own { has seat.old.me.0.numbers by ≡ true }
+        requires calls { calls ≡ length seat.old.me.0.seen }
+        ensures same { seat.new.table_id ≡ seat.old.table_id }
+        ensures makes { MakesSettled C.stands by (C.moment home.new.channel) ticket.now result seat.old.me home.new.channel seat.new.me }
+    {
+        match home.channel.settled(ticket) {
+            Settled::Yes => true,
+            Settled::No => self.make_flush(seat, home, calls, by).is_ok(),
+            Settled::InDoubt => false,
         }
     }
 }

@@ -72,7 +72,7 @@ pub nil_of : (xs : List Step) → length xs ≡ 0 → xs ≡ []
 nil_of [] e = refl
 nil_of (x ∷ xs) e = absurd (omega arith)
 
-cut : (xs ys zs : List Step) → (xs ++ ys) ++ zs ≡ xs → (ys ≡ []) × (zs ≡ [])
+pub cut : (xs ys zs : List Step) → (xs ++ ys) ++ zs ≡ xs → (ys ≡ []) × (zs ≡ [])
 cut xs ys zs e = let n = ap length e in (nil_of ys (omega (arith, length-append (xs ++ ys) zs, length-append xs ys)), nil_of zs (omega (arith, length-append (xs ++ ys) zs, length-append xs ys)))
 
 -- the calls between, and after, where none was made since the first

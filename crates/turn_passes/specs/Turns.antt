@@ -75,15 +75,15 @@ module _ {C : Type 0} where
   abbrev pub Settles : TableStep (Option C) → Me (Option C) View → ℕ → Me (Option C) View → Type 0
   Settles s m n w = (w ≡ (settled m.0, m.1)) × Has m.0.seen m.0.one × Has m.0.seen m.0.other × ((n : ℕ) → has m.0.numbers n ≡ true → n < m.0.passes)
 
--- A seat with the turn, and the calls that it made in it: what it sees begins with what it saw, ends with these calls, and has no other further call of its own.
+-- A seat with the turn, and the calls that it made in it: what it sees begins with what it saw, ends with these calls, which are its own, and has no other further call of its own.
 abbrev pub Making : View → List Step → View → Type 0
 Making v es w =
-    (between : List Step) × (w ≡ entered v w.seen) × (w.seen ≡ (v.seen ++ between) ++ es) × (calls_by v.numbers w.seen ≡ calls_by v.numbers v.seen ++ es) × Below v.passes w.seen
+    (between : List Step) × (w ≡ entered v w.seen) × (w.seen ≡ (v.seen ++ between) ++ es) × (calls_by v.numbers w.seen ≡ calls_by v.numbers v.seen ++ es) × Below v.passes w.seen × (calls_by v.numbers es ≡ es)
 
 -- The same once the turn was given back.
 abbrev pub Made : View → List Step → View → Type 0
 Made v es w =
-    (between : List Step) × (w ≡ saw v w.seen) × (w.seen ≡ (v.seen ++ between) ++ es) × (calls_by v.numbers w.seen ≡ calls_by v.numbers v.seen ++ es) × Below v.passes w.seen
+    (between : List Step) × (w ≡ saw v w.seen) × (w.seen ≡ (v.seen ++ between) ++ es) × (calls_by v.numbers w.seen ≡ calls_by v.numbers v.seen ++ es) × Below v.passes w.seen × (calls_by v.numbers es ≡ es)
 
 -- it has the number of each pass
 abbrev pub HasAll : View → Type 0
