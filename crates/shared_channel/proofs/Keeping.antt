@@ -1,15 +1,15 @@
 -- What a channel keeps standing for.
-use Rattle.std.proofs.Common.{◌≡◌, ◌≤◌, ◌<◌, ◌+◌, ◌-◌, ◌^◌, ℕ, List, [], ◌∷◌, ◌++◌, length, length-append, Option, None, Some, Result, Ok, Bool, true, false, refl, sym, ◌∙◌, ap, subst, arith, append_assoc, min}
+use Rattle.std.proofs.Common.{◌≡◌, ◌≤◌, ◌<◌, ◌+◌, ◌-◌, ◌^◌, ℕ, List, [], ◌∷◌, ◌++◌, length, length-append, Option, None, Some, Bool, true, false, refl, sym, ◌∙◌, ap, subst, arith}
 use Rattle.std.proofs.lemmas.List.{append-nil}
 use Rattle.event_core.specs.Journal.{put_events, taken_numbers}
 use Rattle.channel_face.specs.Token.{Token}
-use Rattle.channel_face.specs.Machine.{State, Call, RollbackPut, RollbackTake, Admits, after, puts_of, takes_of, is_some_of, close}
+use Rattle.channel_face.specs.Machine.{State, Call, RollbackPut, RollbackTake, Admits, after, puts_of, takes_of, is_some_of}
 use Rattle.channel_face.specs.History.{Opening, opening, Step, AddsOne, IsRun, Shows, state_after, settled_by}
-use Rattle.channel_face.specs.Counters.{Tally, tally, counts_of, counts_with, put_calls, take_calls, put_attempts, take_attempts, put_successes, take_successes, capped}
+use Rattle.channel_face.specs.Counters.{tally, counts_of, counts_with, put_calls, take_calls, put_attempts, take_attempts, put_successes, take_successes, capped}
 use Rattle.channel_face.specs.declared.replies.Counts.{Counts}
-use Rattle.channel_face.proofs.Adding.{state-push, run-push, run-last}
+use Rattle.channel_face.proofs.Adding.{state-push, run-last}
 use Rattle.turn_passes.specs.Calls.{keep}
-use Rattle.shared_channel.specs.Counting.{is_counted, counted_calls, StandsCounting, HasRoom, Keeps}
+use Rattle.shared_channel.specs.Counting.{is_counted, counted_calls, StandsCounting, Keeps}
 use Rattle.shared_channel.specs.Calls.{step}
 use Rattle.shared_channel.proofs.Rooms.{few_after, put_ends, take_ends}
 

@@ -1,7 +1,6 @@
 -- Whole transactions through a pass, from the calls that they make.
-use Rattle.std.proofs.Common.{◌≡◌, ◌≤◌, ◌<◌, ◌+◌, ◌-◌, ◌^◌, inl, inr, ℕ, zero, suc, List, [], ◌∷◌, ◌++◌, length, length-append, take, drop, slice_get, Option, None, Some, Result, Ok, Err, Bool, true, false, not, is_ok, refl, sym, ◌∙◌, ap, subst, append_assoc, arith}
+use Rattle.std.proofs.Common.{◌≡◌, ◌≤◌, ◌-◌, ◌^◌, inl, inr, ℕ, List, [], ◌∷◌, ◌++◌, length, length-append, Option, None, Result, Ok, Err, Bool, true, false, not, refl, sym, ◌∙◌, ap, subst, append_assoc, arith}
 use Rattle.std.proofs.lemmas.List.{append-nil}
-use mathlib.Core.List.{IsPrefix}
 use Rattle.event_core.specs.Content.{Content}
 use Rattle.channel_face.specs.Token.{Token}
 use Rattle.channel_face.specs.Machine.{State, Call, BeginPut, BeginTake, Put, Take, StagePut, StageTake, Flush, RollbackPut, RollbackTake, after, puts_of, takes_of, settled}
@@ -23,7 +22,7 @@ use Rattle.turn_passes.specs.Calls.{has, keep, calls_by}
 use Rattle.turn_passes.specs.Views.{View, saw}
 use Rattle.turn_passes.specs.Turns.{Making, Made}
 use Rattle.turn_passes.proofs.Histories.{calls_by-append, nil_of}
-use Rattle.shared_channel.specs.Calls.{step, state_seen, made_if, Bounds, Looked, Called, Counted, Answers, RolledBack}
+use Rattle.shared_channel.specs.Calls.{step, state_seen, made_if, Bounds, Answers, RolledBack}
 use Rattle.atomic_table.specs.Table.{Me}
 use Rattle.shared_channel.specs.Ports.{SettledBy, MakesSettled, own_if, own_calls, owned, AreOwned, Saw, Went, Goes, Settles}
 

@@ -1,5 +1,5 @@
 -- What a turn tells, call by call.
-use Rattle.std.proofs.Common.{◌≡◌, ◌<◌, ◌≤◌, ◌+◌, ◌-◌, ◌^◌, ◌||◌, max, get_or, ℕ, zero, suc, Result, List, [], ◌∷◌, ◌++◌, length, length-append, append_assoc, Option, Bool, true, false, not, ⊎_elim, refl, sym, ◌∙◌, ap, subst, arith}
+use Rattle.std.proofs.Common.{◌≡◌, ◌<◌, ◌≤◌, ◌-◌, ◌^◌, ◌||◌, max, get_or, ℕ, zero, suc, Result, List, [], ◌∷◌, ◌++◌, length, length-append, append_assoc, Option, Bool, true, false, not, ⊎_elim, refl, sym, ◌∙◌, ap, subst, arith}
 use Rattle.std.proofs.lemmas.List.{append-nil}
 use Rattle.atomic_table.specs.Table.{Me}
 use Rattle.channel_face.specs.Token.{Token}
@@ -14,7 +14,7 @@ use Rattle.turn_passes.proofs.Histories.{has_left, has-append}
 use Rattle.std.proofs.lemmas.Bool.{cases_lt}
 use Rattle.turn_passes.specs.Turns.{Making, Made}
 use Rattle.shared_channel.specs.Counting.{StandsCounting, Keeps, is_counted}
-use Rattle.shared_channel.specs.Calls.{step, made_if, Bounds, IsIn, Makes, IsSeen, Left, Answers, RolledBack, Looks, Commits, MakesCommit, is_spent_commit, state_seen}
+use Rattle.shared_channel.specs.Calls.{step, made_if, Bounds, IsIn, Makes, Left, Answers, RolledBack, Looks, Commits, MakesCommit, is_spent_commit, state_seen}
 use Rattle.shared_channel.specs.Passes.{view_of, AreMarks, IsPass}
 use Rattle.shared_channel.proofs.Keeping.{Law, kept_run, keeps_more}
 

@@ -1,5 +1,5 @@
 -- What a call through a pass did.
-use Rattle.std.specs.Prelude.{◌≡◌, ◌<◌, ◌≤◌, ◌+◌, ◌-◌, ◌^◌, ℕ, List, [], ◌∷◌, ◌++◌, length, Bool, true, false, Option, None, Result, Ok, Err, MatchBool}
+use Rattle.std.specs.Prelude.{◌≡◌, ◌<◌, ◌≤◌, ◌+◌, ◌-◌, ◌^◌, ℕ, List, [], ◌∷◌, ◌++◌, length, Bool, true, false, Option, None, Result, Err}
 use Rattle.atomic_table.specs.Table.{Me}
 use Rattle.channel_face.specs.Token.{Token}
 use Rattle.channel_face.specs.Machine.{State, Call}
@@ -13,7 +13,7 @@ use Rattle.channel_face.specs.declared.replies.StageCause.TheVariants.{Spent}
 use Rattle.channel_face.specs.declared.replies.CommitRefused.{CommitRefused}
 use Rattle.channel_face.specs.declared.replies.CommitRefused.TheVariants.{Stage}
 use Rattle.turn_passes.specs.Calls.{has}
-use Rattle.turn_passes.specs.Views.{View, counted}
+use Rattle.turn_passes.specs.Views.{View}
 use Rattle.turn_passes.specs.Turns.{Making, Made}
 use Rattle.shared_channel.specs.Counting.{StandsCounting, Keeps}
 

@@ -1,5 +1,5 @@
 -- What a channel that is shared stands for.
-use Rattle.std.specs.Prelude.{◌≡◌, ◌≤◌, ◌+◌, ◌-◌, ◌^◌, ℕ, List, [], ◌∷◌, length, Bool, true, false, not}
+use Rattle.std.specs.Prelude.{◌≡◌, ◌≤◌, ◌+◌, ◌-◌, ◌^◌, List, [], ◌∷◌, length, Bool, true}
 use Rattle.channel_face.specs.Machine.{Call, RollbackPut, RollbackTake}
 use Rattle.channel_face.specs.History.{Opening, Step, opening, state_after}
 use Rattle.turn_passes.specs.Calls.{keep}

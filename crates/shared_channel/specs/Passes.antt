@@ -1,5 +1,5 @@
 -- What contracts see of a pass.
-use Rattle.std.specs.Prelude.{◌≡◌, ◌+◌, ◌<◌, ◌≤◌, ℕ, zero, suc, List, [], ◌∷◌, ◌++◌, length, get_or, Bool, true, false}
+use Rattle.std.specs.Prelude.{◌≡◌, ◌<◌, ℕ, zero, suc, List, [], ◌∷◌, ◌++◌, length, get_or, Bool, true, false}
 use Rattle.atomic_table.specs.Seated.{TableId}
 use Rattle.channel_face.specs.History.{Opening}
 use Rattle.turn_passes.specs.Calls.{has}

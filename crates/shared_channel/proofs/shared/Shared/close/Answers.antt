@@ -1,8 +1,5 @@
-use Rattle.std.proofs.Common.{rules, ◌≡◌, [], ◌∷◌, ◌++◌, true, sym, subst, ap}
-use Rattle.channel_face.specs.Machine.{State}
-use Rattle.turn_passes.specs.Calls.{calls_by, Below}
-use Rattle.turn_passes.specs.Turns.{HasAll}
-use Rattle.turn_passes.specs.Views.{View, idle}
+use Rattle.std.proofs.Common.{rules, ◌≡◌, [], ◌∷◌, subst}
+use Rattle.turn_passes.specs.Views.{idle}
 use Rattle.turn_passes.proofs.Histories.{all_own}
 use Rattle.shared_channel.specs.Calls.{Left}
 use Rattle.shared_channel.specs.Passes.{Known, view_of}

@@ -1,4 +1,4 @@
-use Rattle.std.proofs.Common.{rules, ◌≡◌, [], ◌∷◌, subst, true, false, None, Option, Bool}
+use Rattle.std.proofs.Common.{rules, ◌≡◌, [], ◌∷◌, subst, true}
 use Rattle.channel_face.specs.Machine.{StageTake}
 use Rattle.turn_passes.specs.Calls.{has}
 use Rattle.shared_channel.specs.Calls.{Commits, is_spent_commit}

@@ -1,5 +1,4 @@
-use Rattle.std.proofs.Common.{rules, ◌≡◌, [], ◌∷◌, ap, subst, ◌∙◌, sym, ℕ, List, Option}
-use Rattle.atomic_table.specs.Table.{Me}
+use Rattle.std.proofs.Common.{rules, ◌≡◌, [], ◌∷◌, subst, sym, ℕ, List}
 use Rattle.turn_passes.specs.Views.{View, both, settled}
 use Rattle.shared_channel.specs.Passes.{IsPass}
 use Rattle.shared_channel.proofs.Turning.{joined}

@@ -1,4 +1,4 @@
-use Rattle.std.proofs.Common.{rules, arith, refl, sym, ap, subst, inl, inr, ◌≡◌, ◌∙◌, ◌<◌, ◌+◌, ◌-◌, ◌^◌, ℕ, Ok, Err, Bool, true, false, not, length, length-append, List, [], ◌∷◌, ◌++◌}
+use Rattle.std.proofs.Common.{rules, arith, refl, sym, ap, subst, inl, inr, ◌≡◌, ◌∙◌, ◌<◌, ◌-◌, ◌^◌, ℕ, Ok, Err, Bool, false, not, length, length-append, List, [], ◌∷◌, ◌++◌}
 use Rattle.channel_face.specs.Token.{Token}
 use Rattle.channel_face.specs.Machine.{StageTake, Flush}
 use Rattle.channel_face.specs.History.{Said}

@@ -1,8 +1,8 @@
-use Rattle.std.proofs.Common.{rules, refl, sym, ap, subst, not, Bool, true, ◌≡◌, List, [], ◌∷◌, ◌++◌, length, ◌^◌, ◌-◌}
+use Rattle.std.proofs.Common.{rules, refl, sym, ap, subst, not, Bool, length, ◌^◌, ◌-◌}
 use Rattle.channel_face.specs.Machine.{Flush}
 use Rattle.channel_face.specs.Faces.{is_spent_flush}
 use Rattle.channel_face.proofs.Spent.{flush_spares}
-use Rattle.shared_channel.specs.Calls.{step, state_seen, made_if, Makes, Bounds}
+use Rattle.shared_channel.specs.Calls.{state_seen, Bounds}
 use Rattle.shared_channel.proofs.Keeping.{answered_by}
 use Rattle.shared_channel.proofs.Turning.{makes_none, makes_one}
 use Rattle.shared_channel.proofs.shared.Shared.make_flush.Goals as goal

@@ -1,11 +1,11 @@
-use Rattle.std.proofs.Common.{rules, refl, subst, Bool, true, false, Option, None, ◌≡◌, ◌<◌, ◌+◌, ◌^◌, length, List, [], ◌∷◌, ◌++◌, ◌∙◌}
+use Rattle.std.proofs.Common.{subst, Bool, true, false, ◌≡◌, List, [], ◌∷◌, ◌++◌}
 use Rattle.channel_face.specs.Token.{Token}
-use Rattle.channel_face.specs.Machine.{RollbackPut, puts_of}
+use Rattle.channel_face.specs.Machine.{RollbackPut}
 use Rattle.channel_face.specs.History.{Step, AddsOne}
 use Rattle.turn_passes.specs.Calls.{has}
 use Rattle.turn_passes.specs.Turns.{Making}
 use Rattle.turn_passes.specs.Views.{View, counted}
-use Rattle.shared_channel.specs.Calls.{step, IsIn}
+use Rattle.shared_channel.specs.Calls.{step}
 use Rattle.shared_channel.proofs.Keeping.{rolled_put, room_put, stale_put}
 use Rattle.shared_channel.proofs.Turning.{makes_none, makes_kept}
 use Rattle.shared_channel.proofs.shared.Shared.make_rollback_put.Goals as goal

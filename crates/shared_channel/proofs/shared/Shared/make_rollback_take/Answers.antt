@@ -1,11 +1,11 @@
-use Rattle.std.proofs.Common.{rules, refl, subst, Bool, true, false, Option, None, ◌≡◌, ◌<◌, ◌+◌, ◌^◌, length, List, [], ◌∷◌, ◌++◌, ◌∙◌}
+use Rattle.std.proofs.Common.{subst, Bool, true, false, ◌≡◌, List, [], ◌∷◌, ◌++◌}
 use Rattle.channel_face.specs.Token.{Token}
-use Rattle.channel_face.specs.Machine.{RollbackTake, takes_of}
+use Rattle.channel_face.specs.Machine.{RollbackTake}
 use Rattle.channel_face.specs.History.{Step, AddsOne}
 use Rattle.turn_passes.specs.Calls.{has}
 use Rattle.turn_passes.specs.Turns.{Making}
 use Rattle.turn_passes.specs.Views.{View, counted}
-use Rattle.shared_channel.specs.Calls.{step, IsIn}
+use Rattle.shared_channel.specs.Calls.{step}
 use Rattle.shared_channel.proofs.Keeping.{rolled_take, room_take, stale_take}
 use Rattle.shared_channel.proofs.Turning.{makes_none, makes_kept}
 use Rattle.shared_channel.proofs.shared.Shared.make_rollback_take.Goals as goal

@@ -8,7 +8,7 @@ use Rattle.channel_face.specs.History.{Step}
 use Rattle.turn_passes.specs.Calls.{has}
 use Rattle.turn_passes.specs.Turns.{Making}
 use Rattle.turn_passes.specs.Views.{View, counted}
-use Rattle.shared_channel.specs.Calls.{step, state_seen, made_if, Makes, Bounds}
+use Rattle.shared_channel.specs.Calls.{step, state_seen, Bounds}
 use Rattle.shared_channel.proofs.Keeping.{answered_by}
 use Rattle.shared_channel.proofs.Turning.{makes_none, makes_one}
 use Rattle.shared_channel.proofs.shared.Shared.make_stage_take.Goals as goal

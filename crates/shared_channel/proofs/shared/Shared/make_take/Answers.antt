@@ -1,4 +1,4 @@
-use Rattle.std.proofs.Common.{rules, refl, sym, ap, subst, not, Bool, true, ◌≡◌, List, [], ◌∷◌, ◌++◌, length, ◌^◌, ◌-◌}
+use Rattle.std.proofs.Common.{rules, refl, sym, ap, subst, not, Bool, length, ◌^◌, ◌-◌}
 use Rattle.channel_face.specs.Token.{Token}
 use Rattle.channel_face.specs.Machine.{Take, takes_of}
 use Rattle.channel_face.specs.Faces.{is_spent_take}

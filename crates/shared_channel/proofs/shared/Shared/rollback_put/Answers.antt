@@ -1,4 +1,4 @@
-use Rattle.std.proofs.Common.{rules, ◌≡◌, [], ◌∷◌, subst, true, false, None, Option, Bool}
+use Rattle.std.proofs.Common.{rules, ◌≡◌, [], ◌∷◌, subst, true, None}
 use Rattle.channel_face.specs.Machine.{State, RollbackPut, puts_of}
 use Rattle.turn_passes.specs.Calls.{has}
 use Rattle.shared_channel.specs.Calls.{RolledBack}

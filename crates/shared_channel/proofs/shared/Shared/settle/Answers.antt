@@ -1,4 +1,4 @@
-use Rattle.std.proofs.Common.{rules, ◌≡◌, [], ◌∷◌, subst, true, false, None, Option, Bool}
+use Rattle.std.proofs.Common.{rules, ◌≡◌, [], ◌∷◌, subst, true}
 use Rattle.turn_passes.specs.Calls.{has}
 use Rattle.shared_channel.specs.Passes.{Known, view_of}
 use Rattle.shared_channel.specs.Ports.{Settles}

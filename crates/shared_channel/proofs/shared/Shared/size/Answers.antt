@@ -1,12 +1,11 @@
-use Rattle.std.proofs.Common.{rules, ◌≡◌, [], ◌∷◌, sym, ap, subst, true, length, List}
-use Rattle.channel_face.specs.Machine.{State, settled}
-use Rattle.channel_face.specs.History.{Opening, Step, opening, state_after}
-use Rattle.channel_face.specs.Counters.{counts_of}
+use Rattle.std.proofs.Common.{rules, ◌≡◌, [], ◌∷◌, sym, ap, subst, true, length}
+use Rattle.channel_face.specs.Machine.{State}
+use Rattle.channel_face.specs.History.{opening, state_after}
 use Rattle.turn_passes.specs.Calls.{has}
 use Rattle.turn_passes.specs.Views.{View}
 use Rattle.shared_channel.specs.Calls.{Looks, state_seen}
 use Rattle.shared_channel.specs.Passes.{Known, view_of}
-use Rattle.shared_channel.proofs.Keeping.{kept_shows, kept_counts}
+use Rattle.shared_channel.proofs.Keeping.{kept_shows}
 use Rattle.shared_channel.proofs.Turning.{looks, shown, pass_after, of_views}
 use Rattle.shared_channel.proofs.shared.Shared.size.Goals as goal
 
