@@ -1,5 +1,7 @@
 // A pass beside its channel and its runtime.
-ghost use Rattle.std.specs.Prelude.{◌≡◌, ◌≤◌, length};
+ghost use Rattle.std.specs.Prelude.{◌≡◌, ◌<◌, ◌≤◌, All, length};
+ghost use Rattle.channel_face.specs.Faces.{Gains, picked_events, IsPutBatch, IsTakeBegun, IsTake, IsTakeCommit, IsTakeRolledBack};
+ghost use Rattle.shared_channel.specs.Ports.{AreOwned, Saw};
 
 use crate::pass::Pass;
 use crate::shared::Shared;
@@ -48,7 +50,12 @@ impl<'a, R: Wait, C: Channel> PutFace for Port<'a, R, C> {
 
     ghost seen = { λ p. length p.pass.view.seen };
 
-    fn put_batch(&mut self, batch: &Batch, picked: &[u32]) -> Result<u64, FaceRefused> {
+    fn put_batch(&mut self, batch: &Batch, picked: &[u32]) -> Result<u64, FaceRefused>
+        requires { All (λ place. place < length batch.now) picked.now }
+        ensures seen { length self.old.pass.view.seen ≤ length self.new.pass.view.seen }
+        ensures calls { Gains (AreOwned self.old.pass.view) (AreOwned self.new.pass.view) (IsPutBatch (Saw self.new.pass.view) (length self.new.pass.view.seen) (picked_events batch.now picked.now) result) }
+        ensures same { (self.new.pass.table_id ≡ self.old.pass.table_id) × (self.new.pass.number ≡ self.old.pass.number) }
+    {
         self.shared
             .put_batch(self.rt, &mut self.pass, batch, picked)
     }
@@ -64,25 +71,42 @@ impl<'a, R: Wait, C: Channel> TakeFace for Port<'a, R, C> {
 
     ghost seen = { λ p. length p.pass.view.seen };
 
-    fn begin(&mut self) -> Result<TakeTxn, FaceRefused> {
+    fn begin(&mut self) -> Result<TakeTxn, FaceRefused>
+        ensures seen { length self.old.pass.view.seen ≤ length self.new.pass.view.seen }
+        ensures calls { Gains (AreOwned self.old.pass.view) (AreOwned self.new.pass.view) (IsTakeBegun (length self.new.pass.view.seen) result) }
+        ensures same { (self.new.pass.table_id ≡ self.old.pass.table_id) × (self.new.pass.number ≡ self.old.pass.number) }
+    {
         match self.shared.begin_take(self.rt, &mut self.pass) {
             Ok(txn) => Ok(txn),
             Err(refused) => Err(FaceRefused::Begin(refused)),
         }
     }
 
-    fn take(&mut self, txn: &mut TakeTxn) -> Result<Option<Event>, FaceRefused> {
+    fn take(&mut self, txn: &mut TakeTxn) -> Result<Option<Event>, FaceRefused>
+        ensures seen { length self.old.pass.view.seen ≤ length self.new.pass.view.seen }
+        ensures calls { Gains (AreOwned self.old.pass.view) (AreOwned self.new.pass.view) (IsTake (length self.new.pass.view.seen) txn.old result) }
+        ensures token { txn.new ≡ txn.old }
+        ensures same { (self.new.pass.table_id ≡ self.old.pass.table_id) × (self.new.pass.number ≡ self.old.pass.number) }
+    {
         match self.shared.take(self.rt, &mut self.pass, txn) {
             Ok(taken) => Ok(taken.event),
             Err(refused) => Err(FaceRefused::Take(refused)),
         }
     }
 
-    fn commit(&mut self, txn: TakeTxn) -> Result<(), FaceRefused> {
+    fn commit(&mut self, txn: TakeTxn) -> Result<(), FaceRefused>
+        ensures seen { length self.old.pass.view.seen ≤ length self.new.pass.view.seen }
+        ensures calls { Gains (AreOwned self.old.pass.view) (AreOwned self.new.pass.view) (IsTakeCommit (Saw self.new.pass.view) (length self.new.pass.view.seen) txn result) }
+        ensures same { (self.new.pass.table_id ≡ self.old.pass.table_id) × (self.new.pass.number ≡ self.old.pass.number) }
+    {
         self.shared.finish_takes(self.rt, &mut self.pass, txn)
     }
 
-    fn rollback(&mut self, txn: TakeTxn) {
+    fn rollback(&mut self, txn: TakeTxn)
+        ensures seen { length self.old.pass.view.seen ≤ length self.new.pass.view.seen }
+        ensures calls { Gains (AreOwned self.old.pass.view) (AreOwned self.new.pass.view) (IsTakeRolledBack (Saw self.new.pass.view) txn) }
+        ensures same { (self.new.pass.table_id ≡ self.old.pass.table_id) × (self.new.pass.number ≡ self.old.pass.number) }
+    {
         self.shared.rollback_take(self.rt, &mut self.pass, txn);
     }
 }
