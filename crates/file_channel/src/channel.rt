@@ -100,6 +100,7 @@ pub fn open_channel<D: Disk + Drop, L: Ledger>(
     ensures opens { IfOk result (λ c. WhereTold (D.told disk) (λ t. Opens t.reads limits.capacity (base_of c.1.state) c.1.state.txn)) }
     ensures gains { IfOk result (λ c. Tells (D.told disk) (D.told c.0) (λ t u. GainsLog t.reads IsBegun u.reads)) }
     ensures refused { IfErr result (λ refused. IsRefused (D.told disk) (D.told refused.disk) (D.faults disk) (D.faults refused.disk) limits.capacity refused.cause) }
+    ensures well { IfOk result (λ c. D.faults c.0 ≡ D.faults disk) }
 
     // It stands for no calls: since the folder was settled, whatever a stop leaves recovers to what the folder recovers to.
     ensures stands { IfOk result (λ c. StandsOver (D.told c.0) (D.faults c.0) c.1 (record { rules = record { kind = Kind.File; limits = limits }; base = base_of c.1.state; txn = c.1.state.txn; faults = D.faults disk; from = moment_of (D.told disk) + 1 }) []) }

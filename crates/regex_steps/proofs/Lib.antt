@@ -1,1 +1,4 @@
 pub mod Searching
+pub mod DatePieces
+pub mod DateTexts
+pub mod Serializing

@@ -1,3 +1,4 @@
 pub mod Search
+pub mod Dates
 pub mod Extract
 pub mod Steps

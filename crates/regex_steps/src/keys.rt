@@ -1,5 +1,5 @@
 // What a step is built of.
-use std::alloc::AllocError;
+use std::alloc::{AllocError, AllocFailed};
 
 /// What a step looks for in a body, and what it does where it is found (Flume User Guide, "Regex Filtering Interceptor",
 /// "Regex Extractor Interceptor", "Search and Replace Interceptor"). Patterns have the syntax of the crate `regex`.
@@ -33,12 +33,14 @@ pub enum RegexKeys {
 pub struct Group {
     /// The header's key.
     pub name: String,
+    /// The pattern of a date, as `yyyy-MM-dd HH:mm`: the header is the date's milliseconds since 1970, and not the group itself.
+    pub millis: Option<String>,
 }
 
 /// Why no step is built.
 #[derive(Clone, Copy, Debug, PartialEq, Eq)]
 pub enum BuildRefused {
-    /// The text is no pattern, or one that nests too deep.
+    /// A text is no pattern, or one that nests too deep, or no pattern of dates.
     BadPattern,
     /// Memory ran out, or the built pattern would take too much of it.
     NoMemory,
@@ -51,6 +53,17 @@ impl From<AllocError> for BuildRefused {
     ghost from_gives = { λ _ e. e ≡ NoMemory };
 
     fn from(_refused: AllocError) -> BuildRefused {
+        BuildRefused::NoMemory
+    }
+}
+
+impl<T: Drop> From<AllocFailed<T>> for BuildRefused {
+    ghost use Rattle.std.specs.Prelude.{◌≡◌};
+    ghost use Rattle.regex_steps.specs.declared.keys.BuildRefused.TheVariants.{NoMemory};
+
+    ghost from_gives = { λ _ e. e ≡ NoMemory };
+
+    fn from(_refused: AllocFailed<T>) -> BuildRefused {
         BuildRefused::NoMemory
     }
 }

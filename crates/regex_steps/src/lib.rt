@@ -2,11 +2,14 @@
 //! replace.
 #![tactic(auto)]
 
+mod civil;
+mod date_pattern;
 mod groups;
 mod keys;
 mod patterns;
 mod step;
 
+pub use date_pattern::DatePattern;
 pub use keys::{BuildRefused, Group, RegexKeys};
 pub use step::RegexStep;
 

@@ -5,10 +5,10 @@ ghost use Rattle.regex.specs.Patterns.{find, find_str, find_all, find_all_str};
 ghost use Rattle.regex.specs.Strings as texts;
 ghost use Rattle.regex.specs.Bytes as raw;
 ghost use Rattle.regex_steps.specs.Search.{AreBuilt, IsNoPattern, IsOfSyntax, first_match, replaced, replaced_text, replaced_bytes};
-ghost use Rattle.regex_steps.specs.Extract.{names_of, headers_after, headers_of};
+ghost use Rattle.regex_steps.specs.Extract.{serializers_of, headers_after, headers_of};
 
-use crate::groups::set_groups;
-use crate::keys::{BuildRefused, Group};
+use crate::groups::{Serializer, set_groups};
+use crate::keys::BuildRefused;
 use event_core::{Headers, NoMemory};
 use regex::{Error, Regex, Template, bytes};
 use std::alloc::{AllocError, Global};
@@ -67,14 +67,14 @@ impl Patterns {
         &self,
         alloc: Global,
         body: &[u8],
-        groups: &[Group],
+        serializers: &[Serializer],
         headers: &mut Headers,
     ) -> Result<(), NoMemory>
-        ensures { OnOk result (headers.new ≡ headers_after self.now (names_of groups.now) body.now headers.old) }
+        ensures { OnOk result (headers.new ≡ headers_after self.now (serializers_of serializers.now) body.now headers.old) }
     {
         match str::from_utf8(body) {
-            Ok(text) => extract_from_text(alloc, &self.texts, text, groups, headers),
-            Err(_) => extract_from_bytes(alloc, &self.bytes, body, groups, headers),
+            Ok(text) => extract_from_text(alloc, &self.texts, text, serializers, headers),
+            Err(_) => extract_from_bytes(alloc, &self.bytes, body, serializers, headers),
         }
     }
 
@@ -96,14 +96,14 @@ fn extract_from_text(
     alloc: Global,
     regex: &Regex,
     text: &str,
-    groups: &[Group],
+    serializers: &[Serializer],
     headers: &mut Headers,
 ) -> Result<(), NoMemory>
-    ensures { OnOk result (headers.new ≡ headers_of text.now (names_of groups.now) headers.old (find_str (texts.regex_pattern regex.now) text.now 0)) }
+    ensures { OnOk result (headers.new ≡ headers_of text.now (serializers_of serializers.now) headers.old (find_str (texts.regex_pattern regex.now) text.now 0)) }
 {
     let mut matcher = regex.matcher(alloc)?;
     match matcher.captures(text) {
-        Some(found) => set_groups(&found, groups, headers),
+        Some(found) => set_groups(&found, serializers, headers),
         None => Ok(()),
     }
 }
@@ -112,14 +112,14 @@ fn extract_from_bytes(
     alloc: Global,
     regex: &bytes::Regex,
     body: &[u8],
-    groups: &[Group],
+    serializers: &[Serializer],
     headers: &mut Headers,
 ) -> Result<(), NoMemory>
-    ensures { OnOk result (headers.new ≡ headers_of body.now (names_of groups.now) headers.old (find (raw.regex_pattern regex.now) body.now 0)) }
+    ensures { OnOk result (headers.new ≡ headers_of body.now (serializers_of serializers.now) headers.old (find (raw.regex_pattern regex.now) body.now 0)) }
 {
     let mut matcher = regex.matcher(alloc)?;
     match matcher.captures(body) {
-        Some(found) => set_groups(&found, groups, headers),
+        Some(found) => set_groups(&found, serializers, headers),
         None => Ok(()),
     }
 }

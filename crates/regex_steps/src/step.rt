@@ -1,20 +1,20 @@
 // One step of a chain, over a regular expression.
 ghost use Rattle.std.specs.Prelude.{◌≡◌, ◌≤◌, IfOk, IfErr, IfSome, string_bytes, map};
 ghost use Rattle.event_core.specs.Content.{size};
-ghost use Rattle.regex_steps.specs.Search.{IsNoPattern};
-ghost use Rattle.regex_steps.specs.Extract.{names_of};
-ghost use Rattle.regex_steps.specs.Steps.{Filters, Extracts, Replaces, IsStepOf, step, pattern_text, ran, ran_as, IsRefusalOfStep};
+ghost use Rattle.regex_steps.specs.Extract.{serializers_of};
+ghost use Rattle.regex_steps.specs.Steps.{Filters, Extracts, Replaces, IsStepOf, IsBad, step, ran, ran_as, IsRefusalOfStep};
 
-use crate::keys::{BuildRefused, Group, RegexKeys};
+use crate::groups::{Serializer, serializers_for};
+use crate::keys::{BuildRefused, RegexKeys};
 use crate::patterns::Patterns;
 use event_core::{Event, EventRefused, MAX_EVENT_SIZE};
-use std::alloc::{AllocError, Global};
+use std::alloc::Global;
 
 // What is done where the pattern is found.
 #[derive(Drop)]
 pub enum Does {
     Filter { exclude: bool },
-    Extract { groups: Vec<Group> },
+    Extract { serializers: Vec<Serializer> },
     Replace { text: String },
 }
 
@@ -25,18 +25,6 @@ pub struct RegexStep {
     patterns: Patterns,
     does: Does,
     alloc: Global,
-}
-
-// The same headers once more.
-fn copies(alloc: Global, groups: &[Group]) -> Result<Vec<Group>, AllocError>
-    ensures { IfOk result (λ v. names_of v.items ≡ names_of groups.now) }
-{
-    let mut copies = Vec::new(alloc);
-    for group in groups {
-        let name = group.name.clone()?;
-        copies.push(Group { name })?;
-    }
-    Ok(copies)
 }
 
 fn filter(
@@ -60,15 +48,15 @@ fn filter(
 fn extract(
     alloc: Global,
     patterns: &Patterns,
-    groups: &[Group],
+    serializers: &[Serializer],
     event: Event,
 ) -> Result<Option<Event>, EventRefused>
-    ensures ok { IfOk result (λ made. made ≡ ran_as (Extracts (names_of groups.now)) patterns.now event) }
+    ensures ok { IfOk result (λ made. made ≡ ran_as (Extracts (serializers_of serializers.now)) patterns.now event) }
     ensures fits { IfOk result (λ made. IfSome made (λ e. size e ≤ MAX_EVENT_SIZE)) }
-    ensures err { IfErr result (IsRefusalOfStep (ran_as (Extracts (names_of groups.now)) patterns.now event)) }
+    ensures err { IfErr result (IsRefusalOfStep (ran_as (Extracts (serializers_of serializers.now)) patterns.now event)) }
 {
     let (mut headers, body) = event.into_parts();
-    patterns.extract(alloc, &body, groups, &mut headers)?;
+    patterns.extract(alloc, &body, serializers, &mut headers)?;
     match Event::new(headers, body) {
         Ok(made) => Ok(Some(made)),
         Err(e) => Err(e),
@@ -94,11 +82,11 @@ fn replace(
 }
 
 impl RegexStep {
-    /// Builds a step. `BadPattern` comes only where the text is no pattern, or one that nests too deep; a pattern that
-    /// would take too much memory is want of memory.
+    /// Builds a step. `BadPattern` comes only where a text is no pattern, or one that nests too deep, or where the text for a
+    /// date is no pattern of dates; a pattern that would take too much memory is want of memory.
     pub fn build(alloc: Global, keys: &RegexKeys) -> Result<RegexStep, BuildRefused>
         ensures ok { IfOk result (λ made. IsStepOf keys.now (step made)) }
-        ensures err { IfErr result (λ e. e ≡ BuildRefused.BadPattern → IsNoPattern (pattern_text keys.now)) }
+        ensures err { IfErr result (λ e. e ≡ BuildRefused.BadPattern → IsBad keys.now) }
     {
         match keys {
             RegexKeys::Filter { regex, exclude } => {
@@ -112,8 +100,8 @@ impl RegexStep {
             }
             RegexKeys::Extract { regex, groups } => {
                 let patterns = Patterns::build(alloc, regex.as_str())?;
-                let groups = copies(alloc, groups)?;
-                let does = Does::Extract { groups };
+                let serializers = serializers_for(alloc, groups)?;
+                let does = Does::Extract { serializers };
                 Ok(RegexStep {
                     patterns,
                     does,
@@ -143,7 +131,9 @@ impl RegexStep {
     {
         match &self.does {
             Does::Filter { exclude } => filter(self.alloc, &self.patterns, *exclude, event),
-            Does::Extract { groups } => extract(self.alloc, &self.patterns, groups, event),
+            Does::Extract { serializers } => {
+                extract(self.alloc, &self.patterns, serializers, event)
+            }
             Does::Replace { text } => replace(self.alloc, &self.patterns, text.as_str(), event),
         }
     }

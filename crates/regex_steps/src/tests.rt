@@ -1,11 +1,20 @@
 // Regular expressions over the bodies of events.
 use crate::{BuildRefused, Group, RegexKeys, RegexStep};
-use event_core::{Event, Headers};
+use event_core::{Event, EventRefused, Headers};
 use std::alloc::Global;
 use std::test::Fail;
 
 fn text(alloc: Global, text: &str) -> Result<String, Fail> {
     Ok(String::from_str(alloc, text)?)
+}
+
+fn group(alloc: Global, name: &str, millis: Option<&str>) -> Result<Group, Fail> {
+    let name = text(alloc, name)?;
+    let millis = match millis {
+        Some(pattern) => Some(text(alloc, pattern)?),
+        None => None,
+    };
+    Ok(Group { name, millis })
 }
 
 fn event(alloc: Global, body: &[u8]) -> Result<Event, Fail> {
@@ -89,9 +98,7 @@ fn groups_become_headers(rt: HostRuntime) -> Result<(), Fail> {
     let alloc = rt.alloc();
     let mut groups = Vec::new(alloc);
     for name in ["one", "two", "three"] {
-        groups.push(Group {
-            name: text(alloc, name)?,
-        })?;
+        groups.push(group(alloc, name, None)?)?;
     }
     let keys = RegexKeys::Extract {
         regex: text(alloc, "(\\d):(\\d):(\\d)")?,
@@ -122,12 +129,8 @@ fn groups_that_set_no_header(rt: HostRuntime) -> Result<(), Fail> {
     let alloc = rt.alloc();
     for (regex, body, a, b) in GROUPS {
         let mut groups = Vec::new(alloc);
-        groups.push(Group {
-            name: text(alloc, "a")?,
-        })?;
-        groups.push(Group {
-            name: text(alloc, "b")?,
-        })?;
+        groups.push(group(alloc, "a", None)?)?;
+        groups.push(group(alloc, "b", None)?)?;
         let keys = RegexKeys::Extract {
             regex: text(alloc, regex)?,
             groups,
@@ -141,6 +144,88 @@ fn groups_that_set_no_header(rt: HostRuntime) -> Result<(), Fail> {
         assert!(rt; made.headers().get("a") == a, "{regex}");
         assert!(rt; made.headers().get("b") == b, "{regex}");
     }
+    Ok(())
+}
+
+const STAMP: &str = "yyyy-MM-dd HH:mm:ss.SSS";
+
+// A pattern of dates, a body, and the milliseconds, which GNU `date` gives (`date -u -d DATE +%s`).
+const DATES: [(&str, &[u8], Option<&str>); 37] = [
+    (STAMP, b"1970-01-01 00:00:00.000", Some("0")),
+    (STAMP, b"1969-12-31 23:59:59.999", Some("-1")),
+    (STAMP, b"0000-01-01 00:00:00.000", Some("-62167219200000")),
+    (STAMP, b"9999-12-31 23:59:59.999", Some("253402300799999")),
+    (STAMP, b"2012-12-31 23:59:59.999", Some("1356998399999")),
+    (STAMP, b"2100-02-28 12:00:00.500", Some("4107499200500")),
+    (STAMP, b"1900-03-01 00:00:00.000", Some("-2203891200000")),
+    (STAMP, b"2000-02-29 00:00:00.000", Some("951782400000")),
+    // one beyond each field's limits
+    (STAMP, b"2012-00-31 23:59:59.999", None),
+    (STAMP, b"2012-13-31 23:59:59.999", None),
+    (STAMP, b"2012-12-00 23:59:59.999", None),
+    (STAMP, b"2012-12-32 23:59:59.999", None),
+    (STAMP, b"2012-11-31 23:59:59.999", None),
+    (STAMP, b"2100-02-29 12:00:00.500", None),
+    (STAMP, b"1900-02-29 12:00:00.500", None),
+    (STAMP, b"2012-12-31 24:00:00.000", None),
+    (STAMP, b"2012-12-31 23:60:00.000", None),
+    (STAMP, b"2012-12-31 23:59:60.000", None),
+    // as many digits as letters, and the whole group
+    (STAMP, b"2012-12-31 23:59:59.99", None),
+    (STAMP, b"2012-12-31 23:59:59.9999", None),
+    (STAMP, b"212-12-31 23:59:59.999", None),
+    (STAMP, b"2012-12-31 23:59:59,999", None),
+    (STAMP, b"2012-12-31 23:59:+9.999", None),
+    (STAMP, b" 2012-12-31 23:59:59.999", None),
+    // fields that are left out
+    ("dd/MM", b"28/02", Some("5011200000")),
+    ("dd/MM", b"29/02", None),
+    ("yyyyMMdd", b"20121018", Some("1350518400000")),
+    ("HHmm", b"1847", Some("67620000")),
+    ("SSS ss", b"250 07", Some("7250")),
+    ("", b"", Some("0")),
+    ("", b"x", None),
+    // texts between quotes, and characters beyond ASCII
+    (
+        "yyyy-MM-dd'T'HH:mm'Z'",
+        b"2012-10-18T18:47Z",
+        Some("1350586020000"),
+    ),
+    ("yyyy-MM-dd'T'HH:mm'Z'", b"2012-10-18 18:47Z", None),
+    ("'at ''y'HH", b"at y01", Some("3600000")),
+    ("HH\u{b7}mm", b"18\xc2\xb747", Some("67620000")),
+    ("HH\u{b7}mm", b"18\xb747", None),
+    ("HH''mm", b"1847", Some("67620000")),
+];
+
+#[test]
+fn dates_become_milliseconds(rt: HostRuntime) -> Result<(), Fail> {
+    let alloc = rt.alloc();
+    for (pattern, body, want) in DATES {
+        let mut groups = Vec::new(alloc);
+        groups.push(group(alloc, "at", Some(pattern))?)?;
+        let keys = RegexKeys::Extract {
+            regex: text(alloc, "(?s)^(.*)$")?,
+            groups,
+        };
+        let made = ran(&mut built(alloc, &keys)?, event(alloc, body)?)?.ok_or("dropped")?;
+        assert!(rt; made.headers().get("at") == want, "{pattern}");
+    }
+    Ok(())
+}
+
+#[test]
+fn a_group_of_a_line_is_a_date(rt: HostRuntime) -> Result<(), Fail> {
+    let alloc = rt.alloc();
+    let mut groups = Vec::new(alloc);
+    groups.push(group(alloc, "timestamp", Some("yyyy-MM-dd HH:mm"))?)?;
+    let keys = RegexKeys::Extract {
+        regex: text(alloc, "^(\\d{4}-\\d\\d-\\d\\d \\d\\d:\\d\\d)")?,
+        groups,
+    };
+    let mut step = built(alloc, &keys)?;
+    let made = ran(&mut step, event(alloc, b"2012-10-18 18:47 up")?)?.ok_or("dropped")?;
+    assert!(rt; made.headers().get("timestamp") == Some("1350586020000"));
     Ok(())
 }
 
@@ -168,19 +253,94 @@ fn matches_are_replaced(rt: HostRuntime) -> Result<(), Fail> {
     Ok(())
 }
 
+fn refusal(alloc: Global, keys: &RegexKeys) -> Option<BuildRefused> {
+    match RegexStep::build(alloc, keys) {
+        Ok(_) => None,
+        Err(e) => Some(e),
+    }
+}
+
 #[test]
-fn refusals(rt: HostRuntime) -> Result<(), Fail> {
+fn texts_that_are_no_patterns(rt: HostRuntime) -> Result<(), Fail> {
     let alloc = rt.alloc();
     for regex in ["(", "[", "a{2", "\\"] {
         let keys = RegexKeys::Filter {
             regex: text(alloc, regex)?,
             exclude: false,
         };
-        let refused = match RegexStep::build(alloc, &keys) {
-            Ok(_) => None,
-            Err(e) => Some(e),
+        assert!(rt;
+            refusal(alloc, &keys) == Some(BuildRefused::BadPattern),
+            "{regex}"
+        );
+    }
+    for date in [
+        "yyy",
+        "yy",
+        "yyyyy",
+        "yyyy-yyyy",
+        "MMM",
+        "d",
+        "SS",
+        "hh",
+        "EEE",
+        "yyyy-MM-ddTHH",
+        "'",
+        "HH'",
+        "'a'b'c'",
+        "z",
+        "ss.SSSS",
+    ] {
+        let mut groups = Vec::new(alloc);
+        groups.push(group(alloc, "a", Some("HH"))?)?;
+        groups.push(group(alloc, "b", Some(date))?)?;
+        let keys = RegexKeys::Extract {
+            regex: text(alloc, "(.)(.)")?,
+            groups,
         };
-        assert!(rt; refused == Some(BuildRefused::BadPattern), "{regex}");
+        assert!(rt;
+            refusal(alloc, &keys) == Some(BuildRefused::BadPattern),
+            "{date}"
+        );
     }
     Ok(())
+}
+
+// What an event of a body of 33,554,424 bytes, the most without headers, and one of fewer are behind a step that adds bytes.
+#[test]
+fn what_grows_too_large_is_refused(rt: HostRuntime) -> Result<(), Fail> {
+    let alloc = rt.alloc();
+    for (search, to, body, want) in [
+        // one byte more for the one match
+        ("^a", "xx", 33_554_423, None),
+        ("^a", "xx", 33_554_424, Some(33_554_433)),
+    ] {
+        let keys = RegexKeys::Replace {
+            search: text(alloc, search)?,
+            text: text(alloc, to)?,
+        };
+        assert!(rt; too_large(alloc, &keys, body)? == want);
+    }
+    // ten bytes more for the header k=a: two lengths, a key and a value
+    for (body, want) in [(33_554_414, None), (33_554_415, Some(33_554_433))] {
+        let mut groups = Vec::new(alloc);
+        groups.push(group(alloc, "k", None)?)?;
+        let keys = RegexKeys::Extract {
+            regex: text(alloc, "^(a)")?,
+            groups,
+        };
+        assert!(rt; too_large(alloc, &keys, body)? == want);
+    }
+    Ok(())
+}
+
+// The size for which a body of so many letters is refused behind a step.
+fn too_large(alloc: Global, keys: &RegexKeys, body: usize) -> Result<Option<u64>, Fail> {
+    let Ok(large) = Event::new(Headers::new(alloc), vec![in alloc; b'a'; body]?) else {
+        return Err(Fail::from("no event"));
+    };
+    match built(alloc, keys)?.run(large) {
+        Ok(_) => Ok(None),
+        Err(EventRefused::TooLarge { size }) => Ok(Some(size)),
+        Err(_) => Err(Fail::from("refused")),
+    }
 }

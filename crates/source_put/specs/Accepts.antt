@@ -16,7 +16,7 @@ use Rattle.source_put.specs.declared.chain.Stopped.TheVariants as stop
 use Rattle.source_put.specs.declared.put.Refusal.{Refusal}
 use Rattle.source_put.specs.declared.intake.Verdict.{Verdict}
 use Rattle.source_put.specs.declared.intake.Verdict.TheVariants.{Taken, Refused, TooLarge, NoMemory}
-use Rattle.source_put.specs.Chains.{Intercepts}
+use Rattle.source_put.specs.Chains.{Intercepts, Meaning}
 use Rattle.source_put.specs.Tries.{GivesBoth}
 
 -- each channel that a selector names is one of so many
@@ -53,6 +53,7 @@ module _ {F : Type 0} (Given : F → F → List Content → Result ℕ FaceRefus
   Judges (Err (stop.TooLarge size)) old new verdict = (verdict ≡ TooLarge size) × (new ≡ old)
   Judges (Err stop.NoMemory) old new verdict = (verdict ≡ NoMemory) × (new ≡ old)
 
-  -- The chain is applied to the batch, and each channel is given the events whose choice has it.
-  abbrev pub Accepts : ℕ → HostNames → List ChainLink → List Content → List F → Verdict → List ChainLink → List F → Type 0
-  Accepts moment host links batch old verdict after new = (made : Result (List Content) Stopped) × Intercepts moment host links batch made after × Judges made old new verdict
+  module _ {X : Type 0} {O : X → Type 0} (Means : Meaning X O) where
+    -- The chain is applied to the batch, and each channel is given the events whose choice has it.
+    abbrev pub Accepts : ℕ → HostNames → List (ChainLink X O) → List Content → List F → Verdict → List (ChainLink X O) → List F → Type 0
+    Accepts moment host links batch old verdict after new = (made : Result (List Content) Stopped) × Intercepts Means moment host links batch made after × Judges made old new verdict

@@ -1,9 +1,13 @@
 // A chain of interceptors.
 ghost use Rattle.std.specs.Prelude.{◌≡◌, length};
-ghost use Rattle.source_put.specs.Chains.{Intercepts, Links, Passes, host_text};
+ghost use Rattle.source_put.specs.Chains.{Answers, Intercepts, IsMade, IsMadeOrNot, Links, Passes, host_text};
+ghost use Rattle.interceptors.specs.Steps.{applied};
+ghost use Rattle.regex_steps.specs.Steps.{ran, step as step_of};
 
 use event_core::{Batch, Event, EventRefused};
 use interceptors::{Step, apply};
+use plug_in::{Intercepted, Interceptor};
+use regex_steps::RegexStep;
 use std::alloc::Global;
 
 /// The name and the address of this host.
@@ -18,6 +22,10 @@ pub struct HostNames {
 pub enum ChainLink {
     /// One that sets or removes headers.
     Step(Step),
+    /// One that looks for a pattern in the body.
+    Regex(RegexStep),
+    /// One that was handed in.
+    Boxed(Box<dyn Interceptor + Send>),
 }
 
 /// Interceptors in their order (Flume User Guide, "Flume Interceptors").
@@ -59,22 +67,55 @@ fn host_text<'a>(step: &Step, host: &'a HostNames) -> &'a str
     }
 }
 
+// An event passes a step over headers.
+fn pass_step(step: &Step, event: Event, moment: u64, host: &HostNames) -> Passed
+    ensures { IsMade (applied step.now moment (host_text step.now host.now) event) result }
+{
+    match apply(step, event, moment, host_text(step, host)) {
+        Ok(event) => Passed::Event(event),
+        Err(EventRefused::TooLarge { size }) => Passed::TooLarge { size },
+        Err(_) => Passed::NoMemory,
+    }
+}
+
+// An event passes a step over a pattern.
+fn pass_regex(step: &mut RegexStep, event: Event) -> Passed
+    ensures made { IsMadeOrNot (ran (step_of step.old) event) result }
+    ensures same { step_of step.new ≡ step_of step.old }
+{
+    match step.run(event) {
+        Ok(Some(event)) => Passed::Event(event),
+        Ok(None) => Passed::Dropped,
+        Err(EventRefused::TooLarge { size }) => Passed::TooLarge { size },
+        Err(_) => Passed::NoMemory,
+    }
+}
+
+// An event passes an interceptor that was handed in.
+fn pass_boxed(step: &mut Box<dyn Interceptor + Send>, event: Event, moment: u64) -> Passed
+    ensures { Answers ⟦<Box<dyn Interceptor + Send> as Interceptor>⟧.intercepts moment step.old event result step.new }
+{
+    match step.intercept(event, moment) {
+        Intercepted::Keep(event) => Passed::Event(event),
+        Intercepted::Dropped => Passed::Dropped,
+        Intercepted::NoMemory => Passed::NoMemory,
+    }
+}
+
 // An event passes an interceptor.
 fn pass_link(link: &mut ChainLink, event: Event, moment: u64, host: &HostNames) -> Passed
-    ensures { Links moment host.now link.old event result link.new }
+    ensures { Links ⟦<Box<dyn Interceptor + Send> as Interceptor>⟧.intercepts moment host.now link.old event result link.new }
 {
     match link {
-        ChainLink::Step(step) => match apply(step, event, moment, host_text(step, host)) {
-            Ok(event) => Passed::Event(event),
-            Err(EventRefused::TooLarge { size }) => Passed::TooLarge { size },
-            Err(_) => Passed::NoMemory,
-        },
+        ChainLink::Step(step) => pass_step(step, event, moment, host),
+        ChainLink::Regex(step) => pass_regex(step, event),
+        ChainLink::Boxed(step) => pass_boxed(step, event, moment),
     }
 }
 
 // An event passes interceptors.
 fn pass_event(links: &mut [ChainLink], event: Event, moment: u64, host: &HostNames) -> Passed
-    ensures passes { Passes moment host.now links.old event result links.new }
+    ensures passes { Passes ⟦<Box<dyn Interceptor + Send> as Interceptor>⟧.intercepts moment host.now links.old event result links.new }
     ensures len { length links.new ≡ length links.old }
 {
     let mut event = event;
@@ -98,7 +139,7 @@ impl Chain {
         moment: u64,
         host: &HostNames,
     ) -> Result<Batch, Stopped>
-        ensures { Intercepts moment host.now self.old.links.items batch result self.new.links.items }
+        ensures { Intercepts ⟦<Box<dyn Interceptor + Send> as Interceptor>⟧.intercepts moment host.now self.old.links.items batch result self.new.links.items }
     {
         let mut left = batch;
         let mut kept = Batch::new(alloc);

@@ -1,5 +1,5 @@
 // Where the batches of a source go.
-ghost use Rattle.std.specs.Prelude.{◌≡◌, ◌⊎◌, ◌<◌, ◌^◌, IfOk, length};
+ghost use Rattle.std.specs.Prelude.{◌≡◌, ◌⊎◌, ◌<◌, ◌^◌, IfOk, Some, length, slice_get};
 ghost use Rattle.source_put.specs.Accepts.{Accepts, Gives, NamesBelow, is_want, verdict_of};
 ghost use Rattle.source_put.specs.Tries.{Puts};
 
@@ -8,6 +8,7 @@ use crate::pick::pick;
 use crate::put::{Refusal, give_all};
 use channel_face::{BeginRefused, FaceRefused, PutFace, PutRefused};
 use event_core::{Batch, NoMemory};
+use plug_in::Interceptor;
 use selectors::Selector;
 use std::alloc::Global;
 
@@ -33,7 +34,7 @@ pub enum Verdict {
 
 /// Takes the batches of a source: the chain is applied to the events, and the selector names the channels of each.
 #[derive(Drop)]
-pub struct Intake<F: PutFace + Drop> {
+pub struct Intake<F> {
     alloc: Global,
     chain: Chain,
     selector: Selector,
@@ -107,7 +108,7 @@ impl<F: PutFace + Drop> Intake<F> {
     /// Takes a batch at a moment, in milliseconds since 1970.
     pub fn accept(&mut self, batch: Batch, moment: u64) -> Verdict
         requires { length batch < 2 ^ 32 }
-        ensures accepts { Accepts (Puts F.own F.saw F.seen) self.old.selector moment self.old.host self.old.chain.links.items batch self.old.ports.items result self.new.chain.links.items self.new.ports.items }
+        ensures accepts { Accepts (Puts F.own F.saw F.seen) self.old.selector ⟦<Box<dyn Interceptor + Send> as Interceptor>⟧.intercepts moment self.old.host self.old.chain.links.items batch self.old.ports.items result self.new.chain.links.items self.new.ports.items }
         ensures same { (self.new.selector ≡ self.old.selector) × (self.new.host ≡ self.old.host) }
     {
         match self.chain.pass(self.alloc, batch, moment, &self.host) {
@@ -115,6 +116,15 @@ impl<F: PutFace + Drop> Intake<F> {
             Err(Stopped::TooLarge { size }) => Verdict::TooLarge { size },
             Err(Stopped::NoMemory) => Verdict::NoMemory,
         }
+    }
+
+    /// Lends one of the channels, by its place. It takes no memory. What is written through the loan stays in the intake, of which
+    /// no clause speaks: a chain of boxed objects has no name in such a clause.
+    pub fn port(&mut self, place: u32) -> &mut F
+        requires { place < length self.old.ports.items }
+        ensures { slice_get self.old.ports.items place ≡ Some result.now }
+    {
+        &mut self.ports[place as usize]
     }
 
     /// Hands the channels back, in order. It takes no memory.

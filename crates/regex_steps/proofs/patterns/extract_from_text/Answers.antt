@@ -2,13 +2,13 @@ use Rattle.std.proofs.Common.{◌≡◌, ℕ, List, Option, Some, OnOk, sym, ap,
 use Rattle.event_core.specs.Content.{Header}
 use Rattle.regex.specs.Patterns.{Match, find_str}
 use Rattle.regex.specs.Strings.{regex_pattern, captures_span, captures_haystack}
-use Rattle.regex_steps.specs.Extract.{names_of, headers_of}
+use Rattle.regex_steps.specs.Extract.{serializers_of, headers_of}
 use Rattle.regex_steps.proofs.Searching.{headers_of_spans}
 use Rattle.regex_steps.proofs.patterns.extract_from_text.Goals as goal
 
 pub returns-in-Some : goal.returns-in-Some
 returns-in-Some c =
-    let names = names_of c.args.groups.now in
+    let names = serializers_of c.args.serializers.now in
     let m = c.in-Some.ensures.found in
     let found : find_str (regex_pattern c.args.regex.now) c.args.text.now 0 ≡ Some m.0 = rw c.in_ok-matcher.ensures.pattern at m.1 in
     let same = headers_of_spans (captures_haystack c.in-Some.found) m.0 (captures_span c.in-Some.found) names c.args.headers.now m.2.2
