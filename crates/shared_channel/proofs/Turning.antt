@@ -15,7 +15,10 @@ use Rattle.std.proofs.lemmas.Bool.{cases_lt}
 use Rattle.turn_passes.specs.Turns.{Making, Made}
 use Rattle.shared_channel.specs.Counting.{StandsCounting, Keeps, is_counted}
 use Rattle.shared_channel.specs.Calls.{step, made_if, Bounds, IsIn, Makes, Left, Answers, RolledBack, Looks, Commits, MakesCommit, is_spent_commit, state_seen}
-use Rattle.shared_channel.specs.Passes.{view_of, AreMarks, IsPass}
+use Rattle.std.specs.List.{All}
+use Rattle.std.proofs.lemmas.List.Elements.{All-push}
+use Rattle.atomic_table.specs.Seated.{TableId}
+use Rattle.shared_channel.specs.Passes.{Known, new_pass, new_passes, view_of, AreMarks, IsPass}
 use Rattle.shared_channel.proofs.Keeping.{Law, kept_run, keeps_more}
 
 -- while fewer calls were counted, none is spent
@@ -183,3 +186,8 @@ joined v w j number number' calls calls' mine theirs after p q is below each sam
   below,
   same ∙ p.7 ∙ sym (ap (λ (x : View). x.passes) is),
 )
+
+-- new passes are of their table
+pub new_of : (table : TableId) (start : Opening) (passes n : ℕ) → All (λ (p : Known). p.table_id ≡ table) (new_passes table start passes n)
+new_of table start passes zero = λ k d lt. absurd (omega arith)
+new_of table start passes (suc n) = All-push (λ (p : Known). p.table_id ≡ table) (new_passes table start passes n) (new_pass table start passes n) (new_of table start passes n) refl

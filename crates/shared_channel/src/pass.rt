@@ -40,6 +40,7 @@ impl Model for Pass {
 }
 
 /// A channel that was not shared.
+#[derive(Drop)]
 pub struct Unshared<C> {
     pub channel: C,
 }
@@ -125,6 +126,7 @@ impl<C: Channel> Shared<C> {
         ghost start: { Opening }
         requires { C.stands channel start [] }
         ensures shared { IfOk result (λ r. r.1.items ≡ new_passes r.0.turn.table.shared.table_id start passes passes) }
+        ensures table { IfOk result (λ r. All (λ p. p.table_id ≡ r.0.turn.table.shared.table_id) r.1.items) }
         ensures back { IfErr result (λ u. u.channel ≡ channel) }
     {
         let Ok(marks) = blanks(alloc, passes) else {
@@ -160,7 +162,8 @@ impl<C: Channel> Shared<C> {
         requires dealer { dealer.me ≡ (dealer_of start passes 0, []) }
         requires list { (list.items ≡ []) × (passes ≤ vec_capacity list) }
         requires marks { All (λ m. IsBlank passes m.items) marks.items × (length marks.items ≡ passes) }
-        ensures { result.items ≡ new_passes self.now.turn.table.shared.table_id start passes passes }
+        ensures passes { result.items ≡ new_passes self.now.turn.table.shared.table_id start passes passes }
+        ensures table { All (λ p. p.table_id ≡ self.now.turn.table.shared.table_id) result.items }
     {
         let mut i = 0;
         while i < passes {

@@ -9,12 +9,13 @@ use memory_channel::MemoryChannel;
 use shared_channel::{Pass, Shared};
 use std::alloc::Global;
 use std::marker::Brand;
+use std::snapshot::Snapshot;
 use std::sync::ledger::{Blank, Ledger};
 use txn_core::Machine;
 
 const LIMITS: Limits = Limits {
     capacity: 100_000,
-    txn_capacity: 100,
+    txn_capacity: 1000,
     max_file: 1_000_000,
 };
 
@@ -36,6 +37,22 @@ pub fn in_memory(alloc: Global, passes: u32) -> Opened<MemoryChannel>
     Shared::new(alloc, channel, passes).ok()
 }
 
+// Shares a channel that was opened in a folder of this disk.
+fn share(
+    alloc: Global,
+    channel: FileChannel<MemDisk>,
+    before: Snapshot<MemDisk>,
+    limits: Limits,
+    passes: u32,
+) -> Opened<FileChannel<MemDisk>>
+    ghost start: { Opening }
+    requires { StandsOver (told channel.0) (faults channel.0) channel.1 start [] }
+    ensures { IfSome result (λ r. All (λ p. p.table_id ≡ r.0.turn.table.shared.table_id) r.1.items) }
+{
+    let _ = (before, limits);
+    Shared::new(alloc, channel, passes).ok()
+}
+
 fn on_disk_by<L: Ledger>(
     alloc: Global,
     blank: Blank,
@@ -48,8 +65,9 @@ fn on_disk_by<L: Ledger>(
     ensures { IfSome result (λ r. All (λ p. p.table_id ≡ r.0.turn.table.shared.table_id) r.1.items) }
 {
     let mut steps = Steps::<L>::new(blank);
+    let before = Snapshot::of(&disk);
     match open_channel(alloc, disk, LIMITS, &mut steps) {
-        Ok(channel) => Shared::new(alloc, channel, passes).ok(),
+        Ok(channel) => share(alloc, channel, before, LIMITS, passes),
         Err(OpenRefused { disk: _, cause: _ }) => None,
     }
 }

@@ -1,5 +1,5 @@
 // What one thread does with a channel: it puts and takes by turns, through a port.
-ghost use Rattle.std.specs.Prelude.{◌≡◌};
+ghost use Rattle.std.specs.Prelude.{◌≡◌, IfSome, length};
 
 use channel_face::{Channel, PutFace, TakeFace};
 use event_core::{Batch, Event, Headers};
@@ -24,7 +24,10 @@ pub fn number_in(event: &Event) -> u64 {
     number
 }
 
-fn batch_of(alloc: Global, number: u64) -> Option<Batch> {
+// A batch of one event.
+pub fn batch_of(alloc: Global, number: u64) -> Option<Batch>
+    ensures { IfSome result (λ batch. length batch ≡ 1) }
+{
     let mut batch = Batch::new(alloc);
     let body = number.to_be_bytes().to_vec(alloc).ok()?;
     let event = Event::new(Headers::new(alloc), body).ok()?;
@@ -44,9 +47,6 @@ fn put_one<C: Channel, R: Wait>(
     let Some(batch) = batch_of(alloc, number) else {
         return Ok(());
     };
-    if batch.len() != 1 {
-        return Ok(());
-    }
     if port.put_batch(&batch, &[0]).is_ok() {
         put.push(number)?;
     }
@@ -77,7 +77,7 @@ fn take_one<C: Channel, R: Wait>(
 }
 
 // Puts so many events, whose numbers begin with this one, and takes after each; each third one is given back.
-pub fn work<C: Channel, R: Wait>(
+pub fn put_and_take<C: Channel, R: Wait>(
     rt: &R,
     alloc: Global,
     shared: &Shared<C>,
