@@ -86,14 +86,23 @@ fn four<C: Channel + Drop + Send, R: Threads + Wait + Sync>(
     both(shared, a, b)
 }
 
+// The last pass of those that are left.
+fn last<C: Channel>(shared: &Shared<C>, passes: &mut Vec<Pass>) -> Option<Pass>
+    requires { All (λ p. p.table_id ≡ shared.now.turn.table.shared.table_id) passes.old.items }
+    ensures { All (λ p. p.table_id ≡ shared.now.turn.table.shared.table_id) passes.new.items × IfSome result (λ p. p.table_id ≡ shared.now.turn.table.shared.table_id) }
+{
+    let _ = shared;
+    passes.pop()
+}
+
 // Two passes of those that are left.
-fn pair<C: Channel>(shared: &Shared<C>, passes: &mut Vec<Pass>) -> Option<(Pass, Pass)>
+pub fn pair<C: Channel>(shared: &Shared<C>, passes: &mut Vec<Pass>) -> Option<(Pass, Pass)>
     requires { All (λ p. p.table_id ≡ shared.now.turn.table.shared.table_id) passes.old.items }
     ensures left { All (λ p. p.table_id ≡ shared.now.turn.table.shared.table_id) passes.new.items }
     ensures pair { IfSome result (λ r. (r.0.table_id ≡ shared.now.turn.table.shared.table_id) × (r.1.table_id ≡ shared.now.turn.table.shared.table_id)) }
 {
-    let one = passes.pop()?;
-    let other = passes.pop()?;
+    let one = last(shared, passes)?;
+    let other = last(shared, passes)?;
     Some((one, other))
 }
 
