@@ -1,5 +1,5 @@
 use Rattle.std.proofs.Common.{inr, ap, sym, ◌∙◌}
-use Rattle.agent_run.specs.Checked.{first_plugin, HasPlugin}
+use Rattle.agent_run.specs.Checked.{first_plugin}
 use Rattle.agent_run.proofs.check.planned.Goals as goal
 
 pub returns-in-Some : goal.returns-in-Some
