@@ -1,9 +1,11 @@
 // Channels that have made no call, shared.
-ghost use Rattle.std.specs.Prelude.{◌≡◌, ◌<◌, All, IfSome};
+ghost use Rattle.std.specs.Prelude.{◌≡◌, ◌<◌, [], All, IfSome};
+ghost use Rattle.channel_face.specs.History.{Opening};
+ghost use Rattle.file_channel.specs.Stands.{StandsOver};
 
-use channel_face::{Kind, Limits};
+use channel_face::{Channel, Kind, Limits};
 use file_channel::{FileChannel, OpenRefused, open_channel};
-use flume_host::Steps;
+use flume_host::{Disk, Steps};
 use host_memory::MemDisk;
 use memory_channel::MemoryChannel;
 use shared_channel::{Pass, Shared};
@@ -21,44 +23,61 @@ const LIMITS: Limits = Limits {
 
 pub type Opened<C> = Option<(Shared<C>, Vec<Pass>)>;
 
+// Shares a channel that stands for an opening.
+fn share<C: Channel + Drop>(alloc: Global, channel: C, passes: u32) -> Opened<C>
+    ghost start: { Opening }
+    requires { C.stands channel start [] }
+    ensures { IfSome result (λ r. All (λ p. p.table_id ≡ r.0.turn.table.shared.table_id) r.1.items) }
+{
+    match Shared::new(alloc, channel, passes) {
+        Ok(opened) => Some(opened),
+        Err(_) => None,
+    }
+}
+
 // The plain channel.
 pub fn plain(alloc: Global, passes: u32) -> Opened<Machine>
     ensures { IfSome result (λ r. All (λ p. p.table_id ≡ r.0.turn.table.shared.table_id) r.1.items) }
 {
-    let machine = Machine::new(alloc, LIMITS, Kind::File).ok()?;
-    Shared::new(alloc, machine, passes).ok()
+    match Machine::new(alloc, LIMITS, Kind::File) {
+        Ok(machine) => share(alloc, machine, passes),
+        Err(_) => None,
+    }
 }
 
 // One in memory.
 pub fn in_memory(alloc: Global, passes: u32) -> Opened<MemoryChannel>
     ensures { IfSome result (λ r. All (λ p. p.table_id ≡ r.0.turn.table.shared.table_id) r.1.items) }
 {
-    let channel = MemoryChannel::new(alloc, LIMITS).ok()?;
-    Shared::new(alloc, channel, passes).ok()
+    match MemoryChannel::new(alloc, LIMITS) {
+        Ok(channel) => share(alloc, channel, passes),
+        Err(_) => None,
+    }
 }
 
-// Shares a channel that was opened in a folder of this disk.
-fn share(
+// Shares a channel that was opened in a folder that was so before.
+fn share_opened<D: Disk + Drop>(
     alloc: Global,
-    channel: FileChannel<MemDisk>,
-    before: Snapshot<MemDisk>,
+    channel: FileChannel<D>,
+    before: Snapshot<D>,
     limits: Limits,
     passes: u32,
-) -> Opened<FileChannel<MemDisk>>
+) -> Opened<FileChannel<D>>
     ghost start: { Opening }
-    requires { StandsOver (told channel.0) (faults channel.0) channel.1 start [] }
+    requires { StandsOver (D.told channel.0) (D.faults channel.0) channel.1 start [] }
     ensures { IfSome result (λ r. All (λ p. p.table_id ≡ r.0.turn.table.shared.table_id) r.1.items) }
 {
-    let _ = (before, limits);
-    Shared::new(alloc, channel, passes).ok()
+    let _ = before;
+    let _ = limits;
+    share(alloc, channel, passes)
 }
 
-fn on_disk_by<L: Ledger>(
+fn on_disk_by<D: Disk + Drop, L: Ledger>(
     alloc: Global,
     blank: Blank,
-    disk: MemDisk,
+    disk: D,
     passes: u32,
-) -> Opened<FileChannel<MemDisk>>
+) -> Opened<FileChannel<D>>
     requires name { blank.name ≡ L.name }
     requires parts { blank.parts ≡ L.parts }
     requires some { 0 < L.parts }
@@ -67,7 +86,7 @@ fn on_disk_by<L: Ledger>(
     let mut steps = Steps::<L>::new(blank);
     let before = Snapshot::of(&disk);
     match open_channel(alloc, disk, LIMITS, &mut steps) {
-        Ok(channel) => share(alloc, channel, before, LIMITS, passes),
+        Ok(channel) => share_opened(alloc, channel, before, LIMITS, passes),
         Err(OpenRefused { disk: _, cause: _ }) => None,
     }
 }
@@ -76,5 +95,5 @@ fn on_disk_by<L: Ledger>(
 pub fn on_disk(alloc: Global, disk: MemDisk, passes: u32) -> Opened<FileChannel<MemDisk>>
     ensures { IfSome result (λ r. All (λ p. p.table_id ≡ r.0.turn.table.shared.table_id) r.1.items) }
 {
-    on_disk_by::<Brand>(alloc, Blank::new(1), disk, passes)
+    on_disk_by::<MemDisk, Brand>(alloc, Blank::new(1), disk, passes)
 }
