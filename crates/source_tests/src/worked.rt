@@ -42,10 +42,12 @@ fn open<L: Ledger>(alloc: Global, blank: Blank, capacity: u32) -> Result<FileCha
     let mut steps = Steps::<L>::new(blank);
     match open_channel(alloc, MemDisk::new(alloc), limits(capacity), &mut steps) {
         Ok(channel) => Ok(channel),
-        Err(OpenRefused {
-            disk: _disk,
-            cause: _cause,
-        }) => Err(Fail::from("no channel")),
+        Err(
+            OpenRefused {
+                disk: _disk,
+                cause: _cause,
+            },
+        ) => Err(Fail::from("no channel")),
     }
 }
 
