@@ -1,7 +1,7 @@
 // Batches of one event with a header `state`, and what channels in memory that each hold two events then hold.
-use crate::setup::{batch_of, by_state, intake_over, pairs, sizes};
+use crate::setup::{batch_of, batch_with, by_state, intake_over, pairs, sizes};
 use channel_face::{FaceRefused, Limits, OwnFace, StageCause};
-use event_core::{Batch, Event, Headers};
+use event_core::{Event, Headers};
 use interceptors::Step;
 use memory_channel::MemoryChannel;
 use selectors::Selector;
@@ -92,11 +92,7 @@ fn a_chain_sets_headers_in_order_and_refuses_what_grows_too_large(
     let Ok(large) = Event::new(Headers::new(alloc), vec![in alloc; 0; 33_554_424]?) else {
         return Err(Fail::from("no event"));
     };
-    let mut batch = Batch::new(alloc);
-    if batch.push(large).is_err() {
-        return Err(Fail::from("no room"));
-    }
-    let verdict = intake.accept(batch, 0);
+    let verdict = intake.accept(batch_with(alloc, large)?, 0);
     assert!(rt; verdict == Verdict::TooLarge { size: 33_554_447 });
     let sizes = sizes(alloc, intake)?;
     assert!(rt; sizes.as_slice() == [1, 1, 0].as_slice());

@@ -1,5 +1,5 @@
 // What tests of batches are made of: a batch of one event with a header `state`, selectors, and an intake over channels.
-ghost use Rattle.std.specs.Prelude.{◌<◌, ◌↔◌, All, IsTrue};
+ghost use Rattle.std.specs.Prelude.{◌≡◌, ◌<◌, ◌↔◌, All, IfOk, IsTrue, length};
 ghost use Rattle.source_put.specs.Accepts.{NamesBelow};
 
 use channel_face::{Channel, OwnFace};
@@ -9,20 +9,29 @@ use source_put::{Chain, ChainLink, HostNames, Intake};
 use std::alloc::Global;
 use std::test::Fail;
 
+// A batch of this one event.
+pub fn batch_with(alloc: Global, event: Event) -> Result<Batch, Fail>
+    ensures { IfOk result (λ batch. length batch ≡ 1) }
+{
+    let mut batch = Batch::new(alloc);
+    match batch.push(event) {
+        Ok(()) => Ok(batch),
+        Err(_) => Err(Fail::from("no room")),
+    }
+}
+
 // A batch of one event with this body, and with the header `state` of this value.
-pub fn batch_of(alloc: Global, state: &str, body: &[u8]) -> Result<Batch, Fail> {
+pub fn batch_of(alloc: Global, state: &str, body: &[u8]) -> Result<Batch, Fail>
+    ensures { IfOk result (λ batch. length batch ≡ 1) }
+{
     let mut headers = Headers::new(alloc);
     if headers.set("state", state).is_err() {
         return Err(Fail::from("no header"));
     }
-    let Ok(event) = Event::new(headers, Vec::from_slice(alloc, body)?) else {
-        return Err(Fail::from("no event"));
-    };
-    let mut batch = Batch::new(alloc);
-    if batch.push(event).is_err() {
-        return Err(Fail::from("no room"));
+    match Event::new(headers, Vec::from_slice(alloc, body)?) {
+        Ok(event) => batch_with(alloc, event),
+        Err(_) => Err(Fail::from("no event")),
     }
-    Ok(batch)
 }
 
 // A list of one channel for a value.
