@@ -39,6 +39,7 @@ fn event_of(alloc: Global, line: &[u8]) -> Result<Event, NoMemory>
     };
     match Event::new(Headers::new(alloc), body) {
         Ok(event) => Ok(event),
+        // no line is too large for an event
         Err(_) => Err(NoMemory),
     }
 }
@@ -111,6 +112,7 @@ pub struct ChannelStore<D: Disk + Drop> {
     pub channel: FileChannel<D>,
 }
 
+// Opens the channel of a folder. Nobody asks for the records that it reads.
 fn open_by<D: Disk + Drop, L: Ledger>(
     alloc: Global,
     blank: Blank,
