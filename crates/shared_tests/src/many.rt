@@ -87,7 +87,8 @@ fn four<C: Channel + Drop + Send, R: Threads + Wait + Sync>(
 }
 
 // Two passes of those that are left.
-fn pair<C: Channel>(shared: &Shared<C>, passes: &mut Vec<Pass>) -> Option<(Pass, Pass)>
+#[tactic(auto, using(crate::proofs::Popping::all_pop))]
+pub fn pair<C: Channel>(shared: &Shared<C>, passes: &mut Vec<Pass>) -> Option<(Pass, Pass)>
     requires { All (λ p. p.table_id ≡ shared.now.turn.table.shared.table_id) passes.old.items }
     ensures left { All (λ p. p.table_id ≡ shared.now.turn.table.shared.table_id) passes.new.items }
     ensures pair { IfSome result (λ r. (r.0.table_id ≡ shared.now.turn.table.shared.table_id) × (r.1.table_id ≡ shared.now.turn.table.shared.table_id)) }

@@ -1,9 +1,9 @@
 // Channels that have made no call, shared.
-ghost use Rattle.std.specs.Prelude.{◌≡◌, ◌<◌, [], All, IfSome};
+ghost use Rattle.std.specs.Prelude.{◌≡◌, ◌<◌, All, IfSome};
 ghost use Rattle.channel_face.specs.History.{Opening};
-ghost use Rattle.file_channel.specs.Stands.{StandsOver};
+ghost use Rattle.shared_tests.specs.Opened.{IsOpenedAt};
 
-use channel_face::{Channel, Kind, Limits};
+use channel_face::{Kind, Limits};
 use file_channel::{FileChannel, OpenRefused, open_channel};
 use flume_host::{Disk, Steps};
 use host_memory::MemDisk;
@@ -23,24 +23,15 @@ const LIMITS: Limits = Limits {
 
 pub type Opened<C> = Option<(Shared<C>, Vec<Pass>)>;
 
-// Shares a channel that stands for an opening.
-fn share<C: Channel + Drop>(alloc: Global, channel: C, passes: u32) -> Opened<C>
-    ghost start: { Opening }
-    requires { C.stands channel start [] }
-    ensures { IfSome result (λ r. All (λ p. p.table_id ≡ r.0.turn.table.shared.table_id) r.1.items) }
-{
-    match Shared::new(alloc, channel, passes) {
-        Ok(opened) => Some(opened),
-        Err(_) => None,
-    }
-}
-
 // The plain channel.
 pub fn plain(alloc: Global, passes: u32) -> Opened<Machine>
     ensures { IfSome result (λ r. All (λ p. p.table_id ≡ r.0.turn.table.shared.table_id) r.1.items) }
 {
     match Machine::new(alloc, LIMITS, Kind::File) {
-        Ok(machine) => share(alloc, machine, passes),
+        Ok(machine) => match Shared::new(alloc, machine, passes) {
+            Ok(opened) => Some(opened),
+            Err(_) => None,
+        },
         Err(_) => None,
     }
 }
@@ -50,7 +41,10 @@ pub fn in_memory(alloc: Global, passes: u32) -> Opened<MemoryChannel>
     ensures { IfSome result (λ r. All (λ p. p.table_id ≡ r.0.turn.table.shared.table_id) r.1.items) }
 {
     match MemoryChannel::new(alloc, LIMITS) {
-        Ok(channel) => share(alloc, channel, passes),
+        Ok(channel) => match Shared::new(alloc, channel, passes) {
+            Ok(opened) => Some(opened),
+            Err(_) => None,
+        },
         Err(_) => None,
     }
 }
@@ -64,12 +58,15 @@ fn share_opened<D: Disk + Drop>(
     passes: u32,
 ) -> Opened<FileChannel<D>>
     ghost start: { Opening }
-    requires { StandsOver (D.told channel.0) (D.faults channel.0) channel.1 start [] }
+    requires { IsOpenedAt (D.told channel.0) (D.faults channel.0) channel.1 start }
     ensures { IfSome result (λ r. All (λ p. p.table_id ≡ r.0.turn.table.shared.table_id) r.1.items) }
 {
     let _ = before;
     let _ = limits;
-    share(alloc, channel, passes)
+    match Shared::new(alloc, channel, passes) {
+        Ok(opened) => Some(opened),
+        Err(_) => None,
+    }
 }
 
 fn on_disk_by<D: Disk + Drop, L: Ledger>(

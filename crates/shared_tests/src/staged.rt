@@ -1,6 +1,7 @@
 // Staged transactions of two passes, which one flush settles, and what a port does then; and a sync that fails.
 ghost use Rattle.std.specs.Prelude.{◌≡◌};
 
+use crate::many::pair;
 use crate::opened::on_disk;
 use crate::work::batch_of;
 use channel_face::{BeginRefused, FaceRefused, PutFace, Settled, StageRefused, Ticket};
@@ -56,34 +57,79 @@ fn stage<R: Wait>(rt: &R, shared: &OnDisk, pass: &mut Pass, event: &Event) -> Re
     }
 }
 
+fn both_staged<R: Wait>(
+    rt: &R,
+    shared: &OnDisk,
+    a: &mut Pass,
+    b: &mut Pass,
+    event: &Event,
+) -> Result<(Ticket, Ticket), Fail>
+    requires { (a.old.table_id ≡ shared.now.turn.table.shared.table_id) × (b.old.table_id ≡ shared.now.turn.table.shared.table_id) }
+    ensures { (a.new.table_id ≡ a.old.table_id) × (b.new.table_id ≡ b.old.table_id) }
+{
+    let one = stage(rt, shared, a, event)?;
+    let other = stage(rt, shared, b, event)?;
+    Ok((one, other))
+}
+
+// Whether a flush of the one settles the tickets of both.
+fn one_flush_settles<R: Wait>(
+    rt: &R,
+    shared: &OnDisk,
+    a: &mut Pass,
+    b: &mut Pass,
+    tickets: &(Ticket, Ticket),
+) -> bool
+    requires { (a.old.table_id ≡ shared.now.turn.table.shared.table_id) × (b.old.table_id ≡ shared.now.turn.table.shared.table_id) }
+    ensures { (a.new.table_id ≡ a.old.table_id) × (b.new.table_id ≡ b.old.table_id) }
+{
+    let before = shared.settled(rt, b, &tickets.1);
+    let flushed = shared.flush(rt, a).is_ok();
+    let one = shared.settled(rt, a, &tickets.0);
+    let other = shared.settled(rt, b, &tickets.1);
+    flushed && before == Settled::No && one == Settled::Yes && other == Settled::Yes
+}
+
+// How many syncs the disk of a channel made, whose passes are these.
+fn syncs_of<R: Wait>(rt: &R, shared: OnDisk, a: Pass, b: Pass) -> u64
+    requires { (a.table_id ≡ shared.turn.table.shared.table_id) × (b.table_id ≡ shared.turn.table.shared.table_id) }
+{
+    let mut a = a;
+    shared.join_pass(&mut a, b);
+    shared.close(rt, a).channel.close().syncs()
+}
+
+fn put_by_port<R: Wait>(
+    rt: &R,
+    alloc: Global,
+    shared: &OnDisk,
+    pass: Pass,
+) -> (Pass, Option<Result<u64, FaceRefused>>)
+    requires { pass.table_id ≡ shared.now.turn.table.shared.table_id }
+    ensures { result.0.table_id ≡ pass.table_id }
+{
+    let Some(batch) = batch_of(alloc, 7) else {
+        return (pass, None);
+    };
+    let mut port = Port::new(rt, shared, pass);
+    let reply = port.put_batch(&batch, &[0]);
+    (port.give_back(), Some(reply))
+}
+
 #[test]
 fn one_flush_settles_what_two_staged(rt: HostRuntime) -> Result<(), Fail> {
     let alloc = rt.alloc();
     let before = syncs_of_opening(&rt, alloc)?;
+    let event = event(alloc)?;
     let Some((shared, mut passes)) = on_disk(alloc, MemDisk::new(alloc), 2) else {
         return Err(Fail::from("no channel"));
     };
-    let (Some(mut a), Some(mut b)) = (passes.pop(), passes.pop()) else {
+    let Some((mut b, mut a)) = pair(&shared, &mut passes) else {
         return Err(Fail::from("no pass"));
     };
-    let event = event(alloc)?;
-    let one = stage(&rt, &shared, &mut a, &event)?;
-    let other = stage(&rt, &shared, &mut b, &event)?;
-    assert_eq!(rt; shared.settled(&rt, &mut b, &other), Settled::No);
-    assert!(rt; shared.flush(&rt, &mut a).is_ok());
-    assert_eq!(rt; shared.settled(&rt, &mut a, &one), Settled::Yes);
-    assert_eq!(rt; shared.settled(&rt, &mut b, &other), Settled::Yes);
-    assert_eq!(rt; shared.size(&rt, &mut b), 2);
-    assert!(rt; !shared.look(&rt, &mut b).broken);
-    assert!(rt; !a.turn_to(0) && a.number() == 1);
-    shared.join_pass(&mut a, b);
-    assert!(rt; a.turn_to(0) && a.number() == 0);
-    // two begins, puts and stages, and one flush
-    assert_eq!(rt; a.seen(), 7);
-    assert_eq!(rt;
-        shared.close(&rt, a).channel.close().syncs(),
-        before.saturating_add(2)
-    );
+    let tickets = both_staged(&rt, &shared, &mut a, &mut b, &event)?;
+    assert!(rt; one_flush_settles(&rt, &shared, &mut a, &mut b, &tickets));
+    assert_eq!(rt; syncs_of(&rt, shared, a, b), before.saturating_add(2));
     Ok(())
 }
 
@@ -91,27 +137,20 @@ fn one_flush_settles_what_two_staged(rt: HostRuntime) -> Result<(), Fail> {
 fn a_port_settles_what_another_staged(rt: HostRuntime) -> Result<(), Fail> {
     let alloc = rt.alloc();
     let before = syncs_of_opening(&rt, alloc)?;
+    let event = event(alloc)?;
     let Some((shared, mut passes)) = on_disk(alloc, MemDisk::new(alloc), 2) else {
         return Err(Fail::from("no channel"));
     };
-    let (Some(mut a), Some(b)) = (passes.pop(), passes.pop()) else {
+    let Some((b, mut a)) = pair(&shared, &mut passes) else {
         return Err(Fail::from("no pass"));
     };
-    let one = stage(&rt, &shared, &mut a, &event(alloc)?)?;
-    let Some(batch) = batch_of(alloc, 7) else {
-        return Err(Fail::from("no batch"));
-    };
-    let mut port = Port::new(&rt, &shared, b);
-    assert_eq!(rt; port.put_batch(&batch, &[0]), Ok(1));
-    let b = port.give_back();
+    let one = stage(&rt, &shared, &mut a, &event)?;
+    let (b, reply) = put_by_port(&rt, alloc, &shared, b);
+    assert!(rt; reply == Some(Ok(1)));
     // a begin, a put, a stage and a flush, behind the three of the other pass
     assert_eq!(rt; b.seen(), 7);
-    assert_eq!(rt; shared.settled(&rt, &mut a, &one), Settled::Yes);
-    shared.join_pass(&mut a, b);
-    assert_eq!(rt;
-        shared.close(&rt, a).channel.close().syncs(),
-        before.saturating_add(2)
-    );
+    assert!(rt; shared.settled(&rt, &mut a, &one) == Settled::Yes);
+    assert_eq!(rt; syncs_of(&rt, shared, a, b), before.saturating_add(2));
     Ok(())
 }
 
@@ -137,16 +176,11 @@ fn a_failed_sync_leaves_a_commit_in_doubt(rt: HostRuntime) -> Result<(), Fail> {
     let Some(pass) = passes.pop() else {
         return Err(Fail::from("no pass"));
     };
-    let Some(batch) = batch_of(alloc, 7) else {
-        return Err(Fail::from("no batch"));
-    };
-    let mut port = Port::new(&rt, &shared, pass);
-    assert_eq!(rt; port.put_batch(&batch, &[0]), Err(FaceRefused::InDoubt));
-    assert_eq!(rt;
-        port.put_batch(&batch, &[0]),
-        Err(FaceRefused::Begin(BeginRefused::Broken))
-    );
+    let (pass, reply) = put_by_port(&rt, alloc, &shared, pass);
+    assert!(rt; reply == Some(Err(FaceRefused::InDoubt)));
+    let (pass, reply) = put_by_port(&rt, alloc, &shared, pass);
+    assert!(rt; reply == Some(Err(FaceRefused::Begin(BeginRefused::Broken))));
     // of the second transaction a refused begin alone
-    assert_eq!(rt; port.give_back().seen(), 5);
+    assert_eq!(rt; pass.seen(), 5);
     Ok(())
 }
