@@ -54,7 +54,7 @@ at_fault bytes agent (Plan' (plan.UnknownType line)) is two = elim is.2 [
 ]
 at_fault bytes agent (Plan' (plan.UnknownName line)) is two = inr (inr (is.0, is.1, inl (plan.UnknownName line, (λ e. cc), is.2)))
 at_fault bytes agent (Plan' (plan.BadNumber line)) is two = inr (inr (is.0, is.1, inl (plan.BadNumber line, (λ e. cc), is.2)))
-at_fault bytes agent (Plan' (plan.BadPattern line)) is two = absurd is.2
+at_fault bytes agent (Plan' (plan.BadPattern line)) is two = inr (inr (is.0, is.1, inl (plan.BadPattern line, (λ e. cc), is.2)))
 at_fault bytes agent (Plan' (plan.Unsupported line)) is two = inr (inr (is.0, is.1, inl (plan.Unsupported line, (λ e. cc), is.2)))
 at_fault bytes agent (Plan' (plan.Clash line)) is two = inr (inr (is.0, is.1, inl (plan.Clash line, (λ e. cc), is.2)))
 at_fault bytes agent (Plan' (plan.Missing key)) is two = inr (inr (is.0, is.1, inl (plan.Missing key, (λ e. cc), is.2)))

@@ -1,5 +1,5 @@
 -- What a run of `check` has done, by its status.
-use Rattle.std.specs.Prelude.{◌≡◌, ◌≢◌, ◌⊎◌, ℕ, ◌≤◌, ◌<◌, min, Bool, true, false, List, ◌++◌, length, map, filter, fold, codes, decimal, Option, Some, None, Result, Ok, Err, string_bytes}
+use Rattle.std.specs.Prelude.{◌≡◌, ◌≢◌, ◌⊎◌, ℕ, ◌≤◌, ◌<◌, min, Bool, true, false, List, [], ◌∷◌, ◌++◌, length, map, filter, flat_map, fold, codes, decimal, Option, Some, None, Result, Ok, Err, string_bytes}
 use Rattle.std.specs.Io.KnownBytes.{Appends}
 use Rattle.prop_text.specs.Pairs.{Pair}
 use Rattle.prop_text.specs.Reads.{Reads}
@@ -7,6 +7,9 @@ use Rattle.prop_text.specs.declared.fault.PropRefused.{PropRefused}
 use Rattle.prop_text.specs.declared.fault.PropRefused.TheVariants as text
 use Rattle.flume_config.specs.Plans.{Plans}
 use Rattle.flume_config.specs.declared.plan.Plan.{Plan}
+use Rattle.flume_config.specs.declared.plan.SourcePlan.{SourcePlan}
+use Rattle.flume_config.specs.declared.plan.StepPlan.{StepPlan}
+use Rattle.flume_config.specs.declared.plan.StepPlan.TheVariants.{Step, Regex, Plugin as Plugin'}
 use Rattle.flume_config.specs.declared.plan.SinkPlan.{SinkPlan}
 use Rattle.flume_config.specs.declared.plan.SinkKind.{SinkKind}
 use Rattle.flume_config.specs.declared.plan.SinkKind.TheVariants.{Null, Roll, Avro, Plugin}
@@ -30,19 +33,32 @@ abbrev pub nearer : Option ℕ → ℕ → Option ℕ
 nearer None line = Some line
 nearer (Some first) line = Some (min first line)
 
+-- the line of an interceptor that is handed in
+abbrev pub step_lines : StepPlan → List ℕ
+step_lines (Step step) = []
+step_lines (Regex keys line) = []
+step_lines (Plugin' name line) = line ∷ []
+
+-- and those of a source's
+abbrev pub source_lines : SourcePlan → List ℕ
+source_lines s = flat_map step_lines s.steps.items
+
+abbrev pub sink_lines : List SinkPlan → List ℕ
+sink_lines sinks = map (λ s. s.line) (filter (λ s. is_plugin s.kind) sinks)
+
 -- the least of the lines of the plug-ins
-abbrev pub first_plugin : List SinkPlan → Option ℕ
-first_plugin sinks = fold nearer None (map (λ s. s.line) (filter (λ s. is_plugin s.kind) sinks))
+abbrev pub first_plugin : Plan → Option ℕ
+first_plugin p = fold nearer (fold nearer None (flat_map source_lines p.sources.items)) (sink_lines p.sinks.items)
 
 -- the agent has this plan, and no plug-in is in it: none is handed in
 abbrev pub IsWhole : List Pair → List ℕ → Plan → Type 0
-IsWhole pairs agent p = Plans pairs agent (Ok p) × (first_plugin p.sinks.items ≡ None)
+IsWhole pairs agent p = Plans pairs agent (Ok p) × (first_plugin p ≡ None)
 
 -- the agent has a plan, and the first plug-in in it is on this line
 pub record HasPlugin (pairs : List Pair) (agent : List ℕ) (line : ℕ) : Type 0 where
   pub plan : Plan
   pub planned : Plans pairs agent (Ok plan)
-  pub first : first_plugin plan.sinks.items ≡ Some line
+  pub first : first_plugin plan ≡ Some line
 
 -- why the agent has no plan, or else a plug-in, which is of unknown type
 abbrev pub IsPlanFault : List Pair → List ℕ → RunError → Type 0

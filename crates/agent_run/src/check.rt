@@ -1,14 +1,14 @@
 // `check -n NAME -f FILE`: a configuration is read and planned only.
-ghost use Rattle.std.specs.Prelude.{◌≡◌, IfOk, OnOk, string_bytes};
+ghost use Rattle.std.specs.Prelude.{◌≡◌, IfOk, OnOk, None, flat_map, fold, string_bytes};
 ghost use Rattle.std.specs.Io.KnownBytes.{Appends};
 ghost use Rattle.flume_host.specs.Causes.{HasCause};
 ghost use Rattle.flume_host.specs.HostState.{KeepsNamed};
 ghost use Rattle.agent_run.specs.Session.{Fronts};
-ghost use Rattle.agent_run.specs.Checked.{first_plugin, is_plugin, Checked, IsBeside, IsCheckStatus, Judges, PlansWhole, end_of, plan_line};
+ghost use Rattle.agent_run.specs.Checked.{first_plugin, is_plugin, nearer, sink_lines, source_lines, step_lines, Checked, IsBeside, IsCheckStatus, Judges, PlansWhole, end_of, plan_line};
 
 use crate::write::write_all;
 use agent_words::RunError;
-use flume_config::{Plan, PlanRefused, SinkKind, SinkPlan, plan_of};
+use flume_config::{Plan, PlanRefused, SinkKind, SinkPlan, SourcePlan, StepPlan, plan_of};
 use flume_host::{Failed, FileRefused, Host, Sink};
 use prop_text::{Properties, read_properties};
 use std::alloc::{AllocError, Global};
@@ -19,20 +19,59 @@ fn is_plugin(kind: &SinkKind) -> bool
     matches!(kind, SinkKind::Plugin { .. })
 }
 
-// The line of the first plug-in.
-fn first_plugin(sinks: &[SinkPlan]) -> Option<u32>
-    ensures { result ≡ first_plugin sinks.now }
+// The nearer of two lines.
+fn nearer(first: Option<u32>, line: u32) -> Option<u32>
+    ensures { result ≡ nearer first line }
 {
-    let mut first: Option<u32> = None;
-    for sink in sinks {
-        if is_plugin(&sink.kind) {
-            first = match first {
-                Some(line) => Some(line.min(sink.line)),
-                None => Some(sink.line),
-            };
+    match first {
+        Some(first) => Some(first.min(line)),
+        None => Some(line),
+    }
+}
+
+// The nearest of a line and those of the interceptors that are handed in.
+fn nearest_step(first: Option<u32>, steps: &[StepPlan]) -> Option<u32>
+    ensures { result ≡ fold nearer first (flat_map step_lines steps.now) }
+{
+    let mut first = first;
+    for step in steps {
+        if let StepPlan::Plugin { name: _, line } = step {
+            first = nearer(first, *line);
         }
     }
     first
+}
+
+// The same over the interceptors of sources.
+fn nearest_in_sources(sources: &[SourcePlan]) -> Option<u32>
+    ensures { result ≡ fold nearer None (flat_map source_lines sources.now) }
+{
+    let mut first: Option<u32> = None;
+    for source in sources {
+        first = nearest_step(first, source.steps.as_slice());
+    }
+    first
+}
+
+// The nearest of a line and those of the sinks that are handed in.
+fn nearest_sink(first: Option<u32>, sinks: &[SinkPlan]) -> Option<u32>
+    ensures { result ≡ fold nearer first (sink_lines sinks.now) }
+{
+    let mut first = first;
+    for sink in sinks {
+        if is_plugin(&sink.kind) {
+            first = nearer(first, sink.line);
+        }
+    }
+    first
+}
+
+// The line of the first plug-in.
+fn first_plugin(plan: &Plan) -> Option<u32>
+    ensures { result ≡ first_plugin plan.now }
+{
+    let first = nearest_in_sources(plan.sources.as_slice());
+    nearest_sink(first, plan.sinks.as_slice())
 }
 
 // The agent's plan, by the pairs of a configuration file.
@@ -40,7 +79,7 @@ fn planned(alloc: Global, properties: &Properties, agent: &str) -> Result<Plan, 
     ensures { PlansWhole properties.now agent.now result }
 {
     match plan_of(alloc, properties, agent) {
-        Ok(plan) => match first_plugin(plan.sinks.as_slice()) {
+        Ok(plan) => match first_plugin(&plan) {
             None => Ok(plan),
             Some(line) => Err(RunError::Plan(PlanRefused::UnknownType { line })),
         },

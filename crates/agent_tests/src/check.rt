@@ -94,7 +94,7 @@ fn a_configuration_is_counted(rt: HostRuntime) -> Result<(), Fail> {
     Ok(())
 }
 
-const FAULTS: [(&str, &str); 5] = [
+const FAULTS: [(&str, &str); 7] = [
     ("a1.x = \\u12", "2 flume: line 1: bad escape"),
     (
         "a1.channels = c\na1.sinks = k",
@@ -105,6 +105,15 @@ const FAULTS: [(&str, &str); 5] = [
     (
         "a1.sources=r\na1.sources.r.type=stdin\na1.sources.r.channels=c\na1.channels=c\na1.channels.c.type=memory\na1.sinks=k l\na1.sinks.l.channel=c\na1.sinks.k.channel=c\na1.sinks.l.type=plugin.x\na1.sinks.k.type=plugin.y",
         "2 flume: line 9: unknown type",
+    ),
+    // an interceptor that is handed in, before a sink
+    (
+        "a1.sources=r\na1.sources.r.type=stdin\na1.sources.r.channels=c\na1.channels=c\na1.channels.c.type=memory\na1.sinks=k\na1.sources.r.interceptors=i\na1.sources.r.interceptors.i.type=plugin.x\na1.sinks.k.channel=c\na1.sinks.k.type=plugin.y",
+        "2 flume: line 8: unknown type",
+    ),
+    (
+        "a1.sources=r\na1.sources.r.type=stdin\na1.sources.r.channels=c\na1.channels=c\na1.channels.c.type=memory\na1.sinks=k\na1.sinks.k.channel=c\na1.sinks.k.type=null\na1.sources.r.interceptors=i\na1.sources.r.interceptors.i.type=regex_filter\na1.sources.r.interceptors.i.regex=[",
+        "2 flume: line 11: bad pattern",
     ),
 ];
 

@@ -47,7 +47,7 @@ drop_from_get {X} (y ∷ ys) (suc n) x h =
     drop_from_get ys n x h ∙ ap (λ (l : List X). x ∷ l) (sym (ap (λ k. drop k (y ∷ ys)) place))
 
 -- one more name of a list
-drop_texts : (names : List (Bor (List ℕ))) (i : ℕ) (d : Bor (List ℕ)) → i < length names → drop i (texts names) ≡ (get_or names i d).now ∷ drop (i + 1) (texts names)
+pub drop_texts : (names : List (Bor (List ℕ))) (i : ℕ) (d : Bor (List ℕ)) → i < length names → drop i (texts names) ≡ (get_or names i d).now ∷ drop (i + 1) (texts names)
 drop_texts names i d lt =
     drop-map (λ x. x.now) i names ∙ ap texts (drop_more names i d lt) ∙ ap (λ (l : List (List ℕ)). (get_or names i d).now ∷ l) (sym (drop-map (λ x. x.now) (i + 1) names))
 

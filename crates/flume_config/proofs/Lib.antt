@@ -3,3 +3,6 @@ pub mod Joins
 pub mod AgentSteps
 pub mod Outcomes
 pub mod First
+pub mod Asking
+pub mod CommaSteps
+pub mod Mapping

@@ -35,14 +35,14 @@ passes max number i text lt digit kept over =
     let grows = decimal_behind_grows (drop (i + 1) text) (number * 10 + (b - 48)) n (sym step ∙ kept ∙ sym (behind_any text (omega arith)) ∙ e) in
     omega (arith, grows))
 
-with_front-nil : (xs : List ℕ) (ls : List (List ℕ)) → with_front xs ([] ∷ ls) ≡ xs ∷ ls
+pub with_front-nil : (xs : List ℕ) (ls : List (List ℕ)) → with_front xs ([] ∷ ls) ≡ xs ∷ ls
 with_front-nil xs ls = ap (λ (x : List ℕ). x ∷ ls) (append-nil xs)
 
-with_front-with_front : (xs : List ℕ) (b : ℕ) (ls : List (List ℕ)) → with_front xs (with_front (b ∷ []) ls) ≡ with_front (xs ++ b ∷ []) ls
+pub with_front-with_front : (xs : List ℕ) (b : ℕ) (ls : List (List ℕ)) → with_front xs (with_front (b ∷ []) ls) ≡ with_front (xs ++ b ∷ []) ls
 with_front-with_front xs b [] = refl
 with_front-with_front xs b (l ∷ ls) = ap (λ (x : List ℕ). x ∷ ls) (sym (append_assoc xs (b ∷ []) l))
 
-front_kept : (b : ℕ) (ls : List (List ℕ)) → with_front [] (with_front (b ∷ []) ls) ≡ with_front (b ∷ []) ls
+pub front_kept : (b : ℕ) (ls : List (List ℕ)) → with_front [] (with_front (b ∷ []) ls) ≡ with_front (b ∷ []) ls
 front_kept b [] = refl
 front_kept b (l ∷ ls) = refl
 

@@ -7,7 +7,8 @@ use Rattle.flume_config.specs.declared.findings.Fault.{Fault}
 use Rattle.flume_config.specs.Candidates.{Candidates, ◌⊕◌, each, first_of, least_of}
 use Rattle.flume_config.specs.Rows.{list_row}
 use Rattle.flume_config.specs.Components.{front_of, names_in, source, channel, sink, group}
-use Rattle.flume_config.specs.Claims.{Wish, source_wish, channel_wish, sink_wish, group_wish, clashes}
+use Rattle.flume_config.specs.Patterns.{Asked, asked_of, bad_ones}
+use Rattle.flume_config.specs.Claims.{Wish, step_wish, source_wish, channel_wish, sink_wish, group_wish, clashes}
 
 -- some key begins with the agent's name and a dot
 abbrev pub is_agent : List Pair → List ℕ → Bool
@@ -46,8 +47,13 @@ abbrev pub group_named : List Pair → List ℕ → List (List ℕ) → List ℕ
 group_named pairs agent sinks name = group pairs agent sinks (front_of agent (codes ".sinkgroups.") name)
 
 -- and what it claims
+abbrev pub step_claims : List Pair → List ℕ → List ℕ → List Wish
+step_claims pairs at name = step_wish (lookup (front_of at (codes "interceptors.") name ++ codes "type") pairs)
+
 abbrev pub source_claims : List Pair → List ℕ → List ℕ → List Wish
-source_claims pairs agent name = let at = front_of agent (codes ".sources.") name in source_wish pairs at (lookup (at ++ codes "type") pairs)
+source_claims pairs agent name =
+    let at = front_of agent (codes ".sources.") name in
+    source_wish pairs at (lookup (at ++ codes "type") pairs) ++ flat_map (step_claims pairs at) (names_in pairs (at ++ codes "interceptors"))
 
 abbrev pub channel_claims : List Pair → List ℕ → List ℕ → List Wish
 channel_claims pairs agent name = let at = front_of agent (codes ".channels.") name in channel_wish pairs at (lookup (at ++ codes "type") pairs)
@@ -77,13 +83,20 @@ abbrev pub candidates_of : List Pair → List ℕ → List (List ℕ) → List (
 candidates_of pairs agent sources channels sinks groups =
     lists pairs (agent ++ codes ".") ⊕ components_of pairs agent sources channels sinks groups ⊕ clashes (claims_of pairs agent sources channels sinks groups)
 
-abbrev pub candidates : List Pair → List ℕ → Candidates
-candidates pairs agent = candidates_of pairs agent (sources pairs agent) (channels pairs agent) (sinks pairs agent) (groups pairs agent)
+-- and the bad ones of the texts that have to be patterns, by these verdicts on them
+abbrev pub all_of : List Pair → List ℕ → List (List ℕ) → List (List ℕ) → List (List ℕ) → List (List ℕ) → List Bool → Candidates
+all_of pairs agent sources channels sinks groups verdicts = candidates_of pairs agent sources channels sinks groups ⊕ bad_ones (asked_of pairs agent sources) verdicts
+
+abbrev pub asked : List Pair → List ℕ → List Asked
+asked pairs agent = asked_of pairs agent (sources pairs agent)
+
+abbrev pub candidates : List Pair → List ℕ → List Bool → Candidates
+candidates pairs agent verdicts = all_of pairs agent (sources pairs agent) (channels pairs agent) (sinks pairs agent) (groups pairs agent) verdicts
 
 -- the first fault, by line and then by rank
-abbrev pub first_fault : List Pair → List ℕ → Option Fault
-first_fault pairs agent = fold first_of None (candidates pairs agent).faults
+abbrev pub first_fault : List Pair → List ℕ → List Bool → Option Fault
+first_fault pairs agent verdicts = fold first_of None (candidates pairs agent verdicts).faults
 
 -- the least key that is not there, by bytes
-abbrev pub least_missing : List Pair → List ℕ → Option (List ℕ)
-least_missing pairs agent = fold least_of None (candidates pairs agent).missing
+abbrev pub least_missing : List Pair → List ℕ → List Bool → Option (List ℕ)
+least_missing pairs agent verdicts = fold least_of None (candidates pairs agent verdicts).missing

@@ -5,7 +5,7 @@ use Rattle.std.specs.Cmp.Lexicographic.{slice_cmp}
 use Rattle.std.specs.Ordering.{nat_cmp}
 use Rattle.flume_config.specs.declared.findings.Fault.{Fault}
 use Rattle.flume_config.specs.declared.findings.FaultKind.{FaultKind}
-use Rattle.flume_config.specs.declared.findings.FaultKind.TheVariants.{UnknownType, UnknownName, BadNumber, Unsupported, Clash}
+use Rattle.flume_config.specs.declared.findings.FaultKind.TheVariants.{UnknownType, UnknownName, BadNumber, BadPattern, Unsupported, Clash}
 use Rattle.flume_config.specs.declared.findings.Findings.{Findings}
 
 -- the order of two faults on one line
@@ -13,6 +13,7 @@ abbrev pub rank : FaultKind → ℕ
 rank UnknownType = 0
 rank UnknownName = 1
 rank BadNumber = 2
+rank BadPattern = 3
 rank Unsupported = 4
 rank Clash = 5
 

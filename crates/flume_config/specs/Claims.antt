@@ -4,7 +4,7 @@ use Rattle.std.specs.Str.{bytes_eq}
 use Rattle.prop_text.specs.Pairs.{Pair}
 use Rattle.prop_text.specs.Winners.{lookup}
 use Rattle.flume_config.specs.declared.claims.Claimed.{Claimed}
-use Rattle.flume_config.specs.declared.claims.Claimed.TheVariants.{Input, Listener, Folder, Plugin, Sink}
+use Rattle.flume_config.specs.declared.claims.Claimed.TheVariants.{Input, Listener, Folder, Plugin, Sink, Step}
 use Rattle.flume_config.specs.declared.claims.Claim.{Claim}
 use Rattle.flume_config.specs.declared.findings.FaultKind.TheVariants.{Clash}
 use Rattle.flume_config.specs.Candidates.{Candidates, nothing, ◌⊕◌, each}
@@ -24,6 +24,7 @@ code Listener = 1
 code Folder = 2
 code Plugin = 3
 code Sink = 4
+code Step = 5
 
 abbrev pub same_wish : Wish → Wish → Bool
 same_wish a b = code a.what == code b.what && bytes_eq a.text b.text && a.number == b.number
@@ -54,6 +55,11 @@ source_of_wish pairs at kind line =
 abbrev pub source_wish : List Pair → List ℕ → Option Pair → List Wish
 source_wish pairs at None = []
 source_wish pairs at (Some kind) = source_of_wish pairs at kind.value kind.line
+
+-- an interceptor that is handed in
+abbrev pub step_wish : Option Pair → List Wish
+step_wish None = []
+step_wish (Some kind) = if is_plugin kind.value then record { what = Step; text = drop 7 kind.value; number = 0; line = kind.line } ∷ [] else []
 
 abbrev pub folder_wish : Option Pair → List Wish
 folder_wish None = []

@@ -5,10 +5,10 @@ use Rattle.std.specs.Str.{bytes_eq}
 use Rattle.prop_text.specs.Pairs.{Pair}
 use Rattle.prop_text.specs.Winners.{lookup}
 use Rattle.flume_config.specs.declared.findings.FaultKind.TheVariants.{Unsupported}
-use Rattle.flume_config.specs.declared.rules.Rule.TheVariants.{Text, Number, Truth, False, Never, NoCompression, TextSerializer, RoundRobinOrRandom, OneFolder, SourceKind, ChannelKind, SinkKind, ProcessorKind}
+use Rattle.flume_config.specs.declared.rules.Rule.TheVariants.{Text, Number, Truth, False, Never, NoCompression, TextSerializer, RoundRobinOrRandom, OneFolder, SourceKind, ChannelKind, SinkKind, ProcessorKind, StepKind, SerializerKind, SelectorKind}
 use Rattle.flume_config.specs.Candidates.{Candidates, nothing, ◌⊕◌, each}
 use Rattle.flume_config.specs.Words.{words, is_among}
-use Rattle.flume_config.specs.Rows.{is_type, row, names_row, name_row, one_fault}
+use Rattle.flume_config.specs.Rows.{is_type, is_timestamp, is_host, is_millis, row, list_row, twice, unknown, names_row, name_row, one_fault}
 
 -- the front that a component's keys share
 abbrev pub front_of : List ℕ → List ℕ → List ℕ → List ℕ
@@ -62,16 +62,113 @@ abbrev pub source_by_kind : List Pair → List ℕ → Option Pair → Candidate
 source_by_kind pairs at None = nothing
 source_by_kind pairs at (Some kind) = source_of pairs at kind.value
 
--- keys of a selector are not supported yet
-abbrev pub selector_key : List ℕ → Pair → Candidates
-selector_key front p = if starts_with nat_eq p.key front then one_fault p.line Unsupported else nothing
+-- Interceptors, whose keys begin so.
+abbrev pub stamp_step : List Pair → List ℕ → Candidates
+stamp_step pairs at = row pairs at false (codes "preserveExisting") Truth
+
+abbrev pub host_step : List Pair → List ℕ → Candidates
+host_step pairs at =
+    row pairs at false (codes "useIP") Truth
+    ⊕ row pairs at false (codes "preserveExisting") Truth
+
+abbrev pub remove_step : List Pair → List ℕ → Candidates
+remove_step pairs at =
+    row pairs at false (codes "matching") Never
+    ⊕ row pairs at false (codes "fromListSeparator") Never
+
+abbrev pub filter_step : List Pair → List ℕ → Candidates
+filter_step pairs at = row pairs at false (codes "excludeEvents") Truth
+
+abbrev pub date_by_kind : List Pair → List ℕ → Option Pair → Candidates
+date_by_kind pairs at None = nothing
+date_by_kind pairs at (Some kind) = if is_millis kind.value then row pairs at true (codes "pattern") Text else nothing
+
+abbrev pub serializer : List Pair → List ℕ → Candidates
+serializer pairs at =
+    row pairs at false (codes "type") SerializerKind
+    ⊕ row pairs at true (codes "name") Text
+    ⊕ date_by_kind pairs at (lookup (at ++ codes "type") pairs)
+
+abbrev pub serializer_named : List Pair → List ℕ → List ℕ → Candidates
+serializer_named pairs at name = serializer pairs (front_of at (codes "serializers.") name)
+
+abbrev pub extractor_step : List Pair → List ℕ → Candidates
+extractor_step pairs at =
+    row pairs at true (codes "regex") Text
+    ⊕ list_row pairs at true (codes "serializers")
+    ⊕ each (serializer_named pairs at) (names_in pairs (at ++ codes "serializers"))
+
+abbrev pub replace_step : List Pair → List ℕ → Candidates
+replace_step pairs at = row pairs at true (codes "searchPattern") Text
+
+abbrev pub step_of : List Pair → List ℕ → List ℕ → Candidates
+step_of pairs at kind =
+    if is_timestamp kind then stamp_step pairs at
+    else (if is_host kind then host_step pairs at
+    else (if is_type (codes "static") kind then stamp_step pairs at
+    else (if is_type (codes "remove_header") kind then remove_step pairs at
+    else (if is_type (codes "regex_filter") kind then filter_step pairs at
+    else (if is_type (codes "regex_extractor") kind then extractor_step pairs at
+    else (if is_type (codes "search_replace") kind then replace_step pairs at else nothing))))))
+
+abbrev pub step_by_kind : List Pair → List ℕ → Option Pair → Candidates
+step_by_kind pairs at None = nothing
+step_by_kind pairs at (Some kind) = step_of pairs at kind.value
+
+abbrev pub step : List Pair → List ℕ → Candidates
+step pairs at =
+    row pairs at true (codes "type") StepKind
+    ⊕ step_by_kind pairs at (lookup (at ++ codes "type") pairs)
+
+abbrev pub step_named : List Pair → List ℕ → List ℕ → Candidates
+step_named pairs at name = step pairs (front_of at (codes "interceptors.") name)
+
+abbrev pub steps : List Pair → List ℕ → Candidates
+steps pairs at =
+    list_row pairs at false (codes "interceptors")
+    ⊕ each (step_named pairs at) (names_in pairs (at ++ codes "interceptors"))
+
+-- Selectors, of a source with these channels.
+abbrev pub judged_channels : List (List ℕ) → Option Pair → Candidates
+judged_channels others None = nothing
+judged_channels others (Some p) = twice p.line (words p.value) ⊕ unknown p.line (words p.value) others
+
+abbrev pub channels_row : List Pair → List ℕ → List ℕ → List (List ℕ) → Candidates
+channels_row pairs at key others = judged_channels others (lookup (at ++ key) pairs)
+
+abbrev pub channels_key : List ℕ → List (List ℕ) → Pair → Candidates
+channels_key front others p = if starts_with nat_eq p.key front then judged_channels others (Some p) else nothing
+
+-- a list at each key that begins so
+abbrev pub channels_rows : List Pair → List ℕ → List (List ℕ) → Candidates
+channels_rows pairs front others = each (channels_key front others) pairs
+
+abbrev pub multiplexing : List Pair → List ℕ → List (List ℕ) → Candidates
+multiplexing pairs at others =
+    channels_row pairs at (codes "default") others
+    ⊕ channels_rows pairs (at ++ codes "mapping.") others
+    ⊕ channels_rows pairs (at ++ codes "optional.") others
+
+abbrev pub selector_of : List Pair → List ℕ → List (List ℕ) → List ℕ → Candidates
+selector_of pairs at others kind =
+    if is_type (codes "multiplexing") kind then multiplexing pairs at others
+    else (if is_type (codes "replicating") kind then channels_row pairs at (codes "optional") others else nothing)
+
+abbrev pub selector_by_kind : List Pair → List ℕ → List (List ℕ) → Option Pair → Candidates
+selector_by_kind pairs at others None = channels_row pairs at (codes "optional") others
+selector_by_kind pairs at others (Some kind) = selector_of pairs at others kind.value
+
+abbrev pub selector : List Pair → List ℕ → List (List ℕ) → Candidates
+selector pairs at others =
+    row pairs at false (codes "type") SelectorKind
+    ⊕ selector_by_kind pairs at others (lookup (at ++ codes "type") pairs)
 
 abbrev pub source : List Pair → List (List ℕ) → List ℕ → Candidates
 source pairs channels at =
     row pairs at true (codes "type") SourceKind
     ⊕ names_row pairs at (codes "channels") channels
-    ⊕ row pairs at false (codes "interceptors") Never
-    ⊕ each (selector_key (at ++ codes "selector.")) pairs
+    ⊕ steps pairs at
+    ⊕ selector pairs (at ++ codes "selector.") (names_in pairs (at ++ codes "channels"))
     ⊕ source_by_kind pairs at (lookup (at ++ codes "type") pairs)
 
 -- Channels.

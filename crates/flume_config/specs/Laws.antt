@@ -1,6 +1,6 @@
 -- Laws of the first fault and of the least missing key: there is one exactly where there is a candidate, it is one of the candidates,
 -- and none of them comes before it.
-use Rattle.std.specs.Prelude.{◌≡◌, ℕ, false, List, [], Option, Some, None, Contains}
+use Rattle.std.specs.Prelude.{◌≡◌, ℕ, Bool, false, List, [], Option, Some, None, Contains}
 use Rattle.std.specs.List.{AllByRecursion}
 use Rattle.prop_text.specs.Pairs.{Pair}
 use Rattle.flume_config.specs.declared.findings.Fault.{Fault}
@@ -15,10 +15,10 @@ abbrev pub IsLeast : List (List ℕ) → Option (List ℕ) → Type 0
 IsLeast keys None = keys ≡ []
 IsLeast keys (Some k) = Contains keys k × AllByRecursion (λ l. key_precedes l k ≡ false) keys
 
--- No candidate is on a lesser line than the first fault, or of lesser rank on its line.
+-- Whatever the verdicts on the patterns are: no candidate is on a lesser line than the first fault, or of lesser rank on its line.
 abbrev pub FirstFaultIsFirst : Type 0
-FirstFaultIsFirst = (pairs : List Pair) (agent : List ℕ) → IsFirst (candidates pairs agent).faults (first_fault pairs agent)
+FirstFaultIsFirst = (pairs : List Pair) (agent : List ℕ) (verdicts : List Bool) → IsFirst (candidates pairs agent verdicts).faults (first_fault pairs agent verdicts)
 
--- No key that is not there is less by bytes than the least.
+-- Whatever the verdicts on the patterns are: no key that is not there is less by bytes than the least.
 abbrev pub LeastMissingIsLeast : Type 0
-LeastMissingIsLeast = (pairs : List Pair) (agent : List ℕ) → IsLeast (candidates pairs agent).missing (least_missing pairs agent)
+LeastMissingIsLeast = (pairs : List Pair) (agent : List ℕ) (verdicts : List Bool) → IsLeast (candidates pairs agent verdicts).missing (least_missing pairs agent verdicts)

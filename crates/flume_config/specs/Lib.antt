@@ -3,6 +3,7 @@ pub mod Candidates
 pub mod Rows
 pub mod Components
 pub mod Claims
+pub mod Patterns
 pub mod Agents
 pub mod Values
 pub mod Plans

@@ -1,5 +1,5 @@
 -- What planning an agent answers.
-use Rattle.std.specs.Prelude.{◌≡◌, ℕ, true, false, List, Some, None, Result, Ok, Err, string_bytes}
+use Rattle.std.specs.Prelude.{◌≡◌, ℕ, Bool, true, false, List, Some, None, Result, Ok, Err, string_bytes}
 use Rattle.prop_text.specs.Pairs.{Pair}
 use Rattle.prop_text.specs.Views.{texts}
 use Rattle.flume_config.specs.declared.findings.FaultKind.TheVariants as kinds
@@ -7,14 +7,27 @@ use Rattle.flume_config.specs.declared.refused.PlanRefused.{PlanRefused}
 use Rattle.flume_config.specs.declared.refused.PlanRefused.TheVariants.{NoAgent, UnknownType, UnknownName, BadNumber, BadPattern, Unsupported, Clash, Missing, NoMemory}
 use Rattle.flume_config.specs.declared.plan.Plan.{Plan}
 use Rattle.flume_config.specs.declared.planning.AgentNames.{AgentNames}
-use Rattle.flume_config.specs.Candidates.{Seen}
+use Rattle.flume_config.specs.Candidates.{Seen, adds}
 use Rattle.flume_config.specs.Agents as agents
-use Rattle.flume_config.specs.Agents.{is_agent, first_fault, least_missing}
+use Rattle.flume_config.specs.Agents.{is_agent, all_of, asked, first_fault, least_missing}
+use Rattle.flume_config.specs.Patterns.{AreVerdicts, asked_of}
 use Rattle.flume_config.specs.Values.{Match, SourceNamed, ChannelNamed, SinkNamed, GroupNamed}
 
 -- the first fault and the least missing key of an agent's configuration
-abbrev pub judged : List Pair → List ℕ → Seen
-judged pairs agent = record { fault = first_fault pairs agent; missing = least_missing pairs agent }
+abbrev pub judged : List Pair → List ℕ → List Bool → Seen
+judged pairs agent verdicts = record { fault = first_fault pairs agent verdicts; missing = least_missing pairs agent verdicts }
+
+-- the same by right verdicts on the texts that have to be patterns
+pub record IsJudged (pairs : List Pair) (agent : List ℕ) (s : Seen) : Type 0 where
+  pub verdicts : List Bool
+  pub are : AreVerdicts (asked pairs agent) verdicts
+  pub is : s ≡ judged pairs agent verdicts
+
+-- the same of these components
+pub record IsSeen (pairs : List Pair) (agent : List ℕ) (sources channels sinks groups : List (List ℕ)) (s : Seen) : Type 0 where
+  pub verdicts : List Bool
+  pub are : AreVerdicts (asked_of pairs agent sources) verdicts
+  pub is : s ≡ adds (record { fault = None; missing = None }) (all_of pairs agent sources channels sinks groups verdicts)
 
 -- nothing is at fault
 abbrev pub IsRight : Seen → Type 0
@@ -26,7 +39,7 @@ Refuses s NoAgent = ⊥
 Refuses s (UnknownType l) = s.fault ≡ Some (record { line = l; kind = kinds.UnknownType })
 Refuses s (UnknownName l) = s.fault ≡ Some (record { line = l; kind = kinds.UnknownName })
 Refuses s (BadNumber l) = s.fault ≡ Some (record { line = l; kind = kinds.BadNumber })
-Refuses s (BadPattern l) = ⊥
+Refuses s (BadPattern l) = s.fault ≡ Some (record { line = l; kind = kinds.BadPattern })
 Refuses s (Unsupported l) = s.fault ≡ Some (record { line = l; kind = kinds.Unsupported })
 Refuses s (Clash l) = s.fault ≡ Some (record { line = l; kind = kinds.Clash })
 Refuses s (Missing key) = (s.fault ≡ None) × (s.missing ≡ Some (string_bytes key))
@@ -39,17 +52,21 @@ pub record IsPlan (pairs : List Pair) (agent : List ℕ) (plan : Plan) : Type 0 
   pub sinks : Match (SinkNamed pairs agent (agents.channels pairs agent)) (agents.sinks pairs agent) plan.sinks.items
   pub groups : Match (GroupNamed pairs agent (agents.sinks pairs agent)) (agents.groups pairs agent) plan.groups.items
 
+-- what was seen at fault is what makes this refusal
+abbrev pub IsRefused : List Pair → List ℕ → PlanRefused → Type 0
+IsRefused pairs agent why = (is_agent pairs agent ≡ true) × (s : Seen) × IsJudged pairs agent s × Refuses s why
+
 -- the plan of the agent, or the first that is at fault; want of memory may come at any time
 abbrev pub Plans : List Pair → List ℕ → Result Plan PlanRefused → Type 0
-Plans pairs agent (Ok plan) = (is_agent pairs agent ≡ true) × IsRight (judged pairs agent) × IsPlan pairs agent plan
+Plans pairs agent (Ok plan) = (is_agent pairs agent ≡ true) × ((s : Seen) × IsJudged pairs agent s × IsRight s) × IsPlan pairs agent plan
 Plans pairs agent (Err NoAgent) = is_agent pairs agent ≡ false
-Plans pairs agent (Err (UnknownType l)) = (is_agent pairs agent ≡ true) × Refuses (judged pairs agent) (UnknownType l)
-Plans pairs agent (Err (UnknownName l)) = (is_agent pairs agent ≡ true) × Refuses (judged pairs agent) (UnknownName l)
-Plans pairs agent (Err (BadNumber l)) = (is_agent pairs agent ≡ true) × Refuses (judged pairs agent) (BadNumber l)
-Plans pairs agent (Err (BadPattern l)) = ⊥
-Plans pairs agent (Err (Unsupported l)) = (is_agent pairs agent ≡ true) × Refuses (judged pairs agent) (Unsupported l)
-Plans pairs agent (Err (Clash l)) = (is_agent pairs agent ≡ true) × Refuses (judged pairs agent) (Clash l)
-Plans pairs agent (Err (Missing key)) = (is_agent pairs agent ≡ true) × Refuses (judged pairs agent) (Missing key)
+Plans pairs agent (Err (UnknownType l)) = IsRefused pairs agent (UnknownType l)
+Plans pairs agent (Err (UnknownName l)) = IsRefused pairs agent (UnknownName l)
+Plans pairs agent (Err (BadNumber l)) = IsRefused pairs agent (BadNumber l)
+Plans pairs agent (Err (BadPattern l)) = IsRefused pairs agent (BadPattern l)
+Plans pairs agent (Err (Unsupported l)) = IsRefused pairs agent (Unsupported l)
+Plans pairs agent (Err (Clash l)) = IsRefused pairs agent (Clash l)
+Plans pairs agent (Err (Missing key)) = IsRefused pairs agent (Missing key)
 Plans pairs agent (Err NoMemory) = Unit {0}
 
 -- the names of the agent's components, as they were read

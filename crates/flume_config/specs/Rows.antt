@@ -8,7 +8,7 @@ use Rattle.prop_text.specs.Winners.{lookup}
 use Rattle.flume_config.specs.declared.findings.FaultKind.{FaultKind}
 use Rattle.flume_config.specs.declared.findings.FaultKind.TheVariants.{UnknownType, UnknownName, BadNumber, Unsupported, Clash}
 use Rattle.flume_config.specs.declared.rules.Rule.{Rule}
-use Rattle.flume_config.specs.declared.rules.Rule.TheVariants.{Text, Number, Truth, False, Never, NoCompression, TextSerializer, RoundRobinOrRandom, OneFolder, SourceKind, ChannelKind, SinkKind, ProcessorKind}
+use Rattle.flume_config.specs.declared.rules.Rule.TheVariants.{Text, Number, Truth, False, Never, NoCompression, TextSerializer, RoundRobinOrRandom, OneFolder, SourceKind, ChannelKind, SinkKind, ProcessorKind, StepKind, SerializerKind, SelectorKind}
 use Rattle.flume_config.specs.Candidates.{Candidates, nothing, ◌⊕◌}
 use Rattle.flume_config.specs.Words.{words, all_among, has_twice, number_in, truth_of}
 
@@ -19,6 +19,22 @@ is_type name value = str_eq_ignore_ascii_case value name
 -- the type of an object that is handed in, whose name stands behind the dot
 abbrev pub is_plugin : List ℕ → Bool
 is_plugin value = starts_with nat_eq value (codes "plugin.")
+
+-- the types of interceptors, of which two also have the names of their classes
+unfoldable pub is_timestamp : List ℕ → Bool
+is_timestamp value = is_type (codes "timestamp") value || bytes_eq value (codes "org.apache.flume.interceptor.TimestampInterceptor$Builder")
+
+unfoldable pub is_host : List ℕ → Bool
+is_host value = is_type (codes "host") value || bytes_eq value (codes "org.apache.flume.interceptor.HostInterceptor$Builder")
+
+abbrev pub is_step : List ℕ → Bool
+is_step value =
+    is_timestamp value || is_host value || is_type (codes "static") value || is_type (codes "remove_header") value || is_type (codes "regex_filter") value
+    || is_type (codes "regex_extractor") value || is_type (codes "search_replace") value || is_plugin value
+
+-- the serializer that reads a group as a date
+unfoldable pub is_millis : List ℕ → Bool
+is_millis value = bytes_eq value (codes "org.apache.flume.interceptor.RegexExtractorInterceptorMillisSerializer")
 
 abbrev pub when : Bool → FaultKind → Option FaultKind
 when fails kind = if fails then Some kind else None
@@ -38,6 +54,9 @@ judged SourceKind value = when (not (is_type (codes "netcat") value || is_type (
 judged ChannelKind value = when (not (is_type (codes "memory") value || is_type (codes "file") value)) UnknownType
 judged SinkKind value = when (not (is_type (codes "avro") value || is_type (codes "file_roll") value || is_type (codes "null") value || is_plugin value)) UnknownType
 judged ProcessorKind value = when (not (is_type (codes "default") value || is_type (codes "failover") value || is_type (codes "load_balance") value)) UnknownType
+judged StepKind value = when (not (is_step value)) UnknownType
+judged SerializerKind value = when (not (is_type (codes "default") value || is_millis value)) UnknownType
+judged SelectorKind value = when (not (is_type (codes "replicating") value || is_type (codes "multiplexing") value)) UnknownType
 
 abbrev pub one_fault : ℕ → FaultKind → Candidates
 one_fault line kind = record { faults = record { line = line; kind = kind } ∷ []; missing = [] }

@@ -1,6 +1,18 @@
 -- The values of a plan, by the table of components. Of keys that are at fault nothing is said here.
-use Rattle.std.specs.Prelude.{◌≡◌, ℕ, Bool, true, false, not, List, [], ◌∷◌, ◌++◌, drop, map, Option, Some, None, codes, string_bytes, if◌then◌else◌, unwrap_or}
-use Rattle.std.specs.List.{prefix_len}
+use Rattle.std.specs.Prelude.{◌≡◌, ℕ, Bool, true, false, not, List, [], ◌∷◌, ◌++◌, ◌||◌, drop, length, map, nat_eq, flat_map, option_map, Option, Some, None, codes, string_bytes, if◌then◌else◌, unwrap_or}
+use Rattle.std.specs.List.{prefix_len, starts_with}
+use Rattle.std.specs.declared.string.String.{String}
+use Rattle.std.specs.declared.vec.Vec.{Vec}
+use Rattle.std.specs.declared.alloc.Global.{Global}
+use Rattle.interceptors.specs.declared.step.Step.{Step as OneStep}
+use Rattle.interceptors.specs.declared.step.Step.TheVariants.{Timestamp, Host, Static, Remove}
+use Rattle.regex_steps.specs.declared.keys.RegexKeys.{RegexKeys}
+use Rattle.regex_steps.specs.declared.keys.RegexKeys.TheVariants.{Filter, Extract, Replace}
+use Rattle.regex_steps.specs.declared.keys.Group.{Group}
+use Rattle.selectors.specs.declared.selector.Selector.{Selector}
+use Rattle.selectors.specs.declared.selector.Selector.TheVariants.{Replicating, Multiplexing}
+use Rattle.flume_config.specs.declared.plan.StepPlan.{StepPlan}
+use Rattle.flume_config.specs.declared.plan.StepPlan.TheVariants.{Step, Regex, Plugin as Plugin'}
 use Rattle.std.specs.Str.{bytes_eq}
 use Rattle.prop_text.specs.Pairs.{Pair}
 use Rattle.prop_text.specs.Winners.{lookup}
@@ -16,9 +28,16 @@ use Rattle.flume_config.specs.declared.plan.SinkPlan.{SinkPlan}
 use Rattle.flume_config.specs.declared.plan.Processor.{Processor}
 use Rattle.flume_config.specs.declared.plan.Processor.TheVariants.{Single, Failover, RoundRobin, Random}
 use Rattle.flume_config.specs.declared.plan.GroupPlan.{GroupPlan}
-use Rattle.flume_config.specs.Words.{number_in, truth_of}
-use Rattle.flume_config.specs.Rows.{is_type, is_plugin}
-use Rattle.flume_config.specs.Components.{front_of, names_in}
+use Rattle.flume_config.specs.Words.{number_in, truth_of, words, listed}
+use Rattle.flume_config.specs.Rows.{is_type, is_plugin, is_timestamp, is_host, is_millis}
+use Rattle.flume_config.specs.Components.{front_of, names_in, once}
+
+-- each name has its component, in order
+abbrev pub Match : {A : Type 0} → (List ℕ → A → Type 0) → List (List ℕ) → List A → Type 0
+Match R [] [] = Unit {0}
+Match R [] (x ∷ xs) = ⊥
+Match R (name ∷ names) [] = ⊥
+Match R (name ∷ names) (x ∷ xs) = R name x × Match R names xs
 
 abbrev pub text_of : Option Pair → List ℕ
 text_of None = []
@@ -75,12 +94,131 @@ IsSourceKind pairs at kind (Stdin max_line ack) =
     × (max_line ≡ number_at pairs 1 1048568 512 (at ++ codes "max-line-length"))
     × (ack ≡ truth_at pairs true (at ++ codes "ack-every-event"))
 
+-- Interceptors, whose keys begin so.
+abbrev pub text_or : List ℕ → Option Pair → List ℕ
+text_or default None = default
+text_or default (Some p) = p.value
+
+-- the text at a key, or a default
+abbrev pub text_else : List Pair → List ℕ → List ℕ → List ℕ
+text_else pairs default key = text_or default (lookup key pairs)
+
+-- the line of a key, or another
+abbrev pub line_or : ℕ → Option Pair → ℕ
+line_or other None = other
+line_or other (Some p) = p.line
+
+abbrev pub names_listed : Option Pair → List (List ℕ)
+names_listed None = []
+names_listed (Some p) = listed p.value
+
+abbrev pub one_name : Option Pair → List (List ℕ)
+one_name None = []
+one_name (Some p) = p.value ∷ []
+
+-- the keys of the headers that are removed
+abbrev pub removed : List Pair → List ℕ → List (List ℕ)
+removed pairs at = one_name (lookup (at ++ codes "withName") pairs) ++ names_listed (lookup (at ++ codes "fromList") pairs)
+
+abbrev pub IsStep : List Pair → List ℕ → List ℕ → OneStep → Type 0
+IsStep pairs at kind (Timestamp header preserve) =
+    (is_timestamp kind ≡ true)
+    × (string_bytes header ≡ text_else pairs (codes "timestamp") (at ++ codes "headerName"))
+    × (preserve ≡ truth_at pairs false (at ++ codes "preserveExisting"))
+IsStep pairs at kind (Host use_ip header preserve) =
+    (is_host kind ≡ true)
+    × (use_ip ≡ truth_at pairs true (at ++ codes "useIP"))
+    × (string_bytes header ≡ text_else pairs (codes "host") (at ++ codes "hostHeader"))
+    × (preserve ≡ truth_at pairs false (at ++ codes "preserveExisting"))
+IsStep pairs at kind (Static key value preserve) =
+    (is_type (codes "static") kind ≡ true)
+    × (string_bytes key ≡ text_else pairs (codes "key") (at ++ codes "key"))
+    × (string_bytes value ≡ text_else pairs (codes "value") (at ++ codes "value"))
+    × (preserve ≡ truth_at pairs true (at ++ codes "preserveExisting"))
+IsStep pairs at kind (Remove names) = (is_type (codes "remove_header") kind ≡ true) × (map string_bytes names.items ≡ removed pairs at)
+
+-- the pattern of dates of a serializer
+abbrev pub date_of : List Pair → List ℕ → Option Pair → Option (List ℕ)
+date_of pairs at None = None
+date_of pairs at (Some kind) = if is_millis kind.value then Some (text_at pairs (at ++ codes "pattern")) else None
+
+-- the serializer of a name, of an interceptor whose keys begin so
+abbrev pub IsGroup : List Pair → List ℕ → List ℕ → Group → Type 0
+IsGroup pairs at name g =
+    let front = front_of at (codes "serializers.") name in
+    (string_bytes g.name ≡ text_at pairs (front ++ codes "name")) × (option_map string_bytes g.millis ≡ date_of pairs front (lookup (front ++ codes "type") pairs))
+
+-- the line of a pattern, or of the type
+abbrev pub pattern_line : List Pair → List ℕ → List ℕ → ℕ
+pattern_line pairs at key = line_or (line_at pairs (at ++ codes "type")) (lookup (at ++ key) pairs)
+
+-- no type of an interceptor but the last
+abbrev pub is_other : List ℕ → Bool
+is_other kind =
+    is_timestamp kind || is_host kind || is_type (codes "static") kind || is_type (codes "remove_header") kind || is_type (codes "regex_filter") kind
+    || is_type (codes "regex_extractor") kind || is_plugin kind
+
+abbrev pub IsRegex : List Pair → List ℕ → List ℕ → RegexKeys → ℕ → Type 0
+IsRegex pairs at kind (Filter regex exclude) line =
+    (is_type (codes "regex_filter") kind ≡ true)
+    × (string_bytes regex ≡ text_else pairs (codes ".*") (at ++ codes "regex"))
+    × (exclude ≡ truth_at pairs false (at ++ codes "excludeEvents"))
+    × (line ≡ pattern_line pairs at (codes "regex"))
+IsRegex pairs at kind (Extract regex groups) line =
+    (is_type (codes "regex_extractor") kind ≡ true)
+    × (string_bytes regex ≡ text_at pairs (at ++ codes "regex"))
+    × Match (IsGroup pairs at) (names_in pairs (at ++ codes "serializers")) groups.items
+    × (line ≡ pattern_line pairs at (codes "regex"))
+IsRegex pairs at kind (Replace search text) line =
+    (is_other kind ≡ false)
+    × (string_bytes search ≡ text_at pairs (at ++ codes "searchPattern"))
+    × (string_bytes text ≡ text_at pairs (at ++ codes "replaceString"))
+    × (line ≡ pattern_line pairs at (codes "searchPattern"))
+
+abbrev pub IsStepPlan : List Pair → List ℕ → StepPlan → Type 0
+IsStepPlan pairs at (Step step) = IsStep pairs at (text_at pairs (at ++ codes "type")) step
+IsStepPlan pairs at (Regex keys line) = IsRegex pairs at (text_at pairs (at ++ codes "type")) keys line
+IsStepPlan pairs at (Plugin' name line) =
+    let kind = text_at pairs (at ++ codes "type") in (is_plugin kind ≡ true) × (string_bytes name ≡ drop 7 kind) × (line ≡ line_at pairs (at ++ codes "type"))
+
+-- the interceptor of a name, of a source whose keys begin so
+abbrev pub StepNamed : List Pair → List ℕ → List ℕ → StepPlan → Type 0
+StepNamed pairs at name s = IsStepPlan pairs (front_of at (codes "interceptors.") name) s
+
+-- Selectors, of a source with these channels.
+abbrev pub places_at : List Pair → List (List ℕ) → List ℕ → List ℕ
+places_at pairs others key = map (place_of others) (names_in pairs key)
+
+-- what stands behind the front of a key, and the places of the channels that its value names
+abbrev pub mapped_at : List (List ℕ) → List ℕ → Pair → List (List ℕ × List ℕ)
+mapped_at others front p = if starts_with nat_eq p.key front then (drop (length front) p.key, map (place_of others) (once (words p.value))) ∷ [] else []
+
+abbrev pub mapped : List Pair → List (List ℕ) → List ℕ → List (List ℕ × List ℕ)
+mapped pairs others front = flat_map (mapped_at others front) pairs
+
+abbrev pub seen_pair : String Global × Vec ℕ Global → List ℕ × List ℕ
+seen_pair pair = (string_bytes pair.0, pair.1.items)
+
+abbrev pub IsSelector : List Pair → List ℕ → List (List ℕ) → Selector → Type 0
+IsSelector pairs at others (Replicating channels optional) =
+    (is_type (codes "multiplexing") (text_at pairs (at ++ codes "type")) ≡ false)
+    × (channels ≡ length others)
+    × (optional.items ≡ places_at pairs others (at ++ codes "optional"))
+IsSelector pairs at others (Multiplexing header mapping default optional) =
+    (is_type (codes "multiplexing") (text_at pairs (at ++ codes "type")) ≡ true)
+    × (string_bytes header ≡ text_else pairs (codes "flume.selector.header") (at ++ codes "header"))
+    × (map seen_pair mapping.items ≡ mapped pairs others (at ++ codes "mapping."))
+    × (default.items ≡ places_at pairs others (at ++ codes "default"))
+    × (map seen_pair optional.items ≡ mapped pairs others (at ++ codes "optional."))
+
 -- the source of a name, whose keys begin so
 pub record IsSource (pairs : List Pair) (at : List ℕ) (among : List (List ℕ)) (name : List ℕ) (s : SourcePlan) : Type 0 where
   pub named : string_bytes s.name ≡ name
   pub line : s.line ≡ line_at pairs (at ++ codes "type")
   pub kind : IsSourceKind pairs at (text_at pairs (at ++ codes "type")) s.kind
   pub channels : s.channels.items ≡ map (place_of among) (names_in pairs (at ++ codes "channels"))
+  pub steps : Match (StepNamed pairs at) (names_in pairs (at ++ codes "interceptors")) s.steps.items
+  pub selector : IsSelector pairs (at ++ codes "selector.") (names_in pairs (at ++ codes "channels")) s.selector
 
 abbrev pub IsChannelKind : List Pair → List ℕ → List ℕ → ChannelPlan → ChannelKind → Type 0
 IsChannelKind pairs at kind c Memory =
@@ -132,13 +270,6 @@ pub record SinkWith (pairs : List Pair) (at : List ℕ) (place : ℕ) (name : Li
   pub line : s.line ≡ line_at pairs (at ++ codes "type")
   pub kind : IsSinkKind pairs at (text_at pairs (at ++ codes "type")) s s.kind
   pub channel : s.channel ≡ place
-
--- each name has its component, in order
-abbrev pub Match : {A : Type 0} → (List ℕ → A → Type 0) → List (List ℕ) → List A → Type 0
-Match R [] [] = Unit {0}
-Match R [] (x ∷ xs) = ⊥
-Match R (name ∷ names) [] = ⊥
-Match R (name ∷ names) (x ∷ xs) = R name x × Match R names xs
 
 abbrev pub SourceNamed : List Pair → List ℕ → List (List ℕ) → List ℕ → SourcePlan → Type 0
 SourceNamed pairs agent channels name s = IsSource pairs (front_of agent (codes ".sources.") name) channels name s

@@ -1,7 +1,7 @@
 -- The words, numbers and truth values that a value is.
-use Rattle.std.specs.Prelude.{ℕ, ◌+◌, ◌-◌, ◌*◌, Bool, true, false, ◌||◌, ◌&&◌, List, [], ◌∷◌, length, filter, nat_lt, nat_le, if◌then◌else◌, Option, Some, None, option_and_then, codes}
+use Rattle.std.specs.Prelude.{ℕ, ◌+◌, ◌-◌, ◌*◌, Bool, true, false, ◌||◌, ◌&&◌, List, [], ◌∷◌, length, filter, map, ◌==◌, nat_lt, nat_le, if◌then◌else◌, Option, Some, None, option_and_then, codes}
 use Rattle.std.specs.Char.{is_ascii_digit}
-use Rattle.std.specs.Str.{bytes_eq, str_eq_ignore_ascii_case}
+use Rattle.std.specs.Str.{bytes_eq, str_eq_ignore_ascii_case, trim}
 use Rattle.std.specs.List.{list_any}
 use Rattle.prop_text.specs.Lines.{is_white_space, with_front}
 
@@ -50,3 +50,16 @@ abbrev pub truth_of : List ℕ → Option Bool
 truth_of text =
     if str_eq_ignore_ascii_case text (codes "true") then Some true
     else (if str_eq_ignore_ascii_case text (codes "false") then Some false else None)
+
+-- what stands between commas
+abbrev pub comma_pieces : List ℕ → List (List ℕ)
+comma_pieces [] = [] ∷ []
+comma_pieces (b ∷ bs) = if b == 44 then [] ∷ comma_pieces bs else with_front (b ∷ []) (comma_pieces bs)
+
+-- a name without the white space beside it, unless that is empty
+abbrev pub trimmed_names : List (List ℕ) → List (List ℕ)
+trimmed_names pieces = filter is_word (map trim pieces)
+
+-- the names of a list with commas
+abbrev pub listed : List ℕ → List (List ℕ)
+listed text = trimmed_names (comma_pieces text)

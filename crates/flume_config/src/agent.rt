@@ -4,7 +4,7 @@ ghost use Rattle.std.specs.Prelude.{◌≡◌, IfOk, MatchOption, ◌++◌};
 ghost use Rattle.prop_text.specs.Views.{texts};
 ghost use Rattle.flume_config.specs.Candidates.{seen};
 ghost use Rattle.flume_config.specs.Components.{names_in};
-ghost use Rattle.flume_config.specs.Plans.{judged, IsRight, Refuses, IsPlan, Plans, Names};
+ghost use Rattle.flume_config.specs.Plans.{IsJudged, IsRight, Refuses, IsPlan, Plans, Names};
 
 use crate::findings::{FaultKind, Findings};
 use crate::group::{Agent, names_in};
@@ -37,7 +37,7 @@ fn agent_names<'a>(agent: &Agent<'a>) -> Result<AgentNames<'a>, AllocError>
 /// What is at fault in the agent's configuration.
 fn judged(agent: &Agent<'_>, names: &AgentNames<'_>) -> Result<Findings, AllocError>
     requires { Names agent.now.properties.now agent.now.name.now names.now }
-    ensures { IfOk result (λ found. seen found ≡ judged agent.now.properties.now agent.now.name.now) }
+    ensures { IfOk result (λ found. IsJudged agent.now.properties.now agent.now.name.now (seen found)) }
 {
     let sources = names.sources.as_slice();
     let channels = names.channels.as_slice();
@@ -59,6 +59,7 @@ fn refusal(found: Findings) -> Option<PlanRefused>
                 FaultKind::UnknownType => PlanRefused::UnknownType { line },
                 FaultKind::UnknownName => PlanRefused::UnknownName { line },
                 FaultKind::BadNumber => PlanRefused::BadNumber { line },
+                FaultKind::BadPattern => PlanRefused::BadPattern { line },
                 FaultKind::Unsupported => PlanRefused::Unsupported { line },
                 FaultKind::Clash => PlanRefused::Clash { line },
             })

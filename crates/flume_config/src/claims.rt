@@ -2,13 +2,17 @@
 
 ghost use Rattle.std.specs.Prelude.{◌≡◌, OnOk, ◌++◌, [], ◌∷◌, codes, drop, map, IsTrue};
 ghost use Rattle.flume_config.specs.Rows.{is_plugin};
+ghost use Rattle.std.specs.List.{flat_map};
 ghost use Rattle.flume_config.specs.Words.{number_in};
+ghost use Rattle.flume_config.specs.Components.{names_in};
+ghost use Rattle.flume_config.specs.Agents.{step_claims};
 ghost use Rattle.prop_text.specs.Views.{texts};
 ghost use Rattle.prop_text.specs.Winners.{lookup};
 ghost use Rattle.flume_config.specs.Candidates.{Adds, seen, each};
 ghost use Rattle.flume_config.specs.Claims.{code, same_wish, clash, clashes, listener, source_of_wish, source_wish, folder_wish, channel_wish, sink_wish, member_wish, group_wish, wish, wishes, Claims};
 
 use crate::findings::{FaultKind, Findings};
+use crate::group::{front_of, names_in};
 use crate::rules::{Place, is_plugin, is_type, joined};
 use crate::words::number;
 use std::alloc::{AllocError, Global};
@@ -21,6 +25,7 @@ pub enum Claimed {
     Folder,
     Plugin,
     Sink,
+    Step,
 }
 
 /// A claim of a component, and the line that tells of it.
@@ -44,6 +49,7 @@ impl Claimed {
             Claimed::Folder => 2,
             Claimed::Plugin => 3,
             Claimed::Sink => 4,
+            Claimed::Step => 5,
         }
     }
 }
@@ -169,6 +175,46 @@ fn claim_folder(place: &Place<'_>, claims: &mut Vec<Claim>) -> Result<(), AllocE
         None => Ok(()),
         Some((folder, line)) => push(place.alloc, claims, Claimed::Folder, folder, 0, line),
     }
+}
+
+// The claim of an interceptor.
+fn claim_step(place: &Place<'_>, claims: &mut Vec<Claim>, name: &str) -> Result<(), AllocError>
+    ensures { OnOk result (Claims (wishes claims.old.items) (wishes claims.new.items) (step_claims place.now.properties.now place.now.front.now name.now)) }
+{
+    let front = front_of(place.alloc, place.front, "interceptors.", name)?;
+    let key = joined(place.alloc, front.as_str(), "type")?;
+    match place.properties.get(key.as_str()) {
+        Some((kind, line)) if is_plugin(kind) => {
+            push(
+                place.alloc,
+                claims,
+                Claimed::Step,
+                plugin_name(kind),
+                0,
+                line,
+            )
+        }
+        _ => Ok(()),
+    }
+}
+
+fn claim_each(place: &Place<'_>, claims: &mut Vec<Claim>, names: &[&str]) -> Result<(), AllocError>
+    ensures { OnOk result (Claims (wishes claims.old.items) (wishes claims.new.items) (flat_map (step_claims place.now.properties.now place.now.front.now) (texts names.now))) }
+{
+    for name in names {
+        claim_step(place, claims, name)?;
+    }
+    Ok(())
+}
+
+/// The claims of a source's interceptors.
+pub fn claim_steps(place: &Place<'_>, claims: &mut Vec<Claim>) -> Result<(), AllocError>
+    ensures { OnOk result (Claims (wishes claims.old.items) (wishes claims.new.items)
+        (flat_map (step_claims place.now.properties.now place.now.front.now) (names_in place.now.properties.now (place.now.front.now ++ codes "interceptors")))) }
+{
+    let key = joined(place.alloc, place.front, "interceptors")?;
+    let names = names_in(place.alloc, place.properties, key.as_str())?;
+    claim_each(place, claims, names.as_slice())
 }
 
 /// The claims of a channel.

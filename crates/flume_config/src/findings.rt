@@ -11,6 +11,7 @@ pub enum FaultKind {
     UnknownType,
     UnknownName,
     BadNumber,
+    BadPattern,
     Unsupported,
     Clash,
 }
@@ -24,6 +25,7 @@ impl FaultKind {
             FaultKind::UnknownType => 0,
             FaultKind::UnknownName => 1,
             FaultKind::BadNumber => 2,
+            FaultKind::BadPattern => 3,
             FaultKind::Unsupported => 4,
             FaultKind::Clash => 5,
         }

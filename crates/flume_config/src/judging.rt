@@ -6,12 +6,16 @@ ghost use Rattle.prop_text.specs.Views.{texts};
 ghost use Rattle.flume_config.specs.Candidates.{Adds, adds, seen, each, ◌⊕◌};
 ghost use Rattle.flume_config.specs.Claims.{wishes, Claims};
 ghost use Rattle.flume_config.specs.Components.{names_in};
-ghost use Rattle.flume_config.specs.Agents.{lists, source_named, channel_named, sink_named, group_named, source_claims, channel_claims, sink_claims, group_claims, claims_of, components_of, candidates_of};
+ghost use Rattle.flume_config.specs.Agents.{lists, source_named, channel_named, sink_named, group_named, source_claims, channel_claims, sink_claims, group_claims, claims_of, components_of};
+ghost use Rattle.flume_config.specs.Plans.{IsSeen};
 
 use crate::channel::check_channel;
-use crate::claims::{Claim, check_claims, claim_channel, claim_group, claim_sink, claim_source};
+use crate::claims::{
+    Claim, check_claims, claim_channel, claim_group, claim_sink, claim_source, claim_steps,
+};
 use crate::findings::Findings;
 use crate::group::{Agent, check_group, front_of, names_in};
+use crate::patterns::ask_sources;
 use crate::rules::{Place, check_list, joined};
 use crate::sink::check_sink;
 use crate::source::check_source;
@@ -45,6 +49,7 @@ fn judge_source(
     };
     check_source(&place, found, channels)?;
     claim_source(&place, claims)?;
+    claim_steps(&place, claims)?;
     Ok(())
 }
 
@@ -205,8 +210,7 @@ pub fn judge(
     sinks: &[&str],
     groups: &[&str],
 ) -> Result<Findings, AllocError>
-    ensures { IfOk result (λ found. Adds (record { fault = None; missing = None }) (seen found)
-        (candidates_of agent.now.properties.now agent.now.name.now (texts sources.now) (texts channels.now) (texts sinks.now) (texts groups.now))) }
+    ensures { IfOk result (λ found. IsSeen agent.now.properties.now agent.now.name.now (texts sources.now) (texts channels.now) (texts sinks.now) (texts groups.now) (seen found)) }
 {
     let mut found = Findings::new();
     let front = joined(agent.alloc, agent.name, ".")?;
@@ -227,5 +231,6 @@ pub fn judge(
         groups,
     )?;
     check_claims(&mut found, claims.as_slice());
+    ask_sources(agent, &mut found, sources)?;
     Ok(found)
 }

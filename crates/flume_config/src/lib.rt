@@ -6,14 +6,19 @@ mod channel;
 mod claims;
 mod findings;
 mod group;
+mod interceptor;
 mod judging;
 mod laws;
+mod patterns;
 mod plan;
 mod planning;
 mod refused;
+mod routing;
 mod rules;
+mod selecting;
 mod sink;
 mod source;
+mod stepping;
 #[cfg(test)]
 mod tests;
 mod values;
@@ -23,6 +28,6 @@ pub use agent::plan_of;
 pub use laws::{first_fault_is_first, least_missing_is_least};
 pub use plan::{
     ChannelKind, ChannelPlan, GroupPlan, Plan, Processor, SinkKind, SinkPlan, SourceKind,
-    SourcePlan,
+    SourcePlan, StepPlan,
 };
 pub use refused::PlanRefused;

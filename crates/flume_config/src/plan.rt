@@ -1,5 +1,9 @@
 //! The plan of an agent.
 
+use interceptors::Step;
+use regex_steps::RegexKeys;
+use selectors::Selector;
+
 /// What an agent is made of, in the order of its lists.
 #[derive(Debug, Drop)]
 pub struct Plan {
@@ -9,13 +13,27 @@ pub struct Plan {
     pub groups: Vec<GroupPlan>,
 }
 
-/// A source, the line of its type, and the places of its channels in the plan, from 0.
+/// A source, the line of its type, the places of its channels in the plan, from 0, its interceptors in their order, and its
+/// selector, which names its channels by their places among them.
 #[derive(Debug, Drop)]
 pub struct SourcePlan {
     pub name: String,
     pub line: u32,
     pub kind: SourceKind,
     pub channels: Vec<u32>,
+    pub steps: Vec<StepPlan>,
+    pub selector: Selector,
+}
+
+/// An interceptor.
+#[derive(Debug, Drop)]
+pub enum StepPlan {
+    /// One that sets or removes headers.
+    Step(Step),
+    /// One that looks for a pattern, and the line of the pattern, or of its type where it has the default pattern.
+    Regex { keys: RegexKeys, line: u32 },
+    /// One that was handed in, and the line of its type.
+    Plugin { name: String, line: u32 },
 }
 
 /// The keys of a source's type. A longest line is in bytes, with its newline.

@@ -5,17 +5,21 @@ ghost use Rattle.std.specs.List.{starts_with};
 ghost use Rattle.prop_text.specs.Views.{texts};
 ghost use Rattle.flume_config.specs.Components.{names_in};
 ghost use Rattle.flume_config.specs.Agents.{is_agent};
-ghost use Rattle.flume_config.specs.Values.{text_at, IsSourceKind, IsSource, IsChannel, SourceNamed, ChannelNamed, SinkWith, SinkNamed, processor_of, penalty_of, backoff_of, priority_of, GroupWith, GroupNamed, Match};
+ghost use Rattle.flume_config.specs.Values.{text_at, IsSourceKind, IsSource, IsChannel, SourceNamed, ChannelNamed, SinkWith, SinkNamed, processor_of, penalty_of, backoff_of, priority_of, GroupWith, GroupNamed, StepNamed, IsSelector, Match};
 ghost use Rattle.flume_config.specs.Rows.{is_type, is_plugin};
 
 use crate::claims::plugin_name;
 use crate::group::{Agent, front_of, names_in};
 use crate::plan::{
     ChannelKind, ChannelPlan, GroupPlan, Processor, SinkKind, SinkPlan, SourceKind, SourcePlan,
+    StepPlan,
 };
+use crate::routing::selector;
 use crate::rules::{Place, is_plugin, is_type, joined};
+use crate::stepping::steps;
 use crate::values::{line_at, number_at, place_at, places, text_at, truth_at};
 use prop_text::Properties;
+use selectors::Selector;
 use std::alloc::{AllocError, Global};
 
 fn begins(key: &str, front: &str) -> bool
@@ -63,6 +67,28 @@ fn source_kind(place: &Place<'_>, kind: &str) -> Result<SourceKind, AllocError>
     })
 }
 
+// The interceptors of a source.
+fn steps_at(place: &Place<'_>) -> Result<Vec<StepPlan>, AllocError>
+    ensures { IfOk result (λ found. Match (StepNamed place.now.properties.now place.now.front.now) (names_in place.now.properties.now (place.now.front.now ++ codes "interceptors")) found.items) }
+{
+    let key = joined(place.alloc, place.front, "interceptors")?;
+    let names = names_in(place.alloc, place.properties, key.as_str())?;
+    steps(place, names.as_slice())
+}
+
+// The selector of a source with these channels.
+fn selector_at(place: &Place<'_>, channels: &[&str]) -> Result<Selector, AllocError>
+    ensures { IfOk result (IsSelector place.now.properties.now (place.now.front.now ++ codes "selector.") (texts channels.now)) }
+{
+    let front = joined(place.alloc, place.front, "selector.")?;
+    let place = Place {
+        alloc: place.alloc,
+        properties: place.properties,
+        front: front.as_str(),
+    };
+    selector(&place, channels)
+}
+
 fn source_at(
     place: &Place<'_>,
     channels: &[&str],
@@ -78,6 +104,8 @@ fn source_at(
         line: line_at(place, "type")?,
         kind: source_kind(place, kind.as_str())?,
         channels: places(place.alloc, channels, chosen)?,
+        steps: steps_at(place)?,
+        selector: selector_at(place, chosen)?,
     })
 }
 

@@ -5,7 +5,7 @@ ghost use Rattle.prop_text.specs.Views.{texts};
 ghost use Rattle.std.specs.List.{list_any};
 ghost use Rattle.flume_config.specs.Candidates.{Adds, seen, ◌⊕◌};
 ghost use Rattle.flume_config.specs.Words.{number_in, truth_of};
-ghost use Rattle.flume_config.specs.Rows.{when, is_type, is_plugin, judged, row, twice, unknown, list_row, names_row, name_row};
+ghost use Rattle.flume_config.specs.Rows.{when, is_type, is_plugin, is_timestamp, is_host, is_millis, is_step, judged, row, twice, unknown, list_row, names_row, name_row};
 
 use crate::findings::{FaultKind, Findings};
 use crate::words::{all_among, has_twice, number, truth, words};
@@ -31,6 +31,9 @@ pub enum Rule {
     ChannelKind,
     SinkKind,
     ProcessorKind,
+    StepKind,
+    SerializerKind,
+    SelectorKind,
 }
 
 fn unless(holds: bool, kind: FaultKind) -> Option<FaultKind>
@@ -51,6 +54,45 @@ pub fn is_plugin(value: &str) -> bool
     ensures { result ≡ is_plugin value.now }
 {
     value.as_bytes().starts_with(b"plugin.")
+}
+
+/// Whether a type is that of an interceptor that sets the moment.
+#[tactic(auto, unfolding(crate::specs::Rows::is_timestamp))]
+pub fn is_timestamp(value: &str) -> bool
+    ensures { result ≡ is_timestamp value.now }
+{
+    is_type(value, "timestamp")
+        || value == "org.apache.flume.interceptor.TimestampInterceptor$Builder"
+}
+
+/// Whether a type is that of an interceptor that sets the host.
+#[tactic(auto, unfolding(crate::specs::Rows::is_host))]
+pub fn is_host(value: &str) -> bool
+    ensures { result ≡ is_host value.now }
+{
+    is_type(value, "host") || value == "org.apache.flume.interceptor.HostInterceptor$Builder"
+}
+
+/// Whether a type is that of the serializer that reads a group as a date.
+#[tactic(auto, unfolding(crate::specs::Rows::is_millis))]
+pub fn is_millis(value: &str) -> bool
+    ensures { result ≡ is_millis value.now }
+{
+    value == "org.apache.flume.interceptor.RegexExtractorInterceptorMillisSerializer"
+}
+
+// Whether a type is that of an interceptor.
+fn is_step(value: &str) -> bool
+    ensures { result ≡ is_step value.now }
+{
+    is_timestamp(value)
+        || is_host(value)
+        || is_type(value, "static")
+        || is_type(value, "remove_header")
+        || is_type(value, "regex_filter")
+        || is_type(value, "regex_extractor")
+        || is_type(value, "search_replace")
+        || is_plugin(value)
 }
 
 fn has_comma(value: &str) -> bool
@@ -105,6 +147,15 @@ impl Rule {
                 is_type(value, "default")
                     || is_type(value, "failover")
                     || is_type(value, "load_balance"),
+                FaultKind::UnknownType,
+            ),
+            Rule::StepKind => unless(is_step(value), FaultKind::UnknownType),
+            Rule::SerializerKind => unless(
+                is_type(value, "default") || is_millis(value),
+                FaultKind::UnknownType,
+            ),
+            Rule::SelectorKind => unless(
+                is_type(value, "replicating") || is_type(value, "multiplexing"),
                 FaultKind::UnknownType,
             ),
         }
@@ -176,7 +227,7 @@ fn check_known(found: &mut Findings, line: u32, names: &[&str], others: &[&str])
 }
 
 /// Judges a list of names of things that are there.
-fn check_list_of(found: &mut Findings, line: u32, names: &[&str], others: &[&str])
+pub fn check_list_of(found: &mut Findings, line: u32, names: &[&str], others: &[&str])
     ensures { Adds (seen found.old) (seen found.new) (twice line (texts names.now) ⊕ unknown line (texts names.now) (texts others.now)) }
 {
     check_twice(found, line, names);

@@ -1,15 +1,16 @@
 //! Sources.
 
-ghost use Rattle.std.specs.Prelude.{◌≡◌, OnOk, ◌++◌, nat_eq, codes, if◌then◌else◌};
+ghost use Rattle.std.specs.Prelude.{OnOk, ◌++◌, codes};
 ghost use Rattle.prop_text.specs.Winners.{lookup};
-ghost use Rattle.flume_config.specs.Rows.{one_fault};
-ghost use Rattle.std.specs.List.{starts_with};
 ghost use Rattle.prop_text.specs.Views.{texts};
-ghost use Rattle.flume_config.specs.Candidates.{Adds, seen, each, nothing};
-ghost use Rattle.flume_config.specs.Components.{netcat_source, avro_source, stdin_source, source_of, source_by_kind, selector_key, source};
+ghost use Rattle.flume_config.specs.Candidates.{Adds, seen};
+ghost use Rattle.flume_config.specs.Components.{netcat_source, avro_source, stdin_source, source_of, source_by_kind, selector, source, names_in};
 
-use crate::findings::{FaultKind, Findings};
+use crate::findings::Findings;
+use crate::group::names_in;
+use crate::interceptor::check_steps;
 use crate::rules::{Place, Rule, check, check_names, is_type, joined};
+use crate::selecting::check_selector;
 use std::alloc::AllocError;
 
 const PORT: Rule = Rule::Number {
@@ -81,27 +82,20 @@ fn check_by_kind(place: &Place<'_>, found: &mut Findings) -> Result<(), AllocErr
     }
 }
 
-/// A key that begins so is not supported.
-#[tactic(auto, unfolding(crate::specs::Candidates::adds))]
-fn check_selector_key(found: &mut Findings, front: &str, key: &str, line: u32)
-    ensures { Adds (seen found.old) (seen found.new) (if starts_with nat_eq key.now front.now then one_fault line FaultKind.Unsupported else nothing) }
-{
-    if key.as_bytes().starts_with(front.as_bytes()) {
-        found.refuse(line, FaultKind::Unsupported);
-    }
-}
-
-/// Keys of a selector are not supported yet.
-fn check_selector(place: &Place<'_>, found: &mut Findings) -> Result<(), AllocError>
+// Judges the selector of a source.
+fn check_selector_at(place: &Place<'_>, found: &mut Findings) -> Result<(), AllocError>
     ensures { OnOk result (Adds (seen found.old) (seen found.new)
-        (each (selector_key (place.now.front.now ++ codes "selector.")) place.now.properties.now)) }
+        (selector place.now.properties.now (place.now.front.now ++ codes "selector.") (names_in place.now.properties.now (place.now.front.now ++ codes "channels")))) }
 {
+    let key = joined(place.alloc, place.front, "channels")?;
+    let channels = names_in(place.alloc, place.properties, key.as_str())?;
     let front = joined(place.alloc, place.front, "selector.")?;
-    for at in 0..place.properties.len() {
-        let (key, _, line) = place.properties.at(at);
-        check_selector_key(found, front.as_str(), key, line);
-    }
-    Ok(())
+    let selector = Place {
+        alloc: place.alloc,
+        properties: place.properties,
+        front: front.as_str(),
+    };
+    check_selector(&selector, found, channels.as_slice())
 }
 
 /// Judges a source.
@@ -114,8 +108,8 @@ pub fn check_source(
 {
     check(place, found, true, "type", Rule::SourceKind)?;
     check_names(place, found, "channels", channels)?;
-    check(place, found, false, "interceptors", Rule::Never)?;
-    check_selector(place, found)?;
+    check_steps(place, found)?;
+    check_selector_at(place, found)?;
     check_by_kind(place, found)?;
     Ok(())
 }

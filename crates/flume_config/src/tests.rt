@@ -156,7 +156,7 @@ a1.sinks.k.channel=c
 ";
 
 /// Lines from the ninth on behind the lines above, and the plan or the fault that they make.
-const MORE: [(&str, &str); 39] = [
+const MORE: [(&str, &str); 37] = [
     (
         "a1.sources.r.type=STDIN\na1.channels.c.capacity=0300",
         "r@9 stdin 512 true [0];c@6 memory 300 100;k@7 null 0 100;",
@@ -169,11 +169,6 @@ const MORE: [(&str, &str); 39] = [
     ("a1.channels.c.capacity=10000001", "line 9: bad number"),
     ("a1.channels.c.capacity=+1", "line 9: bad number"),
     ("a1.sources.r.ack-every-event=yes", "line 9: bad number"),
-    ("a1.sources.r.interceptors=i", "line 9: unsupported"),
-    (
-        "a1.sources.r.selector.type=replicating",
-        "line 9: unsupported",
-    ),
     (
         "a1.channels.c.type=file\na1.channels.c.dataDirs=d,",
         "line 10: unsupported",
@@ -428,6 +423,209 @@ fn limits_and_spellings(rt: HostRuntime) -> Result<(), Fail> {
     let alloc = rt.alloc();
     for case in &LIMITS {
         let (more, want) = *case;
+        let mut text = String::from_str(alloc, BASE)?;
+        text.push_str(more)?;
+        assert_eq!(rt;
+            told(alloc, text.as_str(), "a1")?.as_str(),
+            want,
+            "at {more:?}"
+        );
+    }
+    Ok(())
+}
+
+// A source with two channels and one interceptor, whose keys the lines from the third on have.
+const STEPPED: &str = "a1.sources=r
+a1.channels=c d
+a1.sinks=k
+a1.sources.r.type=stdin
+a1.sources.r.channels=c d
+a1.channels.c.type=memory
+a1.channels.d.type=memory
+a1.sinks.k.type=null
+a1.sinks.k.channel=c
+a1.sources.r.interceptors=i
+";
+
+// The front of the keys of an interceptor, of its serializers and of a selector.
+const FRONTS: [(&str, &str); 3] = [
+    ("I.", "a1.sources.r.interceptors.i."),
+    ("Z.", "a1.sources.r.interceptors.i.serializers."),
+    ("S.", "a1.sources.r.selector."),
+];
+
+// The lines with these fronts written out.
+fn written(alloc: Global, lines: &str) -> Result<String, Fail> {
+    let mut text = String::from_str(alloc, STEPPED)?;
+    for line in lines.split('\n') {
+        for (short, front) in FRONTS {
+            if let Some(behind) = line.strip_prefix(short) {
+                text.push_str(front)?;
+                text.push_str(behind)?;
+                text.push_str("\n")?;
+            }
+        }
+    }
+    Ok(text)
+}
+
+// The interceptors and the selector of the one source of a plan, or the line of the first fault.
+fn told_of_source(alloc: Global, lines: &str) -> Result<String, Fail> {
+    let text = written(alloc, lines)?;
+    let properties = read_properties(alloc, text.as_bytes())?;
+    let mut out = String::new(alloc);
+    match plan_of(alloc, &properties, "a1") {
+        Err(refused) => write!(out, "{refused}")?,
+        Ok(plan) => {
+            for source in &plan.sources {
+                let steps = source.steps.as_slice();
+                let selector = &source.selector;
+                write!(out, "{steps:?} {selector:?}")?;
+            }
+        }
+    }
+    Ok(out)
+}
+
+// Lines from the eleventh on, and what they make of an interceptor, or their fault.
+const INTERCEPTORS: [(&str, &str); 21] = [
+    (
+        "I.type=Timestamp",
+        "[Step(Timestamp { header: \"timestamp\", preserve: false })]",
+    ),
+    (
+        "I.type=org.apache.flume.interceptor.TimestampInterceptor$Builder\nI.headerName=at\nI.preserveExisting=TRUE",
+        "[Step(Timestamp { header: \"at\", preserve: true })]",
+    ),
+    (
+        "I.type=host",
+        "[Step(Host { use_ip: true, header: \"host\", preserve: false })]",
+    ),
+    (
+        "I.type=org.apache.flume.interceptor.HostInterceptor$Builder\nI.useIP=false\nI.hostHeader=h",
+        "[Step(Host { use_ip: false, header: \"h\", preserve: false })]",
+    ),
+    (
+        "I.type=static",
+        "[Step(Static { key: \"key\", value: \"value\", preserve: true })]",
+    ),
+    (
+        "I.type=remove_header\nI.withName=a b\nI.fromList=c , d e,,f",
+        "[Step(Remove { names: [\"a b\", \"c\", \"d e\", \"f\"] })]",
+    ),
+    ("I.type=remove_header", "[Step(Remove { names: [] })]"),
+    (
+        "I.type=regex_filter",
+        "[Regex { keys: Filter { regex: \".*\", exclude: false }, line: 11 }]",
+    ),
+    (
+        "I.type=regex_filter\nI.regex=a+\nI.excludeEvents=true",
+        "[Regex { keys: Filter { regex: \"a+\", exclude: true }, line: 12 }]",
+    ),
+    (
+        "I.type=regex_extractor\nI.regex=(a)(b)\nI.serializers=s t\nZ.s.name=one\nZ.t.type=org.apache.flume.interceptor.RegexExtractorInterceptorMillisSerializer\nZ.t.name=two\nZ.t.pattern=HH",
+        "[Regex { keys: Extract { regex: \"(a)(b)\", groups: [Group { name: \"one\", millis: None }, Group { name: \"two\", millis: Some(\"HH\") }] }, line: 12 }]",
+    ),
+    (
+        "I.type=search_replace\nI.searchPattern=a\nI.replaceString=",
+        "[Regex { keys: Replace { search: \"a\", text: \"\" }, line: 12 }]",
+    ),
+    ("I.type=plugin.x", "[Plugin { name: \"x\", line: 11 }]"),
+    // faults
+    ("", "missing a1.sources.r.interceptors.i.type"),
+    ("I.type=uuid", "line 11: unknown type"),
+    ("I.type=host\nI.useIP=yes", "line 12: bad number"),
+    ("I.type=remove_header\nI.matching=a", "line 12: unsupported"),
+    ("I.type=regex_filter\nI.regex=(", "line 12: bad pattern"),
+    (
+        "I.type=regex_filter\nI.excludeEvents=x\nI.regex=(",
+        "line 12: bad number",
+    ),
+    (
+        "I.type=regex_extractor\nI.regex=a",
+        "missing a1.sources.r.interceptors.i.serializers",
+    ),
+    (
+        "I.type=regex_extractor\nI.regex=a\nI.serializers=s\nZ.s.name=n\nZ.s.type=other",
+        "line 15: unknown type",
+    ),
+    (
+        "I.type=regex_extractor\nI.regex=a\nI.serializers=s\nZ.s.name=n\nZ.s.pattern=MMM\nZ.s.type=org.apache.flume.interceptor.RegexExtractorInterceptorMillisSerializer",
+        "line 15: bad pattern",
+    ),
+];
+
+#[test]
+fn interceptors_are_planned(rt: HostRuntime) -> Result<(), Fail> {
+    let alloc = rt.alloc();
+    for case in &INTERCEPTORS {
+        let (lines, want) = *case;
+        let told = told_of_source(alloc, lines)?;
+        let steps = told
+            .as_str()
+            .strip_suffix(" Replicating { channels: 2, optional: [] }");
+        assert_eq!(rt; steps.unwrap_or(told.as_str()), want, "at {lines:?}");
+    }
+    Ok(())
+}
+
+// Lines from the eleventh on behind a `static` interceptor, and the selector that they make, or their fault.
+const SELECTORS: [(&str, &str); 9] = [
+    ("", "Replicating { channels: 2, optional: [] }"),
+    (
+        "S.type=REPLICATING\nS.optional=d",
+        "Replicating { channels: 2, optional: [1] }",
+    ),
+    (
+        "S.type=multiplexing\nS.mapping.CZ=c d\nS.mapping.US=d\nS.default=d\nS.optional.US=c\nS.optional=none",
+        "Multiplexing { header: \"flume.selector.header\", mapping: [(\"CZ\", [0, 1]), (\"US\", [1])], default: [1], optional: [(\"US\", [0])] }",
+    ),
+    (
+        "S.type=multiplexing\nS.header=state",
+        "Multiplexing { header: \"state\", mapping: [], default: [], optional: [] }",
+    ),
+    ("S.type=other", "line 12: unknown type"),
+    ("S.optional=e", "line 12: unknown name"),
+    ("S.optional=d d", "line 12: clash"),
+    (
+        "S.type=multiplexing\nS.mapping.x=c e",
+        "line 13: unknown name",
+    ),
+    ("S.type=multiplexing\nS.default=k", "line 13: unknown name"),
+];
+
+#[test]
+fn selectors_are_planned(rt: HostRuntime) -> Result<(), Fail> {
+    let alloc = rt.alloc();
+    for case in &SELECTORS {
+        let (lines, want) = *case;
+        let mut all = String::from_str(alloc, "I.type=static\n")?;
+        all.push_str(lines)?;
+        let told = told_of_source(alloc, all.as_str())?;
+        let front = "[Step(Static { key: \"key\", value: \"value\", preserve: true })] ";
+        let selector = told.as_str().strip_prefix(front);
+        assert_eq!(rt; selector.unwrap_or(told.as_str()), want, "at {lines:?}");
+    }
+    Ok(())
+}
+
+#[test]
+fn objects_are_handed_in_once(rt: HostRuntime) -> Result<(), Fail> {
+    let alloc = rt.alloc();
+    for (more, want) in [
+        (
+            "a1.sources.r.interceptors=i i\na1.sources.r.interceptors.i.type=host",
+            "line 9: clash",
+        ),
+        (
+            "a1.sources.r.interceptors=i j\na1.sources.r.interceptors.i.type=plugin.x\na1.sources.r.interceptors.j.type=plugin.x",
+            "line 11: clash",
+        ),
+        (
+            "a1.sources.r.interceptors=i\na1.sources.r.interceptors.i.type=plugin.x\na1.sinks.k.type=plugin.x",
+            "r@4 stdin 512 true [0];c@6 memory 100 100;k@11 plugin x 0 100;",
+        ),
+    ] {
         let mut text = String::from_str(alloc, BASE)?;
         text.push_str(more)?;
         assert_eq!(rt;

@@ -1,12 +1,13 @@
 //! The words, numbers and truth values that a value is.
 
-ghost use Rattle.std.specs.Prelude.{◌≡◌, ◌≤◌, ◌^◌, ◌-◌, ◌++◌, ◌∷◌, [], IfOk, OnOk, filter, take, drop, length};
+ghost use Rattle.std.specs.Prelude.{◌≡◌, ◌≤◌, ◌^◌, ◌-◌, ◌++◌, ◌∷◌, [], IfOk, OnOk, filter, map, take, drop, length, string_bytes};
 ghost use Rattle.std.specs.Str.{IsCharBoundary};
 ghost use Rattle.prop_text.specs.Lines.{is_white_space};
 ghost use Rattle.prop_text.specs.Views.{texts};
-ghost use Rattle.flume_config.specs.Words.{words, is_word, is_among, all_among, has_twice, number_in, truth_of};
+ghost use Rattle.flume_config.specs.Words.{words, listed, trimmed_names, is_word, is_among, all_among, has_twice, number_in, truth_of};
 
 use std::alloc::{AllocError, Global};
+use std::str;
 
 fn is_white_space(byte: u8) -> bool
     ensures { result ≡ is_white_space byte }
@@ -52,6 +53,39 @@ pub fn words(alloc: Global, text: &str) -> Result<Vec<&str>, AllocError>
     }
     push_word(&mut found, text, start, at)?;
     Ok(found)
+}
+
+// Adds a name without the white space beside it, unless that is empty.
+fn push_trimmed(alloc: Global, names: &mut Vec<String>, piece: Vec<u8>) -> Result<(), AllocError>
+    ensures { OnOk result (map string_bytes names.new.items ≡ map string_bytes names.old.items ++ trimmed_names (piece.items ∷ [])) }
+{
+    match str::from_utf8(piece.as_slice()) {
+        Ok(piece) => {
+            let name = piece.trim();
+            if !name.is_empty() {
+                names.push(String::from_str(alloc, name)?)?;
+            }
+            Ok(())
+        }
+        // a piece of a text between two of its characters is a text
+        Err(_) => Err(AllocError),
+    }
+}
+
+/// Adds the names of a list with commas.
+pub fn push_listed(alloc: Global, names: &mut Vec<String>, list: &str) -> Result<(), AllocError>
+    ensures { OnOk result (map string_bytes names.new.items ≡ map string_bytes names.old.items ++ listed list.now) }
+{
+    let mut piece = Vec::new(alloc);
+    for byte in list.as_bytes() {
+        if *byte == b',' {
+            push_trimmed(alloc, names, piece)?;
+            piece = Vec::new(alloc);
+        } else {
+            piece.push(*byte)?;
+        }
+    }
+    push_trimmed(alloc, names, piece)
 }
 
 /// Whether the name is among the names.

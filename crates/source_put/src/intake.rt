@@ -118,6 +118,13 @@ impl<F: PutFace + Drop> Intake<F> {
         }
     }
 
+    /// How many channels there are. It takes no memory.
+    pub fn port_count(&self) -> u32
+        ensures { result ≡ length self.now.ports.items }
+    {
+        self.ports.len() as u32
+    }
+
     /// Lends one of the channels, by its place. It takes no memory. What is written through the loan stays in the intake, of which
     /// no clause speaks: a chain of boxed objects has no name in such a clause.
     pub fn port(&mut self, place: u32) -> &mut F

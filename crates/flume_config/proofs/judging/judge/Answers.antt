@@ -12,5 +12,7 @@ returns c =
     let lists = rw (c.as_str.ensures.value, c.in_ok-front.ensures, c.new-found.ensures) at c.in_ok-check_lists.ensures in
     let all = claims_of c.args.agent.now.properties.now c.args.agent.now.name.now (texts c.args.sources.now) (texts c.args.channels.now) (texts c.args.sinks.now) (texts c.args.groups.now) in
     let claimed : wishes c.as_slice.result.now ≡ all = ap wishes c.as_slice.ensures.value ∙ c.in_ok-judge_components.ensures.claimed.is ∙ ap (λ (l : List Claim). wishes l ++ all) c.new-claims.ensures.items in
-    join (join lists c.in_ok-judge_components.ensures.judged)
-    (subst (λ (l : List Wish). Adds (seen c.judge_components.new.found) (seen c.check_claims.new.found) (clashes l)) claimed c.check_claims.ensures)
+    let whole = join (join lists c.in_ok-judge_components.ensures.judged)
+    (subst (λ (l : List Wish). Adds (seen c.judge_components.new.found) (seen c.check_claims.new.found) (clashes l)) claimed c.check_claims.ensures) in
+    let asks = c.in_ok-ask_sources.ensures in
+    record { verdicts = asks.verdicts; are = asks.are; is = (join whole asks.adds).is }

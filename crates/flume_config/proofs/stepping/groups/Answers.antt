@@ -1,0 +1,9 @@
+use Rattle.std.proofs.Common.{[]}
+use Rattle.flume_config.proofs.Joins.{makes_on, made_all}
+use Rattle.flume_config.proofs.stepping.groups.Goals as goal
+
+pub loop-name-preserved : goal.loop-name-preserved
+loop-name-preserved c = rw c.in_ok-push.ensures.items (makes_on (record { ref_ptr = (0, 0); now = [] }) c.in_ok-group.field-0 c.loop-name-test.true c.loop-name.invariant c.in_ok-group.ensures)
+
+pub returns : goal.returns
+returns c = made_all c.loop-name-test.false c.loop-name.invariant

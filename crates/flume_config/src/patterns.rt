@@ -1,0 +1,207 @@
+//! The texts of a configuration that have to be patterns.
+
+ghost use Rattle.std.specs.Prelude.{IfOk, OnOk, ◌++◌, ◌∷◌, [], codes, true, false};
+ghost use Rattle.std.specs.List.{flat_map};
+ghost use Rattle.prop_text.specs.Views.{texts};
+ghost use Rattle.prop_text.specs.Winners.{lookup};
+ghost use Rattle.flume_config.specs.Candidates.{seen};
+ghost use Rattle.flume_config.specs.Patterns.{Asks, IsVerdict, asked_at, asked_of_date, asked_of_serializer, asked_of_extractor, asked_of_kind, asked_by_kind, asked_of_step, asked_of_source, asked_of};
+
+use crate::findings::{FaultKind, Findings};
+use crate::group::{Agent, front_of, names_in};
+use crate::rules::{Place, is_millis, is_type, joined};
+use regex_steps::{BuildRefused, DatePattern, RegexKeys, RegexStep};
+use std::alloc::{AllocError, Global};
+
+// Whether a text is no pattern.
+fn is_bad_pattern(alloc: Global, text: &str) -> Result<bool, AllocError>
+    ensures { IfOk result (λ bad. IsVerdict false bad text.now) }
+{
+    let keys = RegexKeys::Filter {
+        regex: String::from_str(alloc, text)?,
+        exclude: false,
+    };
+    match RegexStep::build(alloc, &keys) {
+        Ok(_) => Ok(false),
+        Err(BuildRefused::BadPattern) => Ok(true),
+        Err(BuildRefused::NoMemory) => Err(AllocError),
+    }
+}
+
+// Whether a text is no pattern of dates.
+fn is_bad_date(alloc: Global, text: &str) -> Result<bool, AllocError>
+    ensures { IfOk result (λ bad. IsVerdict true bad text.now) }
+{
+    match DatePattern::read(alloc, text) {
+        Ok(_) => Ok(false),
+        Err(BuildRefused::BadPattern) => Ok(true),
+        Err(BuildRefused::NoMemory) => Err(AllocError),
+    }
+}
+
+fn is_bad(alloc: Global, text: &str, is_date: bool) -> Result<bool, AllocError>
+    ensures { IfOk result (λ bad. IsVerdict is_date bad text.now) }
+{
+    if is_date {
+        is_bad_date(alloc, text)
+    } else {
+        is_bad_pattern(alloc, text)
+    }
+}
+
+// A text that has to be a pattern.
+fn ask(
+    alloc: Global,
+    found: &mut Findings,
+    text: &str,
+    line: u32,
+    is_date: bool,
+) -> Result<(), AllocError>
+    ensures { OnOk result (Asks (seen found.old) (seen found.new) (record { text = text.now; line = line; is_date = is_date } ∷ [])) }
+{
+    let bad = is_bad(alloc, text, is_date)?;
+    if bad {
+        found.refuse(line, FaultKind::BadPattern);
+    }
+    Ok(())
+}
+
+#[tactic(auto, using(crate::proofs::Asking::ask_none))]
+fn ask_at(
+    place: &Place<'_>,
+    found: &mut Findings,
+    is_date: bool,
+    key: &str,
+) -> Result<(), AllocError>
+    ensures { OnOk result (Asks (seen found.old) (seen found.new) (asked_at is_date (lookup (place.now.front.now ++ key.now) place.now.properties.now))) }
+{
+    let key = joined(place.alloc, place.front, key)?;
+    match place.properties.get(key.as_str()) {
+        None => Ok(()),
+        Some((value, line)) => ask(place.alloc, found, value, line, is_date),
+    }
+}
+
+#[tactic(auto, using(crate::proofs::Asking::ask_none))]
+fn ask_date(place: &Place<'_>, found: &mut Findings) -> Result<(), AllocError>
+    ensures { OnOk result (Asks (seen found.old) (seen found.new)
+        (asked_of_date place.now.properties.now place.now.front.now (lookup (place.now.front.now ++ codes "type") place.now.properties.now))) }
+{
+    let key = joined(place.alloc, place.front, "type")?;
+    match place.properties.get(key.as_str()) {
+        Some((kind, _)) if is_millis(kind) => ask_at(place, found, true, "pattern"),
+        _ => Ok(()),
+    }
+}
+
+fn ask_serializer(place: &Place<'_>, found: &mut Findings, name: &str) -> Result<(), AllocError>
+    ensures { OnOk result (Asks (seen found.old) (seen found.new) (asked_of_serializer place.now.properties.now place.now.front.now name.now)) }
+{
+    let front = front_of(place.alloc, place.front, "serializers.", name)?;
+    let place = Place {
+        alloc: place.alloc,
+        properties: place.properties,
+        front: front.as_str(),
+    };
+    ask_date(&place, found)
+}
+
+fn ask_serializers(
+    place: &Place<'_>,
+    found: &mut Findings,
+    names: &[&str],
+) -> Result<(), AllocError>
+    ensures { OnOk result (Asks (seen found.old) (seen found.new) (flat_map (asked_of_serializer place.now.properties.now place.now.front.now) (texts names.now))) }
+{
+    for name in names {
+        ask_serializer(place, found, name)?;
+    }
+    Ok(())
+}
+
+fn ask_extractor(place: &Place<'_>, found: &mut Findings) -> Result<(), AllocError>
+    ensures { OnOk result (Asks (seen found.old) (seen found.new) (asked_of_extractor place.now.properties.now place.now.front.now)) }
+{
+    let key = joined(place.alloc, place.front, "serializers")?;
+    let names = names_in(place.alloc, place.properties, key.as_str())?;
+    ask_at(place, found, false, "regex")?;
+    ask_serializers(place, found, names.as_slice())?;
+    Ok(())
+}
+
+#[tactic(auto, using(crate::proofs::Asking::ask_none))]
+fn ask_kind(place: &Place<'_>, found: &mut Findings, kind: &str) -> Result<(), AllocError>
+    ensures { OnOk result (Asks (seen found.old) (seen found.new) (asked_of_kind place.now.properties.now place.now.front.now kind.now)) }
+{
+    if is_type(kind, "regex_filter") {
+        return ask_at(place, found, false, "regex");
+    }
+    if is_type(kind, "regex_extractor") {
+        return ask_extractor(place, found);
+    }
+    if is_type(kind, "search_replace") {
+        return ask_at(place, found, false, "searchPattern");
+    }
+    Ok(())
+}
+
+#[tactic(auto, using(crate::proofs::Asking::ask_none))]
+fn ask_by_kind(place: &Place<'_>, found: &mut Findings) -> Result<(), AllocError>
+    ensures { OnOk result (Asks (seen found.old) (seen found.new)
+        (asked_by_kind place.now.properties.now place.now.front.now (lookup (place.now.front.now ++ codes "type") place.now.properties.now))) }
+{
+    let key = joined(place.alloc, place.front, "type")?;
+    match place.properties.get(key.as_str()) {
+        None => Ok(()),
+        Some((kind, _)) => ask_kind(place, found, kind),
+    }
+}
+
+fn ask_step(place: &Place<'_>, found: &mut Findings, name: &str) -> Result<(), AllocError>
+    ensures { OnOk result (Asks (seen found.old) (seen found.new) (asked_of_step place.now.properties.now place.now.front.now name.now)) }
+{
+    let front = front_of(place.alloc, place.front, "interceptors.", name)?;
+    let place = Place {
+        alloc: place.alloc,
+        properties: place.properties,
+        front: front.as_str(),
+    };
+    ask_by_kind(&place, found)
+}
+
+fn ask_steps(place: &Place<'_>, found: &mut Findings, names: &[&str]) -> Result<(), AllocError>
+    ensures { OnOk result (Asks (seen found.old) (seen found.new) (flat_map (asked_of_step place.now.properties.now place.now.front.now) (texts names.now))) }
+{
+    for name in names {
+        ask_step(place, found, name)?;
+    }
+    Ok(())
+}
+
+fn ask_source(agent: &Agent<'_>, found: &mut Findings, name: &str) -> Result<(), AllocError>
+    ensures { OnOk result (Asks (seen found.old) (seen found.new) (asked_of_source agent.now.properties.now agent.now.name.now name.now)) }
+{
+    let front = front_of(agent.alloc, agent.name, ".sources.", name)?;
+    let key = joined(agent.alloc, front.as_str(), "interceptors")?;
+    let names = names_in(agent.alloc, agent.properties, key.as_str())?;
+    let place = Place {
+        alloc: agent.alloc,
+        properties: agent.properties,
+        front: front.as_str(),
+    };
+    ask_steps(&place, found, names.as_slice())
+}
+
+/// Judges the patterns of the interceptors of all sources.
+pub fn ask_sources(
+    agent: &Agent<'_>,
+    found: &mut Findings,
+    names: &[&str],
+) -> Result<(), AllocError>
+    ensures { OnOk result (Asks (seen found.old) (seen found.new) (asked_of agent.now.properties.now agent.now.name.now (texts names.now))) }
+{
+    for name in names {
+        ask_source(agent, found, name)?;
+    }
+    Ok(())
+}
