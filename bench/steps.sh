@@ -68,12 +68,12 @@ fn run(rt: &HostRuntime, what: &str, mut step: RegexStep) -> Result<()> {
         let event = event(alloc, number)?;
         let start = Instant::now(rt)?;
         let made = step.run(event);
-        took = took.saturating_add(start.elapsed(rt)?.as_micros());
+        took = took.saturating_add(start.elapsed(rt)?.as_nanos());
         if let Ok(Some(_)) = made {
             kept = kept.saturating_add(1);
         }
     }
-    let events = u128::from(ROUNDS) * 1_000_000 / took.max(1);
+    let events = u128::from(ROUNDS) * 1_000_000_000 / took.max(1);
     println!(rt; "{what}: {events} events/s, {kept} of {ROUNDS} kept")?;
     Ok(())
 }
