@@ -1,5 +1,9 @@
-//! Tests of what a source's batches become in channels in memory.
+//! Tests of what a source's batches become in channels in memory and on a disk.
 #![tactic(auto)]
 
 #[cfg(test)]
 mod accepts;
+#[cfg(test)]
+mod setup;
+#[cfg(test)]
+mod worked;
