@@ -1,8 +1,8 @@
 pub mod Bytes
-pub mod LogFile
+pub mod Committing
 pub mod Steps
-pub mod LogLines
+pub mod Standing
+pub mod Beginning
 pub mod Outcomes
-pub mod Stops
 pub mod Commands
 pub mod Checks

@@ -1,20 +1,35 @@
 -- What a session over a host amounts to for `pipe`.
-use Rattle.std.proofs.Common.{◌≡◌, ◌⊎◌, inl, inr, ℕ, ◌<◌, ◌≤◌, ◌^◌, List, [], ◌∷◌, ◌++◌, All, Option, None, refl, sym, ap, subst, ◌∙◌, arith, append-nil}
+use Rattle.std.proofs.Common.{◌≢◌, Some, ◌≡◌, ◌⊎◌, inl, inr, ℕ, ◌<◌, ◌≤◌, ◌^◌, List, [], ◌++◌, All, Option, None, refl, sym, ap, subst, ◌∙◌, arith, append-nil}
 use Rattle.std.proofs.KnownBytes.{Consumes-nil, Appends-nil}
 use Rattle.std.proofs.lemmas.List.Elements.{All-nil}
 use Rattle.std.specs.Io.KnownBytes.{IsAtEnd}
 use Rattle.flume_host.specs.Causes.{Counts, Rose}
 use Rattle.flume_host.specs.HostState.{HostState}
+use Rattle.flume_host.specs.Folder.{Files, IsImage}
 use Rattle.flume_host.specs.Told.{Told, Tells}
+use Rattle.flume_host.proofs.Moments.{started}
+use Rattle.flume_host.proofs.Telling.{tells_more, tells_same}
+use Rattle.channel_face.specs.Machine.{State}
+use Rattle.channel_face.specs.declared.replies.OpenCause.{OpenCause}
+use Rattle.channel_face.specs.declared.replies.OpenCause.TheVariants as causes
+use Rattle.file_channel.specs.Folders.{AreSame, IsAsBefore, IsRefused, OpensFrom, OpensOver, StaysAs}
 use Rattle.netcat_source.specs.Lines.{IsLine, LinesEnd, Rest, TooLong}
 use Rattle.netcat_source.specs.declared.replies.LineVerdict.TheVariants as verdict
-use Rattle.agent_run.specs.Handled.{Handled, GoesOn, Start, lines_of, verdicts_of, all_with}
+use Rattle.agent_run.specs.Handled.{Handled, GoesOn, Start, doubted, verdicts_of}
 use Rattle.agent_run.specs.Session.{Served, Stopped, IsStop, IsWell}
-use Rattle.agent_run.specs.PlainLog.{Holds, Logs, Stands}
-use Rattle.agent_run.specs.Piped.{Stored, Interrupted, Piped, IsWellStatus, end_status}
+use Rattle.agent_run.specs.Store.{Stands}
+use Rattle.agent_run.specs.Stored.{Holds, IsOfFolder, IsRefusedFolder, IsUnopened, default_limits}
+use Rattle.agent_run.specs.Piped.{Stored, Interrupted, Piped, IsWellStatus, cause_status, end_status}
 use Rattle.agent_run.specs.declared.session.SessionEnd.{SessionEnd}
 use Rattle.agent_run.specs.declared.session.SessionEnd.TheVariants.{End, LongLine, Full, InDoubt, NoMemory, ReadFault, WriteFault}
-use Rattle.agent_run.proofs.LogLines.{none_stops}
+use Rattle.agent_run.proofs.Standing.{none_stops}
+
+-- two things at once
+tells_both : {T : Type 0} (old new : Option T) (P Q : T → T → Type 0) → Tells old new P → Tells old new Q → Tells old new (λ t u. P t u × Q t u)
+tells_both None None P Q p q = tt
+tells_both None (Some u) P Q p q = p
+tells_both (Some t) None P Q p q = p
+tells_both (Some t) (Some u) P Q p q = (p, q)
 
 is_end : (e : SessionEnd) → end_status e ≡ 0 → e ≡ End
 is_end End is = refl
@@ -121,28 +136,23 @@ stopped_as more rose s = record {
   stands = more s.done s.stands;
 }
 
-lines-all_with : (lines : List (List ℕ)) → lines_of (all_with verdict.Accepted lines) ≡ lines
-lines-all_with [] = refl
-lines-all_with (l ∷ lines) = ap (λ (ls : List (List ℕ)). l ∷ ls) (lines-all_with lines)
+-- nothing stopped those that went on
+unstopped : (start : Start) (told : Option Told) (faults : ℕ) (state : State) (done : List Handled) → All GoesOn (verdicts_of done) → (s : Stands start told faults state done) → s.last ≡ []
+unstopped start told faults state done going s = none_stops s.first s.last (let P : List Handled → Type 0 = λ d. All GoesOn (verdicts_of d) in subst P s.split going) s.stops
 
-stored : (start : Start) (told : Option Told) (faults next : ℕ) (done : List Handled) → All GoesOn (verdicts_of done) → Stands start told faults next done → Stored start.told told done
-stored start told faults next done going s =
-    let none : s.last ≡ [] = none_stops (all_with verdict.Accepted s.lines) s.last (let P : List Handled → Type 0 = λ d. All GoesOn (verdicts_of d) in subst P s.split going) s.stops in
-    let all : done ≡ all_with verdict.Accepted s.lines = s.split ∙ ap (λ l. all_with verdict.Accepted s.lines ++ l) none ∙ append-nil (all_with verdict.Accepted s.lines) in
-    let same : lines_of done ≡ s.lines = ap (λ d. lines_of d) all ∙ lines-all_with s.lines in
-    record {
-      all = all ∙ ap (λ ls. all_with verdict.Accepted ls) (sym same);
-      logs = let P : List (List ℕ) → Type 0 = λ ls. Logs start.told told ls in subst P (sym same) (s.file (let Q : List Handled → Type 0 = λ l. All (λ h. h.verdict ≡ verdict.NoMemory) l in subst Q (sym none) (All-nil (λ (h : Handled). h.verdict ≡ verdict.NoMemory))));
-    }
+stored : (start : Start) (told : Option Told) (faults : ℕ) (state : State) (done : List Handled) → All GoesOn (verdicts_of done) → Stands start told faults state done → Stored start.told told done
+stored start told faults state done going s =
+    let none : s.last ≡ [] = unstopped start told faults state done going s in
+    let first : s.first ≡ done = sym (s.split ∙ ap (λ (l : List Handled). s.first ++ l) none ∙ append-nil s.first) in
+    let doubt : doubted s.last ≡ [] = ap doubted none in
+    subst (λ (d : List Handled). Tells start.told told (Holds d [])) first (subst (λ (l : List (List ℕ)). Tells start.told told (Holds s.first l)) doubt s.holds)
 
 -- a session that nothing stopped counted no fault of the disk
-pub uncounted : (start : Start) (told : Option Told) (faults next : ℕ) (done : List Handled) → All GoesOn (verdicts_of done) → Stands start told faults next done → faults ≡ start.faults
-uncounted start told faults next done going s =
-    let none : s.last ≡ [] = none_stops (all_with verdict.Accepted s.lines) s.last (let P : List Handled → Type 0 = λ d. All GoesOn (verdicts_of d) in subst P s.split going) s.stops in
-    s.well (let Q : List Handled → Type 0 = λ l. All (λ h. h.verdict ≡ verdict.NoMemory) l in subst Q (sym none) (All-nil (λ (h : Handled). h.verdict ≡ verdict.NoMemory)))
+pub uncounted : (start : Start) (told : Option Told) (faults : ℕ) (state : State) (done : List Handled) → All GoesOn (verdicts_of done) → Stands start told faults state done → faults ≡ start.faults
+uncounted start told faults state done going s = s.well (let Q : List Handled → Type 0 = λ l. All (λ h. h.verdict ≡ verdict.NoMemory) l in subst Q (sym (unstopped start told faults state done going s)) (All-nil (λ (h : Handled). h.verdict ≡ verdict.NoMemory)))
 
-interrupted : (start : Start) (told : Option Told) (faults next : ℕ) (done : List Handled) → Stands start told faults next done → Interrupted start.told told start.faults faults done
-interrupted start told faults next done s = record { lines = s.lines; last = s.last; split = s.split; one = s.one; stops = s.stops; cause = s.cause; kept = λ _. s.kept; logs = λ _ none. s.file none }
+interrupted : (start : Start) (told : Option Told) (faults : ℕ) (state : State) (done : List Handled) → Stands start told faults state done → Interrupted start.told told start.faults faults done
+interrupted start told faults state done s = record { first = s.first; last = s.last; split = s.split; going = s.going; one = s.one; stops = s.stops; cause = s.cause; folder = inl s.holds }
 
 module _ (s0 s1 s2 s3 s4 : HostState) (left left' took took' handed' : Option (List ℕ)) (n m own_in own_out : ℕ)
     (e1 : left ≡ s0.input) (e2 : s1 ≡ record s0 { input = None }) (e3 : took ≡ s1.output) (e4 : s2 ≡ record s1 { output = None; handed = None })
@@ -177,9 +187,9 @@ module _ (s0 s1 s2 s3 s4 : HostState) (left left' took took' handed' : Option (L
   unread : own_in ≡ 0 → own_out ≡ 0 → s4.faults ≡ s0.faults
   unread none_in none_out = faults4 ∙ c6.clean none_out ∙ faults3 ∙ c5.clean none_in ∙ faults2
 
-  module _ (start : Start) (told : Option Told) (faults next accepted : ℕ) (e : SessionEnd) (sink_before : ℕ) (clean : sink_before ≡ 0) where
+  module _ (start : Start) (told : Option Told) (faults : ℕ) (state : State) (accepted : ℕ) (e : SessionEnd) (sink_before : ℕ) (clean : sink_before ≡ 0) where
     abbrev pub Here : List Handled → Type 0
-    Here = Stands start told faults next
+    Here = Stands start told faults state
 
     pub piped : (e ≡ End → IsAtEnd left')
         → (e ≡ End → Served 512 (λ size. size < 2 ^ 40) Rest left left' took took' accepted Here)
@@ -194,21 +204,21 @@ module _ (s0 s1 s2 s3 s4 : HostState) (left left' took took' handed' : Option (L
     piped at_end end long full stopped all well memory in_doubt read write status is = record {
       done = λ zero.
           let ended = is_end e (sym is ∙ zero) in
-          (let P : Option (List ℕ) → Type 0 = λ o. IsAtEnd o in subst P (sym input_is) (at_end ended), rw (← e1, input_is, ← took_is, output_is) (served_as (stored start told faults next) (end ended)));
-      full = λ six. rw (← e1, input_is, ← took_is, output_is) (served_as (stored start told faults next) (full (is_full e (sym is ∙ six))));
-      long = λ seven. rw (← e1, input_is, ← took_is, output_is) (served_as (stored start told faults next) (long (is_long e (sym is ∙ seven))));
+          (let P : Option (List ℕ) → Type 0 = λ o. IsAtEnd o in subst P (sym input_is) (at_end ended), rw (← e1, input_is, ← took_is, output_is) (served_as (stored start told faults state) (end ended)));
+      full = λ six. rw (← e1, input_is, ← took_is, output_is) (served_as (stored start told faults state) (full (is_full e (sym is ∙ six))));
+      long = λ seven. rw (← e1, input_is, ← took_is, output_is) (served_as (stored start told faults state) (long (is_long e (sym is ∙ seven))));
       stopped = λ which.
           let kind : (end_status e ≡ 3) ⊎ (end_status e ≡ 5) = elim which [ inl three ↦ inl (sym is ∙ three) | inr five ↦ inr (sym is ∙ five) ] in
-          rw (← e1, input_is, ← took_is, output_is) (stopped_as (interrupted start told faults next) (λ rose. write_rose (rw clean at rose)) (stopped (is_stop e kind)));
+          rw (← e1, input_is, ← took_is, output_is) (stopped_as (interrupted start told faults state) (λ rose. write_rose (rw clean at rose)) (stopped (is_stop e kind)));
       held = λ four. absurd (never_held e (sym is ∙ four));
       handed = λ which. handed_is ∙ all (is_well e (subst IsWellStatus is which)) ∙ sym output_is;
       well = λ which.
           let none = well (is_well e (subst IsWellStatus is which)) in
           let disk : faults ≡ start.faults = elim which [
-            | inl zero ↦ let s = end (is_end e (sym is ∙ zero)) in uncounted start told faults next s.done s.going s.stands
+            | inl zero ↦ let s = end (is_end e (sym is ∙ zero)) in uncounted start told faults state s.done s.going s.stands
             | inr other ↦ elim other [
-              | inl six ↦ let s = full (is_full e (sym is ∙ six)) in uncounted start told faults next s.done s.going s.stands
-              | inr seven ↦ let s = long (is_long e (sym is ∙ seven)) in uncounted start told faults next s.done s.going s.stands
+              | inl six ↦ let s = full (is_full e (sym is ∙ six)) in uncounted start told faults state s.done s.going s.stands
+              | inr seven ↦ let s = long (is_long e (sym is ∙ seven)) in uncounted start told faults state s.done s.going s.stands
             ]
           ] in
           (unread none.0 (none.1 ∙ clean), disk);
@@ -219,8 +229,8 @@ module _ (s0 s1 s2 s3 s4 : HostState) (left left' took took' handed' : Option (L
       ];
     }
 
-nothing : (max a b c d : ℕ) (before after : Option Told) (input left output took : Option (List ℕ)) → left ≡ input → took ≡ output → (accepted : ℕ) → accepted ≡ 0 → Stopped max input left output took a b accepted (Interrupted before after c d)
-nothing max a b c d before after input left output took same_input same_output accepted none = record {
+nothing : (max a b c d : ℕ) (before after : Option Told) (input left output took : Option (List ℕ)) → left ≡ input → took ≡ output → (accepted : ℕ) → accepted ≡ 0 → Tells before after IsUnopened → Stopped max input left output took a b accepted (Interrupted before after c d)
+nothing max a b c d before after input left output took same_input same_output accepted none unopened = record {
   bytes = [];
   read = rw same_input (Consumes-nil input);
   done = [];
@@ -234,25 +244,25 @@ nothing max a b c d before after input left output took same_input same_output a
   whole = inl (omega arith);
   counted = none;
   stands = record {
-    lines = [];
+    first = [];
     last = [];
     split = refl;
+    going = All-nil GoesOn;
     one = omega arith;
     stops = All-nil (λ (h : Handled). GoesOn h.verdict → ⊥);
     cause = All-nil (λ (h : Handled). h.verdict ≡ verdict.InDoubt → Rose c d);
-    kept = λ some. absurd (omega arith);
-    logs = λ some none. absurd (omega arith);
+    folder = inr (refl, unopened);
   };
 }
 
 -- an end before any line
-pub early : (old new : HostState) (before after : Option Told) (a b status accepted : ℕ) → new.input ≡ old.input → new.output ≡ old.output → accepted ≡ 0 → (status ≡ 3) ⊎ ((status ≡ 4) ⊎ (status ≡ 5))
-    → (status ≡ 3 → Rose old.faults new.faults ⊎ Rose a b) → (status ≡ 4 → Tells before after Holds) → (status ≡ 5 → b ≡ a) → Piped old new before after a b status accepted
-early old new before after a b status accepted same_input same_output none which fault held memory = record {
+pub early : (old new : HostState) (before after : Option Told) (a b status accepted : ℕ) → new.input ≡ old.input → new.output ≡ old.output → accepted ≡ 0 → (status ≡ 3) ⊎ ((status ≡ 4) ⊎ (status ≡ 5)) → Tells before after IsUnopened
+    → (status ≡ 3 → Rose old.faults new.faults ⊎ Rose a b) → (status ≡ 4 → Tells before after IsRefusedFolder) → (status ≡ 5 → b ≡ a) → Piped old new before after a b status accepted
+early old new before after a b status accepted same_input same_output none which unopened fault held memory = record {
   done = λ is. absurd (other is which);
   full = λ is. absurd (other6 is which);
   long = λ is. absurd (other7 is which);
-  stopped = λ _. nothing 512 old.faults new.faults a b before after old.input new.input old.output new.output same_input same_output accepted none;
+  stopped = λ _. nothing 512 old.faults new.faults a b before after old.input new.input old.output new.output same_input same_output accepted none unopened;
   held = λ is. (held is, same_input, same_output, none);
   handed = λ is. absurd (not_well is);
   well = λ is. absurd (not_well is);
@@ -278,16 +288,67 @@ early old new before after a b status accepted same_input same_output none which
     not_well : IsWellStatus status → ⊥
     not_well is = elim is [ inl zero ↦ other zero which | inr more ↦ elim more [ inl six ↦ other6 six which | inr seven ↦ other7 seven which ] ]
 
+-- nothing was done to a folder
+pub untouched : (told : Option Told) → Tells told told IsUnopened
+untouched told = tells_same told IsUnopened (λ t _. record { reads = inl (λ name. refl); images = started t (λ image. IsImage t.now image ⊎ IsAsBefore t.reads image) (λ image left. inl left) })
+
+stays : (cause : OpenCause) (files folder : Files) → StaysAs cause files folder → IsAsBefore files folder
+stays causes.DiskFault files folder is = is
+stays (causes.BadCheck file at) files folder is = inl is
+stays (causes.BadLog file at) files folder is = inl is
+stays (causes.OverCapacity count) files folder is = inl is
+stays (causes.Spent counter) files folder is = inl is
+stays causes.NoMemory files folder is = inl is
+
+same_files : (cause : OpenCause) (files folder : Files) → IsOfFolder cause → StaysAs cause files folder → AreSame files folder
+same_files causes.DiskFault files folder of is = absurd of
+same_files (causes.BadCheck file at) files folder of is = is
+same_files (causes.BadLog file at) files folder of is = is
+same_files (causes.OverCapacity count) files folder of is = is
+same_files (causes.Spent counter) files folder of is = is
+same_files causes.NoMemory files folder of is = absurd of
+
+cause_kind : (cause : OpenCause) → ((cause ≡ causes.DiskFault) × (cause_status cause ≡ 3)) ⊎ ((IsOfFolder cause × (cause_status cause ≡ 4) × (cause ≢ causes.DiskFault)) ⊎ ((cause_status cause ≡ 5) × (cause ≢ causes.DiskFault)))
+cause_kind causes.DiskFault = inl (refl, refl)
+cause_kind (causes.BadCheck file at) = inr (inl (tt, refl, λ is. absurd cc))
+cause_kind (causes.BadLog file at) = inr (inl (tt, refl, λ is. absurd cc))
+cause_kind (causes.OverCapacity count) = inr (inl (tt, refl, λ is. absurd cc))
+cause_kind (causes.Spent counter) = inr (inl (tt, refl, λ is. absurd cc))
+cause_kind causes.NoMemory = inr (inr (refl, λ is. absurd cc))
+
+-- a folder that was not opened
+pub refused : (s : HostState) (before after : Option Told) (a b : ℕ) (cause : OpenCause) → IsRefused before after a b default_limits.capacity cause → (cause ≡ causes.DiskFault) ⊎ Tells before after OpensFrom → Piped s s before after a b (cause_status cause) 0
+refused s before after a b cause r settled = elim (cause_kind cause) [
+  | inl disk ↦ early s s before after a b (cause_status cause) 0 refl refl refl (inl disk.1) unopened (λ _. inr (r.fault disk.0)) (λ four. absurd (let is = disk.1 in omega (arith, four, is))) (λ five. absurd (let is = disk.1 in omega (arith, five, is)))
+  | inr other ↦ elim other [
+    | inl folder ↦ early s s before after a b (cause_status cause) 0 refl refl refl (inr (inl folder.1)) unopened (λ three. absurd (let is = folder.1 in omega (arith, three, is))) (λ _. held folder.0 folder.2) (λ five. absurd (let is = folder.1 in omega (arith, five, is)))
+    | inr memory ↦ early s s before after a b (cause_status cause) 0 refl refl refl (inr (inr memory.0)) unopened (λ three. absurd (let is = memory.0 in omega (arith, three, is))) (λ four. absurd (let is = memory.0 in omega (arith, four, is))) (λ _. r.well memory.1)
+  ]
+]
+  where
+    both : Tells before after (λ t u. StaysAs cause t.reads u.reads × OpensOver t u)
+    both = tells_both before after (λ t u. StaysAs cause t.reads u.reads) OpensOver r.stays r.images
+
+    unopened : Tells before after IsUnopened
+    unopened = tells_more before after (λ t u. StaysAs cause t.reads u.reads × OpensOver t u) IsUnopened (λ t u _ _ p. record { reads = stays cause t.reads u.reads p.0; images = p.1 }) both
+
+    held : IsOfFolder cause → (cause ≢ causes.DiskFault) → Tells before after IsRefusedFolder
+    held of other = elim settled [
+      | inl disk ↦ absurd (other disk)
+      | inr from ↦ tells_more before after (λ t u. StaysAs cause t.reads u.reads × OpensFrom t u) IsRefusedFolder
+          (λ t u is_t _ p. record { cause = cause; folder = of; why = r.why t is_t; reads = same_files cause t.reads u.reads of p.0; images = p.1 }) (tells_both before after (λ t u. StaysAs cause t.reads u.reads) OpensFrom r.stays from)
+    ]
+
 interrupted_as : {t u : Option Told} {a b c d : ℕ} → (Rose a b → Rose c d) → (done : List Handled) → Interrupted t u a b done → Interrupted t u c d done
 interrupted_as rose done i = record {
-  lines = i.lines;
+  first = i.first;
   last = i.last;
   split = i.split;
+  going = i.going;
   one = i.one;
   stops = i.stops;
   cause = λ k d below is. rose (i.cause k d below is);
-  kept = i.kept;
-  logs = i.logs;
+  folder = i.folder;
 }
 
 -- the disk is handed out before, and given back after

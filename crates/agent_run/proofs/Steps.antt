@@ -16,7 +16,7 @@ use Rattle.agent_run.proofs.Bytes.{Consumes-moved, prepended-nil, unread, read-n
 lines-push : (done : List Handled) (line : List ℕ) (verdict : LineVerdict) → lines_of (and_then done line verdict) ≡ lines_of done ++ line ∷ []
 lines-push done line verdict = map-append (λ (h : Handled). h.line) done (record { line = line; verdict = verdict } ∷ [])
 
-verdicts-push : (done : List Handled) (line : List ℕ) (verdict : LineVerdict) → verdicts_of (and_then done line verdict) ≡ verdicts_of done ++ verdict ∷ []
+pub verdicts-push : (done : List Handled) (line : List ℕ) (verdict : LineVerdict) → verdicts_of (and_then done line verdict) ≡ verdicts_of done ++ verdict ∷ []
 verdicts-push done line verdict = map-append (λ (h : Handled). h.verdict) done (record { line = line; verdict = verdict } ∷ [])
 
 replied : List LineVerdict → List ℕ

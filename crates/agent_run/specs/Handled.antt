@@ -1,5 +1,5 @@
 -- The lines that a session handled, and what became of them.
-use Rattle.std.specs.Prelude.{ℕ, List, [], ◌∷◌, ◌++◌, map, count_by, Bool, true, false, Option}
+use Rattle.std.specs.Prelude.{ℕ, List, [], ◌∷◌, ◌++◌, map, filter, count_by, Bool, true, false, Option}
 use Rattle.flume_host.specs.Told.{Told}
 use Rattle.netcat_source.specs.declared.replies.LineVerdict.{LineVerdict}
 use Rattle.netcat_source.specs.declared.replies.LineVerdict.TheVariants.{Accepted, Refused, InDoubt, NoMemory}
@@ -27,6 +27,16 @@ is_accepted Accepted = true
 is_accepted Refused = false
 is_accepted InDoubt = false
 is_accepted NoMemory = false
+
+abbrev pub is_in_doubt : LineVerdict → Bool
+is_in_doubt Accepted = false
+is_in_doubt Refused = false
+is_in_doubt InDoubt = true
+is_in_doubt NoMemory = false
+
+-- the lines that are in doubt
+abbrev pub doubted : List Handled → List (List ℕ)
+doubted done = lines_of (filter (λ h. is_in_doubt h.verdict) done)
 
 -- how many lines were accepted
 abbrev pub accepted_in : List Handled → ℕ

@@ -1,6 +1,7 @@
+pub mod Words
 pub mod Handled
 pub mod Session
-pub mod PlainLog
-pub mod Words
+pub mod Stored
+pub mod Store
 pub mod Piped
 pub mod Checked

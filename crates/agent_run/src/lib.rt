@@ -1,9 +1,9 @@
 //! The agent's top call.
 #![tactic(auto)]
 
+mod channel_store;
 mod check;
 mod pipe;
-mod plain_log;
 mod run;
 mod session;
 mod store;

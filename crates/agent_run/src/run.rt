@@ -1,18 +1,21 @@
 // The top call.
-ghost use Rattle.std.specs.Prelude.{◌≡◌, ◌≢◌, ◌⊎◌, List, ℕ};
+ghost use Rattle.std.specs.Prelude.{◌≡◌, ◌≢◌, ◌⊎◌, List, ℕ, IfOk, MatchOption};
 ghost use Rattle.flume_host.specs.HostState.{KeepsNamed};
 ghost use Rattle.agent_words.specs.Commands.{IsPipe, IsCheck};
 ghost use Rattle.agent_words.specs.Statuses.{status_of};
 ghost use Rattle.agent_words.specs.Words.{texts};
 ghost use Rattle.agent_run.specs.Words.{IsNoCommand};
 ghost use Rattle.agent_run.specs.Checked.{Checked, IsCheckStatus};
-ghost use Rattle.agent_run.specs.Piped.{Piped, IsPipeStatus};
+ghost use Rattle.agent_run.specs.Piped.{Piped, IsPipeStatus, cause_status, pipe_status};
 
+use crate::channel_store::default_limits;
 use crate::check::check;
-use crate::pipe::pipe;
+use crate::pipe::{PipeEnd, pipe};
+use crate::session::SessionEnd;
 use agent_words::{Command, RunError, read_words};
+use channel_face::OpenCause;
 use flume_host::Host;
-use std::alloc::Global;
+use std::alloc::{AllocError, Global};
 
 /// What a run ended with.
 #[derive(Clone, Copy, Debug, PartialEq, Eq)]
@@ -47,22 +50,66 @@ fn say_error<H: Host>(alloc: Global, host: &mut H, error: &RunError)
     }
 }
 
+// Why a run of `pipe` did not end well, if it did not.
+fn pipe_error(alloc: Global, dir: &str, end: PipeEnd) -> Result<Option<RunError>, AllocError>
+    ensures { IfOk result (λ error. MatchOption error (pipe_status end ≡ 0) (λ e. status_of e ≡ pipe_status end)) }
+{
+    let error = match end {
+        PipeEnd::Served(SessionEnd::End) => return Ok(None),
+        PipeEnd::Served(SessionEnd::LongLine) => RunError::LineTooLong,
+        PipeEnd::Served(SessionEnd::Full) => RunError::InputTooLong,
+        PipeEnd::Served(SessionEnd::NoMemory) => RunError::NoMemory,
+        PipeEnd::Served(SessionEnd::InDoubt | SessionEnd::ReadFault | SessionEnd::WriteFault) =>
+            RunError::Fault,
+        PipeEnd::Unopened(cause) => unopened(String::from_str(alloc, dir)?, cause),
+    };
+    Ok(Some(error))
+}
+
+// Why a folder was not opened.
+fn unopened(dir: String, cause: OpenCause) -> RunError
+    ensures { status_of result ≡ cause_status cause }
+{
+    match cause {
+        OpenCause::DiskFault => RunError::Fault,
+        OpenCause::BadCheck { file, at } => RunError::BadCheckpoint { dir, file, at },
+        OpenCause::BadLog { file, at } => RunError::BadLog { dir, file, at },
+        OpenCause::OverCapacity { count } => RunError::OverCapacity {
+            dir,
+            count,
+            capacity: default_limits().capacity,
+        },
+        OpenCause::Spent { .. } => RunError::Spent { dir },
+        OpenCause::NoMemory => RunError::NoMemory,
+    }
+}
+
+// The exit status of a run of `pipe`.
+fn pipe_status(end: PipeEnd) -> u8
+    ensures { result ≡ pipe_status end }
+{
+    match end {
+        PipeEnd::Served(SessionEnd::End) => 0,
+        PipeEnd::Served(SessionEnd::LongLine) => 7,
+        PipeEnd::Served(SessionEnd::Full) => 6,
+        PipeEnd::Served(SessionEnd::NoMemory) => 5,
+        PipeEnd::Served(SessionEnd::InDoubt | SessionEnd::ReadFault | SessionEnd::WriteFault) => 3,
+        PipeEnd::Unopened(OpenCause::DiskFault) => 3,
+        PipeEnd::Unopened(OpenCause::NoMemory) => 5,
+        PipeEnd::Unopened(_) => 4,
+    }
+}
+
 // Says why a run of `pipe` ended.
-fn say_end<H: Host>(alloc: Global, dir: &str, host: &mut H, status: u8)
+fn say_end<H: Host>(alloc: Global, dir: &str, host: &mut H, end: PipeEnd)
     ensures state { H.state host.new ≡ H.state host.old }
     ensures named { KeepsNamed (H.folder host.old) (H.folder host.new) (H.room host.old) (H.room host.new) }
     ensures rolls { KeepsNamed (H.rolled host.old) (H.rolled host.new) (H.roll_room host.old) (H.roll_room host.new) }
 {
-    match status {
-        0 => {}
-        3 => say_error(alloc, host, &RunError::Fault),
-        4 => match format!(in alloc; "flume: {dir}: not empty") {
-            Ok(line) => host.say(line.as_str()),
-            Err(_) => host.say("flume: not empty"),
-        },
-        6 => say_error(alloc, host, &RunError::InputTooLong),
-        7 => say_error(alloc, host, &RunError::LineTooLong),
-        _ => say_error(alloc, host, &RunError::NoMemory),
+    match pipe_error(alloc, dir, end) {
+        Ok(None) => {}
+        Ok(Some(error)) => say_error(alloc, host, &error),
+        Err(_) => host.say("flume: no memory"),
     }
 }
 
@@ -74,9 +121,12 @@ fn run_pipe<H: Host>(alloc: Global, dir: &str, host: &mut H) -> Outcome
     ensures no_more { (path : List ℕ) → path ≢ dir.now → H.room host.new path → H.room host.old path }
     ensures rolls { KeepsNamed (H.rolled host.old) (H.rolled host.new) (H.roll_room host.old) (H.roll_room host.new) }
 {
-    let outcome = pipe(alloc, dir, host);
-    say_end(alloc, dir, host, outcome.status);
-    outcome
+    let run = pipe(alloc, dir, host);
+    say_end(alloc, dir, host, run.end);
+    Outcome {
+        status: pipe_status(run.end),
+        accepted: run.accepted,
+    }
 }
 
 // `check -n NAME -f FILE`, and what is said of its end.
@@ -110,8 +160,8 @@ fn refuse<H: Host>(alloc: Global, host: &mut H, error: &RunError) -> Outcome
 
 /// All that the program does: takes the words after its name, and answers the exit status.
 ///
-/// `pipe DIR` makes each line of standard input one transaction in the log of the folder `DIR`, and answers `OK` for it
-/// once it is on the disk. `check -n NAME -f FILE` reads the configuration file `FILE`, plans the agent `NAME` in it and prints
+/// `pipe DIR` makes each line of standard input one transaction of the file channel in the folder `DIR`, which it opens, and
+/// answers `OK` for it once it is on the disk. `check -n NAME -f FILE` reads the configuration file `FILE`, plans the agent `NAME` in it and prints
 /// how many components it has. Each other status than 0 has its line on standard error.
 pub fn run_agent<H: Host>(alloc: Global, words: &[String], host: &mut H) -> Outcome
     // The words are a command that runs, or the status is 1 and nothing was touched; want of memory may come before.

@@ -5,6 +5,10 @@
 #[cfg(test)]
 mod check;
 #[cfg(test)]
+mod left;
+#[cfg(test)]
 mod pipe;
 #[cfg(test)]
 mod roll;
+#[cfg(test)]
+mod written;

@@ -73,6 +73,27 @@ const CASES: &[Case] = &[
         refused: &[],
         files: b"50000-1:a\nb\n",
     },
+    // the last moments
+    Case {
+        interval: 1,
+        fails: &[],
+        deliveries: &[
+            (u64::MAX - 1001, &[b"a"]),
+            (u64::MAX - 2, &[b"b"]),
+            (u64::MAX - 1, &[b"c"]),
+            (u64::MAX, &[b"d"]),
+        ],
+        refused: &[],
+        files: b"18446744073709550614-1:a\nb\n18446744073709550614-2:c\nd\n",
+    },
+    // the end of the longest interval is behind the last moment
+    Case {
+        interval: u32::MAX,
+        fails: &[],
+        deliveries: &[(u64::MAX - 1, &[b"a"]), (u64::MAX, &[b"b"])],
+        refused: &[],
+        files: b"18446744073709551614-1:a\nb\n",
+    },
     // a write fails between a body and its newline: what was written stays, and the batch comes whole into the next file
     Case {
         interval: 0,

@@ -15,7 +15,7 @@ use Rattle.channel_log.specs.Reader.{AfterOpen, HasFile, IsFront, Opens, OpensNo
 -- How far filling has come.
 pub record FillsOn (was told : Option Told) (faulty faults number from : ℕ) (old new : List ℕ) (size : ℕ) : Type 0 where
   pub same : told ≡ was
-  pub later : faulty ≤ faults
+  pub well : faults ≡ faulty
   pub some : 1 ≤ size
   pub items : (bytes : List ℕ) → HasFile was number bytes → IsFront old from bytes → IsFront new from bytes
 
@@ -43,7 +43,7 @@ no_more read more from size bytes some same is =
 -- How far loading has come.
 pub record LoadsOn (was told : Option Told) (faulty faults number from rest : ℕ) (read : List ℕ) (size : ℕ) : Type 0 where
   pub same : told ≡ was
-  pub later : faulty ≤ faults
+  pub well : faults ≡ faulty
   pub some : 1 ≤ size
   pub within : length read ≤ rest
   pub front : (bytes : List ℕ) → HasFile was number bytes → IsFront read from bytes

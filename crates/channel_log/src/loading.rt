@@ -32,6 +32,7 @@ fn add_piece<D: Disk>(
     ensures same { D.told disk.new ≡ D.told disk.old }
     ensures fault { IsErrOf result FrameRefused.DiskFault → Rose (D.faults disk.old) (D.faults disk.new) }
     ensures later { D.faults disk.old ≤ D.faults disk.new }
+    ensures well { (IsErrOf result FrameRefused.DiskFault → ⊥) → D.faults disk.new ≡ D.faults disk.old }
 {
     let Ok(n) = disk.read(FileName::Log(file), at, piece) else {
         return Err(FrameRefused::DiskFault);
@@ -60,6 +61,7 @@ fn fill<D: Disk>(
     ensures same { D.told disk.new ≡ D.told disk.old }
     ensures fault { IsErrOf result FrameRefused.DiskFault → Rose (D.faults disk.old) (D.faults disk.new) }
     ensures later { D.faults disk.old ≤ D.faults disk.new }
+    ensures well { (IsErrOf result FrameRefused.DiskFault → ⊥) → D.faults disk.new ≡ D.faults disk.old }
 {
     while into.len() < target {
         let at = from + into.len() as u64;
@@ -136,6 +138,7 @@ fn load_behind<D: Disk>(
     ensures same { D.told disk.new ≡ D.told disk.old }
     ensures fault { IsErrOf result FrameRefused.DiskFault → Rose (D.faults disk.old) (D.faults disk.new) }
     ensures later { D.faults disk.old ≤ D.faults disk.new }
+    ensures well { (IsErrOf result FrameRefused.DiskFault → ⊥) → D.faults disk.new ≡ D.faults disk.old }
 {
     loop {
         let target = next_target(into.len(), rest);
@@ -160,6 +163,7 @@ fn read_byte<D: Disk>(disk: &mut D, file: u32, at: u64) -> Result<u8, FrameRefus
     ensures same { D.told disk.new ≡ D.told disk.old }
     ensures fault { IsErrOf result FrameRefused.DiskFault → Rose (D.faults disk.old) (D.faults disk.new) }
     ensures later { D.faults disk.old ≤ D.faults disk.new }
+    ensures well { (IsErrOf result FrameRefused.DiskFault → ⊥) → D.faults disk.new ≡ D.faults disk.old }
 {
     let mut byte = [0u8; 1];
     let Ok(_) = disk.read(FileName::Log(file), at, &mut byte) else {
@@ -189,6 +193,7 @@ pub(crate) fn load_frame<D: Disk>(
     ensures same { D.told disk.new ≡ D.told disk.old }
     ensures fault { IsErrOf result FrameRefused.DiskFault → Rose (D.faults disk.old) (D.faults disk.new) }
     ensures later { D.faults disk.old ≤ D.faults disk.new }
+    ensures well { (IsErrOf result FrameRefused.DiskFault → ⊥) → D.faults disk.new ≡ D.faults disk.old }
 {
     let first = read_byte(disk, file, gate)?;
     if first != 1 {

@@ -85,6 +85,7 @@ fn read_birth<D: Disk>(disk: &mut D, number: u32, size: u64) -> Result<Option<u1
     ensures same { D.told disk.new ≡ D.told disk.old }
     ensures fault { IsErrOf result FrameRefused.DiskFault → Rose (D.faults disk.old) (D.faults disk.new) }
     ensures later { D.faults disk.old ≤ D.faults disk.new }
+    ensures well { (IsErrOf result FrameRefused.DiskFault → ⊥) → D.faults disk.new ≡ D.faults disk.old }
 {
     if size <= BLANK_LENGTH {
         return Ok(None);
@@ -150,6 +151,7 @@ impl LogReader {
         ensures same { D.told disk.new ≡ D.told disk.old }
         ensures fault { IsErrOf result FrameRefused.DiskFault → Rose (D.faults disk.old) (D.faults disk.new) }
         ensures later { D.faults disk.old ≤ D.faults disk.new }
+        ensures well { (IsErrOf result FrameRefused.DiskFault → ⊥) → D.faults disk.new ≡ D.faults disk.old }
     {
         let mut piece = Vec::new(alloc);
         if piece.resize(PIECE_LENGTH, 0).is_err() {
@@ -215,6 +217,7 @@ impl LogReader {
         ensures same { D.told disk.new ≡ D.told disk.old }
         ensures fault { IsErrOf result FrameRefused.DiskFault → Rose (D.faults disk.old) (D.faults disk.new) }
         ensures later { D.faults disk.old ≤ D.faults disk.new }
+        ensures well { (IsErrOf result FrameRefused.DiskFault → ⊥) → D.faults disk.new ≡ D.faults disk.old }
     {
         if self.blank || self.at >= self.size {
             return Ok(false);
@@ -253,6 +256,7 @@ impl LogReader {
         ensures same { D.told disk.new ≡ D.told disk.old }
         ensures fault { IsErrOf result FrameRefused.DiskFault → Rose (D.faults disk.old) (D.faults disk.new) }
         ensures later { D.faults disk.old ≤ D.faults disk.new }
+        ensures well { (IsErrOf result FrameRefused.DiskFault → ⊥) → D.faults disk.new ≡ D.faults disk.old }
     {
         if self.place < self.frame.len() {
             return Ok(true);
@@ -287,6 +291,7 @@ impl LogReader {
         ensures same { D.told disk.new ≡ D.told disk.old }
         ensures fault { IsErrOf result FrameRefused.DiskFault → Rose (D.faults disk.old) (D.faults disk.new) }
         ensures later { D.faults disk.old ≤ D.faults disk.new }
+        ensures well { (IsErrOf result FrameRefused.DiskFault → ⊥) → D.faults disk.new ≡ D.faults disk.old }
     {
         if !self.enter(disk)? {
             return Ok(None);

@@ -142,6 +142,7 @@ impl LogWriter {
         ensures no_memory { IsErrOf result LogBeginRefused.NoMemory → D.told disk.new ≡ D.told disk.old }
         ensures fault { IsErrOf result LogBeginRefused.DiskFault → Rose (D.faults disk.old) (D.faults disk.new) }
         ensures later { D.faults disk.old ≤ D.faults disk.new }
+        ensures well { (IsErrOf result LogBeginRefused.DiskFault → ⊥) → D.faults disk.new ≡ D.faults disk.old }
     {
         let Ok(frame) = Vec::with_capacity(alloc, FRAME_ROOM) else {
             return Err(LogBeginRefused::NoMemory);

@@ -34,14 +34,14 @@ pub record FilesUpTo (files : Files) (logs : List LogFile) (from : ℕ) (now : R
 
 pub record FoldersOn (was told : Option Told) (faulty faults from : ℕ) (now : Recovery) (none steps : ℕ) : Type 0 where
   pub same : told ≡ was
-  pub later : faulty ≤ faults
+  pub well : faults ≡ faulty
   pub reached : IsReached now
   pub on : WhereTold was (λ t. WhereLogs t.reads (λ logs. FilesUpTo t.reads logs from now none steps))
 
 pub folders_none : (was : Option Told) (faulty : ℕ) (start : Recovery) (none : ℕ) → Agrees empty_base [] start → FoldersOn was was faulty faulty 0 start none none
 folders_none was faulty start none agrees = record {
   same = refl;
-  later = omega arith;
+  well = refl;
   reached = ([], agrees);
   on = λ t is logs are. record { done = []; rest = logs; split = refl; are = are; sound = tt; agrees = agrees; ticks = omega arith };
 }
@@ -123,11 +123,11 @@ no_rest files after (log ∷ rest) are none = absurd (gone (files (Log log.numbe
 -- a file more was applied
 pub folders_more : (was told after_told : Option Told) (faulty faults more_faults : ℕ) (after : Option FileName) (file : ℕ) (now new : Recovery) (none steps more_steps : ℕ)
     → FoldersOn was told faulty faults (floor after) now none steps → WhereTold told (λ t. IsNext t.reads after (Some (Log file))) → file < 2 ^ 32
-    → WhereHolds told file (λ content. AppliesAll (file_lines file content) now new) → WhereHolds told file (λ content. more_steps ≤ steps + record_count (file_lines file content)) → after_told ≡ told → faults ≤ more_faults → (IsReached now → IsReached new)
+    → WhereHolds told file (λ content. AppliesAll (file_lines file content) now new) → WhereHolds told file (λ content. more_steps ≤ steps + record_count (file_lines file content)) → after_told ≡ told → more_faults ≡ faults → (IsReached now → IsReached new)
     → FoldersOn was after_told faulty more_faults (file + 1) new none more_steps
-folders_more was told after_told faulty faults more_faults after file now new none steps more_steps on next high applies ticks same later reached = record {
+folders_more was told after_told faulty faults more_faults after file now new none steps more_steps on next high applies ticks same well reached = record {
   same = same ∙ on.same;
-  later = omega (arith, later, on.later);
+  well = well ∙ on.well;
   reached = reached on.reached;
   on = λ t is logs are.
       let u = on.on t is logs are in

@@ -83,7 +83,7 @@ pub record ReadUpTo (file : ℕ) (reader : Reader) (bytes : List ℕ) (items : L
 
 pub record ReadsOn (was told : Option Told) (faulty faults file : ℕ) (first reader : Reader) (start now : Recovery) (none steps : ℕ) : Type 0 where
   pub same : told ≡ was
-  pub later : faulty ≤ faults
+  pub well : faults ≡ faulty
   pub file_is : reader.file ≡ file
   pub reached : IsReached start → IsReached now
   pub on : (bytes : List ℕ) (items : List (Rec × ℕ)) (fault : Option ℕ) → HasFile was file bytes → Remains first bytes items fault → ReadUpTo file reader bytes items fault start now none steps
@@ -91,7 +91,7 @@ pub record ReadsOn (was told : Option Told) (faulty faults file : ℕ) (first re
 pub reads_none : (was : Option Told) (faulty file : ℕ) (first : Reader) (start : Recovery) (none : ℕ) → first.file ≡ file → ReadsOn was was faulty faulty file first first start start none none
 reads_none was faulty file first start none is = record {
   same = refl;
-  later = omega arith;
+  well = refl;
   file_is = is;
   reached = λ from. from;
   on = λ bytes items fault has remains. record { done = []; rest = items; split = refl; remains = remains; applies = λ base past agrees. (tt, agrees); ticks = omega arith };
@@ -122,11 +122,11 @@ abbrev pub AppliesOne : ℕ → ℕ → Rec → Recovery → Recovery → Type 0
 AppliesOne file at rec old new = (base : Base) (past : Past) → Agrees base past old → IsSound base past (Stands file at rec) × Agrees base (past_line past (Stands file at rec)) new
 
 pub reads_more : (was told after : Option Told) (faulty faults more_faults file : ℕ) (first reader next : Reader) (start now new : Recovery) (none steps more_steps at : ℕ) (rec : Rec)
-    → ReadsOn was told faulty faults file first reader start now none steps → GivesOf told reader (Some (rec, at)) next → next.file ≡ reader.file → more_steps ≡ steps + 1 → AppliesOne file at rec now new → after ≡ told → faults ≤ more_faults
+    → ReadsOn was told faulty faults file first reader start now none steps → GivesOf told reader (Some (rec, at)) next → next.file ≡ reader.file → more_steps ≡ steps + 1 → AppliesOne file at rec now new → after ≡ told → more_faults ≡ faults
     → ReadsOn was after faulty more_faults file first next start new none more_steps
-reads_more was told after faulty faults more_faults file first reader next start now new none steps more_steps at rec on gives same_file ticked applies same later = record {
+reads_more was told after faulty faults more_faults file first reader next start now new none steps more_steps at rec on gives same_file ticked applies same well = record {
   same = same ∙ on.same;
-  later = omega (arith, later, on.later);
+  well = well ∙ on.well;
   file_is = same_file ∙ on.file_is;
   reached = λ from. let r = on.reached from in (past_line r.0 (Stands file at rec), (applies empty_base r.0 r.1).1);
   on = λ bytes items fault has remains.

@@ -40,6 +40,7 @@ fn apply_rest<D: Disk, L: Ledger>(
     ensures same { D.told disk.new ≡ D.told disk.old }
     ensures fault { IsErrOf result ReplayRefused.DiskFault → Rose (D.faults disk.old) (D.faults disk.new) }
     ensures later { D.faults disk.old ≤ D.faults disk.new }
+    ensures well { (IsErrOf result ReplayRefused.DiskFault → ⊥) → D.faults disk.new ≡ D.faults disk.old }
 {
     loop {
         match reader.next(disk, steps) {
@@ -80,6 +81,7 @@ fn apply_file<D: Disk, L: Ledger>(
     ensures same { D.told disk.new ≡ D.told disk.old }
     ensures fault { IsErrOf result ReplayRefused.DiskFault → Rose (D.faults disk.old) (D.faults disk.new) }
     ensures later { D.faults disk.old ≤ D.faults disk.new }
+    ensures well { (IsErrOf result ReplayRefused.DiskFault → ⊥) → D.faults disk.new ≡ D.faults disk.old }
 {
     match LogReader::begin(alloc, disk, file, FIRST_GATE) {
         Ok(mut reader) => {
@@ -106,6 +108,7 @@ fn apply_files<D: Disk, L: Ledger>(
     ensures same { D.told disk.new ≡ D.told disk.old }
     ensures fault { IsErrOf result ReplayRefused.DiskFault → Rose (D.faults disk.old) (D.faults disk.new) }
     ensures later { D.faults disk.old ≤ D.faults disk.new }
+    ensures well { (IsErrOf result ReplayRefused.DiskFault → ⊥) → D.faults disk.new ≡ D.faults disk.old }
 {
     let mut after = None;
     loop {
@@ -157,6 +160,7 @@ pub fn replay<D: Disk, L: Ledger>(
     ensures same { D.told disk.new ≡ D.told disk.old }
     ensures fault { IsErrOf result ReplayRefused.DiskFault → Rose (D.faults disk.old) (D.faults disk.new) }
     ensures later { D.faults disk.old ≤ D.faults disk.new }
+    ensures well { (IsErrOf result ReplayRefused.DiskFault → ⊥) → D.faults disk.new ≡ D.faults disk.old }
 {
     let mut recovery = Recovery::new(alloc);
     match apply_files(alloc, disk, &mut recovery, steps) {

@@ -205,6 +205,7 @@ fn a_broken_channel_is_opened_anew(rt: HostRuntime) -> Result<(), Fail> {
     assert!(rt; tried.channel.size() <= 1 && !tried.channel.is_broken());
     assert!(rt; tried.channel.settled(&tried.ticket) == Settled::InDoubt);
     // the token of the open transaction is stale
+    assert!(rt; made(alloc, &mut tried, Step::Put(2, b'c'))? == Said::Stale);
     assert!(rt; !tried.channel.rollback_put(PutTxn::new(1, 2)));
     Ok(())
 }

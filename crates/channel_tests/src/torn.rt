@@ -73,7 +73,7 @@ fn a_stop_leaves_the_frame_or_not(rt: HostRuntime) -> Result<(), Fail> {
     let alloc = rt.alloc();
     let body = b"a".to_vec(alloc)?;
     let Ok(event) = Event::new(Headers::new(alloc), body) else {
-        return Ok(());
+        return Err("no event")?;
     };
     assert!(&rt; event.size() == 9);
     let mut disk = MemDisk::new(alloc);

@@ -28,11 +28,11 @@ use Rattle.file_channel.specs.Whole.{IsWhole}
 use Rattle.file_channel.proofs.Opens.{busy_push, busy_without, length_without}
 use Rattle.file_channel.proofs.Ending.{begin_mirrored, end_mirrored}
 use Rattle.file_channel.proofs.Flushing.{rest_exactly}
-use Rattle.file_channel.specs.Touches.{IsSpentLog, Rests}
+use Rattle.file_channel.specs.Touches.{HadNoRoom, IsSpentLog, Rests}
 use Rattle.std.specs.Prelude.{IsSomeAnd}
 use Rattle.flume_host.specs.declared.names.FileName.TheVariants.{Log}
 use Rattle.channel_log.specs.Frames.{header, opened}
-use Rattle.channel_log.specs.Writer.{file_of}
+use Rattle.channel_log.specs.Writer.{HasRoom, IsPending, file_of}
 use Rattle.file_channel.specs.Mirrors.{Mirrors}
 use Rattle.channel_replay.specs.Marks.{Past}
 use Rattle.record_form.specs.declared.record.Rec.{Rec}
@@ -424,3 +424,60 @@ whole_spent told w b s P whole still to back t is = (λ p. spent (to p), λ ther
         let file : w.file ≡ 4_294_967_295 = omega (arith, more, disk.small) in
         let long : most ≤ length bytes = subst (λ (o : Option (List ℕ)). IsSomeAnd o (λ bytes. most ≤ length bytes)) (here file) there in
         (file, omega (arith, long, size))
+
+-- the file gained the frame that waited, which had no room of this size left
+gained : (t u : Told) (w w' : Writer) (b b' : ℕ) (s : State) (size : ℕ) → s.broken ≡ false → IsLogged (Some t) w b s → IsLogged (Some u) w' b' (settle s)
+    → (1 ≤ w.count → w' ≡ record w { gate = w.gate + length w.bytes + 6; started = true; bytes = []; count = 0 }) → (HasRoom w size → ⊥) → (w.bytes ≡ [] → HasRoom w size) → HadNoRoom size t u
+gained t u w w' b b' s size still log log' writer full room = record { file = w.file; was = bytes; now = bytes'; before = disk.rest.reads; after = ap (λ (n : ℕ). u.reads (Log n)) (sym file) ∙ disk'.rest.reads; full = longer (some_side 2_097_152 (length w.bytes + size + 6)) }
+  where
+    waits : Waits (Some t) w s
+    waits = log.waits still
+
+    disk : OnDisk t w s waits.records
+    disk = waits.disk t refl
+
+    waits' : Waits (Some u) w' (settle s)
+    waits' = log'.waits still
+
+    disk' : OnDisk u w' (settle s) waits'.records
+    disk' = waits'.disk u refl
+
+    nothing : (records : List Rec) → IsPending w records → w.count ≡ 0 → w.bytes ≡ []
+    nothing [] pending none = pending.spelled
+    nothing (r ∷ records) pending none = absurd (omega (arith, none, pending.counted))
+
+    some : (w.count < 1) ⊎ (1 ≤ w.count) → 1 ≤ w.count
+    some (inl less) = absurd (full (room (nothing waits.records waits.pending (omega (arith, less)))))
+    some (inr more) = more
+
+    moved : w' ≡ record w { gate = w.gate + length w.bytes + 6; started = true; bytes = []; count = 0 }
+    moved = writer (some (some_side w.count 1))
+
+    file : w'.file ≡ w.file
+    file = ap (λ (v : Writer). v.file) moved
+
+    gate : w'.gate ≡ w.gate + length w.bytes + 6
+    gate = ap (λ (v : Writer). v.gate) moved
+
+    bytes : List ℕ
+    bytes = file_of 1 w.file disk.frames
+
+    bytes' : List ℕ
+    bytes' = file_of 1 w'.file disk'.frames
+
+    length_is : length bytes ≡ w.gate + 1
+    length_is = omega (arith, length-append (header 1 w.file ++ opened disk.frames) (0 ∷ []), disk.rest.offset)
+
+    length_now : length bytes' ≡ w'.gate + 1
+    length_now = omega (arith, length-append (header 1 w'.file ++ opened disk'.frames) (0 ∷ []), disk'.rest.offset)
+
+    longer : (2_097_152 < length w.bytes + size + 6) ⊎ (length w.bytes + size + 6 ≤ 2_097_152) → 2_097_152 + length bytes < length bytes' + size
+    longer (inl more) = omega (arith, more, length_is, length_now, gate)
+    longer (inr fits) = absurd (full fits)
+
+pub had_no_room : (told told' : Option Told) (w w' : Writer) (b b' : ℕ) (s : State) (size : ℕ) (P : Told → Told → Type 0) → Tells told told' P → s.broken ≡ false → IsLogged told w b s → IsLogged told' w' b' (settle s)
+    → (1 ≤ w.count → w' ≡ record w { gate = w.gate + length w.bytes + 6; started = true; bytes = []; count = 0 }) → (HasRoom w size → ⊥) → (w.bytes ≡ [] → HasRoom w size) → Tells told told' (HadNoRoom size)
+had_no_room None None w w' b b' s size P tells still log log' writer full room = tt
+had_no_room None (Some u) w w' b b' s size P tells still log log' writer full room = absurd tells
+had_no_room (Some t) None w w' b b' s size P tells still log log' writer full room = absurd tells
+had_no_room (Some t) (Some u) w w' b b' s size P tells still log log' writer full room = gained t u w w' b b' s size still log log' writer full room

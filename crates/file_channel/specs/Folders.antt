@@ -118,3 +118,4 @@ pub record IsRefused (told told' : Option Told) (before now capacity : ℕ) (cau
   pub images : Tells told told' OpensOver
   pub later : before ≤ now
   pub fault : cause ≡ causes.DiskFault → Rose before now
+  pub well : (cause ≡ causes.DiskFault → ⊥) → now ≡ before

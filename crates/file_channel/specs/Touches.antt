@@ -1,5 +1,5 @@
 -- What a call does to the disk.
-use Rattle.std.specs.Prelude.{◌≡◌, ◌≤◌, ◌+◌, ℕ, length, Ok, Err, Option, Bool, true, false, IsSomeAnd}
+use Rattle.std.specs.Prelude.{◌≡◌, ◌<◌, ◌≤◌, ◌+◌, ◌==◌, ℕ, List, length, Ok, Err, Option, Some, Bool, true, false, IsSomeAnd}
 use Rattle.flume_host.specs.Folder.{Files, IsImage}
 use Rattle.flume_host.specs.Told.{LeavesOnly, Told, WhereTold}
 use Rattle.flume_host.specs.declared.names.FileName.TheVariants.{Log}
@@ -7,7 +7,8 @@ use Rattle.channel_face.specs.Machine.{State, Call, Put, Take, Flush}
 use Rattle.channel_face.specs.declared.replies.PutRefused.TheVariants as PutNo
 use Rattle.channel_face.specs.declared.replies.TakeRefused.TheVariants as TakeNo
 use Rattle.channel_face.specs.declared.replies.FlushRefused.TheVariants as FlushNo
-use Rattle.file_channel.specs.Written.{MayRecover, RecoversSettled}
+use Rattle.file_channel.specs.Mirrors.{busy}
+use Rattle.file_channel.specs.Written.{MayRecover, RecoversSettled, kept}
 
 -- the call came to a flush; every other leaves the disk alone
 abbrev pub flushes : Call → Bool
@@ -24,6 +25,19 @@ pub record Flushed (s : State) (t u : Told) : Type 0 where
   pub whole : s.broken ≡ false
   pub images : LeavesOnly t u (MayRecover s)
   pub syncs : u.syncs ≤ t.syncs + 2
+
+-- what a put or take needs of a frame: its record, and the end of each transaction that has records, its own among them
+abbrev pub room_of : State → ℕ → ℕ → ℕ
+room_of s size held = size + kept (busy s.opened) (held == 0)
+
+-- A log file gained a frame that had no room of this size left.
+pub record HadNoRoom (size : ℕ) (t u : Told) : Type 0 where
+  pub file : ℕ
+  pub was : List ℕ
+  pub now : List ℕ
+  pub before : t.reads (Log file) ≡ Some was
+  pub after : u.reads (Log file) ≡ Some now
+  pub full : 2_097_152 + length was < length now + size
 
 -- the last log file that there can be has reached the length at which a file is left
 abbrev pub IsSpentLog : Told → ℕ → Type 0

@@ -2,11 +2,12 @@
 ghost use Rattle.std.specs.Prelude.{[], ◌⊎◌, ◌↔◌, ◌≡◌, ◌≤◌, ◌+◌, ◌-◌, ◌^◌, ℕ, Err, IsSome, OnOk, IfOk, IfErr, IsErrOf, false, true, if◌then◌else◌};
 ghost use Rattle.flume_host.specs.Causes.{Rose};
 ghost use Rattle.flume_host.specs.Told.{LeavesOnly, Tells, WhereTold, moment_of};
+ghost use Rattle.event_core.specs.Content.{size};
 ghost use Rattle.channel_face.specs.Calls.{cause_of};
 ghost use Rattle.channel_face.specs.Counters.{counts_with};
 ghost use Rattle.channel_face.specs.History.{AddsOne, Moves, opening, reopen_reply};
 ghost use Rattle.channel_face.specs.Machine as Face;
-ghost use Rattle.channel_face.specs.Machine.{BeginPut, BeginTake, Flush, Reopen, Reopened, RollbackPut, RollbackTake, StagePut, StageTake, base_of, is_some_of, puts_of, takes_of};
+ghost use Rattle.channel_face.specs.Machine.{BeginPut, BeginTake, Flush, Reopen, Reopened, RollbackPut, RollbackTake, StagePut, StageTake, base_of, is_some_of, puts_of, size_of_list, takes_of};
 ghost use Rattle.channel_face.specs.declared.replies.Counter.{Counter};
 ghost use Rattle.channel_face.specs.declared.replies.FlushRefused.{FlushRefused};
 ghost use Rattle.channel_face.specs.declared.replies.Kind.{Kind};
@@ -19,7 +20,7 @@ ghost use Rattle.channel_replay.specs.Replay.{record_count};
 ghost use Rattle.file_channel.specs.Folders.{GainsLog, IsBegun, IsRefused, Opens, OpensFrom, OpensOver};
 ghost use Rattle.file_channel.specs.Written.{MayRecover};
 ghost use Rattle.file_channel.specs.Stands.{StandsOver, is_fault};
-ghost use Rattle.file_channel.specs.Touches.{Flushed, IsSpentLog, Rests, flushes};
+ghost use Rattle.file_channel.specs.Touches.{Flushed, HadNoRoom, IsSpentLog, Rests, flushes, room_of};
 ghost use Rattle.txn_core.specs.Counted.{Makes};
 ghost use Rattle.txn_core.specs.Noted.{noted};
 
@@ -100,6 +101,7 @@ pub fn open_channel<D: Disk + Drop, L: Ledger>(
     ensures opens { IfOk result (λ c. WhereTold (D.told disk) (λ t. Opens t.reads limits.capacity (base_of c.1.state) c.1.state.txn)) }
     ensures gains { IfOk result (λ c. Tells (D.told disk) (D.told c.0) (λ t u. GainsLog t.reads IsBegun u.reads)) }
     ensures refused { IfErr result (λ refused. IsRefused (D.told disk) (D.told refused.disk) (D.faults disk) (D.faults refused.disk) limits.capacity refused.cause) }
+    ensures well { IfOk result (λ c. D.faults c.0 ≡ D.faults disk) }
 
     // It stands for no calls: since the folder was settled, whatever a stop leaves recovers to what the folder recovers to.
     ensures stands { IfOk result (λ c. StandsOver (D.told c.0) (D.faults c.0) c.1 (record { rules = record { kind = Kind.File; limits = limits }; base = base_of c.1.state; txn = c.1.state.txn; faults = D.faults disk; from = moment_of (D.told disk) + 1 }) []) }
@@ -211,6 +213,7 @@ impl<D: Disk + Drop> Channel for FileChannel<D> {
         ensures spent { self.old.1.state.broken ≡ false → IsSome (puts_of self.old.1.state txn.old) → WhereTold (D.told self.old.0) (λ t. (result ≡ Err (PutRefused.Spent File)) ↔ IsSpentLog t self.old.1.state.rules.limits.max_file) }
         ensures quiet { flushes (Face.Put txn.old event.now result) ≡ false → self.new.0 ≡ self.old.0 }
         ensures any_moment { flushes (Face.Put txn.old event.now result) ≡ true → Tells (D.told self.old.0) (D.told self.new.0) (λ t u. Flushed self.old.1.state t u) }
+        ensures room { IfOk result (λ done. done.spilled ≡ true → Tells (D.told self.old.0) (D.told self.new.0) (HadNoRoom (room_of self.old.1.state (size event.now + 13) (size_of_list (puts_of self.old.1.state txn.old))))) }
         ensures later { D.faults self.old.0 ≤ D.faults self.new.0 }
         ensures well { is_fault (Face.Put txn.old event.now result) ≡ false → D.faults self.new.0 ≡ D.faults self.old.0 }
         ensures fault { IsErrOf result PutRefused.DiskFault → Rose (D.faults self.old.0) (D.faults self.new.0) }
@@ -234,6 +237,7 @@ impl<D: Disk + Drop> Channel for FileChannel<D> {
         ensures spent { self.old.1.state.broken ≡ false → IsSome (takes_of self.old.1.state txn.old) → WhereTold (D.told self.old.0) (λ t. (result ≡ Err (TakeRefused.Spent File)) ↔ IsSpentLog t self.old.1.state.rules.limits.max_file) }
         ensures quiet { flushes (Face.Take txn.old result) ≡ false → self.new.0 ≡ self.old.0 }
         ensures any_moment { flushes (Face.Take txn.old result) ≡ true → Tells (D.told self.old.0) (D.told self.new.0) (λ t u. Flushed self.old.1.state t u) }
+        ensures room { IfOk result (λ taken. taken.spilled ≡ true → Tells (D.told self.old.0) (D.told self.new.0) (HadNoRoom (room_of self.old.1.state 17 (size_of_list (takes_of self.old.1.state txn.old))))) }
         ensures later { D.faults self.old.0 ≤ D.faults self.new.0 }
         ensures well { is_fault (Face.Take txn.old result) ≡ false → D.faults self.new.0 ≡ D.faults self.old.0 }
         ensures reads { ¬ IsErrOf result TakeRefused.ReadFault }

@@ -2,6 +2,7 @@
 ghost use Rattle.std.specs.Prelude.{◌+◌, Err, IsSome, IsTrue, ◌↔◌, ◌≡◌, ◌≤◌, ℕ, length, IfOk, IfErr, IsErrOf, true, false};
 ghost use Rattle.flume_host.specs.Causes.{Rose};
 ghost use Rattle.flume_host.specs.Told.{Tells, WhereTold};
+ghost use Rattle.event_core.specs.Content.{size};
 ghost use Rattle.event_core.specs.Journal.{put_events, taken_numbers};
 ghost use Rattle.channel_face.specs.Calls.{cause_of};
 ghost use Rattle.channel_face.specs.Counters.{capped};
@@ -15,7 +16,7 @@ ghost use Rattle.channel_face.specs.declared.replies.TakeRefused.{TakeRefused};
 ghost use Rattle.channel_face.specs.Machine.{BeginPut, BeginTake, Flush, RollbackPut, RollbackTake, StagePut, StageTake, puts_of, takes_of, size_of_list};
 ghost use Rattle.channel_face.specs.declared.replies.FlushRefused.{FlushRefused};
 ghost use Rattle.file_channel.specs.Stands.{is_fault};
-ghost use Rattle.file_channel.specs.Touches.{Flushed, IsSpentLog, Rests, flushes};
+ghost use Rattle.file_channel.specs.Touches.{Flushed, HadNoRoom, IsSpentLog, Rests, flushes, room_of};
 
 use crate::writing::Writing;
 use channel_face::{
@@ -127,6 +128,7 @@ impl<D: Disk + Drop> LoggedLists<D> {
         ensures never { (counter : Counter) → result ≡ Err (PutRefused.Spent counter) → ⊥ }
         ensures quiet { flushes (Face.Put txn.old event.now result) ≡ false → self.new.0 ≡ self.old.0 }
         ensures any_moment { flushes (Face.Put txn.old event.now result) ≡ true → Tells (D.told self.old.0) (D.told self.new.0) (λ t u. Flushed self.old.1 t u) }
+        ensures room { IfOk result (λ done. done.spilled ≡ true → Tells (D.told self.old.0) (D.told self.new.0) (HadNoRoom (room_of self.old.1 (size event.now + 13) (size_of_list (puts_of self.old.1 txn.old))))) }
         ensures later { D.faults self.old.0 ≤ D.faults self.new.0 }
         ensures well { is_fault (Face.Put txn.old event.now result) ≡ false → D.faults self.new.0 ≡ D.faults self.old.0 }
         ensures fault { IsErrOf result PutRefused.DiskFault → Rose (D.faults self.old.0) (D.faults self.new.0) }
@@ -165,6 +167,7 @@ impl<D: Disk + Drop> LoggedLists<D> {
         ensures never { (counter : Counter) → result ≡ Err (TakeRefused.Spent counter) → ⊥ }
         ensures quiet { flushes (Face.Take txn.old result) ≡ false → self.new.0 ≡ self.old.0 }
         ensures any_moment { flushes (Face.Take txn.old result) ≡ true → Tells (D.told self.old.0) (D.told self.new.0) (λ t u. Flushed self.old.1 t u) }
+        ensures room { IfOk result (λ taken. taken.spilled ≡ true → Tells (D.told self.old.0) (D.told self.new.0) (HadNoRoom (room_of self.old.1 17 (size_of_list (takes_of self.old.1 txn.old))))) }
         ensures later { D.faults self.old.0 ≤ D.faults self.new.0 }
         ensures well { is_fault (Face.Take txn.old result) ≡ false → D.faults self.new.0 ≡ D.faults self.old.0 }
         ensures reads { ¬ IsErrOf result TakeRefused.ReadFault }
@@ -215,6 +218,7 @@ impl<D: Disk + Drop> LoggedLists<D> {
         ensures spent { self.old.1.broken ≡ false → IsSome (puts_of self.old.1 txn.old) → WhereTold (D.told self.old.0) (λ t. (result ≡ Err (PutRefused.Spent File)) ↔ IsSpentLog t self.old.1.rules.limits.max_file) }
         ensures quiet { flushes (Face.Put txn.old event.now result) ≡ false → self.new.0 ≡ self.old.0 }
         ensures any_moment { flushes (Face.Put txn.old event.now result) ≡ true → Tells (D.told self.old.0) (D.told self.new.0) (λ t u. Flushed self.old.1 t u) }
+        ensures room { IfOk result (λ done. done.spilled ≡ true → Tells (D.told self.old.0) (D.told self.new.0) (HadNoRoom (room_of self.old.1 (size event.now + 13) (size_of_list (puts_of self.old.1 txn.old))))) }
         ensures later { D.faults self.old.0 ≤ D.faults self.new.0 }
         ensures well { is_fault (Face.Put txn.old event.now result) ≡ false → D.faults self.new.0 ≡ D.faults self.old.0 }
         ensures fault { IsErrOf result PutRefused.DiskFault → Rose (D.faults self.old.0) (D.faults self.new.0) }
@@ -234,6 +238,7 @@ impl<D: Disk + Drop> LoggedLists<D> {
         ensures spent { self.old.1.broken ≡ false → IsSome (takes_of self.old.1 txn.old) → WhereTold (D.told self.old.0) (λ t. (result ≡ Err (TakeRefused.Spent File)) ↔ IsSpentLog t self.old.1.rules.limits.max_file) }
         ensures quiet { flushes (Face.Take txn.old result) ≡ false → self.new.0 ≡ self.old.0 }
         ensures any_moment { flushes (Face.Take txn.old result) ≡ true → Tells (D.told self.old.0) (D.told self.new.0) (λ t u. Flushed self.old.1 t u) }
+        ensures room { IfOk result (λ taken. taken.spilled ≡ true → Tells (D.told self.old.0) (D.told self.new.0) (HadNoRoom (room_of self.old.1 17 (size_of_list (takes_of self.old.1 txn.old))))) }
         ensures later { D.faults self.old.0 ≤ D.faults self.new.0 }
         ensures well { is_fault (Face.Take txn.old result) ≡ false → D.faults self.new.0 ≡ D.faults self.old.0 }
         ensures reads { ¬ IsErrOf result TakeRefused.ReadFault }

@@ -104,6 +104,7 @@ fn read_folder<D: Disk, L: Ledger>(
     ensures same { D.told disk.new ≡ D.told disk.old }
     ensures fault { IsErrOf result OpenCause.DiskFault → Rose (D.faults disk.old) (D.faults disk.new) }
     ensures later { D.faults disk.old ≤ D.faults disk.new }
+    ensures well { (IsErrOf result OpenCause.DiskFault → ⊥) → D.faults disk.new ≡ D.faults disk.old }
 {
     match first_check(disk) {
         Ok(None) => {}
@@ -153,6 +154,7 @@ pub(crate) fn open_log<D: Disk, L: Ledger>(
     ensures ticks { WhereTold (D.told disk.old) (λ t. WhereLogs t.reads (λ logs. steps.new ≤ steps.old + record_count (lines logs))) }
     ensures fault { IsErrOf result OpenCause.DiskFault → Rose (D.faults disk.old) (D.faults disk.new) }
     ensures later { D.faults disk.old ≤ D.faults disk.new }
+    ensures well { (IsErrOf result OpenCause.DiskFault → ⊥) → D.faults disk.new ≡ D.faults disk.old }
 {
     match disk.settle() {
         Ok(()) => {}
@@ -213,6 +215,7 @@ impl<D: Disk + Drop> LoggedLists<D> {
         ensures any_moment { IfOk result (λ c. Tells (D.told disk) (D.told c.0) OpensOver) }
         ensures settled { IfOk result (λ c. Tells (D.told disk) (D.told c.0) OpensFrom) }
         ensures later { IfOk result (λ c. D.faults disk ≤ D.faults c.0) }
+        ensures well { IfOk result (λ c. D.faults c.0 ≡ D.faults disk) }
         ensures refused { IfErr result (λ refused. IsRefused (D.told disk) (D.told refused.disk) (D.faults disk) (D.faults refused.disk) limits.capacity refused.cause) }
         ensures settled_or { IfErr result (λ refused. (refused.cause ≡ OpenCause.DiskFault) ⊎ Tells (D.told disk) (D.told refused.disk) OpensFrom) }
         ensures ticks { WhereTold (D.told disk) (λ t. WhereLogs t.reads (λ logs. steps.new ≤ steps.old + record_count (lines logs))) }

@@ -111,6 +111,7 @@ impl<D: Disk + Drop> Writing<D> {
         ensures syncs { Tells (D.told self.old.disk) (D.told self.new.disk) (λ t u. u.syncs ≤ t.syncs + 2) }
         ensures logged { OnOk result ((s : State) → IsLogged (D.told self.old.disk) self.old.log self.old.busy s → s.broken ≡ false → ((n : ℕ) → next_number s ≤ n → is_among (taken_numbers s.staged) n ≡ false)
             → IsLogged (D.told self.new.disk) self.new.log self.new.busy (settle s)) }
+        ensures moved { OnOk result (1 ≤ self.old.log.count → self.new.log ≡ record self.old.log { gate = self.old.log.gate + length self.old.log.bytes + 6; started = true; bytes = []; count = 0 }) }
         ensures empty { OnOk result (self.new.log.bytes ≡ []) }
         ensures busy { self.new.busy ≡ self.old.busy }
         ensures refused { OnErr result (self.new.log ≡ self.old.log) }

@@ -301,6 +301,139 @@ fn plans_and_faults(rt: HostRuntime) -> Result<(), Fail> {
     Ok(())
 }
 
+/// The limits of each number, the keys that a type reads, and types in other cases; behind the lines above.
+const LIMITS: [(&str, &str); 29] = [
+    (
+        "a1.sources.r.type=NetCat\na1.sources.r.bind=h\na1.sources.r.port=65535\na1.sources.r.max-line-length=1048568\na1.sources.r.ack-every-event=FALSE\na1.sources.r.threads=64",
+        "r@9 netcat h:65535 1048568 false 64 [0];c@6 memory 100 100;k@7 null 0 100;",
+    ),
+    (
+        "a1.sources.r.type=NetCat\na1.sources.r.bind=h\na1.sources.r.port=0",
+        "line 11: bad number",
+    ),
+    (
+        "a1.sources.r.type=NetCat\na1.sources.r.bind=h\na1.sources.r.port=1\na1.sources.r.max-line-length=1048569",
+        "line 12: bad number",
+    ),
+    (
+        "a1.sources.r.type=NetCat\na1.sources.r.bind=h\na1.sources.r.port=1\na1.sources.r.max-line-length=0",
+        "line 12: bad number",
+    ),
+    (
+        "a1.sources.r.type=NetCat\na1.sources.r.bind=h\na1.sources.r.port=1\na1.sources.r.threads=65",
+        "line 12: bad number",
+    ),
+    (
+        "a1.sources.r.type=NetCat\na1.sources.r.bind=h\na1.sources.r.port=1\na1.sources.r.threads=0",
+        "line 12: bad number",
+    ),
+    (
+        "a1.channels.c.capacity=10000000\na1.channels.c.transactionCapacity=100000",
+        "r@4 stdin 512 true [0];c@6 memory 10000000 100000;k@7 null 0 100;",
+    ),
+    (
+        "a1.channels.c.transactionCapacity=100001",
+        "line 9: bad number",
+    ),
+    ("a1.channels.c.capacity=0", "line 9: bad number"),
+    (
+        "a1.channels.c.type=FILE\na1.channels.c.dataDirs=d\na1.channels.c.checkpointInterval=1000\na1.channels.c.maxFileSize=4096\na1.channels.c.checkpointOnClose=False",
+        "r@4 stdin 512 true [0];c@9 file d 4096 1000 false 1000000 10000;k@7 null 0 100;",
+    ),
+    (
+        "a1.channels.c.type=FILE\na1.channels.c.dataDirs=d\na1.channels.c.checkpointInterval=86400000\na1.channels.c.maxFileSize=2146435071",
+        "r@4 stdin 512 true [0];c@9 file d 2146435071 86400000 true 1000000 10000;k@7 null 0 100;",
+    ),
+    (
+        "a1.channels.c.type=FILE\na1.channels.c.dataDirs=d\na1.channels.c.checkpointInterval=999",
+        "line 11: bad number",
+    ),
+    (
+        "a1.channels.c.type=FILE\na1.channels.c.dataDirs=d\na1.channels.c.checkpointInterval=86400001",
+        "line 11: bad number",
+    ),
+    (
+        "a1.channels.c.type=FILE\na1.channels.c.dataDirs=d\na1.channels.c.maxFileSize=4095",
+        "line 11: bad number",
+    ),
+    (
+        "a1.channels.c.type=FILE\na1.channels.c.dataDirs=d\na1.channels.c.maxFileSize=2146435072",
+        "line 11: bad number",
+    ),
+    (
+        "a1.sinks.k.type=AVRO\na1.sinks.k.hostname=h\na1.sinks.k.port=1\na1.sinks.k.batch-size=10000",
+        "r@4 stdin 512 true [0];c@6 memory 100 100;k@9 avro h:1 0 10000;",
+    ),
+    (
+        "a1.sinks.k.type=AVRO\na1.sinks.k.hostname=h\na1.sinks.k.port=1\na1.sinks.k.batch-size=10001",
+        "line 12: bad number",
+    ),
+    (
+        "a1.sinks.k.type=File_Roll\na1.sinks.k.sink.directory=o\na1.sinks.k.sink.rollInterval=0\na1.sinks.k.sink.batchSize=1",
+        "r@4 stdin 512 true [0];c@6 memory 100 100;k@9 roll o 0 0 1;",
+    ),
+    (
+        "a1.sinks.k.type=File_Roll\na1.sinks.k.sink.directory=o\na1.sinks.k.sink.rollInterval=4294967295",
+        "r@4 stdin 512 true [0];c@6 memory 100 100;k@9 roll o 4294967295 0 100;",
+    ),
+    (
+        "a1.sinks.k.type=File_Roll\na1.sinks.k.sink.directory=o\na1.sinks.k.sink.rollInterval=4294967296",
+        "line 11: bad number",
+    ),
+    (
+        "a1.sinks.k.type=File_Roll\na1.sinks.k.sink.directory=o\na1.sinks.k.sink.batchSize=0",
+        "line 11: bad number",
+    ),
+    (
+        "a1.sinks.k.type=NULL\na1.sinks.k.batchSize=10001",
+        "line 10: bad number",
+    ),
+    (
+        "a1.sinkgroups=g\na1.sinkgroups.g.sinks=k\na1.sinkgroups.g.processor.type=FailOver\na1.sinkgroups.g.processor.priority.k=4294967295\na1.sinkgroups.g.processor.maxpenalty=18446744073709551615",
+        "r@4 stdin 512 true [0];c@6 memory 100 100;k@7 null 0 100;g Failover [0] [4294967295] 18446744073709551615 false;",
+    ),
+    (
+        "a1.sinkgroups=g\na1.sinkgroups.g.sinks=k\na1.sinkgroups.g.processor.type=FailOver\na1.sinkgroups.g.processor.priority.k=4294967296",
+        "line 12: bad number",
+    ),
+    (
+        "a1.sinkgroups=g\na1.sinkgroups.g.sinks=k\na1.sinkgroups.g.processor.type=FailOver\na1.sinkgroups.g.processor.maxpenalty=18446744073709551616",
+        "line 12: bad number",
+    ),
+    (
+        "a1.sinkgroups=g\na1.sinkgroups.g.sinks=k\na1.sinkgroups.g.processor.type=FailOver\na1.sinkgroups.g.processor.priority.x=-1",
+        "r@4 stdin 512 true [0];c@6 memory 100 100;k@7 null 0 100;g Failover [0] [0] 30000 false;",
+    ),
+    (
+        "a1.sinkgroups=g\na1.sinkgroups.g.sinks=k\na1.sinkgroups.g.processor.type=Load_Balance\na1.sinkgroups.g.processor.selector.maxTimeOut=18446744073709551616",
+        "line 12: bad number",
+    ),
+    (
+        "a1.sinkgroups=g\na1.sinkgroups.g.sinks=k\na1.sinkgroups.g.processor.type=Load_Balance\na1.sinkgroups.g.processor.maxpenalty=x",
+        "r@4 stdin 512 true [0];c@6 memory 100 100;k@7 null 0 100;g RoundRobin [0] [0] 30000 false;",
+    ),
+    (
+        "a1.sinkgroups=g\na1.sinkgroups.g.sinks=k\na1.sinkgroups.g.processor.type=Load_Balance\na1.sinkgroups.g.processor.backoff=1",
+        "line 12: bad number",
+    ),
+];
+
+#[test]
+fn limits_and_spellings(rt: HostRuntime) -> Result<(), Fail> {
+    let alloc = rt.alloc();
+    for case in &LIMITS {
+        let (more, want) = *case;
+        let mut text = String::from_str(alloc, BASE)?;
+        text.push_str(more)?;
+        assert_eq!(rt;
+            told(alloc, text.as_str(), "a1")?.as_str(),
+            want,
+            "at {more:?}"
+        );
+    }
+    Ok(())
+}
+
 // A source with two channels and one interceptor, whose keys the lines from the third on have.
 const STEPPED: &str = "a1.sources=r
 a1.channels=c d

@@ -14,6 +14,9 @@ pub record HostState : Type 0 where
   pub handed : Option (List ℕ)
   -- the bytes of each file that the host tells of, by its path; it never changes them
   pub files : List ℕ → Option (List ℕ)
+  -- the moments that each clock gives that is handed out, and the numbers of each chance
+  pub moments : Option (ℕ → ℕ)
+  pub draws : Option (ℕ → ℕ)
   -- the host's own faults, and those of the input and the output that were given back
   pub faults : ℕ
   -- the faults of the disks that were given back

@@ -1,5 +1,6 @@
 pub mod Causes
 pub mod Folder
 pub mod Told
+pub mod Series
 pub mod HostState
 pub mod Rolled

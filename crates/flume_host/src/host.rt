@@ -128,14 +128,16 @@ pub trait Host {
         ensures state { state self.new ≡ state self.old }
         ensures named { KeepsNamed (folder self.old) (folder self.new) (room self.old) (room self.new) };
 
-    /// The clock.
+    /// A clock.
     fn clock(&mut self) -> Self::Clock
+        ensures moments { Self.Clock.moments result ≡ (state self.old).moments }
         ensures state { state self.new ≡ state self.old }
         ensures named { KeepsNamed (folder self.old) (folder self.new) (room self.old) (room self.new) }
         ensures rolls { KeepsNamed (rolled self.old) (rolled self.new) (roll_room self.old) (roll_room self.new) };
 
     /// Chance.
     fn random(&mut self) -> Self::Random
+        ensures draws { Self.Random.draws result ≡ (state self.old).draws }
         ensures state { state self.new ≡ state self.old }
         ensures named { KeepsNamed (folder self.old) (folder self.new) (room self.old) (room self.new) }
         ensures rolls { KeepsNamed (rolled self.old) (rolled self.new) (roll_room self.old) (roll_room self.new) };

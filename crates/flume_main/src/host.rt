@@ -164,7 +164,7 @@ impl Host for RealHost {
 
     type Random = RealRandom;
 
-    ghost state = { λ h. record { input = None; output = None; handed = None; files = λ _. None; faults = h.faults; disk_faults = h.disk_faults } };
+    ghost state = { λ h. record { input = None; output = None; handed = None; files = λ _. None; moments = None; draws = None; faults = h.faults; disk_faults = h.disk_faults } };
 
     ghost folder = { λ _ _. None };
 

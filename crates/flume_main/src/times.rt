@@ -1,4 +1,6 @@
 // The system's clock and random numbers.
+ghost use Rattle.std.specs.Prelude.{None};
+
 use flume_host::{Clock, Random};
 use std::random::RandomSource;
 use std::thread;
@@ -11,6 +13,8 @@ pub struct RealClock {
 }
 
 impl Clock for RealClock {
+    ghost moments = { λ _. None };
+
     fn now(&mut self) -> u64 {
         match SystemTime::now(&self.rt) {
             Ok(time) => match time.duration_since(UNIX_EPOCH) {
@@ -33,6 +37,8 @@ pub struct RealRandom {
 }
 
 impl Random for RealRandom {
+    ghost draws = { λ _. None };
+
     fn draw(&mut self) -> u64 {
         let mut bytes = [0; 8];
         match self.rt.fill_bytes(&mut bytes) {

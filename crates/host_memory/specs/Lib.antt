@@ -5,5 +5,6 @@ pub mod Laws
 pub mod Stops
 pub mod Rolls
 pub mod Words
+pub mod Times
 pub mod Folders
 pub mod HostWords

@@ -1,5 +1,6 @@
 // Time and chance in memory.
-ghost use Rattle.std.specs.Prelude.{◌≡◌, ◌+◌, ◌-◌, ◌^◌, ◌%◌, min};
+ghost use Rattle.std.specs.Prelude.{◌≡◌, ◌+◌, ◌-◌, ◌^◌, ◌%◌, min, Some};
+ghost use Rattle.host_memory.specs.Times.{moments_of, draws_of};
 
 use flume_host::{Clock, Random};
 
@@ -25,6 +26,8 @@ impl MemClock {
 }
 
 impl Clock for MemClock {
+    ghost moments = { λ c. Some (moments_of c) };
+
     fn now(&mut self) -> u64 {
         self.tick()
     }
@@ -54,6 +57,8 @@ impl MemRandom {
 }
 
 impl Random for MemRandom {
+    ghost draws = { λ r. Some (draws_of r) };
+
     fn draw(&mut self) -> u64 {
         self.turn()
     }

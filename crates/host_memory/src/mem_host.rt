@@ -1,6 +1,7 @@
 // A host in memory, with folders by their paths.
 ghost use Rattle.std.specs.Prelude.{◌≡◌, None, Some, MatchOption};
 ghost use Rattle.flume_host.specs.Causes.{Counts};
+ghost use Rattle.host_memory.specs.Times.{moments_of, draws_of};
 ghost use Rattle.host_memory.specs.Folders.{file_of, folder_of, handed_of, input_of, output_of, place_in, roll_of};
 
 use crate::named::{add_room, give_back, place_of, take_out};
@@ -33,7 +34,7 @@ pub struct MemHost {
 impl MemHost {
     ghost use Rattle.std.specs.Prelude.{[], IfSome, IsSome, Some};
     ghost use Rattle.host_memory.specs.Words.{left_in, took_in, handed_in, told_in, rolled_in, no_files};
-    ghost use Rattle.host_memory.specs.HostWords.{state_in, folder_in, roll_in, open_calls, open_fails, said_in, clock_in, random_in, HasFolder, HasRoll};
+    ghost use Rattle.host_memory.specs.HostWords.{state_in, folder_in, roll_in, open_calls, open_fails, said_in, HasFolder, HasRoll};
 
     /// A host with this input, this output and these folders with disks. Where a path stands twice, its first folder
     /// counts. It has no files to be read and no rolled files, and its clocks stand at 0.
@@ -43,7 +44,7 @@ impl MemHost {
         output: MemSink,
         folders: Vec<Named<MemDisk>>,
     ) -> Self
-        ensures state { state_in result ≡ record { input = left_in input; output = took_in output; handed = handed_in output; files = file_of []; faults = 0; disk_faults = 0 } }
+        ensures state { state_in result ≡ record { input = left_in input; output = took_in output; handed = handed_in output; files = file_of []; moments = Some (moments_of (record { moment = 0; step = 0 })); draws = Some (draws_of (record { number = 0; step = 0 })); faults = 0; disk_faults = 0 } }
         ensures folders { (folder_in result ≡ folder_of folders.items) × (roll_in result ≡ roll_of []) }
     {
         MemHost {
@@ -84,10 +85,9 @@ impl MemHost {
 
     /// Each clock and each chance that is handed out begins as this one.
     pub fn with_times(mut self, clock: MemClock, random: MemRandom) -> Self
-        ensures state { state_in result ≡ state_in self }
+        ensures state { state_in result ≡ record (state_in self) { moments = Some (moments_of clock); draws = Some (draws_of random) } }
         ensures folders { (folder_in result ≡ folder_in self) × (roll_in result ≡ roll_in self) }
         ensures script { (open_fails result ≡ open_fails self) × (open_calls result ≡ open_calls self) }
-        ensures times { (clock_in result ≡ clock) × (random_in result ≡ random) }
     {
         self.clock = clock;
         self.random = random;
@@ -186,7 +186,7 @@ impl Host for MemHost {
 
     type Random = MemRandom;
 
-    ghost state = { λ h. record { input = input_of h.input; output = output_of h.output; handed = handed_of h.output; files = file_of h.files.items; faults = h.faults; disk_faults = h.disk_faults } };
+    ghost state = { λ h. record { input = input_of h.input; output = output_of h.output; handed = handed_of h.output; files = file_of h.files.items; moments = Some (moments_of h.clock); draws = Some (draws_of h.random); faults = h.faults; disk_faults = h.disk_faults } };
 
     ghost folder = { λ h. folder_of h.folders.items };
 

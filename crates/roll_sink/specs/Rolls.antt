@@ -100,13 +100,13 @@ start_after true start moment = Some (start_of start moment)
 abbrev pub state_after : Bool → RollState → ℕ → Option ℕ → RollState
 state_after starts s moment begun = record { interval = s.interval; start = start_after starts s.start moment; next = number_after starts s.next; begun = begun }
 
--- One delivery, for which a file is begun or not. Want of memory changes nothing.
+-- One delivery, for which a file is begun or not. Want of memory is that for a file's name, and changes nothing.
 abbrev pub RollsBy : Bool → RollState → List Content → ℕ → Result (Unit {0}) RollRefused → RollState → Option Rolled → Option Rolled → Type 0
 RollsBy starts s batch moment (Ok done) t old new =
     (t ≡ state_after starts s moment (begun_after starts s.begun moment)) × Tells old new (Delivered starts (file_name (start_of s.start moment) s.next) (roll_text batch))
 RollsBy starts s batch moment (Err RollFault) t old new =
     (t ≡ state_after starts s moment None) × Tells old new (Faulted starts (file_name (start_of s.start moment) s.next) (roll_text batch))
-RollsBy starts s batch moment (Err NoMemory) t old new = (t ≡ s) × (new ≡ old)
+RollsBy starts s batch moment (Err NoMemory) t old new = (starts ≡ true) × (t ≡ s) × (new ≡ old)
 
 -- One delivery: a file is begun for it where there is none that takes it.
 abbrev pub Rolls : RollState → List Content → ℕ → Result (Unit {0}) RollRefused → RollState → Option Rolled → Option Rolled → Type 0

@@ -1,6 +1,7 @@
 // A group as a sink.
 ghost use Rattle.std.specs.List.{sum_by};
 ghost use Rattle.std.specs.Prelude.{◌≡◌, ◌+◌, ◌-◌, ◌^◌, min};
+ghost use Rattle.flume_host.specs.Series.{Gives};
 ghost use Rattle.sink_groups.specs.Deliveries.{SinkDelivers};
 
 use crate::GroupRun;
@@ -44,7 +45,7 @@ impl<S: EventSink, N: Random + Drop> GroupSink<S, N> {
 impl<S: EventSink, N: Random + Drop> EventSink for GroupSink<S, N> {
     ghost use Rattle.std.specs.Prelude.{ℕ};
 
-    ghost delivers = { λ s batch moment result t. (draw : ℕ) × SinkDelivers S.delivers batch moment draw s.run.schedule s.run.members.items s.failed result t.run.schedule t.run.members.items t.failed };
+    ghost delivers = { λ s batch moment result t. (draw : ℕ) × Gives draw (N.draws s.random) (N.draws t.random) × SinkDelivers S.delivers batch moment draw s.run.schedule s.run.members.items s.failed result t.run.schedule t.run.members.items t.failed };
 
     ghost faults = { λ s. min (sum_by S.faults s.run.members.items + s.failed) (2 ^ 64 - 1) };
 

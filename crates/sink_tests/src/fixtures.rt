@@ -1,4 +1,5 @@
 // What the tests share.
+use channel_face::{Channel, CommitRefused, StageRefused};
 use event_core::{Batch, Event, Headers};
 use host_memory::MemRoll;
 use roll_sink::RollSink;
@@ -20,6 +21,22 @@ pub fn batch(alloc: Global, bodies: &[&[u8]]) -> Result<Batch, Fail> {
         }
     }
     Ok(batch)
+}
+
+/// Puts an event as a transaction of its own.
+pub fn put<C: Channel>(channel: &mut C, event: &Event) -> bool {
+    let Ok(mut txn) = channel.begin_put() else {
+        return false;
+    };
+    let put = channel.put(&mut txn, event).is_ok();
+    match channel.commit_put(txn) {
+        Ok(_) => put,
+        Err(CommitRefused::Stage(StageRefused { txn, cause: _ })) => {
+            let _ended = channel.rollback_put(txn);
+            false
+        }
+        Err(CommitRefused::InDoubt) => false,
+    }
 }
 
 // A sink into a folder in memory of which these calls fail.

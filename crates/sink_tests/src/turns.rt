@@ -1,9 +1,6 @@
 // Turns of sinks over a channel in memory.
-use crate::fixtures::{event, listing, roll_sink};
-use channel_face::{
-    Channel, CommitRefused, FaceRefused, Limits, OwnFace, StageRefused, TakeRefused,
-};
-use event_core::Event;
+use crate::fixtures::{event, listing, put, roll_sink};
+use channel_face::{Channel, FaceRefused, Limits, OwnFace, TakeRefused};
 use host_memory::{MemRandom, MemRoll};
 use memory_channel::MemoryChannel;
 use plug_in::EventSink;
@@ -14,22 +11,6 @@ use std::alloc::Global;
 use std::test::Fail;
 
 type Face = OwnFace<MemoryChannel>;
-
-// Puts an event as a transaction of its own.
-fn put(channel: &mut MemoryChannel, event: &Event) -> bool {
-    let Ok(mut txn) = channel.begin_put() else {
-        return false;
-    };
-    let put = channel.put(&mut txn, event).is_ok();
-    match channel.commit_put(txn) {
-        Ok(_) => put,
-        Err(CommitRefused::Stage(StageRefused { txn, cause: _ })) => {
-            let _ended = channel.rollback_put(txn);
-            false
-        }
-        Err(CommitRefused::InDoubt) => false,
-    }
-}
 
 // A channel with these events.
 fn channel_of(alloc: Global, txn_capacity: u32, bodies: &[&[u8]]) -> Result<Face, Fail> {

@@ -1,5 +1,5 @@
 // The plain channel over lists, with the journal of what it settled.
-ghost use Rattle.std.specs.Prelude.{◌≡◌, ◌<◌, ◌≤◌, ◌-◌, ◌^◌, ℕ, List, length, [], Ok, Err, OnOk, OnErr, IfErr, IfOk, true};
+ghost use Rattle.std.specs.Prelude.{◌≡◌, ◌<◌, ◌≤◌, ◌-◌, ◌^◌, ℕ, List, length, [], Ok, Err, OnOk, OnErr, IfErr, IfOk, false, true};
 ghost use Rattle.channel_face.specs.Calls.{cause_of};
 ghost use Rattle.channel_face.specs.Counters.{counts_with};
 ghost use Rattle.channel_face.specs.History.{opening};
@@ -105,9 +105,10 @@ impl Machine {
         }
     }
 
-    /// Puts an event.
+    /// Puts an event. It never spills.
     pub fn put(&mut self, txn: &mut PutTxn, event: &Event) -> Result<channel_face::Put, PutRefused>
         ensures step { Journals self.old (Put txn.old event.now result) self.new }
+        ensures spills { IfOk result (λ done. done.spilled ≡ false) }
         ensures same { txn.new ≡ txn.old }
     {
         let Ok(copy) = event.copy() else {
@@ -129,9 +130,10 @@ impl Machine {
         }
     }
 
-    /// Takes the first event that no transaction took.
+    /// Takes the first event that no transaction took. It never spills.
     pub fn take(&mut self, txn: &mut TakeTxn) -> Result<Taken, TakeRefused>
         ensures step { Journals self.old (Take txn.old result) self.new }
+        ensures spills { IfOk result (λ taken. taken.spilled ≡ false) }
         ensures same { txn.new ≡ txn.old }
     {
         let number = self.lists.free_number();

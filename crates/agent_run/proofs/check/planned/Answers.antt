@@ -1,5 +1,4 @@
 use Rattle.std.proofs.Common.{inr, sym, ◌∙◌}
-use Rattle.agent_run.specs.Checked.{HasPlugin}
 use Rattle.agent_run.proofs.check.planned.Goals as goal
 
 pub returns-in-Some : goal.returns-in-Some

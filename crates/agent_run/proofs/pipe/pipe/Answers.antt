@@ -1,7 +1,8 @@
-use Rattle.std.proofs.Common.{◌≡◌, inl, inr, ap, arith}
+use Rattle.std.proofs.Common.{◌≡◌, inl, inr, refl, sym, ap, subst, arith, List, ℕ, Option}
 use Rattle.flume_host.specs.HostState.{HostState}
-use Rattle.agent_run.specs.declared.run.Outcome.{Outcome}
-use Rattle.agent_run.proofs.Outcomes.{early, given_back}
+use Rattle.flume_host.specs.Told.{Tells, Told}
+use Rattle.agent_run.specs.Stored.{IsUnopened}
+use Rattle.agent_run.proofs.Outcomes.{early, given_back, untouched}
 use Rattle.agent_run.proofs.pipe.pipe.Goals as goal
 
 pub returns-in-Ok-clause-piped : goal.returns-in-Ok-clause-piped
@@ -10,14 +11,17 @@ returns-in-Ok-clause-piped g c =
 
 pub returns-in-Err-Failed-clause-piped : goal.returns-in-Err-Failed-clause-piped
 returns-in-Err-Failed-clause-piped g c =
-    let status : c.ended.result.status ≡ 3 = ap (λ (o : Outcome). o.status) c.ended.ensures in
     let is = c.in-Err-Failed.ensures.state in
     let faults : (g.H.Host.state c.open_disk.new.self).faults ≡ is.0 = ap (λ (s : HostState). s.faults) is.1 in
-    early _ _ _ _ _ _ _ _ (ap (λ (s : HostState). s.input) is.1) (ap (λ (s : HostState). s.output) is.1) (ap (λ (o : Outcome). o.accepted) c.ended.ensures) (inl status)
-    (λ three. inl (let rose = is.2 c.in-Err-Failed.field-0-is in omega (arith, rose, faults))) (λ four. absurd (omega arith)) (λ five. absurd (omega arith))
+    let folder = g.H.Host.folder c.args.host.now in
+    let same : Tells (folder c.args.dir.now) (g.H.Host.folder c.open_disk.new.self c.args.dir.now) IsUnopened = subst (λ (f : List ℕ → Option Told). Tells (folder c.args.dir.now) (f c.args.dir.now) IsUnopened) (sym c.in-Err-Failed.ensures.refused) (untouched (folder c.args.dir.now)) in
+    rw c.unopened.ensures (early _ _ _ _ _ _ 3 0 (ap (λ (s : HostState). s.input) is.1) (ap (λ (s : HostState). s.output) is.1) refl (inl refl) same
+    (λ three. inl (let rose = is.2 c.in-Err-Failed.field-0-is in omega (arith, rose, faults))) (λ four. absurd (omega (arith, four))) (λ five. absurd (omega (arith, five))))
 
 pub returns-in-Err-NoMemory-clause-piped : goal.returns-in-Err-NoMemory-clause-piped
 returns-in-Err-NoMemory-clause-piped g c =
-    let status : c.ended-in-Err-NoMemory.result.status ≡ 5 = ap (λ (o : Outcome). o.status) c.ended-in-Err-NoMemory.ensures in
     let is = c.in-Err-NoMemory.ensures.state in
-    early _ _ _ _ _ _ _ _ (ap (λ (s : HostState). s.input) is.1) (ap (λ (s : HostState). s.output) is.1) (ap (λ (o : Outcome). o.accepted) c.ended-in-Err-NoMemory.ensures) (inr (inr status)) (λ three. absurd (omega arith)) (λ four. absurd (omega arith)) (λ _. ap (λ (s : HostState). s.disk_faults) is.1)
+    let folder = g.H.Host.folder c.args.host.now in
+    let same : Tells (folder c.args.dir.now) (g.H.Host.folder c.open_disk.new.self c.args.dir.now) IsUnopened = subst (λ (f : List ℕ → Option Told). Tells (folder c.args.dir.now) (f c.args.dir.now) IsUnopened) (sym c.in-Err-NoMemory.ensures.refused) (untouched (folder c.args.dir.now)) in
+    rw c.unopened-in-Err-NoMemory.ensures (early _ _ _ _ _ _ 5 0 (ap (λ (s : HostState). s.input) is.1) (ap (λ (s : HostState). s.output) is.1) refl (inr (inr refl)) same
+    (λ three. absurd (omega (arith, three))) (λ four. absurd (omega (arith, four))) (λ _. ap (λ (s : HostState). s.disk_faults) is.1))

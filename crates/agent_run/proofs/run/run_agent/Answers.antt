@@ -1,10 +1,12 @@
-use Rattle.std.proofs.Common.{◌≡◌, List, ℕ, codes, inr, ap, subst, ◌∙◌, arith}
+use Rattle.std.proofs.Common.{◌≡◌, List, ℕ, Option, codes, inr, ap, sym, subst, ◌∙◌, arith}
 use Rattle.flume_host.specs.HostState.{HostState}
 use Rattle.agent_words.specs.Words.{texts}
 use Rattle.agent_words.proofs.Unique.{one_asked}
 use Rattle.agent_run.specs.Checked.{Checked}
 use Rattle.agent_run.proofs.Commands.{agent_does_not_run, load_does_not_run, none_runs, read_none, read_some}
-use Rattle.agent_run.proofs.Outcomes.{early}
+use Rattle.flume_host.specs.Told.{Tells, Told}
+use Rattle.agent_run.specs.Stored.{IsUnopened}
+use Rattle.agent_run.proofs.Outcomes.{early, untouched}
 use Rattle.agent_run.proofs.run.run_agent.Goals as goal
 
 pub returns-in-Ok-Some-Check-clause-no_command : goal.returns-in-Ok-Some-Check-clause-no_command
@@ -40,5 +42,7 @@ pub returns-clause-piped : goal.returns-clause-piped
 returns-clause-piped g c = λ dir is.
     let same = c.refuse-in-Err.ensures.state in
     let five : c.refuse-in-Err.result.status ≡ 5 = c.refuse-in-Err.ensures.status in
-    early _ _ _ _ _ _ _ _ (ap (λ (s : HostState). s.input) same) (ap (λ (s : HostState). s.output) same) c.refuse-in-Err.ensures.none (inr (inr five))
+    let folder = g.H.Host.folder c.args.host.now in
+    let unopened : Tells (folder dir) (g.H.Host.folder c.refuse-in-Err.new.host dir) IsUnopened = subst (λ (f : List ℕ → Option Told). Tells (folder dir) (f dir) IsUnopened) (sym c.refuse-in-Err.ensures.named.same) (untouched (folder dir)) in
+    early _ _ _ _ _ _ _ _ (ap (λ (s : HostState). s.input) same) (ap (λ (s : HostState). s.output) same) c.refuse-in-Err.ensures.none (inr (inr five)) unopened
     (λ three. absurd (omega (arith, three, five))) (λ four. absurd (omega (arith, four, five))) (λ _. ap (λ (s : HostState). s.disk_faults) same)

@@ -17,7 +17,7 @@ loop-into-preserved g c =
     let i = c.loop-into.invariant in
     record {
       same = c.in_ok-added.ensures.same ∙ i.same;
-      later = omega (arith, i.later, c.in_ok-added.ensures.later);
+      well = c.in_ok-added.ensures.well (λ no. cc) ∙ i.well;
       some = omega (arith, i.some);
       items = λ bytes has front.
           let here : HasFile (g.D.Disk.told c.loop-into.disk) c.args.file bytes = subst (λ (o : Option Told). HasFile o c.args.file bytes) (sym i.same) has in

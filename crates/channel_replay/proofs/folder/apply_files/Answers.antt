@@ -1,4 +1,4 @@
-use Rattle.std.proofs.Common.{◌∙◌, arith, refl}
+use Rattle.std.proofs.Common.{◌∙◌, refl}
 use Rattle.channel_replay.proofs.Folders.{folders_all, folders_bad, folders_few, folders_more, folders_ticks, no_log, no_name}
 use Rattle.channel_replay.proofs.folder.apply_files.Goals as goal
 
@@ -6,7 +6,7 @@ pub loop-file-preserved : goal.loop-file-preserved
 loop-file-preserved g c =
     folders_more _ _ _ _ _ _ c.loop-file.after c.in-Ok-Some-Log.file c.loop-file.recovery c.apply_file.new.recovery c.args.steps.now c.loop-file.steps c.apply_file.new.steps c.loop-file.invariant
     (rw (c.in-Ok-Some-Log.field-0-is, c.in-Ok-Some-Log.field-0-0-is) at c.in-Ok-Some-Log.ensures.next) c.in-Ok.ensures.number (rw c.in-Ok-Some-Log.ensures.same at c.in-Ok.ensures.ok) (rw c.in-Ok-Some-Log.ensures.same at c.in-Ok.ensures.ticks)
-    (c.in-Ok.ensures.same ∙ c.in-Ok-Some-Log.ensures.same) (omega (arith, c.in-Ok-Some-Log.ensures.cause.later, c.in-Ok.ensures.later)) c.in-Ok.ensures.reached
+    (c.in-Ok.ensures.same ∙ c.in-Ok-Some-Log.ensures.same) (c.in-Ok.ensures.well (λ no. cc) ∙ c.in-Ok-Some-Log.ensures.cause.well) c.in-Ok.ensures.reached
 
 pub returns-in-Err-apply_file-clause-bad : goal.returns-in-Err-apply_file-clause-bad
 returns-in-Err-apply_file-clause-bad g c =

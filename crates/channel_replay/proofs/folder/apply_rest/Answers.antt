@@ -5,7 +5,7 @@ use Rattle.channel_replay.proofs.folder.apply_rest.Goals as goal
 pub loop-rec-preserved : goal.loop-rec-preserved
 loop-rec-preserved g c =
     reads_more _ _ _ _ _ _ c.args.file c.args.reader.now c.loop-rec.reader c.next.new.self c.args.recovery.now c.loop-rec.recovery c.apply_line.new.self c.args.steps.now c.loop-rec.steps c.next.new.steps c.in-Ok-Some.at c.in-Ok-Some.rec
-    c.loop-rec.invariant (rw c.in-Ok-Some.field-0-is at c.in-Ok-Some.ensures.given) c.in-Ok-Some.ensures.file.file (rw c.in-Ok-Some.field-0-is at c.in-Ok-Some.ensures.ticks) c.in-Ok.ensures.ok c.in-Ok-Some.ensures.same c.in-Ok-Some.ensures.later
+    c.loop-rec.invariant (rw c.in-Ok-Some.field-0-is at c.in-Ok-Some.ensures.given) c.in-Ok-Some.ensures.file.file (rw c.in-Ok-Some.field-0-is at c.in-Ok-Some.ensures.ticks) c.in-Ok.ensures.ok c.in-Ok-Some.ensures.same (c.in-Ok-Some.ensures.well (λ no. cc))
 
 pub returns-in-Err-apply_line-clause-bad : goal.returns-in-Err-apply_line-clause-bad
 returns-in-Err-apply_line-clause-bad g c =

@@ -1,13 +1,17 @@
-use Rattle.std.proofs.Common.{rules, ◌≡◌, ◌∙◌, ◌≤◌, [], ◌==◌, ℕ, List, length, Err, Some, None, true, false, sym, ap, subst}
+use Rattle.std.proofs.Common.{rules, ◌≡◌, ◌∙◌, ◌≤◌, ◌+◌, [], ◌==◌, ℕ, List, length, Err, Some, None, true, false, sym, ap, subst}
 use Rattle.event_core.specs.Content.{Content, size}
 use Rattle.event_core.specs.declared.journal.Entry.TheVariants.{Puts}
-use Rattle.channel_face.specs.Machine.{State, Put, broken_state, entry_of, puts_of, put_refusal, settle}
+use Rattle.channel_face.specs.Machine.{State, Put, broken_state, entry_of, puts_of, put_refusal, settle, size_of_list}
 use Rattle.channel_face.specs.History.{Moves}
 use Rattle.channel_face.specs.declared.replies.PutRefused.TheVariants as PutNo
 use Rattle.txn_core.specs.Places.{IsAt}
-use Rattle.file_channel.specs.Written.{IsLogged}
+use Rattle.flume_host.specs.Told.{LeavesOnly, Tells}
+use Rattle.channel_log.specs.Writer.{HasRoom}
+use Rattle.file_channel.specs.Mirrors.{busy}
+use Rattle.file_channel.specs.Touches.{HadNoRoom, room_of}
+use Rattle.file_channel.specs.Written.{IsLogged, MayRecover, kept}
 use Rattle.file_channel.specs.Whole.{IsWhole}
-use Rattle.file_channel.proofs.Whole.{failed_whole, rests_over, staged_below}
+use Rattle.file_channel.proofs.Whole.{failed_whole, had_no_room, rests_over, staged_below}
 use Rattle.file_channel.proofs.Putting.{busy_few, put_may, put_in, put_whole, put_fails, room_enough, spilled_state}
 use Rattle.file_channel.proofs.logged.LoggedLists.put_in_log.Goals as goal
 
@@ -164,3 +168,27 @@ invariant_of-self-2 g c =
     let there : c.flush-settled.new.self ≡ put_in s true token.number events c.in-Ok.copy = spilled_state s c.add_put.new.self c.flush-settled.new.self c.flush-settled.result token.number events c.in-Ok.copy may.0 added c.flush-settled.ensures.step c.flush-settled.ensures.refused in
     let to : c.flush-settled.new.self ≡ put_in s true c.number-2.result events event = there ∙ (ap (λ (e : Content). put_in s true token.number events e) same ∙ ap (λ (n : ℕ). put_in s true n events event) (sym number)) in
     put_whole (g.D.Disk.told c.add_put-2.new.self.disk) c.add_put-2.new.self.log c.add_put-2.new.self.busy s c.flush-settled.new.self token c.number-2.result events event true c.self.invariant.sound list allowed c.self.invariant.kind number to logged
+
+pub returns-clause-room : goal.returns-clause-room
+returns-clause-room g c = λ is.
+    let m = c.self.inside in
+    let s : State = m.lists in
+    let told = g.D.Disk.told m.writing.disk in
+    let told' = g.D.Disk.told c.flush.new.self.disk in
+    let token = c.args.txn.now in
+    let event : Content = c.args.event.now in
+    let events : List Content = c.in-Some.ensures.found.0 in
+    let held : c.in-Some.held ≡ length events = search rules in
+    let list : puts_of s token ≡ Some events = search rules in
+    let allowed : put_refusal s (Some events) event ≡ None = sym (c.put_refusal.ensures events (sym held)) ∙ c.in_default-put_refusal.is in
+    let may = put_may s events event c.self.invariant.kind allowed in
+    let log = c.self.invariant.logged may.0 in
+    let flushed = c.flush.ensures.logged in
+    let settled : IsLogged told' c.flush.new.self.log c.flush.new.self.busy (settle s) = (let below = staged_below s c.self.invariant.sound in let still = may.0 in search rules) in
+    let moved : 1 ≤ m.writing.log.count → c.flush.new.self.log ≡ record m.writing.log { gate = m.writing.log.gate + length m.writing.log.bytes + 6; started = true; bytes = []; count = 0 } = search rules in
+    let full : HasRoom m.writing.log (size event + 13 + kept m.writing.busy (c.in-Some.held == 0)) → ⊥ = (let lacks = c.has_room.ensures in search rules) in
+    let left = had_no_room told told' m.writing.log c.flush.new.self.log m.writing.busy c.flush.new.self.busy s (size event + 13 + kept m.writing.busy (c.in-Some.held == 0)) (λ t u. LeavesOnly t u (MayRecover s)) (c.flush.ensures.any_moment s log may.0) may.0 log settled moved full
+    (λ empty. room_enough m.writing.log m.writing.busy (size event) (c.in-Some.held == 0) empty may.1 (busy_few told m.writing.log m.writing.busy s log)) in
+    let needs : size event + 13 + kept m.writing.busy (c.in-Some.held == 0) ≡ room_of s (size event + 13) (size_of_list (puts_of s token)) =
+    ap (λ (n : ℕ). size event + 13 + kept n (c.in-Some.held == 0)) log.busy_is ∙ ap (λ (n : ℕ). size event + 13 + kept (busy s.opened) (n == 0)) (held ∙ sym (ap size_of_list list)) in
+    rw c.add_put-2.ensures.disk (rw (← c.self.view_is) (subst (λ (n : ℕ). Tells told told' (HadNoRoom n)) needs left))

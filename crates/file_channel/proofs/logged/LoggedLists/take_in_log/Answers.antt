@@ -1,14 +1,18 @@
-use Rattle.std.proofs.Common.{rules, ◌≡◌, ◌∙◌, ◌≤◌, [], ◌==◌, ℕ, List, length, Err, Some, None, true, false, sym, ap, subst}
+use Rattle.std.proofs.Common.{rules, ◌≡◌, ◌∙◌, ◌≤◌, ◌+◌, [], ◌==◌, ℕ, List, length, Err, Some, None, true, false, sym, ap, subst}
 use Rattle.event_core.specs.Content.{Content}
 use Rattle.event_core.specs.declared.journal.Entry.TheVariants.{Takes}
-use Rattle.channel_face.specs.Machine.{State, Take, broken_state, entry_of, free, takes_of, take_refusal, settle}
+use Rattle.channel_face.specs.Machine.{State, Take, broken_state, entry_of, free, takes_of, take_refusal, settle, size_of_list}
 use Rattle.channel_face.specs.History.{Moves}
 use Rattle.channel_face.specs.declared.replies.TakeRefused.TheVariants as TakeNo
 use Rattle.txn_core.specs.Places.{IsAt}
 use Rattle.txn_core.specs.Sound.{first_of}
-use Rattle.file_channel.specs.Written.{IsLogged}
+use Rattle.flume_host.specs.Told.{LeavesOnly, Tells}
+use Rattle.channel_log.specs.Writer.{HasRoom}
+use Rattle.file_channel.specs.Mirrors.{busy}
+use Rattle.file_channel.specs.Touches.{HadNoRoom, room_of}
+use Rattle.file_channel.specs.Written.{IsLogged, MayRecover, kept}
 use Rattle.file_channel.specs.Whole.{IsWhole}
-use Rattle.file_channel.proofs.Whole.{failed_whole, rests_over, staged_below}
+use Rattle.file_channel.proofs.Whole.{failed_whole, had_no_room, rests_over, staged_below}
 use Rattle.file_channel.proofs.Putting.{busy_few}
 use Rattle.file_channel.proofs.Freeing.{first_is, free_after, take_fails, take_in, take_room, take_still, take_whole, taken_state}
 use Rattle.file_channel.proofs.logged.LoggedLists.take_in_log.Goals as goal
@@ -161,3 +165,26 @@ invariant_of-self-2 g c =
     let there : c.flush-settled.new.self ≡ take_in s true token.number numbers item.0 = taken_state s c.add_take.new.self c.flush-settled.new.self c.flush-settled.result token.number numbers item.0 still added c.flush-settled.ensures.step c.flush-settled.ensures.refused in
     let to : c.flush-settled.new.self ≡ take_in s true c.number-2.result numbers item.0 = there ∙ ap (λ (n : ℕ). take_in s true n numbers item.0) (sym number) in
     take_whole (g.D.Disk.told c.add_take-2.new.self.disk) c.add_take-2.new.self.log c.add_take-2.new.self.busy s c.flush-settled.new.self token c.number-2.result numbers item first.0 true c.self.invariant.sound list allowed c.self.invariant.kind first.1 number to logged
+
+pub returns-clause-room : goal.returns-clause-room
+returns-clause-room g c = λ is.
+    let m = c.self.inside in
+    let s : State = m.lists in
+    let told = g.D.Disk.told m.writing.disk in
+    let told' = g.D.Disk.told c.flush.new.self.disk in
+    let token = c.args.txn.now in
+    let numbers : List ℕ = c.in-Some.ensures.found.0 in
+    let held : c.in-Some.held ≡ length numbers = search rules in
+    let list : takes_of s token ≡ Some numbers = search rules in
+    let allowed : take_refusal s (Some numbers) ≡ None = sym (c.take_refusal.ensures numbers (sym held)) ∙ c.in_default-take_refusal.is in
+    let still = take_still s numbers allowed in
+    let log = c.self.invariant.logged still in
+    let flushed = c.flush.ensures.logged in
+    let settled : IsLogged told' c.flush.new.self.log c.flush.new.self.busy (settle s) = (let below = staged_below s c.self.invariant.sound in search rules) in
+    let moved : 1 ≤ m.writing.log.count → c.flush.new.self.log ≡ record m.writing.log { gate = m.writing.log.gate + length m.writing.log.bytes + 6; started = true; bytes = []; count = 0 } = search rules in
+    let full : HasRoom m.writing.log (17 + kept m.writing.busy (c.in-Some.held == 0)) → ⊥ = (let lacks = c.has_room.ensures in search rules) in
+    let left = had_no_room told told' m.writing.log c.flush.new.self.log m.writing.busy c.flush.new.self.busy s (17 + kept m.writing.busy (c.in-Some.held == 0)) (λ t u. LeavesOnly t u (MayRecover s)) (c.flush.ensures.any_moment s log still) still log settled moved full
+    (λ empty. take_room m.writing.log m.writing.busy (c.in-Some.held == 0) empty (busy_few told m.writing.log m.writing.busy s log)) in
+    let needs : 17 + kept m.writing.busy (c.in-Some.held == 0) ≡ room_of s 17 (size_of_list (takes_of s token)) =
+    ap (λ (n : ℕ). 17 + kept n (c.in-Some.held == 0)) log.busy_is ∙ ap (λ (n : ℕ). 17 + kept (busy s.opened) (n == 0)) (held ∙ sym (ap size_of_list list)) in
+    rw c.add_take-2.ensures.disk (rw (← c.self.view_is) (subst (λ (n : ℕ). Tells told told' (HadNoRoom n)) needs left))

@@ -1,0 +1,10 @@
+//! The open transactions of a log: which there are, and where the puts of each stand or what its takes are.
+#![tactic(auto)]
+
+mod opened;
+mod table;
+#[cfg(test)]
+mod tests;
+
+pub use opened::{Ended, Item};
+pub use table::{OpenTable, TableRefused};

@@ -1,0 +1,139 @@
+// What one transaction has open.
+ghost use Rattle.std.specs.Prelude.{◌≡◌, ◌<◌, ◌+◌, ◌-◌, ◌^◌, true, map, IfOk};
+ghost use Rattle.open_table.specs.Tables.{Puts, is_behind, moved_pointer, IsOf, size, with_item, begun, listed_of, moved, MayMove, is_puts, puts_of, takes_of};
+
+use event_core::NoMemory;
+use record_form::Pointer;
+use std::alloc::Global;
+use std::marker::Model;
+
+/// A put or a take.
+#[derive(Clone, Copy, Debug, PartialEq, Eq)]
+pub enum Item {
+    /// A put, by the place of its record.
+    Put(Pointer),
+    /// A take, by the number of its event.
+    Take(u64),
+}
+
+/// What a transaction had open when it ended, in the order of its calls.
+#[derive(Drop)]
+pub enum Ended {
+    /// The places of its puts.
+    Puts(Vec<Pointer>),
+    /// The numbers that it takes.
+    Takes(Vec<u64>),
+}
+
+/// What a transaction has open, with room for so many puts or takes.
+#[derive(Drop)]
+pub struct Opened {
+    list: Ended,
+    room: u32,
+}
+
+impl Model for Opened {
+    ghost use Rattle.std.specs.Prelude.{◌≤◌};
+    ghost use Rattle.open_table.specs.Tables.{Open, listed_of, capacity_of};
+
+    ghost Value = { Open };
+
+    ghost view = { λ o. record { listed = listed_of o.list; room = o.room } };
+
+    ghost invariant = { λ o. o.room ≤ capacity_of o.list };
+}
+
+fn move_pointer(pointer: &mut Pointer, file: u32, at: u64, to_file: u32, to_at: u64)
+    requires { is_behind file at pointer.old ≡ true → to_at + (pointer.old.at - at) < 2 ^ 64 }
+    ensures { pointer.new ≡ moved_pointer file at to_file to_at pointer.old }
+{
+    if pointer.file == file && pointer.at >= at {
+        pointer.file = to_file;
+        pointer.at = to_at + (pointer.at - at);
+    }
+}
+
+fn move_pointers(pointers: &mut [Pointer], file: u32, at: u64, to_file: u32, to_at: u64)
+    requires { MayMove file at to_at (Puts pointers.old) }
+    ensures { pointers.new ≡ map (moved_pointer file at to_file to_at) pointers.old }
+{
+    for pointer in pointers.iter_mut() {
+        move_pointer(pointer, file, at, to_file, to_at);
+    }
+}
+
+impl Opened {
+    /// A transaction of puts, or of takes, that has none yet.
+    pub fn new(alloc: Global, puts: bool, room: u32) -> Result<Opened, NoMemory>
+        ensures { IfOk result (λ o. o ≡ begun puts room) }
+    {
+        let list = if puts {
+            match Vec::with_capacity(alloc, room as usize) {
+                Ok(pointers) => Ended::Puts(pointers),
+                Err(_) => return Err(NoMemory),
+            }
+        } else {
+            match Vec::with_capacity(alloc, room as usize) {
+                Ok(numbers) => Ended::Takes(numbers),
+                Err(_) => return Err(NoMemory),
+            }
+        };
+        Ok(Opened { list, room })
+    }
+
+    /// Adds a put or a take. It takes no memory.
+    pub fn add(&mut self, item: Item)
+        requires { IsOf item self.old.listed × (size self.old.listed < self.old.room) }
+        ensures { self.new ≡ record self.old { listed = with_item item self.old.listed } }
+    {
+        match (&mut self.list, item) {
+            (Ended::Puts(pointers), Item::Put(pointer)) => pointers.push_reserved(pointer),
+            (Ended::Takes(numbers), Item::Take(number)) => numbers.push_reserved(number),
+            (Ended::Puts(_), Item::Take(_)) | (Ended::Takes(_), Item::Put(_)) => {}
+        }
+    }
+
+    /// Moves its pointers into a file at this offset or behind it to another file.
+    pub fn move_puts(&mut self, file: u32, at: u64, to_file: u32, to_at: u64)
+        requires { MayMove file at to_at self.old.listed }
+        ensures { self.new ≡ record self.old { listed = moved file at to_file to_at self.old.listed } }
+    {
+        if let Ended::Puts(pointers) = &mut self.list {
+            move_pointers(pointers, file, at, to_file, to_at);
+        }
+    }
+
+    /// Whether it has puts.
+    pub fn has_puts(&self) -> bool
+        ensures { result ≡ is_puts self.now.listed }
+    {
+        matches!(self.list, Ended::Puts(_))
+    }
+
+    /// The places of its puts.
+    pub fn puts(&self) -> &[Pointer]
+        ensures { result.now ≡ puts_of self.now.listed }
+    {
+        match &self.list {
+            Ended::Puts(pointers) => pointers,
+            Ended::Takes(_) => &[],
+        }
+    }
+
+    /// The numbers that it takes.
+    pub fn takes(&self) -> &[u64]
+        ensures { result.now ≡ takes_of self.now.listed }
+    {
+        match &self.list {
+            Ended::Puts(_) => &[],
+            Ended::Takes(numbers) => numbers,
+        }
+    }
+
+    /// What it has.
+    pub fn into_list(self) -> Ended
+        ensures { listed_of result ≡ self.listed }
+    {
+        self.list
+    }
+}

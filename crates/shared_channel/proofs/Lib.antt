@@ -1,0 +1,4 @@
+mod Rooms
+mod Keeping
+mod Turning
+mod Porting

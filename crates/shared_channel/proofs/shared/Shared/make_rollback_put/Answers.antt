@@ -1,0 +1,54 @@
+use Rattle.std.proofs.Common.{subst, Bool, true, false, ◌≡◌, List, [], ◌∷◌, ◌++◌}
+use Rattle.channel_face.specs.Token.{Token}
+use Rattle.channel_face.specs.Machine.{RollbackPut}
+use Rattle.channel_face.specs.History.{Step, AddsOne}
+use Rattle.turn_passes.specs.Calls.{has}
+use Rattle.turn_passes.specs.Turns.{Making}
+use Rattle.turn_passes.specs.Views.{View, counted}
+use Rattle.shared_channel.specs.Calls.{step}
+use Rattle.shared_channel.proofs.Keeping.{rolled_put, room_put, stale_put}
+use Rattle.shared_channel.proofs.Turning.{makes_none, makes_kept}
+use Rattle.shared_channel.proofs.shared.Shared.make_rollback_put.Goals as goal
+
+pub count-requires : goal.count-requires
+count-requires g c =
+    let k = c.args.seat.now.me.0 in
+    let S = g.C.Channel.stands in
+    let d = c.rollback_put-ended.new.self in
+    let made : AddsOne (S c.args.home.now.channel) (S d) (RollbackPut c.args.txn true) (g.C.Channel.moment d) = subst (λ (b : Bool). AddsOne (S c.args.home.now.channel) (S d) (RollbackPut c.args.txn b) (g.C.Channel.moment d)) c.if-not-ended.false c.rollback_put-ended.ensures in
+    record {
+      table = c.requires.table;
+      turn = (c.requires.within.0, room_put S g.C.Channel.tells g.met.C.Channel.is_run c.args.home.now.channel d k.base k.seen c.args.txn (g.C.Channel.moment d) made c.requires.within.3, c.requires.within.1);
+      own = c.requires.own;
+    }
+
+pub returns-then-not-ended-clause-makes : goal.returns-then-not-ended-clause-makes
+returns-then-not-ended-clause-makes g c =
+    let k = c.args.seat.now.me.0 in
+    let S = g.C.Channel.stands in
+    let d = c.rollback_put-ended.new.self in
+    let made : AddsOne (S c.args.home.now.channel) (S d) (RollbackPut c.args.txn false) (g.C.Channel.moment d) = subst (λ (b : Bool). AddsOne (S c.args.home.now.channel) (S d) (RollbackPut c.args.txn b) (g.C.Channel.moment d)) c.if-not-ended.true c.rollback_put-ended.ensures in
+    makes_none S g.C.Channel.tells c.args.by c.args.seat.now.me d
+    (c.requires.within.0, c.requires.within.1, c.requires.within.2, (stale_put S g.C.Channel.tells g.met.C.Channel.is_run c.args.home.now.channel d k.base k.seen c.args.txn (g.C.Channel.moment d) made c.requires.within.3).0)
+
+pub returns-then-not-ended-clause-stale : goal.returns-then-not-ended-clause-stale
+returns-then-not-ended-clause-stale g c =
+    let k = c.args.seat.now.me.0 in
+    let S = g.C.Channel.stands in
+    let d = c.rollback_put-ended.new.self in
+    let made : AddsOne (S c.args.home.now.channel) (S d) (RollbackPut c.args.txn false) (g.C.Channel.moment d) = subst (λ (b : Bool). AddsOne (S c.args.home.now.channel) (S d) (RollbackPut c.args.txn b) (g.C.Channel.moment d)) c.if-not-ended.true c.rollback_put-ended.ensures in
+    λ _. (stale_put S g.C.Channel.tells g.met.C.Channel.is_run c.args.home.now.channel d k.base k.seen c.args.txn (g.C.Channel.moment d) made c.requires.within.3).1
+
+pub returns-clause-makes : goal.returns-clause-makes
+returns-clause-makes g c =
+    let k = c.args.seat.now.me.0 in
+    let S = g.C.Channel.stands in
+    let d = c.rollback_put-ended.new.self in
+    let m = g.C.Channel.moment d in
+    let made : AddsOne (S c.args.home.now.channel) (S d) (RollbackPut c.args.txn true) m = subst (λ (b : Bool). AddsOne (S c.args.home.now.channel) (S d) (RollbackPut c.args.txn b) m) c.if-not-ended.false c.rollback_put-ended.ensures in
+    let same : Token = record { life = c.life-life.result; number = c.number-number.result } in
+    let is : same ≡ c.args.txn = (λ i. record { life = c.life-life.ensures i; number = c.number-number.ensures i }) in
+    makes_kept S g.C.Channel.tells (step c.args.by (RollbackPut c.args.txn true) m) c.args.seat.now.me c.count.new.seat.me c.args.home.now.channel d c.requires.within
+    (rolled_put S g.C.Channel.tells g.met.C.Channel.is_run c.args.home.now.channel d k.base k.seen c.args.by c.args.txn m made c.requires.within.3)
+    (subst (λ (t : Token). c.count.new.seat.me ≡ (counted (step c.args.by (RollbackPut t true) m) k, c.args.seat.now.me.1)) is c.count.ensures.call)
+    (subst (λ (t : Token). (v : View) (es : List Step) → Making v es k → has v.numbers c.args.by ≡ true → Making v (es ++ step c.args.by (RollbackPut t true) m ∷ []) c.count.new.seat.me.0) is c.count.ensures.making)

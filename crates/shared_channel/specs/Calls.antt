@@ -1,0 +1,105 @@
+-- What a call through a pass did.
+use Rattle.std.specs.Prelude.{◌≡◌, ◌<◌, ◌≤◌, ◌+◌, ◌-◌, ◌^◌, ℕ, List, [], ◌∷◌, ◌++◌, length, Bool, true, false, Option, None, Result, Err}
+use Rattle.atomic_table.specs.Table.{Me}
+use Rattle.channel_face.specs.Token.{Token}
+use Rattle.channel_face.specs.Machine.{State, Call}
+use Rattle.channel_face.specs.History.{Opening, Step, Said, opening, state_after, IsRun, by_pass, calls}
+use Rattle.channel_face.specs.Calls.{IsCommit}
+use Rattle.channel_face.specs.Faces.{is_spent_stage}
+use Rattle.channel_face.specs.declared.replies.Counter.TheVariants.{Calls as CallsCount}
+use Rattle.channel_face.specs.declared.replies.Ticket.{Ticket}
+use Rattle.channel_face.specs.declared.replies.StageCause.{StageCause}
+use Rattle.channel_face.specs.declared.replies.StageCause.TheVariants.{Spent}
+use Rattle.channel_face.specs.declared.replies.CommitRefused.{CommitRefused}
+use Rattle.channel_face.specs.declared.replies.CommitRefused.TheVariants.{Stage}
+use Rattle.turn_passes.specs.Calls.{has}
+use Rattle.turn_passes.specs.Views.{View}
+use Rattle.turn_passes.specs.Turns.{Making, Made}
+use Rattle.shared_channel.specs.Counting.{StandsCounting, Keeps}
+
+-- a call of the pass with this number
+abbrev pub step : ℕ → Call → ℕ → Step
+step by call moment = record { pass = by; call = call; moment = moment }
+
+-- the state that the pass has seen
+abbrev pub state_seen : View → State
+state_seen v = state_after (opening v.base) v.seen
+
+-- Nothing was called. What was seen may be more, and has no further call of one's own.
+abbrev pub Looked : View → View → Type 0
+Looked v w = Made v [] w
+
+-- The seat has no turn.
+abbrev pub IsOut : {S : Type 0} → Me S View → Type 0
+IsOut m = (m.0.turn ≡ false) × (m.1 ≡ []) × (m.0.live ≡ true)
+
+-- The seat has the turn, and took this channel out.
+abbrev pub IsIn : {S C : Type 0} → (C → Opening → List Step → Type 0) → Me (Option S) View → C → Type 0
+IsIn stands m c = (m.0.turn ≡ true) × (m.0.live ≡ true) × (m.1 ≡ (0, None) ∷ []) × Keeps stands c m.0.base m.0.seen
+
+-- the call, where it was made
+abbrev pub made_if : Bool → Step → List Step
+made_if true s = s ∷ []
+made_if false s = []
+
+-- A call that is spent was not made, since so many calls were counted.
+abbrev pub Bounds : Bool → ℕ → ℕ → Type 0
+Bounds true most calls = most ≤ calls
+Bounds false most calls = calls < most
+
+-- In its turn a seat made these calls with this number, and the channel is then this one.
+pub record Makes {S C : Type 0} (stands : C → Opening → List Step → Type 0) (by : ℕ) (calls : List Step) (m : Me (Option S) View) (d : C) (w : Me (Option S) View) : Type 0 where
+  pub within : IsIn stands w d
+  pub seen : w.0.seen ≡ m.0.seen ++ calls
+  pub numbers : w.0.numbers ≡ m.0.numbers
+  pub goes_on : (v : View) (es : List Step) → Making v es m.0 → has v.numbers by ≡ true → Making v (es ++ calls) w.0
+
+module _ {C : Type 0} (stands : C → Opening → List Step → Type 0) (tells : C → Bool) where
+  -- This channel stands for what was seen, of which each call was answered as the machine answers it there.
+  pub record IsSeen (c : C) (w : View) : Type 0 where
+    pub calls : StandsCounting stands c w.base w.seen
+    pub run : IsRun (tells c) (opening w.base) w.seen
+
+  -- The pass made these calls in one turn, and left the channel so.
+  pub record Left (v : View) (calls : List Step) (w : View) (c : C) : Type 0 where
+    pub made : Made v calls w
+    pub seen : IsSeen c w
+
+module _ {C : Type 0} (stands : C → Opening → List Step → Type 0) (tells : C → Bool) (moment : C → ℕ) where
+  -- it made this call
+  abbrev pub Called : View → ℕ → Call → View → Type 0
+  Called v by call w = (c : C) × Left stands tells v (step by call (moment c) ∷ []) w c
+
+  -- A call that is spent was not made, since so many calls were counted; each other one was, while they were fewer.
+  abbrev pub Counted : Bool → ℕ → View → ℕ → Call → View → Type 0
+  Counted true most v by call w = Looked v w × (most ≤ length w.seen)
+  Counted false most v by call w = Called v by call w × (length w.seen ≤ most)
+
+  -- so it is with a call that no rollback needs the count for
+  abbrev pub Answers : Bool → View → ℕ → Call → View → Type 0
+  Answers spent v by call w = Counted spent (2 ^ 64 - 1025) v by call w
+
+  -- A rollback was made, or its token was stale.
+  abbrev pub RolledBack : Bool → View → ℕ → Call → (State → Type 0) → View → Type 0
+  RolledBack true v by call IsStale w = Called v by call w
+  RolledBack false v by call IsStale w = Looked v w × IsStale (state_seen w)
+
+-- a commit that was refused because no more calls are counted
+abbrev pub is_spent_commit : Result Ticket (CommitRefused Token) → Bool
+is_spent_commit (Err (Stage refused)) = is_spent_stage (Err refused.cause)
+is_spent_commit reply = false
+
+-- In its turn a seat made a commit, or it was spent.
+abbrev pub MakesCommit : {S C : Type 0} → (C → Opening → List Step → Type 0) → Bool → ℕ → (Result Ticket StageCause → Call) → Token → Result Ticket (CommitRefused Token) → Me (Option S) View → C → Me (Option S) View → Type 0
+MakesCommit stands true by stage token result m d w = Makes stands by [] m d w × (2 ^ 64 - 1026 ≤ length m.0.seen) × (result ≡ Err (Stage (record { txn = token; cause = Spent CallsCount })))
+MakesCommit stands false by stage token result m d w = (own : List Said) × Makes stands by (by_pass by own) m d w × IsCommit stage token (calls own) result × (length m.0.seen < 2 ^ 64 - 1026)
+
+-- The commit's calls were made while so many fewer were counted. Where it is spent, none was made and the token comes back.
+abbrev pub Commits : {C : Type 0} → (C → Opening → List Step → Type 0) → (C → Bool) → Bool → View → ℕ → (Result Ticket StageCause → Call) → Token → Result Ticket (CommitRefused Token) → View → Type 0
+Commits stands tells true v by stage token result w = Looked v w × (2 ^ 64 - 1026 ≤ length w.seen) × (result ≡ Err (Stage (record { txn = token; cause = Spent CallsCount })))
+Commits stands tells false v by stage token result w =
+    (own : List Said) × (c : _) × Left stands tells v (by_pass by own) w c × IsCommit stage token (calls own) result × (length w.seen < 2 ^ 64 - 1026 + length own)
+
+-- What the channel was seen to be: nothing was called, and it stands for all that is seen.
+abbrev pub Looks : {C : Type 0} → (C → Opening → List Step → Type 0) → (C → Bool) → View → View → Type 0
+Looks stands tells v w = (c : _) × Left stands tells v [] w c

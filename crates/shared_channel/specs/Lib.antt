@@ -1,0 +1,4 @@
+pub mod Counting
+pub mod Passes
+pub mod Calls
+pub mod Ports

@@ -1,0 +1,128 @@
+// Whole transactions through a pass. Staging and settling are turns of their own, so that one flush may settle what several
+// callers staged.
+ghost use Rattle.std.specs.Prelude.{◌≡◌, ◌<◌, All, length};
+ghost use Rattle.channel_face.specs.Faces.{picked_events, ArePutUpTo, IsPutStage, IsPutBatch, IsTakeCommit};
+ghost use Rattle.shared_channel.specs.Ports.{Goes, Saw, Settles};
+
+use crate::pass::Pass;
+use crate::shared::Shared;
+use atomic_table::Badge;
+use channel_face::{Channel, FaceRefused, PutRefused, PutTxn, StageRefused, TakeTxn, Ticket};
+use event_core::Batch;
+use std::mem;
+use std::sync::Wait;
+
+impl<C: Channel> Shared<C> {
+    // In one turn: flushes where the ticket is not settled, and answers whether it then is.
+    fn settle<R: Wait>(&self, rt: &R, pass: &mut Pass, ticket: &Ticket) -> bool
+        requires table { pass.old.table_id ≡ self.now.turn.table.shared.table_id }
+        ensures same { (pass.new.table_id ≡ pass.old.table_id) × (pass.new.number ≡ pass.old.number) }
+        ensures settles { Settles pass.old.view pass.new.view ticket.now result }
+    {
+        let badge = mem::replace(&mut pass.badge, Badge::blank());
+        let mut seat = badge.into_seat();
+        let (mut home, calls) = self.enter(rt, &mut seat);
+        let sure = self.make_settled(&mut seat, &mut home, calls, pass.number, ticket);
+        pass.calls = self.leave(&mut seat, home);
+        pass.badge = seat.into_badge();
+        sure
+    }
+
+    // Stages the puts and settles them.
+    fn finish_puts<R: Wait>(&self, rt: &R, pass: &mut Pass, txn: PutTxn) -> Result<u64, FaceRefused>
+        requires table { pass.old.table_id ≡ self.now.turn.table.shared.table_id }
+        ensures same { (pass.new.table_id ≡ pass.old.table_id) × (pass.new.number ≡ pass.old.number) }
+        ensures calls { Goes pass.old.view pass.new.view (IsPutStage (Saw pass.new.view) (length pass.new.view.seen) txn result) }
+    {
+        match self.stage_put(rt, pass, txn) {
+            Ok(ticket) => {
+                if self.settle(rt, pass, &ticket) {
+                    Ok(ticket.first)
+                } else {
+                    Err(FaceRefused::InDoubt)
+                }
+            }
+            Err(refused) => {
+                let StageRefused { txn, cause } = refused;
+                self.rollback_put(rt, pass, txn);
+                Err(FaceRefused::Stage(cause))
+            }
+        }
+    }
+
+    // Puts the events at these places, up to the first refusal.
+    fn put_picked<R: Wait>(
+        &self,
+        rt: &R,
+        pass: &mut Pass,
+        txn: &mut PutTxn,
+        batch: &Batch,
+        picked: &[u32],
+    ) -> Result<(), PutRefused>
+        requires table { pass.old.table_id ≡ self.now.turn.table.shared.table_id }
+        requires places { All (λ place. place < length batch.now) picked.now }
+        ensures same { (pass.new.table_id ≡ pass.old.table_id) × (pass.new.number ≡ pass.old.number) }
+        ensures puts { Goes pass.old.view pass.new.view (ArePutUpTo (length pass.new.view.seen) txn.old (picked_events batch.now picked.now) result) }
+        ensures token { txn.new ≡ txn.old }
+    {
+        for place in picked {
+            if let Err(refused) = self.put(rt, pass, txn, batch.get(*place as usize)) {
+                return Err(refused);
+            }
+        }
+        Ok(())
+    }
+
+    // Puts the events at these places, in order, as one transaction, and answers the number of its first event.
+    pub(crate) fn put_batch<R: Wait>(
+        &self,
+        rt: &R,
+        pass: &mut Pass,
+        batch: &Batch,
+        picked: &[u32],
+    ) -> Result<u64, FaceRefused>
+        requires table { pass.old.table_id ≡ self.now.turn.table.shared.table_id }
+        requires places { All (λ place. place < length batch.now) picked.now }
+        ensures same { (pass.new.table_id ≡ pass.old.table_id) × (pass.new.number ≡ pass.old.number) }
+        ensures calls { Goes pass.old.view pass.new.view (IsPutBatch (Saw pass.new.view) (length pass.new.view.seen) (picked_events batch.now picked.now) result) }
+    {
+        let mut txn = match self.begin_put(rt, pass) {
+            Ok(txn) => txn,
+            Err(refused) => return Err(FaceRefused::Begin(refused)),
+        };
+        match self.put_picked(rt, pass, &mut txn, batch, picked) {
+            Ok(()) => self.finish_puts(rt, pass, txn),
+            Err(refused) => {
+                self.rollback_put(rt, pass, txn);
+                Err(FaceRefused::Put(refused))
+            }
+        }
+    }
+
+    // Stages the takes and settles them.
+    pub(crate) fn finish_takes<R: Wait>(
+        &self,
+        rt: &R,
+        pass: &mut Pass,
+        txn: TakeTxn,
+    ) -> Result<(), FaceRefused>
+        requires table { pass.old.table_id ≡ self.now.turn.table.shared.table_id }
+        ensures same { (pass.new.table_id ≡ pass.old.table_id) × (pass.new.number ≡ pass.old.number) }
+        ensures calls { Goes pass.old.view pass.new.view (IsTakeCommit (Saw pass.new.view) (length pass.new.view.seen) txn result) }
+    {
+        match self.stage_take(rt, pass, txn) {
+            Ok(ticket) => {
+                if self.settle(rt, pass, &ticket) {
+                    Ok(())
+                } else {
+                    Err(FaceRefused::InDoubt)
+                }
+            }
+            Err(refused) => {
+                let StageRefused { txn, cause } = refused;
+                self.rollback_take(rt, pass, txn);
+                Err(FaceRefused::Stage(cause))
+            }
+        }
+    }
+}

@@ -1,0 +1,17 @@
+//! A channel that threads share: any channel behind one turn, many callers, one legal history.
+#![tactic(auto)]
+
+mod group;
+mod home;
+mod looks;
+mod making;
+mod pass;
+mod port;
+mod puts;
+mod shared;
+mod takes;
+
+pub use looks::Look;
+pub use pass::{Closed, Pass, Unshared};
+pub use port::Port;
+pub use shared::Shared;

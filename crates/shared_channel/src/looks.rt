@@ -1,0 +1,119 @@
+// Reading calls through a pass. They answer of a state not older than what the pass had seen, and are not counted.
+ghost use Rattle.std.specs.Prelude.{◌≡◌, length};
+ghost use Rattle.channel_face.specs.Counters.{counts_of};
+ghost use Rattle.channel_face.specs.Machine.{settled};
+ghost use Rattle.shared_channel.specs.Calls.{Looks, state_seen};
+
+use crate::pass::Pass;
+use crate::shared::Shared;
+use atomic_table::Badge;
+use channel_face::{Channel, Counts, Settled, Ticket};
+use std::mem;
+use std::sync::Wait;
+
+/// What is counted of a channel, and whether it is broken.
+#[derive(Clone, Copy, Debug, PartialEq, Eq)]
+pub struct Look {
+    pub counts: Counts,
+    pub broken: bool,
+}
+
+impl<C: Channel> Shared<C> {
+    /// Whether what the ticket stands for is settled, as [`Channel::settled`].
+    pub fn settled<R: Wait>(&self, rt: &R, pass: &mut Pass, ticket: &Ticket) -> Settled
+        requires { pass.old.table_id ≡ self.now.turn.table.shared.table_id }
+        ensures same { (pass.new.table_id ≡ pass.old.table_id) × (pass.new.number ≡ pass.old.number) }
+        ensures look { Looks C.stands C.tells pass.old.view pass.new.view }
+        ensures answer { result ≡ settled (state_seen pass.new.view) ticket.now }
+    {
+        let badge = mem::replace(&mut pass.badge, Badge::blank());
+        let mut seat = badge.into_seat();
+        let (home, _) = self.enter(rt, &mut seat);
+        let answer = home.channel.settled(ticket);
+        pass.calls = self.leave(&mut seat, home);
+        pass.badge = seat.into_badge();
+        answer
+    }
+
+    /// How many events are left.
+    pub fn size<R: Wait>(&self, rt: &R, pass: &mut Pass) -> u64
+        requires { pass.old.table_id ≡ self.now.turn.table.shared.table_id }
+        ensures same { (pass.new.table_id ≡ pass.old.table_id) × (pass.new.number ≡ pass.old.number) }
+        ensures look { Looks C.stands C.tells pass.old.view pass.new.view }
+        ensures answer { result ≡ length (state_seen pass.new.view).items }
+    {
+        let badge = mem::replace(&mut pass.badge, Badge::blank());
+        let mut seat = badge.into_seat();
+        let (home, _) = self.enter(rt, &mut seat);
+        let answer = home.channel.size();
+        pass.calls = self.leave(&mut seat, home);
+        pass.badge = seat.into_badge();
+        answer
+    }
+
+    /// The most events.
+    pub fn capacity<R: Wait>(&self, rt: &R, pass: &mut Pass) -> u64
+        requires { pass.old.table_id ≡ self.now.turn.table.shared.table_id }
+        ensures same { (pass.new.table_id ≡ pass.old.table_id) × (pass.new.number ≡ pass.old.number) }
+        ensures look { Looks C.stands C.tells pass.old.view pass.new.view }
+        ensures answer { result ≡ (state_seen pass.new.view).rules.limits.capacity }
+    {
+        let badge = mem::replace(&mut pass.badge, Badge::blank());
+        let mut seat = badge.into_seat();
+        let (home, _) = self.enter(rt, &mut seat);
+        let answer = home.channel.capacity();
+        pass.calls = self.leave(&mut seat, home);
+        pass.badge = seat.into_badge();
+        answer
+    }
+
+    /// Whether the channel is broken until it is reopened.
+    pub fn is_broken<R: Wait>(&self, rt: &R, pass: &mut Pass) -> bool
+        requires { pass.old.table_id ≡ self.now.turn.table.shared.table_id }
+        ensures same { (pass.new.table_id ≡ pass.old.table_id) × (pass.new.number ≡ pass.old.number) }
+        ensures look { Looks C.stands C.tells pass.old.view pass.new.view }
+        ensures answer { result ≡ (state_seen pass.new.view).broken }
+    {
+        let badge = mem::replace(&mut pass.badge, Badge::blank());
+        let mut seat = badge.into_seat();
+        let (home, _) = self.enter(rt, &mut seat);
+        let answer = home.channel.is_broken();
+        pass.calls = self.leave(&mut seat, home);
+        pass.badge = seat.into_badge();
+        answer
+    }
+
+    /// What is counted since the channel was opened or made.
+    pub fn counts<R: Wait>(&self, rt: &R, pass: &mut Pass) -> Counts
+        requires { pass.old.table_id ≡ self.now.turn.table.shared.table_id }
+        ensures same { (pass.new.table_id ≡ pass.old.table_id) × (pass.new.number ≡ pass.old.number) }
+        ensures look { Looks C.stands C.tells pass.old.view pass.new.view }
+        ensures answer { result ≡ counts_of pass.new.view.base pass.new.view.seen }
+    {
+        let badge = mem::replace(&mut pass.badge, Badge::blank());
+        let mut seat = badge.into_seat();
+        let (home, _) = self.enter(rt, &mut seat);
+        let answer = home.channel.counts();
+        pass.calls = self.leave(&mut seat, home);
+        pass.badge = seat.into_badge();
+        answer
+    }
+
+    /// What is counted, and whether the channel is broken, of one state.
+    pub fn look<R: Wait>(&self, rt: &R, pass: &mut Pass) -> Look
+        requires { pass.old.table_id ≡ self.now.turn.table.shared.table_id }
+        ensures same { (pass.new.table_id ≡ pass.old.table_id) × (pass.new.number ≡ pass.old.number) }
+        ensures look { Looks C.stands C.tells pass.old.view pass.new.view }
+        ensures counts { result.counts ≡ counts_of pass.new.view.base pass.new.view.seen }
+        ensures broken { result.broken ≡ (state_seen pass.new.view).broken }
+    {
+        let badge = mem::replace(&mut pass.badge, Badge::blank());
+        let mut seat = badge.into_seat();
+        let (home, _) = self.enter(rt, &mut seat);
+        let counts = home.channel.counts();
+        let broken = home.channel.is_broken();
+        pass.calls = self.leave(&mut seat, home);
+        pass.badge = seat.into_badge();
+        Look { counts, broken }
+    }
+}

@@ -1,0 +1,112 @@
+// A pass beside its channel and its runtime.
+ghost use Rattle.std.specs.Prelude.{◌≡◌, ◌<◌, ◌≤◌, All, length};
+ghost use Rattle.channel_face.specs.Faces.{Gains, picked_events, IsPutBatch, IsTakeBegun, IsTake, IsTakeCommit, IsTakeRolledBack};
+ghost use Rattle.shared_channel.specs.Ports.{AreOwned, Saw};
+
+use crate::pass::Pass;
+use crate::shared::Shared;
+use channel_face::{Channel, FaceRefused, PutFace, TakeFace, TakeTxn};
+use event_core::{Batch, Event};
+use std::sync::Wait;
+
+/// What a source or a sink has of a shared channel. Each call of a transaction is a turn of its own; a staged transaction is
+/// settled in a further turn, where a flush of another caller may have settled it already.
+pub struct Port<'a, R, C: Channel> {
+    rt: &'a R,
+    shared: &'a Shared<C>,
+    pub pass: Pass,
+    ghost same: { pass.table_id ≡ shared.now.turn.table.shared.table_id },
+}
+
+impl<'a, R: Wait, C: Channel> Port<'a, R, C> {
+    /// A port with this pass.
+    pub fn new(rt: &'a R, shared: &'a Shared<C>, pass: Pass) -> Port<'a, R, C>
+        requires { pass.table_id ≡ shared.now.turn.table.shared.table_id }
+        ensures { result.pass ≡ pass }
+    {
+        Port { rt, shared, pass }
+    }
+
+    /// The pass.
+    pub fn give_back(self) -> Pass
+        ensures { result ≡ self.entry.pass }
+    {
+        let Port {
+            rt: _,
+            shared: _,
+            pass,
+        } = self;
+        pass
+    }
+}
+
+impl<'a, R: Wait, C: Channel> PutFace for Port<'a, R, C> {
+    ghost use Rattle.std.specs.Prelude.{length};
+    ghost use Rattle.shared_channel.specs.Ports.{AreOwned, Saw};
+
+    ghost own = { λ p. AreOwned p.pass.view };
+
+    ghost saw = { λ p. Saw p.pass.view };
+
+    ghost seen = { λ p. length p.pass.view.seen };
+
+    fn put_batch(&mut self, batch: &Batch, picked: &[u32]) -> Result<u64, FaceRefused>
+        requires { All (λ place. place < length batch.now) picked.now }
+        ensures seen { length self.old.pass.view.seen ≤ length self.new.pass.view.seen }
+        ensures calls { Gains (AreOwned self.old.pass.view) (AreOwned self.new.pass.view) (IsPutBatch (Saw self.new.pass.view) (length self.new.pass.view.seen) (picked_events batch.now picked.now) result) }
+        ensures same { (self.new.pass.table_id ≡ self.old.pass.table_id) × (self.new.pass.number ≡ self.old.pass.number) }
+    {
+        self.shared
+            .put_batch(self.rt, &mut self.pass, batch, picked)
+    }
+}
+
+impl<'a, R: Wait, C: Channel> TakeFace for Port<'a, R, C> {
+    ghost use Rattle.std.specs.Prelude.{length};
+    ghost use Rattle.shared_channel.specs.Ports.{AreOwned, Saw};
+
+    ghost own = { λ p. AreOwned p.pass.view };
+
+    ghost saw = { λ p. Saw p.pass.view };
+
+    ghost seen = { λ p. length p.pass.view.seen };
+
+    fn begin(&mut self) -> Result<TakeTxn, FaceRefused>
+        ensures seen { length self.old.pass.view.seen ≤ length self.new.pass.view.seen }
+        ensures calls { Gains (AreOwned self.old.pass.view) (AreOwned self.new.pass.view) (IsTakeBegun (length self.new.pass.view.seen) result) }
+        ensures same { (self.new.pass.table_id ≡ self.old.pass.table_id) × (self.new.pass.number ≡ self.old.pass.number) }
+    {
+        match self.shared.begin_take(self.rt, &mut self.pass) {
+            Ok(txn) => Ok(txn),
+            Err(refused) => Err(FaceRefused::Begin(refused)),
+        }
+    }
+
+    fn take(&mut self, txn: &mut TakeTxn) -> Result<Option<Event>, FaceRefused>
+        ensures seen { length self.old.pass.view.seen ≤ length self.new.pass.view.seen }
+        ensures calls { Gains (AreOwned self.old.pass.view) (AreOwned self.new.pass.view) (IsTake (length self.new.pass.view.seen) txn.old result) }
+        ensures token { txn.new ≡ txn.old }
+        ensures same { (self.new.pass.table_id ≡ self.old.pass.table_id) × (self.new.pass.number ≡ self.old.pass.number) }
+    {
+        match self.shared.take(self.rt, &mut self.pass, txn) {
+            Ok(taken) => Ok(taken.event),
+            Err(refused) => Err(FaceRefused::Take(refused)),
+        }
+    }
+
+    fn commit(&mut self, txn: TakeTxn) -> Result<(), FaceRefused>
+        ensures seen { length self.old.pass.view.seen ≤ length self.new.pass.view.seen }
+        ensures calls { Gains (AreOwned self.old.pass.view) (AreOwned self.new.pass.view) (IsTakeCommit (Saw self.new.pass.view) (length self.new.pass.view.seen) txn result) }
+        ensures same { (self.new.pass.table_id ≡ self.old.pass.table_id) × (self.new.pass.number ≡ self.old.pass.number) }
+    {
+        self.shared.finish_takes(self.rt, &mut self.pass, txn)
+    }
+
+    fn rollback(&mut self, txn: TakeTxn)
+        ensures seen { length self.old.pass.view.seen ≤ length self.new.pass.view.seen }
+        ensures calls { Gains (AreOwned self.old.pass.view) (AreOwned self.new.pass.view) (IsTakeRolledBack (Saw self.new.pass.view) txn) }
+        ensures same { (self.new.pass.table_id ≡ self.old.pass.table_id) × (self.new.pass.number ≡ self.old.pass.number) }
+    {
+        self.shared.rollback_take(self.rt, &mut self.pass, txn);
+    }
+}

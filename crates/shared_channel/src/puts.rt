@@ -1,0 +1,128 @@
+// Transactions of puts through a pass.
+ghost use Rattle.std.specs.Prelude.{◌≡◌, IfErr, None, true};
+ghost use Rattle.channel_face.specs.Calls.{cause_of};
+ghost use Rattle.channel_face.specs.Faces.{is_spent_begin, is_spent_put, is_spent_stage, is_spent_flush};
+ghost use Rattle.channel_face.specs.Machine.{BeginPut, Put, StagePut, Flush, RollbackPut, puts_of};
+ghost use Rattle.shared_channel.specs.Calls.{Answers, RolledBack, Commits, is_spent_commit};
+
+use crate::pass::Pass;
+use crate::shared::Shared;
+use atomic_table::Badge;
+use channel_face::{
+    BeginRefused, Channel, CommitRefused, FlushRefused, PutRefused, PutTxn, StageRefused, Ticket,
+};
+use event_core::Event;
+use std::mem;
+use std::sync::Wait;
+
+impl<C: Channel> Shared<C> {
+    /// Begins a transaction of puts, as [`Channel::begin_put`], or is refused as `Spent` of `Counter::Calls`.
+    pub fn begin_put<R: Wait>(&self, rt: &R, pass: &mut Pass) -> Result<PutTxn, BeginRefused>
+        requires { pass.old.table_id ≡ self.now.turn.table.shared.table_id }
+        ensures same { (pass.new.table_id ≡ pass.old.table_id) × (pass.new.number ≡ pass.old.number) }
+        ensures call { Answers C.stands C.tells C.moment (is_spent_begin result) pass.old.view pass.old.number (BeginPut result) pass.new.view }
+    {
+        let badge = mem::replace(&mut pass.badge, Badge::blank());
+        let mut seat = badge.into_seat();
+        let (mut home, calls) = self.enter(rt, &mut seat);
+        let reply = self.make_begin_put(&mut seat, &mut home, calls, pass.number);
+        pass.calls = self.leave(&mut seat, home);
+        pass.badge = seat.into_badge();
+        reply
+    }
+
+    /// Puts an event, as [`Channel::put`], or is refused as `Spent` of `Counter::Calls`.
+    pub fn put<R: Wait>(
+        &self,
+        rt: &R,
+        pass: &mut Pass,
+        txn: &mut PutTxn,
+        event: &Event,
+    ) -> Result<channel_face::Put, PutRefused>
+        requires { pass.old.table_id ≡ self.now.turn.table.shared.table_id }
+        ensures same { (pass.new.table_id ≡ pass.old.table_id) × (pass.new.number ≡ pass.old.number) }
+        ensures call { Answers C.stands C.tells C.moment (is_spent_put result) pass.old.view pass.old.number (Put txn.old event.now result) pass.new.view }
+        ensures token { txn.new ≡ txn.old }
+    {
+        let badge = mem::replace(&mut pass.badge, Badge::blank());
+        let mut seat = badge.into_seat();
+        let (mut home, calls) = self.enter(rt, &mut seat);
+        let reply = self.make_put(&mut seat, &mut home, calls, pass.number, txn, event);
+        pass.calls = self.leave(&mut seat, home);
+        pass.badge = seat.into_badge();
+        reply
+    }
+
+    /// Stages a transaction of puts, as [`Channel::stage_put`], or is refused as `Spent` of `Counter::Calls`.
+    pub fn stage_put<R: Wait>(
+        &self,
+        rt: &R,
+        pass: &mut Pass,
+        txn: PutTxn,
+    ) -> Result<Ticket, StageRefused<PutTxn>>
+        requires { pass.old.table_id ≡ self.now.turn.table.shared.table_id }
+        ensures same { (pass.new.table_id ≡ pass.old.table_id) × (pass.new.number ≡ pass.old.number) }
+        ensures call { Answers C.stands C.tells C.moment (is_spent_stage (cause_of result)) pass.old.view pass.old.number (StagePut txn (cause_of result)) pass.new.view }
+        ensures back { IfErr result (λ refused. refused.txn ≡ txn) }
+    {
+        let badge = mem::replace(&mut pass.badge, Badge::blank());
+        let mut seat = badge.into_seat();
+        let (mut home, calls) = self.enter(rt, &mut seat);
+        let reply = self.make_stage_put(&mut seat, &mut home, calls, pass.number, txn);
+        pass.calls = self.leave(&mut seat, home);
+        pass.badge = seat.into_badge();
+        reply
+    }
+
+    /// Settles all that is staged, as [`Channel::flush`], or is refused as `Spent` of `Counter::Calls`.
+    pub fn flush<R: Wait>(&self, rt: &R, pass: &mut Pass) -> Result<(), FlushRefused>
+        requires { pass.old.table_id ≡ self.now.turn.table.shared.table_id }
+        ensures same { (pass.new.table_id ≡ pass.old.table_id) × (pass.new.number ≡ pass.old.number) }
+        ensures call { Answers C.stands C.tells C.moment (is_spent_flush result) pass.old.view pass.old.number (Flush result) pass.new.view }
+    {
+        let badge = mem::replace(&mut pass.badge, Badge::blank());
+        let mut seat = badge.into_seat();
+        let (mut home, calls) = self.enter(rt, &mut seat);
+        let reply = self.make_flush(&mut seat, &mut home, calls, pass.number);
+        pass.calls = self.leave(&mut seat, home);
+        pass.badge = seat.into_badge();
+        reply
+    }
+
+    /// Stages a transaction of puts and flushes, in one turn, as [`Channel::commit_put`], or is refused as `Spent` of
+    /// `Counter::Calls`.
+    pub fn commit_put<R: Wait>(
+        &self,
+        rt: &R,
+        pass: &mut Pass,
+        txn: PutTxn,
+    ) -> Result<Ticket, CommitRefused<PutTxn>>
+        requires { pass.old.table_id ≡ self.now.turn.table.shared.table_id }
+        ensures same { (pass.new.table_id ≡ pass.old.table_id) × (pass.new.number ≡ pass.old.number) }
+        ensures call { Commits C.stands C.tells (is_spent_commit result) pass.old.view pass.old.number (StagePut txn) txn result pass.new.view }
+    {
+        let badge = mem::replace(&mut pass.badge, Badge::blank());
+        let mut seat = badge.into_seat();
+        let (mut home, calls) = self.enter(rt, &mut seat);
+        let reply = self.make_commit_put(&mut seat, &mut home, calls, pass.number, txn);
+        pass.calls = self.leave(&mut seat, home);
+        pass.badge = seat.into_badge();
+        reply
+    }
+
+    /// Gives a transaction of puts up, as [`Channel::rollback_put`]. It is never refused. A rollback of a stale token is not
+    /// counted.
+    pub fn rollback_put<R: Wait>(&self, rt: &R, pass: &mut Pass, txn: PutTxn) -> bool
+        requires { pass.old.table_id ≡ self.now.turn.table.shared.table_id }
+        ensures same { (pass.new.table_id ≡ pass.old.table_id) × (pass.new.number ≡ pass.old.number) }
+        ensures call { RolledBack C.stands C.tells C.moment result pass.old.view pass.old.number (RollbackPut txn true) (λ s. puts_of s txn ≡ None) pass.new.view }
+    {
+        let badge = mem::replace(&mut pass.badge, Badge::blank());
+        let mut seat = badge.into_seat();
+        let (mut home, _) = self.enter(rt, &mut seat);
+        let ended = self.make_rollback_put(&mut seat, &mut home, pass.number, txn);
+        pass.calls = self.leave(&mut seat, home);
+        pass.badge = seat.into_badge();
+        ended
+    }
+}

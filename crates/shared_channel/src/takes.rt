@@ -1,0 +1,111 @@
+// Transactions of takes through a pass.
+ghost use Rattle.std.specs.Prelude.{◌≡◌, IfErr, None, true};
+ghost use Rattle.channel_face.specs.Calls.{cause_of};
+ghost use Rattle.channel_face.specs.Faces.{is_spent_begin, is_spent_take, is_spent_stage};
+ghost use Rattle.channel_face.specs.Machine.{BeginTake, Take, StageTake, RollbackTake, takes_of};
+ghost use Rattle.shared_channel.specs.Calls.{Answers, RolledBack, Commits, is_spent_commit};
+
+use crate::pass::Pass;
+use crate::shared::Shared;
+use atomic_table::Badge;
+use channel_face::{
+    BeginRefused, Channel, CommitRefused, StageRefused, TakeRefused, TakeTxn, Taken, Ticket,
+};
+use std::mem;
+use std::sync::Wait;
+
+impl<C: Channel> Shared<C> {
+    /// Begins a transaction of takes, as [`Channel::begin_take`], or is refused as `Spent` of `Counter::Calls`.
+    pub fn begin_take<R: Wait>(&self, rt: &R, pass: &mut Pass) -> Result<TakeTxn, BeginRefused>
+        requires { pass.old.table_id ≡ self.now.turn.table.shared.table_id }
+        ensures same { (pass.new.table_id ≡ pass.old.table_id) × (pass.new.number ≡ pass.old.number) }
+        ensures call { Answers C.stands C.tells C.moment (is_spent_begin result) pass.old.view pass.old.number (BeginTake result) pass.new.view }
+    {
+        let badge = mem::replace(&mut pass.badge, Badge::blank());
+        let mut seat = badge.into_seat();
+        let (mut home, calls) = self.enter(rt, &mut seat);
+        let reply = self.make_begin_take(&mut seat, &mut home, calls, pass.number);
+        pass.calls = self.leave(&mut seat, home);
+        pass.badge = seat.into_badge();
+        reply
+    }
+
+    /// Takes an event, as [`Channel::take`], or is refused as `Spent` of `Counter::Calls`.
+    pub fn take<R: Wait>(
+        &self,
+        rt: &R,
+        pass: &mut Pass,
+        txn: &mut TakeTxn,
+    ) -> Result<Taken, TakeRefused>
+        requires { pass.old.table_id ≡ self.now.turn.table.shared.table_id }
+        ensures same { (pass.new.table_id ≡ pass.old.table_id) × (pass.new.number ≡ pass.old.number) }
+        ensures call { Answers C.stands C.tells C.moment (is_spent_take result) pass.old.view pass.old.number (Take txn.old result) pass.new.view }
+        ensures token { txn.new ≡ txn.old }
+    {
+        let badge = mem::replace(&mut pass.badge, Badge::blank());
+        let mut seat = badge.into_seat();
+        let (mut home, calls) = self.enter(rt, &mut seat);
+        let reply = self.make_take(&mut seat, &mut home, calls, pass.number, txn);
+        pass.calls = self.leave(&mut seat, home);
+        pass.badge = seat.into_badge();
+        reply
+    }
+
+    /// Stages a transaction of takes, as [`Channel::stage_take`], or is refused as `Spent` of `Counter::Calls`.
+    pub fn stage_take<R: Wait>(
+        &self,
+        rt: &R,
+        pass: &mut Pass,
+        txn: TakeTxn,
+    ) -> Result<Ticket, StageRefused<TakeTxn>>
+        requires { pass.old.table_id ≡ self.now.turn.table.shared.table_id }
+        ensures same { (pass.new.table_id ≡ pass.old.table_id) × (pass.new.number ≡ pass.old.number) }
+        ensures call { Answers C.stands C.tells C.moment (is_spent_stage (cause_of result)) pass.old.view pass.old.number (StageTake txn (cause_of result)) pass.new.view }
+        ensures back { IfErr result (λ refused. refused.txn ≡ txn) }
+    {
+        let badge = mem::replace(&mut pass.badge, Badge::blank());
+        let mut seat = badge.into_seat();
+        let (mut home, calls) = self.enter(rt, &mut seat);
+        let reply = self.make_stage_take(&mut seat, &mut home, calls, pass.number, txn);
+        pass.calls = self.leave(&mut seat, home);
+        pass.badge = seat.into_badge();
+        reply
+    }
+
+    /// Stages a transaction of takes and flushes, in one turn, as [`Channel::commit_take`], or is refused as `Spent` of
+    /// `Counter::Calls`.
+    pub fn commit_take<R: Wait>(
+        &self,
+        rt: &R,
+        pass: &mut Pass,
+        txn: TakeTxn,
+    ) -> Result<Ticket, CommitRefused<TakeTxn>>
+        requires { pass.old.table_id ≡ self.now.turn.table.shared.table_id }
+        ensures same { (pass.new.table_id ≡ pass.old.table_id) × (pass.new.number ≡ pass.old.number) }
+        ensures call { Commits C.stands C.tells (is_spent_commit result) pass.old.view pass.old.number (StageTake txn) txn result pass.new.view }
+    {
+        let badge = mem::replace(&mut pass.badge, Badge::blank());
+        let mut seat = badge.into_seat();
+        let (mut home, calls) = self.enter(rt, &mut seat);
+        let reply = self.make_commit_take(&mut seat, &mut home, calls, pass.number, txn);
+        pass.calls = self.leave(&mut seat, home);
+        pass.badge = seat.into_badge();
+        reply
+    }
+
+    /// Gives a transaction of takes up, as [`Channel::rollback_take`]. It is never refused. A rollback of a stale token is not
+    /// counted.
+    pub fn rollback_take<R: Wait>(&self, rt: &R, pass: &mut Pass, txn: TakeTxn) -> bool
+        requires { pass.old.table_id ≡ self.now.turn.table.shared.table_id }
+        ensures same { (pass.new.table_id ≡ pass.old.table_id) × (pass.new.number ≡ pass.old.number) }
+        ensures call { RolledBack C.stands C.tells C.moment result pass.old.view pass.old.number (RollbackTake txn true) (λ s. takes_of s txn ≡ None) pass.new.view }
+    {
+        let badge = mem::replace(&mut pass.badge, Badge::blank());
+        let mut seat = badge.into_seat();
+        let (mut home, _) = self.enter(rt, &mut seat);
+        let ended = self.make_rollback_take(&mut seat, &mut home, pass.number, txn);
+        pass.calls = self.leave(&mut seat, home);
+        pass.badge = seat.into_badge();
+        ended
+    }
+}

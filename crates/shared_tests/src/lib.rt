@@ -1,0 +1,12 @@
+//! Tests of channels that threads share: what comes back of many calls, staged transactions that one flush settles, passes,
+//! and a call that a lost disk refuses.
+#![tactic(auto)]
+
+#[cfg(test)]
+mod many;
+#[cfg(test)]
+mod opened;
+#[cfg(test)]
+mod staged;
+#[cfg(test)]
+mod work;

@@ -1,0 +1,99 @@
+// Channels that have made no call, shared.
+ghost use Rattle.std.specs.Prelude.{◌≡◌, ◌<◌, [], All, IfSome};
+ghost use Rattle.channel_face.specs.History.{Opening};
+ghost use Rattle.file_channel.specs.Stands.{StandsOver};
+
+use channel_face::{Channel, Kind, Limits};
+use file_channel::{FileChannel, OpenRefused, open_channel};
+use flume_host::{Disk, Steps};
+use host_memory::MemDisk;
+use memory_channel::MemoryChannel;
+use shared_channel::{Pass, Shared};
+use std::alloc::Global;
+use std::marker::Brand;
+use std::snapshot::Snapshot;
+use std::sync::ledger::{Blank, Ledger};
+use txn_core::Machine;
+
+const LIMITS: Limits = Limits {
+    capacity: 100_000,
+    txn_capacity: 1000,
+    max_file: 1_000_000,
+};
+
+pub type Opened<C> = Option<(Shared<C>, Vec<Pass>)>;
+
+// Shares a channel that stands for an opening.
+fn share<C: Channel + Drop>(alloc: Global, channel: C, passes: u32) -> Opened<C>
+    ghost start: { Opening }
+    requires { C.stands channel start [] }
+    ensures { IfSome result (λ r. All (λ p. p.table_id ≡ r.0.turn.table.shared.table_id) r.1.items) }
+{
+    match Shared::new(alloc, channel, passes) {
+        Ok(opened) => Some(opened),
+        Err(_) => None,
+    }
+}
+
+// The plain channel.
+pub fn plain(alloc: Global, passes: u32) -> Opened<Machine>
+    ensures { IfSome result (λ r. All (λ p. p.table_id ≡ r.0.turn.table.shared.table_id) r.1.items) }
+{
+    match Machine::new(alloc, LIMITS, Kind::File) {
+        Ok(machine) => share(alloc, machine, passes),
+        Err(_) => None,
+    }
+}
+
+// One in memory.
+pub fn in_memory(alloc: Global, passes: u32) -> Opened<MemoryChannel>
+    ensures { IfSome result (λ r. All (λ p. p.table_id ≡ r.0.turn.table.shared.table_id) r.1.items) }
+{
+    match MemoryChannel::new(alloc, LIMITS) {
+        Ok(channel) => share(alloc, channel, passes),
+        Err(_) => None,
+    }
+}
+
+// Shares a channel that was opened in a folder that was so before.
+fn share_opened<D: Disk + Drop>(
+    alloc: Global,
+    channel: FileChannel<D>,
+    before: Snapshot<D>,
+    limits: Limits,
+    passes: u32,
+) -> Opened<FileChannel<D>>
+    ghost start: { Opening }
+    requires { StandsOver (D.told channel.0) (D.faults channel.0) channel.1 start [] }
+    ensures { IfSome result (λ r. All (λ p. p.table_id ≡ r.0.turn.table.shared.table_id) r.1.items) }
+{
+    let _ = before;
+    let _ = limits;
+    share(alloc, channel, passes)
+}
+
+fn on_disk_by<D: Disk + Drop, L: Ledger>(
+    alloc: Global,
+    blank: Blank,
+    disk: D,
+    passes: u32,
+) -> Opened<FileChannel<D>>
+    requires name { blank.name ≡ L.name }
+    requires parts { blank.parts ≡ L.parts }
+    requires some { 0 < L.parts }
+    ensures { IfSome result (λ r. All (λ p. p.table_id ≡ r.0.turn.table.shared.table_id) r.1.items) }
+{
+    let mut steps = Steps::<L>::new(blank);
+    let before = Snapshot::of(&disk);
+    match open_channel(alloc, disk, LIMITS, &mut steps) {
+        Ok(channel) => share_opened(alloc, channel, before, LIMITS, passes),
+        Err(OpenRefused { disk: _, cause: _ }) => None,
+    }
+}
+
+// One in a folder of this disk.
+pub fn on_disk(alloc: Global, disk: MemDisk, passes: u32) -> Opened<FileChannel<MemDisk>>
+    ensures { IfSome result (λ r. All (λ p. p.table_id ≡ r.0.turn.table.shared.table_id) r.1.items) }
+{
+    on_disk_by::<MemDisk, Brand>(alloc, Blank::new(1), disk, passes)
+}

@@ -1,0 +1,4 @@
+pub mod Histories
+pub mod Moves
+pub mod Shares
+pub mod Making

@@ -1,0 +1,11 @@
+use Rattle.std.proofs.Common.{rules}
+use Rattle.turn_passes.specs.Turns.{Knows}
+use Rattle.turn_passes.proofs.Making.{making_none}
+use Rattle.turn_passes.proofs.turn.Turn.enter.Goals as goal
+
+pub returns-in-Some-try_often-clause-making : goal.returns-in-Some-try_often-clause-making
+returns-in-Some-try_often-clause-making g c =
+    let v = c.args.seat.now.me.0 in
+    let k = c.try_often.new.seat.me.0 in
+    let knows : Knows g.C.Guarded.stands v c.in-Some-try_often.value k = search rules in
+    making_none v k knows.0 knows.2 knows.3 knows.4

@@ -1,0 +1,90 @@
+-- The rule of the table, and what each step tells.
+-- Word 0 is the length of the history. Word 1 is 0 while the turn is free, 1 while a seat has it, and 2 once the table is closed. The slot has the value while word 1 is 0.
+use Rattle.std.specs.Prelude.{◌≡◌, ◌==◌, ◌<◌, ◌≤◌, ◌++◌, ℕ, List, [], ◌∷◌, true, length, Option, Some, MatchBool}
+use mathlib.Core.List.{IsPrefix}
+use mathlib.Core.Option.{some}
+use lib.ListN.{get_elem?}
+use Rattle.atomic_table.specs.Table.{State, Me, Step as TableStep, rest}
+use Rattle.channel_face.specs.History.{Opening, Step}
+use Rattle.turn_passes.specs.Calls.{has, calls_by, Below}
+use Rattle.turn_passes.specs.Views.{Part, View, entered, counted, idle, settled, saw}
+
+-- The part begins the history, which has no further call of its numbers, and the view has these numbers.
+pub record Heard (log : List Step) (numbers : List ℕ) (p : Part) : Type 0 where
+  pub begins : IsPrefix p.seen log
+  pub calls : calls_by p.numbers log ≡ calls_by p.numbers p.seen
+  pub among : (n : ℕ) → has p.numbers n ≡ true → has numbers n ≡ true
+
+-- What the rule says of the view of one seat, where the history is log, word 1 is turn, and the numbers below dealt were drawn.
+pub record Fits (log : List Step) (base : Opening) (passes turn holder dealt seat : ℕ) (v : View) : Type 0 where
+  pub same : v.live ≡ true → (v.base ≡ base) × (v.passes ≡ passes)
+  pub begins : IsPrefix v.seen log
+  pub one : Heard log v.numbers v.one
+  pub other : Heard log v.numbers v.other
+  -- the calls of its numbers were all seen
+  pub calls : calls_by v.numbers log ≡ calls_by v.numbers v.seen
+  -- with the turn, it is the one that has it, and has seen all of the history
+  pub holds : v.turn ≡ true → (seat ≡ holder) × (turn ≡ 1) × (v.seen ≡ log)
+  pub first : v.deals ≡ true → (seat ≡ 0) × (v.dealt ≡ dealt)
+  pub drawn : (n : ℕ) → has v.numbers n ≡ true → n < dealt
+
+-- a number is with one seat at most
+abbrev pub Apart : List View → Type 0
+Apart views = (i j : ℕ) (v w : View) → get_elem? views i ≡ some v → get_elem? views j ≡ some w → (n : ℕ) → has v.numbers n ≡ true → has w.numbers n ≡ true → i ≡ j
+
+-- The rule: there is one history, which the views have seen parts of, and while the turn is free the value at home stands for it.
+pub record Kept {C : Type 0} (stands : C → Opening → List Step → Type 0) (base : Opening) (passes : ℕ) (s : State (Option C) View) : Type 0 where
+  pub log : List Step
+  pub turn : ℕ
+  pub holder : ℕ
+  pub dealt : ℕ
+  pub words : s.words ≡ length log ∷ turn ∷ []
+  pub home : turn ≡ 0 → (c : C) × (get_elem? s.homes 0 ≡ some (some (Some c))) × stands c base log
+  pub below : Below dealt log
+  pub room : dealt ≤ passes
+  pub fits : (j : ℕ) (v : View) → get_elem? s.views j ≡ some v → Fits log base passes turn holder dealt j v
+  pub apart : Apart s.views
+
+-- the history begins with the part, and has no further call of its numbers
+abbrev pub Has : List Step → Part → Type 0
+Has log p = IsPrefix p.seen log × (calls_by p.numbers log ≡ calls_by p.numbers p.seen)
+
+module _ {C : Type 0} (stands : C → Opening → List Step → Type 0) where
+  -- with the turn, all of the history was seen, the value stands for it, and it has no further call of one's own
+  abbrev pub Knows : View → C → View → Type 0
+  Knows v c w = (w ≡ entered v w.seen) × stands c v.base w.seen × IsPrefix v.seen w.seen × (calls_by v.numbers w.seen ≡ calls_by v.numbers v.seen) × Below v.passes w.seen
+
+  -- take the turn: it was free, and was taken with the value; or nothing changed
+  abbrev pub Takes : TableStep (Option C) → Me (Option C) View → ℕ → Me (Option C) View → Type 0
+  Takes s m n w = MatchBool (n == 0) ((c : C) × (w.1 ≡ (0, Some c) ∷ m.1) × Knows m.0 c w.0) (w ≡ m)
+
+module _ {C : Type 0} where
+  -- read the count: it is the length of the history
+  abbrev pub Reads : TableStep (Option C) → Me (Option C) View → ℕ → Me (Option C) View → Type 0
+  Reads s m n w = (w ≡ m) × (n ≡ length m.0.seen)
+
+  -- count a call: it is the last of the history
+  abbrev pub Counts : Step → TableStep (Option C) → Me (Option C) View → ℕ → Me (Option C) View → Type 0
+  Counts e s m n w = (w ≡ (counted e m.0, m.1)) × Below m.0.passes (m.0.seen ++ e ∷ [])
+
+  -- give the turn back, with what is in the slot
+  abbrev pub Leaves : TableStep (Option C) → Me (Option C) View → ℕ → Me (Option C) View → Type 0
+  Leaves s m n w = w ≡ (idle m.0, rest m.1)
+
+  -- look after a join: both had seen beginnings of the history that is seen now, which has no further call of either, and each number is one of a pass
+  abbrev pub Settles : TableStep (Option C) → Me (Option C) View → ℕ → Me (Option C) View → Type 0
+  Settles s m n w = (w ≡ (settled m.0, m.1)) × Has m.0.seen m.0.one × Has m.0.seen m.0.other × ((n : ℕ) → has m.0.numbers n ≡ true → n < m.0.passes)
+
+-- A seat with the turn, and the calls that it made in it: what it sees begins with what it saw, ends with these calls, which are its own, and has no other further call of its own.
+abbrev pub Making : View → List Step → View → Type 0
+Making v es w =
+    (between : List Step) × (w ≡ entered v w.seen) × (w.seen ≡ (v.seen ++ between) ++ es) × (calls_by v.numbers w.seen ≡ calls_by v.numbers v.seen ++ es) × Below v.passes w.seen × (calls_by v.numbers es ≡ es)
+
+-- The same once the turn was given back.
+abbrev pub Made : View → List Step → View → Type 0
+Made v es w =
+    (between : List Step) × (w ≡ saw v w.seen) × (w.seen ≡ (v.seen ++ between) ++ es) × (calls_by v.numbers w.seen ≡ calls_by v.numbers v.seen ++ es) × Below v.passes w.seen × (calls_by v.numbers es ≡ es)
+
+-- it has the number of each pass
+abbrev pub HasAll : View → Type 0
+HasAll v = (n : ℕ) → n < v.passes → has v.numbers n ≡ true

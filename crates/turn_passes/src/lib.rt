@@ -1,0 +1,12 @@
+//! One value that threads share, in turns, whose calls have one history.
+#![tactic(auto)]
+
+mod guarded;
+mod named;
+mod plays;
+mod turn;
+mod view;
+
+pub use guarded::{Guarded, Named};
+pub use turn::{Place, Turn, Unshared};
+pub use view::SeatView;

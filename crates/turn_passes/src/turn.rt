@@ -1,0 +1,213 @@
+//! The turn: taken, used for calls, and given back.
+ghost use Rattle.std.specs.Prelude.{◌≡◌, ◌<◌, ◌+◌, ◌++◌, ◌^◌, [], ◌∷◌, true, false, length, None, MatchOption, ℕ, List, IfOk, IfErr};
+ghost use Rattle.channel_face.specs.History.{Opening, Step};
+ghost use Rattle.turn_passes.specs.Calls.{has, Below};
+ghost use Rattle.turn_passes.specs.Views.{View, dealer, dealing, newcomer, both, settled, part, idle, counted};
+ghost use Rattle.turn_passes.specs.Turns.{Making, Made, Knows, Has};
+
+use crate::guarded::{Guarded, Named};
+use crate::named::named;
+use crate::plays::{Both, Count, Deal, Leave, Read, Settle, Take, Told, Turns};
+use crate::view::SeatView;
+use atomic_table::{Refused, Seat, Table};
+use std::alloc::{AllocFailed, Global};
+use std::marker::Brand;
+use std::sync::Wait;
+use std::sync::atomic::AtomicU64;
+use std::sync::atomic::Ordering::SeqCst;
+use std::thread;
+use std::time::Duration;
+
+/// A value that was not shared.
+pub struct Unshared<C> {
+    pub value: C,
+}
+
+// How often the turn is tried for before a thread sleeps, and how long it sleeps at most without being woken.
+const TRIES: u32 = 16;
+
+const MILLIS: u64 = 50;
+
+/// A value that threads share in turns.
+#[derive(Drop)]
+pub struct Turn<C: Guarded> {
+    pub(crate) table: Table<Option<C>, SeatView, Told, Turns<C>, Global>,
+    // How many threads sleep until the turn is free, or are about to. No clause rests on it.
+    asleep: AtomicU64,
+    ghost sized: { (table.shared.table_id.words ≡ 2) × (table.shared.table_id.slots ≡ 1) },
+}
+
+/// A seat at the table.
+pub type Place<C> = Seat<Option<C>, SeatView>;
+
+impl<C: Guarded> Turn<C> {
+    /// Shares a value that stands for an opening and no calls. Want of memory hands it back. The seat deals the numbers of so
+    /// many passes.
+    pub fn new(alloc: Global, value: C, passes: u64) -> Result<(Turn<C>, Place<C>), Unshared<C>>
+        ghost opening: { Opening }
+        requires { C.stands value opening [] }
+        ensures shared { IfOk result (λ r. (r.1.table_id ≡ r.0.table.shared.table_id) × (r.1.me ≡ (dealer opening passes, []))) }
+        ensures back { IfErr result (λ r. r.value ≡ value) }
+    {
+        let Ok(opened) = named::<Brand>(alloc) else {
+            return Err(Unshared { value });
+        };
+        let about = (opened, passes);
+        let mut slots = Vec::new(alloc);
+        if let Err(AllocFailed { value }) = slots.push(Some(value)) {
+            slots.destroy_empty();
+            let Some(value) = value else { unreachable!() };
+            return Err(Unshared { value });
+        }
+        match Table::new(alloc, &[0, 0], slots, &about) {
+            Ok((table, seat)) => Ok((
+                Turn {
+                    table,
+                    asleep: AtomicU64::new(0),
+                },
+                seat,
+            )),
+            Err(Refused { mut slots }) => {
+                let last = slots.pop();
+                slots.destroy_empty();
+                let Some(Some(value)) = last else {
+                    unreachable!()
+                };
+                Err(Unshared { value })
+            }
+        }
+    }
+
+    /// A seat with the next number, which has made no call.
+    pub fn deal(&self, dealer: &mut Place<C>) -> Place<C>
+        requires table { dealer.old.table_id ≡ self.now.table.shared.table_id }
+        requires deals { (dealer.old.me.0.deals ≡ true) × (dealer.old.me.0.turn ≡ false) × (dealer.old.me.0.live ≡ true) × (dealer.old.me.1 ≡ []) }
+        requires room { dealer.old.me.0.dealt < dealer.old.me.0.passes }
+        ensures dealer { (dealer.new.table_id ≡ dealer.old.table_id) × (dealer.new.me ≡ (dealing dealer.old.me.0, [])) }
+        ensures pass { (result.table_id ≡ dealer.old.table_id) × (result.me ≡ (newcomer dealer.old.me.0, [])) }
+    {
+        self.table.shared.split_seat::<Deal>(dealer)
+    }
+
+    /// Takes another seat in. What either has seen is seen, and the numbers of both are its own.
+    pub fn join(&self, into: &mut Place<C>, from: Place<C>)
+        requires into { (into.old.table_id ≡ self.now.table.shared.table_id) × (into.old.me.0.live ≡ true) × (into.old.me.1 ≡ []) }
+        requires from { (from.table_id ≡ self.now.table.shared.table_id) × (from.me.0.turn ≡ false) × (from.me.1 ≡ []) }
+        ensures same { (into.new.table_id ≡ into.old.table_id) × (into.new.me ≡ (settled (both into.old.me.0 from.me.0), [])) }
+        ensures seen { Has into.new.me.0.seen (part into.old.me.0) × Has into.new.me.0.seen (part from.me.0) }
+        ensures numbers { (n : ℕ) → has into.new.me.0.numbers n ≡ true → n < into.new.me.0.passes }
+    {
+        self.table.shared.join_seat::<Both>(into, from);
+        self.table.shared.load::<Settle>(into, 0);
+    }
+
+    fn try_enter(&self, seat: &mut Place<C>) -> Option<C>
+        requires table { seat.old.table_id ≡ self.now.table.shared.table_id }
+        requires idle { (seat.old.me.0.turn ≡ false) × (seat.old.me.1 ≡ []) × (seat.old.me.0.live ≡ true) }
+        ensures same { (seat.new.table_id ≡ seat.old.table_id) × (seat.new.id ≡ seat.old.id) }
+        ensures turn { MatchOption result (seat.new.me ≡ seat.old.me) (λ c. (seat.new.me.1 ≡ (0, None) ∷ []) × Knows C.stands seat.old.me.0 c seat.new.me.0) }
+    {
+        if self.table.shared.compare_exchange::<Take>(seat, 1, 0, 1) != 0 {
+            return None;
+        }
+        self.table.shared.exchange(seat, 0, None)
+    }
+
+    fn try_often(&self, seat: &mut Place<C>) -> Option<C>
+        requires table { seat.old.table_id ≡ self.now.table.shared.table_id }
+        requires idle { (seat.old.me.0.turn ≡ false) × (seat.old.me.1 ≡ []) × (seat.old.me.0.live ≡ true) }
+        ensures same { (seat.new.table_id ≡ seat.old.table_id) × (seat.new.id ≡ seat.old.id) }
+        ensures turn { MatchOption result (seat.new.me ≡ seat.old.me) (λ c. (seat.new.me.1 ≡ (0, None) ∷ []) × Knows C.stands seat.old.me.0 c seat.new.me.0) }
+    {
+        for _ in 0..TRIES {
+            match self.try_enter(seat) {
+                Some(value) => return Some(value),
+                None => thread::yield_now(),
+            }
+        }
+        None
+    }
+
+    // Sleeps while the turn is taken, until one who gives it back wakes it.
+    fn sleep<R: Wait>(&self, rt: &R) {
+        self.asleep.fetch_add(1, SeqCst);
+        self.table
+            .shared
+            .park_timeout(rt, 1, 1, Duration::from_millis(MILLIS));
+        self.asleep.fetch_sub(1, SeqCst);
+    }
+
+    fn wake(&self) {
+        if self.asleep.load(SeqCst) != 0 {
+            self.table.shared.wake_one(1);
+        }
+    }
+
+    /// Takes the turn, and the value out of its slot. It may wait for the turn: it tries some times, and then sleeps until the
+    /// turn is given back.
+    pub fn enter<R: Wait>(&self, rt: &R, seat: &mut Place<C>) -> C
+        requires table { seat.old.table_id ≡ self.now.table.shared.table_id }
+        requires idle { (seat.old.me.0.turn ≡ false) × (seat.old.me.1 ≡ []) × (seat.old.me.0.live ≡ true) }
+        ensures same { (seat.new.table_id ≡ seat.old.table_id) × (seat.new.id ≡ seat.old.id) }
+        ensures turn { (seat.new.me.1 ≡ (0, None) ∷ []) × Knows C.stands seat.old.me.0 result seat.new.me.0 }
+        ensures making { Making seat.old.me.0 [] seat.new.me.0 }
+    {
+        for _ in rt.forever() {
+            match self.try_often(seat) {
+                Some(value) => return value,
+                None => self.sleep(rt),
+            }
+        }
+        unreachable!()
+    }
+
+    /// How many calls the history has.
+    pub fn calls(&self, seat: &mut Place<C>) -> u64
+        requires table { seat.old.table_id ≡ self.now.table.shared.table_id }
+        requires turn { seat.old.me.0.turn ≡ true }
+        ensures same { (seat.new.table_id ≡ seat.old.table_id) × (seat.new.id ≡ seat.old.id) × (seat.new.me ≡ seat.old.me) }
+        ensures calls { result ≡ length seat.old.me.0.seen }
+    {
+        self.table.shared.load::<Read>(seat, 0)
+    }
+
+    /// Counts the call that E names. What a caller's pick of E names is in `said`.
+    pub fn count<E: Named, T>(&self, seat: &mut Place<C>, by: u64, said: &T)
+        requires table { seat.old.table_id ≡ self.now.table.shared.table_id }
+        requires turn { (seat.old.me.0.turn ≡ true) × (length seat.old.me.0.seen + 1 < 2 ^ 64) × (seat.old.me.0.live ≡ true) }
+        requires own { has seat.old.me.0.numbers E.entry.pass ≡ true }
+        ensures same { (seat.new.table_id ≡ seat.old.table_id) × (seat.new.id ≡ seat.old.id) }
+        ensures call { seat.new.me ≡ (counted E.entry seat.old.me.0, seat.old.me.1) }
+        ensures making { (v : View) (es : List Step) → Making v es seat.old.me.0 → has v.numbers E.entry.pass ≡ true → Making v (es ++ E.entry ∷ []) seat.new.me.0 }
+    {
+        let _ = by;
+        let _ = said;
+        self.table.shared.fetch_add::<Count<E>>(seat, 0, 1);
+    }
+
+    /// Brings the value home, and gives the turn back.
+    pub fn leave(&self, seat: &mut Place<C>, value: C)
+        requires table { seat.old.table_id ≡ self.now.table.shared.table_id }
+        requires turn { (seat.old.me.0.turn ≡ true) × (seat.old.me.1 ≡ (0, None) ∷ []) × (seat.old.me.0.live ≡ true) }
+        requires value { C.stands value seat.old.me.0.base seat.old.me.0.seen }
+        ensures same { (seat.new.table_id ≡ seat.old.table_id) × (seat.new.id ≡ seat.old.id) }
+        ensures turn { seat.new.me ≡ (idle seat.old.me.0, []) }
+        ensures made { (v : View) (es : List Step) → Making v es seat.old.me.0 → Made v es seat.new.me.0 }
+    {
+        let before = self.table.shared.exchange(seat, 0, Some(value));
+        let None = before else { unreachable!() };
+        self.table.shared.store::<Leave>(seat, 1, 0);
+        self.wake();
+    }
+
+    /// Gives the turn back without the value, for good.
+    pub fn shut(&self, seat: &mut Place<C>)
+        requires table { seat.old.table_id ≡ self.now.table.shared.table_id }
+        requires turn { (seat.old.me.0.turn ≡ true) × (seat.old.me.1 ≡ (0, None) ∷ []) }
+        ensures same { (seat.new.table_id ≡ seat.old.table_id) × (seat.new.id ≡ seat.old.id) }
+        ensures turn { seat.new.me ≡ (idle seat.old.me.0, []) }
+        ensures made { (v : View) (es : List Step) → Making v es seat.old.me.0 → Made v es seat.new.me.0 }
+    {
+        self.table.shared.store::<Leave>(seat, 1, 2);
+    }
+}
