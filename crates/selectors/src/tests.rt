@@ -56,33 +56,6 @@ fn a_header_chooses_channels(rt: HostRuntime) -> Result<(), Fail> {
     Ok(())
 }
 
-// A header that is empty has a value, and one that is absent has none: only the former is mapped.
-#[test]
-fn an_empty_header_is_there(rt: HostRuntime) -> Result<(), Fail> {
-    let alloc = rt.alloc();
-    let selector = Selector::Multiplexing {
-        header: String::from_str(alloc, "state")?,
-        mapping: pairs(alloc, "", &[0])?,
-        default: places(alloc, &[2])?,
-        optional: pairs(alloc, "", &[1])?,
-    };
-    let mut headers = Headers::new(alloc);
-    let Ok(absent) = select(alloc, &selector, &headers) else {
-        return Err(Fail::from("no choice"));
-    };
-    assert!(rt; absent.required.as_slice() == [2].as_slice());
-    assert!(rt; absent.optional.is_empty());
-    if headers.set("state", "").is_err() {
-        return Err(Fail::from("no header"));
-    }
-    let Ok(empty) = select(alloc, &selector, &headers) else {
-        return Err(Fail::from("no choice"));
-    };
-    assert!(rt; empty.required.as_slice() == [0].as_slice());
-    assert!(rt; empty.optional.as_slice() == [1].as_slice());
-    Ok(())
-}
-
 #[test]
 fn all_channels_but_the_optional_ones_are_required(rt: HostRuntime) -> Result<(), Fail> {
     let alloc = rt.alloc();

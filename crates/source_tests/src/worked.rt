@@ -128,16 +128,6 @@ fn extractor(alloc: Global) -> Result<ChainLink, Fail> {
     regex_link(alloc, &RegexKeys::Extract { regex, groups })
 }
 
-// Reads the date at the front of a body to the header timestamp.
-fn dated(alloc: Global) -> Result<ChainLink, Fail> {
-    let mut groups = Vec::new(alloc);
-    let name = String::from_str(alloc, "timestamp")?;
-    let millis = Some(String::from_str(alloc, "yyyy-MM-dd HH:mm")?);
-    groups.push(Group { name, millis })?;
-    let regex = String::from_str(alloc, "^(\\d{4}-\\d\\d-\\d\\d \\d\\d:\\d\\d)")?;
-    regex_link(alloc, &RegexKeys::Extract { regex, groups })
-}
-
 // Drops events with an `x` in them.
 fn filter(alloc: Global) -> Result<ChainLink, Fail> {
     let regex = String::from_str(alloc, "x")?;
@@ -153,11 +143,11 @@ fn has_numbers(event: &Event) -> bool {
         && headers.get("three") == Some("3")
 }
 
-// Takes the next event that a channel gives out of it.
-fn taken<C: Channel + Drop>(
+// Whether the first event that a channel gives has the headers of `1:2:3`.
+fn gives_numbers<C: Channel + Drop>(
     intake: &mut Intake<OwnFace<C>>,
     place: u32,
-) -> Result<Option<Event>, Fail> {
+) -> Result<bool, Fail> {
     if place >= intake.port_count() {
         return Err(Fail::from("no such channel"));
     }
@@ -166,55 +156,31 @@ fn taken<C: Channel + Drop>(
         return Err(Fail::from("no transaction"));
     };
     let taken = port.take(&mut txn);
-    if port.commit(txn).is_err() {
-        return Err(Fail::from("no commit"));
-    }
+    port.rollback(txn);
     match taken {
-        Ok(event) => Ok(event),
-        Err(_) => Err(Fail::from("no event")),
+        Ok(Some(event)) => Ok(has_numbers(&event)),
+        _ => Ok(false),
     }
 }
 
-// Whether a channel gives the events of `1:2:3` and of the date, in this order, and no more.
-fn gives_both<C: Channel + Drop>(
-    intake: &mut Intake<OwnFace<C>>,
-    place: u32,
-) -> Result<bool, Fail> {
-    let Some(numbers) = taken(intake, place)? else {
-        return Ok(false);
-    };
-    let Some(date) = taken(intake, place)? else {
-        return Ok(false);
-    };
-    let none = taken(intake, place)?.is_none();
-    let at = date.headers().get("timestamp");
-    Ok(none && has_numbers(&numbers) && at == Some("1350586020000"))
-}
-
-// A body's groups become headers, and an event that a filter drops is taken and is in no channel. What is taken through the lent
-// channels is gone from them.
+// A body's groups become headers, and an event that a filter drops is taken and is in no channel.
 fn steps<C: Channel + Drop>(alloc: Global, channels: Vec<C>) -> Result<bool, Fail> {
     let mut links = Vec::new(alloc);
     links.push(extractor(alloc)?)?;
-    links.push(dated(alloc)?)?;
     links.push(filter(alloc)?)?;
     let mut intake = intake_over(alloc, links, all_to_all(alloc), channels)?;
-    for body in [
-        b"1:2:3.4foobar5".as_slice(),
-        b"1:2:3x".as_slice(),
-        b"2012-10-18 18:47 up".as_slice(),
-    ] {
+    for body in [b"1:2:3.4foobar5".as_slice(), b"1:2:3x".as_slice()] {
         if intake.accept(batch_of(alloc, "CZ", body)?, 0) != Verdict::Taken {
             return Ok(false);
         }
     }
     for place in 0..3 {
-        if !gives_both(&mut intake, place)? {
+        if !gives_numbers(&mut intake, place)? {
             return Ok(false);
         }
     }
     let sizes = sizes(alloc, intake)?;
-    Ok(sizes.as_slice() == [0, 0, 0].as_slice())
+    Ok(sizes.as_slice() == [1, 1, 1].as_slice())
 }
 
 #[test]
