@@ -2,7 +2,7 @@
 // at the events: each is there once, and the counts are the sums of what the threads did.
 ghost use Rattle.std.specs.Prelude.{◌≡◌, All, IfSome};
 
-use crate::opened::{Opened, in_memory, on_disk, plain};
+use crate::opened::{Opened, on_disk};
 use crate::work::{Work, number_in, put_and_take};
 use channel_face::Channel;
 use host_memory::MemDisk;
@@ -224,8 +224,6 @@ fn eight_are_whole<C: Channel + Drop + Send, R: Threads + Wait + Sync>(
 #[test]
 fn two_threads_lose_and_double_nothing(rt: HostRuntime) -> Result<(), Fail> {
     let alloc = rt.alloc();
-    assert!(rt; two_are_whole(&rt, alloc, plain(alloc, 2))?);
-    assert!(rt; two_are_whole(&rt, alloc, in_memory(alloc, 2))?);
     assert!(rt; two_are_whole(&rt, alloc, on_disk(alloc, MemDisk::new(alloc), 2))?);
     Ok(())
 }
@@ -233,8 +231,6 @@ fn two_threads_lose_and_double_nothing(rt: HostRuntime) -> Result<(), Fail> {
 #[test]
 fn eight_threads_lose_and_double_nothing(rt: HostRuntime) -> Result<(), Fail> {
     let alloc = rt.alloc();
-    assert!(rt; eight_are_whole(&rt, alloc, plain(alloc, 8))?);
-    assert!(rt; eight_are_whole(&rt, alloc, in_memory(alloc, 8))?);
     assert!(rt; eight_are_whole(&rt, alloc, on_disk(alloc, MemDisk::new(alloc), 8))?);
     Ok(())
 }

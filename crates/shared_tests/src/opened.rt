@@ -3,17 +3,15 @@ ghost use Rattle.std.specs.Prelude.{◌≡◌, ◌<◌, All, IfSome};
 ghost use Rattle.channel_face.specs.History.{Opening};
 ghost use Rattle.shared_tests.specs.Opened.{IsOpenedAt};
 
-use channel_face::{Kind, Limits};
+use channel_face::Limits;
 use file_channel::{FileChannel, OpenRefused, open_channel};
 use flume_host::{Disk, Steps};
 use host_memory::MemDisk;
-use memory_channel::MemoryChannel;
 use shared_channel::{Pass, Shared};
 use std::alloc::Global;
 use std::marker::Brand;
 use std::snapshot::Snapshot;
 use std::sync::ledger::{Blank, Ledger};
-use txn_core::Machine;
 
 const LIMITS: Limits = Limits {
     capacity: 100_000,
@@ -22,32 +20,6 @@ const LIMITS: Limits = Limits {
 };
 
 pub type Opened<C> = Option<(Shared<C>, Vec<Pass>)>;
-
-// The plain channel.
-pub fn plain(alloc: Global, passes: u32) -> Opened<Machine>
-    ensures { IfSome result (λ r. All (λ p. p.table_id ≡ r.0.turn.table.shared.table_id) r.1.items) }
-{
-    match Machine::new(alloc, LIMITS, Kind::File) {
-        Ok(machine) => match Shared::new(alloc, machine, passes) {
-            Ok(opened) => Some(opened),
-            Err(_) => None,
-        },
-        Err(_) => None,
-    }
-}
-
-// One in memory.
-pub fn in_memory(alloc: Global, passes: u32) -> Opened<MemoryChannel>
-    ensures { IfSome result (λ r. All (λ p. p.table_id ≡ r.0.turn.table.shared.table_id) r.1.items) }
-{
-    match MemoryChannel::new(alloc, LIMITS) {
-        Ok(channel) => match Shared::new(alloc, channel, passes) {
-            Ok(opened) => Some(opened),
-            Err(_) => None,
-        },
-        Err(_) => None,
-    }
-}
 
 // Shares a channel that was opened in a folder that was so before.
 fn share_opened<D: Disk + Drop>(

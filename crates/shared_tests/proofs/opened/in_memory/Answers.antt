@@ -1,5 +1,0 @@
-use Rattle.std.proofs.Common.{sym}
-use Rattle.shared_tests.proofs.opened.in_memory.Goals as goal
-
-pub new-requires : goal.new-requires
-new-requires c = (tt, ((tt, sym (c.in-Ok.ensures.state 0 0)), sym c.in-Ok.ensures.tally))

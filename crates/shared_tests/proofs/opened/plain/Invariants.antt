@@ -1,6 +1,0 @@
-use Rattle.std.proofs.Common.{[]}
-use Rattle.channel_face.specs.declared.replies.Kind.TheVariants.{File as OnFile, Memory as InMemory}
-use Rattle.shared_tests.proofs.opened.plain.Given as goal
-
-abbrev pub ghost-new : goal.ghost-new
-ghost-new a = record { rules = record { kind = OnFile; limits = record { capacity = 100000; txn_capacity = 1000; max_file = 1000000 } }; base = record { items = []; first = 0 }; txn = 1; faults = 0; from = 0 }
