@@ -1,5 +1,5 @@
 -- The channel as a machine: its state, what each call may answer there, and the state after it.
-use Rattle.std.specs.Prelude.{◌≡◌, ◌<◌, ◌≤◌, ◌+◌, ◌-◌, ◌^◌, ◌⊎◌, ℕ, List, [], ◌∷◌, ◌++◌, length, take, get_or, Option, Some, None, Result, Ok, Err, Bool, true, false, not, ◌==◌, ◌&&◌, nat_lt, nat_le, if◌then◌else◌}
+use Rattle.std.specs.Prelude.{◌≡◌, ◌<◌, ◌≤◌, ◌+◌, ◌-◌, ◌^◌, ◌⊎◌, ℕ, List, [], ◌∷◌, ◌++◌, length, take, get_or, Option, Some, None, IsSome, Result, Ok, Err, Bool, true, false, not, ◌==◌, ◌&&◌, nat_lt, nat_le, if◌then◌else◌}
 use Rattle.event_core.specs.Content.{Content, size}
 use Rattle.event_core.specs.Journal.{Base, IsBase, put_events, taken_numbers, without, left, next, after_journal}
 use Rattle.event_core.specs.declared.journal.Entry.{Entry}
@@ -245,9 +245,9 @@ AdmitsPut s puts event (Err e) = put_refusal s puts event ≡ Some e
 abbrev pub AdmitsTake : Bool → State → Option (List ℕ) → Result Taken TakeRefused → Type 0
 AdmitsTake tells s takes (Ok taken) = (take_refusal s takes ≡ None) × Gives tells (first_event (free s)) taken.event × MaySpill s.rules.kind taken.spilled × SpillsNone taken.event taken.spilled
 AdmitsTake tells s takes (Err TakeNo.NoMemory) = Unit {0}
-AdmitsTake tells s takes (Err TakeNo.ReadFault) = (take_refusal s takes ≡ None) × (s.rules.kind ≡ OnFile)
-AdmitsTake tells s takes (Err (TakeNo.Damaged kept found)) = (take_refusal s takes ≡ None) × (s.rules.kind ≡ OnFile) × (tells ≡ false)
-AdmitsTake tells s takes (Err TakeNo.DiskFault) = (take_refusal s takes ≡ None) × (s.rules.kind ≡ OnFile)
+AdmitsTake tells s takes (Err TakeNo.ReadFault) = (take_refusal s takes ≡ None) × (s.rules.kind ≡ OnFile) × IsSome (first_event (free s))
+AdmitsTake tells s takes (Err (TakeNo.Damaged kept found)) = (take_refusal s takes ≡ None) × (s.rules.kind ≡ OnFile) × (tells ≡ false) × IsSome (first_event (free s))
+AdmitsTake tells s takes (Err TakeNo.DiskFault) = (take_refusal s takes ≡ None) × (s.rules.kind ≡ OnFile) × IsSome (first_event (free s))
 AdmitsTake tells s None (Err (TakeNo.Spent counter)) = ⊥
 AdmitsTake tells s (Some numbers) (Err (TakeNo.Spent counter)) = (s.broken ≡ false) × (counter ≡ File) × (s.rules.kind ≡ OnFile)
 AdmitsTake tells s takes (Err e) = take_refusal s takes ≡ Some e

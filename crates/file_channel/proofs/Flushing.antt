@@ -16,6 +16,7 @@ use Rattle.channel_log.specs.Writer.{HasFrames, IsAtRest, IsPending, IsReady, La
 use Rattle.channel_face.specs.Machine.{State, base_of, next_number, settle}
 use Rattle.channel_replay.specs.Recover.{AreLogs, LogFile, Recovers}
 use Rattle.file_channel.specs.Logs.{HasLog}
+use Rattle.file_channel.specs.Touches.{WritesLast}
 use Rattle.file_channel.specs.Written.{IsLogged, MayRecover, OnDisk, Waits}
 use Rattle.file_channel.proofs.Ending.{flush_mirrored}
 use Rattle.file_channel.proofs.Recovering.{flush_logged, flush_recovers, settled_recovers}
@@ -243,14 +244,17 @@ nothing_left told w w' s waits writer none = from waits.records waits.pending (s
     from (r ∷ records) pending (inl nothing) = absurd (omega (arith, nothing, pending.counted))
     from records pending (inr some) = ap (λ (v : Writer). v.bytes) (writer some)
 
--- a flush makes two syncs, and none where nothing waits
-pub syncs_of : (told told' : Option Told) (w : Writer) (s : State) (waits : Waits told w s)
+-- a flush writes the last log file and makes two syncs, and does nothing where nothing waits
+pub writes_of : (told told' : Option Told) (w : Writer) (s : State) (waits : Waits told w s)
     → ((frames : List (List Rec)) → IsReady told 1 w.file w.gate frames → 1 ≤ length waits.records → Tells told told' (Changes (Log w.file) (LacksOrHas 1 w.file frames waits.records) 2))
-    → (w.count ≡ 0 → told' ≡ told) → Tells told told' (λ t u. u.syncs ≤ t.syncs + 2)
-syncs_of told told' w s waits given none = from (some_or_none (length waits.records))
+    → (w.count ≡ 0 → told' ≡ told) → Tells told told' WritesLast
+writes_of told told' w s waits given none = from (some_or_none (length waits.records))
   where
-    from : (length waits.records ≡ 0) ⊎ (1 ≤ length waits.records) → Tells told told' (λ t u. u.syncs ≤ t.syncs + 2)
-    from (inl nothing) = subst (λ (v : Option Told). Tells told v (λ t u. u.syncs ≤ t.syncs + 2)) (sym (none (waits.pending.counted ∙ nothing))) (tells_same told (λ t u. u.syncs ≤ t.syncs + 2) (λ t is. omega arith))
+    from : (length waits.records ≡ 0) ⊎ (1 ≤ length waits.records) → Tells told told' WritesLast
+    from (inl nothing) = subst (λ (v : Option Told). Tells told v WritesLast) (sym (none (waits.pending.counted ∙ nothing)))
+        (tells_same told WritesLast (λ t is. record { file = w.file; last = (waits.disk t is).none; others = λ name other. refl; syncs = omega arith }))
     from (inr some) =
         let ready = ready_frames told w s waits in
-        tells_more told told' (Changes (Log w.file) (LacksOrHas 1 w.file ready.0 waits.records) 2) (λ t u. u.syncs ≤ t.syncs + 2) (λ t u old new changes. changes.syncs) (given ready.0 ready.1 some)
+        tells_more told told' (Changes (Log w.file) (LacksOrHas 1 w.file ready.0 waits.records) 2) WritesLast
+        (λ t u old new changes. record { file = w.file; last = (waits.disk t old).none; others = λ name other. (changes.others name other).1; syncs = changes.syncs })
+        (given ready.0 ready.1 some)

@@ -73,8 +73,8 @@ take_moves s s' token numbers item rest spilled list allowed kind first is = rec
   state = is ∙ (ap (λ (l : Items). add_take (settle_if spilled s) token.number (Some numbers) l) (sym first) ∙ ap (λ (l : Option (List ℕ)). add_take (settle_if spilled s) token.number l (free s)) (sym list));
 }
 
-pub take_fails : (s s' : State) (token : Token) (numbers : List ℕ) → takes_of s token ≡ Some numbers → take_refusal s (Some numbers) ≡ None → s.rules.kind ≡ OnFile → s' ≡ broken_state s → Moves true s (Take token (Err TakeNo.DiskFault)) s'
-take_fails s s' token numbers list allowed kind is = record { admitted = (rw list allowed, kind); state = is }
+pub take_fails : (s s' : State) (token : Token) (numbers : List ℕ) (item : ℕ × Content) (rest : Items) → takes_of s token ≡ Some numbers → take_refusal s (Some numbers) ≡ None → s.rules.kind ≡ OnFile → free s ≡ item ∷ rest → s' ≡ broken_state s → Moves true s (Take token (Err TakeNo.DiskFault)) s'
+take_fails s s' token numbers item rest list allowed kind first is = record { admitted = (rw list allowed, kind, rw first refl); state = is }
 
 pub take_whole : (told : Option Told) (w : Writer) (b : ℕ) (s s' : State) (token : Token) (number : ℕ) (numbers : List ℕ) (item : ℕ × Content) (rest : Items) (spilled : Bool) → IsSoundState s → takes_of s token ≡ Some numbers → take_refusal s (Some numbers) ≡ None → s.rules.kind ≡ OnFile → free s ≡ item ∷ rest
     → number ≡ token.number → s' ≡ take_in s spilled number numbers item.0 → IsLogged told w b (take_in s spilled number numbers item.0) → IsWhole told w b s'

@@ -1,7 +1,8 @@
 -- What a call does to the disk.
-use Rattle.std.specs.Prelude.{◌≡◌, ◌<◌, ◌≤◌, ◌+◌, ◌==◌, ℕ, List, length, Ok, Err, Option, Some, Bool, true, false, IsSomeAnd}
-use Rattle.flume_host.specs.Folder.{Files, IsImage}
+use Rattle.std.specs.Prelude.{◌≡◌, ◌<◌, ◌≤◌, ◌+◌, ◌==◌, ℕ, List, length, Ok, Err, Option, Some, None, Bool, true, false, IsSomeAnd}
+use Rattle.flume_host.specs.Folder.{Files, IsImage, same_name}
 use Rattle.flume_host.specs.Told.{LeavesOnly, Told, WhereTold}
+use Rattle.flume_host.specs.declared.names.FileName.{FileName}
 use Rattle.flume_host.specs.declared.names.FileName.TheVariants.{Log}
 use Rattle.channel_face.specs.Machine.{State, Call, Put, Take, Flush}
 use Rattle.channel_face.specs.declared.replies.PutRefused.TheVariants as PutNo
@@ -20,11 +21,18 @@ flushes (Flush (Ok done)) = true
 flushes (Flush (Err FlushNo.DiskFault)) = true
 flushes call = false
 
--- A channel that was not broken flushed: a stop at any moment leaves what was settled, or that with what was staged. There were at most two syncs.
+-- The last log file alone may read otherwise now, and at most two syncs were made.
+pub record WritesLast (t u : Told) : Type 0 where
+  pub file : ℕ
+  pub last : (n : ℕ) → file < n → t.reads (Log n) ≡ None
+  pub others : (name : FileName) → same_name name (Log file) ≡ false → u.reads name ≡ t.reads name
+  pub syncs : u.syncs ≤ t.syncs + 2
+
+-- A channel that was not broken flushed: a stop at any moment leaves what was settled, or that with what was staged.
 pub record Flushed (s : State) (t u : Told) : Type 0 where
   pub whole : s.broken ≡ false
   pub images : LeavesOnly t u (MayRecover s)
-  pub syncs : u.syncs ≤ t.syncs + 2
+  pub writes : WritesLast t u
 
 -- what a put or take needs of a frame: its record, and the end of each transaction that has records, its own among them
 abbrev pub room_of : State → ℕ → ℕ → ℕ

@@ -8,6 +8,7 @@ ghost use Rattle.event_core.specs.declared.journal.Entry.{Entry};
 ghost use Rattle.channel_face.specs.Machine.{State, close, entry_of, free, next_number, settle, stage, with_entry};
 ghost use Rattle.channel_log.specs.Writer.{HasRoom};
 ghost use Rattle.file_channel.specs.Mirrors.{done_of};
+ghost use Rattle.file_channel.specs.Touches.{WritesLast};
 ghost use Rattle.file_channel.specs.Written.{IsLogged, MayRecover, kept};
 
 use channel_log::LogWriter;
@@ -108,7 +109,7 @@ impl<D: Disk + Drop> Writing<D> {
     pub(crate) fn flush(&mut self) -> Result<(), Failed>
         requires { (s : State) × IsLogged (D.told self.old.disk) self.old.log self.old.busy s × (s.broken ≡ false) }
         ensures any_moment { (s : State) → IsLogged (D.told self.old.disk) self.old.log self.old.busy s → s.broken ≡ false → Tells (D.told self.old.disk) (D.told self.new.disk) (λ t u. LeavesOnly t u (MayRecover s)) }
-        ensures syncs { Tells (D.told self.old.disk) (D.told self.new.disk) (λ t u. u.syncs ≤ t.syncs + 2) }
+        ensures writes { (s : State) → IsLogged (D.told self.old.disk) self.old.log self.old.busy s → s.broken ≡ false → Tells (D.told self.old.disk) (D.told self.new.disk) WritesLast }
         ensures logged { OnOk result ((s : State) → IsLogged (D.told self.old.disk) self.old.log self.old.busy s → s.broken ≡ false → ((n : ℕ) → next_number s ≤ n → is_among (taken_numbers s.staged) n ≡ false)
             → IsLogged (D.told self.new.disk) self.new.log self.new.busy (settle s)) }
         ensures moved { OnOk result (1 ≤ self.old.log.count → self.new.log ≡ record self.old.log { gate = self.old.log.gate + length self.old.log.bytes + 6; started = true; bytes = []; count = 0 }) }

@@ -104,7 +104,10 @@ returns-then-is_err-2-clause-step g c =
     let added : c.add_take.new.self ≡ take_in s false token.number numbers c.in-Some-item.number = search rules in
     let undone : c.undo_take.new.self ≡ s = c.undo_take.ensures s.opened token.number numbers c.in-Some-item.number at (ap (λ (v : State). v.opened) added) ∙ ap (λ (v : State). record v { opened = s.opened }) added in
     let failed : c.fail.new.self ≡ broken_state s = c.fail.ensures ∙ ap broken_state undone in
-    let moves : Moves true s (Take token (Err TakeNo.DiskFault)) c.fail.new.self = take_fails s c.fail.new.self token numbers list allowed c.self.invariant.kind failed in
+    let item : ℕ × Content = (c.in-Some-item.number, c.in-Some-item.event) in
+    let given : Some item ≡ first_of (free s) = search rules in
+    let first = first_is (free s) item given in
+    let moves : Moves true s (Take token (Err TakeNo.DiskFault)) c.fail.new.self = take_fails s c.fail.new.self token numbers item first.0 list allowed c.self.invariant.kind first.1 failed in
     subst (λ (v : State). Moves true v (Take token (Err TakeNo.DiskFault)) c.fail.new.self) (ap (λ p. p.1) c.self.view_is) moves
 
 pub add_take-requires-2-clause-few : goal.add_take-requires-2-clause-few

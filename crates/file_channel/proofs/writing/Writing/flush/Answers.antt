@@ -1,4 +1,4 @@
-use Rattle.file_channel.proofs.Flushing.{ready_frames, moments, logged_after, nothing_left, syncs_of}
+use Rattle.file_channel.proofs.Flushing.{ready_frames, moments, logged_after, nothing_left, writes_of}
 use Rattle.file_channel.proofs.writing.Writing.flush.Goals as goal
 
 pub flush-requires : goal.flush-requires
@@ -33,14 +33,14 @@ returns-in-Ok-clause-empty g c =
     let waits = c.requires.1.waits c.requires.2 in
     nothing_left (g.D.Disk.told c.args.self.now.disk) c.args.self.now.log c.flush.new.self c.requires.0 waits c.in-Ok.ensures.writer (λ none. (c.flush.ensures.empty none).1)
 
-pub returns-in-Ok-clause-syncs : goal.returns-in-Ok-clause-syncs
-returns-in-Ok-clause-syncs g c =
-    let waits = c.requires.1.waits c.requires.2 in
-    syncs_of (g.D.Disk.told c.args.self.now.disk) (g.D.Disk.told c.flush.new.disk) c.args.self.now.log c.requires.0 waits
+pub returns-in-Ok-clause-writes : goal.returns-in-Ok-clause-writes
+returns-in-Ok-clause-writes g c = λ s log whole.
+    let waits = log.waits whole in
+    writes_of (g.D.Disk.told c.args.self.now.disk) (g.D.Disk.told c.flush.new.disk) c.args.self.now.log s waits
     (λ frames ready some. c.flush.ensures.any_moment 1 frames waits.records ready waits.pending some) (λ none. (c.flush.ensures.empty none).2)
 
-pub returns-in-Err-clause-syncs : goal.returns-in-Err-clause-syncs
-returns-in-Err-clause-syncs g c =
-    let waits = c.requires.1.waits c.requires.2 in
-    syncs_of (g.D.Disk.told c.args.self.now.disk) (g.D.Disk.told c.flush.new.disk) c.args.self.now.log c.requires.0 waits
+pub returns-in-Err-clause-writes : goal.returns-in-Err-clause-writes
+returns-in-Err-clause-writes g c = λ s log whole.
+    let waits = log.waits whole in
+    writes_of (g.D.Disk.told c.args.self.now.disk) (g.D.Disk.told c.flush.new.disk) c.args.self.now.log s waits
     (λ frames ready some. c.flush.ensures.any_moment 1 frames waits.records ready waits.pending some) (λ none. (c.flush.ensures.empty none).2)
