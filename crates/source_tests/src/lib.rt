@@ -4,6 +4,10 @@
 #[cfg(test)]
 mod accepts;
 #[cfg(test)]
+mod batches;
+#[cfg(test)]
+mod channels;
+#[cfg(test)]
 mod setup;
 #[cfg(test)]
 mod worked;

@@ -1,8 +1,9 @@
-// What tests of batches are made of: a batch of one event with a header `state`, selectors, and an intake over channels.
-ghost use Rattle.std.specs.Prelude.{◌≡◌, ◌<◌, ◌↔◌, All, IfOk, IsTrue, length};
+// What tests of batches are made of: events with a header `state`, batches of them, selectors, an intake over channels, and what
+// these then hold.
+ghost use Rattle.std.specs.Prelude.{◌≡◌, ◌<◌, ◌≤◌, ◌↔◌, All, IfOk, IsTrue, length};
 ghost use Rattle.source_put.specs.Accepts.{NamesBelow};
 
-use channel_face::{Channel, OwnFace};
+use channel_face::{Channel, OwnFace, TakeFace};
 use event_core::{Batch, Event, Headers};
 use selectors::Selector;
 use source_put::{Chain, ChainLink, HostNames, Intake};
@@ -20,18 +21,43 @@ pub fn batch_with(alloc: Global, event: Event) -> Result<Batch, Fail>
     }
 }
 
-// A batch of one event with this body, and with the header `state` of this value.
-pub fn batch_of(alloc: Global, state: &str, body: &[u8]) -> Result<Batch, Fail>
-    ensures { IfOk result (λ batch. length batch ≡ 1) }
-{
+// An event with this body, and with the header `state` of this value.
+fn event_of(alloc: Global, state: &str, body: &[u8]) -> Result<Event, Fail> {
     let mut headers = Headers::new(alloc);
     if headers.set("state", state).is_err() {
         return Err(Fail::from("no header"));
     }
     match Event::new(headers, Vec::from_slice(alloc, body)?) {
-        Ok(event) => batch_with(alloc, event),
+        Ok(event) => Ok(event),
         Err(_) => Err(Fail::from("no event")),
     }
+}
+
+// A batch of this event alone.
+pub fn batch_of(alloc: Global, state: &str, body: &[u8]) -> Result<Batch, Fail>
+    ensures { IfOk result (λ batch. length batch ≡ 1) }
+{
+    batch_with(alloc, event_of(alloc, state, body)?)
+}
+
+// A batch of at most ten events, of each of which the state and the body are given.
+pub fn batch_of_all(alloc: Global, events: &[(&str, &str)]) -> Result<Batch, Fail>
+    ensures { IfOk result (λ batch. length batch ≤ 10) }
+{
+    let mut batch = Batch::new(alloc);
+    for i in 0..events.len() {
+        let (state, body) = events[i];
+        if batch
+            .push(event_of(alloc, state, body.as_bytes())?)
+            .is_err()
+        {
+            return Err(Fail::from("no room"));
+        }
+    }
+    if batch.len() > 10 {
+        return Err(Fail::from("more than ten"));
+    }
+    Ok(batch)
 }
 
 // A list of one channel for a value.
@@ -132,4 +158,43 @@ pub fn sizes<C: Channel + Drop>(
         sizes.push(port.into_channel().size())?;
     }
     Ok(sizes)
+}
+
+// Takes the next event of the channel at a place out of it, in a transaction of its own.
+pub fn next_at<C: Channel + Drop>(
+    intake: &mut Intake<OwnFace<C>>,
+    place: u32,
+) -> Result<Option<Event>, Fail> {
+    if place >= intake.port_count() {
+        return Err(Fail::from("no such channel"));
+    }
+    let port = intake.port(place);
+    let Ok(mut txn) = port.begin() else {
+        return Err(Fail::from("no transaction"));
+    };
+    let taken = port.take(&mut txn);
+    if port.commit(txn).is_err() {
+        return Err(Fail::from("no commit"));
+    }
+    match taken {
+        Ok(event) => Ok(event),
+        Err(_) => Err(Fail::from("no event")),
+    }
+}
+
+// Whether the channel at a place holds events of just these bodies, in this order. They are then gone from it.
+pub fn gives<C: Channel + Drop>(
+    intake: &mut Intake<OwnFace<C>>,
+    place: u32,
+    bodies: &[&str],
+) -> Result<bool, Fail> {
+    for i in 0..bodies.len() {
+        let Some(event) = next_at(intake, place)? else {
+            return Ok(false);
+        };
+        if event.body() != bodies[i].as_bytes() {
+            return Ok(false);
+        }
+    }
+    Ok(next_at(intake, place)?.is_none())
 }

@@ -1,69 +1,14 @@
 // Worked examples over the plain channel and the channel on a disk: a chain's headers and drops, and the choice of channels.
-ghost use Rattle.std.specs.Prelude.{◌≡◌, ◌<◌};
-
-use crate::setup::{batch_of, by_state, intake_over, pairs, sizes};
-use channel_face::{Channel, FaceRefused, Kind, Limits, OwnFace, PutRefused, TakeFace};
+use crate::channels::{on_disk, plain};
+use crate::setup::{batch_of, by_state, intake_over, next_at, pairs, sizes};
+use channel_face::{Channel, FaceRefused, OwnFace, PutRefused, TakeFace};
 use event_core::Event;
-use file_channel::{FileChannel, OpenRefused, open_channel};
-use flume_host::Steps;
-use host_memory::MemDisk;
 use plug_in::{Intercepted, Interceptor};
 use regex_steps::{Group, RegexKeys, RegexStep};
 use selectors::Selector;
 use source_put::{ChainLink, Intake, Verdict};
 use std::alloc::Global;
-use std::marker::Brand;
-use std::sync::ledger::{Blank, Ledger};
 use std::test::Fail;
-use txn_core::Machine;
-
-fn limits(capacity: u32) -> Limits {
-    Limits {
-        capacity,
-        txn_capacity: 10,
-        max_file: 1_000_000,
-    }
-}
-
-// Three plain channels of these capacities.
-fn plain(alloc: Global, capacities: [u32; 3]) -> Result<Vec<Machine>, Fail> {
-    let mut channels = Vec::new(alloc);
-    for capacity in capacities {
-        channels.push(Machine::new(alloc, limits(capacity), Kind::File)?)?;
-    }
-    Ok(channels)
-}
-
-fn open<L: Ledger>(alloc: Global, blank: Blank, capacity: u32) -> Result<FileChannel<MemDisk>, Fail>
-    requires name { blank.name ≡ L.name }
-    requires parts { blank.parts ≡ L.parts }
-    requires some { 0 < L.parts }
-{
-    let mut steps = Steps::<L>::new(blank);
-    match open_channel(alloc, MemDisk::new(alloc), limits(capacity), &mut steps) {
-        Ok(channel) => Ok(channel),
-        Err(
-            OpenRefused {
-                disk: _disk,
-                cause: _cause,
-            },
-        ) => Err(Fail::from("no channel")),
-    }
-}
-
-// A channel of this capacity in a folder that holds nothing.
-fn opened(alloc: Global, capacity: u32) -> Result<FileChannel<MemDisk>, Fail> {
-    open::<Brand>(alloc, Blank::new(1), capacity)
-}
-
-// Three channels of these capacities in folders that hold nothing.
-fn on_disk(alloc: Global, capacities: [u32; 3]) -> Result<Vec<FileChannel<MemDisk>>, Fail> {
-    let mut channels = Vec::new(alloc);
-    for capacity in capacities {
-        channels.push(opened(alloc, capacity)?)?;
-    }
-    Ok(channels)
-}
 
 // CZ goes to the first channel and may go to the second; US goes to the third, which is the default, and may go to the second,
 // also where that is full.
@@ -128,6 +73,16 @@ fn extractor(alloc: Global) -> Result<ChainLink, Fail> {
     regex_link(alloc, &RegexKeys::Extract { regex, groups })
 }
 
+// Reads the date at the front of a body to the header timestamp.
+fn dated(alloc: Global) -> Result<ChainLink, Fail> {
+    let mut groups = Vec::new(alloc);
+    let name = String::from_str(alloc, "timestamp")?;
+    let millis = Some(String::from_str(alloc, "yyyy-MM-dd HH:mm")?);
+    groups.push(Group { name, millis })?;
+    let regex = String::from_str(alloc, "^(\\d{4}-\\d\\d-\\d\\d \\d\\d:\\d\\d)")?;
+    regex_link(alloc, &RegexKeys::Extract { regex, groups })
+}
+
 // Drops events with an `x` in them.
 fn filter(alloc: Global) -> Result<ChainLink, Fail> {
     let regex = String::from_str(alloc, "x")?;
@@ -186,24 +141,60 @@ fn steps<C: Channel + Drop>(alloc: Global, channels: Vec<C>) -> Result<bool, Fai
 #[test]
 fn an_event_goes_where_its_header_says(rt: HostRuntime) -> Result<(), Fail> {
     let alloc = rt.alloc();
-    assert!(rt; choices(alloc, plain(alloc, [10, 1, 10])?)?);
-    assert!(rt; choices(alloc, on_disk(alloc, [10, 1, 10])?)?);
+    assert!(rt; choices(alloc, plain(alloc, [10, 1, 10], 10)?)?);
+    assert!(rt; choices(alloc, on_disk(alloc, [10, 1, 10], 10)?)?);
     Ok(())
 }
 
 #[test]
 fn a_full_channel_is_named(rt: HostRuntime) -> Result<(), Fail> {
     let alloc = rt.alloc();
-    assert!(rt; refusals(alloc, plain(alloc, [10, 1, 10])?)?);
-    assert!(rt; refusals(alloc, on_disk(alloc, [10, 1, 10])?)?);
+    assert!(rt; refusals(alloc, plain(alloc, [10, 1, 10], 10)?)?);
+    assert!(rt; refusals(alloc, on_disk(alloc, [10, 1, 10], 10)?)?);
     Ok(())
 }
 
 #[test]
 fn groups_become_headers_and_dropped_events_are_nowhere(rt: HostRuntime) -> Result<(), Fail> {
     let alloc = rt.alloc();
-    assert!(rt; steps(alloc, plain(alloc, [10, 10, 10])?)?);
-    assert!(rt; steps(alloc, on_disk(alloc, [10, 10, 10])?)?);
+    assert!(rt; steps(alloc, plain(alloc, [10, 10, 10], 10)?)?);
+    assert!(rt; steps(alloc, on_disk(alloc, [10, 10, 10], 10)?)?);
+    Ok(())
+}
+
+// The date at the front of a body becomes a header of its milliseconds, which for the first body python3 gives:
+// `int(datetime(2012, 10, 18, 18, 47, tzinfo=timezone.utc).timestamp() * 1000)`. The second body has a date that is none.
+fn dates<C: Channel + Drop>(alloc: Global, channels: Vec<C>) -> Result<bool, Fail> {
+    let mut links = Vec::new(alloc);
+    links.push(dated(alloc)?)?;
+    let mut intake = intake_over(alloc, links, all_to_all(alloc), channels)?;
+    for body in [
+        b"2012-10-18 18:47 up".as_slice(),
+        b"2012-02-30 18:47 up".as_slice(),
+    ] {
+        if intake.accept(batch_of(alloc, "CZ", body)?, 0) != Verdict::Taken {
+            return Ok(false);
+        }
+    }
+    for place in 0..3 {
+        for want in [Some("1350586020000"), None] {
+            let Some(event) = next_at(&mut intake, place)? else {
+                return Ok(false);
+            };
+            if event.headers().get("timestamp") != want {
+                return Ok(false);
+            }
+        }
+    }
+    let sizes = sizes(alloc, intake)?;
+    Ok(sizes.as_slice() == [0, 0, 0].as_slice())
+}
+
+#[test]
+fn a_date_becomes_its_milliseconds(rt: HostRuntime) -> Result<(), Fail> {
+    let alloc = rt.alloc();
+    assert!(rt; dates(alloc, plain(alloc, [10, 10, 10], 10)?)?);
+    assert!(rt; dates(alloc, on_disk(alloc, [10, 10, 10], 10)?)?);
     Ok(())
 }
 
@@ -232,7 +223,7 @@ fn an_object_that_is_handed_in_goes_on_as_it_then_is(rt: HostRuntime) -> Result<
     let alloc = rt.alloc();
     let mut links = Vec::new(alloc);
     links.push(ChainLink::Boxed(Box::new(alloc, FirstOnly { seen: false })?))?;
-    let channels = plain(alloc, [10, 10, 10])?;
+    let channels = plain(alloc, [10, 10, 10], 10)?;
     let mut intake = intake_over(alloc, links, all_to_all(alloc), channels)?;
     for _ in 0..2 {
         let verdict = intake.accept(batch_of(alloc, "CZ", b"x")?, 0);

@@ -1,0 +1,8 @@
+// Laws of a plan.
+ghost use Rattle.plan_laws.specs.Names.{SourcesNameWhatIsThere};
+
+/// In each plan that `plan_of` may answer, the channels of a source are channels of the plan, and those that its selector names are
+/// channels of the source. So an intake over as many ports as the source has channels may be made without a further test.
+pub fn sources_name_what_is_there()
+    ensures { SourcesNameWhatIsThere }
+{}
