@@ -305,6 +305,31 @@ fn texts_that_are_no_patterns(rt: HostRuntime) -> Result<(), Fail> {
     Ok(())
 }
 
+// `regex` reads each of these patterns, and refuses the first three for their built size, of which the limit is 10 MiB: that is want of
+// memory, and they are not bad.
+#[test]
+fn a_pattern_that_is_built_too_large_is_not_bad(rt: HostRuntime) -> Result<(), Fail> {
+    let alloc = rt.alloc();
+    for (regex, want) in [
+        ("a{1000000000}", Some(BuildRefused::NoMemory)),
+        ("^(b|a{1000000000})$", Some(BuildRefused::NoMemory)),
+        ("(?:a{9}){1000000000}", Some(BuildRefused::NoMemory)),
+        ("a{100}", None),
+    ] {
+        let filter = RegexKeys::Filter {
+            regex: text(alloc, regex)?,
+            exclude: false,
+        };
+        assert!(rt; refusal(alloc, &filter) == want, "{regex}");
+        let replace = RegexKeys::Replace {
+            search: text(alloc, regex)?,
+            text: String::new(alloc),
+        };
+        assert!(rt; refusal(alloc, &replace) == want, "{regex}");
+    }
+    Ok(())
+}
+
 // What an event of a body of 33,554,424 bytes, the most without headers, and one of fewer are behind a step that adds bytes.
 #[test]
 fn what_grows_too_large_is_refused(rt: HostRuntime) -> Result<(), Fail> {
