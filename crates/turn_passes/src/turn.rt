@@ -5,9 +5,9 @@ ghost use Rattle.turn_passes.specs.Calls.{has, Below};
 ghost use Rattle.turn_passes.specs.Views.{View, dealer, dealing, newcomer, both, settled, part, idle, counted};
 ghost use Rattle.turn_passes.specs.Turns.{Making, Made, Knows, Has};
 
-use crate::guarded::{Guarded, Named};
+use crate::guarded::{Guarded, Named, Picked};
 use crate::named::named;
-use crate::plays::{Both, Count, Deal, Leave, Read, Settle, Take, Told, Turns};
+use crate::plays::{Both, Count, CountOne, Deal, Leave, Read, Settle, Take, Told, Turns};
 use crate::view::SeatView;
 use atomic_table::{Refused, Seat, Table};
 use std::alloc::{AllocFailed, Global};
@@ -183,6 +183,20 @@ impl<C: Guarded> Turn<C> {
         let _ = by;
         let _ = said;
         self.table.shared.fetch_add::<Count<E>>(seat, 0, 1);
+    }
+
+    /// Counts one of the calls that P picks, where it picks one of the seat's own numbers. What a caller's pick of P speaks of
+    /// is in `said`.
+    pub fn count_one<P: Picked, T>(&self, seat: &mut Place<C>, by: u64, said: &T)
+        requires table { seat.old.table_id ≡ self.now.table.shared.table_id }
+        requires turn { (seat.old.me.0.turn ≡ true) × (length seat.old.me.0.seen + 1 < 2 ^ 64) × (seat.old.me.0.live ≡ true) }
+        requires some { (e : Step) × P.picks e × (has seat.old.me.0.numbers e.pass ≡ true) }
+        ensures same { (seat.new.table_id ≡ seat.old.table_id) × (seat.new.id ≡ seat.old.id) }
+        ensures call { (e : Step) × P.picks e × (seat.new.me ≡ (counted e seat.old.me.0, seat.old.me.1)) × ((v : View) (es : List Step) → Making v es seat.old.me.0 → has v.numbers e.pass ≡ true → Making v (es ++ e ∷ []) seat.new.me.0) }
+    {
+        let _ = by;
+        let _ = said;
+        self.table.shared.fetch_add::<CountOne<P>>(seat, 0, 1);
     }
 
     /// Brings the value home, and gives the turn back.
