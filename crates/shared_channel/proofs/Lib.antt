@@ -2,3 +2,4 @@ mod Rooms
 mod Keeping
 mod Turning
 mod Porting
+mod Durables

@@ -1,4 +1,5 @@
 pub mod Counting
 pub mod Passes
 pub mod Calls
+pub mod Durables
 pub mod Ports

@@ -13,12 +13,14 @@ use std::mem;
 use std::sync::Wait;
 
 impl<C: Channel> Shared<C> {
-    // In one turn: flushes where the ticket is not settled, and answers whether it then is.
+    // In one turn: flushes where the ticket is not settled, and answers whether it then is. Those that wait come in first, so
+    // that they may have staged by then.
     fn settle<R: Wait>(&self, rt: &R, pass: &mut Pass, ticket: &Ticket) -> bool
         requires table { pass.old.table_id ≡ self.now.turn.table.shared.table_id }
         ensures same { (pass.new.table_id ≡ pass.old.table_id) × (pass.new.number ≡ pass.old.number) }
         ensures settles { Settles pass.old.view pass.new.view ticket.now result }
     {
+        self.turn.give_way(rt);
         let badge = mem::replace(&mut pass.badge, Badge::blank());
         let mut seat = badge.into_seat();
         let (mut home, calls) = self.enter(rt, &mut seat);

@@ -1,6 +1,7 @@
 //! A channel that threads share: any channel behind one turn, many callers, one legal history.
 #![tactic(auto)]
 
+mod durable;
 mod group;
 mod home;
 mod looks;

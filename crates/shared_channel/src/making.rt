@@ -18,7 +18,7 @@ use std::marker::Brand;
 use turn_passes::Place;
 
 // A call that no rollback needs the count for is made where fewer were counted.
-const MOST: u64 = 18446744073709550591;
+pub(crate) const MOST: u64 = 18446744073709550591;
 
 impl<C: Channel> Shared<C> {
     pub(crate) fn make_begin_put(

@@ -1,13 +1,16 @@
 // A pass beside its channel and its runtime.
 ghost use Rattle.std.specs.Prelude.{◌≡◌, ◌<◌, ◌≤◌, All, length};
 ghost use Rattle.channel_face.specs.Faces.{Gains, picked_events, IsPutBatch, IsTakeBegun, IsTake, IsTakeCommit, IsTakeRolledBack};
+ghost use Rattle.shared_channel.specs.Durables.{Mends};
 ghost use Rattle.shared_channel.specs.Ports.{AreOwned, Saw};
 
 use crate::pass::Pass;
 use crate::shared::Shared;
-use channel_face::{Channel, FaceRefused, PutFace, TakeFace, TakeTxn};
+use channel_face::{Channel, Durable, FaceRefused, OpenCause, PutFace, TakeFace, TakeTxn};
 use event_core::{Batch, Event};
+use flume_host::Steps;
 use std::sync::Wait;
+use std::sync::ledger::Ledger;
 
 /// What a source or a sink has of a shared channel. Each call of a transaction is a turn of its own; a staged transaction is
 /// settled in a further turn, where a flush of another caller may have settled it already.
@@ -37,6 +40,16 @@ impl<'a, R: Wait, C: Channel> Port<'a, R, C> {
             pass,
         } = self;
         pass
+    }
+}
+
+impl<'a, R: Wait, C: Durable> Port<'a, R, C> {
+    /// Reopens the channel exactly where it is broken, as [`Shared::mend`].
+    pub fn mend<L: Ledger>(&mut self, steps: &mut Steps<L>) -> Result<bool, OpenCause>
+        ensures same { (self.new.pass.table_id ≡ self.old.pass.table_id) × (self.new.pass.number ≡ self.old.pass.number) }
+        ensures call { Mends C.stands C.tells C.moment self.old.pass.view self.old.pass.number result self.new.pass.view }
+    {
+        self.shared.mend(self.rt, &mut self.pass, steps)
     }
 }
 

@@ -11,7 +11,7 @@ use Rattle.atomic_table.proofs.Lists.{at_set, set_again, set_here, exchanged}
 use Rattle.channel_face.specs.History.{Opening, Step}
 use Rattle.turn_passes.specs.Views.{Part, View, nothing, entered, idle, counted}
 use Rattle.turn_passes.specs.Calls.{has, calls_by, Below}
-use Rattle.turn_passes.specs.Turns.{Heard, Fits, Apart, Kept, Knows, Takes, Reads, Counts, Leaves}
+use Rattle.turn_passes.specs.Turns.{Heard, Fits, Apart, Kept, Knows, Takes, Reads, Counts, CountsOne, Leaves}
 use Rattle.turn_passes.proofs.Histories.{begins_self, begins_empty, begins_more, below_up, no_numbers, calls_by-other, below-more}
 
 pub off : false ≡ true → ⊥
@@ -200,6 +200,9 @@ module _ {C : Type 0} (stands : C → Opening → List Step → Type 0) (base : 
             };
         apart = apart_set s.views id me.0 w at (λ n h. h) k.apart;
       }
+
+  pub counts_one : (id : ℕ) (me : Me (Option C) View) (P : Step → Type 0) (e : Step) → P e → me.0.turn ≡ true → me.0.live ≡ true → has me.0.numbers e.pass ≡ true → length me.0.seen + 1 < 18446744073709551616 → Allows (Kept stands base passes) 1 id me 0 (λ n. (n + 1) % 2 ^ 64) (CountsOne P (step 1 0 1 0 maybe.none) me)
+  counts_one id me P e picked on live own room s k wide at small = let r = counts id me e on live own room s k wide at small in (r.0, r.1, r.2, r.3, (e, picked, r.4))
 
   pub leaves : (id : ℕ) (me : Me (Option C) View) (c : C) → me.0.turn ≡ true → me.0.live ≡ true → me.1 ≡ (0, Some c) ∷ [] → stands c me.0.base me.0.seen → Allows (Kept stands base passes) 1 id me 1 (λ _. 0) (λ _. Leaves (step 1 1 0 0 maybe.none) me 0)
   leaves id me c on live out ok = subst Q (sym out) go

@@ -67,6 +67,10 @@ module _ {C : Type 0} where
   abbrev pub Counts : Step → TableStep (Option C) → Me (Option C) View → ℕ → Me (Option C) View → Type 0
   Counts e s m n w = (w ≡ (counted e m.0, m.1)) × Below m.0.passes (m.0.seen ++ e ∷ [])
 
+  -- count a call of which P is true
+  abbrev pub CountsOne : (Step → Type 0) → TableStep (Option C) → Me (Option C) View → ℕ → Me (Option C) View → Type 0
+  CountsOne P s m n w = (e : Step) × P e × Counts e s m n w
+
   -- give the turn back, with what is in the slot
   abbrev pub Leaves : TableStep (Option C) → Me (Option C) View → ℕ → Me (Option C) View → Type 0
   Leaves s m n w = w ≡ (idle m.0, rest m.1)

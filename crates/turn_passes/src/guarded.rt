@@ -15,6 +15,15 @@ pub trait Named {
     ghost entry: { Step };
 }
 
+/// Says which calls are meant, one of which is made.
+pub trait Picked {
+    ghost picks: { Step → Type 0 };
+}
+
+impl Picked for Brand {
+    ghost picks = { λ e. Unit {0} };
+}
+
 impl Named for Brand {
     ghost entry = { record { pass = 0; call = Flush (Ok tt); moment = 0 } };
 }

@@ -7,6 +7,6 @@ mod plays;
 mod turn;
 mod view;
 
-pub use guarded::{Guarded, Named};
+pub use guarded::{Guarded, Named, Picked};
 pub use turn::{Place, Turn, Unshared};
 pub use view::SeatView;

@@ -1,8 +1,8 @@
 //! The steps at the table.
 ghost use Rattle.turn_passes.specs.Views.{dealer, first_opening, dealing, newcomer, both, gone};
-ghost use Rattle.turn_passes.specs.Turns.{Kept, Takes, Reads, Counts, Leaves, Settles};
+ghost use Rattle.turn_passes.specs.Turns.{Kept, Takes, Reads, Counts, CountsOne, Leaves, Settles};
 
-use crate::guarded::{Guarded, Named};
+use crate::guarded::{Guarded, Named, Picked};
 use crate::named::Opened;
 use crate::view::SeatView;
 use atomic_table::{Badge, Join, Play, Split, TableRule};
@@ -39,6 +39,14 @@ pub struct Count<E> {
 
 impl<C, E: Named> Play<Option<C>, SeatView> for Count<E> {
     ghost then = { Counts E.entry };
+}
+
+pub struct CountOne<P> {
+    picked: PhantomData<P>,
+}
+
+impl<C, P: Picked> Play<Option<C>, SeatView> for CountOne<P> {
+    ghost then = { CountsOne P.picks };
 }
 
 pub struct Leave;

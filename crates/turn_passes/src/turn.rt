@@ -5,16 +5,16 @@ ghost use Rattle.turn_passes.specs.Calls.{has, Below};
 ghost use Rattle.turn_passes.specs.Views.{View, dealer, dealing, newcomer, both, settled, part, idle, counted};
 ghost use Rattle.turn_passes.specs.Turns.{Making, Made, Knows, Has};
 
-use crate::guarded::{Guarded, Named};
+use crate::guarded::{Guarded, Named, Picked};
 use crate::named::named;
-use crate::plays::{Both, Count, Deal, Leave, Read, Settle, Take, Told, Turns};
+use crate::plays::{Both, Count, CountOne, Deal, Leave, Read, Settle, Take, Told, Turns};
 use crate::view::SeatView;
 use atomic_table::{Refused, Seat, Table};
 use std::alloc::{AllocFailed, Global};
 use std::marker::Brand;
-use std::sync::Wait;
 use std::sync::atomic::AtomicU64;
 use std::sync::atomic::Ordering::SeqCst;
+use std::sync::{Mutex, Wait};
 use std::thread;
 use std::time::Duration;
 
@@ -28,11 +28,20 @@ const TRIES: u32 = 16;
 
 const MILLIS: u64 = 50;
 
+// How often a thread lets others in first, and how long each time. Nobody wakes it.
+const WAYS: u32 = 16;
+
+const MICROS: u64 = 200;
+
 /// A value that threads share in turns.
 #[derive(Drop)]
 pub struct Turn<C: Guarded> {
     pub(crate) table: Table<Option<C>, SeatView, Told, Turns<C>, Global>,
-    // How many threads sleep until the turn is free, or are about to. No clause rests on it.
+    // Who is next for the turn has it; the others wait for it here, so that nobody who had the turn overtakes them for long.
+    queue: Mutex<()>,
+    // How many wait for the turn, and whether who is next sleeps until it is free, or is about to. No clause rests on these
+    // three.
+    waiting: AtomicU64,
     asleep: AtomicU64,
     ghost sized: { (table.shared.table_id.words ≡ 2) × (table.shared.table_id.slots ≡ 1) },
 }
@@ -63,6 +72,8 @@ impl<C: Guarded> Turn<C> {
             Ok((table, seat)) => Ok((
                 Turn {
                     table,
+                    queue: Mutex::new(()),
+                    waiting: AtomicU64::new(0),
                     asleep: AtomicU64::new(0),
                 },
                 seat,
@@ -143,8 +154,8 @@ impl<C: Guarded> Turn<C> {
         }
     }
 
-    /// Takes the turn, and the value out of its slot. It may wait for the turn: it tries some times, and then sleeps until the
-    /// turn is given back.
+    /// Takes the turn, and the value out of its slot. It may wait for the turn, behind those that wait already: who is next
+    /// tries some times, and then sleeps until the turn is given back.
     pub fn enter<R: Wait>(&self, rt: &R, seat: &mut Place<C>) -> C
         requires table { seat.old.table_id ≡ self.now.table.shared.table_id }
         requires idle { (seat.old.me.0.turn ≡ false) × (seat.old.me.1 ≡ []) × (seat.old.me.0.live ≡ true) }
@@ -152,13 +163,32 @@ impl<C: Guarded> Turn<C> {
         ensures turn { (seat.new.me.1 ≡ (0, None) ∷ []) × Knows C.stands seat.old.me.0 result seat.new.me.0 }
         ensures making { Making seat.old.me.0 [] seat.new.me.0 }
     {
+        self.waiting.fetch_add(1, SeqCst);
+        let _next = self.queue.lock(rt);
         for _ in rt.forever() {
             match self.try_often(seat) {
-                Some(value) => return value,
+                Some(value) => {
+                    self.waiting.fetch_sub(1, SeqCst);
+                    return value;
+                }
                 None => self.sleep(rt),
             }
         }
         unreachable!()
+    }
+
+    /// Lets those in first that wait for the turn, for a few milliseconds at most. Who is about to make a long call for others
+    /// too asks for this, so that more of them have come in by then.
+    pub fn give_way<R: Wait>(&self, rt: &R) {
+        for _ in 0..WAYS {
+            if self.waiting.load(SeqCst) == 0 {
+                return;
+            }
+            let calls = self.table.shared.peek(0) % 4_294_967_296;
+            self.table
+                .shared
+                .park_timeout(rt, 0, calls as u32, Duration::from_micros(MICROS));
+        }
     }
 
     /// How many calls the history has.
@@ -183,6 +213,20 @@ impl<C: Guarded> Turn<C> {
         let _ = by;
         let _ = said;
         self.table.shared.fetch_add::<Count<E>>(seat, 0, 1);
+    }
+
+    /// Counts one of the calls that P picks, where it picks one of the seat's own numbers. What a caller's pick of P speaks of
+    /// is in `said`.
+    pub fn count_one<P: Picked, T>(&self, seat: &mut Place<C>, by: u64, said: &T)
+        requires table { seat.old.table_id ≡ self.now.table.shared.table_id }
+        requires turn { (seat.old.me.0.turn ≡ true) × (length seat.old.me.0.seen + 1 < 2 ^ 64) × (seat.old.me.0.live ≡ true) }
+        requires some { (e : Step) × P.picks e × (has seat.old.me.0.numbers e.pass ≡ true) }
+        ensures same { (seat.new.table_id ≡ seat.old.table_id) × (seat.new.id ≡ seat.old.id) }
+        ensures call { (e : Step) × P.picks e × (seat.new.me ≡ (counted e seat.old.me.0, seat.old.me.1)) × ((v : View) (es : List Step) → Making v es seat.old.me.0 → has v.numbers e.pass ≡ true → Making v (es ++ e ∷ []) seat.new.me.0) }
+    {
+        let _ = by;
+        let _ = said;
+        self.table.shared.fetch_add::<CountOne<P>>(seat, 0, 1);
     }
 
     /// Brings the value home, and gives the turn back.
