@@ -3,9 +3,17 @@
 #![tactic(auto)]
 
 #[cfg(test)]
+mod held;
+#[cfg(test)]
+mod in_memory;
+#[cfg(test)]
 mod many;
 #[cfg(test)]
+mod mended;
+#[cfg(test)]
 mod opened;
+#[cfg(test)]
+mod reopening;
 #[cfg(test)]
 mod staged;
 #[cfg(test)]

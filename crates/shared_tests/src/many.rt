@@ -2,6 +2,7 @@
 // at the events: each is there once, and the counts are the sums of what the threads did.
 ghost use Rattle.std.specs.Prelude.{◌≡◌, All, IfSome};
 
+use crate::in_memory::{in_memory, plain};
 use crate::opened::{Opened, on_disk};
 use crate::work::{Work, number_in, put_and_take};
 use channel_face::Channel;
@@ -87,7 +88,7 @@ fn four<C: Channel + Drop + Send, R: Threads + Wait + Sync>(
 }
 
 // The last pass of those that are left.
-fn last<C: Channel>(shared: &Shared<C>, passes: &mut Vec<Pass>) -> Option<Pass>
+pub fn last<C: Channel>(shared: &Shared<C>, passes: &mut Vec<Pass>) -> Option<Pass>
     requires { All (λ p. p.table_id ≡ shared.now.turn.table.shared.table_id) passes.old.items }
     ensures { All (λ p. p.table_id ≡ shared.now.turn.table.shared.table_id) passes.new.items × IfSome result (λ p. p.table_id ≡ shared.now.turn.table.shared.table_id) }
 {
@@ -224,13 +225,29 @@ fn eight_are_whole<C: Channel + Drop + Send, R: Threads + Wait + Sync>(
 #[test]
 fn two_threads_lose_and_double_nothing(rt: HostRuntime) -> Result<(), Fail> {
     let alloc = rt.alloc();
-    assert!(rt; two_are_whole(&rt, alloc, on_disk(alloc, MemDisk::new(alloc), 2))?);
+    assert!(rt;
+        two_are_whole(&rt, alloc, on_disk(alloc, MemDisk::new(alloc), 2))?,
+        "on a disk"
+    );
+    assert!(rt;
+        two_are_whole(&rt, alloc, in_memory(alloc, 2))?,
+        "in memory"
+    );
+    assert!(rt; two_are_whole(&rt, alloc, plain(alloc, 2))?, "plain");
     Ok(())
 }
 
 #[test]
 fn eight_threads_lose_and_double_nothing(rt: HostRuntime) -> Result<(), Fail> {
     let alloc = rt.alloc();
-    assert!(rt; eight_are_whole(&rt, alloc, on_disk(alloc, MemDisk::new(alloc), 8))?);
+    assert!(rt;
+        eight_are_whole(&rt, alloc, on_disk(alloc, MemDisk::new(alloc), 8))?,
+        "on a disk"
+    );
+    assert!(rt;
+        eight_are_whole(&rt, alloc, in_memory(alloc, 8))?,
+        "in memory"
+    );
+    assert!(rt; eight_are_whole(&rt, alloc, plain(alloc, 8))?, "plain");
     Ok(())
 }

@@ -11,9 +11,11 @@ use shared_channel::{Pass, Shared};
 use std::alloc::Global;
 use std::marker::Brand;
 use std::snapshot::Snapshot;
+use std::sync::Wait;
 use std::sync::ledger::{Blank, Ledger};
+use std::test::Fail;
 
-const LIMITS: Limits = Limits {
+pub const LIMITS: Limits = Limits {
     capacity: 100_000,
     txn_capacity: 1000,
     max_file: 1_000_000,
@@ -41,7 +43,7 @@ fn share_opened<D: Disk + Drop>(
     }
 }
 
-fn on_disk_by<D: Disk + Drop, L: Ledger>(
+pub fn on_disk_by<D: Disk + Drop, L: Ledger>(
     alloc: Global,
     blank: Blank,
     disk: D,
@@ -65,4 +67,15 @@ pub fn on_disk(alloc: Global, disk: MemDisk, passes: u32) -> Opened<FileChannel<
     ensures { IfSome result (λ r. All (λ p. p.table_id ≡ r.0.turn.table.shared.table_id) r.1.items) }
 {
     on_disk_by::<MemDisk, Brand>(alloc, Blank::new(1), disk, passes)
+}
+
+// How many calls an opening makes of its disk.
+pub fn calls_of_opening(rt: &impl Wait, alloc: Global) -> Result<u64, Fail> {
+    let Some((shared, mut passes)) = on_disk(alloc, MemDisk::new(alloc), 1) else {
+        return Err(Fail::from("no channel"));
+    };
+    let Some(pass) = passes.pop() else {
+        return Err(Fail::from("no pass"));
+    };
+    Ok(shared.close(rt, pass).channel.close().calls())
 }

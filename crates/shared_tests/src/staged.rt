@@ -2,9 +2,9 @@
 ghost use Rattle.std.specs.Prelude.{◌≡◌};
 
 use crate::many::pair;
-use crate::opened::on_disk;
+use crate::opened::{calls_of_opening, on_disk};
 use crate::work::batch_of;
-use channel_face::{BeginRefused, FaceRefused, PutFace, Settled, StageRefused, Ticket};
+use channel_face::{BeginRefused, Channel, FaceRefused, PutFace, Settled, StageRefused, Ticket};
 use event_core::{Event, Headers};
 use file_channel::FileChannel;
 use host_memory::{DiskFault, MemDisk, Part};
@@ -99,10 +99,11 @@ fn syncs_of<R: Wait>(rt: &R, shared: OnDisk, a: Pass, b: Pass) -> u64
     shared.close(rt, a).channel.close().syncs()
 }
 
-fn put_by_port<R: Wait>(
+// Puts an event by a port.
+pub fn put_by_port<C: Channel, R: Wait>(
     rt: &R,
     alloc: Global,
-    shared: &OnDisk,
+    shared: &Shared<C>,
     pass: Pass,
 ) -> (Pass, Option<Result<u64, FaceRefused>>)
     requires { pass.table_id ≡ shared.now.turn.table.shared.table_id }
@@ -157,16 +158,9 @@ fn a_port_settles_what_another_staged(rt: HostRuntime) -> Result<(), Fail> {
 #[test]
 fn a_failed_sync_leaves_a_commit_in_doubt(rt: HostRuntime) -> Result<(), Fail> {
     let alloc = rt.alloc();
-    let Some((shared, mut passes)) = on_disk(alloc, MemDisk::new(alloc), 1) else {
-        return Err(Fail::from("no channel"));
-    };
-    let Some(pass) = passes.pop() else {
-        return Err(Fail::from("no pass"));
-    };
-    let calls = shared.close(&rt, pass).channel.close().calls();
     // the flush writes, syncs, writes and syncs
     let fault = DiskFault {
-        call: calls.saturating_add(3),
+        call: calls_of_opening(&rt, alloc)?.saturating_add(3),
         part: Part::Nothing,
     };
     let disk = MemDisk::new(alloc).failing_at(vec![in alloc; fault]?);
