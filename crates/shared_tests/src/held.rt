@@ -1,10 +1,11 @@
 // A disk whose sync waits for a commit of another channel: the turn of one channel does not hold another up.
-ghost use Rattle.std.specs.Prelude.{◌≡◌};
+ghost use Rattle.std.specs.Prelude.{◌≡◌, All, IfSome};
 
 use crate::many::last;
-use crate::opened::{on_disk, on_disk_by};
+use crate::opened::{Opened, on_disk, on_disk_by};
 use crate::staged::put_by_port;
 use channel_face::{Channel, FaceRefused};
+use file_channel::FileChannel;
 use flume_host::{Disk, Failed, FileName};
 use host_memory::MemDisk;
 use shared_channel::{Pass, Shared};
@@ -15,7 +16,10 @@ use std::sync::atomic::AtomicU64;
 use std::sync::atomic::Ordering::SeqCst;
 use std::sync::ledger::Blank;
 use std::test::Fail;
-use std::thread::{self, join};
+use std::thread::{self, Threads, join};
+
+// What a put through a port answered, where there was memory for it.
+type Answer = Option<Result<u64, FaceRefused>>;
 
 // How often a flag is looked at.
 const LOOKS: u32 = 1_000_000_000;
@@ -52,13 +56,14 @@ struct HeldDisk<'a> {
 }
 
 impl<'a> Disk for HeldDisk<'a> {
+    ghost use Rattle.host_memory.specs.Laws.{sound};
     ghost use Rattle.host_memory.specs.Words.{told_in, disk_faults};
 
     ghost told = { λ d. told_in d.disk };
 
     ghost faults = { λ d. disk_faults d.disk };
 
-    ghost reads_are_left = { λ d t is. ⟦<MemDisk as Disk>⟧.reads_are_left d.disk t is };
+    ghost reads_are_left = { λ d t is. sound d.disk.tells d.disk.store.first.items d.disk.store.calls.items t is };
 
     fn faults(&self) -> u64 {
         self.disk.faults()
@@ -101,6 +106,13 @@ impl<'a> Disk for HeldDisk<'a> {
     }
 }
 
+// A channel on such a disk, which no call has been made of, with one pass.
+fn opened<'a>(alloc: Global, disk: HeldDisk<'a>) -> Opened<FileChannel<HeldDisk<'a>>>
+    ensures { IfSome result (λ r. All (λ p. p.table_id ≡ r.0.turn.table.shared.table_id) r.1.items) }
+{
+    on_disk_by::<HeldDisk<'a>, Brand>(alloc, Blank::new(1), disk, 1)
+}
+
 // Puts once a sync of the other channel waits, and lets that go on.
 fn put_meanwhile<C: Channel, R: Wait>(
     rt: &R,
@@ -108,13 +120,36 @@ fn put_meanwhile<C: Channel, R: Wait>(
     gate: &Gate,
     shared: &Shared<C>,
     pass: Pass,
-) -> Option<Result<u64, FaceRefused>>
+) -> Answer
     requires { pass.table_id ≡ shared.now.turn.table.shared.table_id }
 {
     wait_for(&gate.waits, &gate.given_up);
     let (_, reply) = put_by_port(rt, alloc, shared, pass);
     gate.answered.store(1, SeqCst);
     reply
+}
+
+// A put in the one channel, and beside its sync a put in the other.
+fn puts_beside_a_sync<A: Channel + Drop + Send, B: Channel + Drop + Send, R: Threads + Wait + Sync>(
+    rt: &R,
+    alloc: Global,
+    gate: &Gate,
+    held: (&Shared<A>, Pass),
+    other: (&Shared<B>, Pass),
+) -> (Answer, Answer)
+    requires { (held.1.table_id ≡ held.0.now.turn.table.shared.table_id) × (other.1.table_id ≡ other.0.now.turn.table.shared.table_id) }
+{
+    let (one, a) = held;
+    let (two, b) = other;
+    join(
+        rt,
+        move || -> Answer
+            requires { a.table_id ≡ one.now.turn.table.shared.table_id }
+        { put_by_port(rt, alloc, one, a).1 },
+        move || -> Answer
+            requires { b.table_id ≡ two.now.turn.table.shared.table_id }
+        { put_meanwhile(rt, alloc, gate, two, b) },
+    )
 }
 
 #[test]
@@ -130,8 +165,7 @@ fn gate_sync(rt: HostRuntime) -> Result<(), Fail> {
         disk: MemDisk::new(alloc),
         gate: &gate,
     };
-    let Some((held, mut passes)) = on_disk_by::<HeldDisk, Brand>(alloc, Blank::new(1), disk, 1)
-    else {
+    let Some((held, mut passes)) = opened(alloc, disk) else {
         return Err(Fail::from("no channel"));
     };
     let Some((other, mut others)) = on_disk(alloc, MemDisk::new(alloc), 1) else {
@@ -144,16 +178,7 @@ fn gate_sync(rt: HostRuntime) -> Result<(), Fail> {
         return Err(Fail::from("no pass"));
     };
     gate.holds.store(1, SeqCst);
-    let (gate, held, other, rt) = (&gate, &held, &other, &rt);
-    let (one, two) = join(
-        rt,
-        move || -> Option<Result<u64, FaceRefused>>
-            requires { a.table_id ≡ held.now.turn.table.shared.table_id }
-        { put_by_port(rt, alloc, held, a).1 },
-        move || -> Option<Result<u64, FaceRefused>>
-            requires { b.table_id ≡ other.now.turn.table.shared.table_id }
-        { put_meanwhile(rt, alloc, gate, other, b) },
-    );
+    let (one, two) = puts_beside_a_sync(&rt, alloc, &gate, (&held, a), (&other, b));
     assert!(rt; one == Some(Ok(0)) && two == Some(Ok(0)));
     assert_eq!(rt; gate.given_up.load(SeqCst), 0);
     Ok(())
