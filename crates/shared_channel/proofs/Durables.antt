@@ -1,5 +1,5 @@
 -- Calls of a channel on a disk, in a turn.
-use Rattle.std.proofs.Common.{◌≡◌, ◌⊎◌, ◌<◌, ◌≤◌, ◌-◌, ◌^◌, inl, inr, ℕ, List, [], ◌∷◌, ◌++◌, length, Option, Result, Ok, Err, Bool, true, false, not, refl, sym, ◌∙◌, ap, subst, arith}
+use Rattle.std.proofs.Common.{◌≡◌, ◌⊎◌, ◌-◌, ◌^◌, inl, inr, ℕ, List, [], ◌∷◌, ◌++◌, length, Option, Result, Ok, Err, Bool, true, false, not, refl, sym, ◌∙◌, ap, subst}
 use Rattle.std.proofs.lemmas.List.{append-nil}
 use Rattle.atomic_table.specs.Table.{Me}
 use Rattle.channel_face.specs.Machine.{State, Reopen, Reopened, AdmitsCheckpoint, AdmitsPrune, AdmitsReopen}
@@ -15,7 +15,7 @@ use Rattle.turn_passes.specs.Calls.{has}
 use Rattle.turn_passes.specs.Views.{View, counted}
 use Rattle.turn_passes.specs.Turns.{Making}
 use Rattle.shared_channel.specs.Calls.{step, made_if, state_seen, Bounds, IsIn, Makes, Left}
-use Rattle.shared_channel.specs.Durables.{is_spent_check, is_spent_prune, is_spent_open, mended, calls_of, WasBroken, IsReopen, MakesReopen, MakesMended, Reopens, Mends}
+use Rattle.shared_channel.specs.Durables.{is_spent_check, is_spent_prune, is_spent_open, calls_of, WasBroken, IsReopen, MakesReopen, MakesMended, Reopens, Mends}
 use Rattle.shared_channel.proofs.Turning.{makes_kept, answers}
 
 -- the machine refuses none of them because no more calls are counted

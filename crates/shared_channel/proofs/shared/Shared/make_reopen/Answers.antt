@@ -1,6 +1,6 @@
 use Rattle.std.proofs.Common.{rules, refl, sym, subst, Bool, length, ◌^◌, ◌-◌}
 use Rattle.channel_face.specs.History.{reopen_reply}
-use Rattle.channel_face.specs.Machine.{Reopen, Reopened, Front}
+use Rattle.channel_face.specs.Machine.{Reopen, Front}
 use Rattle.shared_channel.specs.Calls.{step, state_seen, Bounds}
 use Rattle.shared_channel.proofs.Keeping.{answered_by, keeps_more}
 use Rattle.shared_channel.proofs.Turning.{makes_none}
