@@ -9,7 +9,11 @@ mod in_memory;
 #[cfg(test)]
 mod many;
 #[cfg(test)]
+mod mended;
+#[cfg(test)]
 mod opened;
+#[cfg(test)]
+mod reopening;
 #[cfg(test)]
 mod staged;
 #[cfg(test)]
