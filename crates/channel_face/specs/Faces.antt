@@ -31,9 +31,9 @@ pub record Own : Type 0 where
 abbrev pub one : Call → State → ℕ → List Own
 one call before moment = record { call = call; before = before; moment = moment } ∷ []
 
--- From any calls of its own on, a face goes on by some more, of which P is true.
-abbrev pub Gains : (List Own → Type 0) → (List Own → Type 0) → (List Own → Type 0) → Type 0
-Gains before later P = (own : List Own) → before own → (more : List Own) × later (own ++ more) × P more
+-- From any calls of its own on, a face goes on by some more, of which P is true behind the earlier ones.
+abbrev pub Gains : (List Own → Type 0) → (List Own → Type 0) → (List Own → List Own → Type 0) → Type 0
+Gains before later P = (own : List Own) → before own → (more : List Own) × later (own ++ more) × P own more
 
 -- the events at these places
 abbrev pub picked_events : List Content → List ℕ → List Content
@@ -76,24 +76,26 @@ begun_as (Err refused) = Err (Face.Begin refused)
 abbrev pub in_doubt_unless : {A : Type 0} → Bool → A → Result A FaceRefused
 in_doubt_unless sure value = if sure then Ok value else Err Face.InDoubt
 
--- Below, `saw` are the states in which the face has seen the channel, and `seen` is how many of the channel's calls it has seen.
+-- Below, `saw own s` where the face has seen the channel in the state s once `own` were its own calls and no further one was, `seen` is how
+-- many of the channel's calls it has seen, and `earlier` are its own calls so far.
 
 -- The call was made in this state. One that was refused because no more calls are counted is not counted, and comes only near the end of the count.
 abbrev pub IsMade : ℕ → Bool → Call → State → List Own → Type 0
 IsMade seen false call s own = (moment : ℕ) × (own ≡ one call s moment)
 IsMade seen true call s own = (own ≡ []) × (2 ^ 64 - 1026 ≤ seen)
 
--- The transaction was rolled back, unless its token was stale. A rollback of a stale token changes nothing, and a shared channel does not count it.
-abbrev pub IsRolledBack : (State → Type 0) → (Bool → Call) → (State → Type 0) → List Own → Type 0
-IsRolledBack saw rollback IsStale own =
+-- The transaction was rolled back, unless its token was stale behind the earlier calls. A rollback of a stale token changes nothing, and a shared
+-- channel does not count it.
+abbrev pub IsRolledBack : (List Own → State → Type 0) → (Bool → Call) → (State → Type 0) → List Own → List Own → Type 0
+IsRolledBack saw rollback IsStale earlier own =
     ((s : State) × (moment : ℕ) × (own ≡ one (rollback true) s moment))
-    ⊎ ((s : State) × saw s × IsStale s × ((own ≡ []) ⊎ ((moment : ℕ) × (own ≡ one (rollback false) s moment))))
+    ⊎ ((s : State) × saw earlier s × IsStale s × ((own ≡ []) ⊎ ((moment : ℕ) × (own ≡ one (rollback false) s moment))))
 
-abbrev pub IsPutRolledBack : (State → Type 0) → Token → List Own → Type 0
-IsPutRolledBack saw token own = IsRolledBack saw (RollbackPut token) (λ s. puts_of s token ≡ None) own
+abbrev pub IsPutRolledBack : (List Own → State → Type 0) → Token → List Own → List Own → Type 0
+IsPutRolledBack saw token earlier own = IsRolledBack saw (RollbackPut token) (λ s. puts_of s token ≡ None) earlier own
 
-abbrev pub IsTakeRolledBack : (State → Type 0) → Token → List Own → Type 0
-IsTakeRolledBack saw token own = IsRolledBack saw (RollbackTake token) (λ s. takes_of s token ≡ None) own
+abbrev pub IsTakeRolledBack : (List Own → State → Type 0) → Token → List Own → List Own → Type 0
+IsTakeRolledBack saw token earlier own = IsRolledBack saw (RollbackTake token) (λ s. takes_of s token ≡ None) earlier own
 
 -- A staged transaction whose ticket was found so: it is flushed exactly where it was not settled. It is sure where it was settled or the flush answered Ok.
 abbrev pub EndsAs : ℕ → State → Settled → List Own → Bool → Type 0
@@ -101,9 +103,9 @@ EndsAs seen s Yes own sure = (own ≡ []) × (sure ≡ true)
 EndsAs seen s No own sure = (reply : Result (Unit {0}) FlushRefused) × IsMade seen (is_spent_flush reply) (Flush reply) s own × (sure ≡ is_ok reply)
 EndsAs seen s InDoubt own sure = (own ≡ []) × (sure ≡ false)
 
--- its ticket was asked for in a state that the face saw
-abbrev pub Ends : (State → Type 0) → ℕ → Ticket → List Own → Bool → Type 0
-Ends saw seen ticket own sure = (s : State) × saw s × EndsAs seen s (settled s ticket) own sure
+-- its ticket was asked for behind the earlier calls
+abbrev pub Ends : (List Own → State → Type 0) → ℕ → Ticket → List Own → List Own → Bool → Type 0
+Ends saw seen ticket earlier own sure = (s : State) × saw earlier s × EndsAs seen s (settled s ticket) own sure
 
 -- each event was put, in order
 abbrev pub ArePut : Token → List Content → List Own → Type 0
@@ -118,33 +120,34 @@ ArePutUpTo seen token events (Err refused) own =
     × IsMade seen (is_spent_put (Err refused)) (Put token event (Err refused)) s put
 
 -- a stage of puts was answered so
-abbrev pub EndsStage : (State → Type 0) → ℕ → Token → Result Ticket StageCause → List Own → Result ℕ FaceRefused → Type 0
-EndsStage saw seen token (Err cause) own result = IsPutRolledBack saw token own × (result ≡ Err (Face.Stage cause))
-EndsStage saw seen token (Ok ticket) own result = (sure : Bool) × Ends saw seen ticket own sure × (result ≡ in_doubt_unless sure ticket.first)
+abbrev pub EndsStage : (List Own → State → Type 0) → ℕ → Token → Result Ticket StageCause → List Own → List Own → Result ℕ FaceRefused → Type 0
+EndsStage saw seen token (Err cause) earlier own result = IsPutRolledBack saw token earlier own × (result ≡ Err (Face.Stage cause))
+EndsStage saw seen token (Ok ticket) earlier own result = (sure : Bool) × Ends saw seen ticket earlier own sure × (result ≡ in_doubt_unless sure ticket.first)
 
 -- the puts are staged
-abbrev pub IsPutStage : (State → Type 0) → ℕ → Token → Result ℕ FaceRefused → List Own → Type 0
-IsPutStage saw seen token result own =
+abbrev pub IsPutStage : (List Own → State → Type 0) → ℕ → Token → Result ℕ FaceRefused → List Own → List Own → Type 0
+IsPutStage saw seen token result earlier own =
     (reply : Result Ticket StageCause) × (s : State) × (staged ending : List Own) × (own ≡ staged ++ ending)
-    × IsMade seen (is_spent_stage reply) (StagePut token reply) s staged × EndsStage saw seen token reply ending result
+    × IsMade seen (is_spent_stage reply) (StagePut token reply) s staged × EndsStage saw seen token reply (earlier ++ staged) ending result
 
 -- the puts were answered so
-abbrev pub EndsPuts : (State → Type 0) → ℕ → Token → Result (Unit {0}) PutRefused → List Own → Result ℕ FaceRefused → Type 0
-EndsPuts saw seen token (Ok done) own result = IsPutStage saw seen token result own
-EndsPuts saw seen token (Err refused) own result = IsPutRolledBack saw token own × (result ≡ Err (Face.Put refused))
+abbrev pub EndsPuts : (List Own → State → Type 0) → ℕ → Token → Result (Unit {0}) PutRefused → List Own → List Own → Result ℕ FaceRefused → Type 0
+EndsPuts saw seen token (Ok done) earlier own result = IsPutStage saw seen token result earlier own
+EndsPuts saw seen token (Err refused) earlier own result = IsPutRolledBack saw token earlier own × (result ≡ Err (Face.Put refused))
 
 -- the begin was answered so
-abbrev pub EndsBegin : (State → Type 0) → ℕ → List Content → Result Token BeginRefused → List Own → Result ℕ FaceRefused → Type 0
-EndsBegin saw seen events (Err refused) own result = (own ≡ []) × (result ≡ Err (Face.Begin refused))
-EndsBegin saw seen events (Ok token) own result =
-    (reply : Result (Unit {0}) PutRefused) × (puts ending : List Own) × (own ≡ puts ++ ending) × ArePutUpTo seen token events reply puts × EndsPuts saw seen token reply ending result
+abbrev pub EndsBegin : (List Own → State → Type 0) → ℕ → List Content → Result Token BeginRefused → List Own → List Own → Result ℕ FaceRefused → Type 0
+EndsBegin saw seen events (Err refused) earlier own result = (own ≡ []) × (result ≡ Err (Face.Begin refused))
+EndsBegin saw seen events (Ok token) earlier own result =
+    (reply : Result (Unit {0}) PutRefused) × (puts ending : List Own) × (own ≡ puts ++ ending) × ArePutUpTo seen token events reply puts
+    × EndsPuts saw seen token reply (earlier ++ puts) ending result
 
 -- A transaction of its own that puts these events: a begin, a put of each up to the first refusal, and a stage. It is rolled back where a put or the
 -- stage was refused, and flushed exactly where it was not settled when its ticket was asked for.
-abbrev pub IsPutBatch : (State → Type 0) → ℕ → List Content → Result ℕ FaceRefused → List Own → Type 0
-IsPutBatch saw seen events result own =
+abbrev pub IsPutBatch : (List Own → State → Type 0) → ℕ → List Content → Result ℕ FaceRefused → List Own → List Own → Type 0
+IsPutBatch saw seen events result earlier own =
     (reply : Result Token BeginRefused) × (s : State) × (begun ending : List Own) × (own ≡ begun ++ ending)
-    × IsMade seen (is_spent_begin reply) (BeginPut reply) s begun × EndsBegin saw seen events reply ending result
+    × IsMade seen (is_spent_begin reply) (BeginPut reply) s begun × EndsBegin saw seen events reply (earlier ++ begun) ending result
 
 abbrev pub IsTakeBegun : ℕ → Result Token FaceRefused → List Own → Type 0
 IsTakeBegun seen result own =
@@ -155,12 +158,12 @@ IsTake seen token result own =
     (reply : Result Taken TakeRefused) × (s : State) × IsMade seen (is_spent_take reply) (Take token reply) s own × (result ≡ taken_event reply)
 
 -- a stage of takes was answered so
-abbrev pub EndsTakeStage : (State → Type 0) → ℕ → Token → Result Ticket StageCause → List Own → Result (Unit {0}) FaceRefused → Type 0
-EndsTakeStage saw seen token (Err cause) own result = IsTakeRolledBack saw token own × (result ≡ Err (Face.Stage cause))
-EndsTakeStage saw seen token (Ok ticket) own result = (sure : Bool) × Ends saw seen ticket own sure × (result ≡ in_doubt_unless sure tt)
+abbrev pub EndsTakeStage : (List Own → State → Type 0) → ℕ → Token → Result Ticket StageCause → List Own → List Own → Result (Unit {0}) FaceRefused → Type 0
+EndsTakeStage saw seen token (Err cause) earlier own result = IsTakeRolledBack saw token earlier own × (result ≡ Err (Face.Stage cause))
+EndsTakeStage saw seen token (Ok ticket) earlier own result = (sure : Bool) × Ends saw seen ticket earlier own sure × (result ≡ in_doubt_unless sure tt)
 
 -- A commit of takes: a stage, and a rollback where it was refused. It is flushed exactly where it was not settled when its ticket was asked for.
-abbrev pub IsTakeCommit : (State → Type 0) → ℕ → Token → Result (Unit {0}) FaceRefused → List Own → Type 0
-IsTakeCommit saw seen token result own =
+abbrev pub IsTakeCommit : (List Own → State → Type 0) → ℕ → Token → Result (Unit {0}) FaceRefused → List Own → List Own → Type 0
+IsTakeCommit saw seen token result earlier own =
     (reply : Result Ticket StageCause) × (s : State) × (staged ending : List Own) × (own ≡ staged ++ ending)
-    × IsMade seen (is_spent_stage reply) (StageTake token reply) s staged × EndsTakeStage saw seen token reply ending result
+    × IsMade seen (is_spent_stage reply) (StageTake token reply) s staged × EndsTakeStage saw seen token reply (earlier ++ staged) ending result

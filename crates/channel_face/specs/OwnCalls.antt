@@ -1,5 +1,7 @@
 -- The calls that are made on a channel of one's own.
 use Rattle.std.specs.Prelude.{◌≡◌, List, [], ◌∷◌, ◌++◌}
+use Rattle.std.proofs.Common.{sym, subst, append_assoc}
+use Rattle.std.proofs.lemmas.List.{append-nil}
 use Rattle.channel_face.specs.Machine.{State, after}
 use Rattle.channel_face.specs.History.{Opening, Step, opening, state_after}
 use Rattle.channel_face.specs.Faces.{Own}
@@ -26,10 +28,23 @@ pub record MadeOwn (stands : Opening → List Step → Type 0) (own : List Own) 
 abbrev pub HasMade : (Opening → List Step → Type 0) → List Own → Type 0
 HasMade stands own = (s : State) × MadeOwn stands own s
 
--- the channel was once in this state
-abbrev pub Was : (Opening → List Step → Type 0) → State → Type 0
-Was stands s = (start : Opening) × (h rest : List Step) × stands start (h ++ rest) × (state_after (opening start) h ≡ s)
+-- Once these were the calls of one's own the channel was in this state, and only some more of one's own followed.
+abbrev pub Was : (Opening → List Step → Type 0) → List Own → State → Type 0
+Was stands own s = (more : List Own) × (new : State) × (made : MadeOwn stands (own ++ more) new) × (state_after (opening made.start) (made.earlier ++ steps_of own) ≡ s)
 
--- From a state and calls of one's own to more of them and another state, of which P is true.
-abbrev pub Goes : (Opening → List Step → Type 0) → (Opening → List Step → Type 0) → (State → List Own → State → Type 0) → Type 0
-Goes before later P = (own : List Own) (s : State) → MadeOwn before own s → (more : List Own) × (new : State) × MadeOwn later (own ++ more) new × P s more new
+-- From calls of one's own and the state that they led to, to more of them and another state, of which P is true behind these calls.
+abbrev pub Goes : (Opening → List Step → Type 0) → (Opening → List Step → Type 0) → (List Own → State → List Own → State → Type 0) → Type 0
+Goes before later P = (own : List Own) (s : State) → MadeOwn before own s → (more : List Own) × (new : State) × MadeOwn later (own ++ more) new × P own s more new
+
+-- Each history that a channel stood for goes on.
+abbrev pub Continues : (Opening → List Step → Type 0) → (Opening → List Step → Type 0) → Type 0
+Continues before later = (start : Opening) (h : List Step) → before start h → (more : List Step) × later start (h ++ more)
+
+pub continues_none : (stands : Opening → List Step → Type 0) → Continues stands stands
+continues_none stands start h here = ([], subst (stands start) (sym (append-nil h)) here)
+
+pub continues_then : (a b c : Opening → List Step → Type 0) → Continues a b → Continues b c → Continues a c
+continues_then a b c first second start h here =
+    let f = first start h here in
+    let g = second start (h ++ f.0) f.1 in
+    (f.0 ++ g.0, subst (c start) (append_assoc h f.0 g.0) g.1)

@@ -11,11 +11,14 @@ pub trait PutFace {
     /// These are its own calls of the channel so far, with their replies.
     ghost own: { Self → List Own → Type 0 };
 
-    /// The channel was in this state, as far as the face has seen.
-    ghost saw: { Self → State → Type 0 };
+    /// The channel was in this state once these were its own calls and no further one was, as far as the face has seen.
+    ghost saw: { Self → List Own → State → Type 0 };
 
     /// How many of the channel's calls it has seen.
     ghost seen: { Self → ℕ };
+
+    /// The second is the first after some calls: what never changes of it is the same.
+    ghost kept: { Self → Self → Type 0 };
 
     /// Puts the events at these places of the batch, in order, as one transaction, and answers the number of its first event.
     /// The transaction is begun, put event by event up to the first refusal, and staged. Where a put or the stage was
@@ -24,7 +27,14 @@ pub trait PutFace {
     fn put_batch(&mut self, batch: &Batch, picked: &[u32]) -> Result<u64, FaceRefused>
         requires { All (λ place. place < length batch.now) picked.now }
         ensures seen { seen self.old ≤ seen self.new }
+        ensures kept { kept self.old self.new }
         ensures calls { Gains (own self.old) (own self.new) (IsPutBatch (saw self.new) (seen self.new) (picked_events batch.now picked.now) result) };
+
+    /// No call changes nothing.
+    ghost kept_none: { (face : Self) → kept face face };
+
+    /// Calls after calls are calls.
+    ghost kept_then: { (first second third : Self) → kept first second → kept second third → kept first third };
 }
 
 /// What a sink sees of a channel: transactions of takes.
@@ -32,31 +42,44 @@ pub trait TakeFace {
     /// These are its own calls of the channel so far, with their replies.
     ghost own: { Self → List Own → Type 0 };
 
-    /// The channel was in this state, as far as the face has seen.
-    ghost saw: { Self → State → Type 0 };
+    /// The channel was in this state once these were its own calls and no further one was, as far as the face has seen.
+    ghost saw: { Self → List Own → State → Type 0 };
 
     /// How many of the channel's calls it has seen.
     ghost seen: { Self → ℕ };
 
+    /// The second is the first after some calls: what never changes of it is the same.
+    ghost kept: { Self → Self → Type 0 };
+
     /// Begins a transaction.
     fn begin(&mut self) -> Result<TakeTxn, FaceRefused>
         ensures seen { seen self.old ≤ seen self.new }
-        ensures calls { Gains (own self.old) (own self.new) (IsTakeBegun (seen self.new) result) };
+        ensures kept { kept self.old self.new }
+        ensures calls { Gains (own self.old) (own self.new) (λ earlier. IsTakeBegun (seen self.new) result) };
 
     /// Takes an event, or none where each event that is left is held by a transaction.
     fn take(&mut self, txn: &mut TakeTxn) -> Result<Option<Event>, FaceRefused>
         ensures seen { seen self.old ≤ seen self.new }
-        ensures calls { Gains (own self.old) (own self.new) (IsTake (seen self.new) txn.old result) }
+        ensures kept { kept self.old self.new }
+        ensures calls { Gains (own self.old) (own self.new) (λ earlier. IsTake (seen self.new) txn.old result) }
         ensures same { txn.new ≡ txn.old };
 
     /// Stages a transaction. Where the stage was refused, it is rolled back. Where its ticket is not settled when it is then
     /// asked for, one flush follows. `InDoubt` comes exactly where the ticket is in doubt or that flush was refused.
     fn commit(&mut self, txn: TakeTxn) -> Result<(), FaceRefused>
         ensures seen { seen self.old ≤ seen self.new }
+        ensures kept { kept self.old self.new }
         ensures calls { Gains (own self.old) (own self.new) (IsTakeCommit (saw self.new) (seen self.new) txn result) };
 
     /// Gives a transaction up, so that the events that it took are there again.
     fn rollback(&mut self, txn: TakeTxn)
         ensures seen { seen self.old ≤ seen self.new }
+        ensures kept { kept self.old self.new }
         ensures calls { Gains (own self.old) (own self.new) (IsTakeRolledBack (saw self.new) txn) };
+
+    /// No call changes nothing.
+    ghost kept_none: { (face : Self) → kept face face };
+
+    /// Calls after calls are calls.
+    ghost kept_then: { (first second third : Self) → kept first second → kept second third → kept first third };
 }

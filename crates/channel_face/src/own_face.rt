@@ -1,8 +1,7 @@
 // A channel of one's own, seen as a source and a sink see it.
 ghost use Rattle.std.specs.Prelude.{◌≡◌, ◌<◌, All, length};
-ghost use Rattle.channel_face.specs.Faces.{picked_events, ArePutUpTo, EndsAs, IsPutStage, IsPutRolledBack, IsTakeRolledBack};
-ghost use Rattle.channel_face.specs.Machine.{settled};
-ghost use Rattle.channel_face.specs.OwnCalls.{Goes, Was};
+ghost use Rattle.channel_face.specs.Faces.{picked_events, ArePutUpTo, Ends, IsPutStage, IsPutRolledBack, IsTakeRolledBack};
+ghost use Rattle.channel_face.specs.OwnCalls.{Continues, Goes, Was};
 
 use crate::{
     Channel, FaceRefused, PutFace, PutRefused, PutTxn, Settled, StageRefused, TakeFace, TakeTxn,
@@ -18,7 +17,8 @@ pub struct OwnFace<C: Channel> {
 
 // Flushes where the ticket isn't settled, and answers whether it then is.
 fn settle<C: Channel>(channel: &mut C, ticket: &Ticket) -> bool
-    ensures { Goes (C.stands channel.old) (C.stands channel.new) (λ s more new. Was (C.stands channel.new) s × EndsAs 0 s (settled s ticket.now) more result) }
+    ensures goes { Goes (C.stands channel.old) (C.stands channel.new) (λ own s more new. Ends (Was (C.stands channel.new)) 0 ticket.now own more result) }
+    ensures kept { Continues (C.stands channel.old) (C.stands channel.new) }
 {
     match channel.settled(ticket) {
         Settled::Yes => true,
@@ -28,20 +28,23 @@ fn settle<C: Channel>(channel: &mut C, ticket: &Ticket) -> bool
 }
 
 fn roll_back_put<C: Channel>(channel: &mut C, txn: PutTxn)
-    ensures { Goes (C.stands channel.old) (C.stands channel.new) (λ s more new. IsPutRolledBack (Was (C.stands channel.new)) txn more) }
+    ensures goes { Goes (C.stands channel.old) (C.stands channel.new) (λ own s more new. IsPutRolledBack (Was (C.stands channel.new)) txn own more) }
+    ensures kept { Continues (C.stands channel.old) (C.stands channel.new) }
 {
     let _ended = channel.rollback_put(txn);
 }
 
 fn roll_back_take<C: Channel>(channel: &mut C, txn: TakeTxn)
-    ensures { Goes (C.stands channel.old) (C.stands channel.new) (λ s more new. IsTakeRolledBack (Was (C.stands channel.new)) txn more) }
+    ensures goes { Goes (C.stands channel.old) (C.stands channel.new) (λ own s more new. IsTakeRolledBack (Was (C.stands channel.new)) txn own more) }
+    ensures kept { Continues (C.stands channel.old) (C.stands channel.new) }
 {
     let _ended = channel.rollback_take(txn);
 }
 
 // Stages the puts and settles them.
 fn finish_puts<C: Channel>(channel: &mut C, txn: PutTxn) -> Result<u64, FaceRefused>
-    ensures { Goes (C.stands channel.old) (C.stands channel.new) (λ s more new. IsPutStage (Was (C.stands channel.new)) 0 txn result more) }
+    ensures goes { Goes (C.stands channel.old) (C.stands channel.new) (λ own s more new. IsPutStage (Was (C.stands channel.new)) 0 txn result own more) }
+    ensures kept { Continues (C.stands channel.old) (C.stands channel.new) }
 {
     match channel.stage_put(txn) {
         Ok(ticket) => {
@@ -67,7 +70,8 @@ fn put_picked<C: Channel>(
     picked: &[u32],
 ) -> Result<(), PutRefused>
     requires { All (λ place. place < length batch.now) picked.now }
-    ensures puts { Goes (C.stands channel.old) (C.stands channel.new) (λ s more new. ArePutUpTo 0 txn.old (picked_events batch.now picked.now) result more) }
+    ensures puts { Goes (C.stands channel.old) (C.stands channel.new) (λ own s more new. ArePutUpTo 0 txn.old (picked_events batch.now picked.now) result more) }
+    ensures kept { Continues (C.stands channel.old) (C.stands channel.new) }
     ensures same { txn.new ≡ txn.old }
 {
     for place in picked {
@@ -96,13 +100,19 @@ impl<C: Channel> OwnFace<C> {
 }
 
 impl<C: Channel> PutFace for OwnFace<C> {
-    ghost use Rattle.channel_face.specs.OwnCalls.{HasMade, Was};
+    ghost use Rattle.channel_face.specs.OwnCalls.{Continues, HasMade, Was, continues_none, continues_then};
 
     ghost own = { λ f. HasMade (C.stands f.channel) };
 
     ghost saw = { λ f. Was (C.stands f.channel) };
 
     ghost seen = { λ _. 0 };
+
+    ghost kept = { λ f g. Continues (C.stands f.channel) (C.stands g.channel) };
+
+    ghost kept_none = { λ f. continues_none (C.stands f.channel) };
+
+    ghost kept_then = { λ f g h. continues_then (C.stands f.channel) (C.stands g.channel) (C.stands h.channel) };
 
     fn put_batch(&mut self, batch: &Batch, picked: &[u32]) -> Result<u64, FaceRefused> {
         let mut txn = match self.channel.begin_put() {
@@ -120,13 +130,19 @@ impl<C: Channel> PutFace for OwnFace<C> {
 }
 
 impl<C: Channel> TakeFace for OwnFace<C> {
-    ghost use Rattle.channel_face.specs.OwnCalls.{HasMade, Was};
+    ghost use Rattle.channel_face.specs.OwnCalls.{Continues, HasMade, Was, continues_none, continues_then};
 
     ghost own = { λ f. HasMade (C.stands f.channel) };
 
     ghost saw = { λ f. Was (C.stands f.channel) };
 
     ghost seen = { λ _. 0 };
+
+    ghost kept = { λ f g. Continues (C.stands f.channel) (C.stands g.channel) };
+
+    ghost kept_none = { λ f. continues_none (C.stands f.channel) };
+
+    ghost kept_then = { λ f g h. continues_then (C.stands f.channel) (C.stands g.channel) (C.stands h.channel) };
 
     fn begin(&mut self) -> Result<TakeTxn, FaceRefused> {
         match self.channel.begin_take() {
