@@ -17,14 +17,16 @@ use Rattle.channel_face.specs.declared.replies.StageCause.{StageCause}
 use Rattle.channel_face.specs.declared.replies.FlushRefused.{FlushRefused}
 use Rattle.channel_face.specs.declared.replies.FaceRefused.{FaceRefused}
 use Rattle.channel_face.specs.declared.replies.FaceRefused.TheVariants as Face
-use Rattle.channel_face.specs.Faces.{Own, one, Gains, is_spent_begin, is_spent_take, taken_event, begun_as, IsTakeBegun, IsTake, is_spent_put, is_spent_stage, is_spent_flush, in_doubt_unless, IsMade, IsRolledBack, EndsAs, ArePut, ArePutUpTo, IsPutStage, IsTakeCommit, IsPutBatch, EndsPuts, EndsBegin}
+use Rattle.channel_face.specs.Faces.{Own, one, Gains, Ends, is_spent_begin, is_spent_take, taken_event, begun_as, IsTakeBegun, IsTake, is_spent_put, is_spent_stage, is_spent_flush, in_doubt_unless, IsMade, IsRolledBack, EndsAs, ArePut, ArePutUpTo, IsPutStage, IsTakeCommit, IsPutBatch, EndsPuts, EndsBegin}
 use Rattle.turn_passes.specs.Calls.{has, keep, calls_by}
 use Rattle.turn_passes.specs.Views.{View, saw}
 use Rattle.turn_passes.specs.Turns.{Making, Made}
 use Rattle.turn_passes.proofs.Histories.{calls_by-append, nil_of}
-use Rattle.shared_channel.specs.Calls.{step, state_seen, made_if, Bounds, Answers, RolledBack}
+use Rattle.shared_channel.specs.Counting.{StandsCounting}
+use Rattle.shared_channel.specs.Passes.{Known}
+use Rattle.shared_channel.specs.Calls.{step, state_seen, made_if, Bounds, IsIn, Answers, RolledBack}
 use Rattle.atomic_table.specs.Table.{Me}
-use Rattle.shared_channel.specs.Ports.{SettledBy, MakesSettled, own_if, own_calls, owned, AreOwned, Saw, Went, Goes, Settles}
+use Rattle.shared_channel.specs.Ports.{SettledBy, MakesSettled, own_if, own_calls, owned, AreOwned, Saw, Went, Goes, Later, Settles, SawAll}
 
 state-append : (s : State) (a b : List Step) → state_after s (a ++ b) ≡ state_after (state_after s a) b
 state-append s [] b = refl
@@ -53,26 +55,25 @@ own-none ns s (x ∷ h) none = by_own (has ns x.pass) none (own-none ns (after s
 abbrev pub begun : View → List Step → State
 begun v between = state_after (opening v.base) (v.seen ++ between)
 
+-- calls of others add none of one's own
+others : (v : View) (between : List Step) → calls_by v.numbers between ≡ [] → own_calls v.numbers (opening v.base) (v.seen ++ between) ≡ owned v
+others v between none = own-append v.numbers (opening v.base) v.seen between ∙ ap (λ l. owned v ++ l) (own-none v.numbers (state_after (opening v.base) v.seen) between none) ∙ append-nil (owned v)
+
 -- from a view to one that has seen calls of others, and these
-went_from : (v w : View) (between calls : List Step) → w ≡ saw v w.seen → w.seen ≡ (v.seen ++ between) ++ calls → calls_by v.numbers between ≡ [] → Went v w (own_calls v.numbers (begun v between) calls) × Saw w (begun v between)
-went_from v w between calls is all none = (
-  record {
-    base = base;
-    numbers = numbers;
-    begins = (between ++ calls, sym (append_assoc v.seen between calls) ∙ sym all);
-    owned = (λ i. own_calls (numbers i) (opening (base i)) (all i)) ∙ own-append v.numbers (opening v.base) (v.seen ++ between) calls ∙ ap (λ l. l ++ own_calls v.numbers (begun v between) calls) front;
-  },
-  (v.seen ++ between, calls, all, ap (λ (o : Opening). state_after (opening o) (v.seen ++ between)) base),
-)
+went_from : (v w : View) (between calls : List Step) → w ≡ saw v w.seen → w.seen ≡ (v.seen ++ between) ++ calls → calls_by v.numbers between ≡ [] → Went v w (own_calls v.numbers (begun v between) calls)
+went_from v w between calls is all none = record {
+  base = base;
+  passes = ap (λ (x : View). x.passes) is;
+  numbers = numbers;
+  begins = (between ++ calls, sym (append_assoc v.seen between calls) ∙ sym all);
+  owned = (λ i. own_calls (numbers i) (opening (base i)) (all i)) ∙ own-append v.numbers (opening v.base) (v.seen ++ between) calls ∙ ap (λ l. l ++ own_calls v.numbers (begun v between) calls) (others v between none);
+}
   where
     base : w.base ≡ v.base
     base = ap (λ (x : View). x.base) is
 
     numbers : w.numbers ≡ v.numbers
     numbers = ap (λ (x : View). x.numbers) is
-
-    front : own_calls v.numbers (opening v.base) (v.seen ++ between) ≡ owned v
-    front = own-append v.numbers (opening v.base) v.seen between ∙ ap (λ l. owned v ++ l) (own-none v.numbers (state_after (opening v.base) v.seen) between none) ∙ append-nil (owned v)
 
 -- between what was seen and one's own calls there is none of one's own
 none_between : (ns : List ℕ) (a between es l : List Step) → l ≡ (a ++ between) ++ es → calls_by ns l ≡ calls_by ns a ++ es → calls_by ns es ≡ es → calls_by ns between ≡ []
@@ -81,42 +82,66 @@ none_between ns a between es l all told own =
     let lengths : length ((calls_by ns a ++ calls_by ns between) ++ calls_by ns es) ≡ length (calls_by ns a ++ es) = ap length (sym sum ∙ told) in
     nil_of (calls_by ns between) (omega (arith, lengths, length-append (calls_by ns a ++ calls_by ns between) (calls_by ns es), length-append (calls_by ns a) (calls_by ns between), length-append (calls_by ns a) es, ap length own))
 
-pub went_made : (v w : View) (es : List Step) → (m : Made v es w) → Went v w (own_calls v.numbers (begun v m.0) es) × Saw w (begun v m.0)
+pub went_made : (v w : View) (es : List Step) → (m : Made v es w) → Went v w (own_calls v.numbers (begun v m.0) es)
 went_made v w es m = went_from v w m.0 es m.1 m.2 (none_between v.numbers v.seen m.0 es w.seen m.2 m.3 m.5)
 
--- the same of a turn, from the state in which it was begun
-pub went_turn : (v k w : View) (calls : List Step) → Making v [] k → w ≡ saw v w.seen → w.seen ≡ k.seen ++ calls → Went v w (own_calls v.numbers (state_seen k) calls) × Saw w (state_seen k)
-went_turn v k w calls m is all =
-    let here : k.seen ≡ v.seen ++ m.0 = m.2 ∙ append-nil (v.seen ++ m.0) in
-    let state : begun v m.0 ≡ state_seen k = λ i. state_after (opening (sym (ap (λ (x : View). x.base) m.1) i)) (sym here i) in
-    subst (λ (s : State). Went v w (own_calls v.numbers s calls) × Saw w s) state
-    (went_from v w m.0 calls is (all ∙ ap (λ l. l ++ calls) here) (none_between v.numbers v.seen m.0 [] k.seen m.2 m.3 refl))
+-- the same of a turn, from the state in which it was begun, in which a channel stood for all
+pub went_turn : {C : Type 0} (stands : C → Opening → List Step → Type 0) (c : C) (v k w : View) (calls : List Step) → StandsCounting stands c k.base k.seen → Making v [] k → w ≡ saw v w.seen → w.seen ≡ k.seen ++ calls
+    → Went v w (own_calls v.numbers (state_seen k) calls) × Saw stands w (owned v) (state_seen k)
+went_turn stands c v k w calls stood m is all = (
+  subst (λ (s : State). Went v w (own_calls v.numbers s calls)) state (went_from v w m.0 calls is (all ∙ ap (λ l. l ++ calls) here) none),
+  record {
+    channel = c;
+    front = k.seen;
+    begins = (calls, sym all);
+    calls = subst (λ (o : Opening). StandsCounting stands c o k.seen) (sym base) stood;
+    own_then = (λ i. own_calls (ap (λ (x : View). x.numbers) is i) (opening (ap (λ (x : View). x.base) is i)) (here i)) ∙ others v m.0 none;
+    state = ap (λ (o : Opening). state_after (opening o) k.seen) base;
+  },
+)
+  where
+    here : k.seen ≡ v.seen ++ m.0
+    here = m.2 ∙ append-nil (v.seen ++ m.0)
+
+    none : calls_by v.numbers m.0 ≡ []
+    none = none_between v.numbers v.seen m.0 [] k.seen m.2 m.3 refl
+
+    base : w.base ≡ k.base
+    base = ap (λ (x : View). x.base) is ∙ sym (ap (λ (x : View). x.base) m.1)
+
+    state : begun v m.0 ≡ state_seen k
+    state = λ i. state_after (opening (sym (ap (λ (x : View). x.base) m.1) i)) (sym here i)
 
 went_then : (v w x : View) (a b : List Own) → Went v w a → Went w x b → Went v x (a ++ b)
 went_then v w x a b f g = record {
   base = g.base ∙ f.base;
+  passes = g.passes ∙ f.passes;
   numbers = g.numbers ∙ f.numbers;
   begins = (f.begins.0 ++ g.begins.0, sym (append_assoc v.seen f.begins.0 g.begins.0) ∙ ap (λ l. l ++ g.begins.0) f.begins.1 ∙ g.begins.1);
   owned = g.owned ∙ ap (λ l. l ++ b) f.owned ∙ append_assoc (owned v) a b;
 }
 
 went_none : (v : View) → Went v v []
-went_none v = record { base = refl; numbers = refl; begins = ([], append-nil v.seen); owned = sym (append-nil (owned v)) }
+went_none v = record { base = refl; passes = refl; numbers = refl; begins = ([], append-nil v.seen); owned = sym (append-nil (owned v)) }
 
 pub grows : (v w : View) (more : List Own) → Went v w more → length v.seen ≤ length w.seen
 grows v w more f = omega (arith, length-append v.seen f.begins.0, ap length f.begins.1)
 
-pub goes_then : (v w x : View) (P Q R : List Own → Type 0) → Goes v w P → Goes w x Q → ((a b : List Own) → P a → Q b → R (a ++ b)) → Goes v x R
-goes_then v w x P Q R f g join = (f.0 ++ g.0, went_then v w x f.0 g.0 f.1 g.1, join f.0 g.0 f.2 g.2)
+pub goes_then : (v w x : View) (P Q R : List Own → List Own → Type 0) → Goes v w P → Goes w x Q → ((a b : List Own) → P (owned v) a → Q (owned v ++ a) b → R (owned v) (a ++ b)) → Goes v x R
+goes_then v w x P Q R f g join = (f.0 ++ g.0, went_then v w x f.0 g.0 f.1 g.1, join f.0 g.0 f.2 (subst (λ l. Q l g.0) f.1.owned g.2))
 
-pub goes_as : (v w : View) (P Q : List Own → Type 0) → Goes v w P → ((a : List Own) → P a → Q a) → Goes v w Q
+pub goes_as : (v w : View) (P Q : List Own → List Own → Type 0) → Goes v w P → ((a : List Own) → P (owned v) a → Q (owned v) a) → Goes v w Q
 goes_as v w P Q f turn = (f.0, f.1, turn f.0 f.2)
 
-pub goes_grows : (v w : View) (P : List Own → Type 0) → Goes v w P → length v.seen ≤ length w.seen
+pub goes_grows : (v w : View) (P : List Own → List Own → Type 0) → Goes v w P → length v.seen ≤ length w.seen
 goes_grows v w P f = grows v w f.0 f.1
 
-pub gains : (v w : View) (P : List Own → Type 0) → Goes v w P → Gains (AreOwned v) (AreOwned w) P
-gains v w P f own is = (f.0, ap (λ l. l ++ f.0) is ∙ sym f.1.owned, f.2)
+pub gains : (v w : View) (P : List Own → List Own → Type 0) → Goes v w P → Gains (AreOwned v) (AreOwned w) P
+gains v w P f own is = (f.0, ap (λ l. l ++ f.0) is ∙ sym f.1.owned, subst (λ l. P l f.0) (sym is) f.2)
+
+-- a pass after such calls
+pub later : (p q : Known) (P : List Own → List Own → Type 0) → (q.table_id ≡ p.table_id) × (q.number ≡ p.number) → Goes p.view q.view P → Later p q
+later p q P same f = record { table = same.0; number = same.1; base = f.1.base; passes = f.1.passes; numbers = f.1.numbers; begins = f.1.begins }
 
 own_one : (ns : List ℕ) (x : Step) → calls_by ns (x ∷ []) ≡ x ∷ [] → has ns x.pass ≡ true
 own_one ns x is = by_own (has ns x.pass) is
@@ -145,115 +170,127 @@ pub puts_up : (seen seen' : ℕ) (token : Token) (events : List Content) (reply 
 puts_up seen seen' token events (Ok done) own le all = all
 puts_up seen seen' token events (Err refused) own le all = (all.0, all.1, all.2, all.3, all.4, all.5, all.6, all.7, all.8, made_up seen seen' (is_spent_put (Err refused)) (Put token all.2 (Err refused)) all.3 all.5 le all.9)
 
+-- one call that may have been spent
+abbrev pub IsOne : ℕ → Bool → Call → List Own → List Own → Type 0
+IsOne seen spent call earlier more = (s : State) × IsMade seen spent call s more
+
 module _ {C : Type 0} (stands : C → Opening → List Step → Type 0) (tells : C → Bool) (moment : C → ℕ) where
   -- a call that may have been spent
-  pub one_call : (spent : Bool) (v w : View) (by : ℕ) (call : Call) → Answers stands tells moment spent v by call w → Goes v w (λ more. (s : State) × Saw w s × IsMade (length w.seen) spent call s more)
-  one_call true v w by call a = let g = went_made v w [] a.0 in ([], g.0, (begun v a.0.0, g.1, (refl, let b = a.1 in omega arith)))
+  pub one_call : (spent : Bool) (v w : View) (by : ℕ) (call : Call) → Answers stands tells moment spent v by call w → Goes v w (IsOne (length w.seen) spent call)
+  one_call true v w by call a = let m = a.0.1.made in ([], went_made v w [] m, (begun v m.0, (refl, let b = a.1 in omega arith)))
   one_call false v w by call a =
       let c = a.0.0 in
       let x : Step = step by call (moment c) in
       let m = a.0.1.made in
-      let g = went_made v w (x ∷ []) m in
       let s = begun v m.0 in
-      (own_calls v.numbers s (x ∷ []), g.0, (s, g.1, (moment c, ap (λ b. own_if b (record { call = call; before = s; moment = moment c }) []) (own_one v.numbers x m.5))))
+      (own_calls v.numbers s (x ∷ []), went_made v w (x ∷ []) m, (s, (moment c, ap (λ b. own_if b (record { call = call; before = s; moment = moment c }) []) (own_one v.numbers x m.5))))
+
+  -- what it has seen then, a channel stands for
+  pub all_seen : (spent : Bool) (v w : View) (by : ℕ) (call : Call) → Answers stands tells moment spent v by call w → SawAll stands tells w
+  all_seen true v w by call a = (a.0.0, a.0.1.seen)
+  all_seen false v w by call a = (a.0.0, a.0.1.seen)
+
+  pub all_seen_back : (ended : Bool) (v w : View) (by : ℕ) (call : Call) (IsStale : State → Type 0) → RolledBack stands tells moment ended v by call IsStale w → SawAll stands tells w
+  all_seen_back true v w by call IsStale r = (r.0, r.1.seen)
+  all_seen_back false v w by call IsStale r = (r.0.0, r.0.1.seen)
 
   -- a rollback
-  pub rolls : (ended : Bool) (v w : View) (by : ℕ) (rollback : Bool → Call) (IsStale : State → Type 0) → RolledBack stands tells moment ended v by (rollback true) IsStale w → Goes v w (IsRolledBack (Saw w) rollback IsStale)
+  pub rolls : (ended : Bool) (v w : View) (by : ℕ) (rollback : Bool → Call) (IsStale : State → Type 0) → RolledBack stands tells moment ended v by (rollback true) IsStale w → Goes v w (IsRolledBack (Saw stands w) rollback IsStale)
   rolls true v w by rollback IsStale r =
       let c = r.0 in
       let x : Step = step by (rollback true) (moment c) in
       let m = r.1.made in
-      let g = went_made v w (x ∷ []) m in
       let s = begun v m.0 in
-      (own_calls v.numbers s (x ∷ []), g.0, inl (s, moment c, ap (λ b. own_if b (record { call = rollback true; before = s; moment = moment c }) []) (own_one v.numbers x m.5)))
+      (own_calls v.numbers s (x ∷ []), went_made v w (x ∷ []) m, inl (s, moment c, ap (λ b. own_if b (record { call = rollback true; before = s; moment = moment c }) []) (own_one v.numbers x m.5)))
   rolls false v w by rollback IsStale r =
-      let g = went_made v w [] r.0 in
-      ([], g.0, inr (state_seen w, (w.seen, [], sym (append-nil w.seen), refl), r.1, inl refl))
+      let went = went_made v w [] r.0.1.made in
+      let here : Saw stands w (owned v) (state_seen w) = record { channel = r.0.0; front = w.seen; begins = ([], append-nil w.seen); calls = r.0.1.seen.calls; own_then = went.owned ∙ append-nil (owned v); state = refl } in
+      ([], went, inr (state_seen w, here, r.1, inl refl))
 
   -- a stage and what follows
 
-  pub staged_put : (v w x : View) (by : ℕ) (token : Token) (t : Ticket) (sure : Bool) (result : Result ℕ FaceRefused) → Answers stands tells moment false v by (StagePut token (Ok t)) w → Settles w x t sure → result ≡ in_doubt_unless sure t.first → Goes v x (IsPutStage (Saw x) (length x.seen) token result)
+  pub staged_put : (v w x : View) (by : ℕ) (token : Token) (t : Ticket) (sure : Bool) (result : Result ℕ FaceRefused) → Answers stands tells moment false v by (StagePut token (Ok t)) w → Settles stands w x t sure → result ≡ in_doubt_unless sure t.first → Goes v x (IsPutStage (Saw stands x) (length x.seen) token result)
   staged_put v w x by token t sure result a ends is =
-      goes_then v w x _ _ (IsPutStage (Saw x) (length x.seen) token result) (one_call false v w by (StagePut token (Ok t)) a) ends
-      (λ p q h e. (Ok t, h.0, p, q, refl, h.2, (sure, (e.0, e.1, e.2), is)))
+      goes_then v w x (IsOne (length w.seen) false (StagePut token (Ok t))) (λ earlier more. Ends (Saw stands x) (length x.seen) t earlier more sure) (IsPutStage (Saw stands x) (length x.seen) token result) (one_call false v w by (StagePut token (Ok t)) a) ends
+      (λ p q h e. (Ok t, h.0, p, q, refl, h.1, (sure, e, is)))
 
   pub unstaged_put : (v w x : View) (by by' : ℕ) (token other : Token) (cause : StageCause) (ended : Bool) → Answers stands tells moment (is_spent_stage (Err cause)) v by (StagePut token (Err cause)) w → other ≡ token → RolledBack stands tells moment ended w by' (RollbackPut other true) (λ s. puts_of s other ≡ None) x
-      → Goes v x (IsPutStage (Saw x) (length x.seen) token (Err (Face.Stage cause)))
+      → Goes v x (IsPutStage (Saw stands x) (length x.seen) token (Err (Face.Stage cause)))
   unstaged_put v w x by by' token other cause ended a same rolled =
       let back = rolls ended w x by' (RollbackPut other) (λ s. puts_of s other ≡ None) rolled in
-      goes_then v w x _ _ (IsPutStage (Saw x) (length x.seen) token (Err (Face.Stage cause))) (one_call (is_spent_stage (Err cause)) v w by (StagePut token (Err cause)) a) back
+      goes_then v w x (IsOne (length w.seen) (is_spent_stage (Err cause)) (StagePut token (Err cause))) (IsRolledBack (Saw stands x) (RollbackPut other) (λ s. puts_of s other ≡ None)) (IsPutStage (Saw stands x) (length x.seen) token (Err (Face.Stage cause))) (one_call (is_spent_stage (Err cause)) v w by (StagePut token (Err cause)) a) back
       (λ p q h e. (
         Err cause,
         h.0,
         p,
         q,
         refl,
-        made_up (length w.seen) (length x.seen) (is_spent_stage (Err cause)) (StagePut token (Err cause)) h.0 p (goes_grows w x _ back) h.2,
-        (subst (λ (k : Token). IsRolledBack (Saw x) (RollbackPut k) (λ s. puts_of s k ≡ None) q) same e, refl),
+        made_up (length w.seen) (length x.seen) (is_spent_stage (Err cause)) (StagePut token (Err cause)) h.0 p (goes_grows w x (IsRolledBack (Saw stands x) (RollbackPut other) (λ s. puts_of s other ≡ None)) back) h.1,
+        (subst (λ (k : Token). IsRolledBack (Saw stands x) (RollbackPut k) (λ s. puts_of s k ≡ None) (owned v ++ p) q) same e, refl),
       ))
 
-  pub staged_take : (v w x : View) (by : ℕ) (token : Token) (t : Ticket) (sure : Bool) (result : Result (Unit {0}) FaceRefused) → Answers stands tells moment false v by (StageTake token (Ok t)) w → Settles w x t sure → result ≡ in_doubt_unless sure tt → Goes v x (IsTakeCommit (Saw x) (length x.seen) token result)
+  pub staged_take : (v w x : View) (by : ℕ) (token : Token) (t : Ticket) (sure : Bool) (result : Result (Unit {0}) FaceRefused) → Answers stands tells moment false v by (StageTake token (Ok t)) w → Settles stands w x t sure → result ≡ in_doubt_unless sure tt → Goes v x (IsTakeCommit (Saw stands x) (length x.seen) token result)
   staged_take v w x by token t sure result a ends is =
-      goes_then v w x _ _ (IsTakeCommit (Saw x) (length x.seen) token result) (one_call false v w by (StageTake token (Ok t)) a) ends
-      (λ p q h e. (Ok t, h.0, p, q, refl, h.2, (sure, (e.0, e.1, e.2), is)))
+      goes_then v w x (IsOne (length w.seen) false (StageTake token (Ok t))) (λ earlier more. Ends (Saw stands x) (length x.seen) t earlier more sure) (IsTakeCommit (Saw stands x) (length x.seen) token result) (one_call false v w by (StageTake token (Ok t)) a) ends
+      (λ p q h e. (Ok t, h.0, p, q, refl, h.1, (sure, e, is)))
 
   pub unstaged_take : (v w x : View) (by by' : ℕ) (token other : Token) (cause : StageCause) (ended : Bool) → Answers stands tells moment (is_spent_stage (Err cause)) v by (StageTake token (Err cause)) w → other ≡ token → RolledBack stands tells moment ended w by' (RollbackTake other true) (λ s. takes_of s other ≡ None) x
-      → Goes v x (IsTakeCommit (Saw x) (length x.seen) token (Err (Face.Stage cause)))
+      → Goes v x (IsTakeCommit (Saw stands x) (length x.seen) token (Err (Face.Stage cause)))
   unstaged_take v w x by by' token other cause ended a same rolled =
       let back = rolls ended w x by' (RollbackTake other) (λ s. takes_of s other ≡ None) rolled in
-      goes_then v w x _ _ (IsTakeCommit (Saw x) (length x.seen) token (Err (Face.Stage cause))) (one_call (is_spent_stage (Err cause)) v w by (StageTake token (Err cause)) a) back
+      goes_then v w x (IsOne (length w.seen) (is_spent_stage (Err cause)) (StageTake token (Err cause))) (IsRolledBack (Saw stands x) (RollbackTake other) (λ s. takes_of s other ≡ None)) (IsTakeCommit (Saw stands x) (length x.seen) token (Err (Face.Stage cause))) (one_call (is_spent_stage (Err cause)) v w by (StageTake token (Err cause)) a) back
       (λ p q h e. (
         Err cause,
         h.0,
         p,
         q,
         refl,
-        made_up (length w.seen) (length x.seen) (is_spent_stage (Err cause)) (StageTake token (Err cause)) h.0 p (goes_grows w x _ back) h.2,
-        (subst (λ (k : Token). IsRolledBack (Saw x) (RollbackTake k) (λ s. takes_of s k ≡ None) q) same e, refl),
+        made_up (length w.seen) (length x.seen) (is_spent_stage (Err cause)) (StageTake token (Err cause)) h.0 p (goes_grows w x (IsRolledBack (Saw stands x) (RollbackTake other) (λ s. takes_of s other ≡ None)) back) h.1,
+        (subst (λ (k : Token). IsRolledBack (Saw stands x) (RollbackTake k) (λ s. takes_of s k ≡ None) (owned v ++ p) q) same e, refl),
       ))
 
   -- puts, one after another
 
-  pub put_one : (v w x : View) (by : ℕ) (token other : Token) (events events' : List Content) (event : Content) (done : PutDone) → Goes v w (ArePut token events) → Answers stands tells moment false w by (Put other event (Ok done)) x → other ≡ token → events' ≡ events ++ event ∷ [] → Goes v x (ArePut token events')
+  pub put_one : (v w x : View) (by : ℕ) (token other : Token) (events events' : List Content) (event : Content) (done : PutDone) → Goes v w (λ earlier. ArePut token events) → Answers stands tells moment false w by (Put other event (Ok done)) x → other ≡ token → events' ≡ events ++ event ∷ [] → Goes v x (λ earlier. ArePut token events')
   put_one v w x by token other events events' event done goes a same is =
-      goes_then v w x (ArePut token events) _ (ArePut token events') goes (one_call false w x by (Put other event (Ok done)) a)
-      (λ p q all h. rw (is, h.2.1, same) (puts-push token events p event done h.0 h.2.0 all))
+      goes_then v w x (λ earlier. ArePut token events) (IsOne (length x.seen) false (Put other event (Ok done))) (λ earlier. ArePut token events') goes (one_call false w x by (Put other event (Ok done)) a)
+      (λ p q all h. rw (is, h.1.1, same) (puts-push token events p event done h.0 h.1.0 all))
 
-  pub put_refused : (v w x : View) (by : ℕ) (token other : Token) (events all back : List Content) (event : Content) (refused : PutRefused) → Goes v w (ArePut token events) → Answers stands tells moment (is_spent_put (Err refused)) w by (Put other event (Err refused)) x → other ≡ token → all ≡ events ++ event ∷ back
-      → Goes v x (ArePutUpTo (length x.seen) token all (Err refused))
+  pub put_refused : (v w x : View) (by : ℕ) (token other : Token) (events all back : List Content) (event : Content) (refused : PutRefused) → Goes v w (λ earlier. ArePut token events) → Answers stands tells moment (is_spent_put (Err refused)) w by (Put other event (Err refused)) x → other ≡ token → all ≡ events ++ event ∷ back
+      → Goes v x (λ earlier. ArePutUpTo (length x.seen) token all (Err refused))
   put_refused v w x by token other events all back event refused goes a same is =
-      goes_then v w x (ArePut token events) _ (ArePutUpTo (length x.seen) token all (Err refused)) goes (one_call (is_spent_put (Err refused)) w x by (Put other event (Err refused)) a)
-      (λ p q done h. (events, back, event, h.0, p, q, is, refl, done, subst (λ (k : Token). IsMade (length x.seen) (is_spent_put (Err refused)) (Put k event (Err refused)) h.0 q) same h.2))
+      goes_then v w x (λ earlier. ArePut token events) (IsOne (length x.seen) (is_spent_put (Err refused)) (Put other event (Err refused))) (λ earlier. ArePutUpTo (length x.seen) token all (Err refused)) goes (one_call (is_spent_put (Err refused)) w x by (Put other event (Err refused)) a)
+      (λ p q done h. (events, back, event, h.0, p, q, is, refl, done, subst (λ (k : Token). IsMade (length x.seen) (is_spent_put (Err refused)) (Put k event (Err refused)) h.0 q) same h.1))
 
   -- a whole batch
 
-  pub batch_unbegun : (v w : View) (by : ℕ) (events : List Content) (refused : BeginRefused) → Answers stands tells moment (is_spent_begin (Err refused)) v by (BeginPut (Err refused)) w → Goes v w (IsPutBatch (Saw w) (length w.seen) events (Err (Face.Begin refused)))
+  pub batch_unbegun : (v w : View) (by : ℕ) (events : List Content) (refused : BeginRefused) → Answers stands tells moment (is_spent_begin (Err refused)) v by (BeginPut (Err refused)) w → Goes v w (IsPutBatch (Saw stands w) (length w.seen) events (Err (Face.Begin refused)))
   batch_unbegun v w by events refused a =
-      goes_as v w _ (IsPutBatch (Saw w) (length w.seen) events (Err (Face.Begin refused))) (one_call (is_spent_begin (Err refused)) v w by (BeginPut (Err refused)) a)
-      (λ p h. (Err refused, h.0, p, [], sym (append-nil p), h.2, (refl, refl)))
+      goes_as v w (IsOne (length w.seen) (is_spent_begin (Err refused)) (BeginPut (Err refused))) (IsPutBatch (Saw stands w) (length w.seen) events (Err (Face.Begin refused))) (one_call (is_spent_begin (Err refused)) v w by (BeginPut (Err refused)) a)
+      (λ p h. (Err refused, h.0, p, [], sym (append-nil p), h.1, (refl, refl)))
 
-  pub batch_begun : (v w x y : View) (by : ℕ) (events : List Content) (token other : Token) (reply : Result (Unit {0}) PutRefused) (result : Result ℕ FaceRefused) → Answers stands tells moment false v by (BeginPut (Ok token)) w → other ≡ token → Goes w x (ArePutUpTo (length x.seen) token events reply)
-      → Goes x y (λ more. EndsPuts (Saw y) (length y.seen) other reply more result) → Goes v y (IsPutBatch (Saw y) (length y.seen) events result)
+  pub batch_begun : (v w x y : View) (by : ℕ) (events : List Content) (token other : Token) (reply : Result (Unit {0}) PutRefused) (result : Result ℕ FaceRefused) → Answers stands tells moment false v by (BeginPut (Ok token)) w → other ≡ token → Goes w x (λ earlier. ArePutUpTo (length x.seen) token events reply)
+      → Goes x y (λ earlier more. EndsPuts (Saw stands y) (length y.seen) other reply earlier more result) → Goes v y (IsPutBatch (Saw stands y) (length y.seen) events result)
   batch_begun v w x y by events token other reply result a same puts ends =
-      goes_then v w y _ (λ more. EndsBegin (Saw y) (length y.seen) events (Ok token) more result) (IsPutBatch (Saw y) (length y.seen) events result) (one_call false v w by (BeginPut (Ok token)) a)
-      (goes_then w x y (ArePutUpTo (length x.seen) token events reply) (λ more. EndsPuts (Saw y) (length y.seen) other reply more result) (λ more. EndsBegin (Saw y) (length y.seen) events (Ok token) more result) puts ends
-      (λ p q all e. (reply, p, q, refl, puts_up (length x.seen) (length y.seen) token events reply p (goes_grows x y _ ends) all, subst (λ (k : Token). EndsPuts (Saw y) (length y.seen) k reply q result) same e)))
-      (λ p q h e. (Ok token, h.0, p, q, refl, h.2, e))
+      goes_then v w y (IsOne (length w.seen) false (BeginPut (Ok token))) (λ earlier more. EndsBegin (Saw stands y) (length y.seen) events (Ok token) earlier more result) (IsPutBatch (Saw stands y) (length y.seen) events result) (one_call false v w by (BeginPut (Ok token)) a)
+      (goes_then w x y (λ earlier. ArePutUpTo (length x.seen) token events reply) (λ earlier more. EndsPuts (Saw stands y) (length y.seen) other reply earlier more result) (λ earlier more. EndsBegin (Saw stands y) (length y.seen) events (Ok token) earlier more result) puts ends
+      (λ p q all e. (reply, p, q, refl, puts_up (length x.seen) (length y.seen) token events reply p (goes_grows x y (λ earlier more. EndsPuts (Saw stands y) (length y.seen) other reply earlier more result) ends) all, subst (λ (k : Token). EndsPuts (Saw stands y) (length y.seen) k reply (owned w ++ p) q result) same e)))
+      (λ p q h e. (Ok token, h.0, p, q, refl, h.1, e))
 
   -- takes
 
-  pub take_begun : (v w : View) (by : ℕ) (reply : Result Token BeginRefused) (result : Result Token FaceRefused) → Answers stands tells moment (is_spent_begin reply) v by (BeginTake reply) w → result ≡ begun_as reply → Goes v w (IsTakeBegun (length w.seen) result)
-  take_begun v w by reply result a is = goes_as v w _ (IsTakeBegun (length w.seen) result) (one_call (is_spent_begin reply) v w by (BeginTake reply) a) (λ p h. (reply, h.0, h.2, is))
+  pub take_begun : (v w : View) (by : ℕ) (reply : Result Token BeginRefused) (result : Result Token FaceRefused) → Answers stands tells moment (is_spent_begin reply) v by (BeginTake reply) w → result ≡ begun_as reply → Goes v w (λ earlier. IsTakeBegun (length w.seen) result)
+  take_begun v w by reply result a is = goes_as v w (IsOne (length w.seen) (is_spent_begin reply) (BeginTake reply)) (λ earlier. IsTakeBegun (length w.seen) result) (one_call (is_spent_begin reply) v w by (BeginTake reply) a) (λ p h. (reply, h.0, h.1, is))
 
-  pub taken : (v w : View) (by : ℕ) (token : Token) (reply : Result Taken TakeRefused) (result : Result (Option Content) FaceRefused) → Answers stands tells moment (is_spent_take reply) v by (Take token reply) w → result ≡ taken_event reply → Goes v w (IsTake (length w.seen) token result)
-  taken v w by token reply result a is = goes_as v w _ (IsTake (length w.seen) token result) (one_call (is_spent_take reply) v w by (Take token reply) a) (λ p h. (reply, h.0, h.2, is))
+  pub taken : (v w : View) (by : ℕ) (token : Token) (reply : Result Taken TakeRefused) (result : Result (Option Content) FaceRefused) → Answers stands tells moment (is_spent_take reply) v by (Take token reply) w → result ≡ taken_event reply → Goes v w (λ earlier. IsTake (length w.seen) token result)
+  taken v w by token reply result a is = goes_as v w (IsOne (length w.seen) (is_spent_take reply) (Take token reply)) (λ earlier. IsTake (length w.seen) token result) (one_call (is_spent_take reply) v w by (Take token reply) a) (λ p h. (reply, h.0, h.1, is))
 
-pub puts_none : (v : View) (token : Token) → Goes v v (ArePut token [])
+pub puts_none : (v : View) (token : Token) → Goes v v (λ earlier. ArePut token [])
 puts_none v token = ([], went_none v, refl)
 
 -- what a turn's settling did
-pub settles : {S C : Type 0} (stands : C → Opening → List Step → Type 0) (v w : View) (by moment : ℕ) (ticket : Ticket) (sure : Bool) (k : Me (Option S) View) (d : C) (n : Me (Option S) View) → Making v [] k.0 → has v.numbers by ≡ true → MakesSettled stands by moment ticket sure k d n → w ≡ saw v w.seen → w.seen ≡ n.0.seen → Settles v w ticket sure
-settles stands v w by moment ticket sure k d n making own makes is same =
+pub settles : {S C : Type 0} (stands : C → Opening → List Step → Type 0) (v w : View) (by moment : ℕ) (ticket : Ticket) (sure : Bool) (k : Me (Option S) View) (c d : C) (n : Me (Option S) View) → IsIn stands k c → Making v [] k.0 → has v.numbers by ≡ true → MakesSettled stands by moment ticket sure k d n → w ≡ saw v w.seen → w.seen ≡ n.0.seen → Settles stands v w ticket sure
+settles stands v w by moment ticket sure k c d n inside making own makes is same =
     (more, g.0, (s, g.1, ends (settled s ticket) makes.2))
   where
     s : State
@@ -262,8 +299,8 @@ settles stands v w by moment ticket sure k d n making own makes is same =
     all : w.seen ≡ k.0.seen ++ makes.0
     all = same ∙ makes.1.seen
 
-    g : Went v w (own_calls v.numbers s makes.0) × Saw w s
-    g = went_turn v k.0 w makes.0 making is all
+    g : Went v w (own_calls v.numbers s makes.0) × Saw stands w (owned v) s
+    g = went_turn stands c v k.0 w makes.0 inside.3.calls making is all
 
     more : List Own
     more = own_calls v.numbers s makes.0

@@ -1,8 +1,10 @@
 -- What a source and a sink see of a shared channel through a pass.
 use Rattle.std.specs.Prelude.{◌≡◌, ◌-◌, ◌^◌, ℕ, List, [], ◌∷◌, ◌++◌, length, Option, Result, Bool, true, false, not, is_ok}
+use Rattle.std.proofs.Common.{refl, sym, ◌∙◌, ap, append_assoc}
+use Rattle.std.proofs.lemmas.List.{append-nil}
 use mathlib.Core.List.{IsPrefix}
 use Rattle.atomic_table.specs.Table.{Me}
-use Rattle.channel_face.specs.Faces.{Own, EndsAs, is_spent_flush}
+use Rattle.channel_face.specs.Faces.{Own, Ends, is_spent_flush}
 use Rattle.channel_face.specs.Machine.{State, Flush, after, settled}
 use Rattle.channel_face.specs.History.{Opening, Step, opening, state_after}
 use Rattle.channel_face.specs.declared.replies.FlushRefused.{FlushRefused}
@@ -11,7 +13,9 @@ use Rattle.channel_face.specs.declared.replies.Settled.TheVariants.{Yes, No, InD
 use Rattle.channel_face.specs.declared.replies.Ticket.{Ticket}
 use Rattle.turn_passes.specs.Calls.{has}
 use Rattle.turn_passes.specs.Views.{View}
-use Rattle.shared_channel.specs.Calls.{step, state_seen, made_if, Bounds, Makes}
+use Rattle.shared_channel.specs.Counting.{StandsCounting}
+use Rattle.shared_channel.specs.Passes.{Known}
+use Rattle.shared_channel.specs.Calls.{step, state_seen, made_if, Bounds, Makes, IsSeen}
 
 abbrev pub own_if : Bool → Own → List Own → List Own
 own_if true o own = o ∷ own
@@ -29,24 +33,43 @@ owned v = own_calls v.numbers (opening v.base) v.seen
 abbrev pub AreOwned : View → List Own → Type 0
 AreOwned v own = own ≡ owned v
 
--- the channel was in this state, in the part of the history that the pass has seen
-abbrev pub Saw : View → State → Type 0
-Saw v s = (front rest : List Step) × (v.seen ≡ front ++ rest) × (state_after (opening v.base) front ≡ s)
+-- A channel stood for a first part of what the pass has seen, in which these were the pass's own calls, and which led to this state.
+pub record Saw {C : Type 0} (stands : C → Opening → List Step → Type 0) (v : View) (own : List Own) (s : State) : Type 0 where
+  pub channel : C
+  pub front : List Step
+  pub begins : IsPrefix front v.seen
+  pub calls : StandsCounting stands channel v.base front
+  pub own_then : own_calls v.numbers (opening v.base) front ≡ own
+  pub state : state_after (opening v.base) front ≡ s
 
--- From a view to one that has seen more, and made these calls in it.
+-- From a view to one that has seen as much or more, and made these calls in it.
 pub record Went (v w : View) (more : List Own) : Type 0 where
   pub base : w.base ≡ v.base
+  pub passes : w.passes ≡ v.passes
   pub numbers : w.numbers ≡ v.numbers
   pub begins : IsPrefix v.seen w.seen
   pub owned : owned w ≡ owned v ++ more
 
--- it made calls of which P is true
-abbrev pub Goes : View → View → (List Own → Type 0) → Type 0
-Goes v w P = (more : List Own) × Went v w more × P more
+-- it made calls of which P is true behind those that it had made
+abbrev pub Goes : View → View → (List Own → List Own → Type 0) → Type 0
+Goes v w P = (more : List Own) × Went v w more × P (owned v) more
+
+-- The same pass after some calls. What it has seen begins with what it had seen.
+pub record Later (p q : Known) : Type 0 where
+  pub table : q.table_id ≡ p.table_id
+  pub number : q.number ≡ p.number
+  pub base : q.view.base ≡ p.view.base
+  pub passes : q.view.passes ≡ p.view.passes
+  pub numbers : q.view.numbers ≡ p.view.numbers
+  pub begins : IsPrefix p.view.seen q.view.seen
 
 -- In one turn the ticket was asked for, and what was not settled then was flushed.
-abbrev pub Settles : View → View → Ticket → Bool → Type 0
-Settles v w ticket sure = Goes v w (λ more. (s : State) × Saw w s × EndsAs (length w.seen) s (settled s ticket) more sure)
+abbrev pub Settles : {C : Type 0} → (C → Opening → List Step → Type 0) → View → View → Ticket → Bool → Type 0
+Settles stands v w ticket sure = Goes v w (λ earlier more. Ends (Saw stands w) (length w.seen) ticket earlier more sure)
+
+-- A channel stands for all that the pass has seen, of which each call was answered as the machine answers it.
+abbrev pub SawAll : {C : Type 0} → (C → Opening → List Step → Type 0) → (C → Bool) → View → Type 0
+SawAll stands tells v = (c : _) × IsSeen stands tells c v
 
 -- in the turn's state the ticket was so, and these calls were made for it
 abbrev pub SettledBy : Settled → ℕ → ℕ → View → List Step → Bool → Type 0
@@ -57,3 +80,16 @@ SettledBy InDoubt by moment k calls sure = (calls ≡ []) × (sure ≡ false)
 -- In its turn a seat asked for the ticket, and flushed what was not settled.
 abbrev pub MakesSettled : {S C : Type 0} → (C → Opening → List Step → Type 0) → ℕ → ℕ → Ticket → Bool → Me (Option S) View → C → Me (Option S) View → Type 0
 MakesSettled stands by moment ticket sure m d w = (calls : List Step) × Makes stands by calls m d w × SettledBy (settled (state_seen m.0) ticket) by moment m.0 calls sure
+
+pub later_none : (p : Known) → Later p p
+later_none p = record { table = refl; number = refl; base = refl; passes = refl; numbers = refl; begins = ([], append-nil p.view.seen) }
+
+pub later_then : (p q r : Known) → Later p q → Later q r → Later p r
+later_then p q r f g = record {
+  table = g.table ∙ f.table;
+  number = g.number ∙ f.number;
+  base = g.base ∙ f.base;
+  passes = g.passes ∙ f.passes;
+  numbers = g.numbers ∙ f.numbers;
+  begins = (f.begins.0 ++ g.begins.0, sym (append_assoc p.view.seen f.begins.0 g.begins.0) ∙ ap (λ (l : List Step). l ++ g.begins.0) f.begins.1 ∙ g.begins.1);
+}

@@ -2,7 +2,7 @@
 ghost use Rattle.std.specs.Prelude.{◌≡◌, ◌<◌, ◌≤◌, All, length};
 ghost use Rattle.channel_face.specs.Faces.{Gains, picked_events, IsPutBatch, IsTakeBegun, IsTake, IsTakeCommit, IsTakeRolledBack};
 ghost use Rattle.shared_channel.specs.Durables.{Mends};
-ghost use Rattle.shared_channel.specs.Ports.{AreOwned, Saw};
+ghost use Rattle.shared_channel.specs.Ports.{AreOwned, Later, Saw, SawAll};
 
 use crate::pass::Pass;
 use crate::shared::Shared;
@@ -17,7 +17,7 @@ use std::sync::ledger::Ledger;
 pub struct Port<'a, R, C: Channel> {
     rt: &'a R,
     shared: &'a Shared<C>,
-    pub pass: Pass,
+    pass: Pass,
     ghost same: { pass.table_id ≡ shared.now.turn.table.shared.table_id },
 }
 
@@ -55,19 +55,26 @@ impl<'a, R: Wait, C: Durable> Port<'a, R, C> {
 
 impl<'a, R: Wait, C: Channel> PutFace for Port<'a, R, C> {
     ghost use Rattle.std.specs.Prelude.{length};
-    ghost use Rattle.shared_channel.specs.Ports.{AreOwned, Saw};
+    ghost use Rattle.shared_channel.specs.Ports.{AreOwned, Later, Saw, later_none, later_then};
 
     ghost own = { λ p. AreOwned p.pass.view };
 
-    ghost saw = { λ p. Saw p.pass.view };
+    ghost saw = { λ p. Saw C.stands p.pass.view };
 
     ghost seen = { λ p. length p.pass.view.seen };
+
+    ghost kept = { λ p q. Later p.pass q.pass };
+
+    ghost kept_none = { λ p. later_none p.pass };
+
+    ghost kept_then = { λ p q r. later_then p.pass q.pass r.pass };
 
     fn put_batch(&mut self, batch: &Batch, picked: &[u32]) -> Result<u64, FaceRefused>
         requires { All (λ place. place < length batch.now) picked.now }
         ensures seen { length self.old.pass.view.seen ≤ length self.new.pass.view.seen }
-        ensures calls { Gains (AreOwned self.old.pass.view) (AreOwned self.new.pass.view) (IsPutBatch (Saw self.new.pass.view) (length self.new.pass.view.seen) (picked_events batch.now picked.now) result) }
-        ensures same { (self.new.pass.table_id ≡ self.old.pass.table_id) × (self.new.pass.number ≡ self.old.pass.number) }
+        ensures calls { Gains (AreOwned self.old.pass.view) (AreOwned self.new.pass.view) (IsPutBatch (Saw C.stands self.new.pass.view) (length self.new.pass.view.seen) (picked_events batch.now picked.now) result) }
+        ensures kept { Later self.old.pass self.new.pass }
+        ensures all { SawAll C.stands C.tells self.new.pass.view }
     {
         self.shared
             .put_batch(self.rt, &mut self.pass, batch, picked)
@@ -76,18 +83,25 @@ impl<'a, R: Wait, C: Channel> PutFace for Port<'a, R, C> {
 
 impl<'a, R: Wait, C: Channel> TakeFace for Port<'a, R, C> {
     ghost use Rattle.std.specs.Prelude.{length};
-    ghost use Rattle.shared_channel.specs.Ports.{AreOwned, Saw};
+    ghost use Rattle.shared_channel.specs.Ports.{AreOwned, Later, Saw, later_none, later_then};
 
     ghost own = { λ p. AreOwned p.pass.view };
 
-    ghost saw = { λ p. Saw p.pass.view };
+    ghost saw = { λ p. Saw C.stands p.pass.view };
 
     ghost seen = { λ p. length p.pass.view.seen };
 
+    ghost kept = { λ p q. Later p.pass q.pass };
+
+    ghost kept_none = { λ p. later_none p.pass };
+
+    ghost kept_then = { λ p q r. later_then p.pass q.pass r.pass };
+
     fn begin(&mut self) -> Result<TakeTxn, FaceRefused>
         ensures seen { length self.old.pass.view.seen ≤ length self.new.pass.view.seen }
-        ensures calls { Gains (AreOwned self.old.pass.view) (AreOwned self.new.pass.view) (IsTakeBegun (length self.new.pass.view.seen) result) }
-        ensures same { (self.new.pass.table_id ≡ self.old.pass.table_id) × (self.new.pass.number ≡ self.old.pass.number) }
+        ensures calls { Gains (AreOwned self.old.pass.view) (AreOwned self.new.pass.view) (λ earlier. IsTakeBegun (length self.new.pass.view.seen) result) }
+        ensures kept { Later self.old.pass self.new.pass }
+        ensures all { SawAll C.stands C.tells self.new.pass.view }
     {
         match self.shared.begin_take(self.rt, &mut self.pass) {
             Ok(txn) => Ok(txn),
@@ -97,9 +111,10 @@ impl<'a, R: Wait, C: Channel> TakeFace for Port<'a, R, C> {
 
     fn take(&mut self, txn: &mut TakeTxn) -> Result<Option<Event>, FaceRefused>
         ensures seen { length self.old.pass.view.seen ≤ length self.new.pass.view.seen }
-        ensures calls { Gains (AreOwned self.old.pass.view) (AreOwned self.new.pass.view) (IsTake (length self.new.pass.view.seen) txn.old result) }
+        ensures calls { Gains (AreOwned self.old.pass.view) (AreOwned self.new.pass.view) (λ earlier. IsTake (length self.new.pass.view.seen) txn.old result) }
         ensures token { txn.new ≡ txn.old }
-        ensures same { (self.new.pass.table_id ≡ self.old.pass.table_id) × (self.new.pass.number ≡ self.old.pass.number) }
+        ensures kept { Later self.old.pass self.new.pass }
+        ensures all { SawAll C.stands C.tells self.new.pass.view }
     {
         match self.shared.take(self.rt, &mut self.pass, txn) {
             Ok(taken) => Ok(taken.event),
@@ -109,16 +124,18 @@ impl<'a, R: Wait, C: Channel> TakeFace for Port<'a, R, C> {
 
     fn commit(&mut self, txn: TakeTxn) -> Result<(), FaceRefused>
         ensures seen { length self.old.pass.view.seen ≤ length self.new.pass.view.seen }
-        ensures calls { Gains (AreOwned self.old.pass.view) (AreOwned self.new.pass.view) (IsTakeCommit (Saw self.new.pass.view) (length self.new.pass.view.seen) txn result) }
-        ensures same { (self.new.pass.table_id ≡ self.old.pass.table_id) × (self.new.pass.number ≡ self.old.pass.number) }
+        ensures calls { Gains (AreOwned self.old.pass.view) (AreOwned self.new.pass.view) (IsTakeCommit (Saw C.stands self.new.pass.view) (length self.new.pass.view.seen) txn result) }
+        ensures kept { Later self.old.pass self.new.pass }
+        ensures all { SawAll C.stands C.tells self.new.pass.view }
     {
         self.shared.finish_takes(self.rt, &mut self.pass, txn)
     }
 
     fn rollback(&mut self, txn: TakeTxn)
         ensures seen { length self.old.pass.view.seen ≤ length self.new.pass.view.seen }
-        ensures calls { Gains (AreOwned self.old.pass.view) (AreOwned self.new.pass.view) (IsTakeRolledBack (Saw self.new.pass.view) txn) }
-        ensures same { (self.new.pass.table_id ≡ self.old.pass.table_id) × (self.new.pass.number ≡ self.old.pass.number) }
+        ensures calls { Gains (AreOwned self.old.pass.view) (AreOwned self.new.pass.view) (IsTakeRolledBack (Saw C.stands self.new.pass.view) txn) }
+        ensures kept { Later self.old.pass self.new.pass }
+        ensures all { SawAll C.stands C.tells self.new.pass.view }
     {
         self.shared.rollback_take(self.rt, &mut self.pass, txn);
     }

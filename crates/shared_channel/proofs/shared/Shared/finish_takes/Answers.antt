@@ -1,6 +1,6 @@
 use Rattle.std.proofs.Common.{Ok, Err, refl}
 use Rattle.channel_face.specs.declared.replies.FaceRefused.TheVariants as Face
-use Rattle.shared_channel.proofs.Porting.{staged_take, unstaged_take}
+use Rattle.shared_channel.proofs.Porting.{staged_take, unstaged_take, all_seen_back}
 use Rattle.shared_channel.proofs.shared.Shared.finish_takes.Goals as goal
 
 pub returns-then-settle-clause-calls : goal.returns-then-settle-clause-calls
@@ -14,3 +14,6 @@ returns-else-settle-clause-calls g c =
 pub returns-in-Err-clause-calls : goal.returns-in-Err-clause-calls
 returns-in-Err-clause-calls g c =
     unstaged_take g.C.Channel.stands g.C.Channel.tells g.C.Channel.moment c.args.pass.now.view c.stage_take.new.pass.view c.rollback_take.new.pass.view c.args.pass.now.number c.stage_take.new.pass.number c.args.txn c.in-Err.refused.txn c.in-Err.refused.cause c.rollback_take.result c.in-Err.ensures.call c.in-Err.ensures.back c.rollback_take.ensures.call
+
+pub returns-in-Err-clause-all : goal.returns-in-Err-clause-all
+returns-in-Err-clause-all g c = all_seen_back g.C.Channel.stands g.C.Channel.tells g.C.Channel.moment c.rollback_take.result c.stage_take.new.pass.view c.rollback_take.new.pass.view c.stage_take.new.pass.number _ _ c.rollback_take.ensures.call
