@@ -21,7 +21,7 @@ flushes (Flush (Ok done)) = true
 flushes (Flush (Err FlushNo.DiskFault)) = true
 flushes call = false
 
--- The last log file alone may read otherwise now, and at most two syncs were made.
+-- One log file alone, above which there was none, may read otherwise now, and at most two syncs were made.
 pub record WritesLast (t u : Told) : Type 0 where
   pub file : ℕ
   pub last : (n : ℕ) → file < n → t.reads (Log n) ≡ None
