@@ -1,17 +1,19 @@
 -- Each step keeps the rule.
-use Rattle.std.proofs.Common.{◌≡◌, ◌≢◌, ℕ, ◌+◌, ◌%◌, ◌^◌, ◌<◌, List, [], ◌∷◌, ◌++◌, length, set, Bool, true, false, true≢false, eq-eqb, ne_eqb, refl, sym, ap, ◌∙◌, subst, ⊎_elim, arith, length-append}
+use Rattle.std.proofs.Common.{◌≡◌, ◌≢◌, ℕ, zero, suc, ◌+◌, ◌%◌, ◌^◌, ◌<◌, List, [], ◌∷◌, ◌++◌, length, set, Bool, true, false, true≢false, eq-eqb, ne_eqb, refl, sym, ap, ◌∙◌, subst, ⊎_elim, arith, length-append}
 use Rattle.std.specs.Prelude.{Option, Some, None, MatchBool, MatchOption, slice_index, slice_set, ◌==◌}
 use mathlib.Core.List.{IsPrefix}
 use mathlib.Core.Option.{some, none, some-ne-none, some-injective}
 use mathlib.Core.Option as maybe
+use mathlib.Core.Logic.{dite}
+use native.Mathlib.Decide.{ℕ_discrete}
 use prog.Atomic.{either}
 use lib.ListN.{get_elem?}
 use Rattle.atomic_table.specs.Table.{State, Me, Act, keeps, takes, gives, rest, step, Allows, Valid, carried_after, homes_after}
-use Rattle.atomic_table.proofs.Lists.{at_set, set_again, set_here, exchanged}
+use Rattle.atomic_table.proofs.Lists.{at_set, set_again, set_here, set_else, exchanged}
 use Rattle.channel_face.specs.History.{Opening, Step}
 use Rattle.turn_passes.specs.Views.{Part, View, nothing, entered, idle, counted}
 use Rattle.turn_passes.specs.Calls.{has, calls_by, Below}
-use Rattle.turn_passes.specs.Turns.{Heard, Fits, Apart, Kept, Knows, Takes, Reads, Counts, CountsOne, Leaves}
+use Rattle.turn_passes.specs.Turns.{Heard, Fits, Apart, Held, Kept, Knows, Takes, Reads, Counts, CountsOne, Leaves}
 use Rattle.turn_passes.proofs.Histories.{begins_self, begins_empty, begins_more, below_up, no_numbers, calls_by-other, below-more}
 
 pub off : false ≡ true → ⊥
@@ -56,6 +58,17 @@ apart_set views id v w at less apart i j u x ui xj n hu hx =
     let b = was views id v w at less j x xj in
     apart i j a.0 b.0 a.1 b.1 n (a.2 n hu) (b.2 n hx)
 
+set_there : (views : List View) (id : ℕ) (v w : View) → get_elem? views id ≡ some v → get_elem? (set views id w) id ≡ some w
+set_there [] id v w at = absurd (some-ne-none v (sym at))
+set_there (x ∷ xs) zero v w at = refl
+set_there (x ∷ xs) (suc id) v w at = set_there xs id v w at
+
+-- a seat has the turn, where one view was set that has it if the one before had it
+pub held_set : (views : List View) (id : ℕ) (v w : View) → get_elem? views id ≡ some v → (v.turn ≡ true → w.turn ≡ true) → Held views → Held (set views id w)
+held_set views id v w at on h = dite (ℕ_discrete h.0 id)
+    (λ same. (id, w, set_there views id v w at, on (subst (λ (u : View). u.turn ≡ true) (some-injective h.1 v (sym h.2 ∙ ap (get_elem? views) same ∙ at)) h.3)))
+    (λ apart. (h.0, h.1, set_else views id h.0 w apart ∙ h.2, h.3))
+
 module _ {C : Type 0} (stands : C → Opening → List Step → Type 0) (base : Opening) (passes : ℕ) where
   still : (s : State (Option C) View) (k : Kept stands base passes s) (id : ℕ) (v : View) → get_elem? s.views id ≡ some v → Kept stands base passes record { words = length k.log ∷ k.turn ∷ []; homes = s.homes; views = set s.views id v }
   still s k id v at = record {
@@ -64,7 +77,10 @@ module _ {C : Type 0} (stands : C → Opening → List Step → Type 0) (base : 
     holder = k.holder;
     dealt = k.dealt;
     words = refl;
+    known = k.known;
     home = k.home;
+    held = λ one. held_set s.views id v v at (λ t. t) (k.held one);
+    shut = k.shut;
     below = k.below;
     room = k.room;
     fits = λ j u e. k.fits j u (subst (λ l. get_elem? l j ≡ some u) (set_again s.views id v at) e);
@@ -109,7 +125,10 @@ module _ {C : Type 0} (stands : C → Opening → List Step → Type 0) (base : 
               holder = id;
               dealt = k.dealt;
               words = refl;
+              known = omega arith;
               home = λ e. absurd (omega arith);
+              held = λ one. (id, w, set_there s.views id v w at, refl);
+              shut = λ e. absurd (omega arith);
               below = k.below;
               room = k.room;
               fits = fits_set k.log base passes 1 id k.dealt s.views id w (λ j u apart e. nobody k z j u (k.fits j u e))
@@ -184,7 +203,10 @@ module _ {C : Type 0} (stands : C → Opening → List Step → Type 0) (base : 
         holder = k.holder;
         dealt = k.dealt;
         words = let n : length me.0.seen ≡ length k.log = ap length same in ap (λ (m : ℕ). m ∷ k.turn ∷ []) (omega (arith, length-append k.log (e ∷ [])));
+        known = k.known;
         home = λ z. let one = (mine.holds on).1 in absurd (omega arith);
+        held = λ one. held_set s.views id me.0 w at (λ t. t) (k.held one);
+        shut = k.shut;
         below = below-more k.dealt k.log e k.below (mine.drawn e.pass own);
         room = k.room;
         fits = fits_set log base passes k.turn k.holder k.dealt s.views id w others
@@ -232,6 +254,9 @@ module _ {C : Type 0} (stands : C → Opening → List Step → Type 0) (base : 
             holder = k.holder;
             dealt = k.dealt;
             words = refl;
+            known = omega arith;
+            held = λ e. absurd (omega arith);
+            shut = λ e. absurd (omega arith);
             home = λ z. (c, set_here s.homes 0 (some (Some c)) (omega arith), subst (λ l. stands c base l) (mine.holds on).2 (subst (λ b. stands c b me.0.seen) (mine.same live).0 ok));
             below = k.below;
             room = k.room;
@@ -268,7 +293,10 @@ module _ {C : Type 0} (stands : C → Opening → List Step → Type 0) (base : 
             holder = k.holder;
             dealt = k.dealt;
             words = refl;
+            known = omega arith;
             home = λ z. absurd (omega arith);
+            held = λ e. absurd (omega arith);
+            shut = λ two. set_here s.homes 0 (some None) (omega arith);
             below = k.below;
             room = k.room;
             fits = fits_set k.log base passes 2 k.holder k.dealt s.views id (idle me.0) others

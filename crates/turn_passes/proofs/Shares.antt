@@ -7,13 +7,13 @@ use mathlib.Core.Option.{some, some-ne-none, some-injective}
 use mathlib.Core.Option as maybe
 use lib.ListN.{get_elem?}
 use Rattle.atomic_table.specs.Table.{Me, keeps, step, opening, Allows, Splits, Joins}
-use Rattle.atomic_table.proofs.Lists.{at_set}
+use Rattle.atomic_table.proofs.Lists.{at_set, at_longer}
 use Rattle.channel_face.specs.History.{Opening, Step}
 use Rattle.turn_passes.specs.Views.{View, part, dealer, dealing, newcomer, gone, longer, both, settled}
 use Rattle.turn_passes.specs.Calls.{has, calls_by, Below}
-use Rattle.turn_passes.specs.Turns.{Has, Fits, Apart, Kept, Settles}
+use Rattle.turn_passes.specs.Turns.{Has, Fits, Apart, Held, Kept, Settles}
 use Rattle.turn_passes.proofs.Histories.{begins_self, begins_empty, nil_of, no_numbers, longer_begins, between, has_either, has_left, has_right, calls_of_both, fresh, below_front, below_next, has_only}
-use Rattle.turn_passes.proofs.Moves.{off, heard_nothing, fits_set, apart_set}
+use Rattle.turn_passes.proofs.Moves.{off, heard_nothing, fits_set, apart_set, held_set}
 
 at_end : (l : List View) (a b : View) (j : ℕ) → get_elem? (l ++ a ∷ []) j ≡ some b → (get_elem? l j ≡ some b) ⊎ ((j ≡ length l) × (a ≡ b))
 at_end [] a b zero e = inr (refl, some-injective a b e)
@@ -34,7 +34,10 @@ module _ {C : Type 0} (stands : C → Opening → List Step → Type 0) (base : 
     holder = 0;
     dealt = 0;
     words = refl;
+    known = omega arith;
     home = λ z. (c, refl, ok);
+    held = λ e. absurd (omega arith);
+    shut = λ e. absurd (omega arith);
     below = tt;
     room = omega arith;
     fits = fits;
@@ -57,7 +60,10 @@ module _ {C : Type 0} (stands : C → Opening → List Step → Type 0) (base : 
     holder = k.holder;
     dealt = suc k.dealt;
     words = k.words;
+    known = k.known;
     home = k.home;
+    held = λ one. longer_held (held_set s.views id v (dealing v) at (λ t. t) (k.held one));
+    shut = k.shut;
     below = below_next k.dealt k.log k.below;
     room = let i = is in let p = (mine.same live).1 in omega arith;
     fits = λ j u e. ⊎_elim
@@ -117,6 +123,9 @@ module _ {C : Type 0} (stands : C → Opening → List Step → Type 0) (base : 
       old : List View
       old = set s.views id (dealing v)
 
+      longer_held : Held old → Held (old ++ newcomer v ∷ [])
+      longer_held h = (h.0, h.1, at_longer old (newcomer v ∷ []) h.0 h.1 h.2, h.3)
+
       fits_old : (j : ℕ) (u : View) → get_elem? old j ≡ some u → (n : ℕ) → has u.numbers n ≡ true → n < k.dealt
       fits_old j u e n h = ⊎_elim
           (λ (x : (j ≡ id) × (dealing v ≡ u)). mine.drawn n (subst (λ (y : View). has y.numbers n ≡ true) (sym x.1) h))
@@ -145,7 +154,10 @@ module _ {C : Type 0} (stands : C → Opening → List Step → Type 0) (base : 
     holder = k.holder;
     dealt = k.dealt;
     words = k.words;
+    known = k.known;
     home = k.home;
+    held = λ one. held_set first other w gone there (λ t. absurd (off (sym free ∙ t))) (held_set s.views id v (both v w) at (λ t. t) (k.held one));
+    shut = k.shut;
     below = k.below;
     room = k.room;
     fits = fits_set k.log base passes k.turn k.holder k.dealt first other gone (λ j u _ e. fits_set k.log base passes k.turn k.holder k.dealt s.views id (both v w) (λ i y _ e'. k.fits i y e') joined j u e)
@@ -241,7 +253,10 @@ module _ {C : Type 0} (stands : C → Opening → List Step → Type 0) (base : 
         holder = k.holder;
         dealt = k.dealt;
         words = subst (λ ws. slice_set ws 0 (slice_index ws 0) ≡ length k.log ∷ k.turn ∷ []) (sym k.words) refl;
+        known = k.known;
         home = k.home;
+        held = λ one. held_set s.views id (both v w) (settled (both v w)) at (λ t. t) (k.held one);
+        shut = k.shut;
         below = k.below;
         room = k.room;
         fits = fits_set k.log base passes k.turn k.holder k.dealt s.views id (settled (both v w)) (λ j u _ e. k.fits j u e)

@@ -1,6 +1,6 @@
 -- The rule of the table, and what each step tells.
 -- Word 0 is the length of the history. Word 1 is 0 while the turn is free, 1 while a seat has it, and 2 once the table is closed. The slot has the value while word 1 is 0.
-use Rattle.std.specs.Prelude.{◌≡◌, ◌==◌, ◌<◌, ◌≤◌, ◌++◌, ℕ, List, [], ◌∷◌, true, length, Option, Some, MatchBool}
+use Rattle.std.specs.Prelude.{◌≡◌, ◌==◌, ◌<◌, ◌≤◌, ◌++◌, ℕ, List, [], ◌∷◌, true, length, Option, Some, None, MatchBool}
 use mathlib.Core.List.{IsPrefix}
 use mathlib.Core.Option.{some}
 use lib.ListN.{get_elem?}
@@ -32,14 +32,21 @@ pub record Fits (log : List Step) (base : Opening) (passes turn holder dealt sea
 abbrev pub Apart : List View → Type 0
 Apart views = (i j : ℕ) (v w : View) → get_elem? views i ≡ some v → get_elem? views j ≡ some w → (n : ℕ) → has v.numbers n ≡ true → has w.numbers n ≡ true → i ≡ j
 
--- The rule: there is one history, which the views have seen parts of, and while the turn is free the value at home stands for it.
+-- a seat has the turn
+abbrev pub Held : List View → Type 0
+Held views = (j : ℕ) × (v : View) × (get_elem? views j ≡ some v) × (v.turn ≡ true)
+
+-- The rule: there is one history, which the views have seen parts of, and while the turn is free the value at home stands for it. The turn is free, or a seat has it, or it was shut with the slot empty.
 pub record Kept {C : Type 0} (stands : C → Opening → List Step → Type 0) (base : Opening) (passes : ℕ) (s : State (Option C) View) : Type 0 where
   pub log : List Step
   pub turn : ℕ
   pub holder : ℕ
   pub dealt : ℕ
   pub words : s.words ≡ length log ∷ turn ∷ []
+  pub known : turn ≤ 2
   pub home : turn ≡ 0 → (c : C) × (get_elem? s.homes 0 ≡ some (some (Some c))) × stands c base log
+  pub held : turn ≡ 1 → Held s.views
+  pub shut : turn ≡ 2 → get_elem? s.homes 0 ≡ some (some None)
   pub below : Below dealt log
   pub room : dealt ≤ passes
   pub fits : (j : ℕ) (v : View) → get_elem? s.views j ≡ some v → Fits log base passes turn holder dealt j v
