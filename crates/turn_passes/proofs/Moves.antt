@@ -19,16 +19,17 @@ use Rattle.turn_passes.proofs.Histories.{begins_self, begins_empty, begins_more,
 pub off : false ≡ true → ⊥
 off e = true≢false (sym e)
 
-not_true : (b : Bool) → ¬ (b ≡ true) → b ≡ false
+pub not_true : (b : Bool) → ¬ (b ≡ true) → b ≡ false
 not_true true never = absurd (never refl)
 not_true false never = refl
 
-pub heard_nothing : (log : List Step) (numbers : List ℕ) → Heard log numbers nothing
-heard_nothing log numbers = record { begins = begins_empty log; calls = no_numbers log; among = λ n h. absurd (off h) }
+pub heard_nothing : (log : List Step) (base : Opening) (passes : ℕ) (numbers : List ℕ) → Heard log base passes numbers nothing
+heard_nothing log base passes numbers = record { same = λ z. absurd (off z); begins = begins_empty log; calls = no_numbers log; among = λ n h. absurd (off h) }
 
 -- a further call whose number is not among these
-heard_more : (log : List Step) (numbers : List ℕ) (p : Part) (e : Step) → has numbers e.pass ≡ false → Heard log numbers p → Heard (log ++ e ∷ []) numbers p
-heard_more log numbers p e apart h = record {
+heard_more : (log : List Step) (base : Opening) (passes : ℕ) (numbers : List ℕ) (p : Part) (e : Step) → has numbers e.pass ≡ false → Heard log base passes numbers p → Heard (log ++ e ∷ []) base passes numbers p
+heard_more log base passes numbers p e apart h = record {
+  same = h.same;
   begins = begins_more p.seen log e h.begins;
   calls = calls_by-other p.numbers log e (not_true (has p.numbers e.pass) (λ x. off (sym apart ∙ h.among e.pass x))) ∙ h.calls;
   among = h.among;
@@ -132,7 +133,7 @@ module _ {C : Type 0} (stands : C → Opening → List Step → Type 0) (base : 
               below = k.below;
               room = k.room;
               fits = fits_set k.log base passes 1 id k.dealt s.views id w (λ j u apart e. nobody k z j u (k.fits j u e))
-                  record { same = mine.same; begins = begins_self k.log; one = heard_nothing k.log v.numbers; other = heard_nothing k.log v.numbers; calls = refl; holds = λ t. (refl, refl, refl); first = mine.first; drawn = mine.drawn };
+                  record { same = mine.same; begins = begins_self k.log; one = heard_nothing k.log base passes v.numbers; other = heard_nothing k.log base passes v.numbers; parts = λ n h. absurd (off h); calls = refl; holds = λ t. (refl, refl, refl); first = mine.first; drawn = mine.drawn };
               apart = apart_set s.views id v w at (λ n h. h) k.apart;
             },
             subst (Tells (w, (0, Some home.0) ∷ [])) (sym (eq-eqb k.turn 0 z))
@@ -140,7 +141,7 @@ module _ {C : Type 0} (stands : C → Opening → List Step → Type 0) (base : 
           )
         where
           nobody : (k : Kept stands base passes s) → k.turn ≡ 0 → (j : ℕ) (u : View) → Fits k.log base passes k.turn k.holder k.dealt j u → Fits k.log base passes 1 id k.dealt j u
-          nobody k z j u f = record { same = f.same; begins = f.begins; one = f.one; other = f.other; calls = f.calls; holds = λ t. let one = (f.holds t).1 in absurd (omega arith); first = f.first; drawn = f.drawn }
+          nobody k z j u f = record { same = f.same; begins = f.begins; one = f.one; other = f.other; parts = f.parts; calls = f.calls; holds = λ t. let one = (f.holds t).1 in absurd (omega arith); first = f.first; drawn = f.drawn }
 
       miss : k.turn ≢ 0 → F k.turn
       miss ne = (v, keeps, tt, still s k id v at, subst (Tells (v, [])) (sym (ne_eqb k.turn 0 ne)) refl)
@@ -185,8 +186,9 @@ module _ {C : Type 0} (stands : C → Opening → List Step → Type 0) (base : 
           record {
             same = f.same;
             begins = begins_more u.seen k.log e f.begins;
-            one = heard_more k.log u.numbers u.one e none_of f.one;
-            other = heard_more k.log u.numbers u.other e none_of f.other;
+            one = heard_more k.log base passes u.numbers u.one e none_of f.one;
+            other = heard_more k.log base passes u.numbers u.other e none_of f.other;
+            parts = f.parts;
             calls = calls_by-other u.numbers k.log e none_of ∙ f.calls;
             holds = λ t. absurd (other_idle s k id me.0 at on j u apart at' t);
             first = f.first;
@@ -213,8 +215,9 @@ module _ {C : Type 0} (stands : C → Opening → List Step → Type 0) (base : 
             record {
               same = mine.same;
               begins = subst (λ l. IsPrefix (l ++ e ∷ []) log) (sym same) (begins_self log);
-              one = heard_nothing log me.0.numbers;
-              other = heard_nothing log me.0.numbers;
+              one = heard_nothing log base passes me.0.numbers;
+              other = heard_nothing log base passes me.0.numbers;
+              parts = λ n h. absurd (off h);
               calls = ap (λ l. calls_by me.0.numbers (l ++ e ∷ [])) (sym same);
               holds = λ t. let h = mine.holds on in (h.0, h.1, ap (λ l. l ++ e ∷ []) same);
               first = mine.first;
@@ -245,7 +248,7 @@ module _ {C : Type 0} (stands : C → Opening → List Step → Type 0) (base : 
           others : (j : ℕ) (u : View) → j ≢ id → get_elem? s.views j ≡ some u → Fits k.log base passes 0 k.holder k.dealt j u
           others j u apart at' =
               let f = k.fits j u at' in
-              record { same = f.same; begins = f.begins; one = f.one; other = f.other; calls = f.calls; holds = λ t. absurd (other_idle s k id me.0 at on j u apart at' t); first = f.first; drawn = f.drawn }
+              record { same = f.same; begins = f.begins; one = f.one; other = f.other; parts = f.parts; calls = f.calls; holds = λ t. absurd (other_idle s k id me.0 at on j u apart at' t); first = f.first; drawn = f.drawn }
 
           after : Kept stands base passes record { words = length k.log ∷ 0 ∷ []; homes = set s.homes 0 (some (Some c)); views = set s.views id (idle me.0) }
           after = record {
@@ -261,7 +264,7 @@ module _ {C : Type 0} (stands : C → Opening → List Step → Type 0) (base : 
             below = k.below;
             room = k.room;
             fits = fits_set k.log base passes 0 k.holder k.dealt s.views id (idle me.0) others
-                record { same = mine.same; begins = mine.begins; one = mine.one; other = mine.other; calls = mine.calls; holds = λ t. absurd (off t); first = mine.first; drawn = mine.drawn };
+                record { same = mine.same; begins = mine.begins; one = mine.one; other = mine.other; parts = mine.parts; calls = mine.calls; holds = λ t. absurd (off t); first = mine.first; drawn = mine.drawn };
             apart = apart_set s.views id me.0 (idle me.0) at (λ n h. h) k.apart;
           }
 
@@ -284,7 +287,7 @@ module _ {C : Type 0} (stands : C → Opening → List Step → Type 0) (base : 
           others : (j : ℕ) (u : View) → j ≢ id → get_elem? s.views j ≡ some u → Fits k.log base passes 2 k.holder k.dealt j u
           others j u apart at' =
               let f = k.fits j u at' in
-              record { same = f.same; begins = f.begins; one = f.one; other = f.other; calls = f.calls; holds = λ t. absurd (other_idle s k id me.0 at on j u apart at' t); first = f.first; drawn = f.drawn }
+              record { same = f.same; begins = f.begins; one = f.one; other = f.other; parts = f.parts; calls = f.calls; holds = λ t. absurd (other_idle s k id me.0 at on j u apart at' t); first = f.first; drawn = f.drawn }
 
           after : Kept stands base passes record { words = length k.log ∷ 2 ∷ []; homes = set s.homes 0 (some None); views = set s.views id (idle me.0) }
           after = record {
@@ -300,7 +303,7 @@ module _ {C : Type 0} (stands : C → Opening → List Step → Type 0) (base : 
             below = k.below;
             room = k.room;
             fits = fits_set k.log base passes 2 k.holder k.dealt s.views id (idle me.0) others
-                record { same = mine.same; begins = mine.begins; one = mine.one; other = mine.other; calls = mine.calls; holds = λ t. absurd (off t); first = mine.first; drawn = mine.drawn };
+                record { same = mine.same; begins = mine.begins; one = mine.one; other = mine.other; parts = mine.parts; calls = mine.calls; holds = λ t. absurd (off t); first = mine.first; drawn = mine.drawn };
             apart = apart_set s.views id me.0 (idle me.0) at (λ n h. h) k.apart;
           }
 

@@ -6,11 +6,12 @@ use mathlib.Core.Option.{some}
 use lib.ListN.{get_elem?}
 use Rattle.atomic_table.specs.Table.{State, Me, Step as TableStep, rest}
 use Rattle.channel_face.specs.History.{Opening, Step}
-use Rattle.turn_passes.specs.Calls.{has, calls_by, Below}
+use Rattle.turn_passes.specs.Calls.{has, AreApart, calls_by, Below}
 use Rattle.turn_passes.specs.Views.{Part, View, entered, counted, idle, settled, saw}
 
 -- The part begins the history, which has no further call of its numbers, and the view has these numbers.
-pub record Heard (log : List Step) (numbers : List ℕ) (p : Part) : Type 0 where
+pub record Heard (log : List Step) (base : Opening) (passes : ℕ) (numbers : List ℕ) (p : Part) : Type 0 where
+  pub same : p.live ≡ true → (p.base ≡ base) × (p.passes ≡ passes)
   pub begins : IsPrefix p.seen log
   pub calls : calls_by p.numbers log ≡ calls_by p.numbers p.seen
   pub among : (n : ℕ) → has p.numbers n ≡ true → has numbers n ≡ true
@@ -19,8 +20,9 @@ pub record Heard (log : List Step) (numbers : List ℕ) (p : Part) : Type 0 wher
 pub record Fits (log : List Step) (base : Opening) (passes turn holder dealt seat : ℕ) (v : View) : Type 0 where
   pub same : v.live ≡ true → (v.base ≡ base) × (v.passes ≡ passes)
   pub begins : IsPrefix v.seen log
-  pub one : Heard log v.numbers v.one
-  pub other : Heard log v.numbers v.other
+  pub one : Heard log base passes v.numbers v.one
+  pub other : Heard log base passes v.numbers v.other
+  pub parts : AreApart v.one.numbers v.other.numbers
   -- the calls of its numbers were all seen
   pub calls : calls_by v.numbers log ≡ calls_by v.numbers v.seen
   -- with the turn, it is the one that has it, and has seen all of the history
@@ -56,6 +58,10 @@ pub record Kept {C : Type 0} (stands : C → Opening → List Step → Type 0) (
 abbrev pub Has : List Step → Part → Type 0
 Has log p = IsPrefix p.seen log × (calls_by p.numbers log ≡ calls_by p.numbers p.seen)
 
+-- the part was known of the history and the passes that the view is of
+abbrev pub IsOf : View → Part → Type 0
+IsOf v p = p.live ≡ true → (p.base ≡ v.base) × (p.passes ≡ v.passes)
+
 module _ {C : Type 0} (stands : C → Opening → List Step → Type 0) where
   -- with the turn, all of the history was seen, the value stands for it, and it has no further call of one's own
   abbrev pub Knows : View → C → View → Type 0
@@ -82,9 +88,9 @@ module _ {C : Type 0} where
   abbrev pub Leaves : TableStep (Option C) → Me (Option C) View → ℕ → Me (Option C) View → Type 0
   Leaves s m n w = w ≡ (idle m.0, rest m.1)
 
-  -- look after a join: both had seen beginnings of the history that is seen now, which has no further call of either, and each number is one of a pass
+  -- look after a join: both had seen beginnings of the history that is seen now, which has no further call of either; both were of one table; no number was with both, and each is one of a pass
   abbrev pub Settles : TableStep (Option C) → Me (Option C) View → ℕ → Me (Option C) View → Type 0
-  Settles s m n w = (w ≡ (settled m.0, m.1)) × Has m.0.seen m.0.one × Has m.0.seen m.0.other × ((n : ℕ) → has m.0.numbers n ≡ true → n < m.0.passes)
+  Settles s m n w = (w ≡ (settled m.0, m.1)) × Has m.0.seen m.0.one × Has m.0.seen m.0.other × IsOf m.0 m.0.other × AreApart m.0.one.numbers m.0.other.numbers × ((n : ℕ) → has m.0.numbers n ≡ true → n < m.0.passes)
 
 -- A seat with the turn, and the calls that it made in it: what it sees begins with what it saw, ends with these calls, which are its own, and has no other further call of its own.
 abbrev pub Making : View → List Step → View → Type 0
