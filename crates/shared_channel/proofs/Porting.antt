@@ -148,7 +148,7 @@ puts_up seen seen' token events (Err refused) own le all = (all.0, all.1, all.2,
 module _ {C : Type 0} (stands : C → Opening → List Step → Type 0) (tells : C → Bool) (moment : C → ℕ) where
   -- a call that may have been spent
   pub one_call : (spent : Bool) (v w : View) (by : ℕ) (call : Call) → Answers stands tells moment spent v by call w → Goes v w (λ more. (s : State) × Saw w s × IsMade (length w.seen) spent call s more)
-  one_call true v w by call a = let g = went_made v w [] a.0 in ([], g.0, (begun v a.0.0, g.1, (refl, let b = a.1 in omega arith)))
+  one_call true v w by call a = let m = a.0.1.made in let g = went_made v w [] m in ([], g.0, (begun v m.0, g.1, (refl, let b = a.1 in omega arith)))
   one_call false v w by call a =
       let c = a.0.0 in
       let x : Step = step by call (moment c) in
@@ -167,7 +167,7 @@ module _ {C : Type 0} (stands : C → Opening → List Step → Type 0) (tells :
       let s = begun v m.0 in
       (own_calls v.numbers s (x ∷ []), g.0, inl (s, moment c, ap (λ b. own_if b (record { call = rollback true; before = s; moment = moment c }) []) (own_one v.numbers x m.5)))
   rolls false v w by rollback IsStale r =
-      let g = went_made v w [] r.0 in
+      let g = went_made v w [] r.0.1.made in
       ([], g.0, inr (state_seen w, (w.seen, [], sym (append-nil w.seen), refl), r.1, inl refl))
 
   -- a stage and what follows

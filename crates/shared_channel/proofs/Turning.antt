@@ -73,7 +73,7 @@ module _ {C : Type 0} (stands : C → Opening → List Step → Type 0) (tells :
   answers moment true v w by call k d n making own makes bound leaves same =
       let l : Left stands tells v [] w d = leaves v [] (makes.goes_on v [] making own) in
       let q : length w.seen ≡ length k.0.seen = ap length (same ∙ makes.seen ∙ append-nil k.0.seen) in
-      (l.made, omega arith)
+      ((d, l), omega arith)
   answers moment false v w by call k d n making own makes bound leaves same =
       let q : length w.seen ≡ length (k.0.seen ++ step by call (moment d) ∷ []) = ap length (same ∙ makes.seen) in
       ((d, leaves v (step by call (moment d) ∷ []) (makes.goes_on v [] making own)), omega (arith, length-append k.0.seen (step by call (moment d) ∷ [])))
@@ -91,7 +91,7 @@ module _ {S C : Type 0} (stands : C → Opening → List Step → Type 0) (tells
       let inside : Making v [] n.0 = makes.goes_on v [] making own in
       let l : Left stands tells v [] w d = leaves v [] inside in
       let base : n.0.base ≡ w.base = ap (λ (x : View). x.base) inside.1 ∙ sym (ap (λ (x : View). x.base) l.made.1) in
-      (l.made, subst IsStale (λ i. state_after (opening (base i)) (sym same i)) (stale refl))
+      ((d, l), subst IsStale (λ i. state_after (opening (base i)) (sym same i)) (stale refl))
 
   -- a turn without a call
   pub looks : (v w : View) (k : Me (Option S) View) (d : C) → Making v [] k.0 → ((u : View) (calls : List Step) → Making u calls k.0 → Left stands tells u calls w d) → Looks stands tells v w
@@ -106,7 +106,7 @@ module _ {S C : Type 0} (stands : C → Opening → List Step → Type 0) (tells
       by_spent true m =
           let l : Left stands tells v [] w d = leaves v [] (m.0.goes_on v [] making own) in
           let q : length w.seen ≡ length k.0.seen = ap length (same ∙ m.0.seen ∙ append-nil k.0.seen) in
-          (l.made, let b = m.1 in omega arith, m.2)
+          ((d, l), let b = m.1 in omega arith, m.2)
       by_spent false m =
           let q : length w.seen ≡ length (k.0.seen ++ by_pass by m.0) = ap length (same ∙ m.1.seen) in
           (m.0, d, leaves v (by_pass by m.0) (m.1.goes_on v [] making own), m.2, let b = m.3 in omega (arith, length-append k.0.seen (by_pass by m.0), length-by_pass by m.0))
