@@ -61,16 +61,16 @@ module _ {C : Type 0} (stands : C → Opening → List Step → Type 0) (tells :
     pub made : Made v calls w
     pub seen : IsSeen c w
 
--- Nothing was called in a turn, and the channel stands for all that is seen.
-abbrev pub Looks : {C : Type 0} → (C → Opening → List Step → Type 0) → (C → Bool) → View → View → Type 0
-Looks stands tells v w = (c : _) × Left stands tells v [] w c
+  -- What the channel was seen to be: nothing was called, and it stands for all that is seen.
+  abbrev pub Looks : View → View → Type 0
+  Looks v w = (c : C) × Left v [] w c
 
 module _ {C : Type 0} (stands : C → Opening → List Step → Type 0) (tells : C → Bool) (moment : C → ℕ) where
   -- it made this call
   abbrev pub Called : View → ℕ → Call → View → Type 0
   Called v by call w = (c : C) × Left stands tells v (step by call (moment c) ∷ []) w c
 
-  -- A call that is spent was not made, since so many calls were counted; each other one was, while they were fewer.
+  -- A call that is spent was not made: the channel was seen as it is, and so many calls were counted. Each other one was made, while they were fewer.
   abbrev pub Counted : Bool → ℕ → View → ℕ → Call → View → Type 0
   Counted true most v by call w = Looks stands tells v w × (most ≤ length w.seen)
   Counted false most v by call w = Called v by call w × (length w.seen ≤ most)
@@ -79,7 +79,7 @@ module _ {C : Type 0} (stands : C → Opening → List Step → Type 0) (tells :
   abbrev pub Answers : Bool → View → ℕ → Call → View → Type 0
   Answers spent v by call w = Counted spent (2 ^ 64 - 1025) v by call w
 
-  -- A rollback was made, or its token was stale.
+  -- A rollback was made, or its token was stale in the state that the channel was seen in.
   abbrev pub RolledBack : Bool → View → ℕ → Call → (State → Type 0) → View → Type 0
   RolledBack true v by call IsStale w = Called v by call w
   RolledBack false v by call IsStale w = Looks stands tells v w × IsStale (state_seen w)
@@ -94,7 +94,7 @@ abbrev pub MakesCommit : {S C : Type 0} → (C → Opening → List Step → Typ
 MakesCommit stands true by stage token result m d w = Makes stands by [] m d w × (2 ^ 64 - 1026 ≤ length m.0.seen) × (result ≡ Err (Stage (record { txn = token; cause = Spent CallsCount })))
 MakesCommit stands false by stage token result m d w = (own : List Said) × Makes stands by (by_pass by own) m d w × IsCommit stage token (calls own) result × (length m.0.seen < 2 ^ 64 - 1026)
 
--- The commit's calls were made while so many fewer were counted. Where it is spent, none was made and the token comes back.
+-- The commit's calls were made while so many fewer were counted. Where it is spent, none was made, the channel was seen as it is, and the token comes back.
 abbrev pub Commits : {C : Type 0} → (C → Opening → List Step → Type 0) → (C → Bool) → Bool → View → ℕ → (Result Ticket StageCause → Call) → Token → Result Ticket (CommitRefused Token) → View → Type 0
 Commits stands tells true v by stage token result w = Looks stands tells v w × (2 ^ 64 - 1026 ≤ length w.seen) × (result ≡ Err (Stage (record { txn = token; cause = Spent CallsCount })))
 Commits stands tells false v by stage token result w =

@@ -2,7 +2,7 @@
 ghost use Rattle.std.specs.Prelude.{◌≡◌, ◌<◌, ◌≤◌, ◌||◌, ℕ, All, [], IfOk, IfErr, true, false, length, get_or, if◌then◌else◌};
 ghost use Rattle.std.specs.Vec.{vec_capacity};
 ghost use Rattle.channel_face.specs.History.{Opening};
-ghost use Rattle.turn_passes.specs.Calls.{has, calls_by};
+ghost use Rattle.turn_passes.specs.Calls.{has, AreApart, calls_by};
 ghost use Rattle.turn_passes.specs.Turns.{Has, HasAll};
 ghost use Rattle.turn_passes.specs.Views.{part, both, settled, dealer_of, dealing};
 ghost use Rattle.shared_channel.specs.Calls.{Left};
@@ -199,12 +199,15 @@ impl<C: Channel> Shared<C> {
         }
     }
 
-    /// Takes in another pass. What either has seen is seen, and the numbers and the calls of both are its own.
+    /// Takes in another pass. What either has seen is seen, and the numbers and the calls of both are its own. Both are of one
+    /// history and of as many passes, and no number was with both.
     pub fn join_pass(&self, into: &mut Pass, from: Pass)
         requires { (into.old.table_id ≡ self.now.turn.table.shared.table_id) × (from.table_id ≡ self.now.turn.table.shared.table_id) }
         ensures same { (into.new.table_id ≡ into.old.table_id) × (into.new.number ≡ into.old.number) }
         ensures view { into.new.view ≡ settled (both into.old.view from.view) }
         ensures seen { Has into.new.view.seen (part into.old.view) × Has into.new.view.seen (part from.view) }
+        ensures one { (from.view.base ≡ into.old.view.base) × (from.view.passes ≡ into.old.view.passes) }
+        ensures apart { AreApart into.old.view.numbers from.view.numbers }
     {
         let badge = mem::replace(&mut into.badge, Badge::blank());
         let mut seat = badge.into_seat();

@@ -1,32 +1,35 @@
 -- Each step keeps the rule.
-use Rattle.std.proofs.Common.{◌≡◌, ◌≢◌, ℕ, ◌+◌, ◌%◌, ◌^◌, ◌<◌, List, [], ◌∷◌, ◌++◌, length, set, Bool, true, false, true≢false, eq-eqb, ne_eqb, refl, sym, ap, ◌∙◌, subst, ⊎_elim, arith, length-append}
+use Rattle.std.proofs.Common.{◌≡◌, ◌≢◌, ℕ, zero, suc, ◌+◌, ◌%◌, ◌^◌, ◌<◌, List, [], ◌∷◌, ◌++◌, length, set, Bool, true, false, true≢false, eq-eqb, ne_eqb, refl, sym, ap, ◌∙◌, subst, ⊎_elim, arith, length-append}
 use Rattle.std.specs.Prelude.{Option, Some, None, MatchBool, MatchOption, slice_index, slice_set, ◌==◌}
 use mathlib.Core.List.{IsPrefix}
 use mathlib.Core.Option.{some, none, some-ne-none, some-injective}
 use mathlib.Core.Option as maybe
+use mathlib.Core.Logic.{dite}
+use native.Mathlib.Decide.{ℕ_discrete}
 use prog.Atomic.{either}
 use lib.ListN.{get_elem?}
 use Rattle.atomic_table.specs.Table.{State, Me, Act, keeps, takes, gives, rest, step, Allows, Valid, carried_after, homes_after}
-use Rattle.atomic_table.proofs.Lists.{at_set, set_again, set_here, exchanged}
+use Rattle.atomic_table.proofs.Lists.{at_set, set_again, set_here, set_else, exchanged}
 use Rattle.channel_face.specs.History.{Opening, Step}
 use Rattle.turn_passes.specs.Views.{Part, View, nothing, entered, idle, counted}
 use Rattle.turn_passes.specs.Calls.{has, calls_by, Below}
-use Rattle.turn_passes.specs.Turns.{Heard, Fits, Apart, Kept, Knows, Takes, Reads, Counts, CountsOne, Leaves}
+use Rattle.turn_passes.specs.Turns.{Heard, Fits, Apart, Held, Kept, Knows, Takes, Reads, Counts, CountsOne, Leaves}
 use Rattle.turn_passes.proofs.Histories.{begins_self, begins_empty, begins_more, below_up, no_numbers, calls_by-other, below-more}
 
 pub off : false ≡ true → ⊥
 off e = true≢false (sym e)
 
-not_true : (b : Bool) → ¬ (b ≡ true) → b ≡ false
+pub not_true : (b : Bool) → ¬ (b ≡ true) → b ≡ false
 not_true true never = absurd (never refl)
 not_true false never = refl
 
-pub heard_nothing : (log : List Step) (numbers : List ℕ) → Heard log numbers nothing
-heard_nothing log numbers = record { begins = begins_empty log; calls = no_numbers log; among = λ n h. absurd (off h) }
+pub heard_nothing : (log : List Step) (base : Opening) (passes : ℕ) (numbers : List ℕ) → Heard log base passes numbers nothing
+heard_nothing log base passes numbers = record { same = λ z. absurd (off z); begins = begins_empty log; calls = no_numbers log; among = λ n h. absurd (off h) }
 
 -- a further call whose number is not among these
-heard_more : (log : List Step) (numbers : List ℕ) (p : Part) (e : Step) → has numbers e.pass ≡ false → Heard log numbers p → Heard (log ++ e ∷ []) numbers p
-heard_more log numbers p e apart h = record {
+heard_more : (log : List Step) (base : Opening) (passes : ℕ) (numbers : List ℕ) (p : Part) (e : Step) → has numbers e.pass ≡ false → Heard log base passes numbers p → Heard (log ++ e ∷ []) base passes numbers p
+heard_more log base passes numbers p e apart h = record {
+  same = h.same;
   begins = begins_more p.seen log e h.begins;
   calls = calls_by-other p.numbers log e (not_true (has p.numbers e.pass) (λ x. off (sym apart ∙ h.among e.pass x))) ∙ h.calls;
   among = h.among;
@@ -56,6 +59,17 @@ apart_set views id v w at less apart i j u x ui xj n hu hx =
     let b = was views id v w at less j x xj in
     apart i j a.0 b.0 a.1 b.1 n (a.2 n hu) (b.2 n hx)
 
+set_there : (views : List View) (id : ℕ) (v w : View) → get_elem? views id ≡ some v → get_elem? (set views id w) id ≡ some w
+set_there [] id v w at = absurd (some-ne-none v (sym at))
+set_there (x ∷ xs) zero v w at = refl
+set_there (x ∷ xs) (suc id) v w at = set_there xs id v w at
+
+-- a seat has the turn, where one view was set that has it if the one before had it
+pub held_set : (views : List View) (id : ℕ) (v w : View) → get_elem? views id ≡ some v → (v.turn ≡ true → w.turn ≡ true) → Held views → Held (set views id w)
+held_set views id v w at on h = dite (ℕ_discrete h.0 id)
+    (λ same. (id, w, set_there views id v w at, on (subst (λ (u : View). u.turn ≡ true) (some-injective h.1 v (sym h.2 ∙ ap (get_elem? views) same ∙ at)) h.3)))
+    (λ apart. (h.0, h.1, set_else views id h.0 w apart ∙ h.2, h.3))
+
 module _ {C : Type 0} (stands : C → Opening → List Step → Type 0) (base : Opening) (passes : ℕ) where
   still : (s : State (Option C) View) (k : Kept stands base passes s) (id : ℕ) (v : View) → get_elem? s.views id ≡ some v → Kept stands base passes record { words = length k.log ∷ k.turn ∷ []; homes = s.homes; views = set s.views id v }
   still s k id v at = record {
@@ -64,7 +78,10 @@ module _ {C : Type 0} (stands : C → Opening → List Step → Type 0) (base : 
     holder = k.holder;
     dealt = k.dealt;
     words = refl;
+    known = k.known;
     home = k.home;
+    held = λ one. held_set s.views id v v at (λ t. t) (k.held one);
+    shut = k.shut;
     below = k.below;
     room = k.room;
     fits = λ j u e. k.fits j u (subst (λ l. get_elem? l j ≡ some u) (set_again s.views id v at) e);
@@ -109,11 +126,14 @@ module _ {C : Type 0} (stands : C → Opening → List Step → Type 0) (base : 
               holder = id;
               dealt = k.dealt;
               words = refl;
+              known = omega arith;
               home = λ e. absurd (omega arith);
+              held = λ one. (id, w, set_there s.views id v w at, refl);
+              shut = λ e. absurd (omega arith);
               below = k.below;
               room = k.room;
               fits = fits_set k.log base passes 1 id k.dealt s.views id w (λ j u apart e. nobody k z j u (k.fits j u e))
-                  record { same = mine.same; begins = begins_self k.log; one = heard_nothing k.log v.numbers; other = heard_nothing k.log v.numbers; calls = refl; holds = λ t. (refl, refl, refl); first = mine.first; drawn = mine.drawn };
+                  record { same = mine.same; begins = begins_self k.log; one = heard_nothing k.log base passes v.numbers; other = heard_nothing k.log base passes v.numbers; parts = λ n h. absurd (off h); calls = refl; holds = λ t. (refl, refl, refl); first = mine.first; drawn = mine.drawn };
               apart = apart_set s.views id v w at (λ n h. h) k.apart;
             },
             subst (Tells (w, (0, Some home.0) ∷ [])) (sym (eq-eqb k.turn 0 z))
@@ -121,7 +141,7 @@ module _ {C : Type 0} (stands : C → Opening → List Step → Type 0) (base : 
           )
         where
           nobody : (k : Kept stands base passes s) → k.turn ≡ 0 → (j : ℕ) (u : View) → Fits k.log base passes k.turn k.holder k.dealt j u → Fits k.log base passes 1 id k.dealt j u
-          nobody k z j u f = record { same = f.same; begins = f.begins; one = f.one; other = f.other; calls = f.calls; holds = λ t. let one = (f.holds t).1 in absurd (omega arith); first = f.first; drawn = f.drawn }
+          nobody k z j u f = record { same = f.same; begins = f.begins; one = f.one; other = f.other; parts = f.parts; calls = f.calls; holds = λ t. let one = (f.holds t).1 in absurd (omega arith); first = f.first; drawn = f.drawn }
 
       miss : k.turn ≢ 0 → F k.turn
       miss ne = (v, keeps, tt, still s k id v at, subst (Tells (v, [])) (sym (ne_eqb k.turn 0 ne)) refl)
@@ -166,8 +186,9 @@ module _ {C : Type 0} (stands : C → Opening → List Step → Type 0) (base : 
           record {
             same = f.same;
             begins = begins_more u.seen k.log e f.begins;
-            one = heard_more k.log u.numbers u.one e none_of f.one;
-            other = heard_more k.log u.numbers u.other e none_of f.other;
+            one = heard_more k.log base passes u.numbers u.one e none_of f.one;
+            other = heard_more k.log base passes u.numbers u.other e none_of f.other;
+            parts = f.parts;
             calls = calls_by-other u.numbers k.log e none_of ∙ f.calls;
             holds = λ t. absurd (other_idle s k id me.0 at on j u apart at' t);
             first = f.first;
@@ -184,15 +205,19 @@ module _ {C : Type 0} (stands : C → Opening → List Step → Type 0) (base : 
         holder = k.holder;
         dealt = k.dealt;
         words = let n : length me.0.seen ≡ length k.log = ap length same in ap (λ (m : ℕ). m ∷ k.turn ∷ []) (omega (arith, length-append k.log (e ∷ [])));
+        known = k.known;
         home = λ z. let one = (mine.holds on).1 in absurd (omega arith);
+        held = λ one. held_set s.views id me.0 w at (λ t. t) (k.held one);
+        shut = k.shut;
         below = below-more k.dealt k.log e k.below (mine.drawn e.pass own);
         room = k.room;
         fits = fits_set log base passes k.turn k.holder k.dealt s.views id w others
             record {
               same = mine.same;
               begins = subst (λ l. IsPrefix (l ++ e ∷ []) log) (sym same) (begins_self log);
-              one = heard_nothing log me.0.numbers;
-              other = heard_nothing log me.0.numbers;
+              one = heard_nothing log base passes me.0.numbers;
+              other = heard_nothing log base passes me.0.numbers;
+              parts = λ n h. absurd (off h);
               calls = ap (λ l. calls_by me.0.numbers (l ++ e ∷ [])) (sym same);
               holds = λ t. let h = mine.holds on in (h.0, h.1, ap (λ l. l ++ e ∷ []) same);
               first = mine.first;
@@ -223,7 +248,7 @@ module _ {C : Type 0} (stands : C → Opening → List Step → Type 0) (base : 
           others : (j : ℕ) (u : View) → j ≢ id → get_elem? s.views j ≡ some u → Fits k.log base passes 0 k.holder k.dealt j u
           others j u apart at' =
               let f = k.fits j u at' in
-              record { same = f.same; begins = f.begins; one = f.one; other = f.other; calls = f.calls; holds = λ t. absurd (other_idle s k id me.0 at on j u apart at' t); first = f.first; drawn = f.drawn }
+              record { same = f.same; begins = f.begins; one = f.one; other = f.other; parts = f.parts; calls = f.calls; holds = λ t. absurd (other_idle s k id me.0 at on j u apart at' t); first = f.first; drawn = f.drawn }
 
           after : Kept stands base passes record { words = length k.log ∷ 0 ∷ []; homes = set s.homes 0 (some (Some c)); views = set s.views id (idle me.0) }
           after = record {
@@ -232,11 +257,14 @@ module _ {C : Type 0} (stands : C → Opening → List Step → Type 0) (base : 
             holder = k.holder;
             dealt = k.dealt;
             words = refl;
+            known = omega arith;
+            held = λ e. absurd (omega arith);
+            shut = λ e. absurd (omega arith);
             home = λ z. (c, set_here s.homes 0 (some (Some c)) (omega arith), subst (λ l. stands c base l) (mine.holds on).2 (subst (λ b. stands c b me.0.seen) (mine.same live).0 ok));
             below = k.below;
             room = k.room;
             fits = fits_set k.log base passes 0 k.holder k.dealt s.views id (idle me.0) others
-                record { same = mine.same; begins = mine.begins; one = mine.one; other = mine.other; calls = mine.calls; holds = λ t. absurd (off t); first = mine.first; drawn = mine.drawn };
+                record { same = mine.same; begins = mine.begins; one = mine.one; other = mine.other; parts = mine.parts; calls = mine.calls; holds = λ t. absurd (off t); first = mine.first; drawn = mine.drawn };
             apart = apart_set s.views id me.0 (idle me.0) at (λ n h. h) k.apart;
           }
 
@@ -259,7 +287,7 @@ module _ {C : Type 0} (stands : C → Opening → List Step → Type 0) (base : 
           others : (j : ℕ) (u : View) → j ≢ id → get_elem? s.views j ≡ some u → Fits k.log base passes 2 k.holder k.dealt j u
           others j u apart at' =
               let f = k.fits j u at' in
-              record { same = f.same; begins = f.begins; one = f.one; other = f.other; calls = f.calls; holds = λ t. absurd (other_idle s k id me.0 at on j u apart at' t); first = f.first; drawn = f.drawn }
+              record { same = f.same; begins = f.begins; one = f.one; other = f.other; parts = f.parts; calls = f.calls; holds = λ t. absurd (other_idle s k id me.0 at on j u apart at' t); first = f.first; drawn = f.drawn }
 
           after : Kept stands base passes record { words = length k.log ∷ 2 ∷ []; homes = set s.homes 0 (some None); views = set s.views id (idle me.0) }
           after = record {
@@ -268,11 +296,14 @@ module _ {C : Type 0} (stands : C → Opening → List Step → Type 0) (base : 
             holder = k.holder;
             dealt = k.dealt;
             words = refl;
+            known = omega arith;
             home = λ z. absurd (omega arith);
+            held = λ e. absurd (omega arith);
+            shut = λ two. set_here s.homes 0 (some None) (omega arith);
             below = k.below;
             room = k.room;
             fits = fits_set k.log base passes 2 k.holder k.dealt s.views id (idle me.0) others
-                record { same = mine.same; begins = mine.begins; one = mine.one; other = mine.other; calls = mine.calls; holds = λ t. absurd (off t); first = mine.first; drawn = mine.drawn };
+                record { same = mine.same; begins = mine.begins; one = mine.one; other = mine.other; parts = mine.parts; calls = mine.calls; holds = λ t. absurd (off t); first = mine.first; drawn = mine.drawn };
             apart = apart_set s.views id me.0 (idle me.0) at (λ n h. h) k.apart;
           }
 

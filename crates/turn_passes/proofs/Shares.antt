@@ -7,13 +7,13 @@ use mathlib.Core.Option.{some, some-ne-none, some-injective}
 use mathlib.Core.Option as maybe
 use lib.ListN.{get_elem?}
 use Rattle.atomic_table.specs.Table.{Me, keeps, step, opening, Allows, Splits, Joins}
-use Rattle.atomic_table.proofs.Lists.{at_set}
+use Rattle.atomic_table.proofs.Lists.{at_set, at_longer}
 use Rattle.channel_face.specs.History.{Opening, Step}
 use Rattle.turn_passes.specs.Views.{View, part, dealer, dealing, newcomer, gone, longer, both, settled}
 use Rattle.turn_passes.specs.Calls.{has, calls_by, Below}
-use Rattle.turn_passes.specs.Turns.{Has, Fits, Apart, Kept, Settles}
+use Rattle.turn_passes.specs.Turns.{Has, IsOf, Fits, Apart, Held, Kept, Settles}
 use Rattle.turn_passes.proofs.Histories.{begins_self, begins_empty, nil_of, no_numbers, longer_begins, between, has_either, has_left, has_right, calls_of_both, fresh, below_front, below_next, has_only}
-use Rattle.turn_passes.proofs.Moves.{off, heard_nothing, fits_set, apart_set}
+use Rattle.turn_passes.proofs.Moves.{off, not_true, heard_nothing, fits_set, apart_set, held_set}
 
 at_end : (l : List View) (a b : View) (j : ℕ) → get_elem? (l ++ a ∷ []) j ≡ some b → (get_elem? l j ≡ some b) ⊎ ((j ≡ length l) × (a ≡ b))
 at_end [] a b zero e = inr (refl, some-injective a b e)
@@ -34,7 +34,10 @@ module _ {C : Type 0} (stands : C → Opening → List Step → Type 0) (base : 
     holder = 0;
     dealt = 0;
     words = refl;
+    known = omega arith;
     home = λ z. (c, refl, ok);
+    held = λ e. absurd (omega arith);
+    shut = λ e. absurd (omega arith);
     below = tt;
     room = omega arith;
     fits = fits;
@@ -43,7 +46,7 @@ module _ {C : Type 0} (stands : C → Opening → List Step → Type 0) (base : 
     where
       fits : (j : ℕ) (v : View) → get_elem? (dealer base passes ∷ []) j ≡ some v → Fits [] base passes 0 0 0 j v
       fits zero v e = subst (λ (u : View). Fits [] base passes 0 0 0 0 u) (some-injective (dealer base passes) v e)
-          record { same = λ z. (refl, refl); begins = begins_self []; one = heard_nothing [] []; other = heard_nothing [] []; calls = refl; holds = λ t. absurd (off t); first = λ z. (refl, refl); drawn = λ n h. absurd (off h) }
+          record { same = λ z. (refl, refl); begins = begins_self []; one = heard_nothing [] base passes []; other = heard_nothing [] base passes []; parts = λ n h. absurd (off h); calls = refl; holds = λ t. absurd (off t); first = λ z. (refl, refl); drawn = λ n h. absurd (off h) }
       fits (suc j) v e = absurd (some-ne-none v (sym e))
 
       nobody : (i : ℕ) (v : View) → get_elem? (dealer base passes ∷ []) i ≡ some v → (n : ℕ) → has v.numbers n ≡ false
@@ -57,7 +60,10 @@ module _ {C : Type 0} (stands : C → Opening → List Step → Type 0) (base : 
     holder = k.holder;
     dealt = suc k.dealt;
     words = k.words;
+    known = k.known;
     home = k.home;
+    held = λ one. longer_held (held_set s.views id v (dealing v) at (λ t. t) (k.held one));
+    shut = k.shut;
     below = below_next k.dealt k.log k.below;
     room = let i = is in let p = (mine.same live).1 in omega arith;
     fits = λ j u e. ⊎_elim
@@ -81,6 +87,7 @@ module _ {C : Type 0} (stands : C → Opening → List Step → Type 0) (base : 
             begins = f.begins;
             one = f.one;
             other = f.other;
+            parts = f.parts;
             calls = f.calls;
             holds = f.holds;
             first = λ d. absurd (away ((f.first d).0 ∙ sym (mine.first on).0));
@@ -93,6 +100,7 @@ module _ {C : Type 0} (stands : C → Opening → List Step → Type 0) (base : 
         begins = mine.begins;
         one = mine.one;
         other = mine.other;
+        parts = mine.parts;
         calls = mine.calls;
         holds = mine.holds;
         first = λ d. ((mine.first on).0, ap suc is);
@@ -106,8 +114,9 @@ module _ {C : Type 0} (stands : C → Opening → List Step → Type 0) (base : 
       new j = record {
         same = λ z. mine.same live;
         begins = mine.begins;
-        one = heard_nothing k.log (v.dealt ∷ []);
-        other = heard_nothing k.log (v.dealt ∷ []);
+        one = heard_nothing k.log base passes (v.dealt ∷ []);
+        other = heard_nothing k.log base passes (v.dealt ∷ []);
+        parts = λ n h. absurd (off h);
         calls = none_before k.log k.below ∙ sym (none_before v.seen (below_front k.dealt v.seen mine.begins.0 (subst (Below k.dealt) (sym mine.begins.1) k.below)));
         holds = λ t. absurd (off t);
         first = λ t. absurd (off t);
@@ -116,6 +125,9 @@ module _ {C : Type 0} (stands : C → Opening → List Step → Type 0) (base : 
 
       old : List View
       old = set s.views id (dealing v)
+
+      longer_held : Held old → Held (old ++ newcomer v ∷ [])
+      longer_held h = (h.0, h.1, at_longer old (newcomer v ∷ []) h.0 h.1 h.2, h.3)
 
       fits_old : (j : ℕ) (u : View) → get_elem? old j ≡ some u → (n : ℕ) → has u.numbers n ≡ true → n < k.dealt
       fits_old j u e n h = ⊎_elim
@@ -145,15 +157,19 @@ module _ {C : Type 0} (stands : C → Opening → List Step → Type 0) (base : 
     holder = k.holder;
     dealt = k.dealt;
     words = k.words;
+    known = k.known;
     home = k.home;
+    held = λ one. held_set first other w gone there (λ t. absurd (off (sym free ∙ t))) (held_set s.views id v (both v w) at (λ t. t) (k.held one));
+    shut = k.shut;
     below = k.below;
     room = k.room;
     fits = fits_set k.log base passes k.turn k.holder k.dealt first other gone (λ j u _ e. fits_set k.log base passes k.turn k.holder k.dealt s.views id (both v w) (λ i y _ e'. k.fits i y e') joined j u e)
         record {
           same = λ z. absurd (off z);
           begins = begins_empty k.log;
-          one = heard_nothing k.log [];
-          other = heard_nothing k.log [];
+          one = heard_nothing k.log base passes [];
+          other = heard_nothing k.log base passes [];
+          parts = λ n h. absurd (off h);
           calls = no_numbers k.log;
           holds = λ t. absurd (off t);
           first = λ t. absurd (off t);
@@ -182,8 +198,9 @@ module _ {C : Type 0} (stands : C → Opening → List Step → Type 0) (base : 
       joined = record {
         same = mine.same;
         begins = (longer_begins v.seen w.seen k.log mine.begins theirs.begins).2;
-        one = record { begins = mine.begins; calls = mine.calls; among = λ n h. has_left v.numbers w.numbers n h };
-        other = record { begins = theirs.begins; calls = theirs.calls; among = λ n h. has_right v.numbers w.numbers n h };
+        one = record { same = mine.same; begins = mine.begins; calls = mine.calls; among = λ n h. has_left v.numbers w.numbers n h };
+        other = record { same = theirs.same; begins = theirs.begins; calls = theirs.calls; among = λ n h. has_right v.numbers w.numbers n h };
+        parts = λ n h. not_true (has w.numbers n) (λ b. away (sym (k.apart id other v w at was_there n h b)));
         calls = calls_of_both v.numbers w.numbers v.seen w.seen k.log mine.begins theirs.begins mine.calls theirs.calls;
         holds = λ t. ((mine.holds t).0, (mine.holds t).1, held t);
         first = mine.first;
@@ -220,7 +237,7 @@ module _ {C : Type 0} (stands : C → Opening → List Step → Type 0) (base : 
           a.5
 
   pub settles : (id : ℕ) (v w : View) → v.live ≡ true → Allows (Kept stands base passes) 1 id (both v w, []) 0 (λ n. n) (Settles (step 1 0 0 0 maybe.none) (both v w, []))
-  settles id v w live s k wide at small = (settled (both v w), keeps, tt, after, (refl, mine_has, theirs_has, λ n h. let lt = mine.drawn n h in let p = (mine.same live).1 in let r = k.room in omega arith))
+  settles id v w live s k wide at small = (settled (both v w), keeps, tt, after, (refl, mine_has, theirs_has, theirs, mine.parts, λ n h. let lt = mine.drawn n h in let p = (mine.same live).1 in let r = k.room in omega arith))
     where
       mine : Fits k.log base passes k.turn k.holder k.dealt id (both v w)
       mine = k.fits id (both v w) at
@@ -230,6 +247,9 @@ module _ {C : Type 0} (stands : C → Opening → List Step → Type 0) (base : 
 
       mine_has : Has (longer v.seen w.seen) (part v)
       mine_has = (l.0, between v.numbers v.seen (longer v.seen w.seen) k.log l.0 l.2 mine.one.calls)
+
+      theirs : IsOf (both v w) (part w)
+      theirs z = let t = mine.other.same z in let m = mine.same live in (t.0 ∙ sym m.0, t.1 ∙ sym m.1)
 
       theirs_has : Has (longer v.seen w.seen) (part w)
       theirs_has = (l.1, between w.numbers w.seen (longer v.seen w.seen) k.log l.1 l.2 mine.other.calls)
@@ -241,15 +261,19 @@ module _ {C : Type 0} (stands : C → Opening → List Step → Type 0) (base : 
         holder = k.holder;
         dealt = k.dealt;
         words = subst (λ ws. slice_set ws 0 (slice_index ws 0) ≡ length k.log ∷ k.turn ∷ []) (sym k.words) refl;
+        known = k.known;
         home = k.home;
+        held = λ one. held_set s.views id (both v w) (settled (both v w)) at (λ t. t) (k.held one);
+        shut = k.shut;
         below = k.below;
         room = k.room;
         fits = fits_set k.log base passes k.turn k.holder k.dealt s.views id (settled (both v w)) (λ j u _ e. k.fits j u e)
             record {
               same = mine.same;
               begins = mine.begins;
-              one = heard_nothing k.log (v.numbers ++ w.numbers);
-              other = heard_nothing k.log (v.numbers ++ w.numbers);
+              one = heard_nothing k.log base passes (v.numbers ++ w.numbers);
+              other = heard_nothing k.log base passes (v.numbers ++ w.numbers);
+              parts = λ n h. absurd (off h);
               calls = mine.calls;
               holds = mine.holds;
               first = mine.first;

@@ -1,11 +1,15 @@
 -- Whose calls a history has.
-use Rattle.std.specs.Prelude.{◌==◌, ◌||◌, ◌<◌, ℕ, List, [], ◌∷◌, Bool, true, false}
+use Rattle.std.specs.Prelude.{◌≡◌, ◌==◌, ◌||◌, ◌<◌, ℕ, List, [], ◌∷◌, Bool, true, false}
 use Rattle.channel_face.specs.History.{Step}
 
 -- the number is one of these
 abbrev pub has : List ℕ → ℕ → Bool
 has [] n = false
 has (m ∷ ms) n = (m == n) || has ms n
+
+-- no number is one of both
+abbrev pub AreApart : List ℕ → List ℕ → Type 0
+AreApart ns ms = (n : ℕ) → has ns n ≡ true → has ms n ≡ false
 
 abbrev pub keep : Bool → Step → List Step → List Step
 keep true step h = step ∷ h

@@ -1,16 +1,17 @@
 -- The rule of the table, and what each step tells.
 -- Word 0 is the length of the history. Word 1 is 0 while the turn is free, 1 while a seat has it, and 2 once the table is closed. The slot has the value while word 1 is 0.
-use Rattle.std.specs.Prelude.{◌≡◌, ◌==◌, ◌<◌, ◌≤◌, ◌++◌, ℕ, List, [], ◌∷◌, true, length, Option, Some, MatchBool}
+use Rattle.std.specs.Prelude.{◌≡◌, ◌==◌, ◌<◌, ◌≤◌, ◌++◌, ℕ, List, [], ◌∷◌, true, length, Option, Some, None, MatchBool}
 use mathlib.Core.List.{IsPrefix}
 use mathlib.Core.Option.{some}
 use lib.ListN.{get_elem?}
 use Rattle.atomic_table.specs.Table.{State, Me, Step as TableStep, rest}
 use Rattle.channel_face.specs.History.{Opening, Step}
-use Rattle.turn_passes.specs.Calls.{has, calls_by, Below}
+use Rattle.turn_passes.specs.Calls.{has, AreApart, calls_by, Below}
 use Rattle.turn_passes.specs.Views.{Part, View, entered, counted, idle, settled, saw}
 
 -- The part begins the history, which has no further call of its numbers, and the view has these numbers.
-pub record Heard (log : List Step) (numbers : List ℕ) (p : Part) : Type 0 where
+pub record Heard (log : List Step) (base : Opening) (passes : ℕ) (numbers : List ℕ) (p : Part) : Type 0 where
+  pub same : p.live ≡ true → (p.base ≡ base) × (p.passes ≡ passes)
   pub begins : IsPrefix p.seen log
   pub calls : calls_by p.numbers log ≡ calls_by p.numbers p.seen
   pub among : (n : ℕ) → has p.numbers n ≡ true → has numbers n ≡ true
@@ -19,8 +20,9 @@ pub record Heard (log : List Step) (numbers : List ℕ) (p : Part) : Type 0 wher
 pub record Fits (log : List Step) (base : Opening) (passes turn holder dealt seat : ℕ) (v : View) : Type 0 where
   pub same : v.live ≡ true → (v.base ≡ base) × (v.passes ≡ passes)
   pub begins : IsPrefix v.seen log
-  pub one : Heard log v.numbers v.one
-  pub other : Heard log v.numbers v.other
+  pub one : Heard log base passes v.numbers v.one
+  pub other : Heard log base passes v.numbers v.other
+  pub parts : AreApart v.one.numbers v.other.numbers
   -- the calls of its numbers were all seen
   pub calls : calls_by v.numbers log ≡ calls_by v.numbers v.seen
   -- with the turn, it is the one that has it, and has seen all of the history
@@ -32,14 +34,21 @@ pub record Fits (log : List Step) (base : Opening) (passes turn holder dealt sea
 abbrev pub Apart : List View → Type 0
 Apart views = (i j : ℕ) (v w : View) → get_elem? views i ≡ some v → get_elem? views j ≡ some w → (n : ℕ) → has v.numbers n ≡ true → has w.numbers n ≡ true → i ≡ j
 
--- The rule: there is one history, which the views have seen parts of, and while the turn is free the value at home stands for it.
+-- a seat has the turn
+abbrev pub Held : List View → Type 0
+Held views = (j : ℕ) × (v : View) × (get_elem? views j ≡ some v) × (v.turn ≡ true)
+
+-- The rule: there is one history, which the views have seen parts of, and while the turn is free the value at home stands for it. The turn is free, or a seat has it, or it was shut with the slot empty.
 pub record Kept {C : Type 0} (stands : C → Opening → List Step → Type 0) (base : Opening) (passes : ℕ) (s : State (Option C) View) : Type 0 where
   pub log : List Step
   pub turn : ℕ
   pub holder : ℕ
   pub dealt : ℕ
   pub words : s.words ≡ length log ∷ turn ∷ []
+  pub known : turn ≤ 2
   pub home : turn ≡ 0 → (c : C) × (get_elem? s.homes 0 ≡ some (some (Some c))) × stands c base log
+  pub held : turn ≡ 1 → Held s.views
+  pub shut : turn ≡ 2 → get_elem? s.homes 0 ≡ some (some None)
   pub below : Below dealt log
   pub room : dealt ≤ passes
   pub fits : (j : ℕ) (v : View) → get_elem? s.views j ≡ some v → Fits log base passes turn holder dealt j v
@@ -48,6 +57,10 @@ pub record Kept {C : Type 0} (stands : C → Opening → List Step → Type 0) (
 -- the history begins with the part, and has no further call of its numbers
 abbrev pub Has : List Step → Part → Type 0
 Has log p = IsPrefix p.seen log × (calls_by p.numbers log ≡ calls_by p.numbers p.seen)
+
+-- the part was known of the history and the passes that the view is of
+abbrev pub IsOf : View → Part → Type 0
+IsOf v p = p.live ≡ true → (p.base ≡ v.base) × (p.passes ≡ v.passes)
 
 module _ {C : Type 0} (stands : C → Opening → List Step → Type 0) where
   -- with the turn, all of the history was seen, the value stands for it, and it has no further call of one's own
@@ -75,9 +88,9 @@ module _ {C : Type 0} where
   abbrev pub Leaves : TableStep (Option C) → Me (Option C) View → ℕ → Me (Option C) View → Type 0
   Leaves s m n w = w ≡ (idle m.0, rest m.1)
 
-  -- look after a join: both had seen beginnings of the history that is seen now, which has no further call of either, and each number is one of a pass
+  -- look after a join: both had seen beginnings of the history that is seen now, which has no further call of either; both were of one table; no number was with both, and each is one of a pass
   abbrev pub Settles : TableStep (Option C) → Me (Option C) View → ℕ → Me (Option C) View → Type 0
-  Settles s m n w = (w ≡ (settled m.0, m.1)) × Has m.0.seen m.0.one × Has m.0.seen m.0.other × ((n : ℕ) → has m.0.numbers n ≡ true → n < m.0.passes)
+  Settles s m n w = (w ≡ (settled m.0, m.1)) × Has m.0.seen m.0.one × Has m.0.seen m.0.other × IsOf m.0 m.0.other × AreApart m.0.one.numbers m.0.other.numbers × ((n : ℕ) → has m.0.numbers n ≡ true → n < m.0.passes)
 
 -- A seat with the turn, and the calls that it made in it: what it sees begins with what it saw, ends with these calls, which are its own, and has no other further call of its own.
 abbrev pub Making : View → List Step → View → Type 0

@@ -3,8 +3,11 @@ use Rattle.std.specs.Prelude.{◌++◌, ℕ, suc, List, [], ◌∷◌, Bool, tru
 use Rattle.channel_face.specs.History.{Opening, Step}
 use Rattle.channel_face.specs.declared.replies.Kind.TheVariants.{Memory as InMemory}
 
--- Numbers, and a part of the history that has all calls of theirs.
+-- Numbers, and a part of the history that has all calls of theirs, as a seat knew them.
 pub record Part : Type 0 where
+  pub live : Bool
+  pub base : Opening
+  pub passes : ℕ
   pub numbers : List ℕ
   pub seen : List Step
 
@@ -27,15 +30,15 @@ pub record View : Type 0 where
   pub deals : Bool
   pub dealt : ℕ
 
-abbrev pub nothing : Part
-nothing = record { numbers = []; seen = [] }
-
-abbrev pub part : View → Part
-part v = record { numbers = v.numbers; seen = v.seen }
-
 -- an opening that nothing is said of
 abbrev pub no_opening : Opening
 no_opening = record { rules = record { kind = InMemory; limits = record { capacity = 0; txn_capacity = 0; max_file = 0 } }; base = record { items = []; first = 0 }; txn = 0; faults = 0; from = 0 }
+
+abbrev pub nothing : Part
+nothing = record { live = false; base = no_opening; passes = 0; numbers = []; seen = [] }
+
+abbrev pub part : View → Part
+part v = record { live = v.live; base = v.base; passes = v.passes; numbers = v.numbers; seen = v.seen }
 
 abbrev pub first_opening : List Opening → Opening
 first_opening [] = no_opening

@@ -1,7 +1,7 @@
 //! The turn: taken, used for calls, and given back.
 ghost use Rattle.std.specs.Prelude.{◌≡◌, ◌<◌, ◌+◌, ◌++◌, ◌^◌, [], ◌∷◌, true, false, length, None, MatchOption, ℕ, List, IfOk, IfErr};
 ghost use Rattle.channel_face.specs.History.{Opening, Step};
-ghost use Rattle.turn_passes.specs.Calls.{has, Below};
+ghost use Rattle.turn_passes.specs.Calls.{has, AreApart, Below};
 ghost use Rattle.turn_passes.specs.Views.{View, dealer, dealing, newcomer, both, settled, part, idle, counted};
 ghost use Rattle.turn_passes.specs.Turns.{Making, Made, Knows, Has};
 
@@ -100,12 +100,15 @@ impl<C: Guarded> Turn<C> {
         self.table.shared.split_seat::<Deal>(dealer)
     }
 
-    /// Takes another seat in. What either has seen is seen, and the numbers of both are its own.
+    /// Takes another seat in. What either has seen is seen, and the numbers of both are its own. Both are seats of one history
+    /// and of as many passes, and no number was with both.
     pub fn join(&self, into: &mut Place<C>, from: Place<C>)
         requires into { (into.old.table_id ≡ self.now.table.shared.table_id) × (into.old.me.0.live ≡ true) × (into.old.me.1 ≡ []) }
         requires from { (from.table_id ≡ self.now.table.shared.table_id) × (from.me.0.turn ≡ false) × (from.me.1 ≡ []) }
         ensures same { (into.new.table_id ≡ into.old.table_id) × (into.new.me ≡ (settled (both into.old.me.0 from.me.0), [])) }
         ensures seen { Has into.new.me.0.seen (part into.old.me.0) × Has into.new.me.0.seen (part from.me.0) }
+        ensures one { from.me.0.live ≡ true → (from.me.0.base ≡ into.old.me.0.base) × (from.me.0.passes ≡ into.old.me.0.passes) }
+        ensures apart { AreApart into.old.me.0.numbers from.me.0.numbers }
         ensures numbers { (n : ℕ) → has into.new.me.0.numbers n ≡ true → n < into.new.me.0.passes }
     {
         self.table.shared.join_seat::<Both>(into, from);

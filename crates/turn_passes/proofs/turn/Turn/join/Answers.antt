@@ -16,4 +16,4 @@ returns-clause-numbers g c = λ n h.
     let me = c.join_seat.new.seat.me in
     let is : c.load.new.seat.me ≡ (settled me.0, me.1) = c.load.ensures.2.0 in
     let had : has me.0.numbers n ≡ true = subst (λ (m : Me (Option g.row.C.Denot) View). has m.0.numbers n ≡ true) is h in
-    subst (λ (m : Me (Option g.row.C.Denot) View). n < m.0.passes) (sym is) (c.load.ensures.2.3 n had)
+    subst (λ (m : Me (Option g.row.C.Denot) View). n < m.0.passes) (sym is) (c.load.ensures.2.5 n had)
