@@ -4,12 +4,12 @@ use Rattle.std.proofs.lemmas.List.{append-nil}
 use Rattle.event_core.specs.Journal.{put_events, taken_numbers}
 use Rattle.channel_face.specs.Token.{Token}
 use Rattle.channel_face.specs.Machine.{State, Call, RollbackPut, RollbackTake, Admits, after, puts_of, takes_of, is_some_of}
-use Rattle.channel_face.specs.History.{Opening, opening, Step, AddsOne, IsRun, Shows, state_after, settled_by}
+use Rattle.channel_face.specs.History.{Opening, opening, Step, AddsOne, IsRun, Shows, state_after, settled_by, kept_by, journal}
 use Rattle.channel_face.specs.Counters.{tally, counts_of, counts_with, put_calls, take_calls, put_attempts, take_attempts, put_successes, take_successes, capped}
 use Rattle.channel_face.specs.declared.replies.Counts.{Counts}
 use Rattle.channel_face.proofs.Adding.{state-push, run-last}
 use Rattle.turn_passes.specs.Calls.{keep}
-use Rattle.shared_channel.specs.Counting.{is_counted, counted_calls, StandsCounting, Keeps}
+use Rattle.shared_channel.specs.Counting.{is_counted, counted_calls, Agree, StandsAgreeing, StandsCounting, Keeps}
 use Rattle.shared_channel.specs.Calls.{step}
 use Rattle.shared_channel.proofs.Rooms.{few_after, put_ends, take_ends}
 
@@ -122,6 +122,31 @@ same_tally s h = λ i. record {
 
 same_counts : (start : Opening) (h : List Step) → counts_of start (counted_calls h) ≡ counts_of start h
 same_counts start h = λ i. counts_with (same_tally (opening start) h i) (counted_state (opening start) h i)
+
+keeps_none : (s : State) (call : Call) → is_counted call ≡ false → kept_by s call ≡ []
+keeps_none s (RollbackPut token true) is = absurd (cc)
+keeps_none s (RollbackPut token false) is = refl
+keeps_none s (RollbackTake token true) is = absurd (cc)
+keeps_none s (RollbackTake token false) is = refl
+keeps_none s call is = absurd (cc)
+
+same_journal : (s : State) (h : List Step) → journal s (counted_calls h) ≡ journal s h
+same_journal s [] = refl
+same_journal s (x ∷ h) = by_count (is_counted x.call) refl (same_journal (after s x.call) h)
+  where
+    by_count : (b : Bool) → is_counted x.call ≡ b → journal (after s x.call) (counted_calls h) ≡ journal (after s x.call) h → journal s (keep b x (counted_calls h)) ≡ kept_by s x.call ++ journal (after s x.call) h
+    by_count true is more = ap (λ (l : List _). kept_by s x.call ++ l) more
+    by_count false is more = ap (λ (t : State). journal t (counted_calls h)) (sym (stays s x.call is)) ∙ more ∙ ap (λ (l : List _). l ++ journal (after s x.call) h) (sym (keeps_none s x.call is))
+
+agrees : (start : Opening) (all h : List Step) → counted_calls all ≡ h → Agree start all h
+agrees start all h is = record {
+  state = sym (counted_state (opening start) all) ∙ ap (λ (l : List Step). state_after (opening start) l) is;
+  counts = sym (same_counts start all) ∙ ap (counts_of start) is;
+  journal = sym (same_journal (opening start) all) ∙ ap (λ (l : List Step). journal (opening start) l) is;
+}
+
+pub stands_agreeing : {C : Type 0} (stands : C → Opening → List Step → Type 0) (c : C) (start : Opening) (h : List Step) → StandsCounting stands c start h → StandsAgreeing stands c start h
+stands_agreeing stands c start h k = (k.0, k.1, k.2, agrees start k.0 h k.2)
 
 module _ {C : Type 0} (stands : C → Opening → List Step → Type 0) (tells : C → Bool) where
   abbrev pub Law : Type 0

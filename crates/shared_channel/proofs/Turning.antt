@@ -8,11 +8,11 @@ use Rattle.channel_face.specs.History.{Opening, Step, Said, AddsOne, by_pass, op
 use Rattle.channel_face.specs.declared.replies.Ticket.{Ticket}
 use Rattle.channel_face.specs.declared.replies.StageCause.{StageCause}
 use Rattle.channel_face.specs.declared.replies.CommitRefused.{CommitRefused}
-use Rattle.turn_passes.specs.Calls.{has}
+use Rattle.turn_passes.specs.Calls.{has, calls_by, Below}
 use Rattle.turn_passes.specs.Views.{View, idle, counted, saw, longer, both, settled}
-use Rattle.turn_passes.proofs.Histories.{has_left, has-append}
+use Rattle.turn_passes.proofs.Histories.{has_left, has-append, all_own, below_front'}
 use Rattle.std.proofs.lemmas.Bool.{cases_lt}
-use Rattle.turn_passes.specs.Turns.{Making, Made}
+use Rattle.turn_passes.specs.Turns.{Making, Made, HasAll}
 use Rattle.shared_channel.specs.Counting.{StandsCounting, Keeps, is_counted}
 use Rattle.shared_channel.specs.Calls.{step, made_if, Bounds, IsIn, Makes, Left, Answers, RolledBack, Looks, Commits, MakesCommit, is_spent_commit, state_seen}
 use Rattle.std.specs.List.{All}
@@ -119,6 +119,12 @@ module _ {S C : Type 0} (stands : C → Opening → List Step → Type 0) (tells
       by_spent : (spent : Bool) → MakesCommit stands spent by stage token result k d n → (calls : List Step) × Making v calls n.0
       by_spent true m = ([], m.0.goes_on v [] making own)
       by_spent false m = (by_pass by m.0, m.1.goes_on v [] making own)
+
+-- a pass with each number sees no call that it had not seen
+pub nothing_new : (v w : View) → HasAll v → Made v [] w → w.seen ≡ v.seen
+nothing_new v w every m =
+    let before : Below v.passes v.seen = below_front' v.passes v.seen (m.0 ++ []) w.seen (sym (append_assoc v.seen m.0 []) ∙ sym m.2) m.4 in
+    sym (all_own v.numbers v.passes w.seen every m.4) ∙ m.3 ∙ append-nil (calls_by v.numbers v.seen) ∙ all_own v.numbers v.passes v.seen every before
 
 -- what was so with the turn is so once it is over
 pub shown : (P : Opening → List Step → Type 0) (v w k : View) → Making v [] k → w ≡ saw v w.seen → w.seen ≡ k.seen → P k.base k.seen → P w.base w.seen

@@ -2,6 +2,7 @@
 ghost use Rattle.std.specs.Prelude.{◌≡◌, length};
 ghost use Rattle.channel_face.specs.Counters.{counts_of};
 ghost use Rattle.channel_face.specs.Machine.{settled};
+ghost use Rattle.turn_passes.specs.Turns.{HasAll};
 ghost use Rattle.shared_channel.specs.Calls.{Looks, state_seen};
 
 use crate::pass::Pass;
@@ -99,11 +100,13 @@ impl<C: Channel> Shared<C> {
         answer
     }
 
-    /// What is counted, and whether the channel is broken, of one state.
+    /// What is counted, and whether the channel is broken, of one state. A pass with each number sees no call that it had not
+    /// seen.
     pub fn look<R: Wait>(&self, rt: &R, pass: &mut Pass) -> Look
         requires { pass.old.table_id ≡ self.now.turn.table.shared.table_id }
         ensures same { (pass.new.table_id ≡ pass.old.table_id) × (pass.new.number ≡ pass.old.number) }
         ensures look { Looks C.stands C.tells pass.old.view pass.new.view }
+        ensures whole { HasAll pass.old.view → pass.new.view.seen ≡ pass.old.view.seen }
         ensures counts { result.counts ≡ counts_of pass.new.view.base pass.new.view.seen }
         ensures broken { result.broken ≡ (state_seen pass.new.view).broken }
     {

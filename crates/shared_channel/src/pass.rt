@@ -6,6 +6,7 @@ ghost use Rattle.turn_passes.specs.Calls.{has, AreApart, calls_by};
 ghost use Rattle.turn_passes.specs.Turns.{Has, HasAll};
 ghost use Rattle.turn_passes.specs.Views.{part, both, settled, dealer_of, dealing};
 ghost use Rattle.shared_channel.specs.Calls.{Left};
+ghost use Rattle.shared_channel.specs.Counting.{StandsAgreeing};
 ghost use Rattle.shared_channel.specs.Passes.{Known, new_pass, new_passes, IsBlank};
 
 use crate::home::Home;
@@ -223,15 +224,18 @@ impl<C: Channel> Shared<C> {
         add_marks(&mut into.marks, &marks);
     }
 
-    /// Hands the channel back, and a pass that has seen all of its history. Where the pass has each number, all calls are its
-    /// own. It may wait for the turn.
+    /// Hands the channel back, and a pass that has seen all of its history. The state of the channel, its counts and what it
+    /// has settled are those of what was seen. Where the pass has each number, all calls are its own, and it had seen them. It may
+    /// wait for the turn.
     pub fn close<R: Wait>(self, rt: &R, pass: Pass) -> Closed<C>
     where
         C: Drop,
         requires { pass.table_id ≡ self.turn.table.shared.table_id }
         ensures same { (result.pass.table_id ≡ pass.table_id) × (result.pass.number ≡ pass.number) }
         ensures left { Left C.stands C.tells pass.view [] result.pass.view result.channel }
+        ensures channel { StandsAgreeing C.stands result.channel pass.view.base result.pass.view.seen }
         ensures all { HasAll pass.view → calls_by pass.view.numbers result.pass.view.seen ≡ result.pass.view.seen }
+        ensures whole { HasAll pass.view → result.pass.view.seen ≡ pass.view.seen }
     {
         let Pass {
             badge,

@@ -1,9 +1,12 @@
-use Rattle.std.proofs.Common.{rules, ◌≡◌, [], ◌∷◌, subst}
-use Rattle.turn_passes.specs.Views.{idle}
+use Rattle.std.proofs.Common.{rules, ◌≡◌, [], ◌∷◌, ap, subst}
+use Rattle.channel_face.specs.History.{Opening}
+use Rattle.turn_passes.specs.Views.{View, idle}
 use Rattle.turn_passes.proofs.Histories.{all_own}
 use Rattle.shared_channel.specs.Calls.{Left}
+use Rattle.shared_channel.specs.Counting.{StandsAgreeing}
 use Rattle.shared_channel.specs.Passes.{Known, view_of}
-use Rattle.shared_channel.proofs.Turning.{left, of_views}
+use Rattle.shared_channel.proofs.Keeping.{stands_agreeing}
+use Rattle.shared_channel.proofs.Turning.{left, nothing_new, of_views}
 use Rattle.shared_channel.proofs.shared.Shared.close.Goals as goal
 
 pub returns-clause-left : goal.returns-clause-left
@@ -24,3 +27,14 @@ pub returns-clause-all : goal.returns-clause-all
 returns-clause-all g c = λ every.
     let l = returns-clause-left g c in
     all_own c.args.pass.view.numbers c.args.pass.view.passes (view_of c.into_badge.result.views).seen every l.made.4
+
+pub returns-clause-channel : goal.returns-clause-channel
+returns-clause-channel g c =
+    let S = g.C.Channel.stands in
+    let d = c.enter-home.result.0.channel in
+    let w = view_of c.into_badge.result.views in
+    let l = returns-clause-left g c in
+    subst (λ (o : Opening). StandsAgreeing S d o w.seen) (ap (λ (x : View). x.base) l.made.1) (stands_agreeing S d w.base w.seen l.seen.calls)
+
+pub returns-clause-whole : goal.returns-clause-whole
+returns-clause-whole g c = λ every. nothing_new c.args.pass.view (view_of c.into_badge.result.views) every (returns-clause-left g c).made

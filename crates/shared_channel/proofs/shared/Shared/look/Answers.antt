@@ -6,7 +6,7 @@ use Rattle.turn_passes.specs.Views.{View}
 use Rattle.shared_channel.specs.Calls.{Looks}
 use Rattle.shared_channel.specs.Passes.{Known, view_of}
 use Rattle.shared_channel.proofs.Keeping.{kept_shows, kept_counts}
-use Rattle.shared_channel.proofs.Turning.{looks, shown, pass_after, of_views}
+use Rattle.shared_channel.proofs.Turning.{looks, nothing_new, shown, pass_after, of_views}
 use Rattle.shared_channel.proofs.shared.Shared.look.Goals as goal
 
 pub invariant_of-pass : goal.invariant_of-pass
@@ -28,6 +28,9 @@ returns-clause-look g c =
     let here : Looks S T v w = looks S T v w c.enter-home.new.seat.me c.enter-home.result.0.channel c.enter-home.ensures.making c.leave-pass-inside.ensures.left in
     subst (λ (p : Known). Looks S T p.view (view_of c.into_badge.result.views)) c.pass.view_is
     (of_views (λ x y. Looks S T x y) c.pass.inside.badge.views c.into_badge.result.views v w was c.into_badge.ensures.2 here)
+
+pub returns-clause-whole : goal.returns-clause-whole
+returns-clause-whole g c = λ every. nothing_new c.args.pass.now.view (view_of c.into_badge.result.views) every (returns-clause-look g c).1.made
 
 pub returns-clause-counts : goal.returns-clause-counts
 returns-clause-counts g c =
