@@ -1,5 +1,5 @@
 -- What a store of lines stands for once it is opened.
-use Rattle.std.proofs.Common.{◌≡◌, ◌≤◌, ◌+◌, ◌∷◌, [], ℕ, zero, suc, List, take, Option, Some, refl, sym, ◌∙◌, ap, subst, arith, length-append, append-nil}
+use Rattle.std.proofs.Common.{◌≡◌, ◌≤◌, ◌+◌, ◌∷◌, [], ℕ, zero, suc, List, take, Option, Some, Bool, true, refl, sym, ◌∙◌, ap, subst, arith, length-append, append-nil}
 use Rattle.std.proofs.lemmas.List.{get_or_past}
 use Rattle.std.proofs.lemmas.List.Elements.{All-nil}
 use Rattle.flume_host.specs.Causes.{Rose}
@@ -10,7 +10,7 @@ use Rattle.flume_host.proofs.Telling.{tells_more}
 use Rattle.event_core.specs.Journal.{Base, after_journal}
 use Rattle.event_core.specs.declared.journal.Entry.{Entry}
 use Rattle.channel_face.specs.History.{Opening, opening}
-use Rattle.channel_face.specs.Machine.{State, base_of}
+use Rattle.channel_face.specs.Machine.{State, base_of, is_some_of}
 use Rattle.channel_face.specs.declared.replies.Kind.TheVariants.{File as OnFile}
 use Rattle.channel_face.proofs.LawLemmas.{after_none}
 use Rattle.channel_replay.specs.Recover.{Recovers}
@@ -36,12 +36,12 @@ none_taken zero = refl
 none_taken (suc k) = refl
 
 -- the limits and the numbers of an opening with these
-abbrev pub began : State → ℕ → ℕ → Opening
-began s faults from = record { rules = record { kind = OnFile; limits = default_limits }; base = base_of s; txn = s.txn; faults = faults; from = from }
+abbrev pub began : State → ℕ → ℕ → Bool → Opening
+began s faults from tells = record { rules = record { kind = OnFile; limits = default_limits }; base = base_of s; txn = s.txn; faults = faults; from = from; tells = tells }
 
-pub idle_at_first : (s : State) → ((faults from : ℕ) → s ≡ opening (began s faults from)) → IsIdle s
+pub idle_at_first : (s : State) → ((faults from : ℕ) (tells : Bool) → s ≡ opening (began s faults from tells)) → IsIdle s
 idle_at_first s opened =
-    let is = opened 0 0 in
+    let is = opened 0 0 true in
     record {
       kind = ap (λ (x : State). x.rules.kind) is;
       limits = ap (λ (x : State). x.rules.limits) is;
@@ -59,9 +59,9 @@ found_none start image may =
 no_front : (base : Base) (image : Files) → GivesLines base [] image → GivesFront base [] [] image
 no_front base image gives = record { more = []; rest = []; first = refl; one = omega arith; gives = gives }
 
-begins : (t u : Told) (told : Option Told) (faults faults' : ℕ) (c : Counted) → Opens t.reads default_limits.capacity (base_of c.state) c.state.txn → told ≡ Some u → OpensFrom t u → StandsOver told faults' c (began c.state faults (clock t + 1)) [] → Follows [] [] c.state t u
-begins t u told faults faults' c opens is_u settled stands =
-    let since : EachMoment (clock t + 1) (λ m image. GivesFront (base_of c.state) [] [] image) u = λ m image low left. no_front (base_of c.state) image (found_none (began c.state faults (clock t + 1)) image (stands.images u is_u m image low left)) in
+begins : (t u : Told) (told : Option Told) (faults faults' : ℕ) (tells : Bool) (c : Counted) → Opens t.reads default_limits.capacity (base_of c.state) c.state.txn → told ≡ Some u → OpensFrom t u → StandsOver told faults' c (began c.state faults (clock t + 1) tells) [] → Follows [] [] c.state t u
+begins t u told faults faults' tells c opens is_u settled stands =
+    let since : EachMoment (clock t + 1) (λ m image. GivesFront (base_of c.state) [] [] image) u = λ m image low left. no_front (base_of c.state) image (found_none (began c.state faults (clock t + 1) tells) image (stands.images u is_u m image low left)) in
     let later : clock t + 1 ≤ clock u = let rises = clock_rises (done Settle t) u (IsAsBefore t.reads) settled in let one = length-append t.past (under_way Settle t.now ∷ []) in omega (arith, rises, one) in
     record {
       holds = record {
@@ -83,10 +83,10 @@ begins t u told faults faults' c opens is_u settled stands =
     }
 
 pub stands_at_first : (told told' : Option Told) (faults faults' : ℕ) (c : Counted) → WhereTold told (λ t. Opens t.reads default_limits.capacity (base_of c.state) c.state.txn) → Tells told told' OpensFrom → faults' ≡ faults
-    → StandsOver told' faults' c (began c.state faults (moment_of told + 1)) [] → Stands (record { told = told; faults = faults }) told' faults' c.state []
+    → StandsOver told' faults' c (began c.state faults (moment_of told + 1) (is_some_of told')) [] → Stands (record { told = told; faults = faults }) told' faults' c.state []
 stands_at_first told told' faults faults' c opens settled well stands =
     let follows : Tells told told' (Follows [] [] c.state) = tells_more told told' OpensFrom (Follows [] [] c.state)
-    (λ t u is_t is_u from. begins t u told' faults faults' c (opens t is_t) is_u from (subst (λ (o : Option Told). StandsOver told' faults' c (began c.state faults (moment_of o + 1)) []) is_t stands)) settled in
+    (λ t u is_t is_u from. begins t u told' faults faults' (is_some_of told') c (opens t is_t) is_u from (subst (λ (o : Option Told). StandsOver told' faults' c (began c.state faults (moment_of o + 1) (is_some_of told')) []) is_t stands)) settled in
     record {
       first = [];
       last = [];

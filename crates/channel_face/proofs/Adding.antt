@@ -48,7 +48,7 @@ adds old call new moves start h pass stands =
     let step : Step = record { pass = pass; call = call; moment = 0 } in
     let may : Admits true (state_after (opening start) h) call = subst (λ (s : State). Admits true s call) (sym stands.1) moves.admitted in
     let so : state_after (opening start) (h ++ step ∷ []) ≡ new = state-push (opening start) h step ∙ (ap (λ (s : State). after s call) stands.1 ∙ sym moves.state) in
-    (run-push true (opening start) h step stands.0 may, so)
+    (run-push true (opening start) h step stands.0 may, so, stands.2)
 
 pub shows : (s : State) (P : State → Type 0) → P s → Shows (StandsFor s) P
 shows s P is start h stands = subst P (sym stands.1) is

@@ -12,7 +12,7 @@ pub record Step : Type 0 where
   pub call : Call
   pub moment : ℕ
 
--- How a channel begins. The machine reads neither of the last two.
+-- How a channel begins. The machine reads none of the last three.
 pub record Opening : Type 0 where
   pub rules : Rules
   pub base : Base
@@ -21,6 +21,8 @@ pub record Opening : Type 0 where
   pub faults : ℕ
   -- the disk's clock when the opening had settled it
   pub from : ℕ
+  -- whether takes give just the events that were put
+  pub tells : Bool
 
 abbrev pub opening : Opening → State
 opening o = record { rules = o.rules; items = o.base.items; first = o.base.first; txn = o.txn; opened = []; staged = []; broken = false; life = 1; frame = 1; ends = [] }
@@ -99,9 +101,9 @@ pub record Moves (tells : Bool) (old : State) (call : Call) (new : State) : Type
   pub admitted : Admits tells old call
   pub state : new ≡ after old call
 
--- these calls are a run from the opening to this state
+-- these calls are a run from the opening, which tells, to this state
 abbrev pub StandsFor : State → Opening → List Step → Type 0
-StandsFor s start h = IsRun true (opening start) h × (state_after (opening start) h ≡ s)
+StandsFor s start h = IsRun true (opening start) h × (state_after (opening start) h ≡ s) × (start.tells ≡ true)
 
 abbrev pub reopen_reply : Result (Unit {0}) OpenCause → Reopened → Result Reopened OpenCause
 reopen_reply (Ok done) kept = Ok kept

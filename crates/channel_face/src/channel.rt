@@ -124,6 +124,9 @@ pub trait Channel {
 
     /// The calls were answered as the machine answers them.
     ghost is_run: { (channel : Self) (start : Opening) (h : List Step) → stands channel start h → IsRun (tells channel) (opening start) h };
+
+    /// Whether it tells never changes.
+    ghost tells_as_opened: { (channel : Self) (start : Opening) (h : List Step) → stands channel start h → start.tells ≡ tells channel };
 }
 
 /// A channel on a disk.

@@ -43,13 +43,13 @@ opened_whole told w b s o is kind base log = record {
 }
 
 -- the opening of a state that has just these events and numbers
-pub opened_as : (s : State) (rules : Rules) (base : Base) (txn : ℕ) → ((faults from : ℕ) → s ≡ opening (record { rules = rules; base = base; txn = txn; faults = faults; from = from }))
-    → (faults from : ℕ) → s ≡ opening (record { rules = rules; base = base_of s; txn = s.txn; faults = faults; from = from })
-opened_as s rules base txn is faults from =
-    let same : base ≡ base_of s = sym (ap base_of (is 0 0)) in
-    let number : txn ≡ s.txn = sym (ap (λ (v : State). v.txn) (is 0 0)) in
-    subst (λ (b : Base). s ≡ opening (record { rules = rules; base = b; txn = s.txn; faults = faults; from = from })) same
-    (subst (λ (n : ℕ). s ≡ opening (record { rules = rules; base = base; txn = n; faults = faults; from = from })) number (is faults from))
+pub opened_as : (s : State) (rules : Rules) (base : Base) (txn : ℕ) → ((faults from : ℕ) (tells : Bool) → s ≡ opening (record { rules = rules; base = base; txn = txn; faults = faults; from = from; tells = tells }))
+    → (faults from : ℕ) (tells : Bool) → s ≡ opening (record { rules = rules; base = base_of s; txn = s.txn; faults = faults; from = from; tells = tells })
+opened_as s rules base txn is faults from tells =
+    let same : base ≡ base_of s = sym (ap base_of (is 0 0 true)) in
+    let number : txn ≡ s.txn = sym (ap (λ (v : State). v.txn) (is 0 0 true)) in
+    subst (λ (b : Base). s ≡ opening (record { rules = rules; base = b; txn = s.txn; faults = faults; from = from; tells = tells })) same
+    (subst (λ (n : ℕ). s ≡ opening (record { rules = rules; base = base; txn = n; faults = faults; from = from; tells = tells })) number (is faults from tells))
 
 pub opened_opens : (s : State) (files : Files) (capacity : ℕ) (base : Base) (txn : ℕ) → base_of s ≡ base → s.txn ≡ txn → Opens files capacity base txn → Opens files capacity (base_of s) s.txn
 opened_opens s files capacity base txn same number opens = subst (λ (b : Base). Opens files capacity b s.txn) (sym same) (subst (λ (n : ℕ). Opens files capacity base n) (sym number) opens)

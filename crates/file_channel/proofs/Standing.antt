@@ -361,6 +361,7 @@ adds_with : (told told' : Option Told) (f f' : ℕ) (old : Counted) (call : Call
     → AddsOne (StandsOver told f old) (StandsOver told' f' new) call (moment_of told')
 adds_with told told' f f' old call new moves count up cause tells rises images before start h pass stands = record {
   base = stands.base;
+  tells = stands.tells ∙ sym tells;
   run = run-push (is_some_of told') (opening start) h step (run_of (is_some_of told') (is_some_of told) (opening start) h tells stands.run) (subst (λ (b : Bool). Admits b (state_after (opening start) h) call) (sym tells) may);
   state = state-push (opening start) h step ∙ (ap (λ (s : State). after s call) stands.state ∙ sym moves.state);
   tally = tally-push (opening start) h step ∙ (same_count ∙ sym count);
@@ -542,10 +543,11 @@ flush_fault (Err FlushNo.DiskFault) is = refl
 flush_fault (Err (FlushNo.Spent counter)) is = absurd (cc)
 
 -- A channel that was just opened stands for no calls: whatever a stop left since recovers to its base.
-pub stands_first : (told : Option Told) (faults : ℕ) (c : Counted) (start : Opening) → IsBase start.base → c.state ≡ opening start → c.tally ≡ tally (opening start) [] → start.faults ≤ faults
+pub stands_first : (told : Option Told) (faults : ℕ) (c : Counted) (start : Opening) → IsBase start.base → start.tells ≡ is_some_of told → c.state ≡ opening start → c.tally ≡ tally (opening start) [] → start.faults ≤ faults
     → WhereTold told (EachMoment start.from (λ m image. (txn : ℕ) × Recovers image start.base txn)) → StandsOver told faults c start []
-stands_first told faults c start base state count later images = record {
+stands_first told faults c start base same state count later images = record {
   base = base;
+  tells = same;
   run = tt;
   state = sym state;
   tally = sym count;
@@ -554,14 +556,6 @@ stands_first told faults c start base state count later images = record {
   causes = λ is. absurd (cc);
   images = λ t is m image since left. let found = images t is m image since left in (start.base, found.0, found.1, (0, sym (after_none start.base)));
 }
-
--- where it was opened when all had been done
-pub stands_now : (told : Option Told) (faults : ℕ) (c : Counted) (start : Opening) → IsBase start.base → c.state ≡ opening start → c.tally ≡ tally (opening start) [] → start.faults ≤ faults → start.from ≡ moment_of told → Rests told c.state → StandsOver told faults c start []
-stands_now told faults c start base state count later from rests =
-    stands_first told faults c start base state count later
-    (λ t is m image since left.
-    let found = rests (ap (λ (s : State). s.broken) state) t is image (only_now t m image (omega (arith, since, from, ap moment_of is)) left) in
-    (found.0, subst (λ (b : Base). Recovers image b found.0) (ap base_of state) found.2))
 
 pub empty_is_base : (first : ℕ) → IsBase (record { items = []; first = first })
 empty_is_base first = record { rising = λ k less. absurd (omega (arith, less)); below = tt }
@@ -601,9 +595,9 @@ adds_reopen told told' told0 f f' f0 old new old0 reply told_is f_is old_is did 
     rw (← told_is, ← f_is, ← old_is) (reopens_over told told' f f' old reply new did.moves did.tally did.up did.cause (reopens_of told told' old.state did.spent did.images) did.rests)
 
 -- A channel that was opened: since then a stop leaves what recovers to what it has.
-pub stands_opened : (told told' : Option Told) (faults : ℕ) (c : Counted) (start : Opening) (capacity : ℕ) → IsBase start.base → c.state ≡ opening start → c.tally ≡ tally (opening start) [] → start.faults ≤ faults → start.from ≡ moment_of told + 1
+pub stands_opened : (told told' : Option Told) (faults : ℕ) (c : Counted) (start : Opening) (capacity : ℕ) → IsBase start.base → start.tells ≡ is_some_of told' → c.state ≡ opening start → c.tally ≡ tally (opening start) [] → start.faults ≤ faults → start.from ≡ moment_of told + 1
     → WhereTold told (λ t. Opens t.reads capacity start.base start.txn) → Tells told told' OpensFrom → StandsOver told' faults c start []
-stands_opened told told' faults c start capacity base state count later from opens tells = stands_first told' faults c start base state count later images
+stands_opened told told' faults c start capacity base same state count later from opens tells = stands_first told' faults c start base same state count later images
   where
     images : (u : Told) → told' ≡ Some u → EachMoment start.from (λ m image. (txn : ℕ) × Recovers image start.base txn) u
     images u is m image since left =

@@ -1,5 +1,5 @@
 // A channel on a disk.
-ghost use Rattle.std.specs.Prelude.{[], ◌⊎◌, ◌↔◌, ◌≡◌, ◌≤◌, ◌+◌, ◌-◌, ◌^◌, ℕ, Err, IsSome, OnOk, IfOk, IfErr, IsErrOf, false, true, if◌then◌else◌};
+ghost use Rattle.std.specs.Prelude.{[], ◌⊎◌, ◌↔◌, ◌≡◌, ◌≤◌, ◌+◌, ◌-◌, ◌^◌, ℕ, Bool, Err, IsSome, OnOk, IfOk, IfErr, IsErrOf, false, true, if◌then◌else◌};
 ghost use Rattle.flume_host.specs.Causes.{Rose};
 ghost use Rattle.flume_host.specs.Told.{LeavesOnly, Tells, WhereTold, moment_of};
 ghost use Rattle.event_core.specs.Content.{size};
@@ -96,7 +96,7 @@ pub fn open_channel<D: Disk + Drop, L: Ledger>(
     limits: Limits,
     steps: &mut Steps<L>,
 ) -> Result<FileChannel<D>, OpenRefused<D>>
-    ensures state { IfOk result (λ c. (faults from : ℕ) → c.1.state ≡ opening (record { rules = record { kind = Kind.File; limits = limits }; base = base_of c.1.state; txn = c.1.state.txn; faults = faults; from = from })) }
+    ensures state { IfOk result (λ c. (faults from : ℕ) (tells : Bool) → c.1.state ≡ opening (record { rules = record { kind = Kind.File; limits = limits }; base = base_of c.1.state; txn = c.1.state.txn; faults = faults; from = from; tells = tells })) }
     ensures tally { IfOk result (λ c. c.1.tally ≡ record { put_attempts = 0; put_successes = 0; take_attempts = 0; take_successes = 0 }) }
     ensures opens { IfOk result (λ c. WhereTold (D.told disk) (λ t. Opens t.reads limits.capacity (base_of c.1.state) c.1.state.txn)) }
     ensures gains { IfOk result (λ c. Tells (D.told disk) (D.told c.0) (λ t u. GainsLog t.reads IsBegun u.reads)) }
@@ -104,7 +104,7 @@ pub fn open_channel<D: Disk + Drop, L: Ledger>(
     ensures well { IfOk result (λ c. D.faults c.0 ≡ D.faults disk) }
 
     // It stands for no calls: since the folder was settled, whatever a stop leaves recovers to what the folder recovers to.
-    ensures stands { IfOk result (λ c. StandsOver (D.told c.0) (D.faults c.0) c.1 (record { rules = record { kind = Kind.File; limits = limits }; base = base_of c.1.state; txn = c.1.state.txn; faults = D.faults disk; from = moment_of (D.told disk) + 1 }) []) }
+    ensures stands { IfOk result (λ c. StandsOver (D.told c.0) (D.faults c.0) c.1 (record { rules = record { kind = Kind.File; limits = limits }; base = base_of c.1.state; txn = c.1.state.txn; faults = D.faults disk; from = moment_of (D.told disk) + 1; tells = is_some_of (D.told c.0) }) []) }
     ensures any_moment { IfOk result (λ c. Tells (D.told disk) (D.told c.0) OpensOver) }
     ensures settled { IfOk result (λ c. Tells (D.told disk) (D.told c.0) OpensFrom) }
     ensures settled_or { IfErr result (λ refused. (refused.cause ≡ OpenCause.DiskFault) ⊎ Tells (D.told disk) (D.told refused.disk) OpensFrom) }
@@ -347,4 +347,6 @@ impl<D: Disk + Drop> Channel for FileChannel<D> {
     }
 
     ghost is_run = { λ c start h stands. stands.run };
+
+    ghost tells_as_opened = { λ c start h stands. stands.tells };
 }

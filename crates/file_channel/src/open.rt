@@ -1,5 +1,5 @@
 // A folder is opened: it is settled and replayed, and a log file is begun behind those that are there.
-ghost use Rattle.std.specs.Prelude.{◌⊎◌, ◌≡◌, ◌<◌, ◌≤◌, ◌+◌, ◌-◌, ◌^◌, ℕ, Some, None, Err, IfOk, IfErr, IfSome, IfNone, OnOk, IsErrOf, vec_len};
+ghost use Rattle.std.specs.Prelude.{◌⊎◌, ◌≡◌, ◌<◌, ◌≤◌, ◌+◌, ◌-◌, ◌^◌, ℕ, Bool, Some, None, Err, IfOk, IfErr, IfSome, IfNone, OnOk, IsErrOf, vec_len};
 ghost use Rattle.flume_host.specs.Causes.{HasCause, Rose};
 ghost use Rattle.flume_host.specs.Told.{LeavesOnly, Tells, WhereTold};
 ghost use Rattle.event_core.specs.Journal.{IsBase};
@@ -208,7 +208,7 @@ impl<D: Disk + Drop> LoggedLists<D> {
         limits: Limits,
         steps: &mut Steps<L>,
     ) -> Result<LoggedLists<D>, OpenRefused<D>>
-        ensures state { IfOk result (λ c. (faults from : ℕ) → c.1 ≡ opening (record { rules = record { kind = Kind.File; limits = limits }; base = Face.base_of c.1; txn = c.1.txn; faults = faults; from = from })) }
+        ensures state { IfOk result (λ c. (faults from : ℕ) (tells : Bool) → c.1 ≡ opening (record { rules = record { kind = Kind.File; limits = limits }; base = Face.base_of c.1; txn = c.1.txn; faults = faults; from = from; tells = tells })) }
         ensures base { IfOk result (λ c. IsBase (Face.base_of c.1)) }
         ensures opens { IfOk result (λ c. WhereTold (D.told disk) (λ t. Opens t.reads limits.capacity (Face.base_of c.1) c.1.txn)) }
         ensures gains { IfOk result (λ c. Tells (D.told disk) (D.told c.0) (λ t u. GainsLog t.reads IsBegun u.reads)) }

@@ -38,7 +38,7 @@ impl Model for MemoryChannel {
 impl MemoryChannel {
     /// An empty channel. It does not read the limit of a file.
     pub fn new(alloc: Global, limits: Limits) -> Result<MemoryChannel, NoMemory>
-        ensures state { IfOk result (λ c. (faults from : ℕ) → c.state ≡ opening (record { rules = record { kind = Kind.Memory; limits = limits }; base = record { items = []; first = 0 }; txn = 1; faults = faults; from = from })) }
+        ensures state { IfOk result (λ c. (faults from : ℕ) → c.state ≡ opening (record { rules = record { kind = Kind.Memory; limits = limits }; base = record { items = []; first = 0 }; txn = 1; faults = faults; from = from; tells = true })) }
         ensures tally { IfOk result (λ c. c.tally ≡ record { put_attempts = 0; put_successes = 0; take_attempts = 0; take_successes = 0 }) }
     {
         let mut items = Vec::new(alloc);
@@ -148,4 +148,6 @@ impl Channel for MemoryChannel {
     }
 
     ghost is_run = { λ c start h stands. stands.0.0 };
+
+    ghost tells_as_opened = { λ c start h stands. stands.0.2 };
 }

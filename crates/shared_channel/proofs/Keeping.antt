@@ -152,6 +152,9 @@ module _ {C : Type 0} (stands : C → Opening → List Step → Type 0) (tells :
   abbrev pub Law : Type 0
   Law = (c : C) (start : Opening) (h : List Step) → stands c start h → IsRun (tells c) (opening start) h
 
+  abbrev pub TellsAsOpened : Type 0
+  TellsAsOpened = (c : C) (start : Opening) (h : List Step) → stands c start h → start.tells ≡ tells c
+
   pub kept_run : Law → (c : C) (start : Opening) (h : List Step) → StandsCounting stands c start h → IsRun (tells c) (opening start) h
   kept_run law c start h k = subst (λ (l : List Step). IsRun (tells c) (opening start) l) k.2 (counted_run (tells c) (opening start) k.0 (law c start k.0 k.1))
 

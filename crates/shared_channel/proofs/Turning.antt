@@ -19,7 +19,7 @@ use Rattle.std.specs.List.{All}
 use Rattle.std.proofs.lemmas.List.Elements.{All-push}
 use Rattle.atomic_table.specs.Seated.{TableId}
 use Rattle.shared_channel.specs.Passes.{Known, new_pass, new_passes, view_of, AreMarks, IsPass}
-use Rattle.shared_channel.proofs.Keeping.{Law, kept_run, keeps_more}
+use Rattle.shared_channel.proofs.Keeping.{Law, TellsAsOpened, kept_run, keeps_more}
 
 -- while fewer calls were counted, none is spent
 pub unspent : (spent : Bool) (most calls : ℕ) → Bounds spent most calls → calls < most → spent ≡ false
@@ -62,10 +62,10 @@ module _ {S C : Type 0} (stands : C → Opening → List Step → Type 0) (tells
 
 module _ {C : Type 0} (stands : C → Opening → List Step → Type 0) (tells : C → Bool) where
   -- the turn is given back
-  pub left : Law stands tells → (c : C) (v k w : View) (calls : List Step) → Keeps stands c k.base k.seen → Made v calls w → w ≡ idle k → Left stands tells v calls w c
-  left law c v k w calls keeps made is =
+  pub left : Law stands tells → TellsAsOpened stands tells → (c : C) (v k w : View) (calls : List Step) → Keeps stands c k.base k.seen → Made v calls w → w ≡ idle k → Left stands tells v calls w c
+  left law told c v k w calls keeps made is =
       let seen : StandsCounting stands c w.base w.seen = subst (λ (x : View). StandsCounting stands c x.base x.seen) (sym is) keeps.calls in
-      record { made = made; seen = record { calls = seen; run = kept_run stands tells law c w.base w.seen seen } }
+      record { made = made; seen = record { calls = seen; run = kept_run stands tells law c w.base w.seen seen; same = told c w.base seen.0 seen.1 } }
 
   -- a turn with one call, which may have been spent
   pub answers : {S : Type 0} (moment : C → ℕ) (spent : Bool) (v w : View) (by : ℕ) (call : Call) (k : Me (Option S) View) (d : C) (n : Me (Option S) View) → Making v [] k.0 → has v.numbers by ≡ true → Makes stands by (made_if (not spent) (step by call (moment d))) k d n → Bounds spent (2 ^ 64 - 1025) (length k.0.seen)

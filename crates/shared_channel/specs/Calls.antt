@@ -51,10 +51,11 @@ pub record Makes {S C : Type 0} (stands : C → Opening → List Step → Type 0
   pub goes_on : (v : View) (es : List Step) → Making v es m.0 → has v.numbers by ≡ true → Making v (es ++ calls) w.0
 
 module _ {C : Type 0} (stands : C → Opening → List Step → Type 0) (tells : C → Bool) where
-  -- This channel stands for what was seen, of which each call was answered as the machine answers it there.
+  -- This channel stands for what was seen, of which each call was answered as the machine answers it there. It tells where the one that was shared did.
   pub record IsSeen (c : C) (w : View) : Type 0 where
     pub calls : StandsCounting stands c w.base w.seen
     pub run : IsRun (tells c) (opening w.base) w.seen
+    pub same : w.base.tells ≡ tells c
 
   -- The pass made these calls in one turn, and left the channel so.
   pub record Left (v : View) (calls : List Step) (w : View) (c : C) : Type 0 where

@@ -87,6 +87,8 @@ impl<'a, R: Abort, D: Disk + Drop> Channel for Reopening<'a, R, D> {
     }
 
     ghost is_run = { λ c start h stands. stands.run };
+
+    ghost tells_as_opened = { λ c start h stands. stands.tells };
 }
 
 impl<'a, R: Abort, D: Disk + Drop> Durable for Reopening<'a, R, D> {

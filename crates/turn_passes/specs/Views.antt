@@ -32,7 +32,7 @@ pub record View : Type 0 where
 
 -- an opening that nothing is said of
 abbrev pub no_opening : Opening
-no_opening = record { rules = record { kind = InMemory; limits = record { capacity = 0; txn_capacity = 0; max_file = 0 } }; base = record { items = []; first = 0 }; txn = 0; faults = 0; from = 0 }
+no_opening = record { rules = record { kind = InMemory; limits = record { capacity = 0; txn_capacity = 0; max_file = 0 } }; base = record { items = []; first = 0 }; txn = 0; faults = 0; from = 0; tells = true }
 
 abbrev pub nothing : Part
 nothing = record { live = false; base = no_opening; passes = 0; numbers = []; seen = [] }

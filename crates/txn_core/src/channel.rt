@@ -76,6 +76,8 @@ impl Channel for CountedLists {
     }
 
     ghost is_run = { λ c start h stands. stands.0.0 };
+
+    ghost tells_as_opened = { λ c start h stands. stands.0.2 };
 }
 
 impl Channel for Machine {
@@ -145,4 +147,6 @@ impl Channel for Machine {
     }
 
     ghost is_run = { λ c start h stands. stands.0.0.0 };
+
+    ghost tells_as_opened = { λ c start h stands. stands.0.0.2 };
 }

@@ -52,7 +52,7 @@ impl CountedLists {
     ) -> CountedLists
         requires txn { 1 ≤ txn }
         requires capacity { length items.items ≤ limits.capacity }
-        ensures state { (faults from : ℕ) → result.state ≡ opening (record { rules = record { kind = kind; limits = limits }; base = record { items = items.items; first = first }; txn = txn; faults = faults; from = from }) }
+        ensures state { (faults from : ℕ) → result.state ≡ opening (record { rules = record { kind = kind; limits = limits }; base = record { items = items.items; first = first }; txn = txn; faults = faults; from = from; tells = true }) }
         ensures tally { result.tally ≡ record { put_attempts = 0; put_successes = 0; take_attempts = 0; take_successes = 0 } }
     {
         CountedLists {

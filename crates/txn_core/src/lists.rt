@@ -76,7 +76,7 @@ impl ChannelLists {
     ) -> ChannelLists
         requires txn { 1 ≤ txn }
         requires capacity { length items.items ≤ limits.capacity }
-        ensures { (faults from : ℕ) → result ≡ opening (record { rules = record { kind = kind; limits = limits }; base = record { items = items.items; first = first }; txn = txn; faults = faults; from = from }) }
+        ensures { (faults from : ℕ) → result ≡ opening (record { rules = record { kind = kind; limits = limits }; base = record { items = items.items; first = first }; txn = txn; faults = faults; from = from; tells = true }) }
     {
         ChannelLists {
             kind,

@@ -47,7 +47,7 @@ impl Model for Machine {
 impl Machine {
     /// An empty channel.
     pub fn new(alloc: Global, limits: Limits, kind: Kind) -> Result<Machine, NoMemory>
-        ensures state { IfOk result (λ m. (faults from : ℕ) → m.counted.state ≡ opening (record { rules = record { kind = kind; limits = limits }; base = record { items = []; first = 0 }; txn = 1; faults = faults; from = from })) }
+        ensures state { IfOk result (λ m. (faults from : ℕ) → m.counted.state ≡ opening (record { rules = record { kind = kind; limits = limits }; base = record { items = []; first = 0 }; txn = 1; faults = faults; from = from; tells = true })) }
         ensures tally { IfOk result (λ m. m.counted.tally ≡ record { put_attempts = 0; put_successes = 0; take_attempts = 0; take_successes = 0 }) }
         ensures journal { IfOk result (λ m. m.journal ≡ []) }
     {

@@ -1,4 +1,4 @@
-use Rattle.std.proofs.Common.{◌≡◌, refl, sym, ap, subst}
+use Rattle.std.proofs.Common.{◌≡◌, true, refl, sym, ap, subst}
 use Rattle.event_core.specs.Journal.{Base, IsBase}
 use Rattle.channel_face.specs.History.{Opening, opening}
 use Rattle.channel_face.specs.Machine as Face
@@ -11,13 +11,13 @@ use Rattle.file_channel.proofs.logged.LoggedLists.open.Goals as goal
 pub invariant_of-result : goal.invariant_of-result
 invariant_of-result g c =
     let base : Base = base_of c.in-Ok.replayed in
-    let o : Opening = record { rules = record { kind = OnFile; limits = c.args.limits }; base = base; txn = c.in-Ok.replayed.next.txn; faults = 0; from = 0 } in
+    let o : Opening = record { rules = record { kind = OnFile; limits = c.args.limits }; base = base; txn = c.in-Ok.replayed.next.txn; faults = 0; from = 0; tells = true } in
     let s : State = c.begin-lists.result in
     let is : s ≡ opening o = c.begin-lists.ensures 0 0 in
     opened_whole (g.D.Disk.told c.open_log.new.disk) c.in-Ok.log 0 s o is refl c.in-Ok.ensures.base (c.in-Ok.ensures.logged s (opened_fresh s o is))
 
 pub returns-in-Ok-clause-state : goal.returns-in-Ok-clause-state
-returns-in-Ok-clause-state g c = opened_as c.begin-lists.result (record { kind = OnFile; limits = c.args.limits }) (base_of c.in-Ok.replayed) c.in-Ok.replayed.next.txn c.begin-lists.ensures
+returns-in-Ok-clause-state g c = opened_as c.begin-lists.result (record { kind = OnFile; limits = c.args.limits }) (base_of c.in-Ok.replayed) c.in-Ok.replayed.next.txn (λ faults from tells. c.begin-lists.ensures faults from)
 
 pub returns-in-Ok-clause-base : goal.returns-in-Ok-clause-base
 returns-in-Ok-clause-base g c =

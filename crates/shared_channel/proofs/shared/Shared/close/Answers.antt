@@ -19,7 +19,7 @@ returns-clause-left g c =
     let w = c.shut.new.seat.me.0 in
     let was : c.pass.inside.badge.views ≡ v ∷ [] = search rules in
     let is : w ≡ idle k = search rules in
-    let here : Left S T v [] w d = left S T g.met.C.Channel.is_run d v k w [] c.enter-home.ensures.within.3 (c.shut.ensures.made v [] c.enter-home.ensures.making) is in
+    let here : Left S T v [] w d = left S T g.met.C.Channel.is_run g.met.C.Channel.tells_as_opened d v k w [] c.enter-home.ensures.within.3 (c.shut.ensures.made v [] c.enter-home.ensures.making) is in
     subst (λ (p : Known). Left S T p.view [] (view_of c.into_badge.result.views) d) c.pass.view_is
     (of_views (λ x y. Left S T x [] y d) c.pass.inside.badge.views c.into_badge.result.views v w was c.into_badge.ensures.2 here)
 
