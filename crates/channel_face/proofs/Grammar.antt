@@ -17,7 +17,7 @@ use Rattle.channel_face.specs.declared.replies.StageCause.{StageCause}
 use Rattle.channel_face.specs.declared.replies.FlushRefused.{FlushRefused}
 use Rattle.channel_face.specs.declared.replies.FaceRefused.{FaceRefused}
 use Rattle.channel_face.specs.declared.replies.FaceRefused.TheVariants as Face
-use Rattle.channel_face.specs.Faces.{Own, one, Gains, picked_events, is_spent_begin, is_spent_put, is_spent_take, is_spent_stage, is_spent_flush, taken_event, begun_as, in_doubt_unless, IsMade, IsPutRolledBack, IsTakeRolledBack, EndsAs, Ends, ArePut, ArePutUpTo, IsPutStage, EndsPuts, EndsBegin, IsPutBatch, IsTakeBegun, IsTake, IsTakeCommit}
+use Rattle.channel_face.specs.Faces.{Own, one, Gains, picked_events, is_spent_begin, is_spent_put, is_spent_take, is_spent_stage, is_spent_flush, taken_event, begun_as, in_doubt_unless, IsMade, IsPutRolledBack, IsTakeRolledBack, EndsAs, Ends, IsFound, ArePut, ArePutUpTo, IsPutStage, EndsPuts, EndsBegin, IsPutBatch, IsTakeBegun, IsTake, IsTakeCommit}
 use Rattle.channel_face.specs.OwnCalls.{HasMade, Was, Goes}
 use Rattle.channel_face.proofs.Going.{Standing, goes_one, goes_shown_one, goes_shown, goes_none, goes_then, goes_as, gains}
 use Rattle.channel_face.proofs.Spent.{begin_spares, put_spares, take_spares, stage_put_spares, stage_take_spares, flush_spares}
@@ -32,56 +32,62 @@ none_of : {A : Type 0} (o : Option A) → false ≡ is_some_of o → o ≡ None
 none_of None is = refl
 none_of (Some x) is = absurd (cc)
 
+found_none : (saw : List Own → State → Type 0) (own x : List Own) (s : State) → x ≡ [] → saw own s → IsFound saw own x s
+found_none saw own x s is was = subst (λ (l : List Own). IsFound saw own l s) (sym is) was
+
+found_one : (saw : List Own → State → Type 0) (own x : List Own) (s : State) (call : Call) (moment : ℕ) → x ≡ one call s moment → IsFound saw own x s
+found_one saw own x s call moment is = subst (λ (l : List Own). IsFound saw own l s) (sym is) refl
+
 -- the end of a staged transaction
 
 pub settle_yes : (a : Standing) (t : Ticket) → Shows a (λ s. Yes ≡ settled s t) → Goes a a (λ own s more new. Ends (Was a) 0 t own more true)
 settle_yes a t shows =
     goes_as a a (λ own s more new. (Yes ≡ settled s t) × (more ≡ []) × (new ≡ s) × Was a own s) (λ own s more new. Ends (Was a) 0 t own more true)
-    (goes_shown a (λ s. Yes ≡ settled s t) shows) (λ own s x u h. (s, h.3, subst (λ (v : Settled). EndsAs 0 s v x true) h.0 (h.1, refl)))
+    (goes_shown a (λ s. Yes ≡ settled s t) shows) (λ own s x u h. (s, found_none (Was a) own x s h.1 h.3, subst (λ (v : Settled). EndsAs 0 s v x true) h.0 (h.1, refl)))
 
 pub settle_doubt : (a : Standing) (t : Ticket) → Shows a (λ s. InDoubt ≡ settled s t) → Goes a a (λ own s more new. Ends (Was a) 0 t own more false)
 settle_doubt a t shows =
     goes_as a a (λ own s more new. (InDoubt ≡ settled s t) × (more ≡ []) × (new ≡ s) × Was a own s) (λ own s more new. Ends (Was a) 0 t own more false)
-    (goes_shown a (λ s. InDoubt ≡ settled s t) shows) (λ own s x u h. (s, h.3, subst (λ (v : Settled). EndsAs 0 s v x false) h.0 (h.1, refl)))
+    (goes_shown a (λ s. InDoubt ≡ settled s t) shows) (λ own s x u h. (s, found_none (Was a) own x s h.1 h.3, subst (λ (v : Settled). EndsAs 0 s v x false) h.0 (h.1, refl)))
 
 pub settle_no : (tells : Bool) (a b : Standing) (t : Ticket) (reply : Result (Unit {0}) FlushRefused) (moment : ℕ) (sure : Bool) → Shows a (λ s. No ≡ settled s t) → AddsOne a b (Flush reply) moment → Law tells b → sure ≡ is_ok reply
     → Goes a b (λ own s more new. Ends (Was b) 0 t own more sure)
 settle_no tells a b t reply moment sure shows adds law is =
-    goes_as a b (λ own s more new. (No ≡ settled s t) × (more ≡ one (Flush reply) s moment) × Admits tells s (Flush reply) × (new ≡ after s (Flush reply)) × Was b own s) (λ own s more new. Ends (Was b) 0 t own more sure)
+    goes_as a b (λ own s more new. (No ≡ settled s t) × (more ≡ one (Flush reply) s moment) × Admits tells s (Flush reply) × (new ≡ after s (Flush reply))) (λ own s more new. Ends (Was b) 0 t own more sure)
     (goes_shown_one tells a b (λ s. No ≡ settled s t) (Flush reply) moment shows adds law)
-    (λ own s x u h. (s, h.4, subst (λ (v : Settled). EndsAs 0 s v x sure) h.0 (reply, made (is_spent_flush reply) (Flush reply) s moment x (flush_spares s reply h.2) h.1, is)))
+    (λ own s x u h. (s, found_one (Was b) own x s (Flush reply) moment h.1, subst (λ (v : Settled). EndsAs 0 s v x sure) h.0 (reply, made (is_spent_flush reply) (Flush reply) s moment x (flush_spares s reply h.2) h.1, is)))
 
 pub rolled_put : (tells : Bool) (a b : Standing) (token : Token) (ended : Bool) (moment : ℕ) → AddsOne a b (RollbackPut token ended) moment → Law tells b → Goes a b (λ own s more new. IsPutRolledBack (Was b) token own more)
 rolled_put tells a b token ended moment adds law =
-    goes_as a b (λ own s more new. (more ≡ one (RollbackPut token ended) s moment) × Admits tells s (RollbackPut token ended) × (new ≡ after s (RollbackPut token ended)) × Was b own s) (λ own s more new. IsPutRolledBack (Was b) token own more)
-    (goes_one tells a b (RollbackPut token ended) moment adds law) (λ own s x u h. by_answer ended own s x h.0 h.1 h.3)
+    goes_as a b (λ own s more new. (more ≡ one (RollbackPut token ended) s moment) × Admits tells s (RollbackPut token ended) × (new ≡ after s (RollbackPut token ended))) (λ own s more new. IsPutRolledBack (Was b) token own more)
+    (goes_one tells a b (RollbackPut token ended) moment adds law) (λ own s x u h. by_answer ended own s x h.0 h.1)
   where
-    by_answer : (e : Bool) (own : List Own) (s : State) (x : List Own) → x ≡ one (RollbackPut token e) s moment → e ≡ is_some_of (puts_of s token) → Was b own s → IsPutRolledBack (Was b) token own x
-    by_answer true own s x is may was = inl (s, moment, is)
-    by_answer false own s x is may was = inr (s, was, none_of (puts_of s token) may, inr (moment, is))
+    by_answer : (e : Bool) (own : List Own) (s : State) (x : List Own) → x ≡ one (RollbackPut token e) s moment → e ≡ is_some_of (puts_of s token) → IsPutRolledBack (Was b) token own x
+    by_answer true own s x is may = inl (s, moment, is)
+    by_answer false own s x is may = inr (s, found_one (Was b) own x s (RollbackPut token false) moment is, none_of (puts_of s token) may, inr (moment, is))
 
 pub rolled_take : (tells : Bool) (a b : Standing) (token : Token) (ended : Bool) (moment : ℕ) → AddsOne a b (RollbackTake token ended) moment → Law tells b → Goes a b (λ own s more new. IsTakeRolledBack (Was b) token own more)
 rolled_take tells a b token ended moment adds law =
-    goes_as a b (λ own s more new. (more ≡ one (RollbackTake token ended) s moment) × Admits tells s (RollbackTake token ended) × (new ≡ after s (RollbackTake token ended)) × Was b own s) (λ own s more new. IsTakeRolledBack (Was b) token own more)
-    (goes_one tells a b (RollbackTake token ended) moment adds law) (λ own s x u h. by_answer ended own s x h.0 h.1 h.3)
+    goes_as a b (λ own s more new. (more ≡ one (RollbackTake token ended) s moment) × Admits tells s (RollbackTake token ended) × (new ≡ after s (RollbackTake token ended))) (λ own s more new. IsTakeRolledBack (Was b) token own more)
+    (goes_one tells a b (RollbackTake token ended) moment adds law) (λ own s x u h. by_answer ended own s x h.0 h.1)
   where
-    by_answer : (e : Bool) (own : List Own) (s : State) (x : List Own) → x ≡ one (RollbackTake token e) s moment → e ≡ is_some_of (takes_of s token) → Was b own s → IsTakeRolledBack (Was b) token own x
-    by_answer true own s x is may was = inl (s, moment, is)
-    by_answer false own s x is may was = inr (s, was, none_of (takes_of s token) may, inr (moment, is))
+    by_answer : (e : Bool) (own : List Own) (s : State) (x : List Own) → x ≡ one (RollbackTake token e) s moment → e ≡ is_some_of (takes_of s token) → IsTakeRolledBack (Was b) token own x
+    by_answer true own s x is may = inl (s, moment, is)
+    by_answer false own s x is may = inr (s, found_one (Was b) own x s (RollbackTake token false) moment is, none_of (takes_of s token) may, inr (moment, is))
 
 -- a stage and what follows
 
 pub staged_put : (tells : Bool) (a b c : Standing) (token : Token) (t : Ticket) (moment : ℕ) (sure : Bool) (result : Result ℕ FaceRefused) → AddsOne a b (StagePut token (Ok t)) moment → Law tells b
     → Goes b c (λ own s more new. Ends (Was c) 0 t own more sure) → result ≡ in_doubt_unless sure t.first → Goes a c (λ own s more new. IsPutStage (Was c) 0 token result own more)
 staged_put tells a b c token t moment sure result adds law ends is =
-    goes_then a b c (λ own s more new. (more ≡ one (StagePut token (Ok t)) s moment) × Admits tells s (StagePut token (Ok t)) × (new ≡ after s (StagePut token (Ok t))) × Was b own s) (λ own s more new. Ends (Was c) 0 t own more sure)
+    goes_then a b c (λ own s more new. (more ≡ one (StagePut token (Ok t)) s moment) × Admits tells s (StagePut token (Ok t)) × (new ≡ after s (StagePut token (Ok t)))) (λ own s more new. Ends (Was c) 0 t own more sure)
     (λ own s more new. IsPutStage (Was c) 0 token result own more) (goes_one tells a b (StagePut token (Ok t)) moment adds law) ends
     (λ own s x u y v h e. (Ok t, s, x, y, refl, (moment, h.0), (sure, e, is)))
 
 pub unstaged_put : (tells : Bool) (a b c : Standing) (token other : Token) (cause : StageCause) (moment : ℕ) → AddsOne a b (StagePut token (Err cause)) moment → Law tells b → other ≡ token
     → Goes b c (λ own s more new. IsPutRolledBack (Was c) other own more) → Goes a c (λ own s more new. IsPutStage (Was c) 0 token (Err (Face.Stage cause)) own more)
 unstaged_put tells a b c token other cause moment adds law same rolled =
-    goes_then a b c (λ own s more new. (more ≡ one (StagePut token (Err cause)) s moment) × Admits tells s (StagePut token (Err cause)) × (new ≡ after s (StagePut token (Err cause))) × Was b own s) (λ own s more new. IsPutRolledBack (Was c) other own more)
+    goes_then a b c (λ own s more new. (more ≡ one (StagePut token (Err cause)) s moment) × Admits tells s (StagePut token (Err cause)) × (new ≡ after s (StagePut token (Err cause)))) (λ own s more new. IsPutRolledBack (Was c) other own more)
     (λ own s more new. IsPutStage (Was c) 0 token (Err (Face.Stage cause)) own more) (goes_one tells a b (StagePut token (Err cause)) moment adds law) rolled
     (λ own s x u y v h e. (
       Err cause,
@@ -97,7 +103,7 @@ pub staged_take : (tells : Bool) (a b c : Standing) (token : Token) (t : Ticket)
     → Goes b c (λ own s more new. Ends (Was c) 0 t own more sure) → result ≡ in_doubt_unless sure tt → Gains (HasMade a) (HasMade c) (IsTakeCommit (Was c) 0 token result)
 staged_take tells a b c token t moment sure result adds law ends is =
     gains a c (IsTakeCommit (Was c) 0 token result)
-    (goes_then a b c (λ own s more new. (more ≡ one (StageTake token (Ok t)) s moment) × Admits tells s (StageTake token (Ok t)) × (new ≡ after s (StageTake token (Ok t))) × Was b own s) (λ own s more new. Ends (Was c) 0 t own more sure)
+    (goes_then a b c (λ own s more new. (more ≡ one (StageTake token (Ok t)) s moment) × Admits tells s (StageTake token (Ok t)) × (new ≡ after s (StageTake token (Ok t)))) (λ own s more new. Ends (Was c) 0 t own more sure)
     (λ own s more new. IsTakeCommit (Was c) 0 token result own more) (goes_one tells a b (StageTake token (Ok t)) moment adds law) ends
     (λ own s x u y v h e. (Ok t, s, x, y, refl, (moment, h.0), (sure, e, is))))
 
@@ -105,7 +111,7 @@ pub unstaged_take : (tells : Bool) (a b c : Standing) (token other : Token) (cau
     → Goes b c (λ own s more new. IsTakeRolledBack (Was c) other own more) → Gains (HasMade a) (HasMade c) (IsTakeCommit (Was c) 0 token (Err (Face.Stage cause)))
 unstaged_take tells a b c token other cause moment adds law same rolled =
     gains a c (IsTakeCommit (Was c) 0 token (Err (Face.Stage cause)))
-    (goes_then a b c (λ own s more new. (more ≡ one (StageTake token (Err cause)) s moment) × Admits tells s (StageTake token (Err cause)) × (new ≡ after s (StageTake token (Err cause))) × Was b own s) (λ own s more new. IsTakeRolledBack (Was c) other own more)
+    (goes_then a b c (λ own s more new. (more ≡ one (StageTake token (Err cause)) s moment) × Admits tells s (StageTake token (Err cause)) × (new ≡ after s (StageTake token (Err cause)))) (λ own s more new. IsTakeRolledBack (Was c) other own more)
     (λ own s more new. IsTakeCommit (Was c) 0 token (Err (Face.Stage cause)) own more) (goes_one tells a b (StageTake token (Err cause)) moment adds law) rolled
     (λ own s x u y v h e. (
       Err cause,
@@ -136,14 +142,14 @@ puts_none a token = goes_as a a (λ own s more new. (more ≡ []) × (new ≡ s)
 pub put_one : (tells : Bool) (a b c : Standing) (token other : Token) (events events' : List Content) (event : Content) (done : PutDone) (moment : ℕ) → Goes a b (λ own s more new. ArePut token events more) → AddsOne b c (Put other event (Ok done)) moment → Law tells c → other ≡ token
     → events' ≡ events ++ event ∷ [] → Goes a c (λ own s more new. ArePut token events' more)
 put_one tells a b c token other events events' event done moment goes adds law same is =
-    goes_then a b c (λ own s more new. ArePut token events more) (λ own s more new. (more ≡ one (Put other event (Ok done)) s moment) × Admits tells s (Put other event (Ok done)) × (new ≡ after s (Put other event (Ok done))) × Was c own s)
+    goes_then a b c (λ own s more new. ArePut token events more) (λ own s more new. (more ≡ one (Put other event (Ok done)) s moment) × Admits tells s (Put other event (Ok done)) × (new ≡ after s (Put other event (Ok done))))
     (λ own s more new. ArePut token events' more) goes (goes_one tells b c (Put other event (Ok done)) moment adds law)
     (λ own s x u y v all h. rw (is, h.0, same) (puts-push token events x event done u moment all))
 
 pub put_refused : (tells : Bool) (a b c : Standing) (token other : Token) (events all back : List Content) (event : Content) (refused : PutRefused) (moment : ℕ) → Goes a b (λ own s more new. ArePut token events more) → AddsOne b c (Put other event (Err refused)) moment → Law tells c → other ≡ token
     → all ≡ events ++ event ∷ back → Goes a c (λ own s more new. ArePutUpTo 0 token all (Err refused) more)
 put_refused tells a b c token other events all back event refused moment goes adds law same is =
-    goes_then a b c (λ own s more new. ArePut token events more) (λ own s more new. (more ≡ one (Put other event (Err refused)) s moment) × Admits tells s (Put other event (Err refused)) × (new ≡ after s (Put other event (Err refused))) × Was c own s)
+    goes_then a b c (λ own s more new. ArePut token events more) (λ own s more new. (more ≡ one (Put other event (Err refused)) s moment) × Admits tells s (Put other event (Err refused)) × (new ≡ after s (Put other event (Err refused))))
     (λ own s more new. ArePutUpTo 0 token all (Err refused) more) goes (goes_one tells b c (Put other event (Err refused)) moment adds law)
     (λ own s x u y v done h. (
       events,
@@ -201,7 +207,7 @@ picked_split batch picked i place event at is =
 pub batch_unbegun : (tells : Bool) (a b : Standing) (events : List Content) (refused : BeginRefused) (moment : ℕ) → AddsOne a b (BeginPut (Err refused)) moment → Law tells b → Gains (HasMade a) (HasMade b) (IsPutBatch (Was b) 0 events (Err (Face.Begin refused)))
 batch_unbegun tells a b events refused moment adds law =
     gains a b (IsPutBatch (Was b) 0 events (Err (Face.Begin refused)))
-    (goes_as a b (λ own s more new. (more ≡ one (BeginPut (Err refused)) s moment) × Admits tells s (BeginPut (Err refused)) × (new ≡ after s (BeginPut (Err refused))) × Was b own s) (λ own s more new. IsPutBatch (Was b) 0 events (Err (Face.Begin refused)) own more)
+    (goes_as a b (λ own s more new. (more ≡ one (BeginPut (Err refused)) s moment) × Admits tells s (BeginPut (Err refused)) × (new ≡ after s (BeginPut (Err refused)))) (λ own s more new. IsPutBatch (Was b) 0 events (Err (Face.Begin refused)) own more)
     (goes_one tells a b (BeginPut (Err refused)) moment adds law)
     (λ own s x u h. (Err refused, s, x, [], sym (append-nil x), made (is_spent_begin (Err refused)) (BeginPut (Err refused)) s moment x (begin_spares s (Err refused) h.1) h.0, (refl, refl))))
 
@@ -209,7 +215,7 @@ pub batch_begun : (tells : Bool) (a b c d : Standing) (events : List Content) (t
     → Goes b c (λ own s more new. ArePutUpTo 0 token events reply more) → Goes c d (λ own s more new. EndsPuts (Was d) 0 other reply own more result) → Gains (HasMade a) (HasMade d) (IsPutBatch (Was d) 0 events result)
 batch_begun tells a b c d events token other moment reply result adds law same puts ends =
     gains a d (IsPutBatch (Was d) 0 events result)
-    (goes_then a b d (λ own s more new. (more ≡ one (BeginPut (Ok token)) s moment) × Admits tells s (BeginPut (Ok token)) × (new ≡ after s (BeginPut (Ok token))) × Was b own s) (λ own s more new. EndsBegin (Was d) 0 events (Ok token) own more result)
+    (goes_then a b d (λ own s more new. (more ≡ one (BeginPut (Ok token)) s moment) × Admits tells s (BeginPut (Ok token)) × (new ≡ after s (BeginPut (Ok token)))) (λ own s more new. EndsBegin (Was d) 0 events (Ok token) own more result)
     (λ own s more new. IsPutBatch (Was d) 0 events result own more) (goes_one tells a b (BeginPut (Ok token)) moment adds law)
     (goes_then b c d (λ own s more new. ArePutUpTo 0 token events reply more) (λ own s more new. EndsPuts (Was d) 0 other reply own more result) (λ own s more new. EndsBegin (Was d) 0 events (Ok token) own more result) puts ends
     (λ own s x u y v all e. (reply, x, y, refl, all, subst (λ (k : Token). EndsPuts (Was d) 0 k reply (own ++ x) y result) same e)))
@@ -220,13 +226,13 @@ batch_begun tells a b c d events token other moment reply result adds law same p
 pub take_begun : (tells : Bool) (a b : Standing) (reply : Result Token BeginRefused) (result : Result Token FaceRefused) (moment : ℕ) → AddsOne a b (BeginTake reply) moment → Law tells b → result ≡ begun_as reply → Gains (HasMade a) (HasMade b) (λ own. IsTakeBegun 0 result)
 take_begun tells a b reply result moment adds law is =
     gains a b (λ own. IsTakeBegun 0 result)
-    (goes_as a b (λ own s more new. (more ≡ one (BeginTake reply) s moment) × Admits tells s (BeginTake reply) × (new ≡ after s (BeginTake reply)) × Was b own s) (λ own s more new. IsTakeBegun 0 result more)
+    (goes_as a b (λ own s more new. (more ≡ one (BeginTake reply) s moment) × Admits tells s (BeginTake reply) × (new ≡ after s (BeginTake reply))) (λ own s more new. IsTakeBegun 0 result more)
     (goes_one tells a b (BeginTake reply) moment adds law)
     (λ own s x u h. (reply, s, made (is_spent_begin reply) (BeginTake reply) s moment x (begin_spares s reply h.1) h.0, is)))
 
 pub taken : (tells : Bool) (a b : Standing) (token : Token) (reply : Result Taken TakeRefused) (result : Result (Option Content) FaceRefused) (moment : ℕ) → AddsOne a b (Take token reply) moment → Law tells b → result ≡ taken_event reply → Gains (HasMade a) (HasMade b) (λ own. IsTake 0 token result)
 taken tells a b token reply result moment adds law is =
     gains a b (λ own. IsTake 0 token result)
-    (goes_as a b (λ own s more new. (more ≡ one (Take token reply) s moment) × Admits tells s (Take token reply) × (new ≡ after s (Take token reply)) × Was b own s) (λ own s more new. IsTake 0 token result more)
+    (goes_as a b (λ own s more new. (more ≡ one (Take token reply) s moment) × Admits tells s (Take token reply) × (new ≡ after s (Take token reply))) (λ own s more new. IsTake 0 token result more)
     (goes_one tells a b (Take token reply) moment adds law)
     (λ own s x u h. (reply, s, made (is_spent_take reply) (Take token reply) s moment x (take_spares tells s (takes_of s token) reply h.1) h.0, is)))

@@ -3,6 +3,7 @@ use Rattle.std.specs.Prelude.{◌≡◌, ◌≤◌, ◌-◌, ◌^◌, ◌⊎◌,
 use Rattle.event_core.specs.Content.{Content}
 use Rattle.channel_face.specs.Token.{Token}
 use Rattle.channel_face.specs.Machine.{State, Call, BeginPut, BeginTake, Put, Take, StagePut, StageTake, Flush, RollbackPut, RollbackTake, puts_of, takes_of, settled}
+use Rattle.channel_face.specs.History.{Opening, Step}
 use Rattle.channel_face.specs.declared.replies.Counter.TheVariants.{Calls}
 use Rattle.channel_face.specs.declared.replies.Ticket.{Ticket}
 use Rattle.channel_face.specs.declared.replies.Settled.{Settled}
@@ -31,9 +32,9 @@ pub record Own : Type 0 where
 abbrev pub one : Call → State → ℕ → List Own
 one call before moment = record { call = call; before = before; moment = moment } ∷ []
 
--- From any calls of its own on, a face goes on by some more, of which P is true behind the earlier ones.
-abbrev pub Gains : (List Own → Type 0) → (List Own → Type 0) → (List Own → List Own → Type 0) → Type 0
-Gains before later P = (own : List Own) → before own → (more : List Own) × later (own ++ more) × P own more
+-- Behind any opening and earlier calls, and from any calls of its own on, a face goes on by some more, of which P is true behind its own ones.
+abbrev pub Gains : (Opening → List Step → List Own → Type 0) → (Opening → List Step → List Own → Type 0) → (List Own → List Own → Type 0) → Type 0
+Gains before later P = (start : Opening) (earlier : List Step) (own : List Own) → before start earlier own → (more : List Own) × later start earlier (own ++ more) × P own more
 
 -- the events at these places
 abbrev pub picked_events : List Content → List ℕ → List Content
@@ -76,20 +77,25 @@ begun_as (Err refused) = Err (Face.Begin refused)
 abbrev pub in_doubt_unless : {A : Type 0} → Bool → A → Result A FaceRefused
 in_doubt_unless sure value = if sure then Ok value else Err Face.InDoubt
 
--- Below, `saw own s` where the face has seen the channel in the state s once `own` were its own calls and no further one was, `seen` is how
--- many of the channel's calls it has seen, and `earlier` are its own calls so far.
+-- Below, `saw own s` where `own` are the face's own calls and it left the channel in the state s, `seen` is how many of the channel's calls it
+-- has seen, and `earlier` are its own calls so far.
 
 -- The call was made in this state. One that was refused because no more calls are counted is not counted, and comes only near the end of the count.
 abbrev pub IsMade : ℕ → Bool → Call → State → List Own → Type 0
 IsMade seen false call s own = (moment : ℕ) × (own ≡ one call s moment)
-IsMade seen true call s own = (own ≡ []) × (2 ^ 64 - 1026 ≤ seen)
+IsMade seen true call s own = (own ≡ []) × (2 ^ 64 - 1025 ≤ seen)
+
+-- In this state the face made its next call; or it made none, and so it left the channel.
+abbrev pub IsFound : (List Own → State → Type 0) → List Own → List Own → State → Type 0
+IsFound saw earlier [] s = saw earlier s
+IsFound saw earlier (o ∷ own) s = o.before ≡ s
 
 -- The transaction was rolled back, unless its token was stale behind the earlier calls. A rollback of a stale token changes nothing, and a shared
 -- channel does not count it.
 abbrev pub IsRolledBack : (List Own → State → Type 0) → (Bool → Call) → (State → Type 0) → List Own → List Own → Type 0
 IsRolledBack saw rollback IsStale earlier own =
     ((s : State) × (moment : ℕ) × (own ≡ one (rollback true) s moment))
-    ⊎ ((s : State) × saw earlier s × IsStale s × ((own ≡ []) ⊎ ((moment : ℕ) × (own ≡ one (rollback false) s moment))))
+    ⊎ ((s : State) × IsFound saw earlier own s × IsStale s × ((own ≡ []) ⊎ ((moment : ℕ) × (own ≡ one (rollback false) s moment))))
 
 abbrev pub IsPutRolledBack : (List Own → State → Type 0) → Token → List Own → List Own → Type 0
 IsPutRolledBack saw token earlier own = IsRolledBack saw (RollbackPut token) (λ s. puts_of s token ≡ None) earlier own
@@ -97,7 +103,7 @@ IsPutRolledBack saw token earlier own = IsRolledBack saw (RollbackPut token) (λ
 abbrev pub IsTakeRolledBack : (List Own → State → Type 0) → Token → List Own → List Own → Type 0
 IsTakeRolledBack saw token earlier own = IsRolledBack saw (RollbackTake token) (λ s. takes_of s token ≡ None) earlier own
 
--- A staged transaction whose ticket was found so: it is flushed exactly where it was not settled. It is sure where it was settled or the flush answered Ok.
+-- A staged transaction whose ticket was found so: it is flushed exactly where that is `No`. It is sure where it was settled or the flush answered Ok.
 abbrev pub EndsAs : ℕ → State → Settled → List Own → Bool → Type 0
 EndsAs seen s Yes own sure = (own ≡ []) × (sure ≡ true)
 EndsAs seen s No own sure = (reply : Result (Unit {0}) FlushRefused) × IsMade seen (is_spent_flush reply) (Flush reply) s own × (sure ≡ is_ok reply)
@@ -105,7 +111,7 @@ EndsAs seen s InDoubt own sure = (own ≡ []) × (sure ≡ false)
 
 -- its ticket was asked for behind the earlier calls
 abbrev pub Ends : (List Own → State → Type 0) → ℕ → Ticket → List Own → List Own → Bool → Type 0
-Ends saw seen ticket earlier own sure = (s : State) × saw earlier s × EndsAs seen s (settled s ticket) own sure
+Ends saw seen ticket earlier own sure = (s : State) × IsFound saw earlier own s × EndsAs seen s (settled s ticket) own sure
 
 -- each event was put, in order
 abbrev pub ArePut : Token → List Content → List Own → Type 0
@@ -143,7 +149,7 @@ EndsBegin saw seen events (Ok token) earlier own result =
     × EndsPuts saw seen token reply (earlier ++ puts) ending result
 
 -- A transaction of its own that puts these events: a begin, a put of each up to the first refusal, and a stage. It is rolled back where a put or the
--- stage was refused, and flushed exactly where it was not settled when its ticket was asked for.
+-- stage was refused, and flushed exactly where its ticket was `No` when it was asked for.
 abbrev pub IsPutBatch : (List Own → State → Type 0) → ℕ → List Content → Result ℕ FaceRefused → List Own → List Own → Type 0
 IsPutBatch saw seen events result earlier own =
     (reply : Result Token BeginRefused) × (s : State) × (begun ending : List Own) × (own ≡ begun ++ ending)
@@ -162,7 +168,7 @@ abbrev pub EndsTakeStage : (List Own → State → Type 0) → ℕ → Token →
 EndsTakeStage saw seen token (Err cause) earlier own result = IsTakeRolledBack saw token earlier own × (result ≡ Err (Face.Stage cause))
 EndsTakeStage saw seen token (Ok ticket) earlier own result = (sure : Bool) × Ends saw seen ticket earlier own sure × (result ≡ in_doubt_unless sure tt)
 
--- A commit of takes: a stage, and a rollback where it was refused. It is flushed exactly where it was not settled when its ticket was asked for.
+-- A commit of takes: a stage, and a rollback where it was refused. It is flushed exactly where its ticket was `No` when it was asked for.
 abbrev pub IsTakeCommit : (List Own → State → Type 0) → ℕ → Token → Result (Unit {0}) FaceRefused → List Own → List Own → Type 0
 IsTakeCommit saw seen token result earlier own =
     (reply : Result Ticket StageCause) × (s : State) × (staged ending : List Own) × (own ≡ staged ++ ending)

@@ -16,25 +16,23 @@ abbrev pub AreFrom : State → List Own → Type 0
 AreFrom s [] = Unit {0}
 AreFrom s (o ∷ own) = (o.before ≡ s) × AreFrom (after s o.call) own
 
--- A channel stands for some calls, and then for these of one's own, which led to this state.
-pub record MadeOwn (stands : Opening → List Step → Type 0) (own : List Own) (s : State) : Type 0 where
-  pub start : Opening
-  pub earlier : List Step
+-- From this opening a channel stands for these earlier calls, and then for just these of one's own, which led to this state.
+pub record MadeOwn (stands : Opening → List Step → Type 0) (start : Opening) (earlier : List Step) (own : List Own) (s : State) : Type 0 where
   pub here : stands start (earlier ++ steps_of own)
   pub from : AreFrom (state_after (opening start) earlier) own
   pub state : state_after (opening start) (earlier ++ steps_of own) ≡ s
 
 -- it does so, and they led to some state
-abbrev pub HasMade : (Opening → List Step → Type 0) → List Own → Type 0
-HasMade stands own = (s : State) × MadeOwn stands own s
+abbrev pub HasMade : (Opening → List Step → Type 0) → Opening → List Step → List Own → Type 0
+HasMade stands start earlier own = (s : State) × MadeOwn stands start earlier own s
 
--- Once these were the calls of one's own the channel was in this state, and only some more of one's own followed.
+-- From some opening and earlier calls they led to this state.
 abbrev pub Was : (Opening → List Step → Type 0) → List Own → State → Type 0
-Was stands own s = (more : List Own) × (new : State) × (made : MadeOwn stands (own ++ more) new) × (state_after (opening made.start) (made.earlier ++ steps_of own) ≡ s)
+Was stands own s = (start : Opening) × (earlier : List Step) × MadeOwn stands start earlier own s
 
 -- From calls of one's own and the state that they led to, to more of them and another state, of which P is true behind these calls.
 abbrev pub Goes : (Opening → List Step → Type 0) → (Opening → List Step → Type 0) → (List Own → State → List Own → State → Type 0) → Type 0
-Goes before later P = (own : List Own) (s : State) → MadeOwn before own s → (more : List Own) × (new : State) × MadeOwn later (own ++ more) new × P own s more new
+Goes before later P = (start : Opening) (earlier : List Step) (own : List Own) (s : State) → MadeOwn before start earlier own s → (more : List Own) × (new : State) × MadeOwn later start earlier (own ++ more) new × P own s more new
 
 -- Each history that a channel stood for goes on.
 abbrev pub Continues : (Opening → List Step → Type 0) → (Opening → List Step → Type 0) → Type 0

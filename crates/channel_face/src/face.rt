@@ -1,6 +1,7 @@
 // What a source and a sink see of a channel.
 ghost use Rattle.std.specs.Prelude.{◌≡◌, ◌<◌, ◌≤◌, ℕ, List, All, length};
 ghost use Rattle.channel_face.specs.Faces.{Own, Gains, picked_events, IsPutBatch, IsTakeBegun, IsTake, IsTakeCommit, IsTakeRolledBack};
+ghost use Rattle.channel_face.specs.History.{Opening, Step};
 ghost use Rattle.channel_face.specs.Machine.{State};
 
 use crate::{FaceRefused, TakeTxn};
@@ -8,10 +9,10 @@ use event_core::{Batch, Event};
 
 /// What a source sees of a channel: whole transactions of puts.
 pub trait PutFace {
-    /// These are its own calls of the channel so far, with their replies.
-    ghost own: { Self → List Own → Type 0 };
+    /// Behind this opening and these earlier calls of the channel, these are its own calls so far, with their replies.
+    ghost own: { Self → Opening → List Step → List Own → Type 0 };
 
-    /// The channel was in this state once these were its own calls and no further one was, as far as the face has seen.
+    /// These are its own calls so far, and in this state it left the channel.
     ghost saw: { Self → List Own → State → Type 0 };
 
     /// How many of the channel's calls it has seen.
@@ -20,10 +21,11 @@ pub trait PutFace {
     /// The second is the first after some calls: what never changes of it is the same.
     ghost kept: { Self → Self → Type 0 };
 
-    /// Puts the events at these places of the batch, in order, as one transaction, and answers the number of its first event.
-    /// The transaction is begun, put event by event up to the first refusal, and staged. Where a put or the stage was
-    /// refused, it is rolled back. Where its ticket is not settled when it is then asked for, one flush follows: so several
-    /// callers may be settled by one flush. `InDoubt` comes exactly where the ticket is in doubt or that flush was refused.
+    /// Puts the events at these places of the batch, in order, as one transaction, and answers the number of its first event,
+    /// or without events the next one. The transaction is begun, put event by event up to the first refusal, and staged. Where
+    /// a put or the stage was refused, it is rolled back. Where its ticket is `No` when it is then asked for, one flush follows,
+    /// unless no more calls are counted: so several callers may be settled by one flush. `InDoubt` comes exactly where the
+    /// ticket is in doubt or that flush was refused.
     fn put_batch(&mut self, batch: &Batch, picked: &[u32]) -> Result<u64, FaceRefused>
         requires { All (λ place. place < length batch.now) picked.now }
         ensures seen { seen self.old ≤ seen self.new }
@@ -39,10 +41,10 @@ pub trait PutFace {
 
 /// What a sink sees of a channel: transactions of takes.
 pub trait TakeFace {
-    /// These are its own calls of the channel so far, with their replies.
-    ghost own: { Self → List Own → Type 0 };
+    /// Behind this opening and these earlier calls of the channel, these are its own calls so far, with their replies.
+    ghost own: { Self → Opening → List Step → List Own → Type 0 };
 
-    /// The channel was in this state once these were its own calls and no further one was, as far as the face has seen.
+    /// These are its own calls so far, and in this state it left the channel.
     ghost saw: { Self → List Own → State → Type 0 };
 
     /// How many of the channel's calls it has seen.
@@ -57,15 +59,17 @@ pub trait TakeFace {
         ensures kept { kept self.old self.new }
         ensures calls { Gains (own self.old) (own self.new) (λ earlier. IsTakeBegun (seen self.new) result) };
 
-    /// Takes an event, or none where each event that is left is held by a transaction.
+    /// Takes an event, or none where each event that is left is held by a transaction. After a refusal too the transaction is
+    /// open.
     fn take(&mut self, txn: &mut TakeTxn) -> Result<Option<Event>, FaceRefused>
         ensures seen { seen self.old ≤ seen self.new }
         ensures kept { kept self.old self.new }
         ensures calls { Gains (own self.old) (own self.new) (λ earlier. IsTake (seen self.new) txn.old result) }
         ensures same { txn.new ≡ txn.old };
 
-    /// Stages a transaction. Where the stage was refused, it is rolled back. Where its ticket is not settled when it is then
-    /// asked for, one flush follows. `InDoubt` comes exactly where the ticket is in doubt or that flush was refused.
+    /// Stages a transaction. Where the stage was refused, it is rolled back. Where its ticket is `No` when it is then asked for,
+    /// one flush follows, unless no more calls are counted. `InDoubt` comes exactly where the ticket is in doubt or that flush
+    /// was refused.
     fn commit(&mut self, txn: TakeTxn) -> Result<(), FaceRefused>
         ensures seen { seen self.old ≤ seen self.new }
         ensures kept { kept self.old self.new }

@@ -17,7 +17,7 @@ use Rattle.channel_face.specs.declared.replies.StageCause.{StageCause}
 use Rattle.channel_face.specs.declared.replies.FlushRefused.{FlushRefused}
 use Rattle.channel_face.specs.declared.replies.FaceRefused.{FaceRefused}
 use Rattle.channel_face.specs.declared.replies.FaceRefused.TheVariants as Face
-use Rattle.channel_face.specs.Faces.{Own, one, Gains, Ends, is_spent_begin, is_spent_take, taken_event, begun_as, IsTakeBegun, IsTake, is_spent_put, is_spent_stage, is_spent_flush, in_doubt_unless, IsMade, IsRolledBack, EndsAs, ArePut, ArePutUpTo, IsPutStage, IsTakeCommit, IsPutBatch, EndsPuts, EndsBegin}
+use Rattle.channel_face.specs.Faces.{Own, one, Gains, Ends, is_spent_begin, is_spent_take, taken_event, begun_as, IsTakeBegun, IsTake, is_spent_put, is_spent_stage, is_spent_flush, in_doubt_unless, IsMade, IsRolledBack, IsFound, EndsAs, ArePut, ArePutUpTo, IsPutStage, IsTakeCommit, IsPutBatch, EndsPuts, EndsBegin}
 use Rattle.turn_passes.specs.Calls.{has, keep, calls_by}
 use Rattle.turn_passes.specs.Views.{View, saw}
 use Rattle.turn_passes.specs.Turns.{Making, Made}
@@ -85,29 +85,12 @@ none_between ns a between es l all told own =
 pub went_made : (v w : View) (es : List Step) → (m : Made v es w) → Went v w (own_calls v.numbers (begun v m.0) es)
 went_made v w es m = went_from v w m.0 es m.1 m.2 (none_between v.numbers v.seen m.0 es w.seen m.2 m.3 m.5)
 
--- the same of a turn, from the state in which it was begun, in which a channel stood for all
-pub went_turn : {C : Type 0} (stands : C → Opening → List Step → Type 0) (c : C) (v k w : View) (calls : List Step) → StandsCounting stands c k.base k.seen → Making v [] k → w ≡ saw v w.seen → w.seen ≡ k.seen ++ calls
-    → Went v w (own_calls v.numbers (state_seen k) calls) × Saw stands w (owned v) (state_seen k)
-went_turn stands c v k w calls stood m is all = (
-  subst (λ (s : State). Went v w (own_calls v.numbers s calls)) state (went_from v w m.0 calls is (all ∙ ap (λ l. l ++ calls) here) none),
-  record {
-    channel = c;
-    front = k.seen;
-    begins = (calls, sym all);
-    calls = subst (λ (o : Opening). StandsCounting stands c o k.seen) (sym base) stood;
-    own_then = (λ i. own_calls (ap (λ (x : View). x.numbers) is i) (opening (ap (λ (x : View). x.base) is i)) (here i)) ∙ others v m.0 none;
-    state = ap (λ (o : Opening). state_after (opening o) k.seen) base;
-  },
-)
+-- the same of a turn, from the state in which it was begun
+went_turn : (v k w : View) (calls : List Step) → Making v [] k → w ≡ saw v w.seen → w.seen ≡ k.seen ++ calls → Went v w (own_calls v.numbers (state_seen k) calls)
+went_turn v k w calls m is all = subst (λ (s : State). Went v w (own_calls v.numbers s calls)) state (went_from v w m.0 calls is (all ∙ ap (λ l. l ++ calls) here) (none_between v.numbers v.seen m.0 [] k.seen m.2 m.3 refl))
   where
     here : k.seen ≡ v.seen ++ m.0
     here = m.2 ∙ append-nil (v.seen ++ m.0)
-
-    none : calls_by v.numbers m.0 ≡ []
-    none = none_between v.numbers v.seen m.0 [] k.seen m.2 m.3 refl
-
-    base : w.base ≡ k.base
-    base = ap (λ (x : View). x.base) is ∙ sym (ap (λ (x : View). x.base) m.1)
 
     state : begun v m.0 ≡ state_seen k
     state = λ i. state_after (opening (sym (ap (λ (x : View). x.base) m.1) i)) (sym here i)
@@ -137,7 +120,7 @@ pub goes_grows : (v w : View) (P : List Own → List Own → Type 0) → Goes v 
 goes_grows v w P f = grows v w f.0 f.1
 
 pub gains : (v w : View) (P : List Own → List Own → Type 0) → Goes v w P → Gains (AreOwned v) (AreOwned w) P
-gains v w P f own is = (f.0, ap (λ l. l ++ f.0) is ∙ sym f.1.owned, subst (λ l. P l f.0) (sym is) f.2)
+gains v w P f start earlier own is = (f.0, (is.0 ∙ sym f.1.base, is.1, ap (λ l. l ++ f.0) is.2 ∙ sym f.1.owned), subst (λ l. P l f.0) (sym is.2) f.2)
 
 -- a pass after such calls
 pub later : (p q : Known) (P : List Own → List Own → Type 0) → (q.table_id ≡ p.table_id) × (q.number ≡ p.number) → Goes p.view q.view P → Later p q
@@ -204,7 +187,7 @@ module _ {C : Type 0} (stands : C → Opening → List Step → Type 0) (tells :
       (own_calls v.numbers s (x ∷ []), went_made v w (x ∷ []) m, inl (s, moment c, ap (λ b. own_if b (record { call = rollback true; before = s; moment = moment c }) []) (own_one v.numbers x m.5)))
   rolls false v w by rollback IsStale r =
       let went = went_made v w [] r.0.1.made in
-      let here : Saw stands w (owned v) (state_seen w) = record { channel = r.0.0; front = w.seen; begins = ([], append-nil w.seen); calls = r.0.1.seen.calls; own_then = went.owned ∙ append-nil (owned v); state = refl } in
+      let here : Saw stands w (owned v) (state_seen w) = record { channel = r.0.0; calls = r.0.1.seen.calls; own_all = went.owned ∙ append-nil (owned v); state = refl } in
       ([], went, inr (state_seen w, here, r.1, inl refl))
 
   -- a stage and what follows
@@ -291,7 +274,7 @@ puts_none v token = ([], went_none v, refl)
 -- what a turn's settling did
 pub settles : {S C : Type 0} (stands : C → Opening → List Step → Type 0) (v w : View) (by moment : ℕ) (ticket : Ticket) (sure : Bool) (k : Me (Option S) View) (c d : C) (n : Me (Option S) View) → IsIn stands k c → Making v [] k.0 → has v.numbers by ≡ true → MakesSettled stands by moment ticket sure k d n → w ≡ saw v w.seen → w.seen ≡ n.0.seen → Settles stands v w ticket sure
 settles stands v w by moment ticket sure k c d n inside making own makes is same =
-    (more, g.0, (s, g.1, ends (settled s ticket) makes.2))
+    (more, g, (s, found (settled s ticket) makes.2, ends (settled s ticket) makes.2))
   where
     s : State
     s = state_seen k.0
@@ -299,11 +282,36 @@ settles stands v w by moment ticket sure k c d n inside making own makes is same
     all : w.seen ≡ k.0.seen ++ makes.0
     all = same ∙ makes.1.seen
 
-    g : Went v w (own_calls v.numbers s makes.0) × Saw stands w (owned v) s
-    g = went_turn stands c v k.0 w makes.0 inside.3.calls making is all
-
     more : List Own
     more = own_calls v.numbers s makes.0
+
+    g : Went v w more
+    g = went_turn v k.0 w makes.0 making is all
+
+    base : w.base ≡ k.0.base
+    base = ap (λ (x : View). x.base) is ∙ sym (ap (λ (x : View). x.base) making.1)
+
+    here : makes.0 ≡ [] → Saw stands w (owned v) s
+    here none =
+        let seen : w.seen ≡ k.0.seen = all ∙ ap (λ (l : List Step). k.0.seen ++ l) none ∙ append-nil k.0.seen in
+        record {
+          channel = c;
+          calls = subst (λ (o : Opening). StandsCounting stands c o w.seen) (sym base) (subst (λ (l : List Step). StandsCounting stands c k.0.base l) (sym seen) inside.3.calls);
+          own_all = g.owned ∙ ap (λ (l : List Step). owned v ++ own_calls v.numbers s l) none ∙ append-nil (owned v);
+          state = λ i. state_after (opening (base i)) (seen i);
+        }
+
+    without : makes.0 ≡ [] → IsFound (Saw stands w) (owned v) more s
+    without none = subst (λ (l : List Step). IsFound (Saw stands w) (owned v) (own_calls v.numbers s l) s) (sym none) (here none)
+
+    with_flush : (spent : Bool) (reply : Result (Unit {0}) FlushRefused) → makes.0 ≡ made_if (not spent) (step by (Flush reply) moment) → IsFound (Saw stands w) (owned v) more s
+    with_flush true reply calls = without calls
+    with_flush false reply calls = subst (λ (l : List Own). IsFound (Saw stands w) (owned v) l s) (sym (ap (own_calls v.numbers s) calls ∙ ap (λ b. own_if b (record { call = Flush reply; before = s; moment = moment }) []) own)) refl
+
+    found : (a : Settled) → SettledBy a by moment k.0 makes.0 sure → IsFound (Saw stands w) (owned v) more s
+    found Yes h = without h.0
+    found No h = with_flush (is_spent_flush h.0) h.0 h.1
+    found InDoubt h = without h.0
 
     flushed : (spent : Bool) (reply : Result (Unit {0}) FlushRefused) → makes.0 ≡ made_if (not spent) (step by (Flush reply) moment) → Bounds spent (2 ^ 64 - 1025) (length k.0.seen) → IsMade (length w.seen) spent (Flush reply) s more
     flushed true reply calls bound = (ap (own_calls v.numbers s) calls, let l = ap length all in omega (arith, length-append k.0.seen makes.0))

@@ -30,17 +30,16 @@ own_calls numbers s (step ∷ h) = own_if (has numbers step.pass) (record { call
 abbrev pub owned : View → List Own
 owned v = own_calls v.numbers (opening v.base) v.seen
 
-abbrev pub AreOwned : View → List Own → Type 0
-AreOwned v own = own ≡ owned v
+-- those, behind what the history began with and no calls
+abbrev pub AreOwned : View → Opening → List Step → List Own → Type 0
+AreOwned v start earlier own = (start ≡ v.base) × (earlier ≡ []) × (own ≡ owned v)
 
--- A channel stood for a first part of what the pass has seen, in which these were the pass's own calls, and which led to this state.
+-- A channel stands for all that the pass has seen, in which these are the pass's own calls, and which led to this state.
 pub record Saw {C : Type 0} (stands : C → Opening → List Step → Type 0) (v : View) (own : List Own) (s : State) : Type 0 where
   pub channel : C
-  pub front : List Step
-  pub begins : IsPrefix front v.seen
-  pub calls : StandsCounting stands channel v.base front
-  pub own_then : own_calls v.numbers (opening v.base) front ≡ own
-  pub state : state_after (opening v.base) front ≡ s
+  pub calls : StandsCounting stands channel v.base v.seen
+  pub own_all : owned v ≡ own
+  pub state : state_seen v ≡ s
 
 -- From a view to one that has seen as much or more, and made these calls in it.
 pub record Went (v w : View) (more : List Own) : Type 0 where

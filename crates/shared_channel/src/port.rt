@@ -12,8 +12,8 @@ use flume_host::Steps;
 use std::sync::Wait;
 use std::sync::ledger::Ledger;
 
-/// What a source or a sink has of a shared channel. Each call of a transaction is a turn of its own; a staged transaction is
-/// settled in a further turn, where a flush of another caller may have settled it already.
+/// What a source or a sink has of a shared channel. A call of a transaction takes a turn of its own, and a staged transaction
+/// is settled in a further turn, where a flush of another caller may have settled it already; no clause counts the turns.
 pub struct Port<'a, R, C: Channel> {
     rt: &'a R,
     shared: &'a Shared<C>,
