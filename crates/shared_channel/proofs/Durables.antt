@@ -12,7 +12,7 @@ use Rattle.channel_face.specs.declared.replies.PruneRefused.TheVariants as Prune
 use Rattle.channel_face.specs.declared.replies.OpenCause.{OpenCause}
 use Rattle.channel_face.specs.declared.replies.OpenCause.TheVariants as OpenNo
 use Rattle.turn_passes.specs.Calls.{has}
-use Rattle.turn_passes.specs.Views.{View, counted}
+use Rattle.turn_passes.specs.Views.{View, with_call}
 use Rattle.turn_passes.specs.Turns.{Making}
 use Rattle.shared_channel.specs.Calls.{step, made_if, state_seen, Bounds, IsIn, Makes, Left}
 use Rattle.shared_channel.specs.Durables.{is_spent_check, is_spent_prune, is_spent_open, calls_of, WasBroken, IsReopen, MakesReopen, MakesMended, Reopens, Mends}
@@ -59,7 +59,7 @@ open_spares tells s kept (Err (OpenNo.Spent Calls)) may = absurd (no_open may)
 -- one of the calls was counted that the reply of a reopen may stand for
 abbrev pub CountedOne : {S C : Type 0} → (C → Opening → List Step → Type 0) → ℕ → ℕ → Result (Unit {0}) OpenCause → Me (Option S) View → C → Me (Option S) View → Type 0
 CountedOne stands by moment reply m d w =
-    (e : Step) × IsReopen stands by moment reply d m.0 e × (w ≡ (counted e m.0, m.1)) × ((v : View) (es : List Step) → Making v es m.0 → has v.numbers e.pass ≡ true → Making v (es ++ e ∷ []) w.0)
+    (e : Step) × IsReopen stands by moment reply d m.0 e × (w ≡ (with_call e m.0, m.1)) × ((v : View) (es : List Step) → Making v es m.0 → has v.numbers e.pass ≡ true → Making v (es ++ e ∷ []) w.0)
 
 pub reopen_made : {S C : Type 0} (stands : C → Opening → List Step → Type 0) (tells : C → Bool) (by moment : ℕ) (reply : Result (Unit {0}) OpenCause) (m w : Me (Option S) View) (c d : C) → IsIn stands m c → CountedOne stands by moment reply m d w → is_spent_open reply ≡ false → MakesReopen stands by moment reply m d w
 reopen_made {S} {C} stands tells by moment reply m w c d inside one unspent = (kept, subst (λ (b : Bool). Makes stands by (made_if (not b) s) m d w) (sym unspent) made)

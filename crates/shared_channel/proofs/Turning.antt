@@ -9,7 +9,7 @@ use Rattle.channel_face.specs.declared.replies.Ticket.{Ticket}
 use Rattle.channel_face.specs.declared.replies.StageCause.{StageCause}
 use Rattle.channel_face.specs.declared.replies.CommitRefused.{CommitRefused}
 use Rattle.turn_passes.specs.Calls.{has, calls_by, Below}
-use Rattle.turn_passes.specs.Views.{View, idle, counted, saw, longer, both, settled}
+use Rattle.turn_passes.specs.Views.{View, idle, with_call, saw, longer, both, joined}
 use Rattle.turn_passes.proofs.Histories.{has_left, has-append, all_own, below_front'}
 use Rattle.std.proofs.lemmas.Bool.{cases_lt}
 use Rattle.turn_passes.specs.Turns.{Making, Made, HasAll}
@@ -37,7 +37,7 @@ module _ {S C : Type 0} (stands : C → Opening → List Step → Type 0) (tells
   }
 
   -- a call was made and counted
-  pub makes_kept : (s : Step) (m w : Me (Option S) View) (c d : C) → IsIn stands m c → Keeps stands d m.0.base (m.0.seen ++ s ∷ []) → w ≡ (counted s m.0, m.1) → ((v : View) (es : List Step) → Making v es m.0 → has v.numbers s.pass ≡ true → Making v (es ++ s ∷ []) w.0)
+  pub makes_kept : (s : Step) (m w : Me (Option S) View) (c d : C) → IsIn stands m c → Keeps stands d m.0.base (m.0.seen ++ s ∷ []) → w ≡ (with_call s m.0, m.1) → ((v : View) (es : List Step) → Making v es m.0 → has v.numbers s.pass ≡ true → Making v (es ++ s ∷ []) w.0)
       → Makes stands s.pass (s ∷ []) m d w
   makes_kept s m w c d inside keeps is goes = record {
     within = subst (λ (x : Me (Option S) View). IsIn stands x d) (sym is) (inside.0, inside.1, inside.2, keeps);
@@ -46,7 +46,7 @@ module _ {S C : Type 0} (stands : C → Opening → List Step → Type 0) (tells
     goes_on = goes;
   }
 
-  pub makes_one : Law stands tells → (by : ℕ) (call : Call) (moment : ℕ) (m w : Me (Option S) View) (c d : C) → IsIn stands m c → AddsOne (stands c) (stands d) call moment → is_counted call ≡ true → length m.0.seen < 2 ^ 64 - 1025 → w ≡ (counted (step by call moment) m.0, m.1)
+  pub makes_one : Law stands tells → (by : ℕ) (call : Call) (moment : ℕ) (m w : Me (Option S) View) (c d : C) → IsIn stands m c → AddsOne (stands c) (stands d) call moment → is_counted call ≡ true → length m.0.seen < 2 ^ 64 - 1025 → w ≡ (with_call (step by call moment) m.0, m.1)
       → ((v : View) (es : List Step) → Making v es m.0 → has v.numbers by ≡ true → Making v (es ++ step by call moment ∷ []) w.0) → (made : Bool) → made ≡ true → Makes stands by (made_if made (step by call moment)) m d w
   makes_one law by call moment m w c d inside adds is below new goes made made_is = subst (λ (b : Bool). Makes stands by (made_if b (step by call moment)) m d w) (sym made_is)
       (makes_kept (step by call moment) m w c d inside (keeps_more stands tells law c d m.0.base m.0.seen by call moment adds is (omega arith) inside.3) new goes)
@@ -180,9 +180,9 @@ mark_of : (v : View) (number calls : ℕ) (marks : List Bool) → IsPass (v ∷ 
 mark_of v number calls marks pass n = ⊎_elim (λ (lt : n < length marks). pass.5 n lt) (λ (ge : length marks ≤ n). beyond marks n (omega arith) ∙ sym (not_true (has v.numbers n) (λ h. let lt = pass.6 n h in let same = pass.7 in absurd (omega arith)))) (cases_lt n (length marks))
 
 -- a pass after it took in another
-pub joined : (v w j : View) (number number' calls calls' : ℕ) (mine theirs after : List Bool) → IsPass (v ∷ []) number calls mine → IsPass (w ∷ []) number' calls' theirs → j ≡ settled (both v w) → ((n : ℕ) → has j.numbers n ≡ true → n < j.passes)
+pub pass_joined : (v w j : View) (number number' calls calls' : ℕ) (mine theirs after : List Bool) → IsPass (v ∷ []) number calls mine → IsPass (w ∷ []) number' calls' theirs → j ≡ joined (both v w) → ((n : ℕ) → has j.numbers n ≡ true → n < j.passes)
     → ((n : ℕ) → n < length mine → get_or after n false ≡ (get_or mine n false || get_or theirs n false)) → length after ≡ length mine → IsPass (j ∷ []) number (max calls calls') after
-joined v w j number number' calls calls' mine theirs after p q is below each same = (
+pass_joined v w j number number' calls calls' mine theirs after p q is below each same = (
   refl,
   ap (λ (x : View). x.turn) is ∙ p.1,
   ap (λ (x : View). x.live) is ∙ p.2,

@@ -4,7 +4,7 @@ ghost use Rattle.std.specs.Vec.{vec_capacity};
 ghost use Rattle.channel_face.specs.History.{Opening};
 ghost use Rattle.turn_passes.specs.Calls.{has, AreApart, calls_by};
 ghost use Rattle.turn_passes.specs.Turns.{Has, HasAll};
-ghost use Rattle.turn_passes.specs.Views.{part, both, settled, dealer_of, dealing};
+ghost use Rattle.turn_passes.specs.Views.{part, both, joined, dealer_of, dealing};
 ghost use Rattle.shared_channel.specs.Calls.{Left};
 ghost use Rattle.shared_channel.specs.Counting.{StandsAgreeing};
 ghost use Rattle.shared_channel.specs.Passes.{Known, new_pass, new_passes, IsBlank};
@@ -205,7 +205,7 @@ impl<C: Channel> Shared<C> {
     pub fn join_pass(&self, into: &mut Pass, from: Pass)
         requires { (into.old.table_id ≡ self.now.turn.table.shared.table_id) × (from.table_id ≡ self.now.turn.table.shared.table_id) }
         ensures same { (into.new.table_id ≡ into.old.table_id) × (into.new.number ≡ into.old.number) }
-        ensures view { into.new.view ≡ settled (both into.old.view from.view) }
+        ensures view { into.new.view ≡ joined (both into.old.view from.view) }
         ensures seen { Has into.new.view.seen (part into.old.view) × Has into.new.view.seen (part from.view) }
         ensures one { (from.view.base ≡ into.old.view.base) × (from.view.passes ≡ into.old.view.passes) }
         ensures apart { AreApart into.old.view.numbers from.view.numbers }

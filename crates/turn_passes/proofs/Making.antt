@@ -3,7 +3,7 @@ use Rattle.std.proofs.Common.{◌≡◌, List, [], ◌∷◌, ◌++◌, true, ap
 use Rattle.std.proofs.lemmas.List.{append-nil}
 use mathlib.Core.List.{IsPrefix}
 use Rattle.channel_face.specs.History.{Step}
-use Rattle.turn_passes.specs.Views.{View, entered, idle, counted, saw}
+use Rattle.turn_passes.specs.Views.{View, entered, idle, with_call, saw}
 use Rattle.turn_passes.specs.Calls.{has, calls_by, Below}
 use Rattle.turn_passes.specs.Turns.{Making, Made}
 use Rattle.turn_passes.proofs.Histories.{calls_by-own}
@@ -11,11 +11,11 @@ use Rattle.turn_passes.proofs.Histories.{calls_by-own}
 pub making_none : (v k : View) → k ≡ entered v k.seen → IsPrefix v.seen k.seen → calls_by v.numbers k.seen ≡ calls_by v.numbers v.seen → Below v.passes k.seen → Making v [] k
 making_none v k knew begins calls below = (begins.0, knew, sym begins.1 ∙ sym (append-nil (v.seen ++ begins.0)), calls ∙ sym (append-nil (calls_by v.numbers v.seen)), below, refl)
 
-pub making_more : (v k w : View) (es : List Step) (e : Step) → Making v es k → has v.numbers e.pass ≡ true → Below k.passes (k.seen ++ e ∷ []) → w ≡ counted e k → Making v (es ++ e ∷ []) w
+pub making_more : (v k w : View) (es : List Step) (e : Step) → Making v es k → has v.numbers e.pass ≡ true → Below k.passes (k.seen ++ e ∷ []) → w ≡ with_call e k → Making v (es ++ e ∷ []) w
 making_more v k w es e m own below new =
     let sn : w.seen ≡ k.seen ++ e ∷ [] = ap (λ (x : View). x.seen) new in (
       m.0,
-      new ∙ ap (counted e) m.1 ∙ ap (entered v) (sym sn),
+      new ∙ ap (with_call e) m.1 ∙ ap (entered v) (sym sn),
       sn ∙ ap (λ l. l ++ e ∷ []) m.2 ∙ append_assoc (v.seen ++ m.0) es (e ∷ []),
       ap (calls_by v.numbers) sn ∙ calls_by-own v.numbers k.seen e own ∙ ap (λ l. l ++ e ∷ []) m.3 ∙ append_assoc (calls_by v.numbers v.seen) es (e ∷ []),
       subst (Below v.passes) (sym sn) (subst (λ p. Below p (k.seen ++ e ∷ [])) (ap (λ (x : View). x.passes) m.1) below),

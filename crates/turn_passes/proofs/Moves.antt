@@ -11,7 +11,7 @@ use lib.ListN.{get_elem?}
 use Rattle.atomic_table.specs.Table.{State, Me, Act, keeps, takes, gives, rest, step, Allows, Valid, carried_after, homes_after}
 use Rattle.atomic_table.proofs.Lists.{at_set, set_again, set_here, set_else, exchanged}
 use Rattle.channel_face.specs.History.{Opening, Step}
-use Rattle.turn_passes.specs.Views.{Part, View, nothing, entered, idle, counted}
+use Rattle.turn_passes.specs.Views.{Part, View, nothing, entered, idle, with_call}
 use Rattle.turn_passes.specs.Calls.{has, calls_by, Below}
 use Rattle.turn_passes.specs.Turns.{Heard, Fits, Apart, Held, Kept, Knows, Takes, Reads, Counts, CountsOne, Leaves}
 use Rattle.turn_passes.proofs.Histories.{begins_self, begins_empty, begins_more, below_up, no_numbers, calls_by-other, below-more}
@@ -168,7 +168,7 @@ module _ {C : Type 0} (stands : C → Opening → List Step → Type 0) (base : 
           × Counts e (step 1 0 1 0 maybe.none) me (slice_index ws 0) (w, carried_after me.1 a)
 
       w : View
-      w = counted e me.0
+      w = with_call e me.0
 
       mine : Fits k.log base passes k.turn k.holder k.dealt id me.0
       mine = k.fits id me.0 at

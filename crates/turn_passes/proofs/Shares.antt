@@ -9,9 +9,9 @@ use lib.ListN.{get_elem?}
 use Rattle.atomic_table.specs.Table.{Me, keeps, step, opening, Allows, Splits, Joins}
 use Rattle.atomic_table.proofs.Lists.{at_set, at_longer}
 use Rattle.channel_face.specs.History.{Opening, Step}
-use Rattle.turn_passes.specs.Views.{View, part, dealer, dealing, newcomer, gone, longer, both, settled}
+use Rattle.turn_passes.specs.Views.{View, part, dealer, dealing, newcomer, gone, longer, both, joined}
 use Rattle.turn_passes.specs.Calls.{has, calls_by, Below}
-use Rattle.turn_passes.specs.Turns.{Has, IsOf, Fits, Apart, Held, Kept, Settles}
+use Rattle.turn_passes.specs.Turns.{Has, IsOf, Fits, Apart, Held, Kept, LooksJoined}
 use Rattle.turn_passes.proofs.Histories.{begins_self, begins_empty, nil_of, no_numbers, longer_begins, between, has_either, has_left, has_right, calls_of_both, fresh, below_front, below_next, has_only}
 use Rattle.turn_passes.proofs.Moves.{off, not_true, heard_nothing, fits_set, apart_set, held_set}
 
@@ -163,7 +163,7 @@ module _ {C : Type 0} (stands : C → Opening → List Step → Type 0) (base : 
     shut = k.shut;
     below = k.below;
     room = k.room;
-    fits = fits_set k.log base passes k.turn k.holder k.dealt first other gone (λ j u _ e. fits_set k.log base passes k.turn k.holder k.dealt s.views id (both v w) (λ i y _ e'. k.fits i y e') joined j u e)
+    fits = fits_set k.log base passes k.turn k.holder k.dealt first other gone (λ j u _ e. fits_set k.log base passes k.turn k.holder k.dealt s.views id (both v w) (λ i y _ e'. k.fits i y e') joined_fits j u e)
         record {
           same = λ z. absurd (off z);
           begins = begins_empty k.log;
@@ -194,8 +194,8 @@ module _ {C : Type 0} (stands : C → Opening → List Step → Type 0) (base : 
       held t = let l = longer_begins v.seen w.seen k.log mine.begins theirs.begins in
           let h : v.seen ≡ k.log = (mine.holds t).2 in whole (longer v.seen w.seen) k.log (subst (λ (x : List Step). IsPrefix x (longer v.seen w.seen)) h l.0) l.2
 
-      joined : Fits k.log base passes k.turn k.holder k.dealt id (both v w)
-      joined = record {
+      joined_fits : Fits k.log base passes k.turn k.holder k.dealt id (both v w)
+      joined_fits = record {
         same = mine.same;
         begins = (longer_begins v.seen w.seen k.log mine.begins theirs.begins).2;
         one = record { same = mine.same; begins = mine.begins; calls = mine.calls; among = λ n h. has_left v.numbers w.numbers n h };
@@ -236,8 +236,8 @@ module _ {C : Type 0} (stands : C → Opening → List Step → Type 0) (base : 
           (λ (p : (a.0 ≡ other) × (i ≡ id)). ⊎_elim (λ (q : b.0 ≡ j). absurd (b.4 (sym q ∙ sym e ∙ p.0))) (λ (q : (b.0 ≡ other) × (j ≡ id)). p.1 ∙ sym q.1) b.5)
           a.5
 
-  pub settles : (id : ℕ) (v w : View) → v.live ≡ true → Allows (Kept stands base passes) 1 id (both v w, []) 0 (λ n. n) (Settles (step 1 0 0 0 maybe.none) (both v w, []))
-  settles id v w live s k wide at small = (settled (both v w), keeps, tt, after, (refl, mine_has, theirs_has, theirs, mine.parts, λ n h. let lt = mine.drawn n h in let p = (mine.same live).1 in let r = k.room in omega arith))
+  pub looks_joined : (id : ℕ) (v w : View) → v.live ≡ true → Allows (Kept stands base passes) 1 id (both v w, []) 0 (λ n. n) (LooksJoined (step 1 0 0 0 maybe.none) (both v w, []))
+  looks_joined id v w live s k wide at small = (joined (both v w), keeps, tt, after, (refl, mine_has, theirs_has, theirs, mine.parts, λ n h. let lt = mine.drawn n h in let p = (mine.same live).1 in let r = k.room in omega arith))
     where
       mine : Fits k.log base passes k.turn k.holder k.dealt id (both v w)
       mine = k.fits id (both v w) at
@@ -254,7 +254,7 @@ module _ {C : Type 0} (stands : C → Opening → List Step → Type 0) (base : 
       theirs_has : Has (longer v.seen w.seen) (part w)
       theirs_has = (l.1, between w.numbers w.seen (longer v.seen w.seen) k.log l.1 l.2 mine.other.calls)
 
-      after : Kept stands base passes record { words = slice_set s.words 0 (slice_index s.words 0); homes = s.homes; views = set s.views id (settled (both v w)) }
+      after : Kept stands base passes record { words = slice_set s.words 0 (slice_index s.words 0); homes = s.homes; views = set s.views id (joined (both v w)) }
       after = record {
         log = k.log;
         turn = k.turn;
@@ -263,11 +263,11 @@ module _ {C : Type 0} (stands : C → Opening → List Step → Type 0) (base : 
         words = subst (λ ws. slice_set ws 0 (slice_index ws 0) ≡ length k.log ∷ k.turn ∷ []) (sym k.words) refl;
         known = k.known;
         home = k.home;
-        held = λ one. held_set s.views id (both v w) (settled (both v w)) at (λ t. t) (k.held one);
+        held = λ one. held_set s.views id (both v w) (joined (both v w)) at (λ t. t) (k.held one);
         shut = k.shut;
         below = k.below;
         room = k.room;
-        fits = fits_set k.log base passes k.turn k.holder k.dealt s.views id (settled (both v w)) (λ j u _ e. k.fits j u e)
+        fits = fits_set k.log base passes k.turn k.holder k.dealt s.views id (joined (both v w)) (λ j u _ e. k.fits j u e)
             record {
               same = mine.same;
               begins = mine.begins;
@@ -279,16 +279,16 @@ module _ {C : Type 0} (stands : C → Opening → List Step → Type 0) (base : 
               first = mine.first;
               drawn = mine.drawn;
             };
-        apart = apart_set s.views id (both v w) (settled (both v w)) at (λ n h. h) k.apart;
+        apart = apart_set s.views id (both v w) (joined (both v w)) at (λ n h. h) k.apart;
       }
 
-  pub settles_as : (id : ℕ) (me : Me (Option C) View) (v w : View) → v.live ≡ true → me ≡ (both v w, []) → Allows (Kept stands base passes) 1 id me 0 (λ n. n) (Settles (step 1 0 0 0 maybe.none) me)
-  settles_as id me v w live is = subst (λ (m : Me (Option C) View). Allows (Kept stands base passes) 1 id m 0 (λ n. n) (Settles (step 1 0 0 0 maybe.none) m)) (sym is) (settles id v w live)
+  pub looks_joined_as : (id : ℕ) (me : Me (Option C) View) (v w : View) → v.live ≡ true → me ≡ (both v w, []) → Allows (Kept stands base passes) 1 id me 0 (λ n. n) (LooksJoined (step 1 0 0 0 maybe.none) me)
+  looks_joined_as id me v w live is = subst (λ (m : Me (Option C) View). Allows (Kept stands base passes) 1 id m 0 (λ n. n) (LooksJoined (step 1 0 0 0 maybe.none) m)) (sym is) (looks_joined id v w live)
 
 module _ {C : Type 0} (stands : C → Opening → List Step → Type 0) where
   pub begins_as : (base : Opening) (passes : ℕ) (c : C) (items : List (Option C)) → items ≡ Some c ∷ [] → stands c base [] → Kept stands base passes (opening (0 ∷ 0 ∷ []) items (dealer base passes))
   begins_as base passes c items is ok = subst (λ (l : List (Option C)). Kept stands base passes (opening (0 ∷ 0 ∷ []) l (dealer base passes))) (sym is) (begins stands base passes c ok)
 
 -- a pass after it took in another
-pub joined_ok : (m v w : View) (number : ℕ) → m ≡ settled (both v w) → v.turn ≡ false → v.live ≡ true → has v.numbers number ≡ true → (m.turn ≡ false) × (m.live ≡ true) × (has m.numbers number ≡ true)
+pub joined_ok : (m v w : View) (number : ℕ) → m ≡ joined (both v w) → v.turn ≡ false → v.live ≡ true → has v.numbers number ≡ true → (m.turn ≡ false) × (m.live ≡ true) × (has m.numbers number ≡ true)
 joined_ok m v w number is free live own = (ap (λ (x : View). x.turn) is ∙ free, ap (λ (x : View). x.live) is ∙ live, ap (λ (x : View). has x.numbers number) is ∙ has_left v.numbers w.numbers number own)

@@ -7,7 +7,7 @@ use lib.ListN.{get_elem?}
 use Rattle.atomic_table.specs.Table.{State, Me, Step as TableStep, rest}
 use Rattle.channel_face.specs.History.{Opening, Step}
 use Rattle.turn_passes.specs.Calls.{has, AreApart, calls_by, Below}
-use Rattle.turn_passes.specs.Views.{Part, View, entered, counted, idle, settled, saw}
+use Rattle.turn_passes.specs.Views.{Part, View, entered, with_call, idle, joined, saw}
 
 -- The part begins the history, which has no further call of its numbers, and the view has these numbers.
 pub record Heard (log : List Step) (base : Opening) (passes : ℕ) (numbers : List ℕ) (p : Part) : Type 0 where
@@ -78,7 +78,7 @@ module _ {C : Type 0} where
 
   -- count a call: it is the last of the history
   abbrev pub Counts : Step → TableStep (Option C) → Me (Option C) View → ℕ → Me (Option C) View → Type 0
-  Counts e s m n w = (w ≡ (counted e m.0, m.1)) × Below m.0.passes (m.0.seen ++ e ∷ [])
+  Counts e s m n w = (w ≡ (with_call e m.0, m.1)) × Below m.0.passes (m.0.seen ++ e ∷ [])
 
   -- count a call of which P is true
   abbrev pub CountsOne : (Step → Type 0) → TableStep (Option C) → Me (Option C) View → ℕ → Me (Option C) View → Type 0
@@ -89,8 +89,8 @@ module _ {C : Type 0} where
   Leaves s m n w = w ≡ (idle m.0, rest m.1)
 
   -- look after a join: both had seen beginnings of the history that is seen now, which has no further call of either; both were of one table; no number was with both, and each is one of a pass
-  abbrev pub Settles : TableStep (Option C) → Me (Option C) View → ℕ → Me (Option C) View → Type 0
-  Settles s m n w = (w ≡ (settled m.0, m.1)) × Has m.0.seen m.0.one × Has m.0.seen m.0.other × IsOf m.0 m.0.other × AreApart m.0.one.numbers m.0.other.numbers × ((n : ℕ) → has m.0.numbers n ≡ true → n < m.0.passes)
+  abbrev pub LooksJoined : TableStep (Option C) → Me (Option C) View → ℕ → Me (Option C) View → Type 0
+  LooksJoined s m n w = (w ≡ (joined m.0, m.1)) × Has m.0.seen m.0.one × Has m.0.seen m.0.other × IsOf m.0 m.0.other × AreApart m.0.one.numbers m.0.other.numbers × ((n : ℕ) → has m.0.numbers n ≡ true → n < m.0.passes)
 
 -- A seat with the turn, and the calls that it made in it: what it sees begins with what it saw, ends with these calls, which are its own, and has no other further call of its own.
 abbrev pub Making : View → List Step → View → Type 0

@@ -75,16 +75,16 @@ abbrev pub both : View → View → View
 both v w = record v { seen = longer v.seen w.seen; one = part v; other = part w; numbers = v.numbers ++ w.numbers }
 
 -- what each of the two knew is told, and kept no longer
-abbrev pub settled : View → View
-settled v = record v { one = nothing; other = nothing }
+abbrev pub joined : View → View
+joined v = record v { one = nothing; other = nothing }
 
 -- with the turn, it has seen all of the history
 abbrev pub entered : View → List Step → View
 entered v log = record v { turn = true; seen = log; one = nothing; other = nothing }
 
 -- with the turn, it made this call
-abbrev pub counted : Step → View → View
-counted e v = record v { seen = v.seen ++ e ∷ []; one = nothing; other = nothing }
+abbrev pub with_call : Step → View → View
+with_call e v = record v { seen = v.seen ++ e ∷ []; one = nothing; other = nothing }
 
 -- the turn was given back
 abbrev pub idle : View → View

@@ -1,6 +1,6 @@
 //! The steps at the table.
 ghost use Rattle.turn_passes.specs.Views.{dealer, first_opening, dealing, newcomer, both, gone};
-ghost use Rattle.turn_passes.specs.Turns.{Kept, Takes, Reads, Counts, CountsOne, Leaves, Settles};
+ghost use Rattle.turn_passes.specs.Turns.{Kept, Takes, Reads, Counts, CountsOne, Leaves, LooksJoined};
 
 use crate::guarded::{Guarded, Named, Picked};
 use crate::named::Opened;
@@ -55,10 +55,10 @@ impl<C> Play<Option<C>, SeatView> for Leave {
     ghost then = { Leaves };
 }
 
-pub struct Settle;
+pub struct LookJoined;
 
-impl<C> Play<Option<C>, SeatView> for Settle {
-    ghost then = { Settles };
+impl<C> Play<Option<C>, SeatView> for LookJoined {
+    ghost then = { LooksJoined };
 }
 
 pub struct Deal;

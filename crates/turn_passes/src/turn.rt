@@ -2,12 +2,12 @@
 ghost use Rattle.std.specs.Prelude.{◌≡◌, ◌<◌, ◌+◌, ◌++◌, ◌^◌, [], ◌∷◌, true, false, length, None, MatchOption, ℕ, List, IfOk, IfErr};
 ghost use Rattle.channel_face.specs.History.{Opening, Step};
 ghost use Rattle.turn_passes.specs.Calls.{has, AreApart, Below};
-ghost use Rattle.turn_passes.specs.Views.{View, dealer, dealing, newcomer, both, settled, part, idle, counted};
+ghost use Rattle.turn_passes.specs.Views.{View, dealer, dealing, newcomer, both, joined, part, idle, with_call};
 ghost use Rattle.turn_passes.specs.Turns.{Making, Made, Knows, Has};
 
 use crate::guarded::{Guarded, Named, Picked};
 use crate::named::named;
-use crate::plays::{Both, Count, CountOne, Deal, Leave, Read, Settle, Take, Told, Turns};
+use crate::plays::{Both, Count, CountOne, Deal, Leave, LookJoined, Read, Take, Told, Turns};
 use crate::view::SeatView;
 use atomic_table::{Refused, Seat, Table};
 use std::alloc::{AllocFailed, Global};
@@ -105,14 +105,14 @@ impl<C: Guarded> Turn<C> {
     pub fn join(&self, into: &mut Place<C>, from: Place<C>)
         requires into { (into.old.table_id ≡ self.now.table.shared.table_id) × (into.old.me.0.live ≡ true) × (into.old.me.1 ≡ []) }
         requires from { (from.table_id ≡ self.now.table.shared.table_id) × (from.me.0.turn ≡ false) × (from.me.1 ≡ []) }
-        ensures same { (into.new.table_id ≡ into.old.table_id) × (into.new.me ≡ (settled (both into.old.me.0 from.me.0), [])) }
+        ensures same { (into.new.table_id ≡ into.old.table_id) × (into.new.me ≡ (joined (both into.old.me.0 from.me.0), [])) }
         ensures seen { Has into.new.me.0.seen (part into.old.me.0) × Has into.new.me.0.seen (part from.me.0) }
         ensures one { from.me.0.live ≡ true → (from.me.0.base ≡ into.old.me.0.base) × (from.me.0.passes ≡ into.old.me.0.passes) }
         ensures apart { AreApart into.old.me.0.numbers from.me.0.numbers }
         ensures numbers { (n : ℕ) → has into.new.me.0.numbers n ≡ true → n < into.new.me.0.passes }
     {
         self.table.shared.join_seat::<Both>(into, from);
-        self.table.shared.load::<Settle>(into, 0);
+        self.table.shared.load::<LookJoined>(into, 0);
     }
 
     fn try_enter(&self, seat: &mut Place<C>) -> Option<C>
@@ -210,7 +210,7 @@ impl<C: Guarded> Turn<C> {
         requires turn { (seat.old.me.0.turn ≡ true) × (length seat.old.me.0.seen + 1 < 2 ^ 64) × (seat.old.me.0.live ≡ true) }
         requires own { has seat.old.me.0.numbers E.entry.pass ≡ true }
         ensures same { (seat.new.table_id ≡ seat.old.table_id) × (seat.new.id ≡ seat.old.id) }
-        ensures call { seat.new.me ≡ (counted E.entry seat.old.me.0, seat.old.me.1) }
+        ensures call { seat.new.me ≡ (with_call E.entry seat.old.me.0, seat.old.me.1) }
         ensures making { (v : View) (es : List Step) → Making v es seat.old.me.0 → has v.numbers E.entry.pass ≡ true → Making v (es ++ E.entry ∷ []) seat.new.me.0 }
     {
         let _ = by;
@@ -225,7 +225,7 @@ impl<C: Guarded> Turn<C> {
         requires turn { (seat.old.me.0.turn ≡ true) × (length seat.old.me.0.seen + 1 < 2 ^ 64) × (seat.old.me.0.live ≡ true) }
         requires some { (e : Step) × P.picks e × (has seat.old.me.0.numbers e.pass ≡ true) }
         ensures same { (seat.new.table_id ≡ seat.old.table_id) × (seat.new.id ≡ seat.old.id) }
-        ensures call { (e : Step) × P.picks e × (seat.new.me ≡ (counted e seat.old.me.0, seat.old.me.1)) × ((v : View) (es : List Step) → Making v es seat.old.me.0 → has v.numbers e.pass ≡ true → Making v (es ++ e ∷ []) seat.new.me.0) }
+        ensures call { (e : Step) × P.picks e × (seat.new.me ≡ (with_call e seat.old.me.0, seat.old.me.1)) × ((v : View) (es : List Step) → Making v es seat.old.me.0 → has v.numbers e.pass ≡ true → Making v (es ++ e ∷ []) seat.new.me.0) }
     {
         let _ = by;
         let _ = said;

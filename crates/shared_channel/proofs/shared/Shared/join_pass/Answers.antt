@@ -1,7 +1,7 @@
 use Rattle.std.proofs.Common.{rules, ◌≡◌, [], ◌∷◌, subst, sym, ℕ, List}
-use Rattle.turn_passes.specs.Views.{View, both, settled}
+use Rattle.turn_passes.specs.Views.{View, both, joined}
 use Rattle.shared_channel.specs.Passes.{IsPass}
-use Rattle.shared_channel.proofs.Turning.{joined}
+use Rattle.shared_channel.proofs.Turning.{pass_joined}
 use Rattle.shared_channel.proofs.shared.Shared.join_pass.Goals as goal
 
 pub invariant_of-into : goal.invariant_of-into
@@ -11,9 +11,9 @@ invariant_of-into g c =
     let j = c.join.new.into.me.0 in
     let was : c.into.inside.badge.views ≡ v ∷ [] = search rules in
     let from : c.from.inside.badge.views ≡ w ∷ [] = search rules in
-    let is : j ≡ settled (both v w) = search rules in
+    let is : j ≡ joined (both v w) = search rules in
     let whole : IsPass (j ∷ []) c.into.inside.number _ _ =
-    joined v w j c.into.inside.number c.from.inside.number c.into.inside.calls c.from.inside.calls c.into.inside.marks.items c.from.inside.marks.items c.add_marks.new.into.items
+    pass_joined v w j c.into.inside.number c.from.inside.number c.into.inside.calls c.from.inside.calls c.into.inside.marks.items c.from.inside.marks.items c.add_marks.new.into.items
     (subst (λ (l : List View). IsPass l c.into.inside.number c.into.inside.calls c.into.inside.marks.items) was c.into.invariant)
     (subst (λ (l : List View). IsPass l c.from.inside.number c.from.inside.calls c.from.inside.marks.items) from c.from.invariant)
     is c.join.ensures.numbers c.add_marks.ensures.each c.add_marks.ensures.same in

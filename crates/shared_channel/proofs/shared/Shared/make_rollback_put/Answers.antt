@@ -4,7 +4,7 @@ use Rattle.channel_face.specs.Machine.{RollbackPut}
 use Rattle.channel_face.specs.History.{Step, AddsOne}
 use Rattle.turn_passes.specs.Calls.{has}
 use Rattle.turn_passes.specs.Turns.{Making}
-use Rattle.turn_passes.specs.Views.{View, counted}
+use Rattle.turn_passes.specs.Views.{View, with_call}
 use Rattle.shared_channel.specs.Calls.{step}
 use Rattle.shared_channel.proofs.Keeping.{rolled_put, room_put, stale_put}
 use Rattle.shared_channel.proofs.Turning.{makes_none, makes_kept}
@@ -50,5 +50,5 @@ returns-clause-makes g c =
     let is : same ≡ c.args.txn = (λ i. record { life = c.life-life.ensures i; number = c.number-number.ensures i }) in
     makes_kept S g.C.Channel.tells (step c.args.by (RollbackPut c.args.txn true) m) c.args.seat.now.me c.count.new.seat.me c.args.home.now.channel d c.requires.within
     (rolled_put S g.C.Channel.tells g.met.C.Channel.is_run c.args.home.now.channel d k.base k.seen c.args.by c.args.txn m made c.requires.within.3)
-    (subst (λ (t : Token). c.count.new.seat.me ≡ (counted (step c.args.by (RollbackPut t true) m) k, c.args.seat.now.me.1)) is c.count.ensures.call)
+    (subst (λ (t : Token). c.count.new.seat.me ≡ (with_call (step c.args.by (RollbackPut t true) m) k, c.args.seat.now.me.1)) is c.count.ensures.call)
     (subst (λ (t : Token). (v : View) (es : List Step) → Making v es k → has v.numbers c.args.by ≡ true → Making v (es ++ step c.args.by (RollbackPut t true) m ∷ []) c.count.new.seat.me.0) is c.count.ensures.making)

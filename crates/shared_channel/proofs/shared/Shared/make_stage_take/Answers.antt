@@ -7,7 +7,7 @@ use Rattle.channel_face.proofs.Spent.{stage_take_spares}
 use Rattle.channel_face.specs.History.{Step}
 use Rattle.turn_passes.specs.Calls.{has}
 use Rattle.turn_passes.specs.Turns.{Making}
-use Rattle.turn_passes.specs.Views.{View, counted}
+use Rattle.turn_passes.specs.Views.{View, with_call}
 use Rattle.shared_channel.specs.Calls.{step, state_seen, Bounds}
 use Rattle.shared_channel.proofs.Keeping.{answered_by}
 use Rattle.shared_channel.proofs.Turning.{makes_none, makes_one}
@@ -28,7 +28,7 @@ returns-clause-makes g c =
     let same : Token = record { life = c.life-life.result; number = c.number-number.result } in
     let is : same ≡ c.args.txn = (λ i. record { life = c.life-life.ensures i; number = c.number-number.ensures i }) in
     makes_one S T L c.args.by (StageTake c.args.txn (cause_of reply)) (g.C.Channel.moment d) c.args.seat.now.me c.count.new.seat.me c.args.home.now.channel d c.requires.within c.stage_take-reply.ensures.step refl (search rules)
-    (subst (λ (t : Token). c.count.new.seat.me ≡ (counted (step c.args.by (StageTake t (cause_of reply)) (g.C.Channel.moment d)) k, c.args.seat.now.me.1)) is c.count.ensures.call)
+    (subst (λ (t : Token). c.count.new.seat.me ≡ (with_call (step c.args.by (StageTake t (cause_of reply)) (g.C.Channel.moment d)) k, c.args.seat.now.me.1)) is c.count.ensures.call)
     (subst (λ (t : Token). (v : View) (es : List Step) → Making v es k → has v.numbers c.args.by ≡ true → Making v (es ++ step c.args.by (StageTake t (cause_of reply)) (g.C.Channel.moment d) ∷ []) c.count.new.seat.me.0) is c.count.ensures.making)
     (not (is_spent_stage (cause_of reply))) (ap not unspent)
 
