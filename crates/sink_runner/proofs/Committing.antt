@@ -84,10 +84,10 @@ plain_end seen token batch events (Ok done) own (inr none) = plain_take seen tok
 plain_end seen token batch events (Err turn) own (inl refused) = plain_take seen token (Err refused.1.0) own refused.1.1
 plain_end seen token batch events (Err turn) own (inr memory) = plain_none own memory.0
 
-plain_rolled : (saw : State → Type 0) (token : Token) (own : List Own) → IsTakeRolledBack saw token own → Plain [] own
-plain_rolled saw token own (inl made) = rw made.2 (record { taken = refl; unstaged = refl })
-plain_rolled saw token own (inr (s, was, stale, inl none)) = plain_none own none
-plain_rolled saw token own (inr (s, was, stale, inr made)) = rw made.1 (record { taken = refl; unstaged = refl })
+plain_rolled : (saw : List Own → State → Type 0) (token : Token) (earlier own : List Own) → IsTakeRolledBack saw token earlier own → Plain [] own
+plain_rolled saw token earlier own (inl made) = rw made.2 (record { taken = refl; unstaged = refl })
+plain_rolled saw token earlier own (inr (s, was, stale, inl none)) = plain_none own none
+plain_rolled saw token earlier own (inr (s, was, stale, inr made)) = rw made.1 (record { taken = refl; unstaged = refl })
 
 made_gives_none : (seen : ℕ) (spent : Bool) (call : Call) (s : State) (own : List Own) → given_by call ≡ [] → IsMade seen spent call s own → taken_by own ≡ []
 made_gives_none seen false call s own none made = rw made.1 (append-nil (given_by call) ∙ none)
@@ -98,29 +98,29 @@ end_gives_none seen s Yes own sure is = rw is.0 refl
 end_gives_none seen s No own sure is = made_gives_none seen (is_spent_flush is.0) (Flush is.0) s own refl is.1
 end_gives_none seen s InDoubt own sure is = rw is.0 refl
 
-stage_gives_none : (saw : State → Type 0) (seen : ℕ) (token : Token) (reply : Result Ticket StageCause) (own : List Own) (result : Result (Unit {0}) FaceRefused) → EndsTakeStage saw seen token reply own result → taken_by own ≡ []
-stage_gives_none saw seen token (Err cause) own result is = (plain_rolled saw token own is.0).taken
-stage_gives_none saw seen token (Ok ticket) own result is = end_gives_none seen is.1.0 (settled is.1.0 ticket) own is.0 is.1.2
+stage_gives_none : (saw : List Own → State → Type 0) (seen : ℕ) (token : Token) (reply : Result Ticket StageCause) (earlier own : List Own) (result : Result (Unit {0}) FaceRefused) → EndsTakeStage saw seen token reply earlier own result → taken_by own ≡ []
+stage_gives_none saw seen token (Err cause) earlier own result is = (plain_rolled saw token earlier own is.0).taken
+stage_gives_none saw seen token (Ok ticket) earlier own result is = end_gives_none seen is.1.0 (settled is.1.0 ticket) own is.0 is.1.2
 
-commit_gives_none : (saw : State → Type 0) (seen : ℕ) (token : Token) (result : Result (Unit {0}) FaceRefused) (own : List Own) → IsTakeCommit saw seen token result own → taken_by own ≡ []
-commit_gives_none saw seen token result own is =
-    rw (is.4, taken-append, made_gives_none seen (is_spent_stage is.0) (StageTake token is.0) is.1 is.2 refl is.5) (stage_gives_none saw seen token is.0 is.3 result is.6)
+commit_gives_none : (saw : List Own → State → Type 0) (seen : ℕ) (token : Token) (result : Result (Unit {0}) FaceRefused) (earlier own : List Own) → IsTakeCommit saw seen token result earlier own → taken_by own ≡ []
+commit_gives_none saw seen token result earlier own is =
+    rw (is.4, taken-append, made_gives_none seen (is_spent_stage is.0) (StageTake token is.0) is.1 is.2 refl is.5) (stage_gives_none saw seen token is.0 (earlier ++ is.2) is.3 result is.6)
 
-module _ {S : Type 0} (saw : State → Type 0) (seen : ℕ) (delivers : S → List Content → ℕ → Result (Unit {0}) SinkRefused → S → Type 0) (batch moment : ℕ) (sink after : S) (turn : Turn) where
-  by_answer : (token : Token) (event : Content) (events : List Content) (ending : List Own) (answer : Result (Unit {0}) SinkRefused) → delivers sink (event ∷ events) moment answer after → EndsDelivery saw seen token (event ∷ events) answer turn ending → commits ending ≡ true → delivers sink ((event ∷ events) ++ taken_by ending) moment (Ok tt) after
-  by_answer token event events ending (Ok unit) done ends staged =
-      let all : (event ∷ events) ++ taken_by ending ≡ event ∷ events = ap (λ (l : List Content). (event ∷ events) ++ l) (commit_gives_none saw seen token ends.0 ending ends.1) ∙ append-nil (event ∷ events) in
+module _ {S : Type 0} (saw : List Own → State → Type 0) (seen : ℕ) (delivers : S → List Content → ℕ → Result (Unit {0}) SinkRefused → S → Type 0) (batch moment : ℕ) (sink after : S) (turn : Turn) where
+  by_answer : (token : Token) (event : Content) (events : List Content) (earlier ending : List Own) (answer : Result (Unit {0}) SinkRefused) → delivers sink (event ∷ events) moment answer after → EndsDelivery saw seen token (event ∷ events) answer turn earlier ending → commits ending ≡ true → delivers sink ((event ∷ events) ++ taken_by ending) moment (Ok tt) after
+  by_answer token event events earlier ending (Ok unit) done ends staged =
+      let all : (event ∷ events) ++ taken_by ending ≡ event ∷ events = ap (λ (l : List Content). (event ∷ events) ++ l) (commit_gives_none saw seen token ends.0 earlier ending ends.1) ∙ append-nil (event ∷ events) in
       subst (λ (l : List Content). delivers sink l moment (Ok tt) after) (sym all) done
-  by_answer token event events ending (Err why) done ends staged = absurd (false≢true (sym (plain_rolled saw token ending ends.0).unstaged ∙ staged))
+  by_answer token event events earlier ending (Err why) done ends staged = absurd (false≢true (sym (plain_rolled saw token earlier ending ends.0).unstaged ∙ staged))
 
-  by_stop : (token : Token) (events : List Content) (ending : List Own) (stop : Result (Unit {0}) Turn) → EndsTurn saw seen delivers token events moment sink stop turn after ending → commits ending ≡ true → delivers sink (events ++ taken_by ending) moment (Ok tt) after
-  by_stop token [] ending (Ok done) ends staged = absurd (false≢true (sym (plain_rolled saw token ending ends.0).unstaged ∙ staged))
-  by_stop token (event ∷ events) ending (Ok done) ends staged = by_answer token event events ending ends.0 ends.1 ends.2 staged
-  by_stop token events ending (Err over) ends staged = absurd (false≢true (sym (plain_rolled saw token ending ends.0).unstaged ∙ staged))
+  by_stop : (token : Token) (events : List Content) (earlier ending : List Own) (stop : Result (Unit {0}) Turn) → EndsTurn saw seen delivers token events moment sink stop turn after earlier ending → commits ending ≡ true → delivers sink (events ++ taken_by ending) moment (Ok tt) after
+  by_stop token [] earlier ending (Ok done) ends staged = absurd (false≢true (sym (plain_rolled saw token earlier ending ends.0).unstaged ∙ staged))
+  by_stop token (event ∷ events) earlier ending (Ok done) ends staged = by_answer token event events earlier ending ends.0 ends.1 ends.2 staged
+  by_stop token events earlier ending (Err over) ends staged = absurd (false≢true (sym (plain_rolled saw token earlier ending ends.0).unstaged ∙ staged))
 
-  by_begun : (first rest : List Own) (begun : Result Token FaceRefused) → Plain [] first → EndsBegin saw seen delivers batch moment sink begun turn after rest → commits (first ++ rest) ≡ true → delivers sink (taken_by (first ++ rest)) moment (Ok tt) after
-  by_begun first rest (Err refused) plain ends staged = absurd (false≢true (ap commits (sym ends.0) ∙ sym (plain_then [] first rest plain) ∙ staged))
-  by_begun first rest (Ok token) plain ends staged =
+  by_begun : (earlier first rest : List Own) (begun : Result Token FaceRefused) → Plain [] first → EndsBegin saw seen delivers batch moment sink begun turn after (earlier ++ first) rest → commits (first ++ rest) ≡ true → delivers sink (taken_by (first ++ rest)) moment (Ok tt) after
+  by_begun earlier first rest (Err refused) plain ends staged = absurd (false≢true (ap commits (sym ends.0) ∙ sym (plain_then [] first rest plain) ∙ staged))
+  by_begun earlier first rest (Ok token) plain ends staged =
       let events = ends.0 in
       let takes = ends.2 in
       let ending = ends.3 in
@@ -129,7 +129,7 @@ module _ {S : Type 0} (saw : State → Type 0) (seen : ℕ) (delivers : S → Li
       let last : commits ending ≡ true = sym (plain_then (events ++ []) takes ending part) ∙ ap commits (sym ends.4) ∙ sym (plain_then [] first rest plain) ∙ staged in
       let all : taken_by (first ++ rest) ≡ events ++ taken_by ending =
       taken-append first rest ∙ ap (λ (l : List Content). l ++ taken_by rest) plain.taken ∙ ap taken_by ends.4 ∙ taken-append takes ending ∙ ap (λ (l : List Content). l ++ taken_by ending) (part.taken ∙ append-nil events) in
-      rw all (by_stop token events ending ends.1 ends.6 last)
+      rw all (by_stop token events ((earlier ++ first) ++ takes) ending ends.1 ends.6 last)
 
-  pub delivered_first : (own : List Own) → IsTurn saw seen delivers batch moment sink turn after own → commits own ≡ true → delivers sink (taken_by own) moment (Ok tt) after
-  delivered_first own is staged = rw is.3 (by_begun is.1 is.2 is.0 (plain_begin seen is.0 is.1 is.4) is.5 (rw is.3 at staged))
+  pub delivered_first : (earlier own : List Own) → IsTurn saw seen delivers batch moment sink turn after earlier own → commits own ≡ true → delivers sink (taken_by own) moment (Ok tt) after
+  delivered_first earlier own is staged = rw is.3 (by_begun earlier is.1 is.2 is.0 (plain_begin seen is.0 is.1 is.4) is.5 (rw is.3 at staged))

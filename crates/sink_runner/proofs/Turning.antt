@@ -1,36 +1,32 @@
 -- Calls of a face, one after the other, in a turn.
-use Rattle.std.proofs.Common.{◌≡◌, ◌∙◌, ◌<◌, ◌≤◌, ◌⊎◌, inl, inr, ap, sym, refl, subst, ℕ, List, [], ◌∷◌, ◌++◌, length, take, append-nil, append_assoc, Bool, true, false, Option, Some, None, Result, Ok, Err, arith}
+use Rattle.std.proofs.Common.{◌≡◌, ◌∙◌, ◌<◌, ◌≤◌, ◌⊎◌, inl, inr, ap, sym, refl, subst, ℕ, List, [], ◌∷◌, ◌++◌, length, take, append-nil, append_assoc, Bool, true, false, IsTrue, ◌↔◌, Option, Some, None, Result, Ok, Err, arith}
 use Rattle.std.proofs.lemmas.List.{length-append, take-append-le, take_all}
-use Rattle.std.proofs.lemmas.Bool.{cases_order}
+use Rattle.std.proofs.lemmas.Bool.{cases_order, false≢true}
 use Rattle.event_core.specs.Content.{Content}
-use Rattle.channel_face.specs.Faces.{Own, Gains, IsMade, IsTakeBegun, IsTake, IsTakeRolledBack}
+use Rattle.channel_face.specs.Faces.{Own, Gains, IsMade, IsTakeBegun, IsTake, IsTakeCommit, IsTakeRolledBack}
 use Rattle.channel_face.specs.Machine.{State, Call}
 use Rattle.channel_face.specs.Token.{Token}
 use Rattle.channel_face.specs.declared.replies.FaceRefused.{FaceRefused}
 use Rattle.plug_in.specs.declared.sink.SinkRefused.{SinkRefused}
 use Rattle.sink_runner.specs.declared.turn.Turn.{Turn}
-use Rattle.sink_runner.specs.Turns.{HasRoom, HadRoom, AreTaken, EndsTaking, AreTakenUpTo, IsHandedOver, IsTurn}
-
--- no call
-pub gains_none : (own : List Own → Type 0) → Gains own own (λ more. more ≡ [])
-gains_none own calls is = ([], subst own (sym (append-nil calls)) is, refl)
+use Rattle.sink_runner.specs.Turns.{HasRoom, HadRoom, AreTaken, EndsTaking, AreTakenUpTo, IsHandedOver, IsTurn, delivered}
 
 -- calls, and then further ones
-pub gains_then : (before between later : List Own → Type 0) (P Q R : List Own → Type 0) → Gains before between P → Gains between later Q → ((x y : List Own) → P x → Q y → R (x ++ y)) → Gains before later R
+pub gains_then : (before between later : List Own → Type 0) (P Q R : List Own → List Own → Type 0) → Gains before between P → Gains between later Q → ((earlier x y : List Own) → P earlier x → Q (earlier ++ x) y → R earlier (x ++ y)) → Gains before later R
 gains_then before between later P Q R first second join calls is =
     let a = first calls is in
     let b = second (calls ++ a.0) a.1 in
-    (a.0 ++ b.0, subst later (append_assoc calls a.0 b.0) b.1, join a.0 b.0 a.2 b.2)
+    (a.0 ++ b.0, subst later (append_assoc calls a.0 b.0) b.1, join calls a.0 b.0 a.2 b.2)
 
 -- the same of three rows of calls
-pub gains_three : (a b c d : List Own → Type 0) (P Q R T : List Own → Type 0) → Gains a b P → Gains b c Q → Gains c d R → ((x y z : List Own) → P x → Q y → R z → T (x ++ (y ++ z))) → Gains a d T
+pub gains_three : (a b c d : List Own → Type 0) (P Q R T : List Own → List Own → Type 0) → Gains a b P → Gains b c Q → Gains c d R → ((earlier x y z : List Own) → P earlier x → Q (earlier ++ x) y → R ((earlier ++ x) ++ y) z → T earlier (x ++ (y ++ z))) → Gains a d T
 gains_three a b c d P Q R T first second third join =
-    let Both : List Own → Type 0 = λ l. ((y z : List Own) × (l ≡ y ++ z) × Q y × R z) in
-    let both : Gains b d Both = gains_then b c d Q R Both second third (λ y z p q. (y, z, refl, p, q)) in
-    gains_then a b d P Both T first both (λ x l p q. subst (λ (m : List Own). T (x ++ m)) (sym q.2) (join x q.0 q.1 p q.3 q.4))
+    let Both : List Own → List Own → Type 0 = λ earlier l. ((y z : List Own) × (l ≡ y ++ z) × Q earlier y × R (earlier ++ y) z) in
+    let both : Gains b d Both = gains_then b c d Q R Both second third (λ earlier y z p q. (y, z, refl, p, q)) in
+    gains_then a b d P Both T first both (λ earlier x l p q. subst (λ (m : List Own). T earlier (x ++ m)) (sym q.2) (join earlier x q.0 q.1 p q.3 q.4))
 
-pub gains_so : (before later : List Own → Type 0) (P Q : List Own → Type 0) → Gains before later P → ((x : List Own) → P x → Q x) → Gains before later Q
-gains_so before later P Q gained weaker calls is = let a = gained calls is in (a.0, a.1, weaker a.0 a.2)
+pub gains_so : (before later : List Own → Type 0) (P Q : List Own → List Own → Type 0) → Gains before later P → ((earlier x : List Own) → P earlier x → Q earlier x) → Gains before later Q
+gains_so before later P Q gained weaker calls is = let a = gained calls is in (a.0, a.1, weaker calls a.0 a.2)
 
 made_later : (seen later : ℕ) → seen ≤ later → (spent : Bool) (call : Call) (s : State) (own : List Own) → IsMade seen spent call s own → IsMade later spent call s own
 made_later seen later up false call s own is = is
@@ -73,26 +69,34 @@ room_more batch events event had has k below =
     let within : k ≤ length events = omega (arith, below, length-append events (event ∷ [])) in
     subst (HasRoom batch) (sym (take-append-le k events (event ∷ []) within)) (room_at batch events had has k (cases_order k (length events)) within)
 
-module _ {S : Type 0} (saw : State → Type 0) (delivers : S → List Content → ℕ → Result (Unit {0}) SinkRefused → S → Type 0) (batch moment : ℕ) (sink after : S) (first second seen : ℕ) (early : first ≤ seen) (late : second ≤ seen) (token : Token) (turn : Turn) where
+module _ {S : Type 0} (saw : List Own → State → Type 0) (delivers : S → List Content → ℕ → Result (Unit {0}) SinkRefused → S → Type 0) (batch moment : ℕ) (sink after : S) (first second seen : ℕ) (early : first ≤ seen) (late : second ≤ seen) (token : Token) (turn : Turn) where
   -- what was taken is handed over
-  pub turn_handed : (events : List Content) (x y z : List Own) → IsTakeBegun first (Ok token) x → AreTakenUpTo second token batch events (Ok tt) y → IsHandedOver saw seen delivers token events moment sink turn after z → IsTurn saw seen delivers batch moment sink turn after (x ++ (y ++ z))
-  turn_handed events x y z begun taken handed =
+  pub turn_handed : (events : List Content) (earlier x y z : List Own) → IsTakeBegun first (Ok token) x → AreTakenUpTo second token batch events (Ok tt) y → IsHandedOver saw seen delivers token events moment sink turn after ((earlier ++ x) ++ y) z → IsTurn saw seen delivers batch moment sink turn after earlier (x ++ (y ++ z))
+  turn_handed events earlier x y z begun taken handed =
       (Ok token, x, y ++ z, refl, begun_later first seen early (Ok token) x begun, (events, Ok tt, y, z, refl, up_to_later second seen late token batch events (Ok tt) y taken, handed))
 
   -- the turn is over
-  pub turn_over : (x y z : List Own) → IsTakeBegun first (Ok token) x → ((events : List Content) × AreTakenUpTo second token batch events (Err turn) y) → IsTakeRolledBack saw token z → after ≡ sink → IsTurn saw seen delivers batch moment sink turn after (x ++ (y ++ z))
-  turn_over x y z begun taken rolled same =
+  pub turn_over : (earlier x y z : List Own) → IsTakeBegun first (Ok token) x → ((events : List Content) × AreTakenUpTo second token batch events (Err turn) y) → IsTakeRolledBack saw token ((earlier ++ x) ++ y) z → after ≡ sink → IsTurn saw seen delivers batch moment sink turn after earlier (x ++ (y ++ z))
+  turn_over earlier x y z begun taken rolled same =
       (Ok token, x, y ++ z, refl, begun_later first seen early (Ok token) x begun, (taken.0, Err turn, y, z, refl, up_to_later second seen late token batch taken.0 (Err turn) y taken.1, (rolled, refl, same)))
 
-module _ (a b c : List Own → Type 0) (before seen : ℕ) (up : before ≤ seen) (token : Token) (events : List Content) (so_far : Gains a b (AreTaken before token events)) where
+-- the commit was answered so behind a delivery of some events
+pub handed_commit : {S : Type 0} (saw : List Own → State → Type 0) (seen : ℕ) (delivers : S → List Content → ℕ → Result (Unit {0}) SinkRefused → S → Type 0) (token : Token) (events : List Content) (moment : ℕ) (sink after : S) (turn : Turn)
+    (before later : List Own → Type 0) (committed : Result (Unit {0}) FaceRefused) (none : Bool) → (IsTrue none ↔ (events ≡ [])) → none ≡ false → delivers sink events moment (Ok tt) after → turn ≡ delivered (length events) committed
+    → Gains before later (IsTakeCommit saw seen token committed) → Gains before later (IsHandedOver saw seen delivers token events moment sink turn after)
+handed_commit saw seen delivers token [] moment sink after turn before later committed none empty some done is commit own here = absurd (false≢true (sym some ∙ empty.1 refl))
+handed_commit saw seen delivers token (event ∷ events) moment sink after turn before later committed none empty some done is commit own here =
+    let made = commit own here in (made.0, made.1, (Ok tt, done, (committed, made.2, is)))
+
+module _ (a b c : List Own → Type 0) (before seen : ℕ) (up : before ≤ seen) (token : Token) (events : List Content) (so_far : Gains a b (λ earlier. AreTaken before token events)) where
   -- a take gave one more event
-  pub one_taken : (event : Content) → Gains b c (IsTake seen token (Ok (Some event))) → Gains a c (AreTaken seen token (events ++ event ∷ []))
+  pub one_taken : (event : Content) → Gains b c (λ earlier. IsTake seen token (Ok (Some event))) → Gains a c (λ earlier. AreTaken seen token (events ++ event ∷ []))
   one_taken event more =
-      gains_then a b c (AreTaken before token events) (IsTake seen token (Ok (Some event))) (AreTaken seen token (events ++ event ∷ [])) so_far more
-      (λ x y p q. taken_more seen token events event x y (taken_later before seen up token events x p) q)
+      gains_then a b c (λ earlier. AreTaken before token events) (λ earlier. IsTake seen token (Ok (Some event))) (λ earlier. AreTaken seen token (events ++ event ∷ [])) so_far more
+      (λ earlier x y p q. taken_more seen token events event x y (taken_later before seen up token events x p) q)
 
   -- the takes ended
-  pub taken_all : (batch : ℕ) (stop : Result (Unit {0}) Turn) (P : List Own → Type 0) → HadRoom batch events → Gains b c P → ((y : List Own) → P y → EndsTaking seen token batch events stop y) → Gains a c (AreTakenUpTo seen token batch events stop)
+  pub taken_all : (batch : ℕ) (stop : Result (Unit {0}) Turn) (P : List Own → Type 0) → HadRoom batch events → Gains b c (λ earlier. P) → ((y : List Own) → P y → EndsTaking seen token batch events stop y) → Gains a c (λ earlier. AreTakenUpTo seen token batch events stop)
   taken_all batch stop P had last ends =
-      gains_then a b c (AreTaken before token events) P (AreTakenUpTo seen token batch events stop) so_far last
-      (λ x y p q. (had, (x, y, refl, taken_later before seen up token events x p, ends y q)))
+      gains_then a b c (λ earlier. AreTaken before token events) (λ earlier. P) (λ earlier. AreTakenUpTo seen token batch events stop) so_far last
+      (λ earlier x y p q. (had, (x, y, refl, taken_later before seen up token events x p, ends y q)))

@@ -31,6 +31,6 @@ commits [] = false
 commits (own ∷ calls) = is_stage own.call || commits calls
 
 -- a turn that goes to commit has delivered just the events that it took, in order, and the delivery answered Ok
-abbrev pub CommitsWhatItDelivered : {S : Type 0} → (State → Type 0) → ℕ → (S → List Content → ℕ → Result (Unit {0}) SinkRefused → S → Type 0) → Type 0
+abbrev pub CommitsWhatItDelivered : {S : Type 0} → (List Own → State → Type 0) → ℕ → (S → List Content → ℕ → Result (Unit {0}) SinkRefused → S → Type 0) → Type 0
 CommitsWhatItDelivered {S} saw seen delivers =
-    (batch moment : ℕ) (sink after : S) (turn : Turn) (own : List Own) → IsTurn saw seen delivers batch moment sink turn after own → commits own ≡ true → delivers sink (taken_by own) moment (Ok tt) after
+    (batch moment : ℕ) (sink after : S) (turn : Turn) (earlier own : List Own) → IsTurn saw seen delivers batch moment sink turn after earlier own → commits own ≡ true → delivers sink (taken_by own) moment (Ok tt) after

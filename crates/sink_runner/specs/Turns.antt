@@ -46,7 +46,8 @@ HasRoom batch events = (length events < batch) × (sum_by size events < 16777216
 abbrev pub HadRoom : ℕ → List Content → Type 0
 HadRoom batch events = (k : ℕ) → k < length events → HasRoom batch (take k events)
 
--- Below, `saw` are the states in which the face has seen the channel, and `seen` is how many of the channel's calls it has seen.
+-- Below, `saw own s` where the face has seen the channel in the state s once `own` were its own calls and no further one was, `seen` is how
+-- many of the channel's calls it has seen, and `earlier` are its own calls so far.
 
 -- takes gave these events, in order
 abbrev pub AreTaken : ℕ → Token → List Content → List Own → Type 0
@@ -70,29 +71,29 @@ IsTaking seen token batch taken (Ok done) own = AreTakenUpTo seen token batch ta
 IsTaking seen token batch taken (Err turn) own = (events : List Content) × AreTakenUpTo seen token batch events (Err turn) own
 
 -- The delivery was answered so: the transaction is committed where it was Ok, and rolled back otherwise.
-abbrev pub EndsDelivery : (State → Type 0) → ℕ → Token → List Content → Result (Unit {0}) SinkRefused → Turn → List Own → Type 0
-EndsDelivery saw seen token events (Ok done) turn own = (committed : Result (Unit {0}) FaceRefused) × IsTakeCommit saw seen token committed own × (turn ≡ delivered (length events) committed)
-EndsDelivery saw seen token events (Err refused) turn own = IsTakeRolledBack saw token own × (turn ≡ not_delivered refused)
+abbrev pub EndsDelivery : (List Own → State → Type 0) → ℕ → Token → List Content → Result (Unit {0}) SinkRefused → Turn → List Own → List Own → Type 0
+EndsDelivery saw seen token events (Ok done) turn earlier own = (committed : Result (Unit {0}) FaceRefused) × IsTakeCommit saw seen token committed earlier own × (turn ≡ delivered (length events) committed)
+EndsDelivery saw seen token events (Err refused) turn earlier own = IsTakeRolledBack saw token earlier own × (turn ≡ not_delivered refused)
 
 -- What was taken is delivered, whole and in order. Where nothing was, the transaction is rolled back.
-abbrev pub IsHandedOver : {S : Type 0} → (State → Type 0) → ℕ → (S → List Content → ℕ → Result (Unit {0}) SinkRefused → S → Type 0) → Token → List Content → ℕ → S → Turn → S → List Own → Type 0
-IsHandedOver saw seen delivers token [] moment sink turn after own = IsTakeRolledBack saw token own × (turn ≡ Empty) × (after ≡ sink)
-IsHandedOver saw seen delivers token (event ∷ events) moment sink turn after own =
-    (answer : Result (Unit {0}) SinkRefused) × delivers sink (event ∷ events) moment answer after × EndsDelivery saw seen token (event ∷ events) answer turn own
+abbrev pub IsHandedOver : {S : Type 0} → (List Own → State → Type 0) → ℕ → (S → List Content → ℕ → Result (Unit {0}) SinkRefused → S → Type 0) → Token → List Content → ℕ → S → Turn → S → List Own → List Own → Type 0
+IsHandedOver saw seen delivers token [] moment sink turn after earlier own = IsTakeRolledBack saw token earlier own × (turn ≡ Empty) × (after ≡ sink)
+IsHandedOver saw seen delivers token (event ∷ events) moment sink turn after earlier own =
+    (answer : Result (Unit {0}) SinkRefused) × delivers sink (event ∷ events) moment answer after × EndsDelivery saw seen token (event ∷ events) answer turn earlier own
 
 -- The takes ended so: what was taken is handed over, or the turn is over and the transaction is rolled back.
-abbrev pub EndsTurn : {S : Type 0} → (State → Type 0) → ℕ → (S → List Content → ℕ → Result (Unit {0}) SinkRefused → S → Type 0) → Token → List Content → ℕ → S → Result (Unit {0}) Turn → Turn → S → List Own → Type 0
-EndsTurn saw seen delivers token events moment sink (Ok done) turn after own = IsHandedOver saw seen delivers token events moment sink turn after own
-EndsTurn saw seen delivers token events moment sink (Err over) turn after own = IsTakeRolledBack saw token own × (turn ≡ over) × (after ≡ sink)
+abbrev pub EndsTurn : {S : Type 0} → (List Own → State → Type 0) → ℕ → (S → List Content → ℕ → Result (Unit {0}) SinkRefused → S → Type 0) → Token → List Content → ℕ → S → Result (Unit {0}) Turn → Turn → S → List Own → List Own → Type 0
+EndsTurn saw seen delivers token events moment sink (Ok done) turn after earlier own = IsHandedOver saw seen delivers token events moment sink turn after earlier own
+EndsTurn saw seen delivers token events moment sink (Err over) turn after earlier own = IsTakeRolledBack saw token earlier own × (turn ≡ over) × (after ≡ sink)
 
 -- the begin was answered so
-abbrev pub EndsBegin : {S : Type 0} → (State → Type 0) → ℕ → (S → List Content → ℕ → Result (Unit {0}) SinkRefused → S → Type 0) → ℕ → ℕ → S → Result Token FaceRefused → Turn → S → List Own → Type 0
-EndsBegin saw seen delivers batch moment sink (Err refused) turn after own = (own ≡ []) × (turn ≡ turn_refused refused) × (after ≡ sink)
-EndsBegin saw seen delivers batch moment sink (Ok token) turn after own =
+abbrev pub EndsBegin : {S : Type 0} → (List Own → State → Type 0) → ℕ → (S → List Content → ℕ → Result (Unit {0}) SinkRefused → S → Type 0) → ℕ → ℕ → S → Result Token FaceRefused → Turn → S → List Own → List Own → Type 0
+EndsBegin saw seen delivers batch moment sink (Err refused) turn after earlier own = (own ≡ []) × (turn ≡ turn_refused refused) × (after ≡ sink)
+EndsBegin saw seen delivers batch moment sink (Ok token) turn after earlier own =
     (events : List Content) × (stop : Result (Unit {0}) Turn) × (takes ending : List Own) × (own ≡ takes ++ ending) × AreTakenUpTo seen token batch events stop takes
-    × EndsTurn saw seen delivers token events moment sink stop turn after ending
+    × EndsTurn saw seen delivers token events moment sink stop turn after (earlier ++ takes) ending
 
 -- One turn: a transaction is begun, events are taken, and they are handed over.
-abbrev pub IsTurn : {S : Type 0} → (State → Type 0) → ℕ → (S → List Content → ℕ → Result (Unit {0}) SinkRefused → S → Type 0) → ℕ → ℕ → S → Turn → S → List Own → Type 0
-IsTurn saw seen delivers batch moment sink turn after own =
-    (begun : Result Token FaceRefused) × (first rest : List Own) × (own ≡ first ++ rest) × IsTakeBegun seen begun first × EndsBegin saw seen delivers batch moment sink begun turn after rest
+abbrev pub IsTurn : {S : Type 0} → (List Own → State → Type 0) → ℕ → (S → List Content → ℕ → Result (Unit {0}) SinkRefused → S → Type 0) → ℕ → ℕ → S → Turn → S → List Own → List Own → Type 0
+IsTurn saw seen delivers batch moment sink turn after earlier own =
+    (begun : Result Token FaceRefused) × (first rest : List Own) × (own ≡ first ++ rest) × IsTakeBegun seen begun first × EndsBegin saw seen delivers batch moment sink begun turn after (earlier ++ first) rest

@@ -72,6 +72,7 @@ fn not_delivered(refused: SinkRefused) -> Turn
 fn give_up<T: TakeFace>(from: &mut T, txn: TakeTxn, turn: Turn) -> Turn
     ensures calls { Gains (T.own from.old) (T.own from.new) (IsTakeRolledBack (T.saw from.new) txn) }
     ensures seen { T.seen from.old ≤ T.seen from.new }
+    ensures kept { T.kept from.old from.new }
     ensures turn { result ≡ turn }
 {
     from.rollback(txn);
@@ -79,6 +80,7 @@ fn give_up<T: TakeFace>(from: &mut T, txn: TakeTxn, turn: Turn) -> Turn
 }
 
 // Delivers what was taken, and ends the transaction.
+#[tactic(auto, using(crate::proofs::Turning::handed_commit))]
 fn hand_over<T: TakeFace, S: EventSink>(
     from: &mut T,
     txn: TakeTxn,
@@ -89,6 +91,7 @@ fn hand_over<T: TakeFace, S: EventSink>(
     requires { length taken.now < 2 ^ 32 }
     ensures calls { Gains (T.own from.old) (T.own from.new) (IsHandedOver (T.saw from.new) (T.seen from.new) S.delivers txn taken.now moment sink.old result sink.new) }
     ensures seen { T.seen from.old ≤ T.seen from.new }
+    ensures kept { T.kept from.old from.new }
     ensures cause { IsSinkFailure result → Rose (S.faults sink.old) (S.faults sink.new) }
     ensures later { S.faults sink.old ≤ S.faults sink.new }
 {
@@ -122,6 +125,7 @@ pub fn drain_turn<T: TakeFace, S: EventSink>(
     requires { 1 ≤ batch }
     ensures calls { Gains (T.own from.old) (T.own from.new) (IsTurn (T.saw from.new) (T.seen from.new) S.delivers batch moment sink.old result sink.new) }
     ensures seen { T.seen from.old ≤ T.seen from.new }
+    ensures kept { T.kept from.old from.new }
     ensures cause { IsSinkFailure result → Rose (S.faults sink.old) (S.faults sink.new) }
     ensures later { S.faults sink.old ≤ S.faults sink.new }
 {

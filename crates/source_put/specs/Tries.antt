@@ -8,9 +8,10 @@ use Rattle.channel_face.specs.Faces.{Gains, IsPutBatch, Own, picked_events}
 use Rattle.channel_face.specs.declared.replies.FaceRefused.{FaceRefused}
 use Rattle.source_put.specs.declared.put.Refusal.{Refusal}
 
--- one transaction of its own puts these events into a channel, and is answered so
-pub record Puts {F : Type 0} (own : F → List Own → Type 0) (saw : F → State → Type 0) (seen : F → ℕ) (old new : F) (events : List Content) (result : Result ℕ FaceRefused) : Type 0 where
+-- one transaction of its own puts these events into a channel, and is answered so; what never changes of the face is the same
+pub record Puts {F : Type 0} (own : F → List Own → Type 0) (saw : F → List Own → State → Type 0) (seen : F → ℕ) (kept : F → F → Type 0) (old new : F) (events : List Content) (result : Result ℕ FaceRefused) : Type 0 where
   pub later : seen old ≤ seen new
+  pub same : kept old new
   pub calls : Gains (own old) (own new) (IsPutBatch (saw new) (seen new) events result)
 
 -- the answer without the number

@@ -94,7 +94,7 @@ impl<F: PutFace + Drop> Intake<F> {
     // The verdict on events that passed the chain.
     fn give(&mut self, batch: &Batch) -> Verdict
         requires { length batch.now < 2 ^ 32 }
-        ensures gives { Gives (Puts F.own F.saw F.seen) self.old.selector batch.now self.old.ports.items self.new.ports.items result ⊎ ((result ≡ Verdict.NoMemory) × (self.new.ports.items ≡ self.old.ports.items)) }
+        ensures gives { Gives (Puts F.own F.saw F.seen F.kept) self.old.selector batch.now self.old.ports.items self.new.ports.items result ⊎ ((result ≡ Verdict.NoMemory) × (self.new.ports.items ≡ self.old.ports.items)) }
         ensures same { (self.new.selector ≡ self.old.selector) × (self.new.host ≡ self.old.host) × (self.new.chain ≡ self.old.chain) }
     {
         let ports = self.ports.as_mut_slice();
@@ -108,7 +108,7 @@ impl<F: PutFace + Drop> Intake<F> {
     /// Takes a batch at a moment, in milliseconds since 1970.
     pub fn accept(&mut self, batch: Batch, moment: u64) -> Verdict
         requires { length batch < 2 ^ 32 }
-        ensures accepts { Accepts (Puts F.own F.saw F.seen) self.old.selector ⟦<Box<dyn Interceptor + Send> as Interceptor>⟧.intercepts moment self.old.host self.old.chain.links.items batch self.old.ports.items result self.new.chain.links.items self.new.ports.items }
+        ensures accepts { Accepts (Puts F.own F.saw F.seen F.kept) self.old.selector ⟦<Box<dyn Interceptor + Send> as Interceptor>⟧.intercepts moment self.old.host self.old.chain.links.items batch self.old.ports.items result self.new.chain.links.items self.new.ports.items }
         ensures same { (self.new.selector ≡ self.old.selector) × (self.new.host ≡ self.old.host) }
     {
         match self.chain.pass(self.alloc, batch, moment, &self.host) {

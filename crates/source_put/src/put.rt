@@ -17,7 +17,7 @@ pub(crate) struct Refusal {
 // A channel is given the events at these places, if there are any.
 fn give<F: PutFace>(port: &mut F, batch: &Batch, places: &[u32]) -> Result<(), FaceRefused>
     requires { All (λ place. place < length batch.now) places.now }
-    ensures { Tries (Puts F.own F.saw F.seen) (picked_events batch.now places.now) port.old port.new result }
+    ensures { Tries (Puts F.own F.saw F.seen F.kept) (picked_events batch.now places.now) port.old port.new result }
 {
     if places.is_empty() {
         return Ok(());
@@ -33,7 +33,7 @@ fn require<F: PutFace>(ports: &mut [F], batch: &Batch, picked: &[Vec<u32>]) -> O
     requires few { length ports.old < 2 ^ 32 }
     requires as_many { length picked.now ≡ length ports.old }
     requires places { ArePlacesOf batch.now picked.now }
-    ensures required { Requires (Puts F.own F.saw F.seen) (events_at batch.now picked.now) 0 ports.old result ports.new }
+    ensures required { Requires (Puts F.own F.saw F.seen F.kept) (events_at batch.now picked.now) 0 ports.old result ports.new }
     ensures len { length ports.new ≡ length ports.old }
 {
     for place in 0..ports.len() {
@@ -54,7 +54,7 @@ fn require<F: PutFace>(ports: &mut [F], batch: &Batch, picked: &[Vec<u32>]) -> O
 fn offer<F: PutFace>(ports: &mut [F], batch: &Batch, picked: &[Vec<u32>])
     requires as_many { length picked.now ≡ length ports.old }
     requires places { ArePlacesOf batch.now picked.now }
-    ensures offered { Offers (Puts F.own F.saw F.seen) (events_at batch.now picked.now) 0 ports.old ports.new }
+    ensures offered { Offers (Puts F.own F.saw F.seen F.kept) (events_at batch.now picked.now) 0 ports.old ports.new }
     ensures len { length ports.new ≡ length ports.old }
 {
     for place in 0..ports.len() {
@@ -73,7 +73,7 @@ pub(crate) fn give_all<F: PutFace>(
     requires few { length ports.old < 2 ^ 32 }
     requires required { (length required.now ≡ length ports.old) × ArePlacesOf batch.now required.now }
     requires optional { (length optional.now ≡ length ports.old) × ArePlacesOf batch.now optional.now }
-    ensures gives { GivesBoth (Puts F.own F.saw F.seen) (events_at batch.now required.now) (events_at batch.now optional.now) ports.old ports.new result }
+    ensures gives { GivesBoth (Puts F.own F.saw F.seen F.kept) (events_at batch.now required.now) (events_at batch.now optional.now) ports.old ports.new result }
     ensures len { length ports.new ≡ length ports.old }
 {
     match require(ports, batch, required) {

@@ -20,6 +20,7 @@ loop-from-preserved g c =
     let given = rw (c.in-Ok-Some.field-0-is, c.loop-from.invariant.same) at c.in-Ok-Some.ensures.calls in
     record {
       seen = omega (arith, c.loop-from.invariant.seen, c.in-Ok-Some.ensures.seen);
+      kept = g.met.T.TakeFace.kept_then c.args.from.now before after c.loop-from.invariant.kept c.in-Ok-Some.ensures.kept;
       same = c.in-Ok-Some.ensures.same ∙ c.loop-from.invariant.same;
       size = rw c.in-Ok.ensures.ok (omega (arith, sum_by-append content.size taken (event ∷ []), c.size-size.ensures.size, c.loop-from.invariant.size));
       had = rw c.in-Ok.ensures.ok (room_more c.args.most taken event c.loop-from.invariant.had room);
@@ -46,10 +47,10 @@ returns-in-Err-clause-calls g c =
     let turn = c.turn_refused.result in
     let room : HasRoom c.args.most taken = (omega arith, omega (arith, c.loop-from.invariant.size)) in
     let given = rw c.loop-from.invariant.same at c.in-Err.ensures.calls in
-    gains_so (face.own c.args.from.now) (face.own after) (AreTakenUpTo (face.seen after) c.args.txn.now c.args.most taken (Err turn)) (λ l. (events : List Content) × AreTakenUpTo (face.seen after) c.args.txn.now c.args.most events (Err turn) l)
+    gains_so (face.own c.args.from.now) (face.own after) (λ earlier. AreTakenUpTo (face.seen after) c.args.txn.now c.args.most taken (Err turn)) (λ earlier l. (events : List Content) × AreTakenUpTo (face.seen after) c.args.txn.now c.args.most events (Err turn) l)
     (taken_all (face.own c.args.from.now) (face.own before) (face.own after) (face.seen before) (face.seen after) c.in-Err.ensures.seen c.args.txn.now taken c.loop-from.invariant.calls
     c.args.most (Err turn) (IsTake (face.seen after) c.args.txn.now (Err c.in-Err.refused)) c.loop-from.invariant.had given (λ y is. inl (room, (c.in-Err.refused, is, c.turn_refused.ensures.turn))))
-    (λ l is. (taken, is))
+    (λ earlier l is. (taken, is))
 
 pub returns-in_default-clause-calls : goal.returns-in_default-clause-calls
 returns-in_default-clause-calls g c =
@@ -62,6 +63,6 @@ returns-in_default-clause-calls g c =
     let room : HasRoom c.args.most taken = (omega arith, omega (arith, c.loop-from.invariant.size)) in
     let given = rw (c.in-Ok-Some.field-0-is, c.loop-from.invariant.same) at c.in-Ok-Some.ensures.calls in
     let some : 0 < length all = omega (arith, length-append taken (event ∷ [])) in
-    gains_so (face.own c.args.from.now) (face.own after) (AreTaken (face.seen after) c.args.txn.now all) (λ l. (events : List Content) × AreTakenUpTo (face.seen after) c.args.txn.now c.args.most events (Err NoMemory) l)
+    gains_so (face.own c.args.from.now) (face.own after) (λ earlier. AreTaken (face.seen after) c.args.txn.now all) (λ earlier l. (events : List Content) × AreTakenUpTo (face.seen after) c.args.txn.now c.args.most events (Err NoMemory) l)
     (one_taken (face.own c.args.from.now) (face.own before) (face.own after) (face.seen before) (face.seen after) c.in-Ok-Some.ensures.seen c.args.txn.now taken c.loop-from.invariant.calls event given)
-    (λ l is. (all, (room_more c.args.most taken event c.loop-from.invariant.had room, (l, [], sym (append-nil l), is, inr (refl, some, refl)))))
+    (λ earlier l is. (all, (room_more c.args.most taken event c.loop-from.invariant.had room, (l, [], sym (append-nil l), is, inr (refl, some, refl)))))

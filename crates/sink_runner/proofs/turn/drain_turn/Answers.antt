@@ -17,12 +17,12 @@ returns-in-Ok-take_events-clause-calls g c =
     let late : face.seen after_takes ≤ face.seen ended = c.hand_over.ensures.seen in
     let early : face.seen begun ≤ face.seen ended = omega (arith, c.in-Ok-take_events.ensures.seen, late) in
     gains_three (face.own c.args.from.now) (face.own begun) (face.own after_takes) (face.own ended)
-    (IsTakeBegun (face.seen begun) (Ok token))
-    (IsTaking (face.seen after_takes) token c.args.batch taken (Ok tt))
+    (λ earlier. IsTakeBegun (face.seen begun) (Ok token))
+    (λ earlier. IsTaking (face.seen after_takes) token c.args.batch taken (Ok tt))
     (IsHandedOver (face.saw ended) (face.seen ended) delivers token taken c.args.moment sink c.hand_over.result c.hand_over.new.sink)
     (IsTurn (face.saw ended) (face.seen ended) delivers c.args.batch c.args.moment sink c.hand_over.result c.hand_over.new.sink)
     c.in-Ok.ensures.calls c.in-Ok-take_events.ensures.calls (rw c.in-Ok-take_events.ensures.same at c.hand_over.ensures.calls)
-    (λ x y z p q r. turn_handed (face.saw ended) delivers c.args.batch c.args.moment sink c.hand_over.new.sink (face.seen begun) (face.seen after_takes) (face.seen ended) early late token c.hand_over.result taken x y z p q r)
+    (λ earlier x y z p q r. turn_handed (face.saw ended) delivers c.args.batch c.args.moment sink c.hand_over.new.sink (face.seen begun) (face.seen after_takes) (face.seen ended) early late token c.hand_over.result taken earlier x y z p q r)
 
 pub returns-clause-calls : goal.returns-clause-calls
 returns-clause-calls g c =
@@ -37,9 +37,9 @@ returns-clause-calls g c =
     let late : face.seen after_takes ≤ face.seen ended = c.give_up.ensures.seen in
     let early : face.seen begun ≤ face.seen ended = omega (arith, c.in-Err-take_events.ensures.seen, late) in
     rw c.give_up.ensures.turn (gains_three (face.own c.args.from.now) (face.own begun) (face.own after_takes) (face.own ended)
-    (IsTakeBegun (face.seen begun) (Ok token))
-    (IsTaking (face.seen after_takes) token c.args.batch c.take_events.new.taken (Err turn))
+    (λ earlier. IsTakeBegun (face.seen begun) (Ok token))
+    (λ earlier. IsTaking (face.seen after_takes) token c.args.batch c.take_events.new.taken (Err turn))
     (IsTakeRolledBack (face.saw ended) token)
     (IsTurn (face.saw ended) (face.seen ended) delivers c.args.batch c.args.moment sink turn sink)
     c.in-Ok.ensures.calls c.in-Err-take_events.ensures.calls (rw c.in-Err-take_events.ensures.same at c.give_up.ensures.calls)
-    (λ x y z p q r. turn_over (face.saw ended) delivers c.args.batch c.args.moment sink sink (face.seen begun) (face.seen after_takes) (face.seen ended) early late token turn x y z p q r refl))
+    (λ earlier x y z p q r. turn_over (face.saw ended) delivers c.args.batch c.args.moment sink sink (face.seen begun) (face.seen after_takes) (face.seen ended) early late token turn earlier x y z p q r refl))
