@@ -2,7 +2,7 @@
 use Rattle.std.proofs.Common.{◌≡◌, ℕ, List, [], ◌∷◌, ◌++◌, Bool, refl, sym, ◌∙◌, ap, subst, append_assoc}
 use Rattle.std.proofs.lemmas.List.{append-nil}
 use Rattle.channel_face.specs.Machine.{Call, State, Admits, after}
-use Rattle.channel_face.specs.History.{Opening, opening, Step, Said, by_pass, AddsOne, IsRun, Shows, state_after}
+use Rattle.channel_face.specs.History.{Opening, opening, Step, by_pass, AddsOne, IsRun, Shows, state_after}
 use Rattle.channel_face.specs.Faces.{Own, one, Gains}
 use Rattle.channel_face.specs.OwnCalls.{steps_of, AreFrom, MadeOwn, HasMade, Was, Goes, Continues}
 use Rattle.channel_face.proofs.Adding.{run-last, state-push}

@@ -8,7 +8,7 @@ use Rattle.flume_host.specs.Folder.{Files}
 use Rattle.flume_host.specs.Told.{EachMoment, LeavesOnly, Settle, Tells, Told, WhereTold, clock, done, moment_of, under_way}
 use Rattle.flume_host.proofs.Moments.{carried, clock_rises, only_now}
 use Rattle.flume_host.proofs.Telling.{back, some_same}
-use Rattle.event_core.specs.Journal.{Base, IsBase, after_journal}
+use Rattle.event_core.specs.Journal.{IsBase, after_journal}
 use Rattle.event_core.specs.declared.journal.Entry.{Entry}
 use Rattle.event_core.specs.declared.journal.Entry.TheVariants.{Puts, Takes}
 use Rattle.channel_face.specs.Token.{Token}

@@ -6,7 +6,7 @@ use mathlib.Core.List.{IsPrefix}
 use Rattle.atomic_table.specs.Table.{Me}
 use Rattle.channel_face.specs.Faces.{Own, Ends, is_spent_flush}
 use Rattle.channel_face.specs.Machine.{State, Flush, after, settled}
-use Rattle.channel_face.specs.History.{Opening, Step, opening, state_after}
+use Rattle.channel_face.specs.History.{Opening, Step, opening}
 use Rattle.channel_face.specs.declared.replies.FlushRefused.{FlushRefused}
 use Rattle.channel_face.specs.declared.replies.Settled.{Settled}
 use Rattle.channel_face.specs.declared.replies.Settled.TheVariants.{Yes, No, InDoubt}

@@ -4,6 +4,7 @@ use Rattle.std.proofs.lemmas.List.{length-append, take-append-le, take_all}
 use Rattle.std.proofs.lemmas.Bool.{cases_order, false≢true}
 use Rattle.event_core.specs.Content.{Content}
 use Rattle.channel_face.specs.Faces.{Own, Gains, IsMade, IsTakeBegun, IsTake, IsTakeCommit, IsTakeRolledBack}
+use Rattle.channel_face.specs.History.{Opening, Step}
 use Rattle.channel_face.specs.Machine.{State, Call}
 use Rattle.channel_face.specs.Token.{Token}
 use Rattle.channel_face.specs.declared.replies.FaceRefused.{FaceRefused}
@@ -11,22 +12,26 @@ use Rattle.plug_in.specs.declared.sink.SinkRefused.{SinkRefused}
 use Rattle.sink_runner.specs.declared.turn.Turn.{Turn}
 use Rattle.sink_runner.specs.Turns.{HasRoom, HadRoom, AreTaken, EndsTaking, AreTakenUpTo, IsHandedOver, IsTurn, delivered}
 
+-- what a face says of its own calls behind an opening and earlier calls
+abbrev pub OwnCalls : Type 1
+OwnCalls = Opening → List Step → List Own → Type 0
+
 -- calls, and then further ones
-pub gains_then : (before between later : List Own → Type 0) (P Q R : List Own → List Own → Type 0) → Gains before between P → Gains between later Q → ((earlier x y : List Own) → P earlier x → Q (earlier ++ x) y → R earlier (x ++ y)) → Gains before later R
-gains_then before between later P Q R first second join calls is =
-    let a = first calls is in
-    let b = second (calls ++ a.0) a.1 in
-    (a.0 ++ b.0, subst later (append_assoc calls a.0 b.0) b.1, join calls a.0 b.0 a.2 b.2)
+pub gains_then : (before between later : OwnCalls) (P Q R : List Own → List Own → Type 0) → Gains before between P → Gains between later Q → ((earlier x y : List Own) → P earlier x → Q (earlier ++ x) y → R earlier (x ++ y)) → Gains before later R
+gains_then before between later P Q R first second join start front calls is =
+    let a = first start front calls is in
+    let b = second start front (calls ++ a.0) a.1 in
+    (a.0 ++ b.0, subst (later start front) (append_assoc calls a.0 b.0) b.1, join calls a.0 b.0 a.2 b.2)
 
 -- the same of three rows of calls
-pub gains_three : (a b c d : List Own → Type 0) (P Q R T : List Own → List Own → Type 0) → Gains a b P → Gains b c Q → Gains c d R → ((earlier x y z : List Own) → P earlier x → Q (earlier ++ x) y → R ((earlier ++ x) ++ y) z → T earlier (x ++ (y ++ z))) → Gains a d T
+pub gains_three : (a b c d : OwnCalls) (P Q R T : List Own → List Own → Type 0) → Gains a b P → Gains b c Q → Gains c d R → ((earlier x y z : List Own) → P earlier x → Q (earlier ++ x) y → R ((earlier ++ x) ++ y) z → T earlier (x ++ (y ++ z))) → Gains a d T
 gains_three a b c d P Q R T first second third join =
     let Both : List Own → List Own → Type 0 = λ earlier l. ((y z : List Own) × (l ≡ y ++ z) × Q earlier y × R (earlier ++ y) z) in
     let both : Gains b d Both = gains_then b c d Q R Both second third (λ earlier y z p q. (y, z, refl, p, q)) in
     gains_then a b d P Both T first both (λ earlier x l p q. subst (λ (m : List Own). T earlier (x ++ m)) (sym q.2) (join earlier x q.0 q.1 p q.3 q.4))
 
-pub gains_so : (before later : List Own → Type 0) (P Q : List Own → List Own → Type 0) → Gains before later P → ((earlier x : List Own) → P earlier x → Q earlier x) → Gains before later Q
-gains_so before later P Q gained weaker calls is = let a = gained calls is in (a.0, a.1, weaker calls a.0 a.2)
+pub gains_so : (before later : OwnCalls) (P Q : List Own → List Own → Type 0) → Gains before later P → ((earlier x : List Own) → P earlier x → Q earlier x) → Gains before later Q
+gains_so before later P Q gained weaker start front calls is = let a = gained start front calls is in (a.0, a.1, weaker calls a.0 a.2)
 
 made_later : (seen later : ℕ) → seen ≤ later → (spent : Bool) (call : Call) (s : State) (own : List Own) → IsMade seen spent call s own → IsMade later spent call s own
 made_later seen later up false call s own is = is
@@ -82,13 +87,13 @@ module _ {S : Type 0} (saw : List Own → State → Type 0) (delivers : S → Li
 
 -- the commit was answered so behind a delivery of some events
 pub handed_commit : {S : Type 0} (saw : List Own → State → Type 0) (seen : ℕ) (delivers : S → List Content → ℕ → Result (Unit {0}) SinkRefused → S → Type 0) (token : Token) (events : List Content) (moment : ℕ) (sink after : S) (turn : Turn)
-    (before later : List Own → Type 0) (committed : Result (Unit {0}) FaceRefused) (none : Bool) → (IsTrue none ↔ (events ≡ [])) → none ≡ false → delivers sink events moment (Ok tt) after → turn ≡ delivered (length events) committed
+    (before later : OwnCalls) (committed : Result (Unit {0}) FaceRefused) (none : Bool) → (IsTrue none ↔ (events ≡ [])) → none ≡ false → delivers sink events moment (Ok tt) after → turn ≡ delivered (length events) committed
     → Gains before later (IsTakeCommit saw seen token committed) → Gains before later (IsHandedOver saw seen delivers token events moment sink turn after)
-handed_commit saw seen delivers token [] moment sink after turn before later committed none empty some done is commit own here = absurd (false≢true (sym some ∙ empty.1 refl))
-handed_commit saw seen delivers token (event ∷ events) moment sink after turn before later committed none empty some done is commit own here =
-    let made = commit own here in (made.0, made.1, (Ok tt, done, (committed, made.2, is)))
+handed_commit saw seen delivers token [] moment sink after turn before later committed none empty some done is commit start front own here = absurd (false≢true (sym some ∙ empty.1 refl))
+handed_commit saw seen delivers token (event ∷ events) moment sink after turn before later committed none empty some done is commit start front own here =
+    let made = commit start front own here in (made.0, made.1, (Ok tt, done, (committed, made.2, is)))
 
-module _ (a b c : List Own → Type 0) (before seen : ℕ) (up : before ≤ seen) (token : Token) (events : List Content) (so_far : Gains a b (λ earlier. AreTaken before token events)) where
+module _ (a b c : OwnCalls) (before seen : ℕ) (up : before ≤ seen) (token : Token) (events : List Content) (so_far : Gains a b (λ earlier. AreTaken before token events)) where
   -- a take gave one more event
   pub one_taken : (event : Content) → Gains b c (λ earlier. IsTake seen token (Ok (Some event))) → Gains a c (λ earlier. AreTaken seen token (events ++ event ∷ []))
   one_taken event more =
