@@ -49,6 +49,14 @@ pub without_filter : (numbers : List ℕ) (items : List (ℕ × Content)) → fi
 without_filter numbers [] = refl
 without_filter numbers (item ∷ items) = by_test (is_among numbers item.0) item (filter (λ item. not (is_among numbers item.0)) items) (without numbers items) (without_filter numbers items)
 
+without_none : (items : List (ℕ × Content)) → without [] items ≡ items
+without_none [] = refl
+without_none (item ∷ items) = ap (λ (l : List (ℕ × Content)). item ∷ l) (without_none items)
+
+pub none_taken : (numbers : List ℕ) (items : List (ℕ × Content)) → capped (length numbers) ≡ 0 → without numbers items ≡ items
+none_taken [] items none = without_none items
+none_taken (number ∷ numbers) items none = absurd (omega (arith, none))
+
 pub drop_at : {A : Type 0} (es : List A) (place : ℕ) (e : A) → slice_get es place ≡ Some e → drop place es ≡ e ∷ drop (place + 1) es
 drop_at [] place e is = absurd (cc)
 drop_at (x ∷ es) zero e is = (let same : x ≡ e = cc in ap (λ (y : _). y ∷ es) same)

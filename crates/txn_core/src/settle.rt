@@ -67,6 +67,9 @@ fn drop_taken(items: &mut Vec<Item>, staged: &[Open])
     ensures items { items.new.items ≡ without (taken_numbers (entries staged.now)) items.old.items }
     ensures capacity { vec_capacity items.new ≡ vec_capacity items.old }
 {
+    if staged_takes(staged) == 0 {
+        return;
+    }
     items.retain(|item| !takes(staged, item.0));
 }
 
