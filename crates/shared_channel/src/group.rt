@@ -12,22 +12,38 @@ use event_core::Batch;
 use std::mem;
 use std::sync::Wait;
 
+// Rises with the frames of a life, and with the lives.
+fn mark_of(ticket: &Ticket) -> u64 {
+    ticket
+        .life
+        .saturating_mul(4_294_967_296)
+        .saturating_add(ticket.frame)
+}
+
 impl<C: Channel> Shared<C> {
-    // In one turn: flushes where the ticket is not settled, and answers whether it then is. Those that wait come in first, so
-    // that they may have staged by then.
+    // In one turn: flushes where the ticket is not settled, and answers whether it then is. One of those who have staged leads,
+    // and lets others in first, so that they may have staged by then; the others sleep until it has flushed.
     fn settle<R: Wait>(&self, rt: &R, pass: &mut Pass, ticket: &Ticket) -> bool
         requires table { pass.old.table_id ≡ self.now.turn.table.shared.table_id }
         ensures same { (pass.new.table_id ≡ pass.old.table_id) × (pass.new.number ≡ pass.old.number) }
         ensures settles { Settles C.stands pass.old.view pass.new.view ticket.now result }
         ensures all { SawAll C.stands C.tells pass.new.view }
     {
-        self.turn.give_way(rt);
+        let mark = mark_of(ticket);
+        let leads = self.flushing.leads(rt, mark);
+        if leads {
+            self.flushing.await_company(rt);
+            self.turn.give_way();
+        }
         let badge = mem::replace(&mut pass.badge, Badge::blank());
         let mut seat = badge.into_seat();
         let (mut home, calls) = self.enter(rt, &mut seat);
         let sure = self.make_settled(&mut seat, &mut home, calls, pass.number, ticket);
         pass.calls = self.leave(&mut seat, home);
         pass.badge = seat.into_badge();
+        if leads {
+            self.flushing.done(mark, self.turn.waiting());
+        }
         sure
     }
 

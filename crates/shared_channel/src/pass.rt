@@ -17,7 +17,7 @@ use std::alloc::{AllocError, Global};
 use std::marker::Model;
 use std::mem;
 use std::sync::Wait;
-use turn_passes::{Place, SeatView, Turn};
+use turn_passes::{Gather, Place, SeatView, Turn};
 
 /// What one thread has seen of the history, and the numbers of its calls.
 #[derive(Drop)]
@@ -138,7 +138,10 @@ impl<C: Channel> Shared<C> {
         };
         match Turn::new(alloc, Home { channel }, u64::from(passes)) {
             Ok((turn, dealer)) => {
-                let shared = Shared { turn };
+                let shared = Shared {
+                    turn,
+                    flushing: Gather::new(),
+                };
                 let list = shared.deal_all(dealer, list, marks, passes);
                 Ok((shared, list))
             }

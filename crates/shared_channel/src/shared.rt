@@ -8,12 +8,14 @@ ghost use Rattle.shared_channel.specs.Calls.{IsOut, IsIn, Left};
 use crate::home::Home;
 use channel_face::Channel;
 use std::sync::Wait;
-use turn_passes::{Place, Turn};
+use turn_passes::{Gather, Place, Turn};
 
 /// A channel that threads share. Its calls have one history, in which each was made whole.
 #[derive(Drop)]
 pub struct Shared<C: Channel> {
     pub(crate) turn: Turn<Home<C>>,
+    // Who has staged waits here for one flush.
+    pub(crate) flushing: Gather,
 }
 
 impl<C: Channel> Shared<C> {

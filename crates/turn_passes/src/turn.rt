@@ -11,6 +11,7 @@ use crate::plays::{Both, Count, CountOne, Deal, Leave, LookJoined, Read, Take, T
 use crate::view::SeatView;
 use atomic_table::{Refused, Seat, Table};
 use std::alloc::{AllocFailed, Global};
+use std::hint::spin_loop;
 use std::marker::Brand;
 use std::sync::atomic::AtomicU64;
 use std::sync::atomic::Ordering::SeqCst;
@@ -23,15 +24,19 @@ pub struct Unshared<C> {
     pub value: C,
 }
 
+// How often the turn is tried for beside those that wait: about as long as a call takes that makes no sync.
+const FIRST_TRIES: u32 = 100;
+
 // How often the turn is tried for before a thread sleeps, and how long it sleeps at most without being woken.
 const TRIES: u32 = 16;
 
+// How often who is next sleeps before nobody overtakes any more.
+const LOST: u64 = 1;
+
 const MILLIS: u64 = 50;
 
-// How often a thread lets others in first, and how long each time. Nobody wakes it.
-const WAYS: u32 = 16;
-
-const MICROS: u64 = 200;
+// How often a thread lets others in first.
+const WAYS: u32 = 64;
 
 /// A value that threads share in turns.
 #[derive(Drop)]
@@ -39,10 +44,11 @@ pub struct Turn<C: Guarded> {
     pub(crate) table: Table<Option<C>, SeatView, Told, Turns<C>, Global>,
     // Who is next for the turn has it; the others wait for it here, so that nobody who had the turn overtakes them for long.
     queue: Mutex<()>,
-    // How many wait for the turn, and whether who is next sleeps until it is free, or is about to. No clause rests on these
-    // three.
+    // How many wait for the turn, whether who is next sleeps until it is free, or is about to, and how often it slept. No clause
+    // rests on these four.
     waiting: AtomicU64,
     asleep: AtomicU64,
+    starved: AtomicU64,
     ghost sized: { (table.shared.table_id.words ≡ 2) × (table.shared.table_id.slots ≡ 1) },
 }
 
@@ -75,6 +81,7 @@ impl<C: Guarded> Turn<C> {
                     queue: Mutex::new(()),
                     waiting: AtomicU64::new(0),
                     asleep: AtomicU64::new(0),
+                    starved: AtomicU64::new(0),
                 },
                 seat,
             )),
@@ -127,6 +134,25 @@ impl<C: Guarded> Turn<C> {
         self.table.shared.exchange(seat, 0, None)
     }
 
+    // Tries for the turn beside those that wait, unless who is next has slept in vain.
+    fn try_first(&self, seat: &mut Place<C>) -> Option<C>
+        requires table { seat.old.table_id ≡ self.now.table.shared.table_id }
+        requires idle { (seat.old.me.0.turn ≡ false) × (seat.old.me.1 ≡ []) × (seat.old.me.0.live ≡ true) }
+        ensures same { (seat.new.table_id ≡ seat.old.table_id) × (seat.new.id ≡ seat.old.id) }
+        ensures turn { MatchOption result (seat.new.me ≡ seat.old.me) (λ c. (seat.new.me.1 ≡ (0, None) ∷ []) × Knows C.stands seat.old.me.0 c seat.new.me.0) }
+    {
+        if self.starved.load(SeqCst) > LOST {
+            return None;
+        }
+        for _ in 0..FIRST_TRIES {
+            match self.try_enter(seat) {
+                Some(value) => return Some(value),
+                None => spin_loop(),
+            }
+        }
+        None
+    }
+
     fn try_often(&self, seat: &mut Place<C>) -> Option<C>
         requires table { seat.old.table_id ≡ self.now.table.shared.table_id }
         requires idle { (seat.old.me.0.turn ≡ false) × (seat.old.me.1 ≡ []) × (seat.old.me.0.live ≡ true) }
@@ -157,9 +183,8 @@ impl<C: Guarded> Turn<C> {
         }
     }
 
-    /// Takes the turn, and the value out of its slot. It may wait for the turn, behind those that wait already: who is next
-    /// tries some times, and then sleeps until the turn is given back.
-    pub fn enter<R: Wait>(&self, rt: &R, seat: &mut Place<C>) -> C
+    // Takes the turn behind those that wait already: who is next tries some times, and then sleeps until the turn is given back.
+    fn enter_in_line<R: Wait>(&self, rt: &R, seat: &mut Place<C>) -> C
         requires table { seat.old.table_id ≡ self.now.table.shared.table_id }
         requires idle { (seat.old.me.0.turn ≡ false) × (seat.old.me.1 ≡ []) × (seat.old.me.0.live ≡ true) }
         ensures same { (seat.new.table_id ≡ seat.old.table_id) × (seat.new.id ≡ seat.old.id) }
@@ -171,27 +196,49 @@ impl<C: Guarded> Turn<C> {
         for _ in rt.forever() {
             match self.try_often(seat) {
                 Some(value) => {
+                    self.starved.store(0, SeqCst);
                     self.waiting.fetch_sub(1, SeqCst);
                     return value;
                 }
-                None => self.sleep(rt),
+                None => {
+                    self.sleep(rt);
+                    self.starved.fetch_add(1, SeqCst);
+                }
             }
         }
         unreachable!()
     }
 
-    /// Lets those in first that wait for the turn, for a few milliseconds at most. Who is about to make a long call for others
-    /// too asks for this, so that more of them have come in by then.
-    pub fn give_way<R: Wait>(&self, rt: &R) {
+    /// Takes the turn, and the value out of its slot. It may wait for the turn. A call that makes no sync is soon over, so the
+    /// turn is tried for at once, and then waited for behind those that wait already; while who is next has slept in vain, nobody
+    /// overtakes.
+    pub fn enter<R: Wait>(&self, rt: &R, seat: &mut Place<C>) -> C
+        requires table { seat.old.table_id ≡ self.now.table.shared.table_id }
+        requires idle { (seat.old.me.0.turn ≡ false) × (seat.old.me.1 ≡ []) × (seat.old.me.0.live ≡ true) }
+        ensures same { (seat.new.table_id ≡ seat.old.table_id) × (seat.new.id ≡ seat.old.id) }
+        ensures turn { (seat.new.me.1 ≡ (0, None) ∷ []) × Knows C.stands seat.old.me.0 result seat.new.me.0 }
+        ensures making { Making seat.old.me.0 [] seat.new.me.0 }
+    {
+        if let Some(value) = self.try_first(seat) {
+            return value;
+        }
+        self.enter_in_line(rt, seat)
+    }
+
+    /// Lets those in first that wait for the turn, for some tries. Who is about to make a long call for others too asks for
+    /// this, so that more of them have come in by then.
+    pub fn give_way(&self) {
         for _ in 0..WAYS {
             if self.waiting.load(SeqCst) == 0 {
                 return;
             }
-            let calls = self.table.shared.peek(0) % 4_294_967_296;
-            self.table
-                .shared
-                .park_timeout(rt, 0, calls as u32, Duration::from_micros(MICROS));
+            thread::yield_now();
         }
+    }
+
+    /// How many wait for the turn.
+    pub fn waiting(&self) -> u64 {
+        self.waiting.load(SeqCst)
     }
 
     /// How many calls the history has.

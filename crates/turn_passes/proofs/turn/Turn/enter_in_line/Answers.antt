@@ -1,7 +1,7 @@
 use Rattle.std.proofs.Common.{rules}
 use Rattle.turn_passes.specs.Turns.{Knows}
 use Rattle.turn_passes.proofs.Making.{making_none}
-use Rattle.turn_passes.proofs.turn.Turn.enter.Goals as goal
+use Rattle.turn_passes.proofs.turn.Turn.enter_in_line.Goals as goal
 
 pub returns-in-Some-try_often-clause-making : goal.returns-in-Some-try_often-clause-making
 returns-in-Some-try_often-clause-making g c =

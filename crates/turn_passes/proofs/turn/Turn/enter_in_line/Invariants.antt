@@ -1,5 +1,5 @@
 use Rattle.std.proofs.Common.{◌≡◌}
-use Rattle.turn_passes.proofs.turn.Turn.enter.Given as goal
+use Rattle.turn_passes.proofs.turn.Turn.enter_in_line.Given as goal
 
 abbrev pub invariant-loop : goal.invariant-loop
 invariant-loop g l =
