@@ -1,13 +1,13 @@
 -- What each call does to the life, the frame and what is staged.
-use Rattle.std.proofs.Common.{◌⊎◌, inl, inr, ◌≡◌, ◌<◌, ◌≤◌, ◌+◌, ◌++◌, ◌∷◌, [], ℕ, List, length, length-append, take, Option, Some, None, Result, Ok, Err, Bool, true, false, cond, refl, sym, ◌∙◌, ap, subst, arith}
+use Rattle.std.proofs.Common.{◌⊎◌, inl, inr, ◌≡◌, ◌≤◌, ◌+◌, ◌++◌, ◌∷◌, [], ℕ, List, length, length-append, Option, Some, None, Result, Ok, Err, Bool, true, false, cond, refl, sym, ◌∙◌, ap, append_assoc, arith}
 use Rattle.std.proofs.lemmas.List.{append-nil}
 use Rattle.event_core.specs.Content.{Content}
 use Rattle.event_core.specs.Journal.{put_events, next}
 use Rattle.event_core.specs.declared.journal.Entry.{Entry}
 use Rattle.event_core.specs.declared.journal.Entry.TheVariants.{Puts, Takes}
 use Rattle.channel_face.specs.Token.{Token}
-use Rattle.channel_face.specs.Machine.{State, Call, BeginPut, BeginTake, Put, Take, StagePut, StageTake, Flush, RollbackPut, RollbackTake, Checkpoint, Prune, Reopen, Kept, Front, Read, after, base_of, kept_base, entry_of, puts_of, takes_of, free, settle, settle_if, stage, is_none_staged, add_put, add_take, after_begin, after_reopen, broken_state}
-use Rattle.channel_face.specs.History.{Step, state_after, kept_by, front_of, journal}
+use Rattle.channel_face.specs.Machine.{State, Call, BeginPut, BeginTake, Put, Take, StagePut, StageTake, Flush, RollbackPut, RollbackTake, Checkpoint, Prune, Reopen, Kept, Front, Read, after, base_of, kept_base, entry_of, puts_of, takes_of, free, settle, settle_if, stage, is_none_staged, add_put, add_take, after_begin, broken_state}
+use Rattle.channel_face.specs.History.{Step, Opening, opening, state_after, kept_by, front_of, journal}
 use Rattle.channel_face.specs.Laws.{IsFront, KeepsFront, ReadsNone}
 use Rattle.channel_face.specs.declared.replies.BeginRefused.{BeginRefused}
 use Rattle.channel_face.specs.declared.replies.PutRefused.TheVariants as PutNo
@@ -140,9 +140,14 @@ pub record IsCounted (s : State) : Type 0 where
   pub lives : s.life ≡ length s.ends + 1
   pub frames : 1 ≤ s.frame
 
-settled_frame : (none : Bool) (frame new : ℕ) → 1 ≤ frame → new ≡ cond none frame (frame + 1) → 1 ≤ new
-settled_frame true frame new some is = omega (arith, some, is)
-settled_frame false frame new some is = omega (arith, is)
+pub frame_grows : (none : Bool) (frame new : ℕ) → new ≡ cond none frame (frame + 1) → frame ≤ new
+frame_grows true frame new is = omega (arith, is)
+frame_grows false frame new is = omega (arith, is)
+
+pub life_grows : (s : State) (call : Call) (new : State) (kept : List Entry) → Moves s call new kept → s.life ≤ new.life
+life_grows s call new kept (inl m) = omega (arith, m.life)
+life_grows s call new kept (inr (inl m)) = omega (arith, m.life)
+life_grows s call new kept (inr (inr m)) = omega (arith, m.life)
 
 pub counted_moved : (s : State) (call : Call) (new : State) (kept : List Entry) → IsCounted s → Moves s call new kept → IsCounted new
 counted_moved s call new kept c (inl m) = record {
@@ -151,7 +156,7 @@ counted_moved s call new kept c (inl m) = record {
 }
 counted_moved s call new kept c (inr (inl m)) = record {
   lives = m.life ∙ (c.lives ∙ ap (λ (l : List ℕ). length l + 1) (sym m.ends));
-  frames = settled_frame (is_none_staged s.staged) s.frame new.frame c.frames m.frame;
+  frames = omega (arith, c.frames, frame_grows (is_none_staged s.staged) s.frame new.frame m.frame);
 }
 counted_moved s call new kept c (inr (inr m)) =
     let longer : length new.ends ≡ length s.ends + 1 = ap (λ (l : List ℕ). length l) m.ends ∙ length-append s.ends (s.frame ∷ []) in
@@ -178,3 +183,15 @@ first_run s (step ∷ h) none =
     let kept : List Entry = kept_by s step.call in
     let puts : length (put_events (kept ++ journal new h)) ≡ length (put_events kept) + length (put_events (journal new h)) = ap (λ (l : List Content). length l) (put_events-append kept (journal new h)) ∙ length-append (put_events kept) (put_events (journal new h)) in
     omega (arith, first_run new h none.1, first_moved s step.call new kept none.0 (moves s step.call), puts)
+
+pub counted_opening : (o : Opening) → IsCounted (opening o)
+counted_opening o = record { lives = omega arith; frames = omega arith }
+
+-- calls after calls
+pub state-append : (s : State) (x y : List Step) → state_after s (x ++ y) ≡ state_after (state_after s x) y
+state-append s [] y = refl
+state-append s (step ∷ x) y = state-append (after s step.call) x y
+
+pub journal-append : (s : State) (x y : List Step) → journal s (x ++ y) ≡ journal s x ++ journal (state_after s x) y
+journal-append s [] y = refl
+journal-append s (step ∷ x) y = ap (λ (l : List Entry). kept_by s step.call ++ l) (journal-append (after s step.call) x y) ∙ sym (append_assoc (kept_by s step.call) (journal (after s step.call) x) (journal (state_after (after s step.call) x) y))

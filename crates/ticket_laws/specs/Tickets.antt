@@ -4,7 +4,7 @@ use Rattle.event_core.specs.Content.{Content}
 use Rattle.event_core.specs.Journal.{IsNotEmpty, next}
 use Rattle.event_core.specs.declared.journal.Entry.{Entry}
 use Rattle.event_core.specs.declared.journal.Entry.TheVariants.{Puts, Takes}
-use Rattle.channel_face.specs.Machine.{State, Call, StagePut, StageTake, puts_of, takes_of, settled}
+use Rattle.channel_face.specs.Machine.{State, Call, StagePut, StageTake, puts_of, takes_of, settle, settled}
 use Rattle.channel_face.specs.History.{Step, Opening, opening, IsRun, state_after, journal, commits}
 use Rattle.channel_face.specs.Laws.{ReadsNone}
 use Rattle.channel_face.specs.declared.replies.Ticket.{Ticket}
@@ -36,7 +36,19 @@ UnsettledIsStaged =
     → settled (state_after (opening o) (h ++ stage ∷ later)) t ≡ No
     → (journal (opening o) (h ++ stage ∷ later) ≡ journal (opening o) h) × HasBehind (state_after (opening o) h).staged entry (state_after (opening o) (h ++ stage ∷ later)).staged
 
--- A ticket of puts has the number of the first of them, and their count.
+-- In the life of the stage, what settles what is staged leaves the ticket settled.
+abbrev pub SettlingSettles : Type 0
+SettlingSettles =
+    (tells : Bool) (o : Opening) (h : List Step) (stage : Step) (later : List Step) (t : Ticket) (entry : Entry)
+    → IsRun tells (opening o) (h ++ stage ∷ later) → Stages (state_after (opening o) h) stage.call t entry → IsNotEmpty entry
+    → (state_after (opening o) (h ++ stage ∷ later)).life ≡ t.life
+    → settled (settle (state_after (opening o) (h ++ stage ∷ later))) t ≡ Yes
+
+-- What is settled stays so.
+abbrev pub StaysSettled : Type 0
+StaysSettled = (o : Opening) (h later : List Step) (t : Ticket) → settled (state_after (opening o) h) t ≡ Yes → settled (state_after (opening o) (h ++ later)) t ≡ Yes
+
+-- A ticket of puts, which may be none, has the number of the first of them, and their count.
 abbrev pub TicketsNumberPuts : Type 0
 TicketsNumberPuts =
     (tells : Bool) (o : Opening) (h : List Step) (stage : Step) (t : Ticket) (events : List Content)

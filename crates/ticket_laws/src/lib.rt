@@ -3,4 +3,7 @@
 
 mod laws;
 
-pub use laws::{settled_is_in_journal, tickets_number_puts, unsettled_is_staged};
+pub use laws::{
+    settled_is_in_journal, settling_settles, stays_settled, tickets_number_puts,
+    unsettled_is_staged,
+};

@@ -1,4 +1,4 @@
-use Rattle.ticket_laws.proofs.Settling.{numbers_puts}
+use Rattle.ticket_laws.proofs.Staging.{numbers_puts}
 use Rattle.ticket_laws.proofs.laws.tickets_number_puts.Goals as goal
 
 pub returns : goal.returns
