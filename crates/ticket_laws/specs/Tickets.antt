@@ -28,7 +28,7 @@ SettledIsInJournal =
     → settled (state_after (opening o) (h ++ stage ∷ later)) t ≡ Yes
     → HasBehind (commits (opening o) h) entry (journal (opening o) (h ++ stage ∷ later))
 
--- What is not is staged, behind what was, and nothing was settled since.
+-- What is not settled, and in no doubt, is staged, behind what was staged before it, and the journal is as it was.
 abbrev pub UnsettledIsStaged : Type 0
 UnsettledIsStaged =
     (tells : Bool) (o : Opening) (h : List Step) (stage : Step) (later : List Step) (t : Ticket) (entry : Entry)
