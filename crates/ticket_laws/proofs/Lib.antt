@@ -1,0 +1,4 @@
+pub mod Moving
+pub mod Telling
+pub mod Settling
+pub mod Staging
