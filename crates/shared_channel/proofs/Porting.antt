@@ -24,6 +24,10 @@ use Rattle.turn_passes.specs.Turns.{Making, Made}
 use Rattle.turn_passes.proofs.Histories.{calls_by-append, nil_of}
 use Rattle.shared_channel.specs.Counting.{StandsCounting}
 use Rattle.shared_channel.specs.Passes.{Known}
+use Rattle.channel_face.specs.declared.replies.OpenCause.{OpenCause}
+use Rattle.channel_face.specs.History.{reopen_reply}
+use Rattle.channel_face.specs.Machine.{Reopen}
+use Rattle.shared_channel.specs.Durables.{Mends, is_spent_open}
 use Rattle.shared_channel.specs.Calls.{step, state_seen, made_if, Bounds, IsIn, Answers, RolledBack}
 use Rattle.atomic_table.specs.Table.{Me}
 use Rattle.shared_channel.specs.Ports.{SettledBy, MakesSettled, own_if, own_calls, owned, AreOwned, Saw, Went, Goes, Later, Settles, SawAll}
@@ -172,6 +176,17 @@ module _ {C : Type 0} (stands : C → Opening → List Step → Type 0) (tells :
   pub all_seen : (spent : Bool) (v w : View) (by : ℕ) (call : Call) → Answers stands tells moment spent v by call w → SawAll stands tells w
   all_seen true v w by call a = (a.0.0, a.0.1.seen)
   all_seen false v w by call a = (a.0.0, a.0.1.seen)
+
+  -- what a mend has seen, and how it goes on
+  pub mended_seen : (v w : View) (by : ℕ) (result : Result Bool OpenCause) → Mends stands tells moment v by result w → SawAll stands tells w
+  mended_seen v w by (Ok false) m = (m.0.0, m.0.1.seen)
+  mended_seen v w by (Ok true) m = all_seen (is_spent_open m.0) v w by (Reopen (reopen_reply m.0 m.1.0)) m.1.1
+  mended_seen v w by (Err cause) m = all_seen (is_spent_open m.0) v w by (Reopen (reopen_reply m.0 m.1.0)) m.1.1
+
+  pub mended_goes : (v w : View) (by : ℕ) (result : Result Bool OpenCause) → Mends stands tells moment v by result w → Goes v w (λ earlier more. Unit {0})
+  mended_goes v w by (Ok false) m = ([], went_made v w [] m.0.1.made, tt)
+  mended_goes v w by (Ok true) m = let f = one_call (is_spent_open m.0) v w by (Reopen (reopen_reply m.0 m.1.0)) m.1.1 in (f.0, f.1, tt)
+  mended_goes v w by (Err cause) m = let f = one_call (is_spent_open m.0) v w by (Reopen (reopen_reply m.0 m.1.0)) m.1.1 in (f.0, f.1, tt)
 
   pub all_seen_back : (ended : Bool) (v w : View) (by : ℕ) (call : Call) (IsStale : State → Type 0) → RolledBack stands tells moment ended v by call IsStale w → SawAll stands tells w
   all_seen_back true v w by call IsStale r = (r.0, r.1.seen)

@@ -155,8 +155,8 @@ impl<C: Durable> Shared<C> {
         reply
     }
 
-    /// Opens the channel's folder anew, as [`Durable::reopen`], or is refused as `Spent` of `Counter::Calls`. Tokens of every
-    /// pass from before are stale, and tickets of what was not settled are in doubt.
+    /// Opens the channel's folder anew, as [`Durable::reopen`], or is refused as `Spent` of `Counter::Calls`. After Ok the tokens
+    /// of every pass from before are stale, and tickets of what was not settled are in doubt.
     pub fn reopen<R: Wait, L: Ledger>(
         &self,
         rt: &R,

@@ -12,7 +12,7 @@ use event_core::Batch;
 use std::mem;
 use std::sync::Wait;
 
-// Rises with the frames of a life, and with the lives.
+// Rises with the frames of a life, and with the lives while a life has fewer than 2^32 frames. No clause rests on it.
 fn mark_of(ticket: &Ticket) -> u64 {
     ticket
         .life

@@ -46,7 +46,7 @@ pub struct Unshared<C> {
     pub channel: C,
 }
 
-/// A channel that nobody shares any more, and a pass that has seen all of its history.
+/// A channel that nobody shares any more, and a pass that has seen the calls that it stands for.
 #[derive(Drop)]
 pub struct Closed<C> {
     pub channel: C,
@@ -227,7 +227,7 @@ impl<C: Channel> Shared<C> {
         add_marks(&mut into.marks, &marks);
     }
 
-    /// Hands the channel back, and a pass that has seen all of its history. The state of the channel, its counts and what it
+    /// Hands the channel back, and a pass that has seen the calls that it then stands for. Its state, its counts and what it
     /// has settled are those of what was seen. Where the pass has each number, all calls are its own, and it had seen them. It may
     /// wait for the turn.
     pub fn close<R: Wait>(self, rt: &R, pass: Pass) -> Closed<C>

@@ -48,6 +48,8 @@ impl<'a, R: Wait, C: Durable> Port<'a, R, C> {
     pub fn mend<L: Ledger>(&mut self, steps: &mut Steps<L>) -> Result<bool, OpenCause>
         ensures same { (self.new.pass.table_id ≡ self.old.pass.table_id) × (self.new.pass.number ≡ self.old.pass.number) }
         ensures call { Mends C.stands C.tells C.moment self.old.pass.view self.old.pass.number result self.new.pass.view }
+        ensures kept { Later self.old.pass self.new.pass }
+        ensures all { SawAll C.stands C.tells self.new.pass.view }
     {
         self.shared.mend(self.rt, &mut self.pass, steps)
     }

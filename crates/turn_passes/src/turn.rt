@@ -30,8 +30,8 @@ const FIRST_TRIES: u32 = 100;
 // How often the turn is tried for before a thread sleeps, and how long it sleeps at most without being woken.
 const TRIES: u32 = 16;
 
-// How often who is next sleeps before nobody overtakes any more.
-const LOST: u64 = 1;
+// How often who is next sleeps before nobody begins to overtake any more.
+const LOST: u64 = 2;
 
 const MILLIS: u64 = 50;
 
@@ -141,7 +141,7 @@ impl<C: Guarded> Turn<C> {
         ensures same { (seat.new.table_id ≡ seat.old.table_id) × (seat.new.id ≡ seat.old.id) }
         ensures turn { MatchOption result (seat.new.me ≡ seat.old.me) (λ c. (seat.new.me.1 ≡ (0, None) ∷ []) × Knows C.stands seat.old.me.0 c seat.new.me.0) }
     {
-        if self.starved.load(SeqCst) > LOST {
+        if self.starved.load(SeqCst) >= LOST {
             return None;
         }
         for _ in 0..FIRST_TRIES {
@@ -294,7 +294,7 @@ impl<C: Guarded> Turn<C> {
         self.wake();
     }
 
-    /// Gives the turn back without the value, for good.
+    /// Gives the turn back without the value, for good. Who waits for the turn, or asks for it later, waits for ever.
     pub fn shut(&self, seat: &mut Place<C>)
         requires table { seat.old.table_id ≡ self.now.table.shared.table_id }
         requires turn { (seat.old.me.0.turn ≡ true) × (seat.old.me.1 ≡ (0, None) ∷ []) }
