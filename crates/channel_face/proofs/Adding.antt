@@ -27,6 +27,10 @@ pub state-push : (s : State) (h : List Step) (step : Step) → state_after s (h 
 state-push s [] step = refl
 state-push s (x ∷ h) step = state-push (after s x.call) h step
 
+pub state-append : (s : State) (x y : List Step) → state_after s (x ++ y) ≡ state_after (state_after s x) y
+state-append s [] y = refl
+state-append s (step ∷ x) y = state-append (after s step.call) x y
+
 -- the last call of a run was answered as the state before it allows
 pub run-last : (tells : _) (s : State) (h : List Step) (step : Step) → IsRun tells s (h ++ step ∷ []) → Admits tells (state_after s h) step.call
 run-last tells s [] step run = run.0

@@ -5,7 +5,7 @@ use Rattle.channel_face.specs.Machine.{Call, State, Admits, after}
 use Rattle.channel_face.specs.History.{Opening, opening, Step, by_pass, AddsOne, IsRun, Shows, state_after}
 use Rattle.channel_face.specs.Faces.{Own, one, Gains}
 use Rattle.channel_face.specs.OwnCalls.{steps_of, AreFrom, MadeOwn, HasMade, Was, Goes, Continues}
-use Rattle.channel_face.proofs.Adding.{run-last, state-push}
+use Rattle.channel_face.proofs.Adding.{run-last, state-append, state-push}
 
 abbrev pub Standing : Type 1
 Standing = Opening → List Step → Type 0
@@ -13,10 +13,6 @@ Standing = Opening → List Step → Type 0
 steps_of-append : (x y : List Own) → steps_of (x ++ y) ≡ steps_of x ++ steps_of y
 steps_of-append [] y = refl
 steps_of-append (o ∷ x) y = ap (λ (l : List Step). record { pass = 0; call = o.call; moment = o.moment } ∷ l) (steps_of-append x y)
-
-state_after-append : (s : State) (x y : List Step) → state_after s (x ++ y) ≡ state_after (state_after s x) y
-state_after-append s [] y = refl
-state_after-append s (step ∷ x) y = state_after-append (after s step.call) x y
 
 from-push : (s : State) (own : List Own) (call : Call) (before : State) (moment : ℕ) → AreFrom s own → before ≡ state_after s (steps_of own) → AreFrom s (own ++ one call before moment)
 from-push s [] call before moment from is = (is, tt)
@@ -31,7 +27,7 @@ goes_shown_one tells a b F call moment shows adds law start earlier own s made =
     let stands : b start (h ++ step ∷ []) = adds start h 0 made.here in
     let longer : h ++ step ∷ [] ≡ earlier ++ steps_of (own ++ one call s moment) = append_assoc earlier (steps_of own) (step ∷ []) ∙ ap (λ (l : List Step). earlier ++ l) (sym (steps_of-append own (one call s moment))) in
     let may : Admits tells s call = subst (λ (v : State). Admits tells v call) made.state (run-last tells s0 h step (law start (h ++ step ∷ []) stands)) in
-    let here : s ≡ state_after (state_after s0 earlier) (steps_of own) = sym made.state ∙ state_after-append s0 earlier (steps_of own) in
+    let here : s ≡ state_after (state_after s0 earlier) (steps_of own) = sym made.state ∙ state-append s0 earlier (steps_of own) in
     let goes : state_after s0 (earlier ++ steps_of (own ++ one call s moment)) ≡ after s call = ap (λ (l : List Step). state_after s0 l) (sym longer) ∙ (state-push s0 h step ∙ ap (λ (v : State). after v call) made.state) in (
       one call s moment,
       after s call,

@@ -18,6 +18,7 @@ use Rattle.channel_face.specs.declared.replies.FlushRefused.{FlushRefused}
 use Rattle.channel_face.specs.declared.replies.FaceRefused.{FaceRefused}
 use Rattle.channel_face.specs.declared.replies.FaceRefused.TheVariants as Face
 use Rattle.channel_face.specs.Faces.{Own, one, Gains, Ends, is_spent_begin, is_spent_take, taken_event, begun_as, IsTakeBegun, IsTake, is_spent_put, is_spent_stage, is_spent_flush, in_doubt_unless, IsMade, IsRolledBack, IsFound, EndsAs, ArePut, ArePutUpTo, IsPutStage, IsTakeCommit, IsPutBatch, EndsPuts, EndsBegin}
+use Rattle.channel_face.proofs.Adding.{state-append}
 use Rattle.turn_passes.specs.Calls.{has, keep, calls_by}
 use Rattle.turn_passes.specs.Views.{View, saw}
 use Rattle.turn_passes.specs.Turns.{Making, Made}
@@ -31,10 +32,6 @@ use Rattle.shared_channel.specs.Durables.{Mends, is_spent_open}
 use Rattle.shared_channel.specs.Calls.{step, state_seen, made_if, Bounds, IsIn, Answers, RolledBack}
 use Rattle.atomic_table.specs.Table.{Me}
 use Rattle.shared_channel.specs.Ports.{SettledBy, MakesSettled, own_if, own_calls, owned, AreOwned, Saw, Went, Goes, Later, Settles, SawAll}
-
-state-append : (s : State) (a b : List Step) → state_after s (a ++ b) ≡ state_after (state_after s a) b
-state-append s [] b = refl
-state-append s (x ∷ a) b = state-append (after s x.call) a b
 
 own_if-append : (b : Bool) (o : Own) (x y : List Own) → own_if b o (x ++ y) ≡ own_if b o x ++ y
 own_if-append true o x y = refl

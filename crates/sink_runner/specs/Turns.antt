@@ -46,8 +46,8 @@ HasRoom batch events = (length events < batch) × (sum_by size events < 16777216
 abbrev pub HadRoom : ℕ → List Content → Type 0
 HadRoom batch events = (k : ℕ) → k < length events → HasRoom batch (take k events)
 
--- Below, `saw own s` where the face has seen the channel in the state s once `own` were its own calls and no further one was, `seen` is how
--- many of the channel's calls it has seen, and `earlier` are its own calls so far.
+-- Below, `saw own s` where `own` are the face's own calls and it left the channel in the state s, `seen` is how many of the channel's calls it
+-- has seen, and `earlier` are its own calls so far.
 
 -- takes gave these events, in order
 abbrev pub AreTaken : ℕ → Token → List Content → List Own → Type 0

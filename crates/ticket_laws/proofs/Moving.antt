@@ -14,6 +14,7 @@ use Rattle.channel_face.specs.declared.replies.PutRefused.TheVariants as PutNo
 use Rattle.channel_face.specs.declared.replies.TakeRefused.TheVariants as TakeNo
 use Rattle.channel_face.specs.declared.replies.FlushRefused.TheVariants as FlushNo
 use Rattle.channel_face.specs.declared.replies.CheckRefused.TheVariants as CheckNo
+use Rattle.channel_face.proofs.Adding.{state-append}
 use Rattle.channel_face.proofs.Numbers.{put_events-append}
 
 -- the same life and frame, and at least what was staged
@@ -186,11 +187,6 @@ first_run s (step ∷ h) none =
 
 pub counted_opening : (o : Opening) → IsCounted (opening o)
 counted_opening o = record { lives = omega arith; frames = omega arith }
-
--- calls after calls
-pub state-append : (s : State) (x y : List Step) → state_after s (x ++ y) ≡ state_after (state_after s x) y
-state-append s [] y = refl
-state-append s (step ∷ x) y = state-append (after s step.call) x y
 
 pub journal-append : (s : State) (x y : List Step) → journal s (x ++ y) ≡ journal s x ++ journal (state_after s x) y
 journal-append s [] y = refl

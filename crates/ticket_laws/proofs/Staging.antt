@@ -15,7 +15,8 @@ use Rattle.channel_face.specs.declared.replies.StageCause.{StageCause}
 use Rattle.channel_face.proofs.Numbers.{put_events-append}
 use Rattle.channel_face.proofs.Opened.{puts_of-some, takes_of-some}
 use Rattle.ticket_laws.specs.Tickets.{Stages, HasBehind}
-use Rattle.ticket_laws.proofs.Moving.{moves, IsCounted, counted_moved, counted_run, counted_opening, state-append, journal-append, first_run, frame_grows}
+use Rattle.channel_face.proofs.Adding.{state-append}
+use Rattle.ticket_laws.proofs.Moving.{moves, IsCounted, counted_moved, counted_run, counted_opening, journal-append, first_run, frame_grows}
 use Rattle.ticket_laws.proofs.Telling.{tells_yes}
 use Rattle.ticket_laws.proofs.Settling.{IsStaged, Stands, behind-front, some_staged, stands_run, staged_not_yes, dropped_not_yes, past_not_no}
 

@@ -8,7 +8,8 @@ use Rattle.channel_face.specs.Machine.{State, Call, after, is_none_staged, settl
 use Rattle.channel_face.specs.History.{Step, Opening, opening, state_after, kept_by}
 use Rattle.channel_face.specs.declared.replies.Ticket.{Ticket}
 use Rattle.channel_face.specs.declared.replies.Settled.TheVariants.{Yes, No, InDoubt}
-use Rattle.ticket_laws.proofs.Moving.{Moves, moves, IsCounted, counted_moved, counted_run, counted_opening, state-append, frame_grows, life_grows}
+use Rattle.channel_face.proofs.Adding.{state-append}
+use Rattle.ticket_laws.proofs.Moving.{Moves, moves, IsCounted, counted_moved, counted_run, counted_opening, frame_grows, life_grows}
 
 -- the frame that an earlier life ended with
 abbrev pub end_of : State → ℕ → ℕ

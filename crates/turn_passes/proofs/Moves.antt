@@ -78,7 +78,7 @@ module _ {C : Type 0} (stands : C → Opening → List Step → Type 0) (base : 
     holder = k.holder;
     dealt = k.dealt;
     words = refl;
-    known = k.known;
+    at_most_two = k.at_most_two;
     home = k.home;
     held = λ one. held_set s.views id v v at (λ t. t) (k.held one);
     shut = k.shut;
@@ -126,7 +126,7 @@ module _ {C : Type 0} (stands : C → Opening → List Step → Type 0) (base : 
               holder = id;
               dealt = k.dealt;
               words = refl;
-              known = omega arith;
+              at_most_two = omega arith;
               home = λ e. absurd (omega arith);
               held = λ one. (id, w, set_there s.views id v w at, refl);
               shut = λ e. absurd (omega arith);
@@ -205,7 +205,7 @@ module _ {C : Type 0} (stands : C → Opening → List Step → Type 0) (base : 
         holder = k.holder;
         dealt = k.dealt;
         words = let n : length me.0.seen ≡ length k.log = ap length same in ap (λ (m : ℕ). m ∷ k.turn ∷ []) (omega (arith, length-append k.log (e ∷ [])));
-        known = k.known;
+        at_most_two = k.at_most_two;
         home = λ z. let one = (mine.holds on).1 in absurd (omega arith);
         held = λ one. held_set s.views id me.0 w at (λ t. t) (k.held one);
         shut = k.shut;
@@ -257,7 +257,7 @@ module _ {C : Type 0} (stands : C → Opening → List Step → Type 0) (base : 
             holder = k.holder;
             dealt = k.dealt;
             words = refl;
-            known = omega arith;
+            at_most_two = omega arith;
             held = λ e. absurd (omega arith);
             shut = λ e. absurd (omega arith);
             home = λ z. (c, set_here s.homes 0 (some (Some c)) (omega arith), subst (λ l. stands c base l) (mine.holds on).2 (subst (λ b. stands c b me.0.seen) (mine.same live).0 ok));
@@ -296,7 +296,7 @@ module _ {C : Type 0} (stands : C → Opening → List Step → Type 0) (base : 
             holder = k.holder;
             dealt = k.dealt;
             words = refl;
-            known = omega arith;
+            at_most_two = omega arith;
             home = λ z. absurd (omega arith);
             held = λ e. absurd (omega arith);
             shut = λ two. set_here s.homes 0 (some None) (omega arith);

@@ -34,7 +34,7 @@ module _ {C : Type 0} (stands : C → Opening → List Step → Type 0) (base : 
     holder = 0;
     dealt = 0;
     words = refl;
-    known = omega arith;
+    at_most_two = omega arith;
     home = λ z. (c, refl, ok);
     held = λ e. absurd (omega arith);
     shut = λ e. absurd (omega arith);
@@ -60,7 +60,7 @@ module _ {C : Type 0} (stands : C → Opening → List Step → Type 0) (base : 
     holder = k.holder;
     dealt = suc k.dealt;
     words = k.words;
-    known = k.known;
+    at_most_two = k.at_most_two;
     home = k.home;
     held = λ one. longer_held (held_set s.views id v (dealing v) at (λ t. t) (k.held one));
     shut = k.shut;
@@ -157,7 +157,7 @@ module _ {C : Type 0} (stands : C → Opening → List Step → Type 0) (base : 
     holder = k.holder;
     dealt = k.dealt;
     words = k.words;
-    known = k.known;
+    at_most_two = k.at_most_two;
     home = k.home;
     held = λ one. held_set first other w gone there (λ t. absurd (off (sym free ∙ t))) (held_set s.views id v (both v w) at (λ t. t) (k.held one));
     shut = k.shut;
@@ -261,7 +261,7 @@ module _ {C : Type 0} (stands : C → Opening → List Step → Type 0) (base : 
         holder = k.holder;
         dealt = k.dealt;
         words = subst (λ ws. slice_set ws 0 (slice_index ws 0) ≡ length k.log ∷ k.turn ∷ []) (sym k.words) refl;
-        known = k.known;
+        at_most_two = k.at_most_two;
         home = k.home;
         held = λ one. held_set s.views id (both v w) (joined (both v w)) at (λ t. t) (k.held one);
         shut = k.shut;
@@ -288,7 +288,3 @@ module _ {C : Type 0} (stands : C → Opening → List Step → Type 0) (base : 
 module _ {C : Type 0} (stands : C → Opening → List Step → Type 0) where
   pub begins_as : (base : Opening) (passes : ℕ) (c : C) (items : List (Option C)) → items ≡ Some c ∷ [] → stands c base [] → Kept stands base passes (opening (0 ∷ 0 ∷ []) items (dealer base passes))
   begins_as base passes c items is ok = subst (λ (l : List (Option C)). Kept stands base passes (opening (0 ∷ 0 ∷ []) l (dealer base passes))) (sym is) (begins stands base passes c ok)
-
--- a pass after it took in another
-pub joined_ok : (m v w : View) (number : ℕ) → m ≡ joined (both v w) → v.turn ≡ false → v.live ≡ true → has v.numbers number ≡ true → (m.turn ≡ false) × (m.live ≡ true) × (has m.numbers number ≡ true)
-joined_ok m v w number is free live own = (ap (λ (x : View). x.turn) is ∙ free, ap (λ (x : View). x.live) is ∙ live, ap (λ (x : View). has x.numbers number) is ∙ has_left v.numbers w.numbers number own)

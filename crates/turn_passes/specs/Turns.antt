@@ -45,7 +45,7 @@ pub record Kept {C : Type 0} (stands : C → Opening → List Step → Type 0) (
   pub holder : ℕ
   pub dealt : ℕ
   pub words : s.words ≡ length log ∷ turn ∷ []
-  pub known : turn ≤ 2
+  pub at_most_two : turn ≤ 2
   pub home : turn ≡ 0 → (c : C) × (get_elem? s.homes 0 ≡ some (some (Some c))) × stands c base log
   pub held : turn ≡ 1 → Held s.views
   pub shut : turn ≡ 2 → get_elem? s.homes 0 ≡ some (some None)
