@@ -18,6 +18,8 @@ use Rattle.channel_face.proofs.Numbers.{put_events-append}
 use Rattle.channel_face.proofs.Opened.{entries-append}
 use Rattle.std.proofs.lemmas.List.{append-nil}
 use Rattle.txn_core.proofs.Taken.{length-numbered, put-cons}
+use Rattle.txn_core.specs.Sound.{AreHeld}
+use Rattle.txn_core.proofs.Fronts.{held_begun, held_set, held_staged}
 
 pub few_opened : (s : State) → begin_refusal s ≡ None → (s.broken ≡ false) × (length s.opened < 1024) × (s.txn < 2 ^ 64 - 1)
 few_opened s allowed = grind (arith, nat_tests)
@@ -27,8 +29,8 @@ no_puts (Puts []) none = refl
 no_puts (Puts (e ∷ events)) none = absurd (omega (arith, none))
 no_puts (Takes numbers) none = refl
 
-pub begun : (s : State) (b : ℕ × Entry) (o p i r r' : ℕ) → IsSound s o p i r → begin_refusal s ≡ None → size_of_entry b.1 ≡ 0 → length s.staged + (length s.opened + 1) ≤ r' → IsSound (record s { opened = s.opened ++ b ∷ []; txn = s.txn + 1 }) o p i r'
-begun s b o p i r r' sound allowed none room =
+pub begun : (s : State) (b : ℕ × Entry) (o p i r r' f : ℕ) → IsSound s o p i r f → begin_refusal s ≡ None → size_of_entry b.1 ≡ 0 → length s.staged + (length s.opened + 1) ≤ r' → IsSound (record s { opened = s.opened ++ b ∷ []; txn = s.txn + 1 }) o p i r' f
+begun s b o p i r r' f sound allowed none room =
     let few = few_opened s allowed in
     let longer : length (s.opened ++ b ∷ []) ≡ length s.opened + 1 = length-append s.opened (b ∷ []) in
     let same : puts_size (s.opened ++ b ∷ []) ≡ puts_size s.opened = omega (arith, puts_size-append s.opened (b ∷ []), puts_size-cons b [], no_puts b.1 none) in
@@ -44,6 +46,7 @@ begun s b o p i r r' sound allowed none room =
       within = λ kind. omega (arith, sound.within kind, same);
       within_memory = sound.within_memory;
       opened_few = omega (arith, longer, few.1);
+      front = held_begun s.opened b s.staged (take f s.items) sound.front;
     }
 
 room_left : (k : Kind) (s : State) (event : Content) → size_refusal k s event ≡ None → k ≡ OnFile → count s < s.rules.limits.capacity
@@ -53,9 +56,9 @@ room_left InMemory s event none is = absurd (cc)
 pub put_allows : (s : State) (events : List Content) (event : Content) → put_refusal s (Some events) event ≡ None → (s.broken ≡ false) × (length events < s.rules.limits.txn_capacity) × (size_refusal s.rules.kind s event ≡ None)
 put_allows s events event allowed = grind (arith, nat_tests)
 
-pub put_added : (s : State) (number place : ℕ) (events : List Content) (event : Content) (o p i r i' : ℕ) → IsSound s o p i r → IsAt s.opened number place (Puts events) → put_refusal s (Some events) event ≡ None → length s.items + (o + p + 1) ≤ i'
-    → IsSound (record s { opened = slice_set s.opened place (number, Puts (events ++ event ∷ [])) }) (o + 1) p i' r
-put_added s number place events event o p i r i' sound at allowed room =
+pub put_added : (s : State) (number place : ℕ) (events : List Content) (event : Content) (o p i r i' f : ℕ) → IsSound s o p i r f → IsAt s.opened number place (Puts events) → put_refusal s (Some events) event ≡ None → length s.items + (o + p + 1) ≤ i'
+    → IsSound (record s { opened = slice_set s.opened place (number, Puts (events ++ event ∷ [])) }) (o + 1) p i' r f
+put_added s number place events event o p i r i' f sound at allowed room =
     let may = put_allows s events event allowed in
     let new : Entry = Puts (events ++ event ∷ []) in
     let longer : length (events ++ event ∷ []) ≡ length events + 1 = length-append events (event ∷ []) in
@@ -73,11 +76,13 @@ put_added s number place events event o p i r i' sound at allowed room =
       within = λ kind. omega (arith, room_left s.rules.kind s event may.2 kind, more);
       within_memory = sound.within_memory;
       opened_few = omega (arith, sound.opened_few, same);
+      front = held_set s.opened place (number, Puts events) (number, new) s.staged (take f s.items) at.item (λ n h. h) sound.front;
     }
 
 -- a transaction leaves the list of the open ones
-pub closed : (s : State) (number place : ℕ) (entry : Entry) (o o' p i r : ℕ) → IsSound s o p i r → IsAt s.opened number place entry → o' + size_put entry ≡ o → IsSound (record s { opened = take place s.opened ++ drop (place + 1) s.opened }) o' p i r
-closed s number place entry o o' p i r sound at fewer =
+pub closed : (s : State) (number place : ℕ) (entry : Entry) (o o' p i r f f' : ℕ) → IsSound s o p i r f → IsAt s.opened number place entry → o' + size_put entry ≡ o → AreHeld (take place s.opened ++ drop (place + 1) s.opened) s.staged (take f' s.items)
+    → IsSound (record s { opened = take place s.opened ++ drop (place + 1) s.opened }) o' p i r f'
+closed s number place entry o o' p i r f f' sound at fewer held =
     let rest : List (ℕ × Entry) = take place s.opened ++ drop (place + 1) s.opened in
     let size : puts_size rest + size_put entry ≡ puts_size s.opened = puts_size-remove s.opened place (number, entry) at.item in
     let one : length rest + 1 ≡ length s.opened = length-removed s.opened place at.in_range in
@@ -93,6 +98,7 @@ closed s number place entry o o' p i r sound at fewer =
       within = λ kind. omega (arith, sound.within kind, size);
       within_memory = sound.within_memory;
       opened_few = omega (arith, sound.opened_few, one);
+      front = held;
     }
 
 -- what one entry puts
@@ -109,10 +115,10 @@ staged_some [] entry = refl
 staged_some (e ∷ staged) entry = refl
 
 -- it becomes the last of those that are staged
-pub staged_one : (s : State) (number place : ℕ) (entry : Entry) (o o' p p' i r r' : ℕ) → IsSound s o p i r → IsAt s.opened number place entry → o' + size_put entry ≡ o → p' ≡ p + size_put entry → r ≤ r'
+pub staged_one : (s : State) (number place : ℕ) (entry : Entry) (o o' p p' i r r' f : ℕ) → IsSound s o p i r f → IsAt s.opened number place entry → o' + size_put entry ≡ o → p' ≡ p + size_put entry → r ≤ r'
     → next_number s + size_put entry < 2 ^ 64 → (s.rules.kind ≡ InMemory → length s.items + p + size_put entry ≤ s.rules.limits.capacity)
-    → IsSound (record s { opened = take place s.opened ++ drop (place + 1) s.opened; staged = s.staged ++ entry ∷ [] }) o' p' i r'
-staged_one s number place entry o o' p p' i r r' sound at fewer more room fits memory =
+    → IsSound (record s { opened = take place s.opened ++ drop (place + 1) s.opened; staged = s.staged ++ entry ∷ [] }) o' p' i r' f
+staged_one s number place entry o o' p p' i r r' f sound at fewer more room fits memory =
     let rest : List (ℕ × Entry) = take place s.opened ++ drop (place + 1) s.opened in
     let size : puts_size rest + size_put entry ≡ puts_size s.opened = puts_size-remove s.opened place (number, entry) at.item in
     let one : length rest + 1 ≡ length s.opened = length-removed s.opened place at.in_range in
@@ -130,6 +136,7 @@ staged_one s number place entry o o' p p' i r r' sound at fewer more room fits m
       within = λ kind. omega (arith, sound.within kind, size, puts);
       within_memory = λ kind. omega (arith, memory kind, more);
       opened_few = omega (arith, sound.opened_few, one);
+      front = held_staged s.opened place (number, entry) s.staged (take f s.items) at.item sound.front;
     }
 
 no_longer : (b : Bool) (item : ℕ × Content) (xs ys : List (ℕ × Content)) → length xs ≤ length ys → length (cond b xs (item ∷ xs)) ≤ length (item ∷ ys)
@@ -144,8 +151,8 @@ pub frame_after : (staged : List Entry) (frame : ℕ) → (cond (is_none_staged 
 frame_after [] frame = omega arith
 frame_after (e ∷ staged) frame = refl
 
-pub settled_all : (s : State) (o p i i' r : ℕ) → IsSound s o p i r → i ≤ i' → IsSound (settle s) o 0 i' r
-settled_all s o p i i' r sound room =
+pub settled_all : (s : State) (o p i i' r f : ℕ) → IsSound s o p i r f → i ≤ i' → IsSound (settle s) o 0 i' r 0
+settled_all s o p i i' r f sound room =
     let all : List (ℕ × Content) = s.items ++ numbered s.first (put_events s.staged) in
     let fewer : length (without (taken_numbers s.staged) all) ≤ length all = fewer_left (taken_numbers s.staged) all in
     let longer : length all ≡ length s.items + length (put_events s.staged) = length-append s.items (numbered s.first (put_events s.staged)) ∙ ap (λ (n : ℕ). length s.items + n) (length-numbered s.first (put_events s.staged)) in
@@ -161,10 +168,11 @@ settled_all s o p i i' r sound room =
       within = λ kind. omega (arith, sound.within kind, fewer, longer);
       within_memory = λ kind. omega (arith, sound.within_memory kind, sound.staged_puts_are, fewer, longer);
       opened_few = sound.opened_few;
+      front = refl;
     }
 
-pub puts_within : (s : State) (number place : ℕ) (entry : Entry) (o p i r : ℕ) → IsSound s o p i r → IsAt s.opened number place entry → size_put entry ≤ o
-puts_within s number place entry o p i r sound at = omega (arith, sound.open_puts_are, puts_size-remove s.opened place (number, entry) at.item)
+pub puts_within : (s : State) (number place : ℕ) (entry : Entry) (o p i r f : ℕ) → IsSound s o p i r f → IsAt s.opened number place entry → size_put entry ≤ o
+puts_within s number place entry o p i r f sound at = omega (arith, sound.open_puts_are, puts_size-remove s.opened place (number, entry) at.item)
 
 pub stage_some : (s : State) (number : ℕ) (entry : Entry) → 0 < size_of_entry entry → stage number (Some entry) s ≡ record s { opened = without_entry number s.opened; staged = s.staged ++ entry ∷ [] }
 stage_some s number (Puts []) some = absurd (omega (arith, some))
@@ -181,9 +189,10 @@ stage_none s number (Takes (n ∷ numbers)) none = absurd (omega (arith, none))
 pub take_allows : (s : State) (numbers : List ℕ) → take_refusal s (Some numbers) ≡ None → (s.broken ≡ false) × (length numbers < s.rules.limits.txn_capacity)
 take_allows s numbers allowed = grind (arith, nat_tests)
 
-pub take_added : (s : State) (number place : ℕ) (numbers : List ℕ) (taken : ℕ) (o p i r : ℕ) → IsSound s o p i r → IsAt s.opened number place (Takes numbers) → take_refusal s (Some numbers) ≡ None
-    → IsSound (record s { opened = slice_set s.opened place (number, Takes (numbers ++ taken ∷ [])) }) o p i r
-take_added s number place numbers taken o p i r sound at allowed =
+pub take_added : (s : State) (number place : ℕ) (numbers : List ℕ) (taken : ℕ) (o p i r f f' : ℕ) → IsSound s o p i r f → IsAt s.opened number place (Takes numbers) → take_refusal s (Some numbers) ≡ None
+    → AreHeld (slice_set s.opened place (number, Takes (numbers ++ taken ∷ []))) s.staged (take f' s.items)
+    → IsSound (record s { opened = slice_set s.opened place (number, Takes (numbers ++ taken ∷ [])) }) o p i r f'
+take_added s number place numbers taken o p i r f f' sound at allowed held =
     let may = take_allows s numbers allowed in
     let new : Entry = Takes (numbers ++ taken ∷ []) in
     let longer : length (numbers ++ taken ∷ []) ≡ length numbers + 1 = length-append numbers (taken ∷ []) in
@@ -201,6 +210,7 @@ take_added s number place numbers taken o p i r sound at allowed =
       within = λ kind. omega (arith, sound.within kind, more);
       within_memory = sound.within_memory;
       opened_few = omega (arith, sound.opened_few, same);
+      front = held;
     }
 
 fewer_puts : (k : ℕ) (staged : List Entry) → length (put_events (take k staged)) ≤ length (put_events staged)
@@ -213,15 +223,15 @@ fewer_puts (suc k) (e ∷ staged) = omega (arith, fewer_puts k staged, cons_leng
     cons_length e rest = ap (λ (l : List Content). length l) (put-cons e rest) ∙ length-append (puts_in e) (put_events rest)
 
 -- all room is enough for a first part of what was staged
-pub front_fits : (s : State) (k : ℕ) (o p i r : ℕ) → IsSound s o p i r → (length s.items + length (put_events (take k s.staged)) ≤ i) × (s.first + length (put_events (take k s.staged)) < 2 ^ 64)
-front_fits s k o p i r sound =
+pub front_fits : (s : State) (k : ℕ) (o p i r f : ℕ) → IsSound s o p i r f → (length s.items + length (put_events (take k s.staged)) ≤ i) × (s.first + length (put_events (take k s.staged)) < 2 ^ 64)
+front_fits s k o p i r f sound =
     let few : length (put_events (take k s.staged)) ≤ length (put_events s.staged) = fewer_puts k s.staged in
     (omega (arith, sound.events, sound.staged_puts_are, few), omega (arith, sound.numbers, few))
 
-pub restarted : (s new : State) (k : ℕ) (ends : List ℕ) (o p i i' r r' : ℕ) → IsSound s o p i r → i ≤ i'
+pub restarted : (s new : State) (k : ℕ) (ends : List ℕ) (o p i i' r r' f : ℕ) → IsSound s o p i r f → i ≤ i'
     → new ≡ record { rules = s.rules; items = left (record { items = s.items; first = s.first }) (take k s.staged); first = next (record { items = s.items; first = s.first }) (take k s.staged); txn = s.txn; opened = []; staged = []; broken = false; life = s.life + 1; frame = 1; ends = ends }
-    → IsSound new 0 0 i' r'
-restarted s new k ends o p i i' r r' sound room is =
+    → IsSound new 0 0 i' r' 0
+restarted s new k ends o p i i' r r' f sound room is =
     let front : List Entry = take k s.staged in
     let few : length (put_events front) ≤ length (put_events s.staged) = fewer_puts k s.staged in
     let all : List (ℕ × Content) = s.items ++ numbered s.first (put_events front) in
@@ -239,6 +249,7 @@ restarted s new k ends o p i i' r r' sound room is =
       within = λ kind. omega (arith, sound.within kind, fewer, longer, few);
       within_memory = λ kind. omega (arith, sound.within_memory kind, sound.staged_puts_are, fewer, longer, few);
       opened_few = omega arith;
+      front = refl;
     })
 
 pub length-entries : (opened : List (ℕ × Entry)) → length (entries opened) ≡ length opened

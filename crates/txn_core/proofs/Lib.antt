@@ -3,6 +3,7 @@ pub mod Kept
 pub mod OpenLists
 pub mod Steps
 pub mod Taken
+pub mod Fronts
 pub mod Undone
 pub mod Shadowing
 pub mod Found

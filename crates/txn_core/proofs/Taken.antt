@@ -28,7 +28,7 @@ pub put-cons : (e : Entry) (rest : List Entry) → put_events (e ∷ rest) ≡ p
 put-cons (Puts events) rest = refl
 put-cons (Takes numbers) rest = refl
 
-among_entry : (e : Entry) (rest : List Entry) (n : ℕ) → is_among (taken_numbers (e ∷ rest)) n ≡ (is_among (takes_in e) n || is_among (taken_numbers rest) n)
+pub among_entry : (e : Entry) (rest : List Entry) (n : ℕ) → is_among (taken_numbers (e ∷ rest)) n ≡ (is_among (takes_in e) n || is_among (taken_numbers rest) n)
 among_entry e rest n = ap (λ (l : List ℕ). is_among l n) (taken-cons e rest) ∙ is_among-append (takes_in e) (taken_numbers rest) n
 
 pub among_here : (o : ℕ × Entry) (rest : Opened) (n : ℕ) → is_among (takes_in o.1) n ≡ true → is_among (taken_numbers (entries (o ∷ rest))) n ≡ true

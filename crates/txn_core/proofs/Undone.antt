@@ -1,12 +1,13 @@
 -- A put or a take that is taken back.
-use Rattle.std.proofs.Common.{◌≡◌, ◌<◌, ◌≤◌, ◌+◌, ◌++◌, ◌∷◌, [], ℕ, zero, suc, List, length, slice_get, slice_set, Some, refl, sym, ◌∙◌, ap, subst, arith, length-append, length-set}
+use Rattle.std.proofs.Common.{◌≡◌, ◌<◌, ◌≤◌, ◌+◌, ◌++◌, ◌∷◌, [], ℕ, zero, suc, List, length, take, slice_get, slice_set, Some, refl, sym, ◌∙◌, ap, subst, arith, length-append, length-set}
 use Rattle.event_core.specs.Content.{Content}
 use Rattle.event_core.specs.declared.journal.Entry.{Entry}
 use Rattle.event_core.specs.declared.journal.Entry.TheVariants.{Puts, Takes}
 use Rattle.channel_face.specs.Machine.{State, with_entry}
 use Rattle.txn_core.specs.Places.{IsAt}
-use Rattle.txn_core.specs.Sound.{IsSound, NoneLonger, size_of_entry}
+use Rattle.txn_core.specs.Sound.{IsSound, AreHeld, NoneLonger, size_of_entry}
 use Rattle.txn_core.proofs.Counts.{puts_size, puts_size-set, longer_at}
+use Rattle.txn_core.proofs.Fronts.{held_set}
 
 abbrev pub Opened : Type 0
 Opened = List (ℕ × Entry)
@@ -40,8 +41,8 @@ longer-unset most [] i x y is here all = tt
 longer-unset most (z ∷ xs) zero x y is here all = let same : z ≡ x = cc in (subst (λ (o : ℕ × Entry). size_of_entry o.1 ≤ most) (sym same) here, all.1)
 longer-unset most (z ∷ xs) (suc i) x y is here all = (all.0, longer-unset most xs i x y is here all.1)
 
-pub put_undone : (s : State) (before : Opened) (number place : ℕ) (events : List Content) (event : Content) (o o' p i r : ℕ) → IsSound s o p i r → IsAt before number place (Puts events) → s.opened ≡ with_entry number (Puts (events ++ event ∷ [])) before → o' + 1 ≡ o → IsSound (record s { opened = before }) o' p i r
-put_undone s before number place events event o o' p i r sound at is one =
+pub put_undone : (s : State) (before : Opened) (number place : ℕ) (events : List Content) (event : Content) (o o' p i r f : ℕ) → IsSound s o p i r f → IsAt before number place (Puts events) → s.opened ≡ with_entry number (Puts (events ++ event ∷ [])) before → o' + 1 ≡ o → IsSound (record s { opened = before }) o' p i r f
+put_undone s before number place events event o o' p i r f sound at is one =
     let longer : Entry = Puts (events ++ event ∷ []) in
     let was = was_added before s.opened number place (Puts events) longer at is in
     let set : s.opened ≡ slice_set before place (number, longer) = is ∙ at.changed longer in
@@ -61,16 +62,17 @@ put_undone s before number place events event o o' p i r sound at is one =
       within = λ kind. omega (arith, sound.within kind, size);
       within_memory = sound.within_memory;
       opened_few = omega (arith, sound.opened_few, same);
+      front = subst (λ (l : Opened). AreHeld l s.staged (take f s.items)) was.back (held_set s.opened place (number, longer) (number, Puts events) s.staged (take f s.items) was.item (λ n h. h) sound.front);
     }
 
-pub some_put : (s : State) (before : Opened) (number place : ℕ) (events : List Content) (event : Content) (o p i r : ℕ) → IsSound s o p i r → IsAt before number place (Puts events) → s.opened ≡ with_entry number (Puts (events ++ event ∷ [])) before → 1 ≤ o
-some_put s before number place events event o p i r sound at is =
+pub some_put : (s : State) (before : Opened) (number place : ℕ) (events : List Content) (event : Content) (o p i r f : ℕ) → IsSound s o p i r f → IsAt before number place (Puts events) → s.opened ≡ with_entry number (Puts (events ++ event ∷ [])) before → 1 ≤ o
+some_put s before number place events event o p i r f sound at is =
     let longer : Entry = Puts (events ++ event ∷ []) in
     let set : s.opened ≡ slice_set before place (number, longer) = is ∙ at.changed longer in
     omega (arith, sound.open_puts_are, ap (λ (l : Opened). puts_size l) set, puts_size-set before place (number, Puts events) (number, longer) at.item, length-append events (event ∷ []))
 
-pub take_undone : (s : State) (before : Opened) (number place : ℕ) (numbers : List ℕ) (taken : ℕ) (o p i r : ℕ) → IsSound s o p i r → IsAt before number place (Takes numbers) → s.opened ≡ with_entry number (Takes (numbers ++ taken ∷ [])) before → IsSound (record s { opened = before }) o p i r
-take_undone s before number place numbers taken o p i r sound at is =
+pub take_undone : (s : State) (before : Opened) (number place : ℕ) (numbers : List ℕ) (taken : ℕ) (o p i r f : ℕ) → IsSound s o p i r f → IsAt before number place (Takes numbers) → s.opened ≡ with_entry number (Takes (numbers ++ taken ∷ [])) before → IsSound (record s { opened = before }) o p i r 0
+take_undone s before number place numbers taken o p i r f sound at is =
     let longer : Entry = Takes (numbers ++ taken ∷ []) in
     let was = was_added before s.opened number place (Takes numbers) longer at is in
     let set : s.opened ≡ slice_set before place (number, longer) = is ∙ at.changed longer in
@@ -90,4 +92,5 @@ take_undone s before number place numbers taken o p i r sound at is =
       within = λ kind. omega (arith, sound.within kind, size);
       within_memory = sound.within_memory;
       opened_few = omega (arith, sound.opened_few, same);
+      front = refl;
     }

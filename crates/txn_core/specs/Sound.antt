@@ -1,7 +1,7 @@
 -- What is true of the lists of each channel: numbers fit, and there is room for what needs no memory.
-use Rattle.std.specs.Prelude.{◌≡◌, ◌<◌, ◌≤◌, ◌+◌, ◌^◌, ℕ, List, [], ◌∷◌, length, if◌then◌else◌, Option, Some, None}
+use Rattle.std.specs.Prelude.{◌≡◌, ◌<◌, ◌≤◌, ◌+◌, ◌^◌, ℕ, List, [], ◌∷◌, ◌++◌, length, take, if◌then◌else◌, Option, Some, None}
 use Rattle.event_core.specs.Content.{Content}
-use Rattle.event_core.specs.Journal.{put_events}
+use Rattle.event_core.specs.Journal.{put_events, taken_numbers, without}
 use Rattle.event_core.specs.declared.journal.Entry.{Entry}
 use Rattle.event_core.specs.declared.journal.Entry.TheVariants.{Puts, Takes}
 use Rattle.channel_face.specs.Machine.{State, entries, next_number, count, is_none_staged}
@@ -31,7 +31,15 @@ NoneLonger most (o ∷ opened) = (size_of_entry o.1 ≤ most) × NoneLonger most
 abbrev pub one_if_staged : List Entry → ℕ
 one_if_staged staged = if is_none_staged staged then 0 else 1
 
-pub record IsSound (s : State) (open_puts staged_puts item_room staged_room : ℕ) : Type 0 where
+-- the numbers that open and staged transactions took
+abbrev pub held_numbers : List (ℕ × Entry) → List Entry → List ℕ
+held_numbers opened staged = taken_numbers (entries opened) ++ taken_numbers staged
+
+-- a transaction took each of these items
+abbrev pub AreHeld : List (ℕ × Entry) → List Entry → List (ℕ × Content) → Type 0
+AreHeld opened staged items = without (held_numbers opened staged) items ≡ []
+
+pub record IsSound (s : State) (open_puts staged_puts item_room staged_room free_from : ℕ) : Type 0 where
   pub open_puts_are : open_puts ≡ length (put_events (entries s.opened))
   pub staged_puts_are : staged_puts ≡ length (put_events s.staged)
   -- a frame that was flushed had a transaction of its own
@@ -44,6 +52,7 @@ pub record IsSound (s : State) (open_puts staged_puts item_room staged_room : �
   pub within : s.rules.kind ≡ OnFile → count s ≤ s.rules.limits.capacity
   pub within_memory : s.rules.kind ≡ InMemory → length s.items + staged_puts ≤ s.rules.limits.capacity
   pub opened_few : length s.opened ≤ 1024
+  pub front : AreHeld s.opened s.staged (take free_from s.items)
 
 -- what a transaction did may be staged
 pub record MayStage (s : State) (entry : Entry) : Type 0 where

@@ -19,4 +19,4 @@ state_of m = record {
 }
 
 abbrev pub IsSoundInside : Inside → Type 0
-IsSoundInside m = IsSound (state_of m) m.open_puts m.staged_puts (vec_capacity m.items) (vec_capacity m.staged)
+IsSoundInside m = IsSound (state_of m) m.open_puts m.staged_puts (vec_capacity m.items) (vec_capacity m.staged) m.free_from

@@ -18,7 +18,7 @@ use crate::opened::{
     Open, one_if_staged, place_of, pop_at, push_put_at, push_take_at, push_within, puts_at,
     remove_at, takes_at,
 };
-use crate::settle::{Item, first_free, settle, staged_takes};
+use crate::settle::{Item, first_free, free_place, settle, staged_takes};
 use channel_face::{
     BeginRefused, Counter, FlushRefused, Kind, Limits, Put, PutRefused, PutTxn, Settled,
     StageCause, StageRefused, TakeRefused, TakeTxn, Taken, Ticket,
@@ -50,6 +50,8 @@ pub struct ChannelLists {
     ends: Vec<u64>,
     open_puts: usize,
     staged_puts: usize,
+    // a transaction took each item before this place
+    free_from: usize,
     alloc: Global,
 }
 
@@ -92,6 +94,7 @@ impl ChannelLists {
             ends: Vec::new(alloc),
             open_puts: 0,
             staged_puts: 0,
+            free_from: 0,
             alloc,
         }
     }
@@ -281,6 +284,7 @@ impl ChannelLists {
         ensures err { OnErr result (self.new ≡ self.old) }
     {
         push_take_at(&mut self.opened, place, taken)?;
+        self.free_from = free_place(&self.items, &self.opened, &self.staged, self.free_from);
         Ok(())
     }
 
@@ -288,7 +292,7 @@ impl ChannelLists {
     pub fn free_item(&self) -> Result<Option<(u64, Event)>, NoMemory>
         ensures { IfOk result (λ item. item ≡ first_of (free self.now)) }
     {
-        match first_free(&self.items, &self.opened, &self.staged) {
+        match first_free(&self.items, &self.opened, &self.staged, self.free_from) {
             Some(place) => {
                 let event = self.items[place].1.copy()?;
                 Ok(Some((self.items[place].0, event)))
@@ -314,13 +318,14 @@ impl ChannelLists {
             self.new ≡ record self.old { opened = before } }
     {
         pop_at(&mut self.opened, place);
+        self.free_from = 0;
     }
 
     /// The number of the first event that no transaction took.
     pub fn free_number(&self) -> Option<u64>
         ensures { result ≡ first_number (free self.now) }
     {
-        match first_free(&self.items, &self.opened, &self.staged) {
+        match first_free(&self.items, &self.opened, &self.staged, self.free_from) {
             Some(place) => Some(self.items[place].0),
             None => None,
         }
@@ -382,6 +387,7 @@ impl ChannelLists {
     {
         let entry = remove_at(&mut self.opened, place);
         self.open_puts -= entry.put_count();
+        self.free_from = 0;
     }
 
     // What the transaction at this place did is staged.
@@ -466,6 +472,7 @@ impl ChannelLists {
         self.frame += one_if_staged(&self.staged);
         self.first = settle(&mut self.staged, &mut self.items, self.first);
         self.staged_puts = 0;
+        self.free_from = 0;
         Ok(())
     }
 
@@ -605,6 +612,7 @@ impl ChannelLists {
         self.staged = Vec::new(self.alloc);
         self.open_puts = 0;
         self.staged_puts = 0;
+        self.free_from = 0;
         self.broken = false;
         self.life += 1;
         self.frame = 1;
@@ -628,6 +636,7 @@ impl ChannelLists {
         self.first = settle(&mut self.staged, &mut self.items, self.first);
         self.open_puts = 0;
         self.staged_puts = 0;
+        self.free_from = 0;
         self.broken = false;
         self.life += 1;
         self.frame = 1;

@@ -1,5 +1,5 @@
 // Open transactions in a list.
-ghost use Rattle.std.specs.Prelude.{◌≡◌, ◌<◌, ◌≤◌, ◌+◌, ◌++◌, ◌∷◌, [], ℕ, List, length, take, drop, slice_get, slice_set, Option, Some, None, vec_capacity, MatchOption, IfSome, IfNone, OnOk, OnErr};
+ghost use Rattle.std.specs.Prelude.{◌≡◌, ◌<◌, ◌≤◌, ◌+◌, ◌++◌, ◌∷◌, [], ℕ, List, length, take, drop, slice_get, slice_set, Option, Some, None, vec_capacity, MatchOption, IfSome, IfNone, OnOk, OnErr, true};
 ghost use Rattle.event_core.specs.Content.{Content};
 ghost use Rattle.event_core.specs.Journal.{taken_numbers, is_among};
 ghost use Rattle.event_core.specs.declared.journal.Entry.{Entry};
@@ -125,6 +125,17 @@ impl Open {
         }
     }
 
+    /// The greatest of the numbers that it takes and of this one.
+    pub(crate) fn greatest_take(&self, least: u64) -> u64
+        ensures least { least ≤ result }
+        ensures takes { (n : ℕ) → is_among (takes_in self.now.1) n ≡ true → n ≤ result }
+    {
+        match &self.did {
+            Did::Puts(_) => least,
+            Did::Takes(numbers) => greatest(numbers, least),
+        }
+    }
+
     /// Adds an event to its puts.
     pub(crate) fn push_put(&mut self, event: Event) -> Result<(), NoMemory>
         requires { (events : List Content) × (self.old.1 ≡ Entry.Puts events) }
@@ -191,6 +202,29 @@ fn is_among(numbers: &[u64], number: u64) -> bool
         }
     }
     false
+}
+
+// The greatest of these numbers and of this one.
+fn greatest(numbers: &[u64], least: u64) -> u64
+    ensures least { least ≤ result }
+    ensures numbers { (n : ℕ) → is_among numbers.now n ≡ true → n ≤ result }
+{
+    let mut most = least;
+    for place in 0..numbers.len() {
+        most = most.max(numbers[place]);
+    }
+    most
+}
+
+/// A number above which the transactions take none.
+pub(crate) fn greatest_taken(staged: &[Open]) -> u64
+    ensures { (n : ℕ) → is_among (taken_numbers (entries staged.now)) n ≡ true → n ≤ result }
+{
+    let mut most: u64 = 0;
+    for place in 0..staged.len() {
+        most = staged[place].greatest_take(most);
+    }
+    most
 }
 
 /// Where the open transaction of this number stands.

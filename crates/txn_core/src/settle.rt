@@ -1,13 +1,13 @@
 // What is staged becomes part of what is left. Nothing here needs memory.
-ghost use Rattle.std.specs.Prelude.{◌≡◌, ◌<◌, ◌≤◌, ◌+◌, ◌^◌, ◌++◌, ◌∷◌, [], ℕ, List, length, drop, slice_get, slice_set, Some, vec_capacity, IfSome, IfNone};
+ghost use Rattle.std.specs.Prelude.{◌≡◌, ◌<◌, ◌≤◌, ◌+◌, ◌^◌, ◌++◌, ◌∷◌, [], ℕ, List, length, take, drop, slice_get, slice_set, Some, vec_capacity, IfSome, IfNone, true, false, not};
 ghost use Rattle.channel_face.specs.Counters.{capped};
 ghost use Rattle.channel_face.specs.Machine.{entries};
 ghost use Rattle.event_core.specs.Content.{Content};
 ghost use Rattle.event_core.specs.Journal.{numbered, put_events, taken_numbers, without, is_among};
 ghost use Rattle.event_core.specs.declared.journal.Entry.{Entry};
-ghost use Rattle.txn_core.specs.Sound.{puts_in, without_puts};
+ghost use Rattle.txn_core.specs.Sound.{AreHeld, held_numbers, puts_in, without_puts};
 
-use crate::opened::{Open, takes};
+use crate::opened::{Open, greatest_taken, takes};
 use event_core::Event;
 
 /// An event that is left, with its number.
@@ -62,6 +62,13 @@ fn move_puts(staged: &mut Vec<Open>, items: &mut Vec<Item>, first: u64) -> u64
     number
 }
 
+// Whether the item of this number stays, where none is taken above the last.
+fn is_left(staged: &[Open], last: u64, number: u64) -> bool
+    ensures { ((n : ℕ) → is_among (taken_numbers (entries staged.now)) n ≡ true → n ≤ last) → result ≡ not (is_among (taken_numbers (entries staged.now)) number) }
+{
+    number > last || !takes(staged, number)
+}
+
 // Drops the items that are taken.
 fn drop_taken(items: &mut Vec<Item>, staged: &[Open])
     ensures items { items.new.items ≡ without (taken_numbers (entries staged.now)) items.old.items }
@@ -70,7 +77,8 @@ fn drop_taken(items: &mut Vec<Item>, staged: &[Open])
     if staged_takes(staged) == 0 {
         return;
     }
-    items.retain(|item| !takes(staged, item.0));
+    let last = greatest_taken(staged);
+    items.retain(|item| is_left(staged, last, item.0));
 }
 
 /// Settles what is staged, and gives the number of the next event.
@@ -91,23 +99,44 @@ pub(crate) fn settle(staged: &mut Vec<Open>, items: &mut Vec<Item>, first: u64) 
 
 // Whether an open or a staged transaction took this number.
 fn is_held(opened: &[Open], staged: &[Open], number: u64) -> bool
-    ensures { result ≡ is_among (taken_numbers (entries opened.now) ++ taken_numbers (entries staged.now)) number }
+    ensures { result ≡ is_among (held_numbers opened.now (entries staged.now)) number }
 {
     takes(opened, number) || takes(staged, number)
 }
 
-/// Where the first item stands that no transaction took.
-pub(crate) fn first_free(items: &[Item], opened: &[Open], staged: &[Open]) -> Option<usize>
-    ensures found { IfSome result (λ place. (item : ℕ × Content) × (rest : List (ℕ × Content)) × (slice_get items.now place ≡ Some item)
-        × (without (taken_numbers (entries opened.now) ++ taken_numbers (entries staged.now)) items.now ≡ item ∷ rest)) }
-    ensures none { IfNone result (without (taken_numbers (entries opened.now) ++ taken_numbers (entries staged.now)) items.now ≡ []) }
+/// From a place on before which a transaction took each item: where the first item stands that none took, or how many items
+/// there are.
+pub(crate) fn free_place(items: &[Item], opened: &[Open], staged: &[Open], from: usize) -> usize
+    requires { AreHeld opened.now (entries staged.now) (take from items.now) }
+    ensures front { AreHeld opened.now (entries staged.now) (take result items.now) }
+    ensures free { (item : ℕ × Content) → slice_get items.now result ≡ Some item → is_among (held_numbers opened.now (entries staged.now)) item.0 ≡ false }
 {
-    for place in 0..items.len() {
+    for place in from..items.len() {
         if !is_held(opened, staged, items[place].0) {
-            return Some(place);
+            return place;
         }
     }
-    None
+    items.len()
+}
+
+/// Where the first item stands that no transaction took. A transaction took each item before `from`.
+pub(crate) fn first_free(
+    items: &[Item],
+    opened: &[Open],
+    staged: &[Open],
+    from: usize,
+) -> Option<usize>
+    requires { AreHeld opened.now (entries staged.now) (take from items.now) }
+    ensures found { IfSome result (λ place. (item : ℕ × Content) × (rest : List (ℕ × Content)) × (slice_get items.now place ≡ Some item)
+        × (without (held_numbers opened.now (entries staged.now)) items.now ≡ item ∷ rest)) }
+    ensures none { IfNone result (without (held_numbers opened.now (entries staged.now)) items.now ≡ []) }
+{
+    let place = free_place(items, opened, staged, from);
+    if place < items.len() {
+        Some(place)
+    } else {
+        None
+    }
 }
 
 /// How many takes are staged, up to 2^64 - 1.

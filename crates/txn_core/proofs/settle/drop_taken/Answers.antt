@@ -1,4 +1,4 @@
-use Rattle.std.proofs.Common.{rules, ◌∙◌, ℕ, not, sym}
+use Rattle.std.proofs.Common.{rules, ◌≡◌, ◌≤◌, ◌∙◌, ℕ, true, not, sym}
 use Rattle.std.proofs.lemmas.Fn.{filter_same}
 use Rattle.event_core.specs.Content.{Content}
 use Rattle.event_core.specs.Journal.{taken_numbers, is_among}
@@ -12,5 +12,5 @@ returns-then-staged_takes-eq0-clause-items c =
 
 pub returns-clause-items : goal.returns-clause-items
 returns-clause-items c =
-    filter_same _ (λ (item : ℕ × Content). not (is_among (taken_numbers (entries c.args.staged.now)) item.0)) _ (λ x b f' k. search rules) _ _ c.retain.ensures.filtered
+    filter_same _ (λ (item : ℕ × Content). not (is_among (taken_numbers (entries c.args.staged.now)) item.0)) _ (λ x b f' k. (let so : ((n : ℕ) → is_among (taken_numbers (entries c.args.staged.now)) n ≡ true → n ≤ c.greatest_taken-last.result) → b ≡ not (is_among (taken_numbers (entries c.args.staged.now)) x.0) = search rules in so c.greatest_taken-last.ensures, search rules)) _ _ c.retain.ensures.filtered
     ∙ without_filter (taken_numbers (entries c.args.staged.now)) c.args.items.now.items

@@ -13,4 +13,4 @@ invariant_of-self-2 c =
     let pushed : c.push.new.self.items ≡ m.opened.items ++ c.args.begun ∷ [] = search rules in
     let free : length m.staged.items + (length m.opened.items + 1) ≤ vec_capacity c.reserve.new.self = search rules in
     let room : length s.staged + (length m.opened.items + 1) ≤ vec_capacity c.reserve.new.self = omega (arith, free, length-entries m.staged.items) in
-    rw (pushed, c.reserve.ensures.items) (begun s c.args.begun m.open_puts m.staged_puts (vec_capacity m.items) (vec_capacity m.staged) (vec_capacity c.reserve.new.self) c.self.invariant allowed c.requires.empty room)
+    rw (pushed, c.reserve.ensures.items) (begun s c.args.begun m.open_puts m.staged_puts (vec_capacity m.items) (vec_capacity m.staged) (vec_capacity c.reserve.new.self) m.free_from c.self.invariant allowed c.requires.empty room)

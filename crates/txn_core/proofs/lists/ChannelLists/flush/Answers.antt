@@ -12,4 +12,4 @@ invariant_of-self c =
     let said = c.settle-self-inside.ensures in
     let new = c.settle-self-inside.new in
     rw (said.items, said.staged, said.next, said.staged_capacity, c.one_if_staged.ensures, c.deref.ensures.value, ← frame_after (entries m.staged.items) m.frame)
-    (settled_all s m.open_puts m.staged_puts (vec_capacity m.items) (vec_capacity new.items) (vec_capacity m.staged) c.self.invariant said.capacity)
+    (settled_all s m.open_puts m.staged_puts (vec_capacity m.items) (vec_capacity new.items) (vec_capacity m.staged) m.free_from c.self.invariant said.capacity)

@@ -13,7 +13,7 @@ settle-self-inside-requires-clause-room c =
     let s : State = state_of m in
     let kept : c.truncate.new.self.items ≡ take c.args.kept m.staged.items = search rules in
     let front : entries c.truncate.new.self.items ≡ take c.args.kept s.staged = ap (λ (l : List (ℕ × Entry)). entries l) kept ∙ take-entries c.args.kept m.staged.items in
-    rw front ((front_fits s c.args.kept m.open_puts m.staged_puts (vec_capacity m.items) (vec_capacity m.staged) c.self.invariant).0)
+    rw front ((front_fits s c.args.kept m.open_puts m.staged_puts (vec_capacity m.items) (vec_capacity m.staged) m.free_from c.self.invariant).0)
 
 pub settle-self-inside-requires-clause-numbers : goal.settle-self-inside-requires-clause-numbers
 settle-self-inside-requires-clause-numbers c =
@@ -21,7 +21,7 @@ settle-self-inside-requires-clause-numbers c =
     let s : State = state_of m in
     let kept : c.truncate.new.self.items ≡ take c.args.kept m.staged.items = search rules in
     let front : entries c.truncate.new.self.items ≡ take c.args.kept s.staged = ap (λ (l : List (ℕ × Entry)). entries l) kept ∙ take-entries c.args.kept m.staged.items in
-    rw front ((front_fits s c.args.kept m.open_puts m.staged_puts (vec_capacity m.items) (vec_capacity m.staged) c.self.invariant).1)
+    rw front ((front_fits s c.args.kept m.open_puts m.staged_puts (vec_capacity m.items) (vec_capacity m.staged) m.free_from c.self.invariant).1)
 
 pub invariant_of-self-2 : goal.invariant_of-self-2
 invariant_of-self-2 c =
@@ -32,7 +32,7 @@ invariant_of-self-2 c =
     let none : c.clear.new.self.items ≡ [] = search rules in
     let said = c.settle-self-inside.ensures in
     let new = c.settle-self-inside.new in
-    restarted s _ c.args.kept c.push.new.self.items m.open_puts m.staged_puts (vec_capacity m.items) (vec_capacity new.items) (vec_capacity m.staged) (vec_capacity new.staged) c.self.invariant said.capacity
+    restarted s _ c.args.kept c.push.new.self.items m.open_puts m.staged_puts (vec_capacity m.items) (vec_capacity new.items) (vec_capacity m.staged) (vec_capacity new.staged) m.free_from c.self.invariant said.capacity
     (rw (said.items, said.staged, said.next, front, none) refl)
 
 pub returns-clause-ok : goal.returns-clause-ok

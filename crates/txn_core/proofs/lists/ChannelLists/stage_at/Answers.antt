@@ -1,4 +1,4 @@
-use Rattle.std.proofs.Common.{◌≡◌, ◌∙◌, ◌<◌, ◌≤◌, ◌+◌, ◌-◌, ◌++◌, ◌∷◌, [], ℕ, arith, subst, sym, ap, refl}
+use Rattle.std.proofs.Common.{◌≡◌, ◌∙◌, ◌<◌, ◌≤◌, ◌+◌, ◌-◌, ◌++◌, ◌∷◌, [], ℕ, take, arith, subst, sym, ap, refl}
 use Rattle.std.specs.Vec.{vec_capacity}
 use Rattle.event_core.specs.declared.journal.Entry.{Entry}
 use Rattle.channel_face.specs.Machine.{State, entries}
@@ -6,6 +6,7 @@ use Rattle.txn_core.specs.Places.{IsAt}
 use Rattle.txn_core.specs.View.{state_of}
 use Rattle.txn_core.specs.Sound.{MayStage, size_of_entry}
 use Rattle.txn_core.proofs.Counts.{size_put}
+use Rattle.txn_core.proofs.Fronts.{held_ended}
 use Rattle.txn_core.proofs.Kept.{closed, staged_one, puts_within}
 use Rattle.txn_core.proofs.Kept.{stage_some, staged_last, length-entries}
 use Rattle.txn_core.proofs.lists.ChannelLists.stage_at.Goals as goal
@@ -20,7 +21,7 @@ overflow_sub-self c =
     let at : IsAt s.opened number c.args.place entry = both.0 in
     let may : MayStage s entry = both.1 in
     let is : c.remove_at-entry.result ≡ (number, entry) = c.remove_at-entry.ensures.item (number, entry) at.item in
-    let fits : size_put entry ≤ m.open_puts = puts_within s number c.args.place entry m.open_puts m.staged_puts (vec_capacity m.items) (vec_capacity m.staged) c.self.invariant at in
+    let fits : size_put entry ≤ m.open_puts = puts_within s number c.args.place entry m.open_puts m.staged_puts (vec_capacity m.items) (vec_capacity m.staged) m.free_from c.self.invariant at in
     let count : c.put_count-puts.result ≡ size_put entry = c.put_count-puts.ensures ∙ ap (λ (o : ℕ × Entry). size_put o.1) is in
     rw count fits
 
@@ -34,13 +35,13 @@ invariant_of-self c =
     let at : IsAt s.opened number c.args.place entry = both.0 in
     let may : MayStage s entry = both.1 in
     let is : c.remove_at-entry.result ≡ (number, entry) = c.remove_at-entry.ensures.item (number, entry) at.item in
-    let fits : size_put entry ≤ m.open_puts = puts_within s number c.args.place entry m.open_puts m.staged_puts (vec_capacity m.items) (vec_capacity m.staged) c.self.invariant at in
+    let fits : size_put entry ≤ m.open_puts = puts_within s number c.args.place entry m.open_puts m.staged_puts (vec_capacity m.items) (vec_capacity m.staged) m.free_from c.self.invariant at in
     let count : c.put_count-puts.result ≡ size_put entry = c.put_count-puts.ensures ∙ ap (λ (o : ℕ × Entry). size_put o.1) is in
     let memory = may.memory in
     let puts = c.self.invariant.staged_puts_are in
     let room : vec_capacity m.staged ≤ vec_capacity c.push_within.new.list = c.push_within.ensures.capacity in
     let staged : entries c.push_within.new.list.items ≡ entries m.staged.items ++ entry ∷ [] = staged_last m.staged.items c.push_within.new.list.items c.remove_at-entry.result number entry c.push_within.ensures.items is in
-    rw (c.remove_at-entry.ensures.rest, staged, count) (staged_one s number c.args.place entry m.open_puts (m.open_puts - size_put entry) m.staged_puts (m.staged_puts + size_put entry) (vec_capacity m.items) (vec_capacity m.staged) (vec_capacity c.push_within.new.list) c.self.invariant at (omega (arith, fits)) refl room may.numbers (λ kind. omega (arith, memory kind, puts)))
+    rw (c.remove_at-entry.ensures.rest, staged, count) (staged_one s number c.args.place entry m.open_puts (m.open_puts - size_put entry) m.staged_puts (m.staged_puts + size_put entry) (vec_capacity m.items) (vec_capacity m.staged) (vec_capacity c.push_within.new.list) m.free_from c.self.invariant at (omega (arith, fits)) refl room may.numbers (λ kind. omega (arith, memory kind, puts)))
 
 pub invariant_of-self-else-size-gt0 : goal.invariant_of-self-else-size-gt0
 invariant_of-self-else-size-gt0 c =
@@ -52,9 +53,10 @@ invariant_of-self-else-size-gt0 c =
     let at : IsAt s.opened number c.args.place entry = both.0 in
     let may : MayStage s entry = both.1 in
     let is : c.remove_at-entry.result ≡ (number, entry) = c.remove_at-entry.ensures.item (number, entry) at.item in
-    let fits : size_put entry ≤ m.open_puts = puts_within s number c.args.place entry m.open_puts m.staged_puts (vec_capacity m.items) (vec_capacity m.staged) c.self.invariant at in
+    let fits : size_put entry ≤ m.open_puts = puts_within s number c.args.place entry m.open_puts m.staged_puts (vec_capacity m.items) (vec_capacity m.staged) m.free_from c.self.invariant at in
     let count : c.put_count-puts.result ≡ size_put entry = c.put_count-puts.ensures ∙ ap (λ (o : ℕ × Entry). size_put o.1) is in
-    rw (c.remove_at-entry.ensures.rest, count) (closed s number c.args.place entry m.open_puts (m.open_puts - size_put entry) m.staged_puts (vec_capacity m.items) (vec_capacity m.staged) c.self.invariant at (omega (arith, fits)))
+    let none : size_of_entry entry ≡ 0 = ap (λ (o : ℕ × Entry). size_of_entry o.1) (sym is) ∙ sym c.size.ensures ∙ omega (arith, c.if-size-gt0.false) in
+    rw (c.remove_at-entry.ensures.rest, count) (closed s number c.args.place entry m.open_puts (m.open_puts - size_put entry) m.staged_puts (vec_capacity m.items) (vec_capacity m.staged) m.free_from m.free_from c.self.invariant at (omega (arith, fits)) (held_ended s.opened c.args.place (number, entry) s.staged (take m.free_from s.items) at.item none c.self.invariant.front))
 
 pub invariant_of-self-else-size-gt0-2 : goal.invariant_of-self-else-size-gt0-2
 invariant_of-self-else-size-gt0-2 c =
@@ -66,9 +68,10 @@ invariant_of-self-else-size-gt0-2 c =
     let at : IsAt s.opened number c.args.place entry = both.0 in
     let may : MayStage s entry = both.1 in
     let is : c.remove_at-entry.result ≡ (number, entry) = c.remove_at-entry.ensures.item (number, entry) at.item in
-    let fits : size_put entry ≤ m.open_puts = puts_within s number c.args.place entry m.open_puts m.staged_puts (vec_capacity m.items) (vec_capacity m.staged) c.self.invariant at in
+    let fits : size_put entry ≤ m.open_puts = puts_within s number c.args.place entry m.open_puts m.staged_puts (vec_capacity m.items) (vec_capacity m.staged) m.free_from c.self.invariant at in
     let count : c.put_count-puts.result ≡ size_put entry = c.put_count-puts.ensures ∙ ap (λ (o : ℕ × Entry). size_put o.1) is in
-    rw (c.remove_at-entry.ensures.rest, count) (closed s number c.args.place entry m.open_puts (m.open_puts - size_put entry) m.staged_puts (vec_capacity m.items) (vec_capacity m.staged) c.self.invariant at (omega (arith, fits)))
+    let none : size_of_entry entry ≡ 0 = ap (λ (o : ℕ × Entry). size_of_entry o.1) (sym is) ∙ sym c.size.ensures ∙ omega (arith, c.if-size-gt0.false) in
+    rw (c.remove_at-entry.ensures.rest, count) (closed s number c.args.place entry m.open_puts (m.open_puts - size_put entry) m.staged_puts (vec_capacity m.items) (vec_capacity m.staged) m.free_from m.free_from c.self.invariant at (omega (arith, fits)) (held_ended s.opened c.args.place (number, entry) s.staged (take m.free_from s.items) at.item none c.self.invariant.front))
 
 pub returns-then-size-gt0 : goal.returns-then-size-gt0
 returns-then-size-gt0 c = λ number entry at'.

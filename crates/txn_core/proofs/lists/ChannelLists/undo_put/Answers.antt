@@ -32,8 +32,8 @@ invariant_of-self c =
     let is : s.opened ≡ with_entry number (Puts (events ++ event ∷ [])) before = subst (λ (t : State). t.opened ≡ with_entry number (Puts (events ++ event ∷ [])) before) (sym c.self.view_is) c.requires.5 in
     let was = was_added before s.opened number c.args.place (Puts events) (Puts (events ++ event ∷ [])) at is in
     let popped : c.pop_at.new.opened.items ≡ before = c.pop_at.ensures.puts number events event was.item ∙ was.back in
-    let some : 1 ≤ m.open_puts = some_put s before number c.args.place events event m.open_puts m.staged_puts (vec_capacity m.items) (vec_capacity m.staged) c.self.invariant at is in
-    rw popped (put_undone s before number c.args.place events event m.open_puts (m.open_puts - 1) m.staged_puts (vec_capacity m.items) (vec_capacity m.staged) c.self.invariant at is (omega (arith, some)))
+    let some : 1 ≤ m.open_puts = some_put s before number c.args.place events event m.open_puts m.staged_puts (vec_capacity m.items) (vec_capacity m.staged) m.free_from c.self.invariant at is in
+    rw popped (put_undone s before number c.args.place events event m.open_puts (m.open_puts - 1) m.staged_puts (vec_capacity m.items) (vec_capacity m.staged) m.free_from c.self.invariant at is (omega (arith, some)))
 
 pub overflow_sub-self : goal.overflow_sub-self
 overflow_sub-self c =
@@ -46,7 +46,7 @@ overflow_sub-self c =
     let at : IsAt before number c.args.place (Puts events) = c.requires.4 in
     let is : s.opened ≡ with_entry number (Puts (events ++ event ∷ [])) before = subst (λ (t : State). t.opened ≡ with_entry number (Puts (events ++ event ∷ [])) before) (sym c.self.view_is) c.requires.5 in
     let was = was_added before s.opened number c.args.place (Puts events) (Puts (events ++ event ∷ [])) at is in
-    some_put s before number c.args.place events event m.open_puts m.staged_puts (vec_capacity m.items) (vec_capacity m.staged) c.self.invariant at is
+    some_put s before number c.args.place events event m.open_puts m.staged_puts (vec_capacity m.items) (vec_capacity m.staged) m.free_from c.self.invariant at is
 
 pub returns : goal.returns
 returns c = λ before number events event at is'.

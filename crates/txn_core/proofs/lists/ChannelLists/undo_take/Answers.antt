@@ -32,7 +32,7 @@ invariant_of-self c =
     let is : s.opened ≡ with_entry number (Takes (numbers ++ taken ∷ [])) before = subst (λ (t : State). t.opened ≡ with_entry number (Takes (numbers ++ taken ∷ [])) before) (sym c.self.view_is) c.requires.5 in
     let was = was_added before s.opened number c.args.place (Takes numbers) (Takes (numbers ++ taken ∷ [])) at is in
     let popped : c.pop_at.new.opened.items ≡ before = c.pop_at.ensures.takes number numbers taken was.item ∙ was.back in
-    rw popped (take_undone s before number c.args.place numbers taken m.open_puts m.staged_puts (vec_capacity m.items) (vec_capacity m.staged) c.self.invariant at is)
+    rw popped (take_undone s before number c.args.place numbers taken m.open_puts m.staged_puts (vec_capacity m.items) (vec_capacity m.staged) m.free_from c.self.invariant at is)
 
 pub returns : goal.returns
 returns c = λ before number numbers taken at is'.
