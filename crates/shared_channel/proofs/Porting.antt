@@ -18,7 +18,6 @@ use Rattle.channel_face.specs.declared.replies.FlushRefused.{FlushRefused}
 use Rattle.channel_face.specs.declared.replies.FaceRefused.{FaceRefused}
 use Rattle.channel_face.specs.declared.replies.FaceRefused.TheVariants as Face
 use Rattle.channel_face.specs.Faces.{Own, one, Gains, Ends, is_spent_begin, is_spent_take, taken_event, begun_as, IsTakeBegun, IsTake, is_spent_put, is_spent_stage, is_spent_flush, in_doubt_unless, IsMade, IsRolledBack, IsFound, EndsAs, ArePut, ArePutUpTo, IsPutStage, IsTakeCommit, IsPutBatch, EndsPuts, EndsBegin}
-use Rattle.channel_face.proofs.Adding.{state-append}
 use Rattle.turn_passes.specs.Calls.{has, keep, calls_by}
 use Rattle.turn_passes.specs.Views.{View, saw}
 use Rattle.turn_passes.specs.Turns.{Making, Made}

@@ -14,7 +14,6 @@ use Rattle.channel_face.specs.declared.replies.PutRefused.TheVariants as PutNo
 use Rattle.channel_face.specs.declared.replies.TakeRefused.TheVariants as TakeNo
 use Rattle.channel_face.specs.declared.replies.FlushRefused.TheVariants as FlushNo
 use Rattle.channel_face.specs.declared.replies.CheckRefused.TheVariants as CheckNo
-use Rattle.channel_face.proofs.Adding.{state-append}
 use Rattle.channel_face.proofs.Numbers.{put_events-append}
 
 -- the same life and frame, and at least what was staged
