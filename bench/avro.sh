@@ -3,13 +3,9 @@
 # megabytes and events per second. Needs the Rattle kit's `rt`. No part of the gate.
 set -eu
 cd "$(dirname "$0")/.."
-scratch=$(mktemp -d)
-trap 'rm -rf "$scratch"' EXIT
-mkdir -p "$scratch/crates/avro_bench/src"
-# With what earlier checks kept, so that only the program here is proved.
-cp -r crates/event_core crates/avro_binary "$scratch/crates/"
-printf 'event_core:\navro_binary: event_core\navro_bench: event_core avro_binary anyhow\n' > "$scratch/crates.txt"
-cat > "$scratch/crates/avro_bench/src/main.rt" <<'PROGRAM'
+. bench/program.sh
+program avro_bench "event_core avro_binary" "anyhow"
+cat > "$program/src/main.rt" <<'PROGRAM'
 #![tactic(auto)]
 
 use anyhow::{Result, bail};
@@ -84,5 +80,4 @@ fn main(rt: HostRuntime) -> Result<()> {
     Ok(())
 }
 PROGRAM
-cd "$scratch/crates/avro_bench"
-rt run
+run_program

@@ -3,13 +3,9 @@
 # continuations, and blank lines. Needs the Rattle kit's `rt`. No part of the gate.
 set -eu
 cd "$(dirname "$0")/.."
-scratch=$(mktemp -d)
-trap 'rm -rf "$scratch"' EXIT
-mkdir -p "$scratch/crates/prop_bench/src" "$scratch/crates/prop_text"
-# With what earlier checks kept, so that only the program here is proved.
-cp -r crates/prop_text/. "$scratch/crates/prop_text/"
-printf 'prop_text: indexmap thiserror\nprop_bench: prop_text anyhow\n' > "$scratch/crates.txt"
-cat > "$scratch/crates/prop_bench/src/main.rt" <<'PROGRAM'
+. bench/program.sh
+program prop_bench "prop_text" "anyhow"
+cat > "$program/src/main.rt" <<'PROGRAM'
 #![tactic(auto)]
 
 use anyhow::Result;
@@ -54,5 +50,4 @@ fn main(rt: HostRuntime) -> Result<()> {
     Ok(())
 }
 PROGRAM
-cd "$scratch/crates/prop_bench"
-rt run
+run_program

@@ -4,17 +4,9 @@
 # Rattle kit's `rt`. No part of the gate.
 set -eu
 cd "$(dirname "$0")/.."
-scratch=$(mktemp -d)
-trap 'rm -rf "$scratch"' EXIT
-mkdir "$scratch/crates"
-# With what earlier checks kept, so that only the program here is proved.
-for crate in flume_host event_core host_memory record_form channel_face channel_log channel_replay txn_core file_channel; do
-  cp -r "crates/$crate" "$scratch/crates/"
-  grep "^$crate:" crates.txt >>"$scratch/crates.txt"
-done
-printf '%s\n' 'random_run: flume_host event_core host_memory record_form channel_face channel_log channel_replay txn_core file_channel anyhow' >>"$scratch/crates.txt"
-program="$scratch/crates/random_run"
-mkdir -p "$program/src" "$program/proofs/open" "$program/proofs/restart"
+. bench/program.sh
+program random_run "flume_host event_core host_memory record_form channel_face channel_log channel_replay txn_core file_channel" "anyhow"
+mkdir -p "$program/proofs/open" "$program/proofs/restart"
 cat > "$program/proofs/open/Invariants.antt" <<'TEXT'
 use Rattle.random_run.proofs.open.Given as goal
 
@@ -30,7 +22,7 @@ TEXT
 cat > "$program/src/calls.rt" <<'TEXT'
 // Calls of a channel, and what each says.
 use anyhow::{Result, bail};
-use channel_face::{Channel, CommitRefused, PutTxn, StageRefused, TakeTxn, Ticket};
+use channel_face::{Channel, CommitRefused, PutTxn, StageCause, StageRefused, TakeTxn, Ticket};
 use event_core::{Event, Headers};
 use std::alloc::Global;
 
@@ -163,56 +155,49 @@ fn ticketed(alloc: Global, ticket: Ticket) -> Result<Answer> {
     Ok(answer)
 }
 
-fn put_refused(alloc: Global, refused: StageRefused<PutTxn>) -> Result<Answer> {
-    let StageRefused { txn, cause } = refused;
-    let _numbers = txn.into_numbers();
+fn refused(alloc: Global, cause: StageCause) -> Result<Answer> {
     Ok(plain(format!(in alloc; "{cause:?}")?))
 }
 
-fn take_refused(alloc: Global, refused: StageRefused<TakeTxn>) -> Result<Answer> {
-    let StageRefused { txn, cause } = refused;
-    let _numbers = txn.into_numbers();
-    Ok(plain(format!(in alloc; "{cause:?}")?))
+fn in_doubt(alloc: Global) -> Result<Answer> {
+    Ok(plain(format!(in alloc; "in doubt")?))
 }
 
-fn stage<C: Channel>(
-    alloc: Global,
-    channel: &mut C,
-    life: u64,
-    puts: bool,
-    number: u64,
-) -> Result<Answer> {
-    if puts {
-        return match channel.stage_put(PutTxn::new(life, number)) {
-            Ok(ticket) => ticketed(alloc, ticket),
-            Err(refused) => put_refused(alloc, refused),
-        };
-    }
-    match channel.stage_take(TakeTxn::new(life, number)) {
-        Ok(ticket) => ticketed(alloc, ticket),
-        Err(refused) => take_refused(alloc, refused),
+fn staged<T>(reply: Result<Ticket, StageRefused<T>>) -> Result<Ticket, CommitRefused<T>> {
+    match reply {
+        Ok(ticket) => Ok(ticket),
+        Err(refused) => Err(CommitRefused::Stage(refused)),
     }
 }
 
-fn commit<C: Channel>(
+// What a stage or a commit said, and its token where that came back.
+fn ended<T>(
     alloc: Global,
-    channel: &mut C,
-    life: u64,
-    puts: bool,
-    number: u64,
-) -> Result<Answer> {
-    if puts {
-        return match channel.commit_put(PutTxn::new(life, number)) {
-            Ok(ticket) => ticketed(alloc, ticket),
-            Err(CommitRefused::Stage(refused)) => put_refused(alloc, refused),
-            Err(CommitRefused::InDoubt) => Ok(plain(format!(in alloc; "in doubt")?)),
-        };
+    reply: Result<Ticket, CommitRefused<T>>,
+) -> (Result<Answer>, Option<T>) {
+    match reply {
+        Ok(ticket) => (ticketed(alloc, ticket), None),
+        Err(CommitRefused::Stage(StageRefused { txn, cause })) => {
+            (refused(alloc, cause), Some(txn))
+        }
+        Err(CommitRefused::InDoubt) => (in_doubt(alloc), None),
     }
-    match channel.commit_take(TakeTxn::new(life, number)) {
-        Ok(ticket) => ticketed(alloc, ticket),
-        Err(CommitRefused::Stage(refused)) => take_refused(alloc, refused),
-        Err(CommitRefused::InDoubt) => Ok(plain(format!(in alloc; "in doubt")?)),
+}
+
+fn puts_ended(alloc: Global, reply: Result<Ticket, CommitRefused<PutTxn>>) -> Result<Answer> {
+    let (answer, back) = ended(alloc, reply);
+    if let Some(txn) = back {
+        let _numbers = txn.into_numbers();
     }
+    answer
+}
+
+fn takes_ended(alloc: Global, reply: Result<Ticket, CommitRefused<TakeTxn>>) -> Result<Answer> {
+    let (answer, back) = ended(alloc, reply);
+    if let Some(txn) = back {
+        let _numbers = txn.into_numbers();
+    }
+    answer
 }
 
 /// Makes a call, with tokens of this life.
@@ -231,10 +216,18 @@ pub fn made<C: Channel>(
             put(alloc, channel, life, number, &event)
         }
         Step::Take(number) => take(alloc, channel, life, number),
-        Step::StagePut(number) => stage(alloc, channel, life, true, number),
-        Step::StageTake(number) => stage(alloc, channel, life, false, number),
-        Step::CommitPut(number) => commit(alloc, channel, life, true, number),
-        Step::CommitTake(number) => commit(alloc, channel, life, false, number),
+        Step::StagePut(number) => {
+            puts_ended(alloc, staged(channel.stage_put(PutTxn::new(life, number))))
+        }
+        Step::StageTake(number) => {
+            takes_ended(alloc, staged(channel.stage_take(TakeTxn::new(life, number))))
+        }
+        Step::CommitPut(number) => {
+            puts_ended(alloc, channel.commit_put(PutTxn::new(life, number)))
+        }
+        Step::CommitTake(number) => {
+            takes_ended(alloc, channel.commit_take(TakeTxn::new(life, number)))
+        }
         Step::RollbackPut(number) => {
             let ended = channel.rollback_put(PutTxn::new(life, number));
             Ok(plain(format!(in alloc; "rolled back: {ended}")?))
@@ -608,5 +601,4 @@ fn main(rt: HostRuntime) -> Result<()> {
     Ok(())
 }
 TEXT
-cd "$program"
-rt run
+run_program

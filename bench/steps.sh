@@ -4,13 +4,9 @@
 # No part of the gate.
 set -eu
 cd "$(dirname "$0")/.."
-scratch=$(mktemp -d)
-trap 'rm -rf "$scratch"' EXIT
-mkdir -p "$scratch/crates/steps_bench/src"
-# With what earlier checks kept, so that only the program here is proved.
-cp -r crates/event_core crates/regex_steps "$scratch/crates/"
-printf 'event_core:\nregex_steps: event_core regex itoa jiff_core\nsteps_bench: event_core regex_steps anyhow\n' > "$scratch/crates.txt"
-cat > "$scratch/crates/steps_bench/src/main.rt" <<'PROGRAM'
+. bench/program.sh
+program steps_bench "event_core regex_steps" "anyhow"
+cat > "$program/src/main.rt" <<'PROGRAM'
 #![tactic(auto)]
 
 use anyhow::{Result, bail};
@@ -87,8 +83,7 @@ fn main(rt: HostRuntime) -> Result<()> {
     Ok(())
 }
 PROGRAM
-touch "$scratch/crates/steps_bench/stdin"
-(cd "$scratch/crates/steps_bench" && rt run)
+run_program
 if command -v python3 > /dev/null; then
     python3 - <<'PYTHON'
 import re, time

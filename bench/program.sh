@@ -1,0 +1,24 @@
+# For the scripts beside it, which source it from the top of the repository.
+#
+# program NAME "CRATES" "LIBRARIES" makes a crate of this name, in a scratch folder that goes at the end of the script, on these
+# crates of the repository and libraries of the kit. The crates come with what earlier checks kept, so that only the program is
+# proved. `$program` is then the crate's folder, where the script writes its files.
+program() {
+  local scratch crate
+  scratch=$(mktemp -d)
+  # shellcheck disable=SC2064
+  trap "rm -rf '$scratch'" EXIT
+  program="$scratch/crates/$1"
+  mkdir -p "$program/src"
+  for crate in $2; do
+    cp -r "crates/$crate" "$scratch/crates/"
+    grep "^$crate:" crates.txt >>"$scratch/crates.txt"
+  done
+  echo "$1: $2 $3" >>"$scratch/crates.txt"
+}
+
+# run_program proves it, and runs it as it was built.
+run_program() {
+  touch "$program/stdin"
+  (cd "$program" && rt run)
+}
