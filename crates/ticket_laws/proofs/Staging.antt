@@ -81,7 +81,7 @@ numbers_as tells s call t events may is = absurd is
 
 -- The calls around it.
 
-admitted : (tells : Bool) (s : State) (x : List Step) (step : Step) (y : List Step) → IsRun tells s (x ++ step ∷ y) → Admits tells (state_after s x) step.call
+pub admitted : (tells : Bool) (s : State) (x : List Step) (step : Step) (y : List Step) → IsRun tells s (x ++ step ∷ y) → Admits tells (state_after s x) step.call
 admitted tells s [] step y run = run.0
 admitted tells s (first ∷ x) step y run = admitted tells (after s first.call) x step y run.1
 

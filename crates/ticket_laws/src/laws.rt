@@ -1,5 +1,8 @@
 // Laws of tickets. An empty entry's ticket has no frame and its entry stands nowhere, so they speak of the others.
+ghost use Rattle.ticket_laws.specs.Batches.{AnsweredIsInJournal, CommittedIsInJournal};
 ghost use Rattle.ticket_laws.specs.Tickets.{SettledIsInJournal, UnsettledIsStaged, SettlingSettles, StaysSettled, TicketsNumberPuts};
+
+use channel_face::{PutFace, TakeFace};
 
 /// Where the ticket of an entry is settled, the journal has this entry, right behind all that was committed before it was staged.
 pub fn settled_is_in_journal()
@@ -26,4 +29,17 @@ pub fn stays_settled()
 /// where no reopen before read its list from a disk that doesn't tell.
 pub fn tickets_number_puts()
     ensures { TicketsNumberPuts }
+{}
+
+/// A batch of some events that a face answered Ok is in the journal of the history at whose end the face left the channel: as one
+/// entry, right behind what was committed before its stage, and its first event has the number that was answered. This holds
+/// where no other call of the history changed the batch's puts.
+pub fn answered_is_in_journal<P: PutFace>(face: &P)
+    ensures { AnsweredIsInJournal (P.saw face.now) (P.seen face.now) }
+{}
+
+/// What a transaction had taken that a face committed with Ok is in that journal as taken, right behind what was committed before
+/// its stage.
+pub fn committed_is_in_journal<T: TakeFace>(face: &T)
+    ensures { CommittedIsInJournal (T.saw face.now) (T.seen face.now) }
 {}

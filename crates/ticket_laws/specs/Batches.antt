@@ -1,0 +1,74 @@
+-- What the answers to whole transactions say of the journal.
+use Rattle.std.specs.Prelude.{◌≡◌, ◌⊎◌, ℕ, List, [], ◌∷◌, ◌++◌, Some, Ok, Bool}
+use Rattle.event_core.specs.Content.{Content}
+use Rattle.event_core.specs.Journal.{IsBase, IsNotEmpty, next}
+use Rattle.event_core.specs.declared.journal.Entry.TheVariants.{Puts, Takes}
+use Rattle.channel_face.specs.Token.{Token}
+use Rattle.channel_face.specs.Machine.{State, BeginPut, StagePut, StageTake, after, puts_of, takes_of}
+use Rattle.channel_face.specs.History.{Step, Opening, opening, IsRun, state_after, journal, commits}
+use Rattle.channel_face.specs.Faces.{Own, one, IsPutBatch, IsTakeCommit}
+use Rattle.channel_face.specs.Laws.{ReadsNone}
+use Rattle.channel_face.specs.declared.replies.Ticket.{Ticket}
+use Rattle.ticket_laws.specs.Tickets.{HasBehind}
+
+-- From this state on each call of the history is the next one of one's own, or leaves what is looked at as it is.
+abbrev pub AreAmong : {V : Type 0} → (State → V) → State → List Step → List Own → Type 0
+AreAmong look s [] own = own ≡ []
+AreAmong look s (step ∷ h) own =
+    ((look (after s step.call) ≡ look s) × AreAmong look (after s step.call) h own)
+    ⊎ ((rest : List Own) × (own ≡ one step.call s step.moment ++ rest) × AreAmong look (after s step.call) h rest)
+
+-- where the others may do anything
+abbrev pub nothing : State → Unit {0}
+nothing s = tt
+
+-- the first of these calls began this transaction
+abbrev pub BeginsWith : List Own → Token → Type 0
+BeginsWith own token = (s : State) × (moment : ℕ) × (rest : List Own) × (own ≡ one (BeginPut (Ok token)) s moment ++ rest)
+
+-- the face left the channel at the end of the history
+abbrev pub LeftAtEnd : (List Own → State → Type 0) → Opening → List Step → Type 0
+LeftAtEnd saw o h = (all : List Own) (s : State) → saw all s → s ≡ state_after (opening o) h
+
+-- The transaction that these calls began with was staged with a ticket of this first number, and the journal has just these events of it as one
+-- entry, right behind what was committed before that stage. The number is that of the next event there.
+pub record ArePutInJournal (o : Opening) (h : List Step) (own : List Own) (events : List Content) (number : ℕ) : Type 0 where
+  pub token : Token
+  pub begun : BeginsWith own token
+  pub front : List Step
+  pub stage : Step
+  pub back : List Step
+  pub whole : h ≡ front ++ stage ∷ back
+  pub ticket : Ticket
+  pub staged : stage.call ≡ StagePut token (Ok ticket)
+  pub first : ticket.first ≡ number
+  pub put : puts_of (state_after (opening o) front) token ≡ Some events
+  pub entry : HasBehind (commits (opening o) front) (Puts events) (journal (opening o) h)
+  pub numbered : ReadsNone front → number ≡ next o.base (commits (opening o) front)
+
+-- A batch of some events that a face answered Ok is in the journal, under the number of the answer, where no other call changed its puts.
+abbrev pub AnsweredIsInJournal : (List Own → State → Type 0) → ℕ → Type 0
+AnsweredIsInJournal saw seen =
+    (tells : Bool) (o : Opening) (h : List Step) (number : ℕ) (events : List Content) (earlier own : List Own)
+    → IsBase o.base → IsRun tells (opening o) h → LeftAtEnd saw o h → IsPutBatch saw seen events (Ok number) earlier own
+    → ((token : Token) → BeginsWith own token → AreAmong (λ s. puts_of s token) (opening o) h (earlier ++ own)) → IsNotEmpty (Puts events)
+    → ArePutInJournal o h own events number
+
+-- A stage of this transaction was answered Ok, and the journal has what it had taken by then, if anything, right behind what was committed before.
+pub record AreTakenInJournal (o : Opening) (h : List Step) (token : Token) : Type 0 where
+  pub front : List Step
+  pub stage : Step
+  pub back : List Step
+  pub whole : h ≡ front ++ stage ∷ back
+  pub ticket : Ticket
+  pub staged : stage.call ≡ StageTake token (Ok ticket)
+  pub numbers : List ℕ
+  pub taken : takes_of (state_after (opening o) front) token ≡ Some numbers
+  pub entry : IsNotEmpty (Takes numbers) → HasBehind (commits (opening o) front) (Takes numbers) (journal (opening o) h)
+
+-- What a transaction took that a face committed with Ok is in the journal as taken.
+abbrev pub CommittedIsInJournal : (List Own → State → Type 0) → ℕ → Type 0
+CommittedIsInJournal saw seen =
+    (tells : Bool) (o : Opening) (h : List Step) (token : Token) (earlier own : List Own)
+    → IsRun tells (opening o) h → LeftAtEnd saw o h → IsTakeCommit saw seen token (Ok tt) earlier own → AreAmong nothing (opening o) h (earlier ++ own)
+    → AreTakenInJournal o h token
