@@ -1,5 +1,5 @@
 -- Words that are one command are no other.
-use Rattle.std.proofs.Common.{◌≡◌, ℕ, List, [], ◌∷◌, codes, get_or, ap, sym, subst, ◌∙◌, arith, Option, Some, None, MatchOption}
+use Rattle.std.proofs.Common.{◌≡◌, ℕ, List, [], ◌∷◌, codes, get_or, ap, subst, arith, Option, Some, None, MatchOption}
 use Rattle.agent_words.specs.Commands.{IsPipe, IsLoad, IsAgent, IsCheck, IsNone, IsCommand}
 use Rattle.agent_words.specs.declared.command.Command.{Command}
 use Rattle.agent_run.specs.Words.{IsNoCommand}
@@ -20,12 +20,6 @@ agent_letter words name file is = ap second is.1
 
 load_letter : (words : List (List ℕ)) (n : ℕ) (dir : List ℕ) → IsLoad words n dir → second words ≡ get_or (codes "load") 1 0
 load_letter words n dir is = ap second is.1
-
-pub no_pipe_and_check : (words : List (List ℕ)) (dir name file : List ℕ) → IsPipe words dir → IsCheck words name file → ⊥
-no_pipe_and_check words dir name file a b = let p = pipe_letter words dir a in let q = check_letter words name file b in omega (arith, p, q)
-
-pub same_dir : (words : List (List ℕ)) (dir other : List ℕ) → IsPipe words dir → IsPipe words other → dir ≡ other
-same_dir words dir other a b = cc (sym a.0 ∙ b.0)
 
 pub agent_does_not_run : (words : List (List ℕ)) (name file : List ℕ) → IsAgent words name file → IsNoCommand words
 agent_does_not_run words name file is =

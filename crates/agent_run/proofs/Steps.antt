@@ -309,17 +309,3 @@ stopped_flushed {output = output} {took = took} {took' = took'} {now = now} late
   counted = s.counted;
   stands = s.stands;
 }
-
-pub served_flushed : {max : ℕ} {P : ℕ → Type 0} {end : LinesEnd} {input left output took took' : Option (List ℕ)} {accepted : ℕ} {Stands : List Handled → Type 0} → Keeps took took'
-    → Served max P end input left output took accepted Stands → Served max P end input left output took' accepted Stands
-served_flushed {output = output} {took = took} {took' = took'} kept s = record {
-  bytes = s.bytes;
-  read = s.read;
-  size = s.size;
-  done = s.done;
-  cut = s.cut;
-  going = s.going;
-  wrote = Appends-kept output took took' _ s.wrote kept;
-  counted = s.counted;
-  stands = s.stands;
-}

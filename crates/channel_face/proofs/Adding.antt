@@ -1,7 +1,7 @@
 -- Calls after calls.
 use Rattle.std.proofs.Common.{◌≡◌, ℕ, List, [], ◌∷◌, ◌++◌, true, refl, sym, ◌∙◌, ap, subst, append_assoc}
 use Rattle.channel_face.specs.Machine.{Call, State, Admits, after}
-use Rattle.channel_face.specs.History.{Opening, opening, Step, Said, by_pass, calls, Adds, AddsOne, Made, IsRun, state_after, Moves, Shows, StandsFor}
+use Rattle.channel_face.specs.History.{Opening, opening, Step, Said, by_pass, Adds, AddsOne, IsRun, state_after, Moves, Shows, StandsFor}
 use Rattle.channel_face.specs.Counters.{Tally, tally, counted, counts_of, counts_with, StandsCounted}
 use Rattle.channel_face.specs.declared.replies.Counts.{Counts}
 use Rattle.channel_face.proofs.Tallies.{tally-push}
@@ -9,10 +9,6 @@ use Rattle.channel_face.proofs.Tallies.{tally-push}
 by_pass-append : (pass : ℕ) (x y : List Said) → by_pass pass (x ++ y) ≡ by_pass pass x ++ by_pass pass y
 by_pass-append pass [] y = refl
 by_pass-append pass (s ∷ x) y = ap (λ (l : List Step). record { pass = pass; call = s.call; moment = s.moment } ∷ l) (by_pass-append pass x y)
-
-pub calls-append : (x y : List Said) → calls (x ++ y) ≡ calls x ++ calls y
-calls-append [] y = refl
-calls-append (s ∷ x) y = ap (λ (l : List Call). s.call ∷ l) (calls-append x y)
 
 pub adds_then : (a b c : Opening → List Step → Type 0) (x y : List Said) → Adds a b x → Adds b c y → Adds a c (x ++ y)
 adds_then a b c x y f g start h pass stands =
@@ -35,16 +31,6 @@ state-append s (step ∷ x) y = state-append (after s step.call) x y
 pub run-last : (tells : _) (s : State) (h : List Step) (step : Step) → IsRun tells s (h ++ step ∷ []) → Admits tells (state_after s h) step.call
 run-last tells s [] step run = run.0
 run-last tells s (x ∷ h) step run = run-last tells (after s x.call) h step run.1
-
-pub made_one : (a b : Opening → List Step → Type 0) (call : Call) (moment : ℕ) → AddsOne a b call moment → Made a b (λ cs. cs ≡ call ∷ [])
-made_one a b call moment adds = (record { call = call; moment = moment } ∷ [], adds, refl)
-
--- calls after calls
-pub made_then : (a b c : Opening → List Step → Type 0) (P Q R : List Call → Type 0) → Made a b P → Made b c Q → ((x y : List Call) → P x → Q y → R (x ++ y)) → Made a c R
-made_then a b c P Q R f g join = (f.0 ++ g.0, adds_then a b c f.0 g.0 f.1 g.1, rw (calls-append f.0 g.0) (join (calls f.0) (calls g.0) f.2 g.2))
-
-pub made_as : (a b : Opening → List Step → Type 0) (P Q : List Call → Type 0) → Made a b P → ((x : List Call) → P x → Q x) → Made a b Q
-made_as a b P Q f turn = (f.0, f.1, turn (calls f.0) f.2)
 
 -- a move adds its call to what a state stands for
 pub adds : (old : State) (call : Call) (new : State) → Moves true old call new → AddsOne (StandsFor old) (StandsFor new) call 0

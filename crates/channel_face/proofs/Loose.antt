@@ -1,8 +1,7 @@
 -- A run over a disk that tells is one over a disk that doesn't.
-use Rattle.std.proofs.Common.{◌≡◌, ℕ, List, [], ◌∷◌, Option, None, Some, Result, Ok, Err, true, false, refl, ap}
+use Rattle.std.proofs.Common.{◌≡◌, ℕ, List, Option, None, Some, Result, Ok, Err, true, false, refl, ap}
 use Rattle.event_core.specs.Content.{Content, size}
-use Rattle.channel_face.specs.Machine.{State, Call, BeginPut, BeginTake, Put, Take, StagePut, StageTake, Flush, RollbackPut, RollbackTake, Checkpoint, Prune, Reopen, Kept, Front, Read, Admits, AdmitsTake, AdmitsReopen, MayKeep, Gives, after, takes_of}
-use Rattle.channel_face.specs.History.{Step, IsRun}
+use Rattle.channel_face.specs.Machine.{State, Call, BeginPut, BeginTake, Put, Take, StagePut, StageTake, Flush, RollbackPut, RollbackTake, Checkpoint, Prune, Reopen, Kept, Front, Read, Admits, AdmitsTake, AdmitsReopen, MayKeep, Gives, takes_of}
 use Rattle.channel_face.specs.declared.replies.Taken.{Taken}
 use Rattle.channel_face.specs.declared.replies.TakeRefused.{TakeRefused}
 use Rattle.channel_face.specs.declared.replies.TakeRefused.TheVariants as TakeNo
@@ -54,7 +53,3 @@ loose s (RollbackTake token ended) may = may
 loose s (Checkpoint reply) may = may
 loose s (Prune reply) may = may
 loose s (Reopen reply) may = (loose_reopen s reply may.0, may.1)
-
-pub loose_run : (s : State) (h : List Step) → IsRun true s h → IsRun false s h
-loose_run s [] run = run
-loose_run s (step ∷ h) run = (loose s step.call run.0, loose_run (after s step.call) h run.1)

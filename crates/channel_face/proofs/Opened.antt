@@ -24,9 +24,6 @@ opened_times n opened = times n (taken_numbers (entries opened))
 pub times-cons : (n : ℕ) (entry : Entry) (rest : List Entry) → times n (taken_numbers (entry ∷ rest)) ≡ entry_times n entry + times n (taken_numbers rest)
 times-cons n entry rest = ap (λ (l : List ℕ). times n l) (taken_numbers-append (entry ∷ []) rest) ∙ times-append n (taken_numbers (entry ∷ [])) (taken_numbers rest)
 
-pub times-put : (n : ℕ) (events : List Content) → entry_times n (Puts events) ≡ 0
-times-put n events = refl
-
 pub times-take : (n : ℕ) (numbers : List ℕ) → entry_times n (Takes numbers) ≡ times n numbers
 times-take n numbers = ap (λ (l : List ℕ). times n l) (append-nil numbers)
 
@@ -156,12 +153,5 @@ pub puts_of-from : (s : State) (token : Token) (events : List Content) → token
 puts_of-from s token events life is = from (eqb_tells token.life s.life)
   where
     from : ((token.life == s.life) ≡ true) × (token.life ≡ s.life) ⊎ ((token.life == s.life) ≡ false) × (token.life ≢ s.life) → puts_of s token ≡ Some events
-    from (inl alive) = rw (alive.0, is) refl
-    from (inr stale) = absurd (stale.1 life)
-
-pub takes_of-from : (s : State) (token : Token) (numbers : List ℕ) → token.life ≡ s.life → entry_of token.number s.opened ≡ Some (Takes numbers) → takes_of s token ≡ Some numbers
-takes_of-from s token numbers life is = from (eqb_tells token.life s.life)
-  where
-    from : ((token.life == s.life) ≡ true) × (token.life ≡ s.life) ⊎ ((token.life == s.life) ≡ false) × (token.life ≢ s.life) → takes_of s token ≡ Some numbers
     from (inl alive) = rw (alive.0, is) refl
     from (inr stale) = absurd (stale.1 life)

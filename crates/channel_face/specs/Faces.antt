@@ -90,7 +90,7 @@ abbrev pub IsFound : (List Own → State → Type 0) → List Own → List Own �
 IsFound saw earlier [] s = saw earlier s
 IsFound saw earlier (o ∷ own) s = o.before ≡ s
 
--- The transaction was rolled back, unless its token was stale in the state that it found. A rollback of a stale token changes nothing, and a shared
+-- The transaction was rolled back, unless its token was stale in the state that the face found. A rollback of a stale token changes nothing, and a shared
 -- channel does not count it.
 abbrev pub IsRolledBack : (List Own → State → Type 0) → (Bool → Call) → (State → Type 0) → List Own → List Own → Type 0
 IsRolledBack saw rollback IsStale earlier own =
@@ -103,14 +103,14 @@ IsPutRolledBack saw token earlier own = IsRolledBack saw (RollbackPut token) (λ
 abbrev pub IsTakeRolledBack : (List Own → State → Type 0) → Token → List Own → List Own → Type 0
 IsTakeRolledBack saw token earlier own = IsRolledBack saw (RollbackTake token) (λ s. takes_of s token ≡ None) earlier own
 
--- A staged transaction whose ticket was found so: it is flushed exactly where that is `No`, unless no more calls are counted. It is sure where it was
--- settled or the flush answered Ok.
+-- A staged transaction whose ticket was found so: it is flushed exactly where that is `No`, unless no more calls are counted. It is sure exactly
+-- where it was settled or the flush answered Ok.
 abbrev pub EndsAs : ℕ → State → Settled → List Own → Bool → Type 0
 EndsAs seen s Yes own sure = (own ≡ []) × (sure ≡ true)
 EndsAs seen s No own sure = (reply : Result (Unit {0}) FlushRefused) × IsMade seen (is_spent_flush reply) (Flush reply) s own × (sure ≡ is_ok reply)
 EndsAs seen s InDoubt own sure = (own ≡ []) × (sure ≡ false)
 
--- its ticket was asked for in the state that it found
+-- its ticket was asked for in the state that the face found
 abbrev pub Ends : (List Own → State → Type 0) → ℕ → Ticket → List Own → List Own → Bool → Type 0
 Ends saw seen ticket earlier own sure = (s : State) × IsFound saw earlier own s × EndsAs seen s (settled s ticket) own sure
 
@@ -150,7 +150,7 @@ EndsBegin saw seen events (Ok token) earlier own result =
     × EndsPuts saw seen token reply (earlier ++ puts) ending result
 
 -- A transaction of its own that puts these events: a begin, a put of each up to the first refusal, and a stage. It is rolled back where a put or the
--- stage was refused, and flushed exactly where its ticket was `No` when it was asked for, unless no more calls are counted.
+-- stage was refused, unless its token is stale, and flushed exactly where its ticket was `No` when it was asked for, unless no more calls are counted.
 abbrev pub IsPutBatch : (List Own → State → Type 0) → ℕ → List Content → Result ℕ FaceRefused → List Own → List Own → Type 0
 IsPutBatch saw seen events result earlier own =
     (reply : Result Token BeginRefused) × (s : State) × (begun ending : List Own) × (own ≡ begun ++ ending)
@@ -169,8 +169,8 @@ abbrev pub EndsTakeStage : (List Own → State → Type 0) → ℕ → Token →
 EndsTakeStage saw seen token (Err cause) earlier own result = IsTakeRolledBack saw token earlier own × (result ≡ Err (Face.Stage cause))
 EndsTakeStage saw seen token (Ok ticket) earlier own result = (sure : Bool) × Ends saw seen ticket earlier own sure × (result ≡ in_doubt_unless sure tt)
 
--- A commit of takes: a stage, and a rollback where it was refused. It is flushed exactly where its ticket was `No` when it was asked for, unless no
--- more calls are counted.
+-- A commit of takes: a stage, and a rollback where it was refused, unless its token is stale. It is flushed exactly where its ticket was `No` when it
+-- was asked for, unless no more calls are counted.
 abbrev pub IsTakeCommit : (List Own → State → Type 0) → ℕ → Token → Result (Unit {0}) FaceRefused → List Own → List Own → Type 0
 IsTakeCommit saw seen token result earlier own =
     (reply : Result Ticket StageCause) × (s : State) × (staged ending : List Own) × (own ≡ staged ++ ending)

@@ -23,9 +23,9 @@ pub trait PutFace {
 
     /// Puts the events at these places of the batch, in order, as one transaction, and answers the number of its first event,
     /// or without events the next one. The transaction is begun, put event by event up to the first refusal, and staged. Where
-    /// a put or the stage was refused, it is rolled back. Where its ticket is `No` when it is then asked for, one flush follows,
-    /// unless no more calls are counted: so several callers may be settled by one flush. `InDoubt` comes exactly where the
-    /// ticket is in doubt or that flush was refused or left out.
+    /// a put or the stage was refused, it is rolled back, unless its token is stale. Where its ticket is `No` when it is then asked
+    /// for, one flush follows, unless no more calls are counted: so several callers may be settled by one flush. `InDoubt` comes
+    /// exactly where the ticket is in doubt or that flush was refused or left out.
     fn put_batch(&mut self, batch: &Batch, picked: &[u32]) -> Result<u64, FaceRefused>
         requires { All (λ place. place < length batch.now) picked.now }
         ensures seen { seen self.old ≤ seen self.new }
@@ -67,9 +67,9 @@ pub trait TakeFace {
         ensures calls { Gains (own self.old) (own self.new) (λ earlier. IsTake (seen self.new) txn.old result) }
         ensures same { txn.new ≡ txn.old };
 
-    /// Stages a transaction. Where the stage was refused, it is rolled back. Where its ticket is `No` when it is then asked for,
-    /// one flush follows, unless no more calls are counted. `InDoubt` comes exactly where the ticket is in doubt or that flush
-    /// was refused or left out.
+    /// Stages a transaction. Where the stage was refused, it is rolled back, unless its token is stale. Where its ticket is `No`
+    /// when it is then asked for, one flush follows, unless no more calls are counted. `InDoubt` comes exactly where the ticket is
+    /// in doubt or that flush was refused or left out.
     fn commit(&mut self, txn: TakeTxn) -> Result<(), FaceRefused>
         ensures seen { seen self.old ≤ seen self.new }
         ensures kept { kept self.old self.new }

@@ -38,14 +38,6 @@ pub record FoldersOn (was told : Option Told) (faulty faults from : ℕ) (now : 
   pub reached : IsReached now
   pub on : WhereTold was (λ t. WhereLogs t.reads (λ logs. FilesUpTo t.reads logs from now none steps))
 
-pub folders_none : (was : Option Told) (faulty : ℕ) (start : Recovery) (none : ℕ) → Agrees empty_base [] start → FoldersOn was was faulty faulty 0 start none none
-folders_none was faulty start none agrees = record {
-  same = refl;
-  well = refl;
-  reached = ([], agrees);
-  on = λ t is logs are. record { done = []; rest = logs; split = refl; are = are; sound = tt; agrees = agrees; ticks = omega arith };
-}
-
 -- a number above a name
 above : (after : Option FileName) (n : ℕ) → floor after ≤ n → n < 2 ^ 32 → IsAbove after (Log n)
 above None n low high = tt

@@ -53,9 +53,6 @@ pub record AppliedTo (all rest : List Line) (r : Recovery) : Type 0 where
   pub sound : AreSound empty_base [] done
   pub agrees : Agrees empty_base (past_lines [] done) r
 
-pub applied_none : (all : List Line) (r : Recovery) → Agrees empty_base [] r → AppliedTo all all r
-applied_none all r a = record { done = []; split = refl; sound = tt; agrees = a }
-
 pub applied_more : (all rest more : List Line) (line : Line) (old new : Recovery) → AppliedTo all rest old → rest ≡ line ∷ more
     → ((base : Base) (past : Past) → Agrees base past old → IsSound base past line × Agrees base (past_line past line) new) → AppliedTo all more new
 applied_more all rest more line old new on is applies =
@@ -78,17 +75,6 @@ applied_bad all rest more line old file at on is bad = record {
   bad = bad.1 empty_base (past_lines [] on.done) on.agrees;
   place = bad.0;
 }
-
-pub applied_all : (all rest : List Line) (r : Recovery) (end : Replayed) → AppliedTo all rest r → rest ≡ [] → end.items.items ≡ r.items.items → end.next.number ≡ r.number → end.next.txn ≡ r.txn → IsRecovered all end
-applied_all all rest r end on is items number txn =
-    let whole : on.done ≡ all = sym (append-nil on.done) ∙ ap (λ (l : List Line). on.done ++ l) (sym is) ∙ sym on.split in
-    let past : past_lines [] on.done ≡ past_lines [] all = ap (past_lines []) whole in
-    record {
-      sound = subst (AreSound empty_base []) whole on.sound;
-      items = items ∙ on.agrees.items ∙ ap (λ (p : Past). left empty_base (journal p)) past;
-      number = number ∙ on.agrees.number ∙ ap (next_number empty_base) past;
-      txn = txn ∙ on.agrees.txn ∙ ap next_txn past;
-    }
 
 same_base : (a b : Base) → a.items ≡ b.items → a.first ≡ b.first → a ≡ b
 same_base a b items first = rw (items, first) refl
@@ -117,9 +103,6 @@ are_of-push [] [] file log are number holds = (number, holds, tt)
 are_of-push [] (l ∷ logs) file log are number holds = absurd are
 are_of-push (f ∷ files) [] file log are number holds = absurd are
 are_of-push (f ∷ files) (l ∷ logs) file log are number holds = (are.0, are.1, are_of-push files logs file log are.2 number holds)
-
-pub files_none : FilesOn [] []
-files_none = record { logs = []; are = tt; is = refl }
 
 pub files_more : (files : List WholeFile) (file : WholeFile) (now new : List Line) → FilesOn files now → AddsFile file.bytes.items file.number now new → FilesOn (files ++ file ∷ []) new
 files_more files file now new on adds =

@@ -1,15 +1,14 @@
 -- What stands in a whole file.
-use Rattle.std.proofs.Common.{◌≡◌, ◌≢◌, ◌⊎◌, inl, inr, ◌<◌, ◌≤◌, ◌+◌, ◌-◌, ℕ, List, [], ◌∷◌, ◌++◌, length, take, drop, get_or, Option, Some, None, ◌==◌, cond, refl, sym, ◌∙◌, ap, arith, append_assoc, length-append, length-drop, take-append-drop}
+use Rattle.std.proofs.Common.{◌≡◌, ◌⊎◌, inl, inr, ◌<◌, ◌≤◌, ◌+◌, ◌-◌, ℕ, List, [], ◌∷◌, ◌++◌, length, take, drop, get_or, Option, Some, None, ◌==◌, cond, refl, sym, ◌∙◌, ap, arith, append_assoc, length-append, length-drop, take-append-drop}
 use Rattle.std.specs.List.{AllByRecursion}
 use Rattle.std.proofs.lemmas.List.{append-nil, drop_more}
 use Rattle.std.proofs.Math.Seq.{take-append_seam}
 use Rattle.event_core.specs.Numbers.{u16_bytes, u32_bytes}
 use Rattle.record_form.specs.declared.record.Rec.{Rec}
 use Rattle.record_form.specs.Record.{record_length}
-use Rattle.channel_log.specs.Frames.{BadFrame, BadHeader, Blank, Breaks, Commits, HasHeader, IsBirth, IsFrame, IsFramed, Whole, frame_bytes, header, opened}
+use Rattle.channel_log.specs.Frames.{BadFrame, BadHeader, Breaks, Commits, HasHeader, IsBirth, IsFrame, IsFramed, Whole, frame_bytes, header, opened}
 use Rattle.channel_log.specs.Reader.{AreRecords, IsCount, IsFrameBytes, OpensNone, closing, frame_items, kept, record_items, step}
 use Rattle.channel_log.proofs.Bytes.{all-push, opened-push}
-use Rattle.channel_log.proofs.Given.{length-closing}
 use Rattle.channel_log.proofs.ReadOn.{some_length}
 use Rattle.channel_replay.specs.Plain.{AddsFile, AddsFrame, AddsFrames, EndsAt}
 use Rattle.channel_replay.specs.Recover.{Line, Begins, Stands, Faulty, fault_lines, record_lines}
@@ -106,13 +105,6 @@ goes_further frame place file from was now rec next on less gives = by_left on.l
         let given = gives first more (length on.records) each.0 each.1 (record { some = on.is.some; few = on.is.few }) rest in
         omega (arith, given.1, longer first more)
 
-pub lines_all : (frame : List ℕ) (place file from : ℕ) (was now : List Line) → LinesOn frame place file from was now → length frame ≤ place → AddsFrame frame file from was now
-lines_all frame place file from was now on long = by_left on.left on.rest on.lines
-  where
-    by_left : (left : List Rec) → drop place frame ≡ kept left (length on.records) → now ++ record_lines file (record_items (from + place) left) ≡ was ++ record_lines file (record_items from on.records) → AddsFrame frame file from was now
-    by_left [] rest lines = record { records = on.records; is = on.is; same = on.whole; lines = sym (append-nil now) ∙ lines }
-    by_left (r ∷ rs) rest lines = absurd (omega (arith, ap length rest, length-closing (r ∷ rs) (length on.records), length-drop place frame, long))
-
 -- the frames of a file, one after another
 
 pub record FramesOn (bytes : List ℕ) (gate file : ℕ) (was now : List Line) : Type 0 where
@@ -122,9 +114,6 @@ pub record FramesOn (bytes : List ℕ) (gate file : ℕ) (was now : List Line) :
   pub at : gate ≡ 16 + length (opened done)
   pub within : gate < length bytes
   pub lines : now ≡ was ++ record_lines file (frame_items 16 done)
-
-pub frames_none : (bytes : List ℕ) (file : ℕ) (was : List Line) → 17 < length bytes → FramesOn bytes 16 file was was
-frames_none bytes file was long = record { done = []; each = tt; split = refl; at = refl; within = omega (arith, long); lines = sym (append-nil was) }
 
 pub record_lines-append : (file : ℕ) (a b : List (Rec × ℕ)) → record_lines file (a ++ b) ≡ record_lines file a ++ record_lines file b
 record_lines-append file [] b = refl
@@ -164,14 +153,6 @@ frames_more bytes gate next file at frame was now new on one within e frame_is a
           ∙ ap (λ (l : List Line). was ++ l) (sym (record_lines-append file (frame_items 16 on.done) (record_items (16 + length (opened on.done) + 1) f)) ∙ ap (record_lines file) (sym (frame_items-push 16 on.done f)));
     }
 
-pub frames_closed : (bytes : List ℕ) (gate file : ℕ) (was now : List Line) → FramesOn bytes gate file was now → get_or bytes gate 0 ≢ 1 → AddsFrames bytes file was now
-frames_closed bytes gate file was now on other = record {
-  frames = on.done;
-  fault = None;
-  goes = inl (record { each = on.each; gate = get_or bytes gate 0; rest = drop (gate + 1) bytes; split = on.split ∙ ap (λ (l : List ℕ). opened on.done ++ l) (drop_more bytes gate 0 on.within); closed = other }, refl);
-  lines = on.lines ∙ ap (λ (l : List Line). was ++ l) (sym (append-nil (record_lines file (frame_items 16 on.done))));
-}
-
 pub frames_bad : (bytes : List ℕ) (gate file at : ℕ) (was now new : List Line) → FramesOn bytes gate file was now → get_or bytes gate 0 ≡ 1 → OpensNone (drop (gate + 1) bytes) → at ≡ gate → new ≡ now ++ Faulty file at ∷ [] → AddsFrames bytes file was new
 frames_bad bytes gate file at was now new on one none at_is added = record {
   frames = on.done;
@@ -186,9 +167,6 @@ frames_bad bytes gate file at was now new on one none at_is added = record {
 length-header : (birth number : ℕ) → length (header birth number) ≡ 16
 unfolding header u16_bytes u32_bytes
 length-header birth number = refl
-
-pub blank_file : (bytes : List ℕ) (file : ℕ) (was : List Line) → length bytes ≤ 17 → AddsFile bytes file was was
-blank_file bytes file was short = record { content = Blank; holds = short; lines = sym (append-nil was) }
 
 pub wrong_header : (bytes : List ℕ) (file : ℕ) (head : List ℕ) (was new : List Line) → 17 < length bytes → head ≡ take 16 bytes → ((birth : ℕ) → IsBirth birth → head ≡ header birth file → ⊥) → new ≡ was ++ Faulty file 0 ∷ [] → AddsFile bytes file was new
 wrong_header bytes file head was new long head_is none added = record {

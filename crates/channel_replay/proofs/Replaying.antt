@@ -19,7 +19,7 @@ use Rattle.channel_replay.specs.Marks.{Past}
 use Rattle.channel_replay.specs.Plain.{WhereBad}
 use Rattle.channel_replay.specs.Recover.{Begins, Faulty, HasFault, IsAt, IsSound, Line, Stands, begin_lines, empty_base, fault_lines, file_lines, past_line, past_lines, record_lines}
 use Rattle.channel_replay.specs.Recovery.{Agrees, IsReached}
-use Rattle.channel_replay.specs.Replay.{AppliesAll, WhereBadLog, WhereHolds, WhereOver, as_frame, as_record, drop_lines, record_count}
+use Rattle.channel_replay.specs.Replay.{AppliesAll, WhereBadLog, WhereHolds, as_frame, as_record, drop_lines, record_count}
 use Rattle.channel_replay.proofs.Lines.{fault_append, past_lines-append, sound_append}
 use Rattle.channel_replay.proofs.Reading.{record_lines-append}
 
@@ -30,18 +30,9 @@ frame_bad frames.DiskFault P is = tt
 frame_bad (frames.BadLog file at) P is = is
 frame_bad frames.NoMemory P is = tt
 
-pub frame_not_over : (e : FrameRefused) (P : ℕ → Type 0) → WhereOver (as_frame e) P
-frame_not_over frames.DiskFault P = tt
-frame_not_over (frames.BadLog file at) P = tt
-frame_not_over frames.NoMemory P = tt
-
 pub record_bad : (e : RecoverRefused) (P : ℕ → ℕ → Type 0) → WhereBad e P → WhereBadLog (as_record e) P
 record_bad (records.BadLog file at) P is = is
 record_bad records.NoMemory P is = tt
-
-pub record_not_over : (e : RecoverRefused) (P : ℕ → Type 0) → WhereOver (as_record e) P
-record_not_over (records.BadLog file at) P = tt
-record_not_over records.NoMemory P = tt
 
 pub frame_maps : (e : FrameRefused) (P Q : ℕ → ℕ → Type 0) → ((file at : ℕ) → P file at → Q file at) → FrameBad e P → FrameBad e Q
 frame_maps frames.DiskFault P Q maps is = tt

@@ -20,19 +20,11 @@ or_right : (b : Bool) → (b || false) ≡ b
 or_right true = refl
 or_right false = refl
 
-or_comm_true : (b : Bool) → (b || true) ≡ true
-or_comm_true true = refl
-or_comm_true false = refl
-
 by_both : (b c : Bool) → cond b true c ≡ (c || (b || false))
 by_both true true = refl
 by_both true false = refl
 by_both false true = refl
 by_both false false = refl
-
-true_there : (b c : Bool) → c ≡ true → c ≡ cond b true c
-true_there true c is = is
-true_there false c is = refl
 
 -- whether a number is among those with one more
 pub among_added : (t n : ℕ) (txns : List ℕ) → is_among (added t txns) n ≡ cond (t == n) true (is_among txns n)

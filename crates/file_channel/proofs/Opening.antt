@@ -1,11 +1,11 @@
 -- What an opening finds, and what it leaves of the folder.
-use Rattle.std.proofs.Common.{◌⊎◌, inl, inr, ◌≡◌, ◌<◌, ◌≤◌, ◌+◌, ◌-◌, ◌^◌, ◌++◌, ◌∷◌, [], ℕ, List, length, Option, Some, None, Result, Ok, Err, true, false, refl, sym, ◌∙◌, ap, subst, arith, append_assoc}
+use Rattle.std.proofs.Common.{◌⊎◌, inl, inr, ◌≡◌, ◌<◌, ◌≤◌, ◌+◌, ◌-◌, ◌^◌, ◌++◌, ◌∷◌, [], ℕ, List, length, Option, Some, None, Result, Ok, true, false, refl, sym, ◌∙◌, ap, subst, arith, append_assoc}
 use Rattle.std.specs.Prelude.{IsSome, IsSomeAnd}
 use Rattle.std.proofs.lemmas.Bool.{cases_lt}
 use Rattle.std.proofs.lemmas.Bool.Decides.{nat_tests}
 use Rattle.std.proofs.lemmas.List.{append-nil, get_or_past}
 use Rattle.flume_host.specs.Folder.{Files, Folder, IsAbove, IsImage, IsNext, name_below, settle_entry}
-use Rattle.flume_host.specs.Told.{Changes, DidPart, IsLeftAt, Leads, LeavesOnly, OneFile, Settle, Tells, Told, WhereTold, clock, done}
+use Rattle.flume_host.specs.Told.{Changes, IsLeftAt, Leads, LeavesOnly, OneFile, Settle, Tells, Told, WhereTold, clock, done}
 use Rattle.flume_host.specs.declared.names.Failed.{Failed}
 use Rattle.flume_host.specs.declared.names.FileName.TheVariants.{Check, Log}
 use Rattle.flume_host.proofs.Telling.{back, follows, forth, tells_more}
@@ -22,7 +22,7 @@ use Rattle.channel_replay.specs.declared.refused.ReplayRefused.TheVariants as re
 use Rattle.channel_replay.proofs.Earlier.{takes_earlier}
 use Rattle.channel_replay.proofs.Lines.{lines-append}
 use Rattle.channel_replay.proofs.OneList.{has_one_list, one_list}
-use Rattle.file_channel.specs.Folders.{AreSame, GainsLog, HasNoCheck, IsAsBefore, IsBegun, IsFirstCheck, IsLastLog, IsNextFile, OpensFrom, OpensOver, Refuses, as_cause, last_file, log_name}
+use Rattle.file_channel.specs.Folders.{AreSame, GainsLog, HasNoCheck, IsAsBefore, IsBegun, IsFirstCheck, IsNextFile, OpensFrom, OpensOver, Refuses, as_cause, last_file, log_name}
 use Rattle.file_channel.specs.Logs.{begun}
 use Rattle.file_channel.specs.Mirrors.{Mirrors}
 use Rattle.file_channel.specs.Written.{IsFresh, IsLogged, OnDisk}
@@ -30,9 +30,6 @@ use Rattle.file_channel.proofs.Flushing.{as_read, other_log, same_logs}
 use Rattle.file_channel.proofs.Recovering.{logs_and_one}
 
 -- names
-
-some_there : {A : Type 0} (o : Option A) → IsSome o → o ≡ None → ⊥
-some_there o is none = let e : false ≡ true = rw none at is in cc
 
 check_above : (n : ℕ) → IsAbove (Some (Log last_file)) (Check n)
 check_above n = refl
@@ -45,10 +42,6 @@ first_check files number next = (next.0, λ n less. next.2 (Check n) (check_abov
 
 pub no_check : (files : Files) → IsNext files (Some (Log last_file)) None → HasNoCheck files
 no_check files next n = next (Check n) (check_above n)
-
--- no log file has a number above the last one
-pub no_log_above : (number : ℕ) → number < 2 ^ 32 → IsAbove (Some (Log last_file)) (Log number) → ⊥
-no_log_above number small above = grind (arith, nat_tests)
 
 -- how far the names of log files were gone through
 abbrev pub IsLogThere : Files → Option ℕ → Type 0
@@ -69,32 +62,7 @@ pub above_floor : (last : Option ℕ) (n : ℕ) → IsAbove (log_name last) (Log
 above_floor None n above = omega arith
 above_floor (Some m) n above = grind (arith, nat_tests)
 
-above_last : (m n : ℕ) → m < n → IsAbove (Some (Log m)) (Log n)
-above_last m n less = grind (arith, nat_tests)
-
-pub last_none : (files : Files) (last : Option ℕ) → IsLogThere files last → IsNext files (log_name last) None → IsLastLog files last
-last_none files None there next = λ n. next (Log n) tt
-last_none files (Some m) there next = (there, λ n less. next (Log n) (above_last m n less))
-
-pub last_check : (files : Files) (last : Option ℕ) (check : ℕ) → IsLogThere files last → IsNext files (log_name last) (Some (Check check)) → IsLastLog files last
-last_check files None check there next = λ n. next.2 (Log n) tt refl
-last_check files (Some m) check there next = (there, λ n less. next.2 (Log n) (above_last m n less) refl)
-
 -- the number behind them
-
-pub first_file : (files : Files) → IsLastLog files None → IsNextFile files 1
-first_file files none = record { some = omega arith; small = omega arith; none = λ n more. none n; last = λ less. absurd (omega (arith, less)) }
-
-pub file_behind : (files : Files) (last : ℕ) → IsLastLog files (Some last) → last < last_file → IsNextFile files (last + 1)
-file_behind files last is less = record {
-  some = omega arith;
-  small = omega (arith, less);
-  none = λ n more. is.1 n (omega (arith, more));
-  last = λ two. subst (λ (n : ℕ). IsSome (files (Log n))) (minus last) is.0;
-}
-  where
-    minus : (n : ℕ) → n ≡ n + 1 - 1
-    minus n = omega arith
 
 -- what a folder leaves
 
@@ -221,13 +189,6 @@ EitherImage t image = IsImage t.now image ⊎ IsAsBefore t.reads image
 settles_over : (result : Result (Unit {0}) Failed) (t u : Told) → IsImage t.now t.reads → Leads Settle result t u → OpensOver t u
 settles_over result t u reads leads = goes_on Settle result t t u (EitherImage t) reads tt (started t (EitherImage t) (λ image left. inl left)) leads (λ image left. inl left)
 
-settle_stays : (e : Failed) (t u : Told) → Leads {T = Unit {0}} Settle (Err e) t u → AreSame t.reads u.reads
-settle_stays e t u leads = from leads.err
-  where
-    from : (u ≡ t) ⊎ DidPart Settle t u → AreSame t.reads u.reads
-    from (inl same) name = ap (λ (v : Told). v.reads name) same
-    from (inr part) name = part.others name refl
-
 settled_from : (t : Told) → OpensFrom t (done Settle t)
 settled_from t = started (done Settle t) (IsAsBefore t.reads) (λ image left. inl (settled_image t image left))
 
@@ -302,20 +263,11 @@ BeginsFile number t u = Changes (Log number) IsBlank 1 t u
 pub has_settled : (told told' later : Option Told) → Tells told told' (Leads {T = Unit {0}} Settle (Ok tt)) → later ≡ told' → Tells told later SettledAs
 has_settled told told' later does same = subst (λ (v : Option Told). Tells told v SettledAs) (sym same) (tells_more told told' (Leads {T = Unit {0}} Settle (Ok tt)) SettledAs (λ t u old new leads. leads.ok) does)
 
-pub fault_over : (e : Failed) (told told' : Option Told) → ReadsAreLeft told → Tells told told' (Leads {T = Unit {0}} Settle (Err e)) → Tells told told' OpensOver
-fault_over e told told' reads does = tells_more told told' (Leads {T = Unit {0}} Settle (Err e)) OpensOver (λ t u old new leads. settles_over (Err e) t u (reads t old) leads) does
-
-pub fault_stays : (e : Failed) (told told' : Option Told) → Tells told told' (Leads {T = Unit {0}} Settle (Err e)) → Tells told told' (λ t u. IsAsBefore t.reads u.reads)
-fault_stays e told told' does = tells_more told told' (Leads {T = Unit {0}} Settle (Err e)) (λ t u. IsAsBefore t.reads u.reads) (λ t u old new leads. inl (settle_stays e t u leads)) does
-
 pub refused_over : (told told' : Option Told) → ReadsAreLeft told → Tells told told' SettledAs → Tells told told' OpensOver
 refused_over told told' reads is = tells_more told told' SettledAs OpensOver (λ t u old new same. subst (λ (v : Told). OpensOver t v) (sym same) (settle_over t (reads t old))) is
 
 pub refused_from : (told told' : Option Told) → Tells told told' SettledAs → Tells told told' OpensFrom
 refused_from told told' is = tells_more told told' SettledAs OpensFrom (λ t u old new same. subst (λ (v : Told). OpensFrom t v) (sym same) (settled_from t)) is
-
-pub refused_stays : (told told' : Option Told) → Tells told told' SettledAs → Tells told told' (λ t u. AreSame t.reads u.reads)
-refused_stays told told' is = tells_more told told' SettledAs (λ t u. AreSame t.reads u.reads) (λ t u old new same name. ap (λ (v : Told). v.reads name) same) is
 
 -- what was read of the folder once it was settled
 pub as_settled : (told told' : Option Told) (P : Files → Type 0) → Tells told told' SettledAs → WhereTold told' (λ t. P t.reads) → WhereTold told (λ t. P t.reads)
@@ -349,11 +301,6 @@ pub begun_stays : (told told' later : Option Told) (number : ℕ) → ReadsAreLe
 begun_stays told told' later number reads is next begins =
     follows told told' later SettledAs (BeginsFile number) (λ t u. IsAsBefore t.reads u.reads)
     (λ t u v old mid new same changes. begin_stays t v number (next_at told told' number is next t old) (reads v new) (changes_of t u v number same changes)) is begins
-
-pub begun_gained : (told told' later : Option Told) (number : ℕ) → Tells told told' SettledAs → WhereTold told' (λ t. IsNextFile t.reads number) → Tells told' later (BeginsFile number) → IsReady later 1 number 16 [] → Tells told later (λ t u. GainsLog t.reads IsBegun u.reads)
-begun_gained told told' later number is next begins ready =
-    follows told told' later SettledAs (BeginsFile number) (λ t u. GainsLog t.reads IsBegun u.reads)
-    (λ t u v old mid new same changes. begun_gains t v number (next_at told told' number is next t old) (changes_of t u v number same changes) (ready v new)) is begins
 
 begun_disk : (told told' later : Option Told) (w : Writer) (s : State) (base : Base) (txn number : ℕ) → IsFresh s base txn → WhereTold told (λ t. Recovers t.reads base txn) → txn ≤ 2 ^ 64 - 1 → 1 ≤ txn → Tells told told' SettledAs
     → WhereTold told' (λ t. IsNextFile t.reads number) → Tells told' later (BeginsFile number) → IsReady later 1 number 16 [] → w.file ≡ number → w.gate ≡ 16 → (v : Told) → later ≡ Some v → OnDisk v w s []

@@ -12,9 +12,8 @@ use Rattle.event_core.specs.Journal.{IsBase, after_journal}
 use Rattle.event_core.specs.declared.journal.Entry.{Entry}
 use Rattle.event_core.specs.declared.journal.Entry.TheVariants.{Puts, Takes}
 use Rattle.channel_face.specs.Token.{Token}
-use Rattle.channel_face.specs.Counters.{Tally, tally, counted, counts_of, counts_with}
-use Rattle.channel_face.specs.declared.replies.Counts.{Counts}
-use Rattle.channel_face.specs.History.{AddsOne, IsRun, Moves, Opening, Shows, Step, journal, kept_by, opening, reopen_reply, state_after}
+use Rattle.channel_face.specs.Counters.{Tally, tally, counted}
+use Rattle.channel_face.specs.History.{AddsOne, IsRun, Moves, Opening, Step, journal, kept_by, opening, reopen_reply, state_after}
 use Rattle.channel_face.specs.Laws.{KeepsFront, ReadsNone}
 use Rattle.channel_face.specs.Machine.{State, Call, BeginPut, BeginTake, Put, Take, StagePut, StageTake, Flush, RollbackPut, RollbackTake, Checkpoint, Prune, Reopen, Admits, AdmitsReopen, Kept, Front, Read, Reopened, add_put, add_take, after, base_of, entry_of, free, is_some_of, put_refusal, puts_of, settle, settle_if, stage, take_refusal, takes_of}
 use Rattle.channel_face.specs.declared.replies.Kind.TheVariants.{File as OnFile}
@@ -472,12 +471,6 @@ reopens_over told told' f f' old reply new moves count up cause reopens rests =
             let here : LeavesOnly t u (MayRecover old.state) = subst (λ (v : Told). LeavesOnly v u (MayRecover old.state)) (some_same b t (sym old_is ∙ was)) run in
             images_run t u start h step old.state new.state adds here (λ image found. finds_reopening start h old.state image adds.base adds.run adds.state life moves.admitted.1 found) at rest
 
-pub shows_over : (told : Option Told) (faults : ℕ) (c : Counted) (P : State → Type 0) → P c.state → Shows (StandsOver told faults c) P
-shows_over told faults c P is start h stands = subst P (sym stands.state) is
-
-pub counts_over : (told : Option Told) (faults : ℕ) (c : Counted) (counts : Counts) → counts ≡ counts_with c.tally c.state → (start : Opening) (h : List Step) → StandsOver told faults c start h → counts ≡ counts_of start h
-counts_over told faults c counts is start h stands = is ∙ (sym (ap (λ (s : State). counts_with c.tally s) stands.state) ∙ sym (ap (λ (t : Tally). counts_with t (state_after (opening start) h)) stands.tally))
-
 -- the same as a method has it: what was before is named by its value
 
 -- What a method of the channel did, and what the disk told and counted.
@@ -556,9 +549,6 @@ stands_first told faults c start base same state count later images = record {
   causes = λ is. absurd (cc);
   images = λ t is m image since left. let found = images t is m image since left in (start.base, found.0, found.1, (0, sym (after_none start.base)));
 }
-
-pub empty_is_base : (first : ℕ) → IsBase (record { items = []; first = first })
-empty_is_base first = record { rising = λ k less. absurd (omega (arith, less)); below = tt }
 
 pub reopen_fault : (reply : Result (Unit {0}) OpenCause) (kept : Reopened) → is_fault (Reopen (reopen_reply reply kept)) ≡ true → reply ≡ Err OpenNo.DiskFault
 reopen_fault (Ok done) kept is = absurd (cc)

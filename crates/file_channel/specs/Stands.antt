@@ -43,9 +43,9 @@ abbrev pub has_fault : List Step → Bool
 has_fault [] = false
 has_fault (step ∷ h) = is_fault step.call || has_fault h
 
--- The disk tells as it did at the opening. The calls are a run from there to this state, with these counts, and none ended later than now. One was
--- refused for a fault of the disk only where its count of faults rose since the opening. Where the disk tells, whatever a stop leaves at a moment
--- since the opening recovers to something that the calls up to that moment may leave.
+-- The opening's numbers rise, and the disk tells as it did then. The calls are a run from there to this state, with these counts, and none ended later
+-- than now. The disk's count of faults is no less than at the opening, and a call was refused for a fault of the disk only where it rose. Where the
+-- disk tells, whatever a stop leaves at a moment since the opening recovers to something that the calls up to that moment may leave.
 pub record StandsOver (told : Option Told) (faults : ℕ) (c : Counted) (start : Opening) (h : List Step) : Type 0 where
   pub base : IsBase start.base
   pub tells : start.tells ≡ is_some_of told

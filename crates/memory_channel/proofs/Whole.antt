@@ -1,26 +1,20 @@
 -- A channel in memory stays in memory and whole, whatever its calls answer.
-use Rattle.std.proofs.Common.{◌≡◌, ℕ, List, [], ◌∷◌, Option, Some, None, Ok, Err, Bool, true, false, nat_le, nat_lt, cond, length, ◌+◌, ◌-◌, ◌^◌, refl, sym, ◌∙◌, subst}
+use Rattle.std.proofs.Common.{◌≡◌, ℕ, List, [], ◌∷◌, Option, Some, None, Ok, Err, Bool, true, false, nat_le, cond, length, ◌-◌, ◌^◌, refl, sym, ◌∙◌, subst}
 use Rattle.event_core.specs.Content.{Content}
-use Rattle.event_core.specs.Journal.{put_events}
 use Rattle.event_core.specs.declared.journal.Entry.{Entry}
 use Rattle.event_core.specs.declared.journal.Entry.TheVariants.{Puts, Takes}
-use Rattle.channel_face.specs.Token.{Token}
 use Rattle.channel_face.specs.History.{Moves, Opening, opening}
-use Rattle.channel_face.specs.Machine.{State, Call, BeginPut, BeginTake, Put, Take, StagePut, StageTake, Flush, RollbackPut, RollbackTake, Checkpoint, Prune, Reopen, Admits, after, add_put, add_take, settle_if, stage, entry_of, puts_of, takes_of, free, put_refusal, take_refusal, stage_put_refusal, stage_take_refusal, or_else, next_number, AdmitsBegin, AdmitsPut, AdmitsTake, AdmitsFlush}
+use Rattle.channel_face.specs.Machine.{State, Call, BeginPut, BeginTake, Put, Take, StagePut, StageTake, Flush, RollbackPut, RollbackTake, Checkpoint, Prune, Reopen, Admits, after, add_put, add_take, settle_if, stage, entry_of, puts_of, takes_of, free, put_refusal, AdmitsBegin, AdmitsPut}
 use Rattle.channel_face.specs.declared.replies.Counter.{Counter}
-use Rattle.channel_face.specs.declared.replies.Counter.TheVariants.{Txn, Number}
+use Rattle.channel_face.specs.declared.replies.Counter.TheVariants.{Txn}
 use Rattle.channel_face.specs.declared.replies.Kind.TheVariants.{File as OnFile, Memory as InMemory}
 use Rattle.channel_face.specs.declared.replies.BeginRefused.{BeginRefused}
 use Rattle.channel_face.specs.declared.replies.BeginRefused.TheVariants as Begin
 use Rattle.channel_face.specs.declared.replies.PutRefused.{PutRefused}
 use Rattle.channel_face.specs.declared.replies.PutRefused.TheVariants as PutNo
-use Rattle.channel_face.specs.declared.replies.TakeRefused.{TakeRefused}
 use Rattle.channel_face.specs.declared.replies.TakeRefused.TheVariants as TakeNo
-use Rattle.channel_face.specs.declared.replies.StageCause.{StageCause}
-use Rattle.channel_face.specs.declared.replies.StageCause.TheVariants as StageNo
-use Rattle.channel_face.specs.declared.replies.FlushRefused.{FlushRefused}
 use Rattle.channel_face.specs.declared.replies.FlushRefused.TheVariants as FlushNo
-use Rattle.memory_channel.specs.Memory.{IsInMemory, MayRefuseBegin, MayRefusePut, MayRefuseTake, MayRefuseStage}
+use Rattle.memory_channel.specs.Memory.{IsInMemory, MayRefuseBegin, MayRefusePut}
 
 no_file : (s : State) → IsInMemory s → s.rules.kind ≡ OnFile → (A : Type 0) → A
 no_file s memory file A = absurd (differ (sym memory.kind ∙ file))
@@ -125,65 +119,6 @@ put_refused s puts event (PutNo.TooLarge size) memory may = put_says s puts even
 put_refused s puts event (PutNo.Full count) memory may = put_says s puts event (PutNo.Full count) memory may
 put_refused s puts event PutNo.DiskFault memory may = no_file s memory may.1 ⊥
 put_refused s puts event PutNo.NoMemory memory may = tt
-
-take_so : (b : Bool) (n : ℕ) (e : TakeRefused) → cond b (Some (TakeNo.TxnFull n)) None ≡ Some e → MayRefuseTake e
-take_so true n e is = let same : TakeNo.TxnFull n ≡ e = cc in subst MayRefuseTake same tt
-take_so false n e is = absurd (cc)
-
-take_says : (s : State) (takes : Option (List ℕ)) (e : TakeRefused) → IsInMemory s → take_refusal s takes ≡ Some e → MayRefuseTake e
-take_says s None e memory is = let same : TakeNo.Stale ≡ e = cc in subst MayRefuseTake same tt
-take_says s (Some numbers) e memory is = take_so (nat_le s.rules.limits.txn_capacity (length numbers)) (length numbers) e (rw memory.whole at is)
-
-take_spent : (s : State) (takes : Option (List ℕ)) (counter : Counter) → IsInMemory s → AdmitsTake true s takes (Err (TakeNo.Spent counter)) → ⊥
-take_spent s None counter memory may = may
-take_spent s (Some numbers) counter memory may = no_file s memory may.2 ⊥
-
-pub take_refused : (s : State) (takes : Option (List ℕ)) (e : TakeRefused) → IsInMemory s → AdmitsTake true s takes (Err e) → MayRefuseTake e
-take_refused s takes TakeNo.Stale memory may = tt
-take_refused s takes TakeNo.Broken memory may = take_says s takes TakeNo.Broken memory may
-take_refused s takes (TakeNo.Spent counter) memory may = take_spent s takes counter memory may
-take_refused s takes (TakeNo.TxnFull count) memory may = tt
-take_refused s takes TakeNo.ReadFault memory may = no_file s memory may.1 ⊥
-take_refused s takes (TakeNo.Damaged kept found) memory may = no_file s memory may.1 ⊥
-take_refused s takes TakeNo.NoMemory memory may = tt
-take_refused s takes TakeNo.DiskFault memory may = no_file s memory may.1 ⊥
-
-stage_so : (b c : Bool) (n : ℕ) → or_else (cond b (Some (StageNo.Full n)) None) (cond c (Some (StageNo.Spent Number)) None) ≡ Some StageNo.Broken → ⊥
-stage_so true c n is = absurd (cc)
-stage_so false true n is = absurd (cc)
-stage_so false false n is = absurd (cc)
-
-put_not_broken : (s : State) (puts : Option (List Content)) → IsInMemory s → stage_put_refusal s puts ≡ Some StageNo.Broken → ⊥
-put_not_broken s None memory is = absurd (cc)
-put_not_broken s (Some events) memory is =
-    stage_so (nat_lt s.rules.limits.capacity (length s.items + length (put_events s.staged) + length events)) (nat_lt (2 ^ 64 - 1) (next_number s + length events)) (length s.items + length (put_events s.staged)) (rw (memory.whole, memory.kind) at is)
-
-take_not_broken : (s : State) (takes : Option (List ℕ)) → IsInMemory s → stage_take_refusal s takes ≡ Some StageNo.Broken → ⊥
-take_not_broken s None memory is = absurd (cc)
-take_not_broken s (Some numbers) memory is = none_so (rw memory.whole at is)
-  where
-    none_so : None ≡ Some StageNo.Broken → ⊥
-    none_so is = absurd (cc)
-
-pub stage_put_refused : (s : State) (token : Token) (cause : StageCause) → IsInMemory s → Admits true s (StagePut token (Err cause)) → MayRefuseStage cause
-stage_put_refused s token StageNo.Stale memory may = tt
-stage_put_refused s token StageNo.Broken memory may = put_not_broken s (puts_of s token) memory may
-stage_put_refused s token (StageNo.Full count) memory may = tt
-stage_put_refused s token (StageNo.Spent counter) memory may = tt
-
-pub stage_take_refused : (s : State) (token : Token) (cause : StageCause) → IsInMemory s → Admits true s (StageTake token (Err cause)) → MayRefuseStage cause
-stage_take_refused s token StageNo.Stale memory may = tt
-stage_take_refused s token StageNo.Broken memory may = take_not_broken s (takes_of s token) memory may
-stage_take_refused s token (StageNo.Full count) memory may = tt
-stage_take_refused s token (StageNo.Spent counter) memory may = tt
-
-pub never_refused : (s : State) (e : FlushRefused) → IsInMemory s → AdmitsFlush s (Err e) → ⊥
-never_refused s FlushNo.Broken memory may = differ (sym memory.whole ∙ may)
-  where
-    differ : false ≡ true → ⊥
-    differ is = absurd (cc)
-never_refused s FlushNo.DiskFault memory may = no_file s memory may.1 ⊥
-never_refused s (FlushNo.Spent counter) memory may = may
 
 pub begins_whole : (o : Opening) (s : State) → s ≡ opening o → o.rules.kind ≡ InMemory → IsInMemory s
 begins_whole o s is kind = rw is (record { kind = kind; whole = refl })

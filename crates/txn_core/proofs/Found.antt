@@ -9,7 +9,6 @@ use Rattle.channel_face.specs.History.{Moves}
 use Rattle.channel_face.specs.Machine.{State, Put, Take, entry_of, with_entry, puts_of, takes_of, take_refusal, add_put, add_take, settle_if, free}
 use Rattle.channel_face.specs.declared.replies.Put.{Put as PutDone}
 use Rattle.channel_face.specs.declared.replies.Taken.{Taken}
-use Rattle.channel_face.specs.declared.replies.PutRefused.TheVariants as PutNo
 use Rattle.channel_face.specs.declared.replies.TakeRefused.TheVariants as TakeNo
 use Rattle.channel_face.proofs.Opened.{puts_of-some, takes_of-some}
 use Rattle.txn_core.specs.Places.{IsAt}
@@ -41,12 +40,6 @@ put_found s s' token event done copies number place same is moves none found =
       state = moves.state ∙ (put_state s token.number (puts_of s token) events event done.spilled none allowed.1 ∙ ap (λ (n : ℕ). record s { opened = with_entry n (Puts (events ++ event ∷ [])) s.opened }) (sym is));
     }
 
--- it stands somewhere
-pub put_is_there : (s s' : State) (token : Token) (event : Content) (done : PutDone) (copies : Opened) (number : ℕ) → copies ≡ s.opened → number ≡ token.number → Moves true s (Put token event (Ok done)) s' → entry_of number copies ≡ None → (events : List Content) × (None ≡ Some (Puts events))
-put_is_there s s' token event done copies number same is moves none =
-    let allowed = put_allowed s (puts_of s token) event moves.admitted.0 in
-    (allowed.0, sym none ∙ (ap (λ (n : ℕ). entry_of n copies) is ∙ (ap (λ (l : Opened). entry_of token.number l) same ∙ (puts_of-some s token allowed.0 allowed.1).1)))
-
 pub record TakeAt (s s' : State) (copies : Opened) (number place taken : ℕ) : Type 0 where
   pub numbers : List ℕ
   pub at : IsAt copies number place (Takes numbers)
@@ -74,30 +67,10 @@ take_found s s' token given copies number place taken same is moves none first f
       state = moves.state ∙ (take_state s token.number taken (takes_of s token) numbers (free s) given.spilled none allowed.1 first ∙ ap (λ (n : ℕ). record s { opened = with_entry n (Takes (numbers ++ taken ∷ [])) s.opened }) (sym is));
     }
 
-pub take_is_there : (s s' : State) (token : Token) (given : Taken) (copies : Opened) (number : ℕ) → copies ≡ s.opened → number ≡ token.number → Moves true s (Take token (Ok given)) s' → entry_of number copies ≡ None → (numbers : List ℕ) × (None ≡ Some (Takes numbers))
-take_is_there s s' token given copies number same is moves none =
-    let allowed = take_allowed s (takes_of s token) moves.admitted.0 in
-    (allowed.0, sym none ∙ (ap (λ (n : ℕ). entry_of n copies) is ∙ (ap (λ (l : Opened). entry_of token.number l) same ∙ (takes_of-some s token allowed.0 allowed.1).1)))
-
 none_taken : (s : State) (number : ℕ) (takes : Option (List ℕ)) (items : List (ℕ × Content)) (spilled : Bool) → spilled ≡ false → first_number items ≡ None → add_take (settle_if spilled s) number takes items ≡ s
 none_taken s number None [] spilled none first = rw none refl
 none_taken s number (Some numbers) [] spilled none first = rw none refl
 none_taken s number takes (item ∷ items) spilled none first = absurd (cc)
-
--- a take that gives nothing changes nothing
-pub took_none : (s s' : State) (token : Token) (given : Taken) → Moves true s (Take token (Ok given)) s' → given.spilled ≡ false → first_number (free s) ≡ None → s' ≡ s
-took_none s s' token given moves none first = moves.state ∙ none_taken s token.number (takes_of s token) (free s) given.spilled none first
-
--- a put that is taken back is one that found no memory
-pub put_back : (old : Counted) (new : Counted) (token : Token) (event : Content) (done : PutDone) (mid : Counted) → Makes old (Put token event (Ok done)) mid → done.spilled ≡ false → new.state ≡ old.state → new.tally ≡ mid.tally → Makes old (Put token event (Err PutNo.NoMemory)) new
-put_back old new token event done mid makes none state tally =
-    record {
-      moves = record { admitted = tt; state = state };
-      tally = tally ∙ (makes.tally ∙ same_count old.state old.tally token event done none);
-    }
-  where
-    same_count : (s : State) (t : Tally) (token : Token) (event : Content) (done : PutDone) → done.spilled ≡ false → counted s (Put token event (Ok done)) t ≡ counted s (Put token event (Err PutNo.NoMemory)) t
-    same_count s t token event done none = rw none refl
 
 pub take_back : (old : Counted) (new : Counted) (token : Token) (given : Taken) (mid : Counted) → Makes old (Take token (Ok given)) mid → given.spilled ≡ false → new.state ≡ old.state → new.tally ≡ mid.tally → Makes old (Take token (Err TakeNo.NoMemory)) new
 take_back old new token given mid makes none state tally =

@@ -169,11 +169,3 @@ none_above es place most most' o is le here n (inr among) = from (or_split (is_a
     from : (is_among (takes_in o.1) n ≡ true) ⊎ (is_among (taken_numbers (entries rest)) n ≡ true) → (n ≤ most') ⊎ (is_among (taken_numbers (entries rest)) n ≡ true)
     from (inl h) = inl (here n h)
     from (inr h) = inr h
-
--- a number above all of them is not among them
-pub past_last : (numbers : List ℕ) (last n : ℕ) → ((m : ℕ) → is_among numbers m ≡ true → m ≤ last) → last < n → is_among numbers n ≡ false
-past_last numbers last n within above = from (is_among numbers n) refl
-  where
-    from : (b : Bool) → is_among numbers n ≡ b → b ≡ false
-    from true is = absurd (omega (arith, within n is, above))
-    from false is = refl

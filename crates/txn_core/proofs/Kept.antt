@@ -106,10 +106,6 @@ pub size_one : (entry : Entry) → length (put_events (entry ∷ [])) ≡ size_p
 size_one (Puts events) = ap (λ (l : List Content). length l) (append-nil events)
 size_one (Takes numbers) = refl
 
-one_at_most : (staged : List Entry) → one_if_staged staged ≤ 1
-one_at_most [] = omega arith
-one_at_most (e ∷ staged) = omega arith
-
 staged_some : (staged : List Entry) (entry : Entry) → one_if_staged (staged ++ entry ∷ []) ≡ 1
 staged_some [] entry = refl
 staged_some (e ∷ staged) entry = refl
@@ -179,12 +175,6 @@ stage_some s number (Puts []) some = absurd (omega (arith, some))
 stage_some s number (Puts (e ∷ events)) some = refl
 stage_some s number (Takes []) some = absurd (omega (arith, some))
 stage_some s number (Takes (n ∷ numbers)) some = refl
-
-pub stage_none : (s : State) (number : ℕ) (entry : Entry) → size_of_entry entry ≡ 0 → stage number (Some entry) s ≡ record s { opened = without_entry number s.opened }
-stage_none s number (Puts []) none = refl
-stage_none s number (Puts (e ∷ events)) none = absurd (omega (arith, none))
-stage_none s number (Takes []) none = refl
-stage_none s number (Takes (n ∷ numbers)) none = absurd (omega (arith, none))
 
 pub take_allows : (s : State) (numbers : List ℕ) → take_refusal s (Some numbers) ≡ None → (s.broken ≡ false) × (length numbers < s.rules.limits.txn_capacity)
 take_allows s numbers allowed = grind (arith, nat_tests)

@@ -107,17 +107,6 @@ length-numbered first (e ∷ events) = omega (arith, length-numbered (first + 1)
 pub without_next : (numbers : List ℕ) (items : List (ℕ × Content)) (place : ℕ) (item : ℕ × Content) → slice_get items place ≡ Some item → is_among numbers item.0 ≡ false → without numbers (drop place items) ≡ item ∷ without numbers (drop (place + 1) items)
 without_next numbers items place item at not_taken = rw (drop_at items place item at, not_taken) refl
 
-capped_plus : (a b most : ℕ) → min (min a most + b) most ≡ min (a + b) most
-capped_plus a b most = omega arith
-
--- takes are counted one transaction after another
-pub takes_counted : (es : Opened) (place : ℕ) (o : ℕ × Entry) (count : ℕ) → slice_get es place ≡ Some o
-    → capped (capped (count + length (takes_in o.1)) + length (taken_numbers (entries (drop (place + 1) es)))) ≡ capped (count + length (taken_numbers (entries (drop place es))))
-takes_counted es place o count is =
-    let more : length (taken_numbers (entries (drop place es))) ≡ length (takes_in o.1) + length (taken_numbers (entries (drop (place + 1) es))) =
-    ap (λ (l : Opened). length (taken_numbers (entries l))) (drop_at es place o is) ∙ (ap (λ (l : List ℕ). length l) (taken-cons o.1 (entries (drop (place + 1) es))) ∙ length-append (takes_in o.1) (taken_numbers (entries (drop (place + 1) es)))) in
-    capped_plus (count + length (takes_in o.1)) (length (taken_numbers (entries (drop (place + 1) es)))) (2 ^ 64 - 1) ∙ ap capped (omega (arith, more))
-
 capped_small : (n most : ℕ) → n ≤ most → min (n + 0) most ≡ n
 capped_small n most le = omega (arith, le)
 

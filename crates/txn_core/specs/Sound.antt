@@ -1,4 +1,4 @@
--- What is true of the lists of each channel: numbers fit, and there is room for what needs no memory.
+-- What is true of the lists of each channel: numbers fit, there is room for what needs no memory, and each item before some place is held.
 use Rattle.std.specs.Prelude.{◌≡◌, ◌<◌, ◌≤◌, ◌+◌, ◌^◌, ℕ, List, [], ◌∷◌, ◌++◌, length, take, if◌then◌else◌, Option, Some, None}
 use Rattle.event_core.specs.Content.{Content}
 use Rattle.event_core.specs.Journal.{put_events, taken_numbers, without}
@@ -52,6 +52,7 @@ pub record IsSound (s : State) (open_puts staged_puts item_room staged_room free
   pub within : s.rules.kind ≡ OnFile → count s ≤ s.rules.limits.capacity
   pub within_memory : s.rules.kind ≡ InMemory → length s.items + staged_puts ≤ s.rules.limits.capacity
   pub opened_few : length s.opened ≤ 1024
+  -- a transaction took each item before this place
   pub front : AreHeld s.opened s.staged (take free_from s.items)
 
 -- what a transaction did may be staged

@@ -125,14 +125,14 @@ impl Open {
         }
     }
 
-    /// The greatest of the numbers that it takes and of this one.
-    pub(crate) fn greatest_take(&self, least: u64) -> u64
+    /// A number that is not below this one, and above which it takes none.
+    pub(crate) fn take_bound(&self, least: u64) -> u64
         ensures least { least ≤ result }
         ensures takes { (n : ℕ) → is_among (takes_in self.now.1) n ≡ true → n ≤ result }
     {
         match &self.did {
             Did::Puts(_) => least,
-            Did::Takes(numbers) => greatest(numbers, least),
+            Did::Takes(numbers) => bound(numbers, least),
         }
     }
 
@@ -204,8 +204,8 @@ fn is_among(numbers: &[u64], number: u64) -> bool
     false
 }
 
-// The greatest of these numbers and of this one.
-fn greatest(numbers: &[u64], least: u64) -> u64
+// A number that is not below this one nor any of these.
+fn bound(numbers: &[u64], least: u64) -> u64
     ensures least { least ≤ result }
     ensures numbers { (n : ℕ) → is_among numbers.now n ≡ true → n ≤ result }
 {
@@ -217,12 +217,12 @@ fn greatest(numbers: &[u64], least: u64) -> u64
 }
 
 /// A number above which the transactions take none.
-pub(crate) fn greatest_taken(staged: &[Open]) -> u64
+pub(crate) fn taken_bound(staged: &[Open]) -> u64
     ensures { (n : ℕ) → is_among (taken_numbers (entries staged.now)) n ≡ true → n ≤ result }
 {
     let mut most: u64 = 0;
     for place in 0..staged.len() {
-        most = staged[place].greatest_take(most);
+        most = staged[place].take_bound(most);
     }
     most
 }

@@ -7,7 +7,7 @@ ghost use Rattle.event_core.specs.Journal.{numbered, put_events, taken_numbers, 
 ghost use Rattle.event_core.specs.declared.journal.Entry.{Entry};
 ghost use Rattle.txn_core.specs.Sound.{AreHeld, held_numbers, puts_in, without_puts};
 
-use crate::opened::{Open, greatest_taken, takes};
+use crate::opened::{Open, taken_bound, takes};
 use event_core::Event;
 
 /// An event that is left, with its number.
@@ -77,7 +77,7 @@ fn drop_taken(items: &mut Vec<Item>, staged: &[Open])
     if staged_takes(staged) == 0 {
         return;
     }
-    let last = greatest_taken(staged);
+    let last = taken_bound(staged);
     items.retain(|item| is_left(staged, last, item.0));
 }
 
@@ -108,6 +108,7 @@ fn is_held(opened: &[Open], staged: &[Open], number: u64) -> bool
 /// there are.
 pub(crate) fn free_place(items: &[Item], opened: &[Open], staged: &[Open], from: usize) -> usize
     requires { AreHeld opened.now (entries staged.now) (take from items.now) }
+    ensures within { result ≤ length items.now }
     ensures front { AreHeld opened.now (entries staged.now) (take result items.now) }
     ensures free { (item : ℕ × Content) → slice_get items.now result ≡ Some item → is_among (held_numbers opened.now (entries staged.now)) item.0 ≡ false }
 {

@@ -12,5 +12,5 @@ returns-then-staged_takes-eq0-clause-items c =
 
 pub returns-clause-items : goal.returns-clause-items
 returns-clause-items c =
-    filter_same _ (λ (item : ℕ × Content). not (is_among (taken_numbers (entries c.args.staged.now)) item.0)) _ (λ x b f' k. (let so : ((n : ℕ) → is_among (taken_numbers (entries c.args.staged.now)) n ≡ true → n ≤ c.greatest_taken-last.result) → b ≡ not (is_among (taken_numbers (entries c.args.staged.now)) x.0) = search rules in so c.greatest_taken-last.ensures, search rules)) _ _ c.retain.ensures.filtered
+    filter_same _ (λ (item : ℕ × Content). not (is_among (taken_numbers (entries c.args.staged.now)) item.0)) _ (λ x b f' k. (let so : ((n : ℕ) → is_among (taken_numbers (entries c.args.staged.now)) n ≡ true → n ≤ c.taken_bound-last.result) → b ≡ not (is_among (taken_numbers (entries c.args.staged.now)) x.0) = search rules in so c.taken_bound-last.ensures, search rules)) _ _ c.retain.ensures.filtered
     ∙ without_filter (taken_numbers (entries c.args.staged.now)) c.args.items.now.items
