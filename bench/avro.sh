@@ -4,7 +4,7 @@
 set -eu
 cd "$(dirname "$0")/.."
 . bench/program.sh
-program avro_bench "event_core avro_binary" "anyhow"
+make_program avro_bench "event_core avro_binary" "anyhow"
 cat > "$program/src/main.rt" <<'PROGRAM'
 #![tactic(auto)]
 

@@ -1,9 +1,10 @@
+# shellcheck shell=bash
 # For the scripts beside it, which source it from the top of the repository.
 #
-# program NAME "CRATES" "LIBRARIES" makes a crate of this name, in a scratch folder that goes at the end of the script, on these
-# crates of the repository and libraries of the kit. The crates come with what earlier checks kept, so that only the program is
-# proved. `$program` is then the crate's folder, where the script writes its files.
-program() {
+# make_program NAME "CRATES" "LIBRARIES" makes a crate of this name, in a scratch folder that goes at the end of the script, on
+# these crates of the repository and libraries of the kit. The crates come with what earlier checks kept, so that of them only
+# what was not kept is proved. `$program` is then the crate's folder, where the script writes its files.
+make_program() {
   local scratch crate
   scratch=$(mktemp -d)
   # shellcheck disable=SC2064
@@ -12,7 +13,7 @@ program() {
   mkdir -p "$program/src"
   for crate in $2; do
     cp -r "crates/$crate" "$scratch/crates/"
-    grep "^$crate:" crates.txt >>"$scratch/crates.txt"
+    grep "^$crate:" crates.txt >>"$scratch/crates.txt" || { echo "no crate $crate" >&2; exit 1; }
   done
   echo "$1: $2 $3" >>"$scratch/crates.txt"
 }

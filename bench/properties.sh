@@ -4,7 +4,7 @@
 set -eu
 cd "$(dirname "$0")/.."
 . bench/program.sh
-program prop_bench "prop_text" "anyhow"
+make_program prop_bench "prop_text" "anyhow"
 cat > "$program/src/main.rt" <<'PROGRAM'
 #![tactic(auto)]
 

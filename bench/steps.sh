@@ -5,7 +5,7 @@
 set -eu
 cd "$(dirname "$0")/.."
 . bench/program.sh
-program steps_bench "event_core regex_steps" "anyhow"
+make_program steps_bench "event_core regex_steps" "anyhow"
 cat > "$program/src/main.rt" <<'PROGRAM'
 #![tactic(auto)]
 

@@ -5,12 +5,12 @@
 set -eu
 cd "$(dirname "$0")/.."
 . bench/program.sh
-program takes_bench "flume_host event_core channel_face txn_core memory_channel" "anyhow"
+make_program takes_bench "flume_host event_core channel_face txn_core memory_channel" "anyhow"
 cat > "$program/src/main.rt" <<'PROGRAM'
 #![tactic(auto)]
 
 use anyhow::{Result, bail};
-use channel_face::{Channel, Limits, OwnFace, PutFace, TakeFace};
+use channel_face::{Limits, OwnFace, PutFace, TakeFace};
 use event_core::{Batch, Event, Headers};
 use memory_channel::MemoryChannel;
 use std::alloc::Global;

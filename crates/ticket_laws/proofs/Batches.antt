@@ -3,7 +3,7 @@ use Rattle.std.proofs.Common.{inl, inr, ◌≡◌, ◌++◌, ◌∷◌, [], ℕ,
 use Rattle.std.specs.Prelude.{is_ok}
 use Rattle.std.proofs.lemmas.List.{append-nil}
 use Rattle.event_core.specs.Content.{Content}
-use Rattle.event_core.specs.Journal.{IsBase, IsNotEmpty}
+use Rattle.event_core.specs.Journal.{IsNotEmpty}
 use Rattle.event_core.specs.declared.journal.Entry.{Entry}
 use Rattle.event_core.specs.declared.journal.Entry.TheVariants.{Puts, Takes}
 use Rattle.channel_face.specs.Token.{Token}
@@ -20,12 +20,11 @@ use Rattle.channel_face.specs.declared.replies.StageCause.{StageCause}
 use Rattle.channel_face.specs.declared.replies.FaceRefused.{FaceRefused}
 use Rattle.channel_face.specs.declared.replies.FlushRefused.{FlushRefused}
 use Rattle.channel_face.proofs.Adding.{state-append, state-push}
-use Rattle.channel_face.proofs.LawLemmas.{sound_opening}
 use Rattle.channel_face.proofs.Opened.{AreNumbered, entry_of-push, entry_of-with, puts_of-some, puts_of-from}
-use Rattle.channel_face.proofs.Sound.{sound_run}
+use Rattle.ticket_laws.proofs.Numbering.{earlier_run}
 use Rattle.ticket_laws.specs.Tickets.{Stages, HasBehind}
 use Rattle.ticket_laws.specs.Batches.{AreAmong, nothing, BeginsWith, LeftAtEnd, ArePutInJournal, AreTakenInJournal}
-use Rattle.ticket_laws.proofs.Staging.{admitted, kept_if_settled, settles_in_life, numbers_puts}
+use Rattle.ticket_laws.proofs.Staging.{admitted, kept_if_settled, settles_in_life, numbers_as, numbers_puts}
 use Rattle.ticket_laws.proofs.Telling.{no_tells, stays_settled}
 
 -- Parts of a run.
@@ -257,7 +256,7 @@ answered saw seen number events earlier own batch = by_begin batch.0 batch.1 bat
         by_puts token begun_in made.0 ends.0 ends.1 ends.2 (calls ∙ (ap (λ (l : List Own). l ++ ending) made.1 ∙ ap (λ (l : List Own). one (BeginPut (Ok token)) begun_in made.0 ++ l) ends.3)) ends.4 ((earlier ++ begun) ++ ends.1) ends.5
     by_begin (Err refused) begun_in begun ending calls made ends = absurd (let no = ends.1 in cc)
 
-module _ (saw : List Own → State → Type 0) (seen : ℕ) (tells : Bool) (o : Opening) (h : List Step) (number : ℕ) (events : List Content) (earlier own : List Own) (base : IsBase o.base) (run : IsRun tells (opening o) h) (left : LeftAtEnd saw o h) (batch : IsPutBatch saw seen events (Ok number) earlier own) (alone : (token : Token) → BeginsWith own token → AreAmong (λ s. puts_of s token) (opening o) h (earlier ++ own)) (full : IsNotEmpty (Puts events)) where
+module _ (saw : List Own → State → Type 0) (seen : ℕ) (tells : Bool) (o : Opening) (h : List Step) (number : ℕ) (events : List Content) (earlier own : List Own) (run : IsRun tells (opening o) h) (left : LeftAtEnd saw o h) (batch : IsPutBatch saw seen events (Ok number) earlier own) (alone : (token : Token) → BeginsWith own token → AreAmong (λ s. puts_of s token) (opening o) h (earlier ++ own)) (full : IsNotEmpty (Puts events)) where
   a : Answered saw seen number events own
   a = answered saw seen number events earlier own batch
 
@@ -293,8 +292,7 @@ module _ (saw : List Own → State → Type 0) (seen : ℕ) (tells : Bool) (o : 
   has_none : puts_of (state_after (opening o) (begun ++ begin.step ∷ [])) a.token ≡ Some []
   has_none =
       let may : Admits tells (state_after (opening o) begun) begin_call = subst (λ (c : Call). Admits tells (state_after (opening o) begun) c) begin.call_is (admitted tells (opening o) begun begin.step begin.rest run_begin) in
-      let sound = sound_run tells (opening o) begun (sound_opening o base) (run_front tells (opening o) begun (begin.step ∷ begin.rest) run_begin) in
-      ap look (behind look (opening o) h begin_call a.begun_in from_puts at_begin.front begin) ∙ begun_puts tells (state_after (opening o) begun) a.token sound.numbered may
+      ap look (behind look (opening o) h begin_call a.begun_in from_puts at_begin.front begin) ∙ begun_puts tells (state_after (opening o) begun) a.token (earlier_run (opening o) begun tt) may
 
   put_all : (new : At look (opening o) h (one stage_call a.staged_in a.staged_at ++ a.ending)) × (puts_of (state_after (opening o) new.front) a.token ≡ Some events)
   unfolding a at_begin begin go_on next_at behind
@@ -325,7 +323,8 @@ module _ (saw : List Own → State → Type 0) (seen : ℕ) (tells : Bool) (o : 
     first = sym a.first;
     put = staging.same ∙ put_all.1;
     entry = kept look saw seen tells o h run left stage_call a.staged_in a.ending put_all.0.front staging a.ticket (Puts events) stages full a.all a.asked_in a.found a.ends;
-    numbered = λ none. a.first ∙ (numbers_puts tells o staged staging.step a.ticket events run_staged stages none).0;
+    numbered = a.first ∙ (numbers_as tells (state_after (opening o) staged) staging.step.call a.ticket events (admitted tells (opening o) staged staging.step [] run_staged) stages).0;
+    as_journal = λ none. a.first ∙ (numbers_puts tells o staged staging.step a.ticket events run_staged stages none).0;
   }
 
 -- A commit of takes.

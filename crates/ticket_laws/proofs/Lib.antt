@@ -2,4 +2,6 @@ pub mod Moving
 pub mod Telling
 pub mod Settling
 pub mod Staging
+pub mod Numbering
 pub mod Batches
+pub mod Meeting

@@ -72,7 +72,7 @@ enters tells s (StageTake token (Err cause)) t (Takes numbers) may is full = abs
 enters tells s call t entry may is full = absurd is
 
 -- a ticket of puts
-numbers_as : (tells : Bool) (s : State) (call : Call) (t : Ticket) (events : List Content) → Admits tells s call → Stages s call t (Puts events) → (t.first ≡ next_number s) × (t.count ≡ length events)
+pub numbers_as : (tells : Bool) (s : State) (call : Call) (t : Ticket) (events : List Content) → Admits tells s call → Stages s call t (Puts events) → (t.first ≡ next_number s) × (t.count ≡ length events)
 numbers_as tells s (StagePut token (Ok given)) t events may is =
     let its : t ≡ ticket s (next_number s) (size_of_list (puts_of s token)) = sym (same_ticket given t is.0) ∙ may.1 in
     (ap (λ (u : Ticket). u.first) its, ap (λ (u : Ticket). u.count) its ∙ ap size_of_list is.1)

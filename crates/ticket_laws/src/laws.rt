@@ -1,8 +1,8 @@
 // Laws of tickets. An empty entry's ticket has no frame and its entry stands nowhere, so they speak of the others.
-ghost use Rattle.ticket_laws.specs.Batches.{AnsweredIsInJournal, CommittedIsInJournal};
+ghost use Rattle.ticket_laws.specs.Batches.{AnsweredIsInJournal, CommittedIsInJournal, OwnAnsweredIsInJournal, OwnCommittedIsInJournal};
 ghost use Rattle.ticket_laws.specs.Tickets.{SettledIsInJournal, UnsettledIsStaged, SettlingSettles, StaysSettled, TicketsNumberPuts};
 
-use channel_face::{PutFace, TakeFace};
+use channel_face::{Channel, PutFace, TakeFace};
 
 /// Where the ticket of an entry is settled, the journal has this entry, right behind all that was committed before it was staged.
 pub fn settled_is_in_journal()
@@ -31,9 +31,9 @@ pub fn tickets_number_puts()
     ensures { TicketsNumberPuts }
 {}
 
-/// A batch of some events that a face answered Ok is in the journal of the history at whose end the face left the channel: as one
-/// entry, right behind what was committed before its stage, and its first event has the number that was answered. This holds
-/// where no other call of the history changed the batch's puts.
+/// A batch of some events that a face answered Ok is in the journal of a history at whose end the face left the channel: as one
+/// entry, right behind what was committed before its stage, under the number that was answered, which is that of the next event
+/// there. This holds where no other call of the history changed the batch's puts.
 pub fn answered_is_in_journal<P: PutFace>(face: &P)
     ensures { AnsweredIsInJournal (P.saw face.now) (P.seen face.now) }
 {}
@@ -42,4 +42,15 @@ pub fn answered_is_in_journal<P: PutFace>(face: &P)
 /// its stage.
 pub fn committed_is_in_journal<T: TakeFace>(face: &T)
     ensures { CommittedIsInJournal (T.saw face.now) (T.seen face.now) }
+{}
+
+/// So is a batch that was answered Ok through a channel of one's own, where all that the channel stands for are runs to one state.
+/// Nobody else calls it, so nothing is asked of other calls.
+pub fn own_answered_is_in_journal<C: Channel>(channel: &C)
+    ensures { OwnAnsweredIsInJournal (C.stands channel.now) }
+{}
+
+/// And so is what a transaction had taken that was committed there with Ok.
+pub fn own_committed_is_in_journal<C: Channel>(channel: &C)
+    ensures { OwnCommittedIsInJournal (C.stands channel.now) }
 {}
