@@ -1,0 +1,6 @@
+//! Laws of ports: what they answer of whole transactions over a shared channel says of its journal.
+#![tactic(auto)]
+
+mod laws;
+
+pub use laws::{port_answered_is_in_journal, port_committed_is_in_journal};
