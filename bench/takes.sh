@@ -10,8 +10,8 @@ cat > "$program/src/main.rt" <<'PROGRAM'
 #![tactic(auto)]
 
 use anyhow::{Result, bail};
-use channel_face::{Limits, OwnFace, PutFace, TakeFace};
-use event_core::{Batch, Event, Headers};
+use channel_face::{Channel, CommitRefused, Limits, StageRefused};
+use event_core::{Event, Headers};
 use memory_channel::MemoryChannel;
 use std::alloc::Global;
 use std::time::Instant;
@@ -24,68 +24,87 @@ const LIMITS: Limits = Limits {
     max_file: 1_000_000_000,
 };
 
-// Events of 200 bytes without headers, and the places of all of them.
-fn batch(alloc: Global, count: u32) -> Result<(Batch, Vec<u32>)> {
-    let mut batch = Batch::new(alloc);
-    let mut picked = Vec::new(alloc);
-    for place in 0..count {
-        let Ok(event) = Event::new(Headers::new(alloc), vec![in alloc; b'x'; 200]?) else {
-            bail!("no event");
-        };
-        if batch.push(event).is_err() {
-            bail!("no memory");
-        }
-        picked.push(place)?;
-    }
-    Ok((batch, picked))
-}
-
-fn take(face: &mut OwnFace<MemoryChannel>, count: u32) -> Result<()> {
-    let Ok(mut txn) = face.begin() else {
+// One transaction that puts this event so often.
+fn put(channel: &mut MemoryChannel, event: &Event, count: u32) -> Result<()> {
+    let Ok(mut txn) = channel.begin_put() else {
         bail!("not begun");
     };
-    let mut taken: u32 = 0;
+    let mut refused = false;
     for _ in 0..count {
-        if let Ok(Some(_)) = face.take(&mut txn) {
-            taken = taken.saturating_add(1);
-        }
+        refused = channel.put(&mut txn, event).is_err() || refused;
     }
-    if face.commit(txn).is_err() || taken < count {
+    match channel.commit_put(txn) {
+        Ok(_) => {}
+        Err(CommitRefused::Stage(StageRefused { txn, cause: _ })) => {
+            let _numbers = txn.into_numbers();
+            bail!("not staged");
+        }
+        Err(CommitRefused::InDoubt) => bail!("in doubt"),
+    }
+    if refused {
+        bail!("not put");
+    }
+    Ok(())
+}
+
+// One transaction that takes so many events.
+fn take(channel: &mut MemoryChannel, count: u32) -> Result<()> {
+    let Ok(mut txn) = channel.begin_take() else {
+        bail!("not begun");
+    };
+    let mut refused = false;
+    for _ in 0..count {
+        let given = match channel.take(&mut txn) {
+            Ok(taken) => taken.event.is_some(),
+            Err(_) => false,
+        };
+        refused = !given || refused;
+    }
+    match channel.commit_take(txn) {
+        Ok(_) => {}
+        Err(CommitRefused::Stage(StageRefused { txn, cause: _ })) => {
+            let _numbers = txn.into_numbers();
+            bail!("not staged");
+        }
+        Err(CommitRefused::InDoubt) => bail!("in doubt"),
+    }
+    if refused {
         bail!("not taken");
     }
     Ok(())
 }
 
 // Nanoseconds an event, of transactions of so many.
-fn measure(rt: &HostRuntime, face: &mut OwnFace<MemoryChannel>, count: u32) -> Result<u64> {
-    let (batch, picked) = batch(rt.alloc(), count)?;
+fn measure(
+    rt: &HostRuntime,
+    channel: &mut MemoryChannel,
+    event: &Event,
+    count: u32,
+) -> Result<u128> {
     let start = Instant::now(rt)?;
     for _ in 0..EVENTS / count.max(1) {
-        if face.put_batch(&batch, &picked).is_err() {
-            bail!("not put");
-        }
-        take(face, count)?;
+        put(channel, event, count)?;
+        take(channel, count)?;
     }
-    Ok((start.elapsed(rt)?.as_nanos() / u128::from(EVENTS)) as u64)
+    Ok(start.elapsed(rt)?.as_nanos() / u128::from(EVENTS))
 }
 
 fn main(rt: HostRuntime) -> Result<()> {
     let alloc = rt.alloc();
-    let mut first: u64 = 0;
+    let Ok(event) = Event::new(Headers::new(alloc), vec![in alloc; b'x'; 200]?) else {
+        bail!("no event");
+    };
+    let mut first: u128 = 0;
     for rounds in [1, 10, 100] {
-        let Ok(channel) = MemoryChannel::new(alloc, LIMITS) else {
+        let Ok(mut channel) = MemoryChannel::new(alloc, LIMITS) else {
             bail!("no memory");
         };
-        let mut face = OwnFace::new(channel);
-        let (thousand, picked) = batch(alloc, 1_000)?;
         for _ in 0..rounds {
-            if face.put_batch(&thousand, &picked).is_err() {
-                bail!("not put");
-            }
+            put(&mut channel, &event, 1_000)?;
         }
-        let left = rounds * 1_000;
+        let left = channel.size();
         for count in [1, 100, 1_000] {
-            let nanos = measure(&rt, &mut face, count)?;
+            let nanos = measure(&rt, &mut channel, &event, count)?;
             if first == 0 {
                 first = nanos.max(1);
             }
