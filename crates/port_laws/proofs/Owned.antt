@@ -1,8 +1,6 @@
 -- A pass's own calls among those that it has seen.
 use Rattle.std.proofs.Common.{inl, inr, ◌≡◌, ◌++◌, ◌∷◌, [], ℕ, List, Ok, Bool, true, false, refl, sym, subst}
 use Rattle.event_core.specs.Content.{Content}
-use Rattle.event_core.specs.Journal.{IsNotEmpty}
-use Rattle.event_core.specs.declared.journal.Entry.TheVariants.{Puts}
 use Rattle.channel_face.specs.Token.{Token}
 use Rattle.channel_face.specs.Machine.{State, after, puts_of}
 use Rattle.channel_face.specs.History.{Step, Opening, opening}
@@ -10,11 +8,11 @@ use Rattle.channel_face.specs.Faces.{Own, IsPutBatch, IsTakeCommit}
 use Rattle.turn_passes.specs.Calls.{has}
 use Rattle.turn_passes.specs.Views.{View}
 use Rattle.shared_channel.specs.Ports.{own_if, own_calls, owned, Saw, SawAll}
-use Rattle.ticket_laws.specs.Batches.{AreAmong, nothing, BeginsWith, LeftAtEnd, ArePutInJournal, AreTakenInJournal}
+use Rattle.ticket_laws.specs.Batches.{AreAmong, looks_at_nothing, BeginsWith, LeftAtEnd, ArePutInJournal, AreTakenInJournal}
 use Rattle.ticket_laws.proofs.Batches.{answered_is_in_journal, committed_is_in_journal}
-use Rattle.port_laws.specs.Ports.{OthersLeave}
+use Rattle.port_laws.specs.Ports.{OthersKeep}
 
-own_among : {V : Type 0} (numbers : List ℕ) (look : State → V) (s : State) (h : List Step) → OthersLeave numbers look s h → AreAmong look s h (own_calls numbers s h)
+own_among : {V : Type 0} (numbers : List ℕ) (look : State → V) (s : State) (h : List Step) → OthersKeep numbers look s h → AreAmong look s h (own_calls numbers s h)
 own_among numbers look s [] leave = refl
 own_among numbers look s (step ∷ h) leave = by_pass (has numbers step.pass) refl (own_among numbers look (after s step.call) h leave.1)
   where
@@ -28,21 +26,21 @@ own_among numbers look s (step ∷ h) leave = by_pass (has numbers step.pass) re
     by_pass true is more = rw is (inr (rest, refl, more))
     by_pass false is more = rw is (inl (leave.0 is, more))
 
-leave_nothing : (numbers : List ℕ) (s : State) (h : List Step) → OthersLeave numbers nothing s h
-leave_nothing numbers s [] = tt
-leave_nothing numbers s (step ∷ h) = (λ other. refl, leave_nothing numbers (after s step.call) h)
+keep_nothing : (numbers : List ℕ) (s : State) (h : List Step) → OthersKeep numbers looks_at_nothing s h
+keep_nothing numbers s [] = tt
+keep_nothing numbers s (step ∷ h) = (λ other. refl, keep_nothing numbers (after s step.call) h)
 
-module _ {C : Type 0} (stands : C → Opening → List Step → Type 0) (tells : C → Bool) (v : View) (seen : ℕ) (earlier more : List Own) (all : SawAll stands tells v) (own : owned v ≡ earlier ++ more) where
+module _ {C : Type 0} (stands : C → Opening → List Step → Type 0) (tells : C → Bool) (v : View) (count : ℕ) (earlier more : List Own) (all : SawAll stands tells v) (own : owned v ≡ earlier ++ more) where
   left : LeftAtEnd (Saw stands v) v.base v.seen
   left calls s saw = sym saw.state
 
-  among : {V : Type 0} (look : State → V) → OthersLeave v.numbers look (opening v.base) v.seen → AreAmong look (opening v.base) v.seen (earlier ++ more)
+  among : {V : Type 0} (look : State → V) → OthersKeep v.numbers look (opening v.base) v.seen → AreAmong look (opening v.base) v.seen (earlier ++ more)
   among look leave = subst (λ (l : List Own). AreAmong look (opening v.base) v.seen l) own (own_among v.numbers look (opening v.base) v.seen leave)
 
-  pub put_is_in_journal : (number : ℕ) (events : List Content) → IsPutBatch (Saw stands v) seen events (Ok number) earlier more
-      → ((token : Token) → BeginsWith more token → OthersLeave v.numbers (λ s. puts_of s token) (opening v.base) v.seen) → IsNotEmpty (Puts events) → ArePutInJournal v.base v.seen more events number
-  put_is_in_journal number events batch leave full =
-      answered_is_in_journal (Saw stands v) seen (tells all.0) v.base v.seen number events earlier more all.1.run left batch (λ token begins. among (λ (s : State). puts_of s token) (leave token begins)) full
+  pub put_is_in_journal : (number : ℕ) (events : List Content) → IsPutBatch (Saw stands v) count events (Ok number) earlier more
+      → ((token : Token) → BeginsWith more token → OthersKeep v.numbers (λ s. puts_of s token) (opening v.base) v.seen) → ArePutInJournal v.base v.seen more events number
+  put_is_in_journal number events batch keep =
+      answered_is_in_journal (Saw stands v) count (tells all.0) v.base v.seen number events earlier more all.1.run left batch (λ token begins. among (λ (s : State). puts_of s token) (keep token begins))
 
-  pub taken_is_in_journal : (token : Token) → IsTakeCommit (Saw stands v) seen token (Ok tt) earlier more → AreTakenInJournal v.base v.seen token
-  taken_is_in_journal token commit = committed_is_in_journal (Saw stands v) seen (tells all.0) v.base v.seen token earlier more all.1.run left (among nothing (leave_nothing v.numbers (opening v.base) v.seen)) commit
+  pub taken_is_in_journal : (token : Token) → IsTakeCommit (Saw stands v) count token (Ok tt) earlier more → AreTakenInJournal v.base v.seen token
+  taken_is_in_journal token commit = committed_is_in_journal (Saw stands v) count (tells all.0) v.base v.seen token earlier more all.1.run left (among looks_at_nothing (keep_nothing v.numbers (opening v.base) v.seen)) commit

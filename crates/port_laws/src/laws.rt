@@ -3,15 +3,16 @@ ghost use Rattle.port_laws.specs.Ports.{PortAnsweredIsInJournal, PortCommittedIs
 
 use channel_face::Channel;
 
-/// A batch of some events that a port answered Ok is in the journal of what its pass has seen: as one entry, right behind what was
-/// committed before its stage, under the number that was answered, which is that of the next event there. This holds where no
-/// call of another pass changed the batch's puts.
-pub fn port_answered_is_in_journal<C: Channel>(channel: &C)
+/// A batch that a port answered Ok is in the journal of what its pass has seen, where no call with a number that is not the pass's
+/// changed its puts: its events, if any, are one entry, right behind what was committed before its stage. The number that was
+/// answered is that of the next event when it was staged, and, where no reopen before read its list from a disk that doesn't tell,
+/// of the next event behind those commits.
+pub fn port_answered_is_in_journal<C: Channel>()
     ensures { PortAnsweredIsInJournal C.stands C.tells }
 {}
 
 /// What a transaction had taken that a port committed with Ok is in that journal as taken, right behind what was committed before
-/// its stage, whatever other passes called.
-pub fn port_committed_is_in_journal<C: Channel>(channel: &C)
+/// its stage, whatever others called.
+pub fn port_committed_is_in_journal<C: Channel>()
     ensures { PortCommittedIsInJournal C.stands C.tells }
 {}

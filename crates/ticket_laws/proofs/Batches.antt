@@ -23,7 +23,7 @@ use Rattle.channel_face.proofs.Adding.{state-append, state-push}
 use Rattle.channel_face.proofs.Opened.{AreNumbered, entry_of-push, entry_of-with, puts_of-some, puts_of-from}
 use Rattle.ticket_laws.proofs.Numbering.{earlier_run}
 use Rattle.ticket_laws.specs.Tickets.{Stages, HasBehind}
-use Rattle.ticket_laws.specs.Batches.{AreAmong, nothing, BeginsWith, LeftAtEnd, ArePutInJournal, AreTakenInJournal}
+use Rattle.ticket_laws.specs.Batches.{AreAmong, looks_at_nothing, BeginsWith, LeftAtEnd, ArePutInJournal, AreTakenInJournal}
 use Rattle.ticket_laws.proofs.Staging.{admitted, kept_if_settled, settles_in_life, numbers_as, numbers_puts}
 use Rattle.ticket_laws.proofs.Telling.{no_tells, stays_settled}
 
@@ -256,7 +256,7 @@ answered saw seen number events earlier own batch = by_begin batch.0 batch.1 bat
         by_puts token begun_in made.0 ends.0 ends.1 ends.2 (calls ∙ (ap (λ (l : List Own). l ++ ending) made.1 ∙ ap (λ (l : List Own). one (BeginPut (Ok token)) begun_in made.0 ++ l) ends.3)) ends.4 ((earlier ++ begun) ++ ends.1) ends.5
     by_begin (Err refused) begun_in begun ending calls made ends = absurd (let no = ends.1 in cc)
 
-module _ (saw : List Own → State → Type 0) (seen : ℕ) (tells : Bool) (o : Opening) (h : List Step) (number : ℕ) (events : List Content) (earlier own : List Own) (run : IsRun tells (opening o) h) (left : LeftAtEnd saw o h) (batch : IsPutBatch saw seen events (Ok number) earlier own) (alone : (token : Token) → BeginsWith own token → AreAmong (λ s. puts_of s token) (opening o) h (earlier ++ own)) (full : IsNotEmpty (Puts events)) where
+module _ (saw : List Own → State → Type 0) (seen : ℕ) (tells : Bool) (o : Opening) (h : List Step) (number : ℕ) (events : List Content) (earlier own : List Own) (run : IsRun tells (opening o) h) (left : LeftAtEnd saw o h) (batch : IsPutBatch saw seen events (Ok number) earlier own) (alone : (token : Token) → BeginsWith own token → AreAmong (λ s. puts_of s token) (opening o) h (earlier ++ own)) where
   a : Answered saw seen number events own
   a = answered saw seen number events earlier own batch
 
@@ -322,7 +322,8 @@ module _ (saw : List Own → State → Type 0) (seen : ℕ) (tells : Bool) (o : 
     staged = staging.call_is;
     first = sym a.first;
     put = staging.same ∙ put_all.1;
-    entry = kept look saw seen tells o h run left stage_call a.staged_in a.ending put_all.0.front staging a.ticket (Puts events) stages full a.all a.asked_in a.found a.ends;
+    sure = λ full. told look saw seen tells o h run left stage_call a.staged_in a.ending put_all.0.front staging a.ticket (Puts events) stages full a.all a.asked_in a.found a.ends;
+    entry = λ full. kept look saw seen tells o h run left stage_call a.staged_in a.ending put_all.0.front staging a.ticket (Puts events) stages full a.all a.asked_in a.found a.ends;
     numbered = a.first ∙ (numbers_as tells (state_after (opening o) staged) staging.step.call a.ticket events (admitted tells (opening o) staged staging.step [] run_staged) stages).0;
     as_journal = λ none. a.first ∙ (numbers_puts tells o staged staging.step a.ticket events run_staged stages none).0;
   }
@@ -339,12 +340,12 @@ some_taken s token none = from (takes_of s token) refl none
     from None is none = absurd (cc)
     from (Some numbers) is none = (numbers, is)
 
-module _ (saw : List Own → State → Type 0) (seen : ℕ) (tells : Bool) (o : Opening) (h : List Step) (token : Token) (earlier own : List Own) (run : IsRun tells (opening o) h) (left : LeftAtEnd saw o h) (among : AreAmong nothing (opening o) h (earlier ++ own)) where
+module _ (saw : List Own → State → Type 0) (seen : ℕ) (tells : Bool) (o : Opening) (h : List Step) (token : Token) (earlier own : List Own) (run : IsRun tells (opening o) h) (left : LeftAtEnd saw o h) (among : AreAmong looks_at_nothing (opening o) h (earlier ++ own)) where
   by_calls : (ticket : Ticket) (s : State) (moment : ℕ) (ending : List Own) → own ≡ one (StageTake token (Ok ticket)) s moment ++ ending → (all : List Own) → Ends saw seen ticket all ending true → AreTakenInJournal o h token
   by_calls ticket s moment ending calls all ends =
       let call : Call = StageTake token (Ok ticket) in
-      let at = past nothing (opening o) h earlier (one call s moment ++ ending) (record { front = []; back = h; whole = refl; among = subst (λ (l : List Own). AreAmong nothing (opening o) h (earlier ++ l)) calls among }) in
-      let staging = next_at nothing (opening o) h call s moment ending at in
+      let at = past looks_at_nothing (opening o) h earlier (one call s moment ++ ending) (record { front = []; back = h; whole = refl; among = subst (λ (l : List Own). AreAmong looks_at_nothing (opening o) h (earlier ++ l)) calls among }) in
+      let staging = next_at looks_at_nothing (opening o) h call s moment ending at in
       let front : List Step = at.front ++ staging.more in
       let may : Admits tells (state_after (opening o) front) call = subst (λ (c : Call). Admits tells (state_after (opening o) front) c) staging.call_is (admitted tells (opening o) front staging.step staging.rest (subst (λ (l : List Step). IsRun tells (opening o) l) staging.whole run)) in
       let took = some_taken (state_after (opening o) front) token may.0 in
@@ -358,7 +359,8 @@ module _ (saw : List Own → State → Type 0) (seen : ℕ) (tells : Bool) (o : 
         staged = staging.call_is;
         numbers = took.0;
         taken = took.1;
-        entry = λ full. kept nothing saw seen tells o h run left call s ending at.front staging ticket (Takes took.0) stages full all ends.0 ends.1 ends.2;
+        sure = λ full. told looks_at_nothing saw seen tells o h run left call s ending at.front staging ticket (Takes took.0) stages full all ends.0 ends.1 ends.2;
+        entry = λ full. kept looks_at_nothing saw seen tells o h run left call s ending at.front staging ticket (Takes took.0) stages full all ends.0 ends.1 ends.2;
       }
 
   by_sure : (ticket : Ticket) (s : State) (moment : ℕ) (ending : List Own) → own ≡ one (StageTake token (Ok ticket)) s moment ++ ending → (all : List Own) (sure : Bool) → Ends saw seen ticket all ending sure → all_done ≡ in_doubt_unless sure tt → AreTakenInJournal o h token

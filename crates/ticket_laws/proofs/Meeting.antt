@@ -2,7 +2,6 @@
 use Rattle.std.proofs.Common.{◌⊎◌, inl, inr, ◌≡◌, ◌<◌, ◌≤◌, ◌++◌, ◌∷◌, [], ℕ, List, Option, Some, None, Ok, Err, Bool, true, false, cond, ◌==◌, ◌≢◌, refl, sym, ◌∙◌, ap, subst, arith}
 use Rattle.std.proofs.lemmas.Bool.Decides.{eqb_tells}
 use Rattle.event_core.specs.Content.{Content}
-use Rattle.event_core.specs.Journal.{IsNotEmpty}
 use Rattle.event_core.specs.declared.journal.Entry.{Entry}
 use Rattle.channel_face.specs.Token.{Token}
 use Rattle.event_core.specs.declared.journal.Entry.TheVariants.{Puts, Takes}
@@ -15,7 +14,7 @@ use Rattle.channel_face.specs.History.{Step, Opening, opening, IsRun, state_afte
 use Rattle.channel_face.specs.Faces.{Own, IsPutBatch, IsTakeCommit}
 use Rattle.channel_face.specs.OwnCalls.{steps_of, AreFrom, HasMade, Was}
 use Rattle.channel_face.proofs.Opened.{Opened, AreNumbered}
-use Rattle.ticket_laws.specs.Batches.{AreAmong, nothing, BeginsWith, LeadsTo, LeftAtEnd, ArePutInJournal, AreTakenInJournal}
+use Rattle.ticket_laws.specs.Batches.{AreAmong, looks_at_nothing, BeginsWith, LeadsTo, LeftAtEnd, ArePutInJournal, AreTakenInJournal}
 use Rattle.ticket_laws.proofs.Batches.{answered_is_in_journal, committed_is_in_journal}
 use Rattle.ticket_laws.proofs.Numbering.{AreEarlier, earlier_after}
 
@@ -26,8 +25,8 @@ own_back : {V : Type 0} (look : State → V) (s : State) (own : List Own) → Ar
 own_back look s [] from = refl
 own_back look s (o ∷ own) from = inr (own, ap (λ (x : Own). x ∷ own) (made_in o s from.0), own_back look (after s o.call) own from.1)
 
-pub own_among : (s : State) (earlier : List Step) (own : List Own) → AreFrom (state_after s earlier) own → AreAmong nothing s (earlier ++ steps_of own) own
-own_among s [] own from = own_back nothing s own from
+pub own_among : (s : State) (earlier : List Step) (own : List Own) → AreFrom (state_after s earlier) own → AreAmong looks_at_nothing s (earlier ++ steps_of own) own
+own_among s [] own from = own_back looks_at_nothing s own from
 own_among s (step ∷ earlier) own from = inl (refl, own_among (after s step.call) earlier own from)
 
 -- The next transaction's token of a later state is of no open transaction before.
@@ -166,8 +165,8 @@ module _ (stands : Opening → List Step → Type 0) (tells : Bool) (s : State) 
   alone : (token : Token) → BeginsWith more token → AreAmong (λ t. puts_of t token) (opening start) whole (own ++ more)
   alone token begins = puts_among (opening start) earlier (own ++ more) token tt (later token begins) made.1.from
 
-  pub own_answered : (number : ℕ) (events : List Content) → IsPutBatch (Was stands) seen events (Ok number) own more → IsNotEmpty (Puts events) → ArePutInJournal start whole more events number
-  own_answered number events batch full = answered_is_in_journal (Was stands) seen tells start whole number events own more run left batch alone full
+  pub own_answered : (number : ℕ) (events : List Content) → IsPutBatch (Was stands) seen events (Ok number) own more → ArePutInJournal start whole more events number
+  own_answered number events batch = answered_is_in_journal (Was stands) seen tells start whole number events own more run left batch alone
 
   pub own_committed : (token : Token) → IsTakeCommit (Was stands) seen token (Ok tt) own more → AreTakenInJournal start whole token
   own_committed token commit = committed_is_in_journal (Was stands) seen tells start whole token own more run left (own_among (opening start) earlier (own ++ more) made.1.from) commit

@@ -31,9 +31,10 @@ pub fn tickets_number_puts()
     ensures { TicketsNumberPuts }
 {}
 
-/// A batch of some events that a face answered Ok is in the journal of a history at whose end the face left the channel: as one
-/// entry, right behind what was committed before its stage, under the number that was answered, which is that of the next event
-/// there. This holds where no other call of the history changed the batch's puts.
+/// A batch that a face answered Ok is in the journal of a history at whose end the face left the channel, where no other call of the
+/// history changed its puts: its events, if any, are one entry, right behind what was committed before its stage. The number that
+/// was answered is that of the next event when it was staged, and, where no reopen before read its list from a disk that doesn't
+/// tell, of the next event behind those commits.
 pub fn answered_is_in_journal<P: PutFace>(face: &P)
     ensures { AnsweredIsInJournal (P.saw face.now) (P.seen face.now) }
 {}
