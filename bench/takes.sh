@@ -10,7 +10,7 @@ cat > "$program/src/main.rt" <<'PROGRAM'
 #![tactic(auto)]
 
 use anyhow::{Result, bail};
-use channel_face::{Channel, CommitRefused, Limits, StageRefused};
+use channel_face::{Channel, CommitRefused, Limits, StageRefused, Ticket};
 use event_core::{Event, Headers};
 use memory_channel::MemoryChannel;
 use std::alloc::Global;
@@ -24,24 +24,29 @@ const LIMITS: Limits = Limits {
     max_file: 1_000_000_000,
 };
 
+// Whether it was committed, and its token where that came back.
+fn ended<T>(reply: Result<Ticket, CommitRefused<T>>) -> (bool, Option<T>) {
+    match reply {
+        Ok(_) => (true, None),
+        Err(CommitRefused::Stage(StageRefused { txn, cause: _ })) => (false, Some(txn)),
+        Err(CommitRefused::InDoubt) => (false, None),
+    }
+}
+
 // One transaction that puts this event so often.
 fn put(channel: &mut MemoryChannel, event: &Event, count: u32) -> Result<()> {
     let Ok(mut txn) = channel.begin_put() else {
         bail!("not begun");
     };
-    let mut refused = false;
+    let mut done = true;
     for _ in 0..count {
-        refused = channel.put(&mut txn, event).is_err() || refused;
+        done = channel.put(&mut txn, event).is_ok() && done;
     }
-    match channel.commit_put(txn) {
-        Ok(_) => {}
-        Err(CommitRefused::Stage(StageRefused { txn, cause: _ })) => {
-            let _numbers = txn.into_numbers();
-            bail!("not staged");
-        }
-        Err(CommitRefused::InDoubt) => bail!("in doubt"),
+    let (committed, back) = ended(channel.commit_put(txn));
+    if let Some(txn) = back {
+        let _numbers = txn.into_numbers();
     }
-    if refused {
+    if !done || !committed {
         bail!("not put");
     }
     Ok(())
@@ -52,23 +57,18 @@ fn take(channel: &mut MemoryChannel, count: u32) -> Result<()> {
     let Ok(mut txn) = channel.begin_take() else {
         bail!("not begun");
     };
-    let mut refused = false;
+    let mut done = true;
     for _ in 0..count {
-        let given = match channel.take(&mut txn) {
-            Ok(taken) => taken.event.is_some(),
+        done = match channel.take(&mut txn) {
+            Ok(taken) => taken.event.is_some() && done,
             Err(_) => false,
         };
-        refused = !given || refused;
     }
-    match channel.commit_take(txn) {
-        Ok(_) => {}
-        Err(CommitRefused::Stage(StageRefused { txn, cause: _ })) => {
-            let _numbers = txn.into_numbers();
-            bail!("not staged");
-        }
-        Err(CommitRefused::InDoubt) => bail!("in doubt"),
+    let (committed, back) = ended(channel.commit_take(txn));
+    if let Some(txn) = back {
+        let _numbers = txn.into_numbers();
     }
-    if refused {
+    if !done || !committed {
         bail!("not taken");
     }
     Ok(())

@@ -8,8 +8,8 @@ use Rattle.channel_face.specs.Faces.{Own, IsPutBatch, IsTakeCommit}
 use Rattle.turn_passes.specs.Calls.{has}
 use Rattle.turn_passes.specs.Views.{View}
 use Rattle.shared_channel.specs.Ports.{own_if, own_calls, owned, Saw, SawAll}
-use Rattle.ticket_laws.specs.Batches.{AreAmong, looks_at_nothing, BeginsWith, LeftAtEnd, ArePutInJournal, AreTakenInJournal}
-use Rattle.ticket_laws.proofs.Batches.{answered_is_in_journal, committed_is_in_journal}
+use Rattle.ticket_laws.specs.Transactions.{AreAmong, looks_at_nothing, BeginsWith, LeftAtEnd, ArePutInJournal, AreTakenInJournal}
+use Rattle.ticket_laws.proofs.Transactions.{answered_is_in_journal, committed_is_in_journal}
 use Rattle.port_laws.specs.Ports.{OthersKeep}
 
 own_among : {V : Type 0} (numbers : List ℕ) (look : State → V) (s : State) (h : List Step) → OthersKeep numbers look s h → AreAmong look s h (own_calls numbers s h)

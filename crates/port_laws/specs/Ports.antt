@@ -8,7 +8,7 @@ use Rattle.channel_face.specs.Faces.{Own, IsPutBatch, IsTakeCommit}
 use Rattle.turn_passes.specs.Calls.{has}
 use Rattle.turn_passes.specs.Views.{View}
 use Rattle.shared_channel.specs.Ports.{owned, Saw, SawAll}
-use Rattle.ticket_laws.specs.Batches.{BeginsWith, ArePutInJournal, AreTakenInJournal}
+use Rattle.ticket_laws.specs.Transactions.{BeginsWith, ArePutInJournal, AreTakenInJournal}
 
 -- From this state on each call with none of these numbers leaves what is looked at as it is.
 abbrev pub OthersKeep : {V : Type 0} → List ℕ → (State → V) → State → List Step → Type 0

@@ -3,5 +3,5 @@ pub mod Telling
 pub mod Settling
 pub mod Staging
 pub mod Numbering
-pub mod Batches
+pub mod Transactions
 pub mod Meeting

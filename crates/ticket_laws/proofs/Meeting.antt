@@ -14,8 +14,8 @@ use Rattle.channel_face.specs.History.{Step, Opening, opening, IsRun, state_afte
 use Rattle.channel_face.specs.Faces.{Own, IsPutBatch, IsTakeCommit}
 use Rattle.channel_face.specs.OwnCalls.{steps_of, AreFrom, HasMade, Was}
 use Rattle.channel_face.proofs.Opened.{Opened, AreNumbered}
-use Rattle.ticket_laws.specs.Batches.{AreAmong, looks_at_nothing, BeginsWith, LeadsTo, LeftAtEnd, ArePutInJournal, AreTakenInJournal}
-use Rattle.ticket_laws.proofs.Batches.{answered_is_in_journal, committed_is_in_journal}
+use Rattle.ticket_laws.specs.Transactions.{AreAmong, looks_at_nothing, BeginsWith, LeadsTo, LeftAtEnd, ArePutInJournal, AreTakenInJournal}
+use Rattle.ticket_laws.proofs.Transactions.{answered_is_in_journal, committed_is_in_journal}
 use Rattle.ticket_laws.proofs.Numbering.{AreEarlier, earlier_after}
 
 made_in : (o : Own) (s : State) → o.before ≡ s → o ≡ record { call = o.call; before = s; moment = o.moment }

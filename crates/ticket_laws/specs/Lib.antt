@@ -1,2 +1,2 @@
 pub mod Tickets
-pub mod Batches
+pub mod Transactions

@@ -1,5 +1,5 @@
 // Laws of tickets. An empty entry's ticket has no frame and its entry stands nowhere, so they speak of the others.
-ghost use Rattle.ticket_laws.specs.Batches.{AnsweredIsInJournal, CommittedIsInJournal, OwnAnsweredIsInJournal, OwnCommittedIsInJournal};
+ghost use Rattle.ticket_laws.specs.Transactions.{AnsweredIsInJournal, CommittedIsInJournal, OwnAnsweredIsInJournal, OwnCommittedIsInJournal};
 ghost use Rattle.ticket_laws.specs.Tickets.{SettledIsInJournal, UnsettledIsStaged, SettlingSettles, StaysSettled, TicketsNumberPuts};
 
 use channel_face::{Channel, PutFace, TakeFace};

@@ -1,4 +1,4 @@
-use Rattle.ticket_laws.proofs.Batches.{answered_is_in_journal}
+use Rattle.ticket_laws.proofs.Transactions.{answered_is_in_journal}
 use Rattle.ticket_laws.proofs.laws.answered_is_in_journal.Goals as goal
 
 pub returns : goal.returns

@@ -1,4 +1,4 @@
-use Rattle.ticket_laws.proofs.Batches.{committed_is_in_journal}
+use Rattle.ticket_laws.proofs.Transactions.{committed_is_in_journal}
 use Rattle.ticket_laws.proofs.laws.committed_is_in_journal.Goals as goal
 
 pub returns : goal.returns

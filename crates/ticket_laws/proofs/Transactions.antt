@@ -23,7 +23,7 @@ use Rattle.channel_face.proofs.Adding.{state-append, state-push}
 use Rattle.channel_face.proofs.Opened.{AreNumbered, entry_of-push, entry_of-with, puts_of-some, puts_of-from}
 use Rattle.ticket_laws.proofs.Numbering.{earlier_run}
 use Rattle.ticket_laws.specs.Tickets.{Stages, HasBehind}
-use Rattle.ticket_laws.specs.Batches.{AreAmong, looks_at_nothing, BeginsWith, LeftAtEnd, ArePutInJournal, AreTakenInJournal}
+use Rattle.ticket_laws.specs.Transactions.{AreAmong, looks_at_nothing, BeginsWith, LeftAtEnd, ArePutInJournal, AreTakenInJournal}
 use Rattle.ticket_laws.proofs.Staging.{admitted, kept_if_settled, settles_in_life, numbers_as, numbers_puts}
 use Rattle.ticket_laws.proofs.Telling.{no_tells, stays_settled}
 
