@@ -20,7 +20,7 @@ use Rattle.channel_face.specs.declared.replies.FaceRefused.TheVariants as Face
 use Rattle.channel_face.specs.Faces.{Own, one, Gains, Ends, is_spent_begin, is_spent_take, taken_event, begun_as, IsTakeBegun, IsTake, is_spent_put, is_spent_stage, is_spent_flush, in_doubt_unless, IsMade, IsRolledBack, IsFound, EndsAs, ArePut, ArePutUpTo, IsPutStage, IsTakeCommit, IsPutBatch, EndsPuts, EndsBegin}
 use Rattle.turn_passes.specs.Calls.{has, keep, calls_by}
 use Rattle.turn_passes.specs.Views.{View, saw}
-use Rattle.turn_passes.specs.Turns.{Making, Made}
+use Rattle.turn_passes.specs.Turns.{Making, MadeInTurn}
 use Rattle.turn_passes.proofs.Histories.{calls_by-append, nil_of}
 use Rattle.shared_channel.specs.Counting.{StandsCounting}
 use Rattle.shared_channel.specs.Passes.{Known}
@@ -30,7 +30,7 @@ use Rattle.channel_face.specs.Machine.{Reopen}
 use Rattle.shared_channel.specs.Durables.{Mends, is_spent_open}
 use Rattle.shared_channel.specs.Calls.{step, state_seen, made_if, Bounds, IsIn, Answers, RolledBack}
 use Rattle.atomic_table.specs.Table.{Me}
-use Rattle.shared_channel.specs.Ports.{SettledBy, MakesSettled, own_if, own_calls, owned, AreOwned, Saw, Went, Goes, Later, Settles, SawAll}
+use Rattle.shared_channel.specs.Ports.{SettledBy, MakesSettled, own_if, own_calls, owned, AreOwned, Saw, Went, WentBy, Later, Settles, SawAll}
 
 own_if-append : (b : Bool) (o : Own) (x y : List Own) → own_if b o (x ++ y) ≡ own_if b o x ++ y
 own_if-append true o x y = refl
@@ -82,7 +82,7 @@ none_between ns a between es l all told own =
     let lengths : length ((calls_by ns a ++ calls_by ns between) ++ calls_by ns es) ≡ length (calls_by ns a ++ es) = ap length (sym sum ∙ told) in
     nil_of (calls_by ns between) (omega (arith, lengths, length-append (calls_by ns a ++ calls_by ns between) (calls_by ns es), length-append (calls_by ns a) (calls_by ns between), length-append (calls_by ns a) es, ap length own))
 
-pub went_made : (v w : View) (es : List Step) → (m : Made v es w) → Went v w (own_calls v.numbers (begun v m.0) es)
+pub went_made : (v w : View) (es : List Step) → (m : MadeInTurn v es w) → Went v w (own_calls v.numbers (begun v m.0) es)
 went_made v w es m = went_from v w m.0 es m.1 m.2 (none_between v.numbers v.seen m.0 es w.seen m.2 m.3 m.5)
 
 -- the same of a turn, from the state in which it was begun
@@ -110,20 +110,20 @@ went_none v = record { base = refl; passes = refl; numbers = refl; begins = ([],
 pub grows : (v w : View) (more : List Own) → Went v w more → length v.seen ≤ length w.seen
 grows v w more f = omega (arith, length-append v.seen f.begins.0, ap length f.begins.1)
 
-pub goes_then : (v w x : View) (P Q R : List Own → List Own → Type 0) → Goes v w P → Goes w x Q → ((a b : List Own) → P (owned v) a → Q (owned v ++ a) b → R (owned v) (a ++ b)) → Goes v x R
+pub goes_then : (v w x : View) (P Q R : List Own → List Own → Type 0) → WentBy v w P → WentBy w x Q → ((a b : List Own) → P (owned v) a → Q (owned v ++ a) b → R (owned v) (a ++ b)) → WentBy v x R
 goes_then v w x P Q R f g join = (f.0 ++ g.0, went_then v w x f.0 g.0 f.1 g.1, join f.0 g.0 f.2 (subst (λ l. Q l g.0) f.1.owned g.2))
 
-pub goes_as : (v w : View) (P Q : List Own → List Own → Type 0) → Goes v w P → ((a : List Own) → P (owned v) a → Q (owned v) a) → Goes v w Q
+pub goes_as : (v w : View) (P Q : List Own → List Own → Type 0) → WentBy v w P → ((a : List Own) → P (owned v) a → Q (owned v) a) → WentBy v w Q
 goes_as v w P Q f turn = (f.0, f.1, turn f.0 f.2)
 
-pub goes_grows : (v w : View) (P : List Own → List Own → Type 0) → Goes v w P → length v.seen ≤ length w.seen
+pub goes_grows : (v w : View) (P : List Own → List Own → Type 0) → WentBy v w P → length v.seen ≤ length w.seen
 goes_grows v w P f = grows v w f.0 f.1
 
-pub gains : (v w : View) (P : List Own → List Own → Type 0) → Goes v w P → Gains (AreOwned v) (AreOwned w) P
+pub gains : (v w : View) (P : List Own → List Own → Type 0) → WentBy v w P → Gains (AreOwned v) (AreOwned w) P
 gains v w P f start earlier own is = (f.0, (is.0 ∙ sym f.1.base, is.1, ap (λ l. l ++ f.0) is.2 ∙ sym f.1.owned), subst (λ l. P l f.0) (sym is.2) f.2)
 
 -- a pass after such calls
-pub later : (p q : Known) (P : List Own → List Own → Type 0) → (q.table_id ≡ p.table_id) × (q.number ≡ p.number) → Goes p.view q.view P → Later p q
+pub later : (p q : Known) (P : List Own → List Own → Type 0) → (q.table_id ≡ p.table_id) × (q.number ≡ p.number) → WentBy p.view q.view P → Later p q
 later p q P same f = record { table = same.0; number = same.1; base = f.1.base; passes = f.1.passes; numbers = f.1.numbers; begins = f.1.begins }
 
 own_one : (ns : List ℕ) (x : Step) → calls_by ns (x ∷ []) ≡ x ∷ [] → has ns x.pass ≡ true
@@ -159,7 +159,7 @@ IsOne seen spent call earlier more = (s : State) × IsMade seen spent call s mor
 
 module _ {C : Type 0} (stands : C → Opening → List Step → Type 0) (tells : C → Bool) (moment : C → ℕ) where
   -- a call that may have been spent
-  pub one_call : (spent : Bool) (v w : View) (by : ℕ) (call : Call) → Answers stands tells moment spent v by call w → Goes v w (IsOne (length w.seen) spent call)
+  pub one_call : (spent : Bool) (v w : View) (by : ℕ) (call : Call) → Answers stands tells moment spent v by call w → WentBy v w (IsOne (length w.seen) spent call)
   one_call true v w by call a = let m = a.0.1.made in ([], went_made v w [] m, (begun v m.0, (refl, let b = a.1 in omega arith)))
   one_call false v w by call a =
       let c = a.0.0 in
@@ -179,7 +179,7 @@ module _ {C : Type 0} (stands : C → Opening → List Step → Type 0) (tells :
   mended_seen v w by (Ok true) m = all_seen (is_spent_open m.0) v w by (Reopen (reopen_reply m.0 m.1.0)) m.1.1
   mended_seen v w by (Err cause) m = all_seen (is_spent_open m.0) v w by (Reopen (reopen_reply m.0 m.1.0)) m.1.1
 
-  pub mended_goes : (v w : View) (by : ℕ) (result : Result Bool OpenCause) → Mends stands tells moment v by result w → Goes v w (λ earlier more. Unit {0})
+  pub mended_goes : (v w : View) (by : ℕ) (result : Result Bool OpenCause) → Mends stands tells moment v by result w → WentBy v w (λ earlier more. Unit {0})
   mended_goes v w by (Ok false) m = ([], went_made v w [] m.0.1.made, tt)
   mended_goes v w by (Ok true) m = let f = one_call (is_spent_open m.0) v w by (Reopen (reopen_reply m.0 m.1.0)) m.1.1 in (f.0, f.1, tt)
   mended_goes v w by (Err cause) m = let f = one_call (is_spent_open m.0) v w by (Reopen (reopen_reply m.0 m.1.0)) m.1.1 in (f.0, f.1, tt)
@@ -189,7 +189,7 @@ module _ {C : Type 0} (stands : C → Opening → List Step → Type 0) (tells :
   all_seen_back false v w by call IsStale r = (r.0.0, r.0.1.seen)
 
   -- a rollback
-  pub rolls : (ended : Bool) (v w : View) (by : ℕ) (rollback : Bool → Call) (IsStale : State → Type 0) → RolledBack stands tells moment ended v by (rollback true) IsStale w → Goes v w (IsRolledBack (Saw stands w) rollback IsStale)
+  pub rolls : (ended : Bool) (v w : View) (by : ℕ) (rollback : Bool → Call) (IsStale : State → Type 0) → RolledBack stands tells moment ended v by (rollback true) IsStale w → WentBy v w (IsRolledBack (Saw stands w) rollback IsStale)
   rolls true v w by rollback IsStale r =
       let c = r.0 in
       let x : Step = step by (rollback true) (moment c) in
@@ -203,13 +203,13 @@ module _ {C : Type 0} (stands : C → Opening → List Step → Type 0) (tells :
 
   -- a stage and what follows
 
-  pub staged_put : (v w x : View) (by : ℕ) (token : Token) (t : Ticket) (sure : Bool) (result : Result ℕ FaceRefused) → Answers stands tells moment false v by (StagePut token (Ok t)) w → Settles stands w x t sure → result ≡ in_doubt_unless sure t.first → Goes v x (IsPutStage (Saw stands x) (length x.seen) token result)
+  pub staged_put : (v w x : View) (by : ℕ) (token : Token) (t : Ticket) (sure : Bool) (result : Result ℕ FaceRefused) → Answers stands tells moment false v by (StagePut token (Ok t)) w → Settles stands w x t sure → result ≡ in_doubt_unless sure t.first → WentBy v x (IsPutStage (Saw stands x) (length x.seen) token result)
   staged_put v w x by token t sure result a ends is =
       goes_then v w x (IsOne (length w.seen) false (StagePut token (Ok t))) (λ earlier more. Ends (Saw stands x) (length x.seen) t earlier more sure) (IsPutStage (Saw stands x) (length x.seen) token result) (one_call false v w by (StagePut token (Ok t)) a) ends
       (λ p q h e. (Ok t, h.0, p, q, refl, h.1, (sure, e, is)))
 
   pub unstaged_put : (v w x : View) (by by' : ℕ) (token other : Token) (cause : StageCause) (ended : Bool) → Answers stands tells moment (is_spent_stage (Err cause)) v by (StagePut token (Err cause)) w → other ≡ token → RolledBack stands tells moment ended w by' (RollbackPut other true) (λ s. puts_of s other ≡ None) x
-      → Goes v x (IsPutStage (Saw stands x) (length x.seen) token (Err (Face.Stage cause)))
+      → WentBy v x (IsPutStage (Saw stands x) (length x.seen) token (Err (Face.Stage cause)))
   unstaged_put v w x by by' token other cause ended a same rolled =
       let back = rolls ended w x by' (RollbackPut other) (λ s. puts_of s other ≡ None) rolled in
       goes_then v w x (IsOne (length w.seen) (is_spent_stage (Err cause)) (StagePut token (Err cause))) (IsRolledBack (Saw stands x) (RollbackPut other) (λ s. puts_of s other ≡ None)) (IsPutStage (Saw stands x) (length x.seen) token (Err (Face.Stage cause))) (one_call (is_spent_stage (Err cause)) v w by (StagePut token (Err cause)) a) back
@@ -223,13 +223,13 @@ module _ {C : Type 0} (stands : C → Opening → List Step → Type 0) (tells :
         (subst (λ (k : Token). IsRolledBack (Saw stands x) (RollbackPut k) (λ s. puts_of s k ≡ None) (owned v ++ p) q) same e, refl),
       ))
 
-  pub staged_take : (v w x : View) (by : ℕ) (token : Token) (t : Ticket) (sure : Bool) (result : Result (Unit {0}) FaceRefused) → Answers stands tells moment false v by (StageTake token (Ok t)) w → Settles stands w x t sure → result ≡ in_doubt_unless sure tt → Goes v x (IsTakeCommit (Saw stands x) (length x.seen) token result)
+  pub staged_take : (v w x : View) (by : ℕ) (token : Token) (t : Ticket) (sure : Bool) (result : Result (Unit {0}) FaceRefused) → Answers stands tells moment false v by (StageTake token (Ok t)) w → Settles stands w x t sure → result ≡ in_doubt_unless sure tt → WentBy v x (IsTakeCommit (Saw stands x) (length x.seen) token result)
   staged_take v w x by token t sure result a ends is =
       goes_then v w x (IsOne (length w.seen) false (StageTake token (Ok t))) (λ earlier more. Ends (Saw stands x) (length x.seen) t earlier more sure) (IsTakeCommit (Saw stands x) (length x.seen) token result) (one_call false v w by (StageTake token (Ok t)) a) ends
       (λ p q h e. (Ok t, h.0, p, q, refl, h.1, (sure, e, is)))
 
   pub unstaged_take : (v w x : View) (by by' : ℕ) (token other : Token) (cause : StageCause) (ended : Bool) → Answers stands tells moment (is_spent_stage (Err cause)) v by (StageTake token (Err cause)) w → other ≡ token → RolledBack stands tells moment ended w by' (RollbackTake other true) (λ s. takes_of s other ≡ None) x
-      → Goes v x (IsTakeCommit (Saw stands x) (length x.seen) token (Err (Face.Stage cause)))
+      → WentBy v x (IsTakeCommit (Saw stands x) (length x.seen) token (Err (Face.Stage cause)))
   unstaged_take v w x by by' token other cause ended a same rolled =
       let back = rolls ended w x by' (RollbackTake other) (λ s. takes_of s other ≡ None) rolled in
       goes_then v w x (IsOne (length w.seen) (is_spent_stage (Err cause)) (StageTake token (Err cause))) (IsRolledBack (Saw stands x) (RollbackTake other) (λ s. takes_of s other ≡ None)) (IsTakeCommit (Saw stands x) (length x.seen) token (Err (Face.Stage cause))) (one_call (is_spent_stage (Err cause)) v w by (StageTake token (Err cause)) a) back
@@ -245,26 +245,26 @@ module _ {C : Type 0} (stands : C → Opening → List Step → Type 0) (tells :
 
   -- puts, one after another
 
-  pub put_one : (v w x : View) (by : ℕ) (token other : Token) (events events' : List Content) (event : Content) (done : PutDone) → Goes v w (λ earlier. ArePut token events) → Answers stands tells moment false w by (Put other event (Ok done)) x → other ≡ token → events' ≡ events ++ event ∷ [] → Goes v x (λ earlier. ArePut token events')
+  pub put_one : (v w x : View) (by : ℕ) (token other : Token) (events events' : List Content) (event : Content) (done : PutDone) → WentBy v w (λ earlier. ArePut token events) → Answers stands tells moment false w by (Put other event (Ok done)) x → other ≡ token → events' ≡ events ++ event ∷ [] → WentBy v x (λ earlier. ArePut token events')
   put_one v w x by token other events events' event done goes a same is =
       goes_then v w x (λ earlier. ArePut token events) (IsOne (length x.seen) false (Put other event (Ok done))) (λ earlier. ArePut token events') goes (one_call false w x by (Put other event (Ok done)) a)
       (λ p q all h. rw (is, h.1.1, same) (puts-push token events p event done h.0 h.1.0 all))
 
-  pub put_refused : (v w x : View) (by : ℕ) (token other : Token) (events all back : List Content) (event : Content) (refused : PutRefused) → Goes v w (λ earlier. ArePut token events) → Answers stands tells moment (is_spent_put (Err refused)) w by (Put other event (Err refused)) x → other ≡ token → all ≡ events ++ event ∷ back
-      → Goes v x (λ earlier. ArePutUpTo (length x.seen) token all (Err refused))
+  pub put_refused : (v w x : View) (by : ℕ) (token other : Token) (events all back : List Content) (event : Content) (refused : PutRefused) → WentBy v w (λ earlier. ArePut token events) → Answers stands tells moment (is_spent_put (Err refused)) w by (Put other event (Err refused)) x → other ≡ token → all ≡ events ++ event ∷ back
+      → WentBy v x (λ earlier. ArePutUpTo (length x.seen) token all (Err refused))
   put_refused v w x by token other events all back event refused goes a same is =
       goes_then v w x (λ earlier. ArePut token events) (IsOne (length x.seen) (is_spent_put (Err refused)) (Put other event (Err refused))) (λ earlier. ArePutUpTo (length x.seen) token all (Err refused)) goes (one_call (is_spent_put (Err refused)) w x by (Put other event (Err refused)) a)
       (λ p q done h. (events, back, event, h.0, p, q, is, refl, done, subst (λ (k : Token). IsMade (length x.seen) (is_spent_put (Err refused)) (Put k event (Err refused)) h.0 q) same h.1))
 
   -- a whole batch
 
-  pub batch_unbegun : (v w : View) (by : ℕ) (events : List Content) (refused : BeginRefused) → Answers stands tells moment (is_spent_begin (Err refused)) v by (BeginPut (Err refused)) w → Goes v w (IsPutBatch (Saw stands w) (length w.seen) events (Err (Face.Begin refused)))
+  pub batch_unbegun : (v w : View) (by : ℕ) (events : List Content) (refused : BeginRefused) → Answers stands tells moment (is_spent_begin (Err refused)) v by (BeginPut (Err refused)) w → WentBy v w (IsPutBatch (Saw stands w) (length w.seen) events (Err (Face.Begin refused)))
   batch_unbegun v w by events refused a =
       goes_as v w (IsOne (length w.seen) (is_spent_begin (Err refused)) (BeginPut (Err refused))) (IsPutBatch (Saw stands w) (length w.seen) events (Err (Face.Begin refused))) (one_call (is_spent_begin (Err refused)) v w by (BeginPut (Err refused)) a)
       (λ p h. (Err refused, h.0, p, [], sym (append-nil p), h.1, (refl, refl)))
 
-  pub batch_begun : (v w x y : View) (by : ℕ) (events : List Content) (token other : Token) (reply : Result (Unit {0}) PutRefused) (result : Result ℕ FaceRefused) → Answers stands tells moment false v by (BeginPut (Ok token)) w → other ≡ token → Goes w x (λ earlier. ArePutUpTo (length x.seen) token events reply)
-      → Goes x y (λ earlier more. EndsPuts (Saw stands y) (length y.seen) other reply earlier more result) → Goes v y (IsPutBatch (Saw stands y) (length y.seen) events result)
+  pub batch_begun : (v w x y : View) (by : ℕ) (events : List Content) (token other : Token) (reply : Result (Unit {0}) PutRefused) (result : Result ℕ FaceRefused) → Answers stands tells moment false v by (BeginPut (Ok token)) w → other ≡ token → WentBy w x (λ earlier. ArePutUpTo (length x.seen) token events reply)
+      → WentBy x y (λ earlier more. EndsPuts (Saw stands y) (length y.seen) other reply earlier more result) → WentBy v y (IsPutBatch (Saw stands y) (length y.seen) events result)
   batch_begun v w x y by events token other reply result a same puts ends =
       goes_then v w y (IsOne (length w.seen) false (BeginPut (Ok token))) (λ earlier more. EndsBegin (Saw stands y) (length y.seen) events (Ok token) earlier more result) (IsPutBatch (Saw stands y) (length y.seen) events result) (one_call false v w by (BeginPut (Ok token)) a)
       (goes_then w x y (λ earlier. ArePutUpTo (length x.seen) token events reply) (λ earlier more. EndsPuts (Saw stands y) (length y.seen) other reply earlier more result) (λ earlier more. EndsBegin (Saw stands y) (length y.seen) events (Ok token) earlier more result) puts ends
@@ -273,13 +273,13 @@ module _ {C : Type 0} (stands : C → Opening → List Step → Type 0) (tells :
 
   -- takes
 
-  pub take_begun : (v w : View) (by : ℕ) (reply : Result Token BeginRefused) (result : Result Token FaceRefused) → Answers stands tells moment (is_spent_begin reply) v by (BeginTake reply) w → result ≡ begun_as reply → Goes v w (λ earlier. IsTakeBegun (length w.seen) result)
+  pub take_begun : (v w : View) (by : ℕ) (reply : Result Token BeginRefused) (result : Result Token FaceRefused) → Answers stands tells moment (is_spent_begin reply) v by (BeginTake reply) w → result ≡ begun_as reply → WentBy v w (λ earlier. IsTakeBegun (length w.seen) result)
   take_begun v w by reply result a is = goes_as v w (IsOne (length w.seen) (is_spent_begin reply) (BeginTake reply)) (λ earlier. IsTakeBegun (length w.seen) result) (one_call (is_spent_begin reply) v w by (BeginTake reply) a) (λ p h. (reply, h.0, h.1, is))
 
-  pub taken : (v w : View) (by : ℕ) (token : Token) (reply : Result Taken TakeRefused) (result : Result (Option Content) FaceRefused) → Answers stands tells moment (is_spent_take reply) v by (Take token reply) w → result ≡ taken_event reply → Goes v w (λ earlier. IsTake (length w.seen) token result)
+  pub taken : (v w : View) (by : ℕ) (token : Token) (reply : Result Taken TakeRefused) (result : Result (Option Content) FaceRefused) → Answers stands tells moment (is_spent_take reply) v by (Take token reply) w → result ≡ taken_event reply → WentBy v w (λ earlier. IsTake (length w.seen) token result)
   taken v w by token reply result a is = goes_as v w (IsOne (length w.seen) (is_spent_take reply) (Take token reply)) (λ earlier. IsTake (length w.seen) token result) (one_call (is_spent_take reply) v w by (Take token reply) a) (λ p h. (reply, h.0, h.1, is))
 
-pub puts_none : (v : View) (token : Token) → Goes v v (λ earlier. ArePut token [])
+pub puts_none : (v : View) (token : Token) → WentBy v v (λ earlier. ArePut token [])
 puts_none v token = ([], went_none v, refl)
 
 -- what a turn's settling did

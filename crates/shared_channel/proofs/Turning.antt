@@ -12,7 +12,7 @@ use Rattle.turn_passes.specs.Calls.{has, calls_by, Below}
 use Rattle.turn_passes.specs.Views.{View, idle, with_call, saw, longer, both, joined}
 use Rattle.turn_passes.proofs.Histories.{has_left, has-append, all_own, below_front'}
 use Rattle.std.proofs.lemmas.Bool.{cases_lt}
-use Rattle.turn_passes.specs.Turns.{Making, Made, HasAll}
+use Rattle.turn_passes.specs.Turns.{Making, MadeInTurn, HasAll}
 use Rattle.shared_channel.specs.Counting.{StandsCounting, Keeps, is_counted}
 use Rattle.shared_channel.specs.Calls.{step, made_if, Bounds, IsIn, Makes, Left, Answers, RolledBack, Looks, Commits, MakesCommit, is_spent_commit, state_seen}
 use Rattle.std.specs.List.{All}
@@ -62,7 +62,7 @@ module _ {S C : Type 0} (stands : C → Opening → List Step → Type 0) (tells
 
 module _ {C : Type 0} (stands : C → Opening → List Step → Type 0) (tells : C → Bool) where
   -- the turn is given back
-  pub left : Law stands tells → TellsAsOpened stands tells → (c : C) (v k w : View) (calls : List Step) → Keeps stands c k.base k.seen → Made v calls w → w ≡ idle k → Left stands tells v calls w c
+  pub left : Law stands tells → TellsAsOpened stands tells → (c : C) (v k w : View) (calls : List Step) → Keeps stands c k.base k.seen → MadeInTurn v calls w → w ≡ idle k → Left stands tells v calls w c
   left law told c v k w calls keeps made is =
       let seen : StandsCounting stands c w.base w.seen = subst (λ (x : View). StandsCounting stands c x.base x.seen) (sym is) keeps.calls in
       record { made = made; seen = record { calls = seen; run = kept_run stands tells law c w.base w.seen seen; same = told c w.base seen.0 seen.1 } }
@@ -121,7 +121,7 @@ module _ {S C : Type 0} (stands : C → Opening → List Step → Type 0) (tells
       by_spent false m = (by_pass by m.0, m.1.goes_on v [] making own)
 
 -- a pass with each number sees no call that it had not seen
-pub nothing_new : (v w : View) → HasAll v → Made v [] w → w.seen ≡ v.seen
+pub nothing_new : (v w : View) → HasAll v → MadeInTurn v [] w → w.seen ≡ v.seen
 nothing_new v w every m =
     let before : Below v.passes v.seen = below_front' v.passes v.seen (m.0 ++ []) w.seen (sym (append_assoc v.seen m.0 []) ∙ sym m.2) m.4 in
     sym (all_own v.numbers v.passes w.seen every m.4) ∙ m.3 ∙ append-nil (calls_by v.numbers v.seen) ∙ all_own v.numbers v.passes v.seen every before

@@ -14,7 +14,7 @@ use Rattle.channel_face.specs.declared.replies.CommitRefused.{CommitRefused}
 use Rattle.channel_face.specs.declared.replies.CommitRefused.TheVariants.{Stage}
 use Rattle.turn_passes.specs.Calls.{has}
 use Rattle.turn_passes.specs.Views.{View}
-use Rattle.turn_passes.specs.Turns.{Making, Made}
+use Rattle.turn_passes.specs.Turns.{Making, MadeInTurn}
 use Rattle.shared_channel.specs.Counting.{StandsCounting, Keeps}
 
 -- a call of the pass with this number
@@ -59,7 +59,7 @@ module _ {C : Type 0} (stands : C → Opening → List Step → Type 0) (tells :
 
   -- The pass made these calls in one turn, and left the channel so.
   pub record Left (v : View) (calls : List Step) (w : View) (c : C) : Type 0 where
-    pub made : Made v calls w
+    pub made : MadeInTurn v calls w
     pub seen : IsSeen c w
 
   -- What the channel was seen to be: nothing was called, and it stands for all that is seen.

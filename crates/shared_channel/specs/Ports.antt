@@ -50,8 +50,8 @@ pub record Went (v w : View) (more : List Own) : Type 0 where
   pub owned : owned w ≡ owned v ++ more
 
 -- it made calls of which P is true behind those that it had made
-abbrev pub Goes : View → View → (List Own → List Own → Type 0) → Type 0
-Goes v w P = (more : List Own) × Went v w more × P (owned v) more
+abbrev pub WentBy : View → View → (List Own → List Own → Type 0) → Type 0
+WentBy v w P = (more : List Own) × Went v w more × P (owned v) more
 
 -- The same pass after some calls. What it has seen begins with what it had seen.
 pub record Later (p q : Known) : Type 0 where
@@ -64,7 +64,7 @@ pub record Later (p q : Known) : Type 0 where
 
 -- In one turn the ticket was asked for, and what was not settled then was flushed.
 abbrev pub Settles : {C : Type 0} → (C → Opening → List Step → Type 0) → View → View → Ticket → Bool → Type 0
-Settles stands v w ticket sure = Goes v w (λ earlier more. Ends (Saw stands w) (length w.seen) ticket earlier more sure)
+Settles stands v w ticket sure = WentBy v w (λ earlier more. Ends (Saw stands w) (length w.seen) ticket earlier more sure)
 
 -- A channel stands for all that the pass has seen, of which each call was answered as the machine answers it.
 abbrev pub SawAll : {C : Type 0} → (C → Opening → List Step → Type 0) → (C → Bool) → View → Type 0

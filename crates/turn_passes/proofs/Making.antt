@@ -5,7 +5,7 @@ use mathlib.Core.List.{IsPrefix}
 use Rattle.channel_face.specs.History.{Step}
 use Rattle.turn_passes.specs.Views.{View, entered, idle, with_call, saw}
 use Rattle.turn_passes.specs.Calls.{has, calls_by, Below}
-use Rattle.turn_passes.specs.Turns.{Making, Made}
+use Rattle.turn_passes.specs.Turns.{Making, MadeInTurn}
 use Rattle.turn_passes.proofs.Histories.{calls_by-own}
 
 pub making_none : (v k : View) → k ≡ entered v k.seen → IsPrefix v.seen k.seen → calls_by v.numbers k.seen ≡ calls_by v.numbers v.seen → Below v.passes k.seen → Making v [] k
@@ -22,7 +22,7 @@ making_more v k w es e m own below new =
       calls_by-own v.numbers es e own ∙ ap (λ l. l ++ e ∷ []) m.5,
     )
 
-pub making_over : (v k w : View) (es : List Step) → Making v es k → w ≡ idle k → Made v es w
+pub making_over : (v k w : View) (es : List Step) → Making v es k → w ≡ idle k → MadeInTurn v es w
 making_over v k w es m new =
     let sn : w.seen ≡ k.seen = ap (λ (x : View). x.seen) new in
     (m.0, new ∙ ap idle m.1 ∙ ap (saw v) (sym sn), sn ∙ m.2, ap (calls_by v.numbers) sn ∙ m.3, subst (Below v.passes) (sym sn) m.4, m.5)

@@ -98,8 +98,8 @@ Making v es w =
     (between : List Step) × (w ≡ entered v w.seen) × (w.seen ≡ (v.seen ++ between) ++ es) × (calls_by v.numbers w.seen ≡ calls_by v.numbers v.seen ++ es) × Below v.passes w.seen × (calls_by v.numbers es ≡ es)
 
 -- The same once the turn was given back.
-abbrev pub Made : View → List Step → View → Type 0
-Made v es w =
+abbrev pub MadeInTurn : View → List Step → View → Type 0
+MadeInTurn v es w =
     (between : List Step) × (w ≡ saw v w.seen) × (w.seen ≡ (v.seen ++ between) ++ es) × (calls_by v.numbers w.seen ≡ calls_by v.numbers v.seen ++ es) × Below v.passes w.seen × (calls_by v.numbers es ≡ es)
 
 -- it has the number of each pass

@@ -3,7 +3,7 @@ ghost use Rattle.std.specs.Prelude.{◌≡◌, ◌<◌, ◌+◌, ◌++◌, ◌^�
 ghost use Rattle.channel_face.specs.History.{Opening, Step};
 ghost use Rattle.turn_passes.specs.Calls.{has, AreApart, Below};
 ghost use Rattle.turn_passes.specs.Views.{View, dealer, dealing, newcomer, both, joined, part, idle, with_call};
-ghost use Rattle.turn_passes.specs.Turns.{Making, Made, Knows, Has};
+ghost use Rattle.turn_passes.specs.Turns.{Making, MadeInTurn, Knows, Has};
 
 use crate::guarded::{Guarded, Named, Picked};
 use crate::named::named;
@@ -11,7 +11,6 @@ use crate::plays::{Both, Count, CountOne, Deal, Leave, LookJoined, Read, Take, T
 use crate::view::SeatView;
 use atomic_table::{Refused, Seat, Table};
 use std::alloc::{AllocFailed, Global};
-use std::hint::spin_loop;
 use std::marker::Brand;
 use std::sync::atomic::AtomicU64;
 use std::sync::atomic::Ordering::SeqCst;
@@ -24,8 +23,11 @@ pub struct Unshared<C> {
     pub value: C,
 }
 
-// How often the turn is tried for beside those that wait: about as long as a call takes that makes no sync.
-const FIRST_TRIES: u32 = 100;
+// How often the turn is tried for beside those that wait: for some calls that make no sync.
+const FIRST_TRIES: u32 = 32;
+
+// How often the turn is looked at before another thread may run: for about as long as a call takes that makes no sync.
+const LOOKS: u32 = 64;
 
 // How often the turn is tried for before a thread sleeps, and how long it sleeps at most without being woken.
 const TRIES: u32 = 16;
@@ -134,36 +136,31 @@ impl<C: Guarded> Turn<C> {
         self.table.shared.exchange(seat, 0, None)
     }
 
-    // Tries for the turn beside those that wait, unless who is next has slept in vain.
-    fn try_first(&self, seat: &mut Place<C>) -> Option<C>
-        requires table { seat.old.table_id ≡ self.now.table.shared.table_id }
-        requires idle { (seat.old.me.0.turn ≡ false) × (seat.old.me.1 ≡ []) × (seat.old.me.0.live ≡ true) }
-        ensures same { (seat.new.table_id ≡ seat.old.table_id) × (seat.new.id ≡ seat.old.id) }
-        ensures turn { MatchOption result (seat.new.me ≡ seat.old.me) (λ c. (seat.new.me.1 ≡ (0, None) ∷ []) × Knows C.stands seat.old.me.0 c seat.new.me.0) }
-    {
-        if self.starved.load(SeqCst) >= LOST {
-            return None;
-        }
-        for _ in 0..FIRST_TRIES {
-            match self.try_enter(seat) {
-                Some(value) => return Some(value),
-                None => spin_loop(),
+    // Whether the turn looks free soon. A look leaves the word's cache line with the one who has the turn, where a try takes it
+    // away.
+    fn looks_free(&self) -> bool {
+        for _ in 0..LOOKS {
+            if self.table.shared.peek(1) == 0 {
+                return true;
             }
         }
-        None
+        false
     }
 
-    fn try_often(&self, seat: &mut Place<C>) -> Option<C>
+    // Tries for the turn so many times. Between two tries others run, perhaps the one who has the turn.
+    fn try_often(&self, seat: &mut Place<C>, tries: u32) -> Option<C>
         requires table { seat.old.table_id ≡ self.now.table.shared.table_id }
         requires idle { (seat.old.me.0.turn ≡ false) × (seat.old.me.1 ≡ []) × (seat.old.me.0.live ≡ true) }
         ensures same { (seat.new.table_id ≡ seat.old.table_id) × (seat.new.id ≡ seat.old.id) }
         ensures turn { MatchOption result (seat.new.me ≡ seat.old.me) (λ c. (seat.new.me.1 ≡ (0, None) ∷ []) × Knows C.stands seat.old.me.0 c seat.new.me.0) }
     {
-        for _ in 0..TRIES {
-            match self.try_enter(seat) {
-                Some(value) => return Some(value),
-                None => thread::yield_now(),
+        for _ in 0..tries {
+            if self.looks_free() {
+                if let Some(value) = self.try_enter(seat) {
+                    return Some(value);
+                }
             }
+            thread::yield_now();
         }
         None
     }
@@ -194,7 +191,7 @@ impl<C: Guarded> Turn<C> {
         self.waiting.fetch_add(1, SeqCst);
         let _next = self.queue.lock(rt);
         for _ in rt.forever() {
-            match self.try_often(seat) {
+            match self.try_often(seat, TRIES) {
                 Some(value) => {
                     self.starved.store(0, SeqCst);
                     self.waiting.fetch_sub(1, SeqCst);
@@ -219,8 +216,10 @@ impl<C: Guarded> Turn<C> {
         ensures turn { (seat.new.me.1 ≡ (0, None) ∷ []) × Knows C.stands seat.old.me.0 result seat.new.me.0 }
         ensures making { Making seat.old.me.0 [] seat.new.me.0 }
     {
-        if let Some(value) = self.try_first(seat) {
-            return value;
+        if self.starved.load(SeqCst) < LOST {
+            if let Some(value) = self.try_often(seat, FIRST_TRIES) {
+                return value;
+            }
         }
         self.enter_in_line(rt, seat)
     }
@@ -286,7 +285,7 @@ impl<C: Guarded> Turn<C> {
         requires value { C.stands value seat.old.me.0.base seat.old.me.0.seen }
         ensures same { (seat.new.table_id ≡ seat.old.table_id) × (seat.new.id ≡ seat.old.id) }
         ensures turn { seat.new.me ≡ (idle seat.old.me.0, []) }
-        ensures made { (v : View) (es : List Step) → Making v es seat.old.me.0 → Made v es seat.new.me.0 }
+        ensures made { (v : View) (es : List Step) → Making v es seat.old.me.0 → MadeInTurn v es seat.new.me.0 }
     {
         let before = self.table.shared.exchange(seat, 0, Some(value));
         let None = before else { unreachable!() };
@@ -300,7 +299,7 @@ impl<C: Guarded> Turn<C> {
         requires turn { (seat.old.me.0.turn ≡ true) × (seat.old.me.1 ≡ (0, None) ∷ []) }
         ensures same { (seat.new.table_id ≡ seat.old.table_id) × (seat.new.id ≡ seat.old.id) }
         ensures turn { seat.new.me ≡ (idle seat.old.me.0, []) }
-        ensures made { (v : View) (es : List Step) → Making v es seat.old.me.0 → Made v es seat.new.me.0 }
+        ensures made { (v : View) (es : List Step) → Making v es seat.old.me.0 → MadeInTurn v es seat.new.me.0 }
     {
         self.table.shared.store::<Leave>(seat, 1, 2);
     }

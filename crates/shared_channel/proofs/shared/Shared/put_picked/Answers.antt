@@ -4,7 +4,7 @@ use Rattle.std.proofs.lemmas.Option.{slice_get-get_or}
 use Rattle.event_core.specs.Content.{Content}
 use Rattle.channel_face.specs.Faces.{ArePut, picked_events}
 use Rattle.channel_face.proofs.Grammar.{picked_next, picked_split}
-use Rattle.shared_channel.specs.Ports.{Goes}
+use Rattle.shared_channel.specs.Ports.{WentBy}
 use Rattle.shared_channel.proofs.Porting.{puts_none, put_one, put_refused}
 use Rattle.shared_channel.proofs.shared.Shared.put_picked.Goals as goal
 
@@ -32,7 +32,7 @@ returns-clause-puts g c =
     let batch = c.args.batch.now in
     let picked = c.args.picked.now in
     let i = c.loop-place.place-index in
-    subst (λ (l : List Content). Goes c.args.pass.now.view c.loop-place.pass.view (λ earlier. ArePut c.args.txn.now l)) (ap (λ (l : List ℕ). picked_events batch l) (take_all i picked c.loop-place-test.false)) c.loop-place.invariant.puts
+    subst (λ (l : List Content). WentBy c.args.pass.now.view c.loop-place.pass.view (λ earlier. ArePut c.args.txn.now l)) (ap (λ (l : List ℕ). picked_events batch l) (take_all i picked c.loop-place-test.false)) c.loop-place.invariant.puts
 
 pub returns-in-Err-clause-puts : goal.returns-in-Err-clause-puts
 returns-in-Err-clause-puts g c =
