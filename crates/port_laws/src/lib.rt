@@ -2,5 +2,7 @@
 #![tactic(auto)]
 
 mod laws;
+mod rows;
 
 pub use laws::{port_answered_is_in_journal, port_committed_is_in_journal};
+pub use rows::two_ports_and_one_flush;

@@ -5,3 +5,4 @@ pub mod Staging
 pub mod Numbering
 pub mod Transactions
 pub mod Meeting
+pub mod Worked
