@@ -30,7 +30,7 @@ use Rattle.channel_face.specs.Machine.{Reopen}
 use Rattle.shared_channel.specs.Durables.{Mends, is_spent_open}
 use Rattle.shared_channel.specs.Calls.{step, state_seen, made_if, Bounds, IsIn, Answers, RolledBack}
 use Rattle.atomic_table.specs.Table.{Me}
-use Rattle.shared_channel.specs.Ports.{SettledBy, MakesSettled, own_if, own_calls, owned, AreOwned, Saw, Went, WentBy, Later, Settles, SawAll}
+use Rattle.shared_channel.specs.Ports.{SettledBy, MakesSettled, own_if, own_calls, owned, AreOwned, AreUnder, Saw, Went, WentBy, Later, Settles, SawAll, under_then}
 
 own_if-append : (b : Bool) (o : Own) (x y : List Own) → own_if b o (x ++ y) ≡ own_if b o x ++ y
 own_if-append true o x y = refl
@@ -59,13 +59,23 @@ begun v between = state_after (opening v.base) (v.seen ++ between)
 others : (v : View) (between : List Step) → calls_by v.numbers between ≡ [] → own_calls v.numbers (opening v.base) (v.seen ++ between) ≡ owned v
 others v between none = own-append v.numbers (opening v.base) v.seen between ∙ ap (λ l. owned v ++ l) (own-none v.numbers (state_after (opening v.base) v.seen) between none) ∙ append-nil (owned v)
 
+-- of calls under a number those of some passes are so
+under_kept : (number : ℕ) (ns : List ℕ) (h : List Step) → AreUnder number h → AreUnder number (calls_by ns h)
+under_kept number ns [] u = tt
+under_kept number ns (x ∷ h) u = by_own (has ns x.pass) (under_kept number ns h u.1)
+  where
+    by_own : (b : Bool) → AreUnder number (calls_by ns h) → AreUnder number (keep b x (calls_by ns h))
+    by_own true more = (u.0, more)
+    by_own false more = more
+
 -- from a view to one that has seen calls of others, and these
-went_from : (v w : View) (between calls : List Step) → w ≡ saw v w.seen → w.seen ≡ (v.seen ++ between) ++ calls → calls_by v.numbers between ≡ [] → Went v w (own_calls v.numbers (begun v between) calls)
-went_from v w between calls is all none = record {
+went_from : (by : ℕ) (v w : View) (between calls : List Step) → w ≡ saw v w.seen → w.seen ≡ (v.seen ++ between) ++ calls → calls_by v.numbers between ≡ [] → AreUnder by calls → Went by v w (own_calls v.numbers (begun v between) calls)
+went_from by v w between calls is all none under = record {
   base = base;
   passes = ap (λ (x : View). x.passes) is;
   numbers = numbers;
   begins = (between ++ calls, sym (append_assoc v.seen between calls) ∙ sym all);
+  under = subst (AreUnder by) (sym (calls_by-append v.numbers between calls ∙ ap (λ (l : List Step). l ++ calls_by v.numbers calls) none)) (under_kept by v.numbers calls under);
   owned = (λ i. own_calls (numbers i) (opening (base i)) (all i)) ∙ own-append v.numbers (opening v.base) (v.seen ++ between) calls ∙ ap (λ l. l ++ own_calls v.numbers (begun v between) calls) (others v between none);
 }
   where
@@ -82,12 +92,12 @@ none_between ns a between es l all told own =
     let lengths : length ((calls_by ns a ++ calls_by ns between) ++ calls_by ns es) ≡ length (calls_by ns a ++ es) = ap length (sym sum ∙ told) in
     nil_of (calls_by ns between) (omega (arith, lengths, length-append (calls_by ns a ++ calls_by ns between) (calls_by ns es), length-append (calls_by ns a) (calls_by ns between), length-append (calls_by ns a) es, ap length own))
 
-pub went_made : (v w : View) (es : List Step) → (m : MadeInTurn v es w) → Went v w (own_calls v.numbers (begun v m.0) es)
-went_made v w es m = went_from v w m.0 es m.1 m.2 (none_between v.numbers v.seen m.0 es w.seen m.2 m.3 m.5)
+pub went_made : (by : ℕ) (v w : View) (es : List Step) → (m : MadeInTurn v es w) → AreUnder by es → Went by v w (own_calls v.numbers (begun v m.0) es)
+went_made by v w es m under = went_from by v w m.0 es m.1 m.2 (none_between v.numbers v.seen m.0 es w.seen m.2 m.3 m.5) under
 
 -- the same of a turn, from the state in which it was begun
-went_turn : (v k w : View) (calls : List Step) → Making v [] k → w ≡ saw v w.seen → w.seen ≡ k.seen ++ calls → Went v w (own_calls v.numbers (state_seen k) calls)
-went_turn v k w calls m is all = subst (λ (s : State). Went v w (own_calls v.numbers s calls)) state (went_from v w m.0 calls is (all ∙ ap (λ l. l ++ calls) here) (none_between v.numbers v.seen m.0 [] k.seen m.2 m.3 refl))
+went_turn : (by : ℕ) (v k w : View) (calls : List Step) → Making v [] k → w ≡ saw v w.seen → w.seen ≡ k.seen ++ calls → AreUnder by calls → Went by v w (own_calls v.numbers (state_seen k) calls)
+went_turn by v k w calls m is all under = subst (λ (s : State). Went by v w (own_calls v.numbers s calls)) state (went_from by v w m.0 calls is (all ∙ ap (λ l. l ++ calls) here) (none_between v.numbers v.seen m.0 [] k.seen m.2 m.3 refl) under)
   where
     here : k.seen ≡ v.seen ++ m.0
     here = m.2 ∙ append-nil (v.seen ++ m.0)
@@ -95,36 +105,37 @@ went_turn v k w calls m is all = subst (λ (s : State). Went v w (own_calls v.nu
     state : begun v m.0 ≡ state_seen k
     state = λ i. state_after (opening (sym (ap (λ (x : View). x.base) m.1) i)) (sym here i)
 
-went_then : (v w x : View) (a b : List Own) → Went v w a → Went w x b → Went v x (a ++ b)
-went_then v w x a b f g = record {
+went_then : (by : ℕ) (v w x : View) (a b : List Own) → Went by v w a → Went by w x b → Went by v x (a ++ b)
+went_then by v w x a b f g = record {
   base = g.base ∙ f.base;
   passes = g.passes ∙ f.passes;
   numbers = g.numbers ∙ f.numbers;
   begins = (f.begins.0 ++ g.begins.0, sym (append_assoc v.seen f.begins.0 g.begins.0) ∙ ap (λ l. l ++ g.begins.0) f.begins.1 ∙ g.begins.1);
+  under = under_then by v.numbers w.numbers f.begins.0 g.begins.0 f.numbers f.under g.under;
   owned = g.owned ∙ ap (λ l. l ++ b) f.owned ∙ append_assoc (owned v) a b;
 }
 
-went_none : (v : View) → Went v v []
-went_none v = record { base = refl; passes = refl; numbers = refl; begins = ([], append-nil v.seen); owned = sym (append-nil (owned v)) }
+went_none : (by : ℕ) (v : View) → Went by v v []
+went_none by v = record { base = refl; passes = refl; numbers = refl; begins = ([], append-nil v.seen); under = tt; owned = sym (append-nil (owned v)) }
 
-pub grows : (v w : View) (more : List Own) → Went v w more → length v.seen ≤ length w.seen
-grows v w more f = omega (arith, length-append v.seen f.begins.0, ap length f.begins.1)
+pub grows : (by : ℕ) (v w : View) (more : List Own) → Went by v w more → length v.seen ≤ length w.seen
+grows by v w more f = omega (arith, length-append v.seen f.begins.0, ap length f.begins.1)
 
-pub goes_then : (v w x : View) (P Q R : List Own → List Own → Type 0) → WentBy v w P → WentBy w x Q → ((a b : List Own) → P (owned v) a → Q (owned v ++ a) b → R (owned v) (a ++ b)) → WentBy v x R
-goes_then v w x P Q R f g join = (f.0 ++ g.0, went_then v w x f.0 g.0 f.1 g.1, join f.0 g.0 f.2 (subst (λ l. Q l g.0) f.1.owned g.2))
+pub goes_then : (by : ℕ) (v w x : View) (P Q R : List Own → List Own → Type 0) → WentBy by v w P → WentBy by w x Q → ((a b : List Own) → P (owned v) a → Q (owned v ++ a) b → R (owned v) (a ++ b)) → WentBy by v x R
+goes_then by v w x P Q R f g join = (f.0 ++ g.0, went_then by v w x f.0 g.0 f.1 g.1, join f.0 g.0 f.2 (subst (λ l. Q l g.0) f.1.owned g.2))
 
-pub goes_as : (v w : View) (P Q : List Own → List Own → Type 0) → WentBy v w P → ((a : List Own) → P (owned v) a → Q (owned v) a) → WentBy v w Q
-goes_as v w P Q f turn = (f.0, f.1, turn f.0 f.2)
+pub goes_as : (by : ℕ) (v w : View) (P Q : List Own → List Own → Type 0) → WentBy by v w P → ((a : List Own) → P (owned v) a → Q (owned v) a) → WentBy by v w Q
+goes_as by v w P Q f turn = (f.0, f.1, turn f.0 f.2)
 
-pub goes_grows : (v w : View) (P : List Own → List Own → Type 0) → WentBy v w P → length v.seen ≤ length w.seen
-goes_grows v w P f = grows v w f.0 f.1
+pub goes_grows : (by : ℕ) (v w : View) (P : List Own → List Own → Type 0) → WentBy by v w P → length v.seen ≤ length w.seen
+goes_grows by v w P f = grows by v w f.0 f.1
 
-pub gains : (v w : View) (P : List Own → List Own → Type 0) → WentBy v w P → Gains (AreOwned v) (AreOwned w) P
-gains v w P f start earlier own is = (f.0, (is.0 ∙ sym f.1.base, is.1, ap (λ l. l ++ f.0) is.2 ∙ sym f.1.owned), subst (λ l. P l f.0) (sym is.2) f.2)
+pub gains : (by : ℕ) (v w : View) (P : List Own → List Own → Type 0) → WentBy by v w P → Gains (AreOwned v) (AreOwned w) P
+gains by v w P f start earlier own is = (f.0, (is.0 ∙ sym f.1.base, is.1, ap (λ l. l ++ f.0) is.2 ∙ sym f.1.owned), subst (λ l. P l f.0) (sym is.2) f.2)
 
 -- a pass after such calls
-pub later : (p q : Known) (P : List Own → List Own → Type 0) → (q.table_id ≡ p.table_id) × (q.number ≡ p.number) → WentBy p.view q.view P → Later p q
-later p q P same f = record { table = same.0; number = same.1; base = f.1.base; passes = f.1.passes; numbers = f.1.numbers; begins = f.1.begins }
+pub later : (p q : Known) (P : List Own → List Own → Type 0) → (q.table_id ≡ p.table_id) × (q.number ≡ p.number) → WentBy p.number p.view q.view P → Later p q
+later p q P same f = record { table = same.0; number = same.1; base = f.1.base; passes = f.1.passes; numbers = f.1.numbers; begins = f.1.begins; under = f.1.under }
 
 own_one : (ns : List ℕ) (x : Step) → calls_by ns (x ∷ []) ≡ x ∷ [] → has ns x.pass ≡ true
 own_one ns x is = by_own (has ns x.pass) is
@@ -159,14 +170,14 @@ IsOne seen spent call earlier more = (s : State) × IsMade seen spent call s mor
 
 module _ {C : Type 0} (stands : C → Opening → List Step → Type 0) (tells : C → Bool) (moment : C → ℕ) where
   -- a call that may have been spent
-  pub one_call : (spent : Bool) (v w : View) (by : ℕ) (call : Call) → Answers stands tells moment spent v by call w → WentBy v w (IsOne (length w.seen) spent call)
-  one_call true v w by call a = let m = a.0.1.made in ([], went_made v w [] m, (begun v m.0, (refl, let b = a.1 in omega arith)))
+  pub one_call : (spent : Bool) (v w : View) (by : ℕ) (call : Call) → Answers stands tells moment spent v by call w → WentBy by v w (IsOne (length w.seen) spent call)
+  one_call true v w by call a = let m = a.0.1.made in ([], went_made by v w [] m tt, (begun v m.0, (refl, let b = a.1 in omega arith)))
   one_call false v w by call a =
       let c = a.0.0 in
       let x : Step = step by call (moment c) in
       let m = a.0.1.made in
       let s = begun v m.0 in
-      (own_calls v.numbers s (x ∷ []), went_made v w (x ∷ []) m, (s, (moment c, ap (λ b. own_if b (record { call = call; before = s; moment = moment c }) []) (own_one v.numbers x m.5))))
+      (own_calls v.numbers s (x ∷ []), went_made by v w (x ∷ []) m (refl, tt), (s, (moment c, ap (λ b. own_if b (record { call = call; before = s; moment = moment c }) []) (own_one v.numbers x m.5))))
 
   -- what it has seen then, a channel stands for
   pub all_seen : (spent : Bool) (v w : View) (by : ℕ) (call : Call) → Answers stands tells moment spent v by call w → SawAll stands tells w
@@ -179,8 +190,8 @@ module _ {C : Type 0} (stands : C → Opening → List Step → Type 0) (tells :
   mended_seen v w by (Ok true) m = all_seen (is_spent_open m.0) v w by (Reopen (reopen_reply m.0 m.1.0)) m.1.1
   mended_seen v w by (Err cause) m = all_seen (is_spent_open m.0) v w by (Reopen (reopen_reply m.0 m.1.0)) m.1.1
 
-  pub mended_goes : (v w : View) (by : ℕ) (result : Result Bool OpenCause) → Mends stands tells moment v by result w → WentBy v w (λ earlier more. Unit {0})
-  mended_goes v w by (Ok false) m = ([], went_made v w [] m.0.1.made, tt)
+  pub mended_goes : (v w : View) (by : ℕ) (result : Result Bool OpenCause) → Mends stands tells moment v by result w → WentBy by v w (λ earlier more. Unit {0})
+  mended_goes v w by (Ok false) m = ([], went_made by v w [] m.0.1.made tt, tt)
   mended_goes v w by (Ok true) m = let f = one_call (is_spent_open m.0) v w by (Reopen (reopen_reply m.0 m.1.0)) m.1.1 in (f.0, f.1, tt)
   mended_goes v w by (Err cause) m = let f = one_call (is_spent_open m.0) v w by (Reopen (reopen_reply m.0 m.1.0)) m.1.1 in (f.0, f.1, tt)
 
@@ -189,101 +200,105 @@ module _ {C : Type 0} (stands : C → Opening → List Step → Type 0) (tells :
   all_seen_back false v w by call IsStale r = (r.0.0, r.0.1.seen)
 
   -- a rollback
-  pub rolls : (ended : Bool) (v w : View) (by : ℕ) (rollback : Bool → Call) (IsStale : State → Type 0) → RolledBack stands tells moment ended v by (rollback true) IsStale w → WentBy v w (IsRolledBack (Saw stands w) rollback IsStale)
+  pub rolls : (ended : Bool) (v w : View) (by : ℕ) (rollback : Bool → Call) (IsStale : State → Type 0) → RolledBack stands tells moment ended v by (rollback true) IsStale w → WentBy by v w (IsRolledBack (Saw stands w) rollback IsStale)
   rolls true v w by rollback IsStale r =
       let c = r.0 in
       let x : Step = step by (rollback true) (moment c) in
       let m = r.1.made in
       let s = begun v m.0 in
-      (own_calls v.numbers s (x ∷ []), went_made v w (x ∷ []) m, inl (s, moment c, ap (λ b. own_if b (record { call = rollback true; before = s; moment = moment c }) []) (own_one v.numbers x m.5)))
+      (own_calls v.numbers s (x ∷ []), went_made by v w (x ∷ []) m (refl, tt), inl (s, moment c, ap (λ b. own_if b (record { call = rollback true; before = s; moment = moment c }) []) (own_one v.numbers x m.5)))
   rolls false v w by rollback IsStale r =
-      let went = went_made v w [] r.0.1.made in
+      let went = went_made by v w [] r.0.1.made tt in
       let here : Saw stands w (owned v) (state_seen w) = record { channel = r.0.0; calls = r.0.1.seen.calls; own_all = went.owned ∙ append-nil (owned v); state = refl } in
       ([], went, inr (state_seen w, here, r.1, inl refl))
 
   -- a stage and what follows
 
-  pub staged_put : (v w x : View) (by : ℕ) (token : Token) (t : Ticket) (sure : Bool) (result : Result ℕ FaceRefused) → Answers stands tells moment false v by (StagePut token (Ok t)) w → Settles stands w x t sure → result ≡ in_doubt_unless sure t.first → WentBy v x (IsPutStage (Saw stands x) (length x.seen) token result)
-  staged_put v w x by token t sure result a ends is =
-      goes_then v w x (IsOne (length w.seen) false (StagePut token (Ok t))) (λ earlier more. Ends (Saw stands x) (length x.seen) t earlier more sure) (IsPutStage (Saw stands x) (length x.seen) token result) (one_call false v w by (StagePut token (Ok t)) a) ends
+  pub staged_put : (v w x : View) (by by' : ℕ) (token : Token) (t : Ticket) (sure : Bool) (result : Result ℕ FaceRefused) → Answers stands tells moment false v by (StagePut token (Ok t)) w → by' ≡ by → Settles stands by' w x t sure → result ≡ in_doubt_unless sure t.first → WentBy by v x (IsPutStage (Saw stands x) (length x.seen) token result)
+  staged_put v w x by by' token t sure result a same ends is =
+      goes_then by v w x (IsOne (length w.seen) false (StagePut token (Ok t))) (λ earlier more. Ends (Saw stands x) (length x.seen) t earlier more sure) (IsPutStage (Saw stands x) (length x.seen) token result) (one_call false v w by (StagePut token (Ok t)) a) (subst (λ (n : ℕ). Settles stands n w x t sure) same ends)
       (λ p q h e. (Ok t, h.0, p, q, refl, h.1, (sure, e, is)))
 
-  pub unstaged_put : (v w x : View) (by by' : ℕ) (token other : Token) (cause : StageCause) (ended : Bool) → Answers stands tells moment (is_spent_stage (Err cause)) v by (StagePut token (Err cause)) w → other ≡ token → RolledBack stands tells moment ended w by' (RollbackPut other true) (λ s. puts_of s other ≡ None) x
-      → WentBy v x (IsPutStage (Saw stands x) (length x.seen) token (Err (Face.Stage cause)))
-  unstaged_put v w x by by' token other cause ended a same rolled =
-      let back = rolls ended w x by' (RollbackPut other) (λ s. puts_of s other ≡ None) rolled in
-      goes_then v w x (IsOne (length w.seen) (is_spent_stage (Err cause)) (StagePut token (Err cause))) (IsRolledBack (Saw stands x) (RollbackPut other) (λ s. puts_of s other ≡ None)) (IsPutStage (Saw stands x) (length x.seen) token (Err (Face.Stage cause))) (one_call (is_spent_stage (Err cause)) v w by (StagePut token (Err cause)) a) back
+  pub unstaged_put : (v w x : View) (by by' : ℕ) (token other : Token) (cause : StageCause) (ended : Bool) → Answers stands tells moment (is_spent_stage (Err cause)) v by (StagePut token (Err cause)) w → by' ≡ by → other ≡ token → RolledBack stands tells moment ended w by' (RollbackPut other true) (λ s. puts_of s other ≡ None) x
+      → WentBy by v x (IsPutStage (Saw stands x) (length x.seen) token (Err (Face.Stage cause)))
+  unstaged_put v w x by by' token other cause ended a one same rolled =
+      let back = subst (λ (n : ℕ). WentBy n w x (IsRolledBack (Saw stands x) (RollbackPut other) (λ s. puts_of s other ≡ None))) one (rolls ended w x by' (RollbackPut other) (λ s. puts_of s other ≡ None) rolled) in
+      goes_then by v w x (IsOne (length w.seen) (is_spent_stage (Err cause)) (StagePut token (Err cause))) (IsRolledBack (Saw stands x) (RollbackPut other) (λ s. puts_of s other ≡ None)) (IsPutStage (Saw stands x) (length x.seen) token (Err (Face.Stage cause))) (one_call (is_spent_stage (Err cause)) v w by (StagePut token (Err cause)) a) back
       (λ p q h e. (
         Err cause,
         h.0,
         p,
         q,
         refl,
-        made_up (length w.seen) (length x.seen) (is_spent_stage (Err cause)) (StagePut token (Err cause)) h.0 p (goes_grows w x (IsRolledBack (Saw stands x) (RollbackPut other) (λ s. puts_of s other ≡ None)) back) h.1,
+        made_up (length w.seen) (length x.seen) (is_spent_stage (Err cause)) (StagePut token (Err cause)) h.0 p (goes_grows by w x (IsRolledBack (Saw stands x) (RollbackPut other) (λ s. puts_of s other ≡ None)) back) h.1,
         (subst (λ (k : Token). IsRolledBack (Saw stands x) (RollbackPut k) (λ s. puts_of s k ≡ None) (owned v ++ p) q) same e, refl),
       ))
 
-  pub staged_take : (v w x : View) (by : ℕ) (token : Token) (t : Ticket) (sure : Bool) (result : Result (Unit {0}) FaceRefused) → Answers stands tells moment false v by (StageTake token (Ok t)) w → Settles stands w x t sure → result ≡ in_doubt_unless sure tt → WentBy v x (IsTakeCommit (Saw stands x) (length x.seen) token result)
-  staged_take v w x by token t sure result a ends is =
-      goes_then v w x (IsOne (length w.seen) false (StageTake token (Ok t))) (λ earlier more. Ends (Saw stands x) (length x.seen) t earlier more sure) (IsTakeCommit (Saw stands x) (length x.seen) token result) (one_call false v w by (StageTake token (Ok t)) a) ends
+  pub staged_take : (v w x : View) (by by' : ℕ) (token : Token) (t : Ticket) (sure : Bool) (result : Result (Unit {0}) FaceRefused) → Answers stands tells moment false v by (StageTake token (Ok t)) w → by' ≡ by → Settles stands by' w x t sure → result ≡ in_doubt_unless sure tt → WentBy by v x (IsTakeCommit (Saw stands x) (length x.seen) token result)
+  staged_take v w x by by' token t sure result a same ends is =
+      goes_then by v w x (IsOne (length w.seen) false (StageTake token (Ok t))) (λ earlier more. Ends (Saw stands x) (length x.seen) t earlier more sure) (IsTakeCommit (Saw stands x) (length x.seen) token result) (one_call false v w by (StageTake token (Ok t)) a) (subst (λ (n : ℕ). Settles stands n w x t sure) same ends)
       (λ p q h e. (Ok t, h.0, p, q, refl, h.1, (sure, e, is)))
 
-  pub unstaged_take : (v w x : View) (by by' : ℕ) (token other : Token) (cause : StageCause) (ended : Bool) → Answers stands tells moment (is_spent_stage (Err cause)) v by (StageTake token (Err cause)) w → other ≡ token → RolledBack stands tells moment ended w by' (RollbackTake other true) (λ s. takes_of s other ≡ None) x
-      → WentBy v x (IsTakeCommit (Saw stands x) (length x.seen) token (Err (Face.Stage cause)))
-  unstaged_take v w x by by' token other cause ended a same rolled =
-      let back = rolls ended w x by' (RollbackTake other) (λ s. takes_of s other ≡ None) rolled in
-      goes_then v w x (IsOne (length w.seen) (is_spent_stage (Err cause)) (StageTake token (Err cause))) (IsRolledBack (Saw stands x) (RollbackTake other) (λ s. takes_of s other ≡ None)) (IsTakeCommit (Saw stands x) (length x.seen) token (Err (Face.Stage cause))) (one_call (is_spent_stage (Err cause)) v w by (StageTake token (Err cause)) a) back
+  pub unstaged_take : (v w x : View) (by by' : ℕ) (token other : Token) (cause : StageCause) (ended : Bool) → Answers stands tells moment (is_spent_stage (Err cause)) v by (StageTake token (Err cause)) w → by' ≡ by → other ≡ token → RolledBack stands tells moment ended w by' (RollbackTake other true) (λ s. takes_of s other ≡ None) x
+      → WentBy by v x (IsTakeCommit (Saw stands x) (length x.seen) token (Err (Face.Stage cause)))
+  unstaged_take v w x by by' token other cause ended a one same rolled =
+      let back = subst (λ (n : ℕ). WentBy n w x (IsRolledBack (Saw stands x) (RollbackTake other) (λ s. takes_of s other ≡ None))) one (rolls ended w x by' (RollbackTake other) (λ s. takes_of s other ≡ None) rolled) in
+      goes_then by v w x (IsOne (length w.seen) (is_spent_stage (Err cause)) (StageTake token (Err cause))) (IsRolledBack (Saw stands x) (RollbackTake other) (λ s. takes_of s other ≡ None)) (IsTakeCommit (Saw stands x) (length x.seen) token (Err (Face.Stage cause))) (one_call (is_spent_stage (Err cause)) v w by (StageTake token (Err cause)) a) back
       (λ p q h e. (
         Err cause,
         h.0,
         p,
         q,
         refl,
-        made_up (length w.seen) (length x.seen) (is_spent_stage (Err cause)) (StageTake token (Err cause)) h.0 p (goes_grows w x (IsRolledBack (Saw stands x) (RollbackTake other) (λ s. takes_of s other ≡ None)) back) h.1,
+        made_up (length w.seen) (length x.seen) (is_spent_stage (Err cause)) (StageTake token (Err cause)) h.0 p (goes_grows by w x (IsRolledBack (Saw stands x) (RollbackTake other) (λ s. takes_of s other ≡ None)) back) h.1,
         (subst (λ (k : Token). IsRolledBack (Saw stands x) (RollbackTake k) (λ s. takes_of s k ≡ None) (owned v ++ p) q) same e, refl),
       ))
 
   -- puts, one after another
 
-  pub put_one : (v w x : View) (by : ℕ) (token other : Token) (events events' : List Content) (event : Content) (done : PutDone) → WentBy v w (λ earlier. ArePut token events) → Answers stands tells moment false w by (Put other event (Ok done)) x → other ≡ token → events' ≡ events ++ event ∷ [] → WentBy v x (λ earlier. ArePut token events')
-  put_one v w x by token other events events' event done goes a same is =
-      goes_then v w x (λ earlier. ArePut token events) (IsOne (length x.seen) false (Put other event (Ok done))) (λ earlier. ArePut token events') goes (one_call false w x by (Put other event (Ok done)) a)
+  pub put_one : (v w x : View) (by by' : ℕ) (token other : Token) (events events' : List Content) (event : Content) (done : PutDone) → WentBy by v w (λ earlier. ArePut token events) → Answers stands tells moment false w by' (Put other event (Ok done)) x → by' ≡ by → other ≡ token → events' ≡ events ++ event ∷ [] → WentBy by v x (λ earlier. ArePut token events')
+  put_one v w x by by' token other events events' event done goes a one same is =
+      goes_then by v w x (λ earlier. ArePut token events) (IsOne (length x.seen) false (Put other event (Ok done))) (λ earlier. ArePut token events') goes
+      (subst (λ (n : ℕ). WentBy n w x (IsOne (length x.seen) false (Put other event (Ok done)))) one (one_call false w x by' (Put other event (Ok done)) a))
       (λ p q all h. rw (is, h.1.1, same) (puts-push token events p event done h.0 h.1.0 all))
 
-  pub put_refused : (v w x : View) (by : ℕ) (token other : Token) (events all back : List Content) (event : Content) (refused : PutRefused) → WentBy v w (λ earlier. ArePut token events) → Answers stands tells moment (is_spent_put (Err refused)) w by (Put other event (Err refused)) x → other ≡ token → all ≡ events ++ event ∷ back
-      → WentBy v x (λ earlier. ArePutUpTo (length x.seen) token all (Err refused))
-  put_refused v w x by token other events all back event refused goes a same is =
-      goes_then v w x (λ earlier. ArePut token events) (IsOne (length x.seen) (is_spent_put (Err refused)) (Put other event (Err refused))) (λ earlier. ArePutUpTo (length x.seen) token all (Err refused)) goes (one_call (is_spent_put (Err refused)) w x by (Put other event (Err refused)) a)
+  pub put_refused : (v w x : View) (by by' : ℕ) (token other : Token) (events all back : List Content) (event : Content) (refused : PutRefused) → WentBy by v w (λ earlier. ArePut token events) → Answers stands tells moment (is_spent_put (Err refused)) w by' (Put other event (Err refused)) x → by' ≡ by → other ≡ token → all ≡ events ++ event ∷ back
+      → WentBy by v x (λ earlier. ArePutUpTo (length x.seen) token all (Err refused))
+  put_refused v w x by by' token other events all back event refused goes a one same is =
+      goes_then by v w x (λ earlier. ArePut token events) (IsOne (length x.seen) (is_spent_put (Err refused)) (Put other event (Err refused))) (λ earlier. ArePutUpTo (length x.seen) token all (Err refused)) goes
+      (subst (λ (n : ℕ). WentBy n w x (IsOne (length x.seen) (is_spent_put (Err refused)) (Put other event (Err refused)))) one (one_call (is_spent_put (Err refused)) w x by' (Put other event (Err refused)) a))
       (λ p q done h. (events, back, event, h.0, p, q, is, refl, done, subst (λ (k : Token). IsMade (length x.seen) (is_spent_put (Err refused)) (Put k event (Err refused)) h.0 q) same h.1))
 
   -- a whole batch
 
-  pub batch_unbegun : (v w : View) (by : ℕ) (events : List Content) (refused : BeginRefused) → Answers stands tells moment (is_spent_begin (Err refused)) v by (BeginPut (Err refused)) w → WentBy v w (IsPutBatch (Saw stands w) (length w.seen) events (Err (Face.Begin refused)))
+  pub batch_unbegun : (v w : View) (by : ℕ) (events : List Content) (refused : BeginRefused) → Answers stands tells moment (is_spent_begin (Err refused)) v by (BeginPut (Err refused)) w → WentBy by v w (IsPutBatch (Saw stands w) (length w.seen) events (Err (Face.Begin refused)))
   batch_unbegun v w by events refused a =
-      goes_as v w (IsOne (length w.seen) (is_spent_begin (Err refused)) (BeginPut (Err refused))) (IsPutBatch (Saw stands w) (length w.seen) events (Err (Face.Begin refused))) (one_call (is_spent_begin (Err refused)) v w by (BeginPut (Err refused)) a)
+      goes_as by v w (IsOne (length w.seen) (is_spent_begin (Err refused)) (BeginPut (Err refused))) (IsPutBatch (Saw stands w) (length w.seen) events (Err (Face.Begin refused))) (one_call (is_spent_begin (Err refused)) v w by (BeginPut (Err refused)) a)
       (λ p h. (Err refused, h.0, p, [], sym (append-nil p), h.1, (refl, refl)))
 
-  pub batch_begun : (v w x y : View) (by : ℕ) (events : List Content) (token other : Token) (reply : Result (Unit {0}) PutRefused) (result : Result ℕ FaceRefused) → Answers stands tells moment false v by (BeginPut (Ok token)) w → other ≡ token → WentBy w x (λ earlier. ArePutUpTo (length x.seen) token events reply)
-      → WentBy x y (λ earlier more. EndsPuts (Saw stands y) (length y.seen) other reply earlier more result) → WentBy v y (IsPutBatch (Saw stands y) (length y.seen) events result)
-  batch_begun v w x y by events token other reply result a same puts ends =
-      goes_then v w y (IsOne (length w.seen) false (BeginPut (Ok token))) (λ earlier more. EndsBegin (Saw stands y) (length y.seen) events (Ok token) earlier more result) (IsPutBatch (Saw stands y) (length y.seen) events result) (one_call false v w by (BeginPut (Ok token)) a)
-      (goes_then w x y (λ earlier. ArePutUpTo (length x.seen) token events reply) (λ earlier more. EndsPuts (Saw stands y) (length y.seen) other reply earlier more result) (λ earlier more. EndsBegin (Saw stands y) (length y.seen) events (Ok token) earlier more result) puts ends
-      (λ p q all e. (reply, p, q, refl, puts_up (length x.seen) (length y.seen) token events reply p (goes_grows x y (λ earlier more. EndsPuts (Saw stands y) (length y.seen) other reply earlier more result) ends) all, subst (λ (k : Token). EndsPuts (Saw stands y) (length y.seen) k reply (owned w ++ p) q result) same e)))
+  pub batch_begun : (v w x y : View) (by by' by'' : ℕ) (events : List Content) (token other : Token) (reply : Result (Unit {0}) PutRefused) (result : Result ℕ FaceRefused) → Answers stands tells moment false v by (BeginPut (Ok token)) w → by' ≡ by → by'' ≡ by → other ≡ token → WentBy by' w x (λ earlier. ArePutUpTo (length x.seen) token events reply)
+      → WentBy by'' x y (λ earlier more. EndsPuts (Saw stands y) (length y.seen) other reply earlier more result) → WentBy by v y (IsPutBatch (Saw stands y) (length y.seen) events result)
+  batch_begun v w x y by by' by'' events token other reply result a one two same puts ends =
+      goes_then by v w y (IsOne (length w.seen) false (BeginPut (Ok token))) (λ earlier more. EndsBegin (Saw stands y) (length y.seen) events (Ok token) earlier more result) (IsPutBatch (Saw stands y) (length y.seen) events result) (one_call false v w by (BeginPut (Ok token)) a)
+      (goes_then by w x y (λ earlier. ArePutUpTo (length x.seen) token events reply) (λ earlier more. EndsPuts (Saw stands y) (length y.seen) other reply earlier more result) (λ earlier more. EndsBegin (Saw stands y) (length y.seen) events (Ok token) earlier more result)
+      (subst (λ (n : ℕ). WentBy n w x (λ earlier. ArePutUpTo (length x.seen) token events reply)) one puts)
+      (subst (λ (n : ℕ). WentBy n x y (λ earlier more. EndsPuts (Saw stands y) (length y.seen) other reply earlier more result)) two ends)
+      (λ p q all e. (reply, p, q, refl, puts_up (length x.seen) (length y.seen) token events reply p (goes_grows by'' x y (λ earlier more. EndsPuts (Saw stands y) (length y.seen) other reply earlier more result) ends) all, subst (λ (k : Token). EndsPuts (Saw stands y) (length y.seen) k reply (owned w ++ p) q result) same e)))
       (λ p q h e. (Ok token, h.0, p, q, refl, h.1, e))
 
   -- takes
 
-  pub take_begun : (v w : View) (by : ℕ) (reply : Result Token BeginRefused) (result : Result Token FaceRefused) → Answers stands tells moment (is_spent_begin reply) v by (BeginTake reply) w → result ≡ begun_as reply → WentBy v w (λ earlier. IsTakeBegun (length w.seen) result)
-  take_begun v w by reply result a is = goes_as v w (IsOne (length w.seen) (is_spent_begin reply) (BeginTake reply)) (λ earlier. IsTakeBegun (length w.seen) result) (one_call (is_spent_begin reply) v w by (BeginTake reply) a) (λ p h. (reply, h.0, h.1, is))
+  pub take_begun : (v w : View) (by : ℕ) (reply : Result Token BeginRefused) (result : Result Token FaceRefused) → Answers stands tells moment (is_spent_begin reply) v by (BeginTake reply) w → result ≡ begun_as reply → WentBy by v w (λ earlier. IsTakeBegun (length w.seen) result)
+  take_begun v w by reply result a is = goes_as by v w (IsOne (length w.seen) (is_spent_begin reply) (BeginTake reply)) (λ earlier. IsTakeBegun (length w.seen) result) (one_call (is_spent_begin reply) v w by (BeginTake reply) a) (λ p h. (reply, h.0, h.1, is))
 
-  pub taken : (v w : View) (by : ℕ) (token : Token) (reply : Result Taken TakeRefused) (result : Result (Option Content) FaceRefused) → Answers stands tells moment (is_spent_take reply) v by (Take token reply) w → result ≡ taken_event reply → WentBy v w (λ earlier. IsTake (length w.seen) token result)
-  taken v w by token reply result a is = goes_as v w (IsOne (length w.seen) (is_spent_take reply) (Take token reply)) (λ earlier. IsTake (length w.seen) token result) (one_call (is_spent_take reply) v w by (Take token reply) a) (λ p h. (reply, h.0, h.1, is))
+  pub taken : (v w : View) (by : ℕ) (token : Token) (reply : Result Taken TakeRefused) (result : Result (Option Content) FaceRefused) → Answers stands tells moment (is_spent_take reply) v by (Take token reply) w → result ≡ taken_event reply → WentBy by v w (λ earlier. IsTake (length w.seen) token result)
+  taken v w by token reply result a is = goes_as by v w (IsOne (length w.seen) (is_spent_take reply) (Take token reply)) (λ earlier. IsTake (length w.seen) token result) (one_call (is_spent_take reply) v w by (Take token reply) a) (λ p h. (reply, h.0, h.1, is))
 
-pub puts_none : (v : View) (token : Token) → WentBy v v (λ earlier. ArePut token [])
-puts_none v token = ([], went_none v, refl)
+pub puts_none : (by : ℕ) (v : View) (token : Token) → WentBy by v v (λ earlier. ArePut token [])
+puts_none by v token = ([], went_none by v, refl)
 
 -- what a turn's settling did
-pub settles : {S C : Type 0} (stands : C → Opening → List Step → Type 0) (v w : View) (by moment : ℕ) (ticket : Ticket) (sure : Bool) (k : Me (Option S) View) (c d : C) (n : Me (Option S) View) → IsIn stands k c → Making v [] k.0 → has v.numbers by ≡ true → MakesSettled stands by moment ticket sure k d n → w ≡ saw v w.seen → w.seen ≡ n.0.seen → Settles stands v w ticket sure
+pub settles : {S C : Type 0} (stands : C → Opening → List Step → Type 0) (v w : View) (by moment : ℕ) (ticket : Ticket) (sure : Bool) (k : Me (Option S) View) (c d : C) (n : Me (Option S) View) → IsIn stands k c → Making v [] k.0 → has v.numbers by ≡ true → MakesSettled stands by moment ticket sure k d n → w ≡ saw v w.seen → w.seen ≡ n.0.seen → Settles stands by v w ticket sure
 settles stands v w by moment ticket sure k c d n inside making own makes is same =
     (more, g, (s, found (settled s ticket) makes.2, ends (settled s ticket) makes.2))
   where
@@ -296,8 +311,17 @@ settles stands v w by moment ticket sure k c d n inside making own makes is same
     more : List Own
     more = own_calls v.numbers s makes.0
 
-    g : Went v w more
-    g = went_turn v k.0 w makes.0 making is all
+    under_flush : (spent : Bool) (reply : Result (Unit {0}) FlushRefused) → AreUnder by (made_if (not spent) (step by (Flush reply) moment))
+    under_flush true reply = tt
+    under_flush false reply = (refl, tt)
+
+    under : (a : Settled) → SettledBy a by moment k.0 makes.0 sure → AreUnder by makes.0
+    under Yes h = subst (AreUnder by) (sym h.0) tt
+    under No h = subst (AreUnder by) (sym h.1) (under_flush (is_spent_flush h.0) h.0)
+    under InDoubt h = subst (AreUnder by) (sym h.0) tt
+
+    g : Went by v w more
+    g = went_turn by v k.0 w makes.0 making is all (under (settled s ticket) makes.2)
 
     base : w.base ≡ k.0.base
     base = ap (λ (x : View). x.base) is ∙ sym (ap (λ (x : View). x.base) making.1)

@@ -1,6 +1,6 @@
 -- What a source and a sink see of a shared channel through a pass.
 use Rattle.std.specs.Prelude.{◌≡◌, ◌-◌, ◌^◌, ℕ, List, [], ◌∷◌, ◌++◌, length, Option, Result, Bool, true, false, not, is_ok}
-use Rattle.std.proofs.Common.{refl, sym, ◌∙◌, ap, append_assoc}
+use Rattle.std.proofs.Common.{refl, sym, ◌∙◌, ap, subst, append_assoc}
 use Rattle.std.proofs.lemmas.List.{append-nil}
 use mathlib.Core.List.{IsPrefix}
 use Rattle.atomic_table.specs.Table.{Me}
@@ -11,7 +11,8 @@ use Rattle.channel_face.specs.declared.replies.FlushRefused.{FlushRefused}
 use Rattle.channel_face.specs.declared.replies.Settled.{Settled}
 use Rattle.channel_face.specs.declared.replies.Settled.TheVariants.{Yes, No, InDoubt}
 use Rattle.channel_face.specs.declared.replies.Ticket.{Ticket}
-use Rattle.turn_passes.specs.Calls.{has}
+use Rattle.turn_passes.specs.Calls.{has, calls_by}
+use Rattle.turn_passes.proofs.Histories.{calls_by-append}
 use Rattle.turn_passes.specs.Views.{View}
 use Rattle.shared_channel.specs.Counting.{StandsCounting}
 use Rattle.shared_channel.specs.Passes.{Known}
@@ -41,19 +42,25 @@ pub record Saw {C : Type 0} (stands : C → Opening → List Step → Type 0) (v
   pub own_all : owned v ≡ own
   pub state : state_seen v ≡ s
 
--- From a view to one that has seen as much or more, and made these calls in it.
-pub record Went (v w : View) (more : List Own) : Type 0 where
+-- each of these calls carries this number
+abbrev pub AreUnder : ℕ → List Step → Type 0
+AreUnder number [] = Unit {0}
+AreUnder number (step ∷ h) = (step.pass ≡ number) × AreUnder number h
+
+-- From a view to one that has seen as much or more, and made these calls in it, all under this number.
+pub record Went (number : ℕ) (v w : View) (more : List Own) : Type 0 where
   pub base : w.base ≡ v.base
   pub passes : w.passes ≡ v.passes
   pub numbers : w.numbers ≡ v.numbers
   pub begins : IsPrefix v.seen w.seen
+  pub under : AreUnder number (calls_by v.numbers begins.0)
   pub owned : owned w ≡ owned v ++ more
 
 -- it made calls of which P is true behind those that it had made
-abbrev pub WentBy : View → View → (List Own → List Own → Type 0) → Type 0
-WentBy v w P = (more : List Own) × Went v w more × P (owned v) more
+abbrev pub WentBy : ℕ → View → View → (List Own → List Own → Type 0) → Type 0
+WentBy number v w P = (more : List Own) × Went number v w more × P (owned v) more
 
--- The same pass after some calls. What it has seen begins with what it had seen.
+-- The same pass after some calls. What it has seen begins with what it had seen, and of what is new its own calls carry its number.
 pub record Later (p q : Known) : Type 0 where
   pub table : q.table_id ≡ p.table_id
   pub number : q.number ≡ p.number
@@ -61,10 +68,11 @@ pub record Later (p q : Known) : Type 0 where
   pub passes : q.view.passes ≡ p.view.passes
   pub numbers : q.view.numbers ≡ p.view.numbers
   pub begins : IsPrefix p.view.seen q.view.seen
+  pub under : AreUnder p.number (calls_by p.view.numbers begins.0)
 
--- In one turn the ticket was asked for, and what was not settled then was flushed.
-abbrev pub Settles : {C : Type 0} → (C → Opening → List Step → Type 0) → View → View → Ticket → Bool → Type 0
-Settles stands v w ticket sure = WentBy v w (λ earlier more. Ends (Saw stands w) (length w.seen) ticket earlier more sure)
+-- In one turn the ticket was asked for, and a flush followed where it was No.
+abbrev pub Settles : {C : Type 0} → (C → Opening → List Step → Type 0) → ℕ → View → View → Ticket → Bool → Type 0
+Settles stands number v w ticket sure = WentBy number v w (λ earlier more. Ends (Saw stands w) (length w.seen) ticket earlier more sure)
 
 -- A channel stands for all that the pass has seen, of which each call was answered as the machine answers it.
 abbrev pub SawAll : {C : Type 0} → (C → Opening → List Step → Type 0) → (C → Bool) → View → Type 0
@@ -76,12 +84,21 @@ SettledBy Yes by moment k calls sure = (calls ≡ []) × (sure ≡ true)
 SettledBy No by moment k calls sure = (reply : Result (Unit {0}) FlushRefused) × (calls ≡ made_if (not (is_spent_flush reply)) (step by (Flush reply) moment)) × Bounds (is_spent_flush reply) (2 ^ 64 - 1025) (length k.seen) × (sure ≡ is_ok reply)
 SettledBy InDoubt by moment k calls sure = (calls ≡ []) × (sure ≡ false)
 
--- In its turn a seat asked for the ticket, and flushed what was not settled.
+-- In its turn a seat asked for the ticket, and flushed where it was No.
 abbrev pub MakesSettled : {S C : Type 0} → (C → Opening → List Step → Type 0) → ℕ → ℕ → Ticket → Bool → Me (Option S) View → C → Me (Option S) View → Type 0
 MakesSettled stands by moment ticket sure m d w = (calls : List Step) × Makes stands by calls m d w × SettledBy (settled (state_seen m.0) ticket) by moment m.0 calls sure
 
+pub under-append : (number : ℕ) (a b : List Step) → AreUnder number a → AreUnder number b → AreUnder number (a ++ b)
+under-append number [] b x y = y
+under-append number (step ∷ a) b x y = (x.0, under-append number a b x.1 y)
+
+-- calls behind others, with the same numbers
+pub under_then : (number : ℕ) (ns ms : List ℕ) (a b : List Step) → ms ≡ ns → AreUnder number (calls_by ns a) → AreUnder number (calls_by ms b) → AreUnder number (calls_by ns (a ++ b))
+under_then number ns ms a b same x y =
+    subst (AreUnder number) (sym (calls_by-append ns a b)) (under-append number (calls_by ns a) (calls_by ns b) x (subst (λ (l : List ℕ). AreUnder number (calls_by l b)) same y))
+
 pub later_none : (p : Known) → Later p p
-later_none p = record { table = refl; number = refl; base = refl; passes = refl; numbers = refl; begins = ([], append-nil p.view.seen) }
+later_none p = record { table = refl; number = refl; base = refl; passes = refl; numbers = refl; begins = ([], append-nil p.view.seen); under = tt }
 
 pub later_then : (p q r : Known) → Later p q → Later q r → Later p r
 later_then p q r f g = record {
@@ -91,4 +108,5 @@ later_then p q r f g = record {
   passes = g.passes ∙ f.passes;
   numbers = g.numbers ∙ f.numbers;
   begins = (f.begins.0 ++ g.begins.0, sym (append_assoc p.view.seen f.begins.0 g.begins.0) ∙ ap (λ (l : List Step). l ++ g.begins.0) f.begins.1 ∙ g.begins.1);
+  under = under_then p.number p.view.numbers q.view.numbers f.begins.0 g.begins.0 f.numbers f.under (subst (λ (n : ℕ). AreUnder n (calls_by q.view.numbers g.begins.0)) f.number g.under);
 }

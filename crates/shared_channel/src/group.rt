@@ -21,12 +21,12 @@ fn mark_of(ticket: &Ticket) -> u64 {
 }
 
 impl<C: Channel> Shared<C> {
-    // In one turn: flushes where the ticket is not settled, and answers whether it then is. One of those who have staged leads,
+    // In one turn: flushes where the ticket is `No`, and answers whether it then is settled. One of those who have staged leads,
     // and lets others in first, so that they may have staged by then; the others sleep until it has flushed.
     fn settle<R: Wait>(&self, rt: &R, pass: &mut Pass, ticket: &Ticket) -> bool
         requires table { pass.old.table_id ≡ self.now.turn.table.shared.table_id }
         ensures same { (pass.new.table_id ≡ pass.old.table_id) × (pass.new.number ≡ pass.old.number) }
-        ensures settles { Settles C.stands pass.old.view pass.new.view ticket.now result }
+        ensures settles { Settles C.stands pass.old.number pass.old.view pass.new.view ticket.now result }
         ensures all { SawAll C.stands C.tells pass.new.view }
     {
         let mark = mark_of(ticket);
@@ -51,7 +51,7 @@ impl<C: Channel> Shared<C> {
     fn finish_puts<R: Wait>(&self, rt: &R, pass: &mut Pass, txn: PutTxn) -> Result<u64, FaceRefused>
         requires table { pass.old.table_id ≡ self.now.turn.table.shared.table_id }
         ensures same { (pass.new.table_id ≡ pass.old.table_id) × (pass.new.number ≡ pass.old.number) }
-        ensures calls { WentBy pass.old.view pass.new.view (IsPutStage (Saw C.stands pass.new.view) (length pass.new.view.seen) txn result) }
+        ensures calls { WentBy pass.old.number pass.old.view pass.new.view (IsPutStage (Saw C.stands pass.new.view) (length pass.new.view.seen) txn result) }
         ensures all { SawAll C.stands C.tells pass.new.view }
     {
         match self.stage_put(rt, pass, txn) {
@@ -82,7 +82,7 @@ impl<C: Channel> Shared<C> {
         requires table { pass.old.table_id ≡ self.now.turn.table.shared.table_id }
         requires places { All (λ place. place < length batch.now) picked.now }
         ensures same { (pass.new.table_id ≡ pass.old.table_id) × (pass.new.number ≡ pass.old.number) }
-        ensures puts { WentBy pass.old.view pass.new.view (λ earlier. ArePutUpTo (length pass.new.view.seen) txn.old (picked_events batch.now picked.now) result) }
+        ensures puts { WentBy pass.old.number pass.old.view pass.new.view (λ earlier. ArePutUpTo (length pass.new.view.seen) txn.old (picked_events batch.now picked.now) result) }
         ensures token { txn.new ≡ txn.old }
     {
         for place in picked {
@@ -104,7 +104,7 @@ impl<C: Channel> Shared<C> {
         requires table { pass.old.table_id ≡ self.now.turn.table.shared.table_id }
         requires places { All (λ place. place < length batch.now) picked.now }
         ensures same { (pass.new.table_id ≡ pass.old.table_id) × (pass.new.number ≡ pass.old.number) }
-        ensures calls { WentBy pass.old.view pass.new.view (IsPutBatch (Saw C.stands pass.new.view) (length pass.new.view.seen) (picked_events batch.now picked.now) result) }
+        ensures calls { WentBy pass.old.number pass.old.view pass.new.view (IsPutBatch (Saw C.stands pass.new.view) (length pass.new.view.seen) (picked_events batch.now picked.now) result) }
         ensures all { SawAll C.stands C.tells pass.new.view }
     {
         let mut txn = match self.begin_put(rt, pass) {
@@ -129,7 +129,7 @@ impl<C: Channel> Shared<C> {
     ) -> Result<(), FaceRefused>
         requires table { pass.old.table_id ≡ self.now.turn.table.shared.table_id }
         ensures same { (pass.new.table_id ≡ pass.old.table_id) × (pass.new.number ≡ pass.old.number) }
-        ensures calls { WentBy pass.old.view pass.new.view (IsTakeCommit (Saw C.stands pass.new.view) (length pass.new.view.seen) txn result) }
+        ensures calls { WentBy pass.old.number pass.old.view pass.new.view (IsTakeCommit (Saw C.stands pass.new.view) (length pass.new.view.seen) txn result) }
         ensures all { SawAll C.stands C.tells pass.new.view }
     {
         match self.stage_take(rt, pass, txn) {

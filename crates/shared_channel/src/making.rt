@@ -360,7 +360,7 @@ impl<C: Channel> Shared<C> {
         }
     }
 
-    // Flushes where the ticket is not settled, and answers whether it then is.
+    // Flushes where the ticket is `No`, and answers whether it then is settled.
     pub(crate) fn make_settled(
         &self,
         seat: &mut Place<Home<C>>,

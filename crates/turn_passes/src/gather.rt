@@ -50,7 +50,11 @@ impl Gather {
                 return false;
             }
             if self.led.swap(1, SeqCst) == 0 {
-                return true;
+                if self.served.load(SeqCst) <= mark {
+                    return true;
+                }
+                self.free();
+                return false;
             }
             let before = self.asleep.fetch_add(1, SeqCst);
             if before.saturating_add(1) == self.company.load(SeqCst) {
@@ -77,16 +81,21 @@ impl Gather {
         }
     }
 
+    // Nobody leads any more. All who sleep wake.
+    fn free(&self) {
+        self.led.store(0, SeqCst);
+        self.rounds.fetch_add(1, SeqCst);
+        if self.asleep.load(SeqCst) != 0 {
+            self.rounds.wake_all();
+        }
+    }
+
     /// The one who leads has made the call for this mark and those below it. All who sleep wake. They and so many others are
     /// likely to come again.
     pub fn done(&self, mark: u64, others: u64) {
         self.served.fetch_max(mark.saturating_add(1), SeqCst);
-        self.led.store(0, SeqCst);
-        self.rounds.fetch_add(1, SeqCst);
         let asleep = self.asleep.load(SeqCst);
         self.company.store(asleep.saturating_add(others), SeqCst);
-        if asleep != 0 {
-            self.rounds.wake_all();
-        }
+        self.free();
     }
 }

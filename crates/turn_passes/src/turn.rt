@@ -23,10 +23,10 @@ pub struct Unshared<C> {
     pub value: C,
 }
 
-// How often the turn is tried for beside those that wait: for some calls that make no sync.
+// How often the turn is tried for beside those that wait: for the length of some calls that make no sync.
 const FIRST_TRIES: u32 = 32;
 
-// How often the turn is looked at before another thread may run: for about as long as a call takes that makes no sync.
+// How often the turn is looked at before another thread may run: for about the length of a call that makes no sync.
 const LOOKS: u32 = 64;
 
 // How often the turn is tried for before a thread sleeps, and how long it sleeps at most without being woken.
@@ -147,7 +147,8 @@ impl<C: Guarded> Turn<C> {
         false
     }
 
-    // Tries for the turn so many times. Between two tries others run, perhaps the one who has the turn.
+    // Tries for the turn so many times, each time once it looks free soon. Between two tries others run, perhaps the one who has
+    // the turn.
     fn try_often(&self, seat: &mut Place<C>, tries: u32) -> Option<C>
         requires table { seat.old.table_id ≡ self.now.table.shared.table_id }
         requires idle { (seat.old.me.0.turn ≡ false) × (seat.old.me.1 ≡ []) × (seat.old.me.0.live ≡ true) }
@@ -165,12 +166,13 @@ impl<C: Guarded> Turn<C> {
         None
     }
 
-    // Sleeps while the turn is taken, until one who gives it back wakes it.
+    // Sleeps while the turn is taken, or shut, until one who gives it back wakes it.
     fn sleep<R: Wait>(&self, rt: &R) {
         self.asleep.fetch_add(1, SeqCst);
+        let taken_or_shut = if self.table.shared.peek(1) == 1 { 1 } else { 2 };
         self.table
             .shared
-            .park_timeout(rt, 1, 1, Duration::from_millis(MILLIS));
+            .park_timeout(rt, 1, taken_or_shut, Duration::from_millis(MILLIS));
         self.asleep.fetch_sub(1, SeqCst);
     }
 
@@ -180,7 +182,7 @@ impl<C: Guarded> Turn<C> {
         }
     }
 
-    // Takes the turn behind those that wait already: who is next tries some times, and then sleeps until the turn is given back.
+    // Takes the turn in the queue: who is next there tries some times, and then sleeps until the turn is given back.
     fn enter_in_line<R: Wait>(&self, rt: &R, seat: &mut Place<C>) -> C
         requires table { seat.old.table_id ≡ self.now.table.shared.table_id }
         requires idle { (seat.old.me.0.turn ≡ false) × (seat.old.me.1 ≡ []) × (seat.old.me.0.live ≡ true) }
@@ -207,8 +209,7 @@ impl<C: Guarded> Turn<C> {
     }
 
     /// Takes the turn, and the value out of its slot. It may wait for the turn. A call that makes no sync is soon over, so the
-    /// turn is tried for at once, and then waited for behind those that wait already; while who is next has slept in vain, nobody
-    /// overtakes.
+    /// turn is tried for at once, and then waited for in a queue. Once who is next there has slept twice, nobody begins to overtake.
     pub fn enter<R: Wait>(&self, rt: &R, seat: &mut Place<C>) -> C
         requires table { seat.old.table_id ≡ self.now.table.shared.table_id }
         requires idle { (seat.old.me.0.turn ≡ false) × (seat.old.me.1 ≡ []) × (seat.old.me.0.live ≡ true) }

@@ -9,13 +9,13 @@ pub returns-in-Ok-clause-calls : goal.returns-in-Ok-clause-calls
 returns-in-Ok-clause-calls g c =
     let v = c.args.self.now.pass.view in
     let w = c.begin_take.new.pass.view in
-    gains v w (λ earlier. IsTakeBegun (length w.seen) (Ok c.in-Ok.txn)) (take_begun g.C.Channel.stands g.C.Channel.tells g.C.Channel.moment v w c.args.self.now.pass.number (Ok c.in-Ok.txn) (Ok c.in-Ok.txn) c.in-Ok.ensures.call refl)
+    gains c.args.self.now.pass.number v w (λ earlier. IsTakeBegun (length w.seen) (Ok c.in-Ok.txn)) (take_begun g.C.Channel.stands g.C.Channel.tells g.C.Channel.moment v w c.args.self.now.pass.number (Ok c.in-Ok.txn) (Ok c.in-Ok.txn) c.in-Ok.ensures.call refl)
 
 pub returns-in-Err-clause-calls : goal.returns-in-Err-clause-calls
 returns-in-Err-clause-calls g c =
     let v = c.args.self.now.pass.view in
     let w = c.begin_take.new.pass.view in
-    gains v w (λ earlier. IsTakeBegun (length w.seen) (Err (Face.Begin c.in-Err.refused))) (take_begun g.C.Channel.stands g.C.Channel.tells g.C.Channel.moment v w c.args.self.now.pass.number (Err c.in-Err.refused) (Err (Face.Begin c.in-Err.refused)) c.in-Err.ensures.call refl)
+    gains c.args.self.now.pass.number v w (λ earlier. IsTakeBegun (length w.seen) (Err (Face.Begin c.in-Err.refused))) (take_begun g.C.Channel.stands g.C.Channel.tells g.C.Channel.moment v w c.args.self.now.pass.number (Err c.in-Err.refused) (Err (Face.Begin c.in-Err.refused)) c.in-Err.ensures.call refl)
 
 pub returns-in-Ok-clause-kept : goal.returns-in-Ok-clause-kept
 returns-in-Ok-clause-kept g c =

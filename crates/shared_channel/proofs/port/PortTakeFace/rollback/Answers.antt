@@ -9,7 +9,7 @@ pub returns-clause-calls : goal.returns-clause-calls
 returns-clause-calls g c =
     let v = c.args.self.now.pass.view in
     let w = c.rollback_take.new.pass.view in
-    gains v w (IsTakeRolledBack (Saw g.C.Channel.stands w) c.args.txn) (rolls g.C.Channel.stands g.C.Channel.tells g.C.Channel.moment c.rollback_take.result v w c.args.self.now.pass.number (RollbackTake c.args.txn) (λ s. takes_of s c.args.txn ≡ None) c.rollback_take.ensures.call)
+    gains c.args.self.now.pass.number v w (IsTakeRolledBack (Saw g.C.Channel.stands w) c.args.txn) (rolls g.C.Channel.stands g.C.Channel.tells g.C.Channel.moment c.rollback_take.result v w c.args.self.now.pass.number (RollbackTake c.args.txn) (λ s. takes_of s c.args.txn ≡ None) c.rollback_take.ensures.call)
 
 pub returns-clause-kept : goal.returns-clause-kept
 returns-clause-kept g c =

@@ -9,13 +9,13 @@ pub returns-in-Ok-clause-calls : goal.returns-in-Ok-clause-calls
 returns-in-Ok-clause-calls g c =
     let v = c.args.self.now.pass.view in
     let w = c.take.new.pass.view in
-    gains v w (λ earlier. IsTake (length w.seen) c.args.txn.now (Ok c.in-Ok.taken.event)) (taken g.C.Channel.stands g.C.Channel.tells g.C.Channel.moment v w c.args.self.now.pass.number c.args.txn.now (Ok c.in-Ok.taken) (Ok c.in-Ok.taken.event) c.in-Ok.ensures.call refl)
+    gains c.args.self.now.pass.number v w (λ earlier. IsTake (length w.seen) c.args.txn.now (Ok c.in-Ok.taken.event)) (taken g.C.Channel.stands g.C.Channel.tells g.C.Channel.moment v w c.args.self.now.pass.number c.args.txn.now (Ok c.in-Ok.taken) (Ok c.in-Ok.taken.event) c.in-Ok.ensures.call refl)
 
 pub returns-in-Err-clause-calls : goal.returns-in-Err-clause-calls
 returns-in-Err-clause-calls g c =
     let v = c.args.self.now.pass.view in
     let w = c.take.new.pass.view in
-    gains v w (λ earlier. IsTake (length w.seen) c.args.txn.now (Err (Face.Take c.in-Err.refused))) (taken g.C.Channel.stands g.C.Channel.tells g.C.Channel.moment v w c.args.self.now.pass.number c.args.txn.now (Err c.in-Err.refused) (Err (Face.Take c.in-Err.refused)) c.in-Err.ensures.call refl)
+    gains c.args.self.now.pass.number v w (λ earlier. IsTake (length w.seen) c.args.txn.now (Err (Face.Take c.in-Err.refused))) (taken g.C.Channel.stands g.C.Channel.tells g.C.Channel.moment v w c.args.self.now.pass.number c.args.txn.now (Err c.in-Err.refused) (Err (Face.Take c.in-Err.refused)) c.in-Err.ensures.call refl)
 
 pub returns-in-Ok-clause-kept : goal.returns-in-Ok-clause-kept
 returns-in-Ok-clause-kept g c =

@@ -5,7 +5,7 @@ use Rattle.shared_channel.proofs.shared.Shared.put_picked.Given as goal
 
 abbrev pub invariant-loop-place : goal.invariant-loop-place
 invariant-loop-place g l = record {
-  puts : WentBy l.fn.pass.view l.pass.view (λ earlier. ArePut l.fn.txn (picked_events l.batch (take l.place-index l.picked)));
+  puts : WentBy l.fn.pass.number l.fn.pass.view l.pass.view (λ earlier. ArePut l.fn.txn (picked_events l.batch (take l.place-index l.picked)));
   token : l.txn ≡ l.fn.txn;
   table : l.pass.table_id ≡ l.fn.pass.table_id;
   number : l.pass.number ≡ l.fn.pass.number;

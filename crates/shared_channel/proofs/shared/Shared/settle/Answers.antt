@@ -23,11 +23,11 @@ returns-clause-settles g c =
     let by = c.pass.inside.number in
     let was : c.pass.inside.badge.views ≡ v ∷ [] = search rules in
     let own : has v.numbers by ≡ true = search rules in
-    let here : Settles g.C.Channel.stands v w c.args.ticket.now c.make_settled-sure.result =
+    let here : Settles g.C.Channel.stands by v w c.args.ticket.now c.make_settled-sure.result =
     settles g.C.Channel.stands v w by (g.C.Channel.moment c.make_settled-sure.new.home.channel) c.args.ticket.now c.make_settled-sure.result c.enter-home.new.seat.me c.enter-home.result.0.channel c.make_settled-sure.new.home.channel c.make_settled-sure.new.seat.me c.enter-home.ensures.within c.enter-home.ensures.making own c.make_settled-sure.ensures.makes
     (c.leave-pass-inside.ensures.saw v _ (c.make_settled-sure.ensures.makes.1.goes_on v [] c.enter-home.ensures.making own)) c.leave-pass-inside.ensures.seen in
-    subst (λ (p : Known). Settles g.C.Channel.stands p.view (view_of c.into_badge.result.views) c.args.ticket.now c.make_settled-sure.result) c.pass.view_is
-    (of_views (λ x y. Settles g.C.Channel.stands x y c.args.ticket.now c.make_settled-sure.result) c.pass.inside.badge.views c.into_badge.result.views v w was c.into_badge.ensures.2 here)
+    subst (λ (p : Known). Settles g.C.Channel.stands p.number p.view (view_of c.into_badge.result.views) c.args.ticket.now c.make_settled-sure.result) c.pass.view_is
+    (of_views (λ x y. Settles g.C.Channel.stands by x y c.args.ticket.now c.make_settled-sure.result) c.pass.inside.badge.views c.into_badge.result.views v w was c.into_badge.ensures.2 here)
 
 pub returns-clause-all : goal.returns-clause-all
 returns-clause-all g c =
