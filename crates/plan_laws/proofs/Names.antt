@@ -25,26 +25,26 @@ use Rattle.flume_config.specs.Patterns.{asked_of, bad_ones}
 use Rattle.flume_config.specs.Agents as agents
 use Rattle.flume_config.specs.Agents.{candidates, candidates_of, components_of, claims_of, lists, source_named, channel_named, sink_named, group_named, first_fault}
 use Rattle.flume_config.specs.Values.{Match, IsSource, IsSelector, SourceNamed, ChannelNamed, place_of, places_at, mapped_at, mapped, seen_pair, text_of}
-use Rattle.flume_config.specs.Plans.{Plans}
+use Rattle.flume_config.specs.Plans.{Plans, IsJudged}
 use Rattle.flume_config.proofs.First.{first_is_first}
 use Rattle.flume_config.specs.Laws.{IsFirst}
 use Rattle.source_put.specs.Accepts.{NamesBelow}
 use Rattle.plan_laws.specs.Names.{IsWithin}
 
 -- Nothing is at fault.
-abbrev Clean : Candidates → Type 0
+abbrev pub Clean : Candidates → Type 0
 Clean c = c.faults ≡ []
 
-none_of : {A : Type 0} (xs ys : List A) → xs ++ ys ≡ [] → (xs ≡ []) × (ys ≡ [])
+pub none_of : {A : Type 0} (xs ys : List A) → xs ++ ys ≡ [] → (xs ≡ []) × (ys ≡ [])
 none_of [] ys h = (refl, h)
 none_of (x ∷ xs) ys h = (cc, cc)
 
-both_clean : (a b : Candidates) → Clean (a ⊕ b) → Clean a × Clean b
+pub both_clean : (a b : Candidates) → Clean (a ⊕ b) → Clean a × Clean b
 unfolding ◌⊕◌
 both_clean a b h = none_of a.faults b.faults h
 
 -- Lists of names.
-abbrev IsNamed : List (List ℕ) → List ℕ → Type 0
+abbrev pub IsNamed : List (List ℕ) → List ℕ → Type 0
 IsNamed others name = is_among name others ≡ true
 
 all_named : (names others : List (List ℕ)) → all_among names others ≡ true → All (IsNamed others) names
@@ -56,7 +56,7 @@ by_verdict : (known : Bool) (line : ℕ) → Clean (cond known nothing (one_faul
 by_verdict true line h = refl
 by_verdict false line h = absurd cc
 
-known_names : (line : ℕ) (names others : List (List ℕ)) → Clean (unknown line names others) → All (IsNamed others) names
+pub known_names : (line : ℕ) (names others : List (List ℕ)) → Clean (unknown line names others) → All (IsNamed others) names
 known_names line names others h = all_named names others (by_verdict (all_among names others) line h)
 
 either : (P : List ℕ → Type 0) (seen : Bool) (name : List ℕ) (rest : List (List ℕ)) → P name → All P rest → All P (cond seen rest (name ∷ rest))
@@ -73,7 +73,7 @@ one_place : (same : Bool) (more : Bool) (rest n : ℕ) → (more ≡ true → re
 one_place true more rest n below h = omega arith
 one_place false more rest n below h = let less = below h in omega (arith, less)
 
-place_below : (others : List (List ℕ)) (name : List ℕ) → is_among name others ≡ true → place_of others name < length others
+pub place_below : (others : List (List ℕ)) (name : List ℕ) → is_among name others ≡ true → place_of others name < length others
 place_below [] name h = absurd (false≢true h)
 place_below (other ∷ others) name h = one_place (bytes_eq name other) (is_among name others) (place_of others name) (length others) (place_below others name) h
 
@@ -168,7 +168,7 @@ module _ (pairs : List Pair) (at : List ℕ) (others : List (List ℕ)) where
       )
 
 -- Sources.
-listed_below : (key : List ℕ) (others : List (List ℕ)) (o : Option Pair) → Clean (judged_names_of key others o) → All (λ place. place < length others) (map (place_of others) (words_of o))
+pub listed_below : (key : List ℕ) (others : List (List ℕ)) (o : Option Pair) → Clean (judged_names_of key others o) → All (λ place. place < length others) (map (place_of others) (words_of o))
 listed_below key others None h = All-nil (λ place. place < length others)
 listed_below key others (Some p) h = once_below others p.line p.value (both_clean (twice p.line (words p.value)) (unknown p.line (words p.value) others) h).1
 
@@ -196,7 +196,7 @@ module _ (pairs : List Pair) (among : List (List ℕ)) where
       let parts = both_clean (source_named pairs agent among name) (each (source_named pairs agent among) names) h in
       All-cons (IsWithin (length among)) s ss (source_within (front_of agent (codes ".sources.") name) name s parts.0 are.0) (each_within agent names ss parts.1 are.1)
 
-as_many : {A : Type 0} (R : List ℕ → A → Type 0) (names : List (List ℕ)) (xs : List A) → Match R names xs → length xs ≡ length names
+pub as_many : {A : Type 0} (R : List ℕ → A → Type 0) (names : List (List ℕ)) (xs : List A) → Match R names xs → length xs ≡ length names
 as_many R [] [] are = refl
 as_many R [] (x ∷ xs) are = absurd are
 as_many R (name ∷ names) [] are = absurd are
@@ -204,31 +204,33 @@ as_many R (name ∷ names) (x ∷ xs) are = ap suc (as_many R names xs are.1)
 
 -- The whole.
 module _ (pairs : List Pair) (agent : List ℕ) where
-  sources_clean : (verdicts : List Bool) → first_fault pairs agent verdicts ≡ None → Clean (each (source_named pairs agent (agents.channels pairs agent)) (agents.sources pairs agent))
-  sources_clean verdicts none =
+  abbrev pub components : Candidates
+  components = components_of pairs agent (agents.sources pairs agent) (agents.channels pairs agent) (agents.sinks pairs agent) (agents.groups pairs agent)
+
+  pub components_clean : (s : Seen) → IsJudged pairs agent s → s.fault ≡ None → Clean components
+  components_clean s found right =
       let sources = agents.sources pairs agent in
       let channels = agents.channels pairs agent in
       let sinks = agents.sinks pairs agent in
       let groups = agents.groups pairs agent in
-      let of_sources = each (source_named pairs agent channels) sources in
-      let of_channels = each (channel_named pairs agent) channels in
-      let of_sinks = each (sink_named pairs agent channels) sinks in
-      let of_groups = each (group_named pairs agent sinks) groups in
       let of_lists = lists pairs (agent ++ codes ".") in
       let of_claims = clashes (claims_of pairs agent sources channels sinks groups) in
-      let all = (candidates pairs agent verdicts).faults in
-      let clean : Clean (candidates pairs agent verdicts) = subst (IsFirst all) none (first_is_first all) in
-      let six = both_clean (candidates_of pairs agent sources channels sinks groups) (bad_ones (asked_of pairs agent sources) verdicts) clean in
-      let five = both_clean (of_lists ⊕ components_of pairs agent sources channels sinks groups) of_claims six.0 in
-      let four = both_clean of_lists (components_of pairs agent sources channels sinks groups) five.0 in
-      let three = both_clean (of_sources ⊕ of_channels ⊕ of_sinks) of_groups four.1 in
-      let two = both_clean (of_sources ⊕ of_channels) of_sinks three.0 in
-      (both_clean of_sources of_channels two.0).0
+      let none : first_fault pairs agent found.verdicts ≡ None = sym (ap (λ (x : Seen). x.fault) found.is) ∙ right in
+      let all = (candidates pairs agent found.verdicts).faults in
+      let clean : Clean (candidates pairs agent found.verdicts) = subst (IsFirst all) none (first_is_first all) in
+      let six = both_clean (candidates_of pairs agent sources channels sinks groups) (bad_ones (asked_of pairs agent sources) found.verdicts) clean in
+      let five = both_clean (of_lists ⊕ components) of_claims six.0 in
+      (both_clean of_lists components five.0).1
 
   pub sources_within : (plan : Plan) → Plans pairs agent (Ok plan) → All (IsWithin (length plan.channels.items)) plan.sources.items
   sources_within plan (is, (s, found, right), made) =
       let channels = agents.channels pairs agent in
-      let none = sym (ap (λ (x : Seen). x.fault) found.is) ∙ right.0 in
-      let within = each_within pairs channels agent (agents.sources pairs agent) plan.sources.items (sources_clean found.verdicts none) made.sources in
+      let of_sources = each (source_named pairs agent channels) (agents.sources pairs agent) in
+      let of_channels = each (channel_named pairs agent) channels in
+      let of_sinks = each (sink_named pairs agent channels) (agents.sinks pairs agent) in
+      let of_groups = each (group_named pairs agent (agents.sinks pairs agent)) (agents.groups pairs agent) in
+      let three = both_clean (of_sources ⊕ of_channels ⊕ of_sinks) of_groups (components_clean s found right.0) in
+      let two = both_clean (of_sources ⊕ of_channels) of_sinks three.0 in
+      let within = each_within pairs channels agent (agents.sources pairs agent) plan.sources.items (both_clean of_sources of_channels two.0).0 made.sources in
       let many = as_many (ChannelNamed pairs agent) channels plan.channels.items made.channels in
       subst (λ (n : ℕ). All (IsWithin n) plan.sources.items) (sym many) within

@@ -1,8 +1,10 @@
--- What the sources of a plan name is there.
-use Rattle.std.specs.Prelude.{◌<◌, ℕ, List, All, length, Ok}
+-- What the components of a plan name is there.
+use Rattle.std.specs.Prelude.{◌≡◌, ◌<◌, ◌≤◌, ℕ, List, All, length, Ok}
 use Rattle.prop_text.specs.Pairs.{Pair}
 use Rattle.flume_config.specs.declared.plan.Plan.{Plan}
 use Rattle.flume_config.specs.declared.plan.SourcePlan.{SourcePlan}
+use Rattle.flume_config.specs.declared.plan.GroupPlan.{GroupPlan}
+use Rattle.flume_config.specs.declared.plan.Processor.TheVariants.{Single}
 use Rattle.flume_config.specs.Plans.{Plans}
 use Rattle.source_put.specs.Accepts.{NamesBelow}
 
@@ -14,3 +16,19 @@ IsWithin count source = All (λ place. place < count) source.channels.items × N
 abbrev pub SourcesNameWhatIsThere : Type 0
 SourcesNameWhatIsThere =
     (pairs : List Pair) (agent : List ℕ) (plan : Plan) → Plans pairs agent (Ok plan) → All (IsWithin (length plan.channels.items)) plan.sources.items
+
+-- so it is with the channel of each sink
+abbrev pub SinksNameWhatIsThere : Type 0
+SinksNameWhatIsThere =
+    (pairs : List Pair) (agent : List ℕ) (plan : Plan) → Plans pairs agent (Ok plan) → All (λ sink. sink.channel < length plan.channels.items) plan.sinks.items
+
+-- Each sink of the group is one of so many, it has a priority for each, and a group that does not choose has at most one.
+pub record IsGroupWithin (count : ℕ) (group : GroupPlan) : Type 0 where
+  pub sinks : All (λ place. place < count) group.sinks.items
+  pub priorities : length group.priorities.items ≡ length group.sinks.items
+  pub single : group.processor ≡ Single → length group.sinks.items ≤ 1
+
+-- so it is with each group, and the plan's sinks
+abbrev pub GroupsNameWhatIsThere : Type 0
+GroupsNameWhatIsThere =
+    (pairs : List Pair) (agent : List ℕ) (plan : Plan) → Plans pairs agent (Ok plan) → All (IsGroupWithin (length plan.sinks.items)) plan.groups.items

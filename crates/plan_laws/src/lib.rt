@@ -3,4 +3,4 @@
 
 mod laws;
 
-pub use laws::sources_name_what_is_there;
+pub use laws::{groups_name_what_is_there, sinks_name_what_is_there, sources_name_what_is_there};
