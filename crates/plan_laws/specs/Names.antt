@@ -22,7 +22,7 @@ abbrev pub SinksNameWhatIsThere : Type 0
 SinksNameWhatIsThere =
     (pairs : List Pair) (agent : List ℕ) (plan : Plan) → Plans pairs agent (Ok plan) → All (λ sink. sink.channel < length plan.channels.items) plan.sinks.items
 
--- Each sink of the group is one of so many, it has a priority for each, and a group that does not choose has at most one.
+-- Each sink of the group is one of so many; the group has as many priorities as sinks, and at most one sink where it does not choose.
 pub record IsGroupWithin (count : ℕ) (group : GroupPlan) : Type 0 where
   pub sinks : All (λ place. place < count) group.sinks.items
   pub priorities : length group.priorities.items ≡ length group.sinks.items

@@ -12,7 +12,8 @@ pub fn sinks_name_what_is_there()
     ensures { SinksNameWhatIsThere }
 {}
 
-/// The sinks of a group are sinks of the plan, each has a priority, and a group of the default processor has at most one.
+/// The sinks of a group are sinks of the plan; it has as many priorities as sinks, and one of the default processor has at most one
+/// sink.
 pub fn groups_name_what_is_there()
     ensures { GroupsNameWhatIsThere }
 {}

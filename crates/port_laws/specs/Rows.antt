@@ -16,7 +16,7 @@ pass number seen = record { base = start; passes = 2; turn = false; seen = seen;
 abbrev pub always : State → Bool
 always s = true
 
--- All premises of the law of ports hold of both, over a channel that is the machine itself; the pass's own calls are those by hand.
+-- All that the law of ports asks for holds of both, over the definition of a channel, which no crate implements as such; the pass's own calls are those by hand.
 pub record TwoPortsOneFlush (e f : Content) : Type 0 where
   pub first_saw : SawAll StandsFor always (pass 0 (history e f))
   pub second_saw : SawAll StandsFor always (pass 1 (history e f))

@@ -70,7 +70,7 @@ pub record Later (p q : Known) : Type 0 where
   pub begins : IsPrefix p.view.seen q.view.seen
   pub under : AreUnder p.number (calls_by p.view.numbers begins.0)
 
--- In one turn the ticket was asked for, and a flush followed where it was No.
+-- The ticket was asked for in the state that was found, and a flush followed where it was No, unless no more calls are counted.
 abbrev pub Settles : {C : Type 0} → (C → Opening → List Step → Type 0) → ℕ → View → View → Ticket → Bool → Type 0
 Settles stands number v w ticket sure = WentBy number v w (λ earlier more. Ends (Saw stands w) (length w.seen) ticket earlier more sure)
 

@@ -1,4 +1,4 @@
--- Worked histories of a channel that two callers share: each puts one event and stages it, and the second flushes for both. Then the first takes one.
+-- Worked histories of a channel that callers share: two put one event each and stage it, and the second flushes for both. Then a third takes one.
 use Rattle.std.specs.Prelude.{◌≡◌, ℕ, List, [], ◌∷◌, ◌++◌, take, Some, Ok, true, false}
 use Rattle.event_core.specs.Content.{Content}
 use Rattle.event_core.specs.declared.journal.Entry.TheVariants.{Puts, Takes}
@@ -9,7 +9,7 @@ use Rattle.channel_face.specs.Faces.{Own, one, IsPutBatch, IsTakeCommit}
 use Rattle.channel_face.specs.declared.replies.Kind.TheVariants.{Memory}
 use Rattle.channel_face.specs.declared.replies.Put.{Put as PutDone}
 use Rattle.channel_face.specs.declared.replies.Ticket.{Ticket}
-use Rattle.ticket_laws.specs.Transactions.{AreAmong, looks_at_nothing}
+use Rattle.ticket_laws.specs.Transactions.{AreAmong, LeftAtEnd, looks_at_nothing}
 
 abbrev pub start : Opening
 start = record { rules = record { kind = Memory; limits = record { capacity = 10; txn_capacity = 10; max_file = 0 } }; base = record { items = []; first = 0 }; txn = 1; faults = 0; from = 0; tells = true }
@@ -53,9 +53,11 @@ own_of_second e f =
 abbrev pub at_end : List Step → List Own → State → Type 0
 at_end h own s = s ≡ state_after (opening start) h
 
--- All premises of the law of batches hold of both, whose answers were 0 and 1, and the journal and what is left are as computed by hand.
+-- All that the law of batches asks of a run and of a face's calls holds of both, who left the channel in the last state and were answered 0 and 1. The
+-- journal and what is left are as computed by hand.
 pub record TwoBatchesOneFlush (e f : Content) : Type 0 where
   pub run : IsRun true (opening start) (history e f)
+  pub left_at_end : LeftAtEnd (at_end (history e f)) start (history e f)
   pub first : IsPutBatch (at_end (history e f)) 7 (e ∷ []) (Ok 0) [] (own_of_first e f)
   pub second : IsPutBatch (at_end (history e f)) 7 (f ∷ []) (Ok 1) [] (own_of_second e f)
   pub first_alone : AreAmong (λ s. puts_of s (token 1)) (opening start) (history e f) (own_of_first e f)
@@ -63,12 +65,12 @@ pub record TwoBatchesOneFlush (e f : Content) : Type 0 where
   pub entries : journal (opening start) (history e f) ≡ Puts (e ∷ []) ∷ Puts (f ∷ []) ∷ []
   pub left : (state_after (opening start) (history e f)).items ≡ (0, e) ∷ (1, f) ∷ []
 
--- then pass 0 takes the first event
+-- then pass 2 takes the first event and flushes
 abbrev pub drained : Content → Content → List Step
 drained e f =
     history e f
-    ++ by 0 (BeginTake (Ok (token 3))) ∷ by 0 (Take (token 3) (Ok (record { event = Some e; spilled = false })))
-    ∷ by 0 (StageTake (token 3) (Ok (ticket 2 0))) ∷ by 0 (Flush (Ok tt)) ∷ []
+    ++ by 2 (BeginTake (Ok (token 3))) ∷ by 2 (Take (token 3) (Ok (record { event = Some e; spilled = false })))
+    ∷ by 2 (StageTake (token 3) (Ok (ticket 2 0))) ∷ by 2 (Flush (Ok tt)) ∷ []
 
 abbrev pub taking : Content → Content → List Own
 taking e f =
@@ -78,9 +80,10 @@ taking e f =
 abbrev pub committing : Content → Content → List Own
 committing e f = one (StageTake (token 3) (Ok (ticket 2 0))) (state_at (drained e f) 9) 0 ++ one (Flush (Ok tt)) (state_at (drained e f) 10) 0
 
--- All premises of the law of takes hold, and the journal and what is left are as computed by hand.
+-- All that the law of takes asks of a run and of a face's calls holds, and the journal and what is left are as computed by hand.
 pub record OneIsTaken (e f : Content) : Type 0 where
   pub run : IsRun true (opening start) (drained e f)
+  pub left_at_end : LeftAtEnd (at_end (drained e f)) start (drained e f)
   pub commit : IsTakeCommit (at_end (drained e f)) 11 (token 3) (Ok tt) (taking e f) (committing e f)
   pub among : AreAmong looks_at_nothing (opening start) (drained e f) (taking e f ++ committing e f)
   pub entries : journal (opening start) (drained e f) ≡ Puts (e ∷ []) ∷ Puts (f ∷ []) ∷ Takes (0 ∷ []) ∷ []

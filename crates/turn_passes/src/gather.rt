@@ -17,9 +17,9 @@ const MICROS: u64 = 200;
 #[derive(Drop)]
 pub struct Gather {
     led: AtomicU64,
-    // Every mark below this one was served.
+    // Every mark below this one was served, or its call was tried.
     served: AtomicU64,
-    // How often one has led, how many sleep until the next time, and how many are likely to sleep by then.
+    // How often one who led was done, or let go, how many sleep until the next time, and how many are likely to sleep by then.
     rounds: AtomicU64,
     asleep: AtomicU64,
     company: AtomicU64,

@@ -32,7 +32,7 @@ const LOOKS: u32 = 64;
 // How often the turn is tried for before a thread sleeps, and how long it sleeps at most without being woken.
 const TRIES: u32 = 16;
 
-// How often who is next sleeps before nobody begins to overtake any more.
+// How often who is next comes to sleep before nobody begins to overtake any more.
 const LOST: u64 = 2;
 
 const MILLIS: u64 = 50;
@@ -46,7 +46,7 @@ pub struct Turn<C: Guarded> {
     pub(crate) table: Table<Option<C>, SeatView, Told, Turns<C>, Global>,
     // Who is next for the turn has it; the others wait for it here, so that nobody who had the turn overtakes them for long.
     queue: Mutex<()>,
-    // How many wait for the turn, whether who is next sleeps until it is free, or is about to, and how often it slept. No clause
+    // How many wait for the turn, whether who is next sleeps until it is free, or is about to, and how often it came to. No clause
     // rests on these four.
     waiting: AtomicU64,
     asleep: AtomicU64,
@@ -136,7 +136,7 @@ impl<C: Guarded> Turn<C> {
         self.table.shared.exchange(seat, 0, None)
     }
 
-    // Whether the turn looks free soon. A look leaves the word's cache line with the one who has the turn, where a try takes it
+    // Whether the turn looks free soon. A look shares the word's cache line with the one who has the turn, where a try takes it
     // away.
     fn looks_free(&self) -> bool {
         for _ in 0..LOOKS {
@@ -147,8 +147,8 @@ impl<C: Guarded> Turn<C> {
         false
     }
 
-    // Tries for the turn so many times, each time once it looks free soon. Between two tries others run, perhaps the one who has
-    // the turn.
+    // Tries for the turn so many times, but where it does not look free soon. Between two tries others run, perhaps the one who
+    // has the turn.
     fn try_often(&self, seat: &mut Place<C>, tries: u32) -> Option<C>
         requires table { seat.old.table_id ≡ self.now.table.shared.table_id }
         requires idle { (seat.old.me.0.turn ≡ false) × (seat.old.me.1 ≡ []) × (seat.old.me.0.live ≡ true) }
@@ -166,7 +166,7 @@ impl<C: Guarded> Turn<C> {
         None
     }
 
-    // Sleeps while the turn is taken, or shut, until one who gives it back wakes it.
+    // Sleeps while the turn is taken, or shut, until one who leaves it wakes it, or for some time.
     fn sleep<R: Wait>(&self, rt: &R) {
         self.asleep.fetch_add(1, SeqCst);
         let taken_or_shut = if self.table.shared.peek(1) == 1 { 1 } else { 2 };
@@ -209,7 +209,8 @@ impl<C: Guarded> Turn<C> {
     }
 
     /// Takes the turn, and the value out of its slot. It may wait for the turn. A call that makes no sync is soon over, so the
-    /// turn is tried for at once, and then waited for in a queue. Once who is next there has slept twice, nobody begins to overtake.
+    /// turn is tried for at once, and then waited for in a queue. Once who is next there has come to sleep twice, nobody
+    /// begins to overtake.
     pub fn enter<R: Wait>(&self, rt: &R, seat: &mut Place<C>) -> C
         requires table { seat.old.table_id ≡ self.now.table.shared.table_id }
         requires idle { (seat.old.me.0.turn ≡ false) × (seat.old.me.1 ≡ []) × (seat.old.me.0.live ≡ true) }

@@ -3,4 +3,4 @@ use Rattle.ticket_laws.proofs.Worked.{run, first, second, first_alone, second_al
 use Rattle.ticket_laws.proofs.rows.two_batches_and_one_flush.Goals as goal
 
 pub returns : goal.returns
-returns g = λ e f. record { run = run e f; first = first e f; second = second e f; first_alone = first_alone e f; second_alone = second_alone e f; entries = refl; left = refl }
+returns g = λ e f. record { run = run e f; left_at_end = λ own s is. is; first = first e f; second = second e f; first_alone = first_alone e f; second_alone = second_alone e f; entries = refl; left = refl }
