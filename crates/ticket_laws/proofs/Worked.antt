@@ -1,7 +1,7 @@
 -- The worked histories, computed.
 use Rattle.std.proofs.Common.{refl, inl, inr, List, [], ◌∷◌, ◌++◌, Ok, Some, true, false}
 use Rattle.event_core.specs.Content.{Content}
-use Rattle.channel_face.specs.Machine.{BeginPut, Put, Take, StagePut, StageTake, Flush, puts_of}
+use Rattle.channel_face.specs.Machine.{State, BeginPut, Put, Take, StagePut, StageTake, Flush, puts_of}
 use Rattle.channel_face.specs.History.{opening, IsRun}
 use Rattle.channel_face.specs.Faces.{Own, one, IsPutBatch, IsTakeCommit}
 use Rattle.ticket_laws.specs.Rows.{start, token, ticket, done, history, state_at, own_of_first, own_of_second, at_end, drained, taking, committing}
@@ -10,8 +10,9 @@ use Rattle.ticket_laws.specs.Transactions.{AreAmong, looks_at_nothing}
 pub run : (e f : Content) → IsRun true (opening start) (history e f)
 run e f = ((refl, refl), ((refl, refl), ((refl, refl), ((refl, refl), ((refl, refl), ((refl, refl), (refl, tt)))))))
 
-pub first : (e f : Content) → IsPutBatch (at_end (history e f)) 7 (e ∷ []) (Ok 0) [] (own_of_first e f)
-first e f =
+-- whatever a face sees, where it can have left the channel in the last state
+pub first : (saw : List Own → State → Type 0) (e f : Content) → saw (own_of_first e f) (state_at (history e f) 7) → IsPutBatch saw 7 (e ∷ []) (Ok 0) [] (own_of_first e f)
+first saw e f left =
     let put : List Own = one (Put (token 1) e (Ok done)) (state_at (history e f) 2) 0 in
     let staged : List Own = one (StagePut (token 1) (Ok (ticket 1 0))) (state_at (history e f) 4) 0 in (
       Ok (token 1),
@@ -33,13 +34,13 @@ first e f =
           [],
           refl,
           (0, refl),
-          (true, (state_at (history e f) 7, refl, (refl, refl)), refl),
+          (true, (state_at (history e f) 7, left, (refl, refl)), refl),
         ),
       ),
     )
 
-pub second : (e f : Content) → IsPutBatch (at_end (history e f)) 7 (f ∷ []) (Ok 1) [] (own_of_second e f)
-second e f =
+pub second : (saw : List Own → State → Type 0) (e f : Content) → IsPutBatch saw 7 (f ∷ []) (Ok 1) [] (own_of_second e f)
+second saw e f =
     let put : List Own = one (Put (token 2) f (Ok done)) (state_at (history e f) 3) 0 in
     let staged : List Own = one (StagePut (token 2) (Ok (ticket 1 1))) (state_at (history e f) 5) 0 in
     let flushed : List Own = one (Flush (Ok tt)) (state_at (history e f) 6) 0 in (
