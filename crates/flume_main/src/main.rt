@@ -1,13 +1,8 @@
-//! The agent's program: the real outside, and the one call that does all the rest.
+//! The agent's program: the real host, and the one call that does all the rest.
 #![tactic(auto)]
 
-mod disk;
-mod host;
-mod roll;
-mod times;
-
 use agent_run::run_agent;
-use host::RealHost;
+use host_real::RealHost;
 use std::env;
 use std::fs::File;
 use std::process::ExitCode;
@@ -37,6 +32,3 @@ fn main(rt: HostRuntime) -> ExitCode {
     drop(streams);
     ExitCode::from(outcome.status)
 }
-
-#[cfg(test)]
-mod tests;

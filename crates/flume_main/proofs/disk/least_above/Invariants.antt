@@ -1,6 +1,0 @@
-use Rattle.std.proofs.Common.{IfSome}
-use Rattle.flume_host.specs.Folder.{IsAbove}
-use Rattle.flume_main.proofs.disk.least_above.Given as goal
-
-abbrev pub invariant-loop-entry : goal.invariant-loop-entry
-invariant-loop-entry l = IfSome l.best (λ n. IsAbove l.after n)

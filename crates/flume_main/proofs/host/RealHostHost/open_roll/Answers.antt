@@ -1,5 +1,0 @@
-use Rattle.std.proofs.Common.{refl}
-use Rattle.flume_main.proofs.host.RealHostHost.open_roll.Goals as goal
-
-pub returns-in_default-clause-state : goal.returns-in_default-clause-state
-returns-in_default-clause-state c = (c.args.self.now.faults, refl, λ is. cc)

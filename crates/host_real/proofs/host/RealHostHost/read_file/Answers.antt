@@ -1,0 +1,14 @@
+use Rattle.std.proofs.Common.{refl, arith, length, length-take}
+use Rattle.flume_host.specs.HostState.{WasRead, file_limit}
+use Rattle.host_real.proofs.host.RealHostHost.read_file.Goals as goal
+
+pub returns-clause-state : goal.returns-clause-state
+returns-clause-state c = (
+  c.args.self.now.faults,
+  refl,
+  record {
+    whole = λ told is. cc;
+    few = omega (arith, c.truncate.ensures.len, c.truncate.new.self.ok.0, c.if-size.false);
+    well = refl;
+  },
+)

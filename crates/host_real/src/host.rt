@@ -1,0 +1,178 @@
+// What hands the streams, folders, clock and random numbers of the system out, and takes them back.
+ghost use Rattle.std.specs.Prelude.{◌≡◌, None};
+ghost use Rattle.flume_host.specs.Causes.{Counts};
+
+use crate::disk::RealDisk;
+use crate::roll::RealRoll;
+use crate::stream::{RealSink, RealSource};
+use crate::times::{RealClock, RealRandom};
+use flume_host::{FileRefused, Host, NameRefused};
+use std::fs::File;
+use std::io;
+use std::io::{ErrorKind, Read};
+
+/// The host that a program runs in. It tells nothing of contents.
+#[derive(Drop)]
+pub struct RealHost {
+    rt: HostRuntime,
+    faults: u64,
+    disk_faults: u64,
+}
+
+impl RealHost {
+    /// The host of a process, of which no failure was counted yet.
+    pub fn new(rt: HostRuntime) -> Self
+        ensures { (result.faults ≡ 0) × (result.disk_faults ≡ 0) }
+    {
+        RealHost {
+            rt,
+            faults: 0,
+            disk_faults: 0,
+        }
+    }
+}
+
+// The most bytes of a file that is read whole.
+const FILE_LIMIT: usize = 1_048_576;
+
+// Fills `into` from the front of a file, and tells how many bytes the file has.
+fn read_front(rt: &HostRuntime, path: &str, into: &mut [u8]) -> io::Result<u64> {
+    let mut file = File::open(rt, path)?;
+    let mut filled = 0;
+    for _ in 0..u64::MAX {
+        if filled >= into.len() {
+            break;
+        }
+        match file.read(&mut into[filled..]) {
+            Ok(0) => break,
+            Ok(n) => filled += n,
+            Err(e) if e.kind() == ErrorKind::Interrupted => {}
+            Err(e) => return Err(e),
+        }
+    }
+    if filled < into.len() {
+        return Ok(filled as u64);
+    }
+    Ok(file.metadata()?.len().max(filled as u64))
+}
+
+// The count after an object with this count was given back.
+fn count_after(before: u64, own: u64) -> u64
+    ensures { Counts before result own }
+{
+    if own == 0 {
+        before
+    } else {
+        before.saturating_add(1)
+    }
+}
+
+impl Host for RealHost {
+    type Source = RealSource;
+
+    type Sink = RealSink;
+
+    type Disk = RealDisk;
+
+    type Roll = RealRoll;
+
+    type Clock = RealClock;
+
+    type Random = RealRandom;
+
+    ghost state = { λ h. record { input = None; output = None; handed = None; files = λ _. None; moments = None; draws = None; faults = h.faults; disk_faults = h.disk_faults } };
+
+    ghost folder = { λ _ _. None };
+
+    ghost room = { λ _ _. Unit {0} };
+
+    ghost rolled = { λ _ _. None };
+
+    ghost roll_room = { λ _ _. Unit {0} };
+
+    fn take_input(&mut self) -> RealSource {
+        RealSource::new(self.rt)
+    }
+
+    fn keep_input(&mut self, input: RealSource) {
+        self.faults = count_after(self.faults, input.faults);
+    }
+
+    fn take_output(&mut self) -> RealSink {
+        RealSink::new(self.rt)
+    }
+
+    fn keep_output(&mut self, output: RealSink) {
+        self.faults = count_after(self.faults, output.faults);
+    }
+
+    fn say(&mut self, line: &str) {
+        let _ = self.rt.eprintln(line);
+    }
+
+    fn open_disk(&mut self, path: &str) -> Result<RealDisk, NameRefused> {
+        let Ok(own) = String::from_str(self.rt.alloc(), path) else {
+            return Err(NameRefused::NoMemory);
+        };
+        match RealDisk::open(self.rt, own) {
+            Ok(disk) => Ok(disk),
+            Err(_) => {
+                self.faults = self.faults.saturating_add(1);
+                Err(NameRefused::Failed)
+            }
+        }
+    }
+
+    fn keep_disk(&mut self, _path: &str, disk: RealDisk) {
+        self.disk_faults = count_after(self.disk_faults, disk.faults);
+    }
+
+    fn read_file(&mut self, path: &str) -> Result<Vec<u8>, FileRefused> {
+        let Ok(mut bytes) = vec![in self.rt.alloc(); 0u8; FILE_LIMIT + 1] else {
+            return Err(FileRefused::NoMemory);
+        };
+        let size = match read_front(&self.rt, path, &mut bytes) {
+            Ok(size) => size,
+            Err(_) => {
+                self.faults = self.faults.saturating_add(1);
+                return Err(FileRefused::Failed);
+            }
+        };
+        if size > FILE_LIMIT as u64 {
+            return Err(FileRefused::TooLarge { size });
+        }
+        bytes.truncate(size as usize);
+        Ok(bytes)
+    }
+
+    fn open_roll(&mut self, path: &str) -> Result<RealRoll, NameRefused> {
+        let Ok(own) = String::from_str(self.rt.alloc(), path) else {
+            return Err(NameRefused::NoMemory);
+        };
+        match RealRoll::open(self.rt, own) {
+            Ok(roll) => Ok(roll),
+            Err(_) => {
+                self.faults = self.faults.saturating_add(1);
+                Err(NameRefused::Failed)
+            }
+        }
+    }
+
+    fn keep_roll(&mut self, _path: &str, _roll: RealRoll) {}
+
+    fn clock(&mut self) -> RealClock {
+        RealClock { rt: self.rt }
+    }
+
+    fn random(&mut self) -> RealRandom {
+        RealRandom { rt: self.rt }
+    }
+
+    fn faults(&self) -> u64 {
+        self.faults
+    }
+
+    fn disk_faults(&self) -> u64 {
+        self.disk_faults
+    }
+}
