@@ -1,56 +1,24 @@
-// What tests of batches are made of: events with a header `state`, batches of them, selectors, an intake over channels, and what
-// these then hold.
+// What tests of batches are made of: batches of events with a header `state`, an intake over channels, and what these then hold.
 ghost use Rattle.std.specs.Prelude.{◌≡◌, ◌<◌, ◌≤◌, ◌↔◌, All, IfOk, IsTrue, length};
 ghost use Rattle.source_put.specs.Accepts.{NamesBelow};
 
+use crate::fixtures::{shown, text};
 use channel_face::{Channel, OwnFace, TakeFace};
-use event_core::{Batch, Event, Headers};
+use event_core::{Batch, Event};
 use selectors::Selector;
 use source_put::{Chain, ChainLink, HostNames, Intake};
 use std::alloc::Global;
 use std::test::Fail;
+use test_fixtures::event_with;
 
-// A batch of this one event.
-pub fn batch_with(alloc: Global, event: Event) -> Result<Batch, Fail>
-    ensures { IfOk result (λ batch. length batch ≡ 1) }
-{
-    let mut batch = Batch::new(alloc);
-    match batch.push(event) {
-        Ok(()) => Ok(batch),
-        Err(_) => Err(Fail::from("no room")),
-    }
-}
-
-// An event with this body, and with the header `state` of this value.
-fn event_of(alloc: Global, state: &str, body: &[u8]) -> Result<Event, Fail> {
-    let mut headers = Headers::new(alloc);
-    if headers.set("state", state).is_err() {
-        return Err(Fail::from("no header"));
-    }
-    match Event::new(headers, Vec::from_slice(alloc, body)?) {
-        Ok(event) => Ok(event),
-        Err(_) => Err(Fail::from("no event")),
-    }
-}
-
-// A batch of this event alone.
-pub fn batch_of(alloc: Global, state: &str, body: &[u8]) -> Result<Batch, Fail>
-    ensures { IfOk result (λ batch. length batch ≡ 1) }
-{
-    batch_with(alloc, event_of(alloc, state, body)?)
-}
-
-// A batch of at most ten events, of each of which the state and the body are given.
-pub fn batch_of_all(alloc: Global, events: &[(&str, &str)]) -> Result<Batch, Fail>
+// A batch of at most ten events, of each of which the header `state` and the body are given.
+pub fn batch_of(alloc: Global, events: &[(&str, &str)]) -> Result<Batch, Fail>
     ensures { IfOk result (λ batch. length batch ≤ 10) }
 {
     let mut batch = Batch::new(alloc);
-    for i in 0..events.len() {
-        let (state, body) = events[i];
-        if batch
-            .push(event_of(alloc, state, body.as_bytes())?)
-            .is_err()
-        {
+    for (state, body) in events {
+        let event = event_with(alloc, &[("state", *state)], body.as_bytes())?;
+        if batch.push(event).is_err() {
             return Err(Fail::from("no room"));
         }
     }
@@ -58,25 +26,6 @@ pub fn batch_of_all(alloc: Global, events: &[(&str, &str)]) -> Result<Batch, Fai
         return Err(Fail::from("more than ten"));
     }
     Ok(batch)
-}
-
-// A list of one channel for a value.
-pub fn pairs(alloc: Global, value: &str, place: u32) -> Result<Vec<(String, Vec<u32>)>, Fail> {
-    let mut pairs = Vec::new(alloc);
-    pairs.push((String::from_str(alloc, value)?, [place].to_vec(alloc)?))?;
-    Ok(pairs)
-}
-
-// State CZ goes to the first channel, and may go to the second. Other states go to the third, and US may go to the second.
-pub fn by_state(alloc: Global) -> Result<Selector, Fail> {
-    let mut optional = pairs(alloc, "CZ", 1)?;
-    optional.push((String::from_str(alloc, "US")?, [1].to_vec(alloc)?))?;
-    Ok(Selector::Multiplexing {
-        header: String::from_str(alloc, "state")?,
-        mapping: pairs(alloc, "CZ", 0)?,
-        default: [2].to_vec(alloc)?,
-        optional,
-    })
 }
 
 fn are_below(places: &[u32], count: u32) -> bool
@@ -136,8 +85,8 @@ pub fn intake_over<C: Channel + Drop>(
         ports.push(OwnFace::new(channel))?;
     }
     let host = HostNames {
-        name: String::from_str(alloc, "host")?,
-        address: String::from_str(alloc, "10.0.0.1")?,
+        name: text(alloc, "host")?,
+        address: text(alloc, "10.0.0.1")?,
     };
     if ports.len() != 3 || !names_below(&selector, 3) {
         return Err(Fail::from("no such channel"));
@@ -161,7 +110,7 @@ pub fn sizes<C: Channel + Drop>(
 }
 
 // Takes the next event of the channel at a place out of it, in a transaction of its own.
-pub fn next_at<C: Channel + Drop>(
+fn next_at<C: Channel + Drop>(
     intake: &mut Intake<OwnFace<C>>,
     place: u32,
 ) -> Result<Option<Event>, Fail> {
@@ -182,17 +131,18 @@ pub fn next_at<C: Channel + Drop>(
     }
 }
 
-// Whether the channel at a place holds events of just these bodies, in this order. They are then gone from it.
+// Whether the channel at a place holds just these events as text, in this order. They are then gone from it.
 pub fn gives<C: Channel + Drop>(
+    alloc: Global,
     intake: &mut Intake<OwnFace<C>>,
     place: u32,
-    bodies: &[&str],
+    events: &[&str],
 ) -> Result<bool, Fail> {
-    for i in 0..bodies.len() {
+    for want in events {
         let Some(event) = next_at(intake, place)? else {
             return Ok(false);
         };
-        if event.body() != bodies[i].as_bytes() {
+        if shown(alloc, &event)?.as_slice() != want.as_bytes() {
             return Ok(false);
         }
     }

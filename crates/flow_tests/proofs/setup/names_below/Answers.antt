@@ -2,7 +2,7 @@ use Rattle.std.proofs.Common.{◌<◌, ℕ, List, All, subst}
 use Rattle.std.specs.declared.string.String.{String}
 use Rattle.std.specs.declared.vec.Vec.{Vec}
 use Rattle.std.specs.declared.alloc.Global.{Global}
-use Rattle.source_tests.proofs.setup.names_below.Goals as goal
+use Rattle.flow_tests.proofs.setup.names_below.Goals as goal
 
 pub returns-else-not-are_below : goal.returns-else-not-are_below
 returns-else-not-are_below c = λ yes.

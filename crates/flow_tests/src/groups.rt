@@ -1,12 +1,12 @@
 // Deliveries by groups of rolled files.
-use crate::fixtures::{batch, listing, roll_sink};
-use event_core::Batch;
+use crate::fixtures::{listing, roll_sink};
 use host_memory::{MemRandom, MemRoll};
 use plug_in::{EventSink, SinkRefused};
 use roll_sink::RollSink;
 use sink_groups::{GroupKind, GroupRefused, GroupRules, GroupRun, GroupSink};
 use std::alloc::Global;
 use std::test::Fail;
+use test_fixtures::batch;
 
 type Rolls = RollSink<MemRoll>;
 
@@ -19,19 +19,21 @@ enum Answer {
 use Answer::{AllFailed, Took};
 
 struct Case {
+    name: &'static str,
     kind: GroupKind,
     priorities: &'static [u32],
     // the calls of each member's folder that fail: a begin, two writes for each event, and a flush
     fails: &'static [&'static [u64]],
     // moments, and what is answered
     deliveries: &'static [(u64, Answer)],
-    // what the folders hold in the end
-    files: &'static [&'static [u8]],
+    // what the folders hold in the end, with a semicolon behind each
+    files: &'static [u8],
 }
 
 const CASES: &[Case] = &[
     // a failed begin, then one more: both fail at 3,000, since the other's write does
     Case {
+        name: "failover",
         kind: GroupKind::Failover,
         priorities: &[5, 10],
         fails: &[&[7], &[0, 1]],
@@ -43,10 +45,11 @@ const CASES: &[Case] = &[
             (5000, Took(0)),
             (7000, Took(1)),
         ],
-        files: &[b"1000-1:e\ne\n1000-2:e\n", b"1000-3:e\n"],
+        files: b"1000-1:e\ne\n1000-2:e\n;1000-3:e\n;",
     },
     // round robin without backoff; the second member's flush, write, newline and begin fail
     Case {
+        name: "round robin",
         kind: GroupKind::RoundRobin,
         priorities: &[0, 0, 0],
         fails: &[&[], &[3, 5, 8, 9], &[]],
@@ -63,23 +66,20 @@ const CASES: &[Case] = &[
             (9, Took(0)),
             (10, Took(2)),
         ],
-        files: &[
-            b"0-1:e\ne\ne\ne\n",
-            b"1-1:e\n1-2:1-3:e",
-            b"1-1:e\ne\ne\ne\ne\ne\ne\n",
-        ],
+        files: b"0-1:e\ne\ne\ne\n;1-1:e\n1-2:1-3:e;1-1:e\ne\ne\ne\ne\ne\ne\n;",
     },
-    // a group of one
     Case {
+        name: "a group of one",
         kind: GroupKind::Single,
         priorities: &[0],
         fails: &[&[0, 3]],
         deliveries: &[(9, AllFailed(&[0])), (9, AllFailed(&[0])), (9, Took(0))],
-        files: &[b"9-2:e9-3:e\n"],
+        files: b"9-2:e9-3:e\n;",
     },
 ];
 
-fn members(alloc: Global, fails: &[&[u64]]) -> Result<Vec<Rolls>, Fail> {
+// Sinks into folders of which these calls fail.
+pub fn members_of(alloc: Global, fails: &[&[u64]]) -> Result<Vec<Rolls>, Fail> {
     let mut members = Vec::new(alloc);
     for calls in fails {
         members.push(roll_sink(alloc, calls)?)?;
@@ -87,22 +87,35 @@ fn members(alloc: Global, fails: &[&[u64]]) -> Result<Vec<Rolls>, Fail> {
     Ok(members)
 }
 
-fn group(
+// A group of these members, who are left alone for 30 seconds at most.
+pub fn group_of<S: EventSink + Drop>(
     alloc: Global,
+    members: Vec<S>,
     kind: GroupKind,
     priorities: &[u32],
-    members: Vec<Rolls>,
-) -> Result<GroupRun<Rolls>, Fail> {
+    backoff: bool,
+) -> Result<GroupRun<S>, Fail> {
+    group_with(alloc, members, kind, priorities, 30_000, backoff)
+}
+
+pub fn group_with<S: EventSink + Drop>(
+    alloc: Global,
+    members: Vec<S>,
+    kind: GroupKind,
+    priorities: &[u32],
+    penalty: u64,
+    backoff: bool,
+) -> Result<GroupRun<S>, Fail> {
     let count = members.len();
-    let single = kind == GroupKind::Single;
-    if count == 0 || count > 100 || count != priorities.len() || (single && count != 1) {
+    let is_single = kind == GroupKind::Single;
+    if count == 0 || count > 100 || count != priorities.len() || (is_single && count != 1) {
         return Err(Fail::from("no group"));
     }
     let rules = GroupRules {
         kind,
         priorities: priorities.to_vec(alloc)?,
-        penalty: 30_000,
-        backoff: false,
+        penalty,
+        backoff,
     };
     Ok(GroupRun::new(alloc, members, rules)?)
 }
@@ -117,48 +130,60 @@ fn is_answer(answer: &Result<u32, GroupRefused>, said: &Answer) -> bool {
     }
 }
 
+// What the folders hold, as text, with a semicolon behind each.
+fn listings(alloc: Global, members: Vec<Rolls>) -> Result<Vec<u8>, Fail> {
+    let mut text = Vec::new(alloc);
+    for member in members {
+        text.extend_from_slice(&listing(alloc, member)?)?;
+        text.push(b';')?;
+    }
+    Ok(text)
+}
+
+// Whether the deliveries of a batch of one event are as the case says.
+fn is_right(alloc: Global, case: &Case) -> Result<bool, Fail> {
+    let one = batch(alloc, &[b"e"])?;
+    let members = members_of(alloc, case.fails)?;
+    let mut group = group_of(alloc, members, case.kind, case.priorities, false)?;
+    for (moment, said) in case.deliveries {
+        if !is_answer(&group.deliver(&one, *moment, 0), said) {
+            return Ok(false);
+        }
+    }
+    Ok(listings(alloc, group.into_members())?.as_slice() == case.files)
+}
+
 #[test]
 fn one_member_takes_each_batch(rt: HostRuntime) -> Result<(), Fail> {
     let alloc = rt.alloc();
-    let one: Batch = batch(alloc, &[b"e"])?;
     for case in CASES {
-        let made = members(alloc, case.fails)?;
-        let mut group = group(alloc, case.kind, case.priorities, made)?;
-        for (moment, said) in case.deliveries {
-            assert!(rt; is_answer(&group.deliver(&one, *moment, 0), said));
-        }
-        let mut place = 0;
-        for member in group.into_members() {
-            let text = listing(alloc, member)?;
-            assert!(rt;
-                case.files
-                    .get(place)
-                    .is_some_and(|files| text.as_slice() == *files)
-            );
-            place += 1;
-        }
+        let is_taken = is_right(alloc, case)?;
+        assert!(rt; is_taken, "{}", case.name);
     }
     Ok(())
 }
 
-// A group as a sink: the second member takes what the first refuses. Where both refuse, the group does, and counts that too.
+// The moments of deliveries, what is answered, and the count of faults behind it. The second member takes what the first refuses.
+// Where both refuse, the group does, and counts that too.
+const DELIVERIES: &[(u64, Result<(), SinkRefused>, u64)] = &[
+    (1000, Ok(()), 1),
+    (3000, Err(SinkRefused::Refused), 4),
+    (3000, Err(SinkRefused::Refused), 5),
+    (5000, Ok(()), 5),
+];
+
 #[test]
 fn a_group_is_a_sink(rt: HostRuntime) -> Result<(), Fail> {
     let alloc = rt.alloc();
     let one = batch(alloc, &[b"e"])?;
-    let made = members(alloc, &[&[0, 1], &[4]])?;
-    let run = group(alloc, GroupKind::Failover, &[1, 0], made)?;
+    let members = members_of(alloc, &[&[0, 1], &[4]])?;
+    let run = group_of(alloc, members, GroupKind::Failover, &[1, 0], false)?;
     let mut sink = GroupSink::new(run, MemRandom { number: 5, step: 3 });
-    assert!(rt; sink.deliver(&one, 1000) == Ok(()) && sink.faults() == 1);
-    assert!(rt; sink.deliver(&one, 3000) == Err(SinkRefused::Refused) && sink.faults() == 4);
-    assert!(rt; sink.deliver(&one, 3000) == Err(SinkRefused::Refused) && sink.faults() == 5);
-    assert!(rt; sink.deliver(&one, 5000) == Ok(()) && sink.faults() == 5);
-    let mut files = Vec::new(alloc);
-    for member in sink.close() {
-        files.extend_from_slice(&listing(alloc, member)?)?;
-        files.push(b';')?;
+    for (moment, answer, faults) in DELIVERIES {
+        assert!(rt; sink.deliver(&one, *moment) == *answer, "at {moment}");
+        assert!(rt; sink.faults() == *faults, "at {moment}");
     }
-    let expected: &[u8] = b";1000-1:e\n1000-2:e\n;";
-    assert!(rt; files.as_slice() == expected);
+    let files = listings(alloc, sink.close())?;
+    assert!(rt; files.as_slice() == b";1000-1:e\n1000-2:e\n;".as_slice());
     Ok(())
 }

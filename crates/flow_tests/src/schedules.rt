@@ -1,5 +1,6 @@
 // Which members a delivery tries.
-use sink_groups::{GroupKind, GroupRules, GroupRun};
+use crate::groups::group_with;
+use sink_groups::{GroupKind, GroupRun};
 use sink_runner::NullSink;
 use std::alloc::Global;
 use std::test::Fail;
@@ -16,6 +17,7 @@ enum Step {
 use Step::{Fails, Start, Takes};
 
 struct Case {
+    name: &'static str,
     kind: GroupKind,
     priorities: &'static [u32],
     penalty: u64,
@@ -26,8 +28,8 @@ struct Case {
 const END: u64 = u64::MAX;
 
 const CASES: &[Case] = &[
-    // a single sink is never left alone
     Case {
+        name: "a single sink is never left alone",
         kind: GroupKind::Single,
         priorities: &[3],
         penalty: 30_000,
@@ -36,6 +38,7 @@ const CASES: &[Case] = &[
     },
     // failover: the greatest priority first; 2,000 milliseconds after a failure, then twice as long, and anew after a success
     Case {
+        name: "failover",
         kind: GroupKind::Failover,
         priorities: &[5, 10],
         penalty: 30_000,
@@ -59,16 +62,16 @@ const CASES: &[Case] = &[
             Start(9000, 1, &[1, 0]),
         ],
     },
-    // equal priorities go in the list's order
     Case {
+        name: "equal priorities go in the list's order",
         kind: GroupKind::Failover,
         priorities: &[0, 7, u32::MAX, 7],
         penalty: 30_000,
         backoff: false,
         steps: &[Start(0, 0, &[2, 1, 3, 0])],
     },
-    // no longer than the penalty
     Case {
+        name: "no longer than the penalty",
         kind: GroupKind::Failover,
         priorities: &[0],
         penalty: 5000,
@@ -85,16 +88,16 @@ const CASES: &[Case] = &[
             Start(11_000, 0, &[0]),
         ],
     },
-    // a penalty of 0 is none
     Case {
+        name: "a penalty of 0 is none",
         kind: GroupKind::Failover,
         priorities: &[0],
         penalty: 0,
         backoff: false,
         steps: &[Fails(0, 40, END), Start(END, 0, &[0])],
     },
-    // a row of failures counts up to 32
     Case {
+        name: "a row of failures counts up to 32",
         kind: GroupKind::Failover,
         priorities: &[0],
         penalty: END,
@@ -108,8 +111,8 @@ const CASES: &[Case] = &[
             Start(4_294_967_296_000, 0, &[0]),
         ],
     },
-    // the last moment
     Case {
+        name: "the last moment",
         kind: GroupKind::Failover,
         priorities: &[0, 0],
         penalty: END,
@@ -121,8 +124,8 @@ const CASES: &[Case] = &[
             Start(END, 0, &[0]),
         ],
     },
-    // round robin: one place later each time
     Case {
+        name: "round robin: one place later each time",
         kind: GroupKind::RoundRobin,
         priorities: &[9, 8, 7],
         penalty: 30_000,
@@ -137,6 +140,7 @@ const CASES: &[Case] = &[
     },
     // with backoff a member that failed is passed over, and the start goes on
     Case {
+        name: "with backoff a member that failed is passed over",
         kind: GroupKind::RoundRobin,
         priorities: &[0, 0, 0],
         penalty: 30_000,
@@ -148,8 +152,8 @@ const CASES: &[Case] = &[
             Start(2000, 0, &[2, 0, 1]),
         ],
     },
-    // by chance
     Case {
+        name: "by chance",
         kind: GroupKind::Random,
         priorities: &[0, 1, 2],
         penalty: 30_000,
@@ -169,20 +173,8 @@ fn group(
     penalty: u64,
     backoff: bool,
 ) -> Result<GroupRun<NullSink>, Fail> {
-    let single = matches!(kind, GroupKind::Single);
-    let count = priorities.len();
-    if count == 0 || count > 100 || (single && count != 1) {
-        return Err(Fail::from("no group"));
-    }
-    let members = vec![in alloc; NullSink; count]?;
-    let priorities = priorities.to_vec(alloc)?;
-    let rules = GroupRules {
-        kind,
-        priorities,
-        penalty,
-        backoff,
-    };
-    Ok(GroupRun::new(alloc, members, rules)?)
+    let members = vec![in alloc; NullSink; priorities.len()]?;
+    group_with(alloc, members, kind, priorities, penalty, backoff)
 }
 
 // Notes a member's answer so many times. A member that is not there is not noted.
@@ -217,19 +209,29 @@ fn step_is_right(group: &mut GroupRun<NullSink>, step: &Step) -> bool {
     }
 }
 
+// Whether each step of a case is as it says.
+fn is_right(alloc: Global, case: &Case) -> Result<bool, Fail> {
+    let mut group = group(
+        alloc,
+        case.kind,
+        case.priorities,
+        case.penalty,
+        case.backoff,
+    )?;
+    for step in case.steps {
+        if !step_is_right(&mut group, step) {
+            return Ok(false);
+        }
+    }
+    Ok(true)
+}
+
 #[test]
 fn members_are_tried_in_order_and_left_alone_after_a_failure(rt: HostRuntime) -> Result<(), Fail> {
+    let alloc = rt.alloc();
     for case in CASES {
-        let mut group = group(
-            rt.alloc(),
-            case.kind,
-            case.priorities,
-            case.penalty,
-            case.backoff,
-        )?;
-        for step in case.steps {
-            assert!(rt; step_is_right(&mut group, step));
-        }
+        let is_tried = is_right(alloc, case)?;
+        assert!(rt; is_tried, "{}", case.name);
     }
     Ok(())
 }

@@ -1,10 +1,11 @@
 // Objects that are handed in.
-use crate::fixtures::{batch, event, roll_sink};
+use crate::fixtures::{roll_sink, text};
 use event_core::Event;
 use plug_in::{EventSink, Intercepted, Interceptor, Plugins, PluginsRefused, SinkRefused};
 use sink_runner::NullSink;
 use std::alloc::Global;
 use std::test::Fail;
+use test_fixtures::{batch, event};
 
 // Keeps its first, third, fifth event and so on.
 #[derive(Drop)]
@@ -25,8 +26,24 @@ impl Interceptor for EveryOther {
     }
 }
 
-fn name(alloc: Global, text: &str) -> Result<String, Fail> {
-    Ok(String::from_str(alloc, text)?)
+// Hands in a sink under a name.
+fn add(
+    alloc: Global,
+    plugins: &mut Plugins,
+    name: &str,
+    sink: Box<dyn EventSink + Send>,
+) -> Result<(), Fail> {
+    Ok(plugins.add_sink(text(alloc, name)?, sink)?)
+}
+
+// Hands in a step under a name.
+fn add_step(
+    alloc: Global,
+    plugins: &mut Plugins,
+    name: &str,
+    step: Box<dyn Interceptor + Send>,
+) -> Result<(), Fail> {
+    Ok(plugins.add_step(text(alloc, name)?, step)?)
 }
 
 #[test]
@@ -34,21 +51,14 @@ fn the_first_of_a_name_is_handed_out(rt: HostRuntime) -> Result<(), Fail> {
     let alloc = rt.alloc();
     let one = batch(alloc, &[b"e"])?;
     let mut plugins = Plugins::new(alloc);
-    assert!(rt;
-        plugins
-            .add_sink(name(alloc, "b")?, Box::new(alloc, NullSink)?)
-            .is_ok()
-    );
-    assert!(rt;
-        plugins
-            .add_sink(name(alloc, "a")?, Box::new(alloc, roll_sink(alloc, &[0])?)?)
-            .is_ok()
-    );
-    assert!(rt;
-        plugins
-            .add_sink(name(alloc, "a")?, Box::new(alloc, NullSink)?)
-            .is_ok()
-    );
+    add(alloc, &mut plugins, "b", Box::new(alloc, NullSink)?)?;
+    add(
+        alloc,
+        &mut plugins,
+        "a",
+        Box::new(alloc, roll_sink(alloc, &[0])?)?,
+    )?;
+    add(alloc, &mut plugins, "a", Box::new(alloc, NullSink)?)?;
     for answer in [Err(SinkRefused::Refused), Ok(())] {
         let Some(mut sink) = plugins.claim_sink("a") else {
             return Err(Fail::from("no sink"));
@@ -66,19 +76,11 @@ fn sixty_four_objects_are_held(rt: HostRuntime) -> Result<(), Fail> {
     let alloc = rt.alloc();
     let mut plugins = Plugins::new(alloc);
     for _ in 0..32 {
-        assert!(rt;
-            plugins
-                .add_sink(name(alloc, "s")?, Box::new(alloc, NullSink)?)
-                .is_ok()
-        );
+        add(alloc, &mut plugins, "s", Box::new(alloc, NullSink)?)?;
         let step = EveryOther { keeps: false };
-        assert!(rt;
-            plugins
-                .add_step(name(alloc, "s")?, Box::new(alloc, step)?)
-                .is_ok()
-        );
+        add_step(alloc, &mut plugins, "s", Box::new(alloc, step)?)?;
     }
-    let full = plugins.add_sink(name(alloc, "t")?, Box::new(alloc, NullSink)?);
+    let full = plugins.add_sink(text(alloc, "t")?, Box::new(alloc, NullSink)?);
     assert!(rt; full == Err(PluginsRefused::TooMany));
     let Some(mut step) = plugins.claim_step("s") else {
         return Err(Fail::from("no step"));
@@ -87,7 +89,7 @@ fn sixty_four_objects_are_held(rt: HostRuntime) -> Result<(), Fail> {
         let made = step.intercept(event(alloc, b"e")?, 0);
         assert!(rt; matches!(made, Intercepted::Keep(_)) == kept);
     }
-    let added = plugins.add_step(name(alloc, "t")?, step);
-    assert!(rt; added.is_ok() && plugins.claim_step("t").is_some());
+    add_step(alloc, &mut plugins, "t", step)?;
+    assert!(rt; plugins.claim_step("t").is_some());
     Ok(())
 }
