@@ -4,6 +4,3 @@
 mod step;
 
 pub use step::{Step, apply};
-
-#[cfg(test)]
-mod tests;

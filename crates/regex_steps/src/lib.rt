@@ -12,6 +12,3 @@ mod step;
 pub use date_pattern::DatePattern;
 pub use keys::{BuildRefused, Group, RegexKeys};
 pub use step::RegexStep;
-
-#[cfg(test)]
-mod tests;

@@ -6,6 +6,3 @@ mod selector;
 
 pub use choice::is_among;
 pub use selector::{Choice, Selector, select};
-
-#[cfg(test)]
-mod tests;

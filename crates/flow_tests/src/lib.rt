@@ -1,0 +1,28 @@
+//! Tests of sources and sinks: steps over headers and patterns, selectors, what batches become in channels in memory and on a disk;
+//! groups of sinks, turns, rolled files with failing calls, and objects that are handed in.
+#![tactic(auto)]
+
+#[cfg(test)]
+mod batches;
+#[cfg(test)]
+mod channels;
+#[cfg(test)]
+mod choices;
+#[cfg(test)]
+mod doubt;
+#[cfg(test)]
+mod fixtures;
+#[cfg(test)]
+mod groups;
+#[cfg(test)]
+mod patterns;
+#[cfg(test)]
+mod plugins;
+#[cfg(test)]
+mod schedules;
+#[cfg(test)]
+mod setup;
+#[cfg(test)]
+mod steps;
+#[cfg(test)]
+mod turns;
