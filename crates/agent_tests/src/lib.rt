@@ -9,6 +9,8 @@ mod left;
 #[cfg(test)]
 mod pipe;
 #[cfg(test)]
+mod plans;
+#[cfg(test)]
 mod roll;
 #[cfg(test)]
 mod written;
