@@ -1,5 +1,5 @@
 -- A component for each name, one after another.
-use Rattle.std.proofs.Common.{◌≡◌, ℕ, ◌+◌, ◌≤◌, ◌<◌, get_or, drop, length, subst, arith, List, [], ◌∷◌, ◌++◌, sym, append-nil, append_assoc}
+use Rattle.std.proofs.Common.{ℕ, ◌+◌, ◌≤◌, ◌<◌, get_or, drop, length, subst, arith, List, [], ◌∷◌, ◌++◌, sym, append-nil, append_assoc}
 use Rattle.std.proofs.lemmas.List.{drop_all, length-map}
 use Rattle.std.specs.Borrow.{Bor}
 use Rattle.prop_text.specs.Views.{texts}
