@@ -9,6 +9,8 @@ mod left;
 #[cfg(test)]
 mod pipe;
 #[cfg(test)]
+mod plans;
+#[cfg(test)]
 mod real_host;
 #[cfg(test)]
 mod roll;

@@ -4,9 +4,9 @@ use Rattle.std.proofs.lemmas.List.{drop_all, length-map}
 use Rattle.std.specs.Borrow.{Bor}
 use Rattle.std.specs.List.{flat_map}
 use Rattle.prop_text.specs.Views.{texts}
-use Rattle.flume_config.specs.Candidates.{Seen, adds, Adds}
+use Rattle.plan_judging.specs.Candidates.{Seen, adds, Adds}
 use Rattle.flume_config.specs.Patterns.{Asked, Asks, IsVerdict, AreVerdicts, bad_one, bad_ones}
-use Rattle.flume_config.proofs.Joins.{adds_more, adds_nothing, join, add_nothing, drop_texts}
+use Rattle.plan_judging.proofs.Joins.{adds_more, adds_nothing, join, add_nothing, drop_texts}
 
 pub ask_none : (s : Seen) → Asks s s []
 ask_none s = record { verdicts = []; are = tt; adds = add_nothing s }

@@ -5,8 +5,8 @@ use Rattle.std.specs.List.{AllByRecursion}
 use Rattle.std.specs.Cmp.{IsTotalOrder}
 use Rattle.std.specs.Cmp.Lexicographic.{slice_cmp, nat_list_cmp_total}
 use Rattle.std.specs.Ordering.{is_lt, nat_cmp, ordering_reverse}
-use Rattle.flume_config.specs.declared.findings.Fault.{Fault}
-use Rattle.flume_config.specs.Candidates.{rank, precedes, first_of, key_precedes, least_of}
+use Rattle.plan_judging.specs.declared.findings.Fault.{Fault}
+use Rattle.plan_judging.specs.Candidates.{rank, precedes, first_of, key_precedes, least_of}
 use Rattle.flume_config.specs.Laws.{IsFirst, IsLeast}
 
 -- o is one of y and xs, and none of them is before it

@@ -3,8 +3,8 @@ use Rattle.std.proofs.Common.{◌≡◌, ℕ, List, true, Err}
 use Rattle.prop_text.specs.Pairs.{Pair}
 use Rattle.flume_config.specs.declared.refused.PlanRefused.{PlanRefused}
 use Rattle.flume_config.specs.declared.refused.PlanRefused.TheVariants.{NoAgent, UnknownType, UnknownName, BadNumber, BadPattern, Unsupported, Clash, Missing, NoMemory}
-use Rattle.flume_config.specs.Agents.{is_agent}
-use Rattle.flume_config.specs.Candidates.{Seen}
+use Rattle.plan_judging.specs.Agents.{is_agent}
+use Rattle.plan_judging.specs.Candidates.{Seen}
 use Rattle.flume_config.specs.Plans.{Refuses, IsJudged, Plans}
 
 pub refuses_plan : (pairs : List Pair) (agent : List ℕ) (s : Seen) (e : PlanRefused) → is_agent pairs agent ≡ true → IsJudged pairs agent s → Refuses s e → Plans pairs agent (Err e)

@@ -3,9 +3,9 @@
 use Rattle.std.specs.Prelude.{◌≡◌, ℕ, Bool, false, List, [], Option, Some, None, Contains}
 use Rattle.std.specs.List.{AllByRecursion}
 use Rattle.prop_text.specs.Pairs.{Pair}
-use Rattle.flume_config.specs.declared.findings.Fault.{Fault}
-use Rattle.flume_config.specs.Candidates.{precedes, key_precedes}
-use Rattle.flume_config.specs.Agents.{candidates, first_fault, least_missing}
+use Rattle.plan_judging.specs.declared.findings.Fault.{Fault}
+use Rattle.plan_judging.specs.Candidates.{precedes, key_precedes}
+use Rattle.flume_config.specs.Faults.{candidates, first_fault, least_missing}
 
 abbrev pub IsFirst : List Fault → Option Fault → Type 0
 IsFirst faults None = faults ≡ []

@@ -1,10 +1,5 @@
-pub mod Words
-pub mod Candidates
-pub mod Rows
-pub mod Components
-pub mod Claims
 pub mod Patterns
-pub mod Agents
+pub mod Faults
 pub mod Values
 pub mod Plans
 pub mod Laws

@@ -7,10 +7,10 @@ use Rattle.prop_text.specs.Winners.{lookup}
 use Rattle.regex_steps.specs.declared.patterns.Patterns.{Patterns}
 use Rattle.regex_steps.specs.Search.{AreBuilt, IsNoPattern}
 use Rattle.regex_steps.specs.Dates.{Piece, IsPattern, IsNoDatePattern}
-use Rattle.flume_config.specs.declared.findings.FaultKind.TheVariants.{BadPattern}
-use Rattle.flume_config.specs.Candidates.{Candidates, Seen, Adds, nothing, ◌⊕◌}
-use Rattle.flume_config.specs.Rows.{is_type, is_millis, one_fault}
-use Rattle.flume_config.specs.Components.{front_of, names_in}
+use Rattle.plan_judging.specs.declared.findings.FaultKind.TheVariants.{BadPattern}
+use Rattle.plan_judging.specs.Candidates.{Candidates, Seen, Adds, nothing, ◌⊕◌}
+use Rattle.plan_judging.specs.Rows.{is_type, is_millis, one_fault}
+use Rattle.plan_judging.specs.Components.{front_of, names_in}
 
 -- a text that has to be a pattern, or a pattern of dates, and its line
 pub record Asked : Type 0 where

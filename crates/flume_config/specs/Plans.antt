@@ -2,14 +2,15 @@
 use Rattle.std.specs.Prelude.{◌≡◌, ℕ, Bool, true, false, List, Some, None, Result, Ok, Err, string_bytes}
 use Rattle.prop_text.specs.Pairs.{Pair}
 use Rattle.prop_text.specs.Views.{texts}
-use Rattle.flume_config.specs.declared.findings.FaultKind.TheVariants as kinds
+use Rattle.plan_judging.specs.declared.findings.FaultKind.TheVariants as kinds
 use Rattle.flume_config.specs.declared.refused.PlanRefused.{PlanRefused}
 use Rattle.flume_config.specs.declared.refused.PlanRefused.TheVariants.{NoAgent, UnknownType, UnknownName, BadNumber, BadPattern, Unsupported, Clash, Missing, NoMemory}
 use Rattle.flume_config.specs.declared.plan.Plan.{Plan}
 use Rattle.flume_config.specs.declared.planning.AgentNames.{AgentNames}
-use Rattle.flume_config.specs.Candidates.{Seen, adds}
-use Rattle.flume_config.specs.Agents as agents
-use Rattle.flume_config.specs.Agents.{is_agent, all_of, asked, first_fault, least_missing}
+use Rattle.plan_judging.specs.Candidates.{Seen, adds}
+use Rattle.plan_judging.specs.Agents as agents
+use Rattle.plan_judging.specs.Agents.{is_agent}
+use Rattle.flume_config.specs.Faults.{all_of, asked, first_fault, least_missing}
 use Rattle.flume_config.specs.Patterns.{AreVerdicts, asked_of}
 use Rattle.flume_config.specs.Values.{Match, SourceNamed, ChannelNamed, SinkNamed, GroupNamed}
 

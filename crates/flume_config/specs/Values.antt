@@ -28,9 +28,9 @@ use Rattle.flume_config.specs.declared.plan.SinkPlan.{SinkPlan}
 use Rattle.flume_config.specs.declared.plan.Processor.{Processor}
 use Rattle.flume_config.specs.declared.plan.Processor.TheVariants.{Single, Failover, RoundRobin, Random}
 use Rattle.flume_config.specs.declared.plan.GroupPlan.{GroupPlan}
-use Rattle.flume_config.specs.Words.{number_in, truth_of, words, listed}
-use Rattle.flume_config.specs.Rows.{is_type, is_plugin, is_timestamp, is_host, is_millis}
-use Rattle.flume_config.specs.Components.{front_of, names_in, once}
+use Rattle.plan_judging.specs.Words.{number_in, truth_of, words, listed}
+use Rattle.plan_judging.specs.Rows.{is_type, is_plugin, is_timestamp, is_host, is_millis}
+use Rattle.plan_judging.specs.Components.{front_of, names_in, once}
 
 -- each name has its component, in order
 abbrev pub Match : {A : Type 0} → (List ℕ → A → Type 0) → List (List ℕ) → List A → Type 0

@@ -2,35 +2,30 @@
 
 ghost use Rattle.std.specs.Prelude.{◌≡◌, IfOk, MatchOption, ◌++◌};
 ghost use Rattle.prop_text.specs.Views.{texts};
-ghost use Rattle.flume_config.specs.Candidates.{seen};
-ghost use Rattle.flume_config.specs.Components.{names_in};
+ghost use Rattle.plan_judging.specs.Candidates.{seen};
 ghost use Rattle.flume_config.specs.Plans.{IsJudged, IsRight, Refuses, IsPlan, Plans, Names};
 
-use crate::findings::{FaultKind, Findings};
-use crate::group::{Agent, names_in};
-use crate::judging::judge;
+use crate::patterns::judge;
 use crate::plan::Plan;
 use crate::planning::{AgentNames, channels, groups, is_agent, sinks, sources};
 use crate::refused::PlanRefused;
-use crate::rules::joined;
+use plan_judging::{Agent, FaultKind, Findings, Place, names_at};
 use prop_text::Properties;
 use std::alloc::{AllocError, Global};
-
-fn names_at<'a>(agent: &Agent<'a>, list: &str) -> Result<Vec<&'a str>, AllocError>
-    ensures { IfOk result (λ names. texts names.items ≡ names_in agent.now.properties.now (agent.now.name.now ++ list.now)) }
-{
-    let key = joined(agent.alloc, agent.name, list)?;
-    names_in(agent.alloc, agent.properties, key.as_str())
-}
 
 fn agent_names<'a>(agent: &Agent<'a>) -> Result<AgentNames<'a>, AllocError>
     ensures { IfOk result (Names agent.now.properties.now agent.now.name.now) }
 {
+    let place = Place {
+        alloc: agent.alloc,
+        properties: agent.properties,
+        front: agent.name,
+    };
     Ok(AgentNames {
-        sources: names_at(agent, ".sources")?,
-        channels: names_at(agent, ".channels")?,
-        sinks: names_at(agent, ".sinks")?,
-        groups: names_at(agent, ".sinkgroups")?,
+        sources: names_at(&place, ".sources")?,
+        channels: names_at(&place, ".channels")?,
+        sinks: names_at(&place, ".sinks")?,
+        groups: names_at(&place, ".sinkgroups")?,
     })
 }
 

@@ -1,15 +1,16 @@
-//! The texts of a configuration that have to be patterns.
+//! The texts of a configuration that have to be patterns, and with them all that is at fault.
 
 ghost use Rattle.std.specs.Prelude.{IfOk, OnOk, ◌++◌, ◌∷◌, [], codes, true, false};
 ghost use Rattle.std.specs.List.{flat_map};
 ghost use Rattle.prop_text.specs.Views.{texts};
 ghost use Rattle.prop_text.specs.Winners.{lookup};
-ghost use Rattle.flume_config.specs.Candidates.{seen};
+ghost use Rattle.plan_judging.specs.Candidates.{seen};
 ghost use Rattle.flume_config.specs.Patterns.{Asks, IsVerdict, asked_at, asked_of_date, asked_of_serializer, asked_of_extractor, asked_of_kind, asked_by_kind, asked_of_step, asked_of_source, asked_of};
+ghost use Rattle.flume_config.specs.Plans.{IsSeen};
 
-use crate::findings::{FaultKind, Findings};
-use crate::group::{Agent, front_of, names_in};
-use crate::rules::{Place, is_millis, is_type, joined};
+use plan_judging::{
+    Agent, FaultKind, Findings, Place, front_of, is_millis, is_type, joined, names_at,
+};
 use regex_steps::{BuildRefused, DatePattern, RegexKeys, RegexStep};
 use std::alloc::{AllocError, Global};
 
@@ -122,9 +123,8 @@ fn ask_serializers(
 fn ask_extractor(place: &Place<'_>, found: &mut Findings) -> Result<(), AllocError>
     ensures { OnOk result (Asks (seen found.old) (seen found.new) (asked_of_extractor place.now.properties.now place.now.front.now)) }
 {
-    let key = joined(place.alloc, place.front, "serializers")?;
-    let names = names_in(place.alloc, place.properties, key.as_str())?;
     ask_at(place, found, false, "regex")?;
+    let names = names_at(place, "serializers")?;
     ask_serializers(place, found, names.as_slice())?;
     Ok(())
 }
@@ -182,26 +182,36 @@ fn ask_source(agent: &Agent<'_>, found: &mut Findings, name: &str) -> Result<(),
     ensures { OnOk result (Asks (seen found.old) (seen found.new) (asked_of_source agent.now.properties.now agent.now.name.now name.now)) }
 {
     let front = front_of(agent.alloc, agent.name, ".sources.", name)?;
-    let key = joined(agent.alloc, front.as_str(), "interceptors")?;
-    let names = names_in(agent.alloc, agent.properties, key.as_str())?;
     let place = Place {
         alloc: agent.alloc,
         properties: agent.properties,
         front: front.as_str(),
     };
+    let names = names_at(&place, "interceptors")?;
     ask_steps(&place, found, names.as_slice())
 }
 
 /// Judges the patterns of the interceptors of all sources.
-pub fn ask_sources(
-    agent: &Agent<'_>,
-    found: &mut Findings,
-    names: &[&str],
-) -> Result<(), AllocError>
+fn ask_sources(agent: &Agent<'_>, found: &mut Findings, names: &[&str]) -> Result<(), AllocError>
     ensures { OnOk result (Asks (seen found.old) (seen found.new) (asked_of agent.now.properties.now agent.now.name.now (texts names.now))) }
 {
     for name in names {
         ask_source(agent, found, name)?;
     }
     Ok(())
+}
+
+/// What is at fault in an agent with these components.
+pub fn judge(
+    agent: &Agent<'_>,
+    sources: &[&str],
+    channels: &[&str],
+    sinks: &[&str],
+    groups: &[&str],
+) -> Result<Findings, AllocError>
+    ensures { IfOk result (λ found. IsSeen agent.now.properties.now agent.now.name.now (texts sources.now) (texts channels.now) (texts sinks.now) (texts groups.now) (seen found)) }
+{
+    let mut found = plan_judging::judge(agent, sources, channels, sinks, groups)?;
+    ask_sources(agent, &mut found, sources)?;
+    Ok(found)
 }

@@ -3,21 +3,19 @@
 ghost use Rattle.std.specs.Prelude.{◌≡◌, OnOk, IfOk, ◌++◌, codes, true, false, nat_eq, drop, map};
 ghost use Rattle.std.specs.List.{starts_with};
 ghost use Rattle.prop_text.specs.Views.{texts};
-ghost use Rattle.flume_config.specs.Components.{names_in};
-ghost use Rattle.flume_config.specs.Agents.{is_agent};
-ghost use Rattle.flume_config.specs.Values.{text_at, IsSourceKind, IsSource, IsChannel, SourceNamed, ChannelNamed, SinkWith, SinkNamed, processor_of, penalty_of, backoff_of, priority_of, GroupWith, GroupNamed, StepNamed, IsSelector, Match};
-ghost use Rattle.flume_config.specs.Rows.{is_type, is_plugin};
+ghost use Rattle.plan_judging.specs.Components.{names_in};
+ghost use Rattle.plan_judging.specs.Agents.{is_agent};
+ghost use Rattle.flume_config.specs.Values.{text_at, line_at, IsSourceKind, IsSource, IsChannel, SourceNamed, ChannelNamed, SinkWith, SinkNamed, processor_of, penalty_of, backoff_of, priority_of, GroupWith, GroupNamed, StepNamed, IsSelector, Match};
+ghost use Rattle.plan_judging.specs.Rows.{is_type, is_plugin};
 
-use crate::claims::plugin_name;
-use crate::group::{Agent, front_of, names_in};
 use crate::plan::{
     ChannelKind, ChannelPlan, GroupPlan, Processor, SinkKind, SinkPlan, SourceKind, SourcePlan,
     StepPlan,
 };
 use crate::routing::selector;
-use crate::rules::{Place, is_plugin, is_type, joined};
 use crate::stepping::steps;
 use crate::values::{line_at, number_at, place_at, places, text_at, truth_at};
+use plan_judging::{Agent, Place, front_of, is_plugin, is_type, joined, names_at, plugin_name};
 use prop_text::Properties;
 use selectors::Selector;
 use std::alloc::{AllocError, Global};
@@ -42,24 +40,39 @@ pub fn is_agent(alloc: Global, properties: &Properties, agent: &str) -> Result<b
     Ok(false)
 }
 
+fn netcat_kind(place: &Place<'_>, kind: &str) -> Result<SourceKind, AllocError>
+    requires { is_type (codes "netcat") kind.now ≡ true }
+    ensures { IfOk result (IsSourceKind place.now.properties.now place.now.front.now kind.now) }
+{
+    Ok(SourceKind::Netcat {
+        port: number_at(place, 1, 65_535, 1, "port")? as u16,
+        max_line: number_at(place, 1, 1_048_568, 512, "max-line-length")? as u32,
+        ack: truth_at(place, true, "ack-every-event")?,
+        threads: number_at(place, 1, 64, 4, "threads")? as u32,
+        bind: text_at(place, "bind")?,
+    })
+}
+
+fn avro_kind(place: &Place<'_>, kind: &str) -> Result<SourceKind, AllocError>
+    requires netcat { is_type (codes "netcat") kind.now ≡ false }
+    requires kind { is_type (codes "avro") kind.now ≡ true }
+    ensures { IfOk result (IsSourceKind place.now.properties.now place.now.front.now kind.now) }
+{
+    Ok(SourceKind::Avro {
+        port: number_at(place, 1, 65_535, 1, "port")? as u16,
+        threads: number_at(place, 1, 64, 4, "threads")? as u32,
+        bind: text_at(place, "bind")?,
+    })
+}
+
 fn source_kind(place: &Place<'_>, kind: &str) -> Result<SourceKind, AllocError>
     ensures { IfOk result (IsSourceKind place.now.properties.now place.now.front.now kind.now) }
 {
     if is_type(kind, "netcat") {
-        return Ok(SourceKind::Netcat {
-            bind: text_at(place, "bind")?,
-            port: number_at(place, 1, 65_535, 1, "port")? as u16,
-            max_line: number_at(place, 1, 1_048_568, 512, "max-line-length")? as u32,
-            ack: truth_at(place, true, "ack-every-event")?,
-            threads: number_at(place, 1, 64, 4, "threads")? as u32,
-        });
+        return netcat_kind(place, kind);
     }
     if is_type(kind, "avro") {
-        return Ok(SourceKind::Avro {
-            bind: text_at(place, "bind")?,
-            port: number_at(place, 1, 65_535, 1, "port")? as u16,
-            threads: number_at(place, 1, 64, 4, "threads")? as u32,
-        });
+        return avro_kind(place, kind);
     }
     Ok(SourceKind::Stdin {
         max_line: number_at(place, 1, 1_048_568, 512, "max-line-length")? as u32,
@@ -71,8 +84,7 @@ fn source_kind(place: &Place<'_>, kind: &str) -> Result<SourceKind, AllocError>
 fn steps_at(place: &Place<'_>) -> Result<Vec<StepPlan>, AllocError>
     ensures { IfOk result (λ found. Match (StepNamed place.now.properties.now place.now.front.now) (names_in place.now.properties.now (place.now.front.now ++ codes "interceptors")) found.items) }
 {
-    let key = joined(place.alloc, place.front, "interceptors")?;
-    let names = names_in(place.alloc, place.properties, key.as_str())?;
+    let names = names_at(place, "interceptors")?;
     steps(place, names.as_slice())
 }
 
@@ -89,6 +101,40 @@ fn selector_at(place: &Place<'_>, channels: &[&str]) -> Result<Selector, AllocEr
     selector(&place, channels)
 }
 
+// The keys of a source's type.
+fn kind_at(place: &Place<'_>) -> Result<SourceKind, AllocError>
+    ensures { IfOk result (IsSourceKind place.now.properties.now place.now.front.now (text_at place.now.properties.now (place.now.front.now ++ codes "type"))) }
+{
+    let kind = text_at(place, "type")?;
+    source_kind(place, kind.as_str())
+}
+
+// The source of these keys and interceptors.
+fn source_with(
+    place: &Place<'_>,
+    channels: &[&str],
+    chosen: &[&str],
+    name: &str,
+    line: u32,
+    kind: SourceKind,
+    steps: Vec<StepPlan>,
+) -> Result<SourcePlan, AllocError>
+    requires chosen { texts chosen.now ≡ names_in place.now.properties.now (place.now.front.now ++ codes "channels") }
+    requires line { line ≡ line_at place.now.properties.now (place.now.front.now ++ codes "type") }
+    requires kind { IsSourceKind place.now.properties.now place.now.front.now (text_at place.now.properties.now (place.now.front.now ++ codes "type")) kind }
+    requires steps { Match (StepNamed place.now.properties.now place.now.front.now) (names_in place.now.properties.now (place.now.front.now ++ codes "interceptors")) steps.items }
+    ensures { IfOk result (IsSource place.now.properties.now place.now.front.now (texts channels.now) name.now) }
+{
+    Ok(SourcePlan {
+        line,
+        kind,
+        steps,
+        channels: places(place.alloc, channels, chosen)?,
+        selector: selector_at(place, chosen)?,
+        name: String::from_str(place.alloc, name)?,
+    })
+}
+
 fn source_at(
     place: &Place<'_>,
     channels: &[&str],
@@ -98,28 +144,22 @@ fn source_at(
     requires { texts chosen.now ≡ names_in place.now.properties.now (place.now.front.now ++ codes "channels") }
     ensures { IfOk result (IsSource place.now.properties.now place.now.front.now (texts channels.now) name.now) }
 {
-    let kind = text_at(place, "type")?;
-    Ok(SourcePlan {
-        name: String::from_str(place.alloc, name)?,
-        line: line_at(place, "type")?,
-        kind: source_kind(place, kind.as_str())?,
-        channels: places(place.alloc, channels, chosen)?,
-        steps: steps_at(place)?,
-        selector: selector_at(place, chosen)?,
-    })
+    let line = line_at(place, "type")?;
+    let kind = kind_at(place)?;
+    let steps = steps_at(place)?;
+    source_with(place, channels, chosen, name, line, kind, steps)
 }
 
 fn source(agent: &Agent<'_>, channels: &[&str], name: &str) -> Result<SourcePlan, AllocError>
     ensures { IfOk result (SourceNamed agent.now.properties.now agent.now.name.now (texts channels.now) name.now) }
 {
     let front = front_of(agent.alloc, agent.name, ".sources.", name)?;
-    let key = joined(agent.alloc, front.as_str(), "channels")?;
-    let chosen = names_in(agent.alloc, agent.properties, key.as_str())?;
     let place = Place {
         alloc: agent.alloc,
         properties: agent.properties,
         front: front.as_str(),
     };
+    let chosen = names_at(&place, "channels")?;
     source_at(&place, channels, chosen.as_slice(), name)
 }
 
@@ -128,11 +168,11 @@ fn memory_channel(place: &Place<'_>, name: &str) -> Result<ChannelPlan, AllocErr
     ensures { IfOk result (IsChannel place.now.properties.now place.now.front.now name.now) }
 {
     Ok(ChannelPlan {
-        name: String::from_str(place.alloc, name)?,
         line: line_at(place, "type")?,
         kind: ChannelKind::Memory,
         capacity: number_at(place, 1, 10_000_000, 100, "capacity")? as u32,
         txn_capacity: number_at(place, 1, 100_000, 100, "transactionCapacity")? as u32,
+        name: String::from_str(place.alloc, name)?,
     })
 }
 
@@ -141,16 +181,16 @@ fn file_channel(place: &Place<'_>, name: &str) -> Result<ChannelPlan, AllocError
     ensures { IfOk result (IsChannel place.now.properties.now place.now.front.now name.now) }
 {
     Ok(ChannelPlan {
-        name: String::from_str(place.alloc, name)?,
         line: line_at(place, "type")?,
+        capacity: number_at(place, 1, 10_000_000, 1_000_000, "capacity")? as u32,
+        txn_capacity: number_at(place, 1, 100_000, 10_000, "transactionCapacity")? as u32,
         kind: ChannelKind::File {
-            folder: text_at(place, "dataDirs")?,
             max_file: number_at(place, 4096, 2_146_435_071, 2_146_435_071, "maxFileSize")?,
             interval: number_at(place, 1000, 86_400_000, 30_000, "checkpointInterval")? as u32,
             on_close: truth_at(place, true, "checkpointOnClose")?,
+            folder: text_at(place, "dataDirs")?,
         },
-        capacity: number_at(place, 1, 10_000_000, 1_000_000, "capacity")? as u32,
-        txn_capacity: number_at(place, 1, 100_000, 10_000, "transactionCapacity")? as u32,
+        name: String::from_str(place.alloc, name)?,
     })
 }
 
@@ -208,14 +248,14 @@ fn avro_sink(place: &Place<'_>, channel: u32, name: &str) -> Result<SinkPlan, Al
     ensures { IfOk result (λ sink. SinkWith place.now.properties.now place.now.front.now channel name.now sink) }
 {
     Ok(SinkPlan {
-        name: String::from_str(place.alloc, name)?,
         line: line_at(place, "type")?,
-        kind: SinkKind::Avro {
-            host: text_at(place, "hostname")?,
-            port: number_at(place, 1, 65_535, 1, "port")? as u16,
-        },
         channel,
         batch: number_at(place, 1, 10_000, 100, "batch-size")? as u32,
+        kind: SinkKind::Avro {
+            port: number_at(place, 1, 65_535, 1, "port")? as u16,
+            host: text_at(place, "hostname")?,
+        },
+        name: String::from_str(place.alloc, name)?,
     })
 }
 
@@ -225,14 +265,14 @@ fn roll_sink(place: &Place<'_>, channel: u32, name: &str) -> Result<SinkPlan, Al
     ensures { IfOk result (λ sink. SinkWith place.now.properties.now place.now.front.now channel name.now sink) }
 {
     Ok(SinkPlan {
-        name: String::from_str(place.alloc, name)?,
         line: line_at(place, "type")?,
-        kind: SinkKind::Roll {
-            folder: text_at(place, "sink.directory")?,
-            interval: number_at(place, 0, 4_294_967_295, 30, "sink.rollInterval")? as u32,
-        },
         channel,
         batch: number_at(place, 1, 10_000, 100, "sink.batchSize")? as u32,
+        kind: SinkKind::Roll {
+            interval: number_at(place, 0, 4_294_967_295, 30, "sink.rollInterval")? as u32,
+            folder: text_at(place, "sink.directory")?,
+        },
+        name: String::from_str(place.alloc, name)?,
     })
 }
 
@@ -249,13 +289,13 @@ fn plugin_sink(
     ensures { IfOk result (λ sink. SinkWith place.now.properties.now place.now.front.now channel name.now sink) }
 {
     Ok(SinkPlan {
-        name: String::from_str(place.alloc, name)?,
         line: line_at(place, "type")?,
+        channel,
+        batch: 100,
         kind: SinkKind::Plugin {
             name: String::from_str(place.alloc, plugin_name(kind))?,
         },
-        channel,
-        batch: 100,
+        name: String::from_str(place.alloc, name)?,
     })
 }
 
@@ -266,11 +306,11 @@ fn null_sink(place: &Place<'_>, channel: u32, name: &str) -> Result<SinkPlan, Al
     ensures { IfOk result (λ sink. SinkWith place.now.properties.now place.now.front.now channel name.now sink) }
 {
     Ok(SinkPlan {
-        name: String::from_str(place.alloc, name)?,
         line: line_at(place, "type")?,
         kind: SinkKind::Null,
         channel,
         batch: number_at(place, 1, 10_000, 100, "batchSize")? as u32,
+        name: String::from_str(place.alloc, name)?,
     })
 }
 
@@ -383,6 +423,27 @@ fn priorities(place: &Place<'_>, kind: &str, members: &[&str]) -> Result<Vec<u32
     Ok(found)
 }
 
+// The group of a processor's type.
+fn group_with(
+    place: &Place<'_>,
+    sinks: &[&str],
+    members: &[&str],
+    name: &str,
+    kind: &str,
+) -> Result<GroupPlan, AllocError>
+    requires { kind.now ≡ text_at place.now.properties.now (place.now.front.now ++ codes "processor.type") }
+    ensures { IfOk result (GroupWith place.now.properties.now place.now.front.now (texts sinks.now) (texts members.now) name.now) }
+{
+    Ok(GroupPlan {
+        processor: processor(place, kind)?,
+        penalty: penalty(place, kind)?,
+        backoff: backoff(place, kind)?,
+        priorities: priorities(place, kind, members)?,
+        sinks: places(place.alloc, sinks, members)?,
+        name: String::from_str(place.alloc, name)?,
+    })
+}
+
 fn group_at(
     place: &Place<'_>,
     sinks: &[&str],
@@ -392,27 +453,19 @@ fn group_at(
     ensures { IfOk result (GroupWith place.now.properties.now place.now.front.now (texts sinks.now) (texts members.now) name.now) }
 {
     let kind = text_at(place, "processor.type")?;
-    Ok(GroupPlan {
-        name: String::from_str(place.alloc, name)?,
-        sinks: places(place.alloc, sinks, members)?,
-        processor: processor(place, kind.as_str())?,
-        priorities: priorities(place, kind.as_str(), members)?,
-        penalty: penalty(place, kind.as_str())?,
-        backoff: backoff(place, kind.as_str())?,
-    })
+    group_with(place, sinks, members, name, kind.as_str())
 }
 
 fn group(agent: &Agent<'_>, sinks: &[&str], name: &str) -> Result<GroupPlan, AllocError>
     ensures { IfOk result (λ group. GroupNamed agent.now.properties.now agent.now.name.now (texts sinks.now) name.now group) }
 {
     let front = front_of(agent.alloc, agent.name, ".sinkgroups.", name)?;
-    let key = joined(agent.alloc, front.as_str(), "sinks")?;
-    let members = names_in(agent.alloc, agent.properties, key.as_str())?;
     let place = Place {
         alloc: agent.alloc,
         properties: agent.properties,
         front: front.as_str(),
     };
+    let members = names_at(&place, "sinks")?;
     group_at(&place, sinks, members.as_slice(), name)
 }
 

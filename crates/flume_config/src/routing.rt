@@ -3,16 +3,14 @@
 ghost use Rattle.std.specs.Prelude.{◌≡◌, ◌++◌, IfOk, OnOk, codes, map, nat_eq, true, false, length, drop};
 ghost use Rattle.std.specs.List.{starts_with};
 ghost use Rattle.prop_text.specs.Views.{texts};
-ghost use Rattle.flume_config.specs.Rows.{is_type};
-ghost use Rattle.flume_config.specs.Components.{once};
-ghost use Rattle.flume_config.specs.Words.{words};
+ghost use Rattle.plan_judging.specs.Rows.{is_type};
+ghost use Rattle.plan_judging.specs.Components.{once};
+ghost use Rattle.plan_judging.specs.Words.{words};
 ghost use Rattle.flume_config.specs.Values.{text_at, place_of, places_at, mapped_at, mapped, seen_pair, IsSelector};
 
-use crate::group::{names_in, once};
-use crate::rules::{Place, is_type, joined};
 use crate::stepping::text_else;
 use crate::values::{places, text_at};
-use crate::words::words;
+use plan_judging::{Place, is_type, joined, names_at, once, words};
 use selectors::Selector;
 use std::alloc::{AllocError, Global};
 
@@ -20,8 +18,7 @@ use std::alloc::{AllocError, Global};
 fn places_at(place: &Place<'_>, channels: &[&str], key: &str) -> Result<Vec<u32>, AllocError>
     ensures { IfOk result (λ found. found.items ≡ places_at place.now.properties.now (texts channels.now) (place.now.front.now ++ key.now)) }
 {
-    let key = joined(place.alloc, place.front, key)?;
-    let names = names_in(place.alloc, place.properties, key.as_str())?;
+    let names = names_at(place, key)?;
     places(place.alloc, channels, names.as_slice())
 }
 
@@ -82,19 +79,22 @@ fn mapped(
     Ok(found)
 }
 
-/// The selector of a source with these channels.
-pub fn selector(place: &Place<'_>, channels: &[&str]) -> Result<Selector, AllocError>
+fn multiplexing(place: &Place<'_>, channels: &[&str]) -> Result<Selector, AllocError>
+    requires { is_type (codes "multiplexing") (text_at place.now.properties.now (place.now.front.now ++ codes "type")) ≡ true }
     ensures { IfOk result (IsSelector place.now.properties.now place.now.front.now (texts channels.now)) }
 {
-    let kind = text_at(place, "type")?;
-    if is_type(kind.as_str(), "multiplexing") {
-        return Ok(Selector::Multiplexing {
-            header: text_else(place, "flume.selector.header", "header")?,
-            mapping: mapped(place, channels, "mapping.")?,
-            default: places_at(place, channels, "default")?,
-            optional: mapped(place, channels, "optional.")?,
-        });
-    }
+    Ok(Selector::Multiplexing {
+        header: text_else(place, "flume.selector.header", "header")?,
+        mapping: mapped(place, channels, "mapping.")?,
+        default: places_at(place, channels, "default")?,
+        optional: mapped(place, channels, "optional.")?,
+    })
+}
+
+fn replicating(place: &Place<'_>, channels: &[&str]) -> Result<Selector, AllocError>
+    requires { is_type (codes "multiplexing") (text_at place.now.properties.now (place.now.front.now ++ codes "type")) ≡ false }
+    ensures { IfOk result (IsSelector place.now.properties.now place.now.front.now (texts channels.now)) }
+{
     let Ok(count) = u32::try_from(channels.len()) else {
         return Err(AllocError);
     };
@@ -102,4 +102,16 @@ pub fn selector(place: &Place<'_>, channels: &[&str]) -> Result<Selector, AllocE
         channels: count,
         optional: places_at(place, channels, "optional")?,
     })
+}
+
+/// The selector of a source with these channels.
+pub fn selector(place: &Place<'_>, channels: &[&str]) -> Result<Selector, AllocError>
+    ensures { IfOk result (IsSelector place.now.properties.now place.now.front.now (texts channels.now)) }
+{
+    let kind = text_at(place, "type")?;
+    if is_type(kind.as_str(), "multiplexing") {
+        multiplexing(place, channels)
+    } else {
+        replicating(place, channels)
+    }
 }

@@ -3,17 +3,17 @@
 ghost use Rattle.std.specs.Prelude.{◌≡◌, ◌++◌, ◌||◌, IfOk, OnOk, IfSome, IfNone, codes, map, string_bytes, option_map, true, false};
 ghost use Rattle.prop_text.specs.Views.{texts};
 ghost use Rattle.prop_text.specs.Winners.{lookup};
-ghost use Rattle.flume_config.specs.Components.{names_in};
-ghost use Rattle.flume_config.specs.Rows.{is_type, is_plugin, is_timestamp, is_host};
+ghost use Rattle.plan_judging.specs.Components.{names_in};
+ghost use Rattle.plan_judging.specs.Rows.{is_type, is_plugin, is_timestamp, is_host};
 ghost use Rattle.flume_config.specs.Values.{text_at, text_else, pattern_line, removed, names_listed, date_of, is_other, IsStep, IsGroup, IsRegex, IsStepPlan, StepNamed, Match};
 
-use crate::claims::plugin_name;
-use crate::group::{front_of, names_in};
 use crate::plan::StepPlan;
-use crate::rules::{Place, is_host, is_millis, is_plugin, is_timestamp, is_type, joined};
 use crate::values::{line_at, text_at, truth_at};
-use crate::words::push_listed;
 use interceptors::Step;
+use plan_judging::{
+    Place, front_of, is_host, is_millis, is_plugin, is_timestamp, is_type, joined, names_at,
+    plugin_name, push_listed,
+};
 use regex_steps::{Group, RegexKeys};
 use std::alloc::AllocError;
 
@@ -44,8 +44,8 @@ fn timestamp_step(place: &Place<'_>, kind: &str) -> Result<Step, AllocError>
     ensures { IfOk result (IsStep place.now.properties.now place.now.front.now kind.now) }
 {
     Ok(Step::Timestamp {
-        header: text_else(place, "timestamp", "headerName")?,
         preserve: truth_at(place, false, "preserveExisting")?,
+        header: text_else(place, "timestamp", "headerName")?,
     })
 }
 
@@ -55,8 +55,8 @@ fn host_step(place: &Place<'_>, kind: &str) -> Result<Step, AllocError>
 {
     Ok(Step::Host {
         use_ip: truth_at(place, true, "useIP")?,
-        header: text_else(place, "host", "hostHeader")?,
         preserve: truth_at(place, false, "preserveExisting")?,
+        header: text_else(place, "host", "hostHeader")?,
     })
 }
 
@@ -65,9 +65,9 @@ fn static_step(place: &Place<'_>, kind: &str) -> Result<Step, AllocError>
     ensures { IfOk result (IsStep place.now.properties.now place.now.front.now kind.now) }
 {
     Ok(Step::Static {
+        preserve: truth_at(place, true, "preserveExisting")?,
         key: text_else(place, "key", "key")?,
         value: text_else(place, "value", "value")?,
-        preserve: truth_at(place, true, "preserveExisting")?,
     })
 }
 
@@ -143,16 +143,24 @@ fn groups(place: &Place<'_>, names: &[&str]) -> Result<Vec<Group>, AllocError>
     Ok(groups)
 }
 
+// The groups of an extractor, by its serializers.
+fn groups_at(place: &Place<'_>) -> Result<Vec<Group>, AllocError>
+    ensures { IfOk result (λ groups. Match (IsGroup place.now.properties.now place.now.front.now) (names_in place.now.properties.now (place.now.front.now ++ codes "serializers")) groups.items) }
+{
+    let names = names_at(place, "serializers")?;
+    groups(place, names.as_slice())
+}
+
 fn filter_plan(place: &Place<'_>, kind: &str) -> Result<StepPlan, AllocError>
     requires same { kind.now ≡ text_at place.now.properties.now (place.now.front.now ++ codes "type") }
     requires kind { is_type (codes "regex_filter") kind.now ≡ true }
     ensures { IfOk result (IsStepPlan place.now.properties.now place.now.front.now) }
 {
-    let keys = RegexKeys::Filter {
-        regex: text_else(place, ".*", "regex")?,
-        exclude: truth_at(place, false, "excludeEvents")?,
-    };
     let line = pattern_line(place, "regex")?;
+    let keys = RegexKeys::Filter {
+        exclude: truth_at(place, false, "excludeEvents")?,
+        regex: text_else(place, ".*", "regex")?,
+    };
     Ok(StepPlan::Regex { keys, line })
 }
 
@@ -161,13 +169,11 @@ fn extract_plan(place: &Place<'_>, kind: &str) -> Result<StepPlan, AllocError>
     requires kind { is_type (codes "regex_extractor") kind.now ≡ true }
     ensures { IfOk result (IsStepPlan place.now.properties.now place.now.front.now) }
 {
-    let key = joined(place.alloc, place.front, "serializers")?;
-    let names = names_in(place.alloc, place.properties, key.as_str())?;
-    let keys = RegexKeys::Extract {
-        regex: text_at(place, "regex")?,
-        groups: groups(place, names.as_slice())?,
-    };
     let line = pattern_line(place, "regex")?;
+    let keys = RegexKeys::Extract {
+        groups: groups_at(place)?,
+        regex: text_at(place, "regex")?,
+    };
     Ok(StepPlan::Regex { keys, line })
 }
 
@@ -176,11 +182,11 @@ fn replace_plan(place: &Place<'_>, kind: &str) -> Result<StepPlan, AllocError>
     requires kind { is_other kind.now ≡ false }
     ensures { IfOk result (IsStepPlan place.now.properties.now place.now.front.now) }
 {
+    let line = pattern_line(place, "searchPattern")?;
     let keys = RegexKeys::Replace {
         search: text_at(place, "searchPattern")?,
         text: text_at(place, "replaceString")?,
     };
-    let line = pattern_line(place, "searchPattern")?;
     Ok(StepPlan::Regex { keys, line })
 }
 
@@ -190,8 +196,8 @@ fn plugin_plan(place: &Place<'_>, kind: &str) -> Result<StepPlan, AllocError>
     ensures { IfOk result (IsStepPlan place.now.properties.now place.now.front.now) }
 {
     Ok(StepPlan::Plugin {
-        name: String::from_str(place.alloc, plugin_name(kind))?,
         line: line_at(place, "type")?,
+        name: String::from_str(place.alloc, plugin_name(kind))?,
     })
 }
 

@@ -4,8 +4,7 @@ ghost use Rattle.std.specs.Prelude.{◌≡◌, ◌≤◌, ◌<◌, ◌++◌, OnO
 ghost use Rattle.prop_text.specs.Views.{texts};
 ghost use Rattle.flume_config.specs.Values.{text_at, line_at, number_at, truth_at, place_of};
 
-use crate::rules::{Place, joined};
-use crate::words::{number, truth};
+use plan_judging::{Place, joined, number, truth};
 use std::alloc::{AllocError, Global};
 
 /// The text at a key.

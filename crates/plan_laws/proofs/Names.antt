@@ -14,16 +14,17 @@ use Rattle.selectors.specs.declared.selector.Selector.{Selector}
 use Rattle.selectors.specs.declared.selector.Selector.TheVariants.{Replicating, Multiplexing}
 use Rattle.flume_config.specs.declared.plan.Plan.{Plan}
 use Rattle.flume_config.specs.declared.plan.SourcePlan.{SourcePlan}
-use Rattle.flume_config.specs.declared.findings.FaultKind.TheVariants.{UnknownType, UnknownName}
-use Rattle.flume_config.specs.Words.{words, is_among, all_among}
-use Rattle.flume_config.specs.Candidates.{Candidates, Seen, nothing, each, ◌⊕◌}
-use Rattle.flume_config.specs.Rows.{is_type, when, one_fault, of_kind, judged_pair, row, twice, unknown, names_row, judged_names_of}
-use Rattle.flume_config.specs.declared.rules.Rule.TheVariants.{SelectorKind, SourceKind}
-use Rattle.flume_config.specs.Components.{first_times, once, words_of, names_in, steps, source, source_by_kind, selector, selector_by_kind, multiplexing, channels_row, channels_rows, channels_key, judged_channels, front_of}
-use Rattle.flume_config.specs.Claims.{clashes}
+use Rattle.plan_judging.specs.declared.findings.FaultKind.TheVariants.{UnknownType, UnknownName}
+use Rattle.plan_judging.specs.Words.{words, is_among, all_among}
+use Rattle.plan_judging.specs.Candidates.{Candidates, Seen, nothing, each, ◌⊕◌}
+use Rattle.plan_judging.specs.Rows.{is_type, when, one_fault, of_kind, judged_pair, row, twice, unknown, names_row, judged_names_of}
+use Rattle.plan_judging.specs.declared.rules.Rule.TheVariants.{SelectorKind, SourceKind}
+use Rattle.plan_judging.specs.Components.{first_times, once, words_of, names_in, steps, source, source_by_kind, selector, selector_by_kind, multiplexing, channels_row, channels_rows, channels_key, judged_channels, front_of}
+use Rattle.plan_judging.specs.Claims.{clashes}
 use Rattle.flume_config.specs.Patterns.{asked_of, bad_ones}
-use Rattle.flume_config.specs.Agents as agents
-use Rattle.flume_config.specs.Agents.{candidates, candidates_of, components_of, claims_of, lists, source_named, channel_named, sink_named, group_named, first_fault}
+use Rattle.plan_judging.specs.Agents as agents
+use Rattle.plan_judging.specs.Agents.{candidates_of, components_of, claims_of, lists, source_named, channel_named, sink_named, group_named}
+use Rattle.flume_config.specs.Faults.{candidates, first_fault}
 use Rattle.flume_config.specs.Values.{Match, IsSource, IsSelector, SourceNamed, ChannelNamed, place_of, places_at, mapped_at, mapped, seen_pair, text_of}
 use Rattle.flume_config.specs.Plans.{Plans, IsJudged}
 use Rattle.flume_config.proofs.First.{first_is_first}

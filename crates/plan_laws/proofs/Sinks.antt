@@ -10,16 +10,17 @@ use Rattle.flume_config.specs.declared.plan.Plan.{Plan}
 use Rattle.flume_config.specs.declared.plan.SinkPlan.{SinkPlan}
 use Rattle.flume_config.specs.declared.plan.GroupPlan.{GroupPlan}
 use Rattle.flume_config.specs.declared.plan.Processor.TheVariants.{Single, Failover, RoundRobin, Random}
-use Rattle.flume_config.specs.declared.findings.FaultKind.TheVariants.{UnknownType, Unsupported}
-use Rattle.flume_config.specs.declared.rules.Rule.TheVariants.{ProcessorKind, SinkKind}
-use Rattle.flume_config.specs.Words.{is_among}
-use Rattle.flume_config.specs.Candidates.{Candidates, Seen, nothing, each, ◌⊕◌}
-use Rattle.flume_config.specs.Rows.{is_type, when, one_fault, of_kind, judged_pair, row, name_row, names_row, judged_name_of}
-use Rattle.flume_config.specs.Components.{words_of, names_in, sink, sink_by_kind, group, group_by_kind, one_channel, several, failover, load_balance, front_of}
-use Rattle.flume_config.specs.Claims.{clashes}
+use Rattle.plan_judging.specs.declared.findings.FaultKind.TheVariants.{UnknownType, Unsupported}
+use Rattle.plan_judging.specs.declared.rules.Rule.TheVariants.{ProcessorKind, SinkKind}
+use Rattle.plan_judging.specs.Words.{is_among}
+use Rattle.plan_judging.specs.Candidates.{Candidates, Seen, nothing, each, ◌⊕◌}
+use Rattle.plan_judging.specs.Rows.{is_type, when, one_fault, of_kind, judged_pair, row, name_row, names_row, judged_name_of}
+use Rattle.plan_judging.specs.Components.{words_of, names_in, sink, sink_by_kind, group, group_by_kind, one_channel, several, failover, load_balance, front_of}
+use Rattle.plan_judging.specs.Claims.{clashes}
 use Rattle.flume_config.specs.Patterns.{asked_of, bad_ones}
-use Rattle.flume_config.specs.Agents as agents
-use Rattle.flume_config.specs.Agents.{candidates, candidates_of, claims_of, lists, source_named, channel_named, sink_named, group_named, least_missing}
+use Rattle.plan_judging.specs.Agents as agents
+use Rattle.plan_judging.specs.Agents.{candidates_of, claims_of, lists, source_named, channel_named, sink_named, group_named}
+use Rattle.flume_config.specs.Faults.{candidates, least_missing}
 use Rattle.flume_config.specs.Values.{Match, SinkWith, GroupWith, SinkNamed, GroupNamed, ChannelNamed, place_of, text_of, text_at, processor_of, priority_of}
 use Rattle.flume_config.specs.Plans.{Plans, IsJudged}
 use Rattle.flume_config.specs.Laws.{IsLeast}

@@ -1,7 +1,7 @@
 use Rattle.std.proofs.Common.{◌≡◌, ℕ, List, ap, ◌∙◌, subst}
 use Rattle.prop_text.specs.Views.{texts}
-use Rattle.flume_config.specs.Candidates.{adds, seen}
-use Rattle.flume_config.specs.Agents as agents
+use Rattle.plan_judging.specs.Candidates.{adds, seen}
+use Rattle.plan_judging.specs.Agents as agents
 use Rattle.flume_config.specs.Plans.{IsSeen}
 use Rattle.flume_config.proofs.agent.judged.Goals as goal
 

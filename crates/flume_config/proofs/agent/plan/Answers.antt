@@ -1,6 +1,6 @@
 use Rattle.std.proofs.Common.{◌≡◌, List, ℕ, ap, ◌∙◌, subst}
 use Rattle.prop_text.specs.Views.{texts}
-use Rattle.flume_config.specs.Agents as agents
+use Rattle.plan_judging.specs.Agents as agents
 use Rattle.flume_config.specs.Values.{Match, SourceNamed, ChannelNamed, SinkNamed, GroupNamed}
 use Rattle.flume_config.proofs.agent.plan.Goals as goal
 

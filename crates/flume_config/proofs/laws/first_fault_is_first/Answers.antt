@@ -1,4 +1,4 @@
-use Rattle.flume_config.specs.Agents.{candidates}
+use Rattle.flume_config.specs.Faults.{candidates}
 use Rattle.flume_config.proofs.First.{first_is_first}
 use Rattle.flume_config.proofs.laws.first_fault_is_first.Goals as goal
 

@@ -1,4 +1,4 @@
-use Rattle.flume_config.specs.Agents.{candidates}
+use Rattle.flume_config.specs.Faults.{candidates}
 use Rattle.flume_config.proofs.First.{least_is_least}
 use Rattle.flume_config.proofs.laws.least_missing_is_least.Goals as goal
 

@@ -1,6 +1,6 @@
 use Rattle.std.proofs.Common.{Bool, true, false, subst}
 use Rattle.flume_config.specs.Patterns.{IsVerdict}
-use Rattle.flume_config.proofs.Joins.{add_nothing}
+use Rattle.plan_judging.proofs.Joins.{add_nothing}
 use Rattle.flume_config.proofs.Asking.{ask_one}
 use Rattle.flume_config.proofs.patterns.ask.Goals as goal
 

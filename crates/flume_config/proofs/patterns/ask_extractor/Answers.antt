@@ -1,6 +1,6 @@
 use Rattle.std.proofs.Common.{◌≡◌, ◌++◌, codes, ap, ◌∙◌}
 use Rattle.prop_text.specs.Views.{texts}
-use Rattle.flume_config.specs.Components.{names_in}
+use Rattle.plan_judging.specs.Components.{names_in}
 use Rattle.flume_config.proofs.Asking.{ask_both}
 use Rattle.flume_config.proofs.patterns.ask_extractor.Goals as goal
 
@@ -8,5 +8,5 @@ pub returns : goal.returns
 returns c =
     let pairs = c.args.place.now.properties.now in
     let names : texts c.as_slice.result.now ≡ names_in pairs (c.args.place.now.front.now ++ codes "serializers") =
-    ap texts c.as_slice.ensures.value ∙ c.in_ok-names.ensures ∙ ap (names_in pairs) (c.as_str.ensures.value ∙ c.in_ok-key.ensures) in
+    ap texts c.as_slice.ensures.value ∙ c.in_ok-names.ensures in
     ask_both c.in_ok-ask_at.ensures (rw names at c.in_ok-ask_serializers.ensures)

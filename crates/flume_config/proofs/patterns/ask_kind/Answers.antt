@@ -1,5 +1,5 @@
 use Rattle.std.proofs.Common.{◌≡◌, false, codes, sym, ◌∙◌}
-use Rattle.flume_config.specs.Rows.{is_type}
+use Rattle.plan_judging.specs.Rows.{is_type}
 use Rattle.flume_config.proofs.Asking.{ask_none}
 use Rattle.flume_config.proofs.patterns.ask_kind.Goals as goal
 

@@ -1,4 +1,4 @@
-use Rattle.flume_config.specs.Candidates.{seen}
+use Rattle.plan_judging.specs.Candidates.{seen}
 use Rattle.flume_config.specs.Patterns.{asked_of_step}
 use Rattle.flume_config.proofs.Asking.{AsksOn}
 use Rattle.flume_config.proofs.patterns.ask_steps.Given as goal

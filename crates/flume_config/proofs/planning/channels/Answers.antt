@@ -1,5 +1,5 @@
 use Rattle.std.proofs.Common.{[]}
-use Rattle.flume_config.proofs.Joins.{makes_on, made_all}
+use Rattle.flume_config.proofs.Making.{makes_on, made_all}
 use Rattle.flume_config.proofs.planning.channels.Goals as goal
 
 pub loop-name-preserved : goal.loop-name-preserved

@@ -1,5 +1,5 @@
 use Rattle.flume_config.specs.Values.{ChannelNamed}
-use Rattle.flume_config.proofs.Joins.{Makes}
+use Rattle.flume_config.proofs.Making.{Makes}
 use Rattle.flume_config.proofs.planning.channels.Given as goal
 
 abbrev pub invariant-loop-name : goal.invariant-loop-name

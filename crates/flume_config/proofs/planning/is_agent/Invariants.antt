@@ -1,5 +1,5 @@
 use Rattle.std.proofs.Common.{◌≡◌, drop}
-use Rattle.flume_config.specs.Agents.{is_agent}
+use Rattle.plan_judging.specs.Agents.{is_agent}
 use Rattle.flume_config.proofs.planning.is_agent.Given as goal
 
 abbrev pub invariant-loop-at : goal.invariant-loop-at

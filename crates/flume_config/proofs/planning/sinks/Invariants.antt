@@ -1,6 +1,6 @@
 use Rattle.prop_text.specs.Views.{texts}
 use Rattle.flume_config.specs.Values.{SinkNamed}
-use Rattle.flume_config.proofs.Joins.{Makes}
+use Rattle.flume_config.proofs.Making.{Makes}
 use Rattle.flume_config.proofs.planning.sinks.Given as goal
 
 abbrev pub invariant-loop-name : goal.invariant-loop-name

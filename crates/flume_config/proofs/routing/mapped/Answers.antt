@@ -1,7 +1,7 @@
 use Rattle.std.proofs.Common.{◌++◌, arith, refl, map}
 use Rattle.prop_text.specs.Views.{texts}
 use Rattle.flume_config.specs.Values.{mapped_at, seen_pair}
-use Rattle.flume_config.proofs.CommaSteps.{pair_goes, pairs_end}
+use Rattle.plan_judging.proofs.CommaSteps.{pair_goes, pairs_end}
 use Rattle.flume_config.proofs.routing.mapped.Goals as goal
 
 pub loop-at-init : goal.loop-at-init

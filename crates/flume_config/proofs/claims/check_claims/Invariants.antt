@@ -1,8 +1,0 @@
-use Rattle.std.proofs.Common.{drop}
-use Rattle.flume_config.specs.Candidates.{Adds, Seen, seen}
-use Rattle.flume_config.specs.Claims.{clashes, wishes}
-use Rattle.flume_config.proofs.claims.check_claims.Given as goal
-
--- the clashes of what is left complete those of all
-abbrev pub invariant-loop-place : goal.invariant-loop-place
-invariant-loop-place l = record { rest : (end : Seen) → Adds (seen l.found) end (clashes (wishes (drop l.place l.claims))) → Adds (seen l.fn.found) end (clashes (wishes l.claims)) }

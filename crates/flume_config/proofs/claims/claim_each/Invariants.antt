@@ -1,7 +1,0 @@
-use Rattle.flume_config.specs.Claims.{wishes}
-use Rattle.flume_config.specs.Agents.{step_claims}
-use Rattle.flume_config.proofs.Joins.{Gathers}
-use Rattle.flume_config.proofs.claims.claim_each.Given as goal
-
-abbrev pub invariant-loop-name : goal.invariant-loop-name
-invariant-loop-name l = Gathers (step_claims l.place.properties.now l.place.front.now) l.name-index l.names (wishes l.fn.claims.items) (wishes l.claims.items)

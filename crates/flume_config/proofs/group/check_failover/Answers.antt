@@ -1,5 +1,0 @@
-use Rattle.flume_config.proofs.Joins.{join}
-use Rattle.flume_config.proofs.group.check_failover.Goals as goal
-
-pub returns : goal.returns
-returns c = join c.in_ok-check_priorities.ensures c.in_ok-check.ensures

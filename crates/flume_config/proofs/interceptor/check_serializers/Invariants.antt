@@ -1,8 +1,0 @@
-use Rattle.prop_text.specs.Views.{texts}
-use Rattle.flume_config.specs.Candidates.{seen}
-use Rattle.flume_config.specs.Components.{serializer_named}
-use Rattle.flume_config.proofs.Joins.{Goes}
-use Rattle.flume_config.proofs.interceptor.check_serializers.Given as goal
-
-abbrev pub invariant-loop-name : goal.invariant-loop-name
-invariant-loop-name l = Goes (serializer_named l.place.properties.now l.place.front.now) l.name-index (texts l.names) (seen l.fn.found) (seen l.found)

@@ -1,5 +1,0 @@
-use Rattle.flume_config.proofs.Joins.{join}
-use Rattle.flume_config.proofs.judging.check_lists.Goals as goal
-
-pub returns : goal.returns
-returns c = join (join (join c.in_ok-check_list.ensures c.in_ok-check_list-2.ensures) c.in_ok-check_list-3.ensures) c.in_ok-check_list-4.ensures

@@ -1,0 +1,7 @@
+use Rattle.plan_judging.proofs.Joins.{join}
+use Rattle.flume_config.proofs.patterns.judge.Goals as goal
+
+pub returns : goal.returns
+returns c =
+    let asks = c.in_ok-ask_sources.ensures in
+    record { verdicts = asks.verdicts; are = asks.are; is = (join c.in_ok-found.ensures asks.adds).is }

@@ -1,5 +1,0 @@
-use Rattle.flume_config.proofs.Joins.{join}
-use Rattle.flume_config.proofs.selecting.check_multiplexing.Goals as goal
-
-pub returns : goal.returns
-returns c = join (join c.in_ok-check_row.ensures c.in_ok-check_rows.ensures) c.in_ok-check_rows-2.ensures

@@ -1,9 +1,0 @@
-use Rattle.std.proofs.Common.{◌++◌}
-use Rattle.prop_text.specs.Views.{texts}
-use Rattle.flume_config.specs.Candidates.{seen}
-use Rattle.flume_config.specs.Components.{channels_key}
-use Rattle.flume_config.proofs.Joins.{Goes}
-use Rattle.flume_config.proofs.selecting.check_rows.Given as goal
-
-abbrev pub invariant-loop-at : goal.invariant-loop-at
-invariant-loop-at l = Goes (channels_key (l.place.front.now ++ l.key) (texts l.channels)) l.at l.place.properties.now (seen l.fn.found) (seen l.found)

@@ -1,7 +1,0 @@
-use Rattle.std.proofs.Common.{◌≡◌, drop}
-use Rattle.prop_text.specs.Views.{texts}
-use Rattle.flume_config.specs.Words.{all_among}
-use Rattle.flume_config.proofs.words.all_among.Given as goal
-
-abbrev pub invariant-loop-name : goal.invariant-loop-name
-invariant-loop-name l = all_among (texts (drop l.name-index l.names)) (texts l.others) ≡ all_among (texts l.names) (texts l.others)

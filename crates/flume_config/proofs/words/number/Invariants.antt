@@ -1,6 +1,0 @@
-use Rattle.std.proofs.Common.{◌≡◌, drop}
-use Rattle.flume_config.specs.Words.{decimal_behind}
-use Rattle.flume_config.proofs.words.number.Given as goal
-
-abbrev pub invariant-loop-byte : goal.invariant-loop-byte
-invariant-loop-byte l = decimal_behind l.number (drop l.byte-index l.byte-items) ≡ decimal_behind 0 l.text

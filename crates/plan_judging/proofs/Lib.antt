@@ -1,0 +1,3 @@
+pub mod WordSteps
+pub mod Joins
+pub mod CommaSteps

@@ -1,0 +1,331 @@
+//! What the value of a key has to be.
+
+ghost use Rattle.std.specs.Prelude.{◌≡◌, ◌≤◌, ◌<◌, ◌^◌, ◌++◌, ◌||◌, Bool, is_some, not, ◌==◌, IfOk, OnOk, string_bytes, length, codes};
+ghost use Rattle.prop_text.specs.Views.{texts};
+ghost use Rattle.std.specs.List.{list_any};
+ghost use Rattle.std.specs.Str.{bytes_eq};
+ghost use Rattle.plan_judging.specs.declared.findings.FaultKind.TheVariants.{BadNumber};
+ghost use Rattle.plan_judging.specs.declared.rules.Rule.TheVariants.{False};
+ghost use Rattle.plan_judging.specs.Candidates.{Adds, seen, ◌⊕◌};
+ghost use Rattle.plan_judging.specs.Words.{number_in, truth_of};
+ghost use Rattle.plan_judging.specs.Rows.{when, is_type, is_plugin, is_timestamp, is_host, is_millis, is_step, judged, row, twice, unknown, list_row, names_row, name_row};
+
+use crate::findings::{FaultKind, Findings};
+use crate::values::{all_among, has_twice, number, truth, words};
+use prop_text::Properties;
+use std::alloc::{AllocError, Global};
+
+/// What a value has to be.
+#[derive(Clone, Copy)]
+pub enum Rule {
+    Text,
+    Number { low: u64, high: u64 },
+    Truth,
+    /// The truth value false.
+    False,
+    /// The key is not supported.
+    Never,
+    NoCompression,
+    TextSerializer,
+    RoundRobinOrRandom,
+    /// A text without a comma.
+    OneFolder,
+    SourceKind,
+    ChannelKind,
+    SinkKind,
+    ProcessorKind,
+    StepKind,
+    SerializerKind,
+    SelectorKind,
+}
+
+fn unless(holds: bool, kind: FaultKind) -> Option<FaultKind>
+    ensures { result ≡ when (not holds) kind }
+{
+    if holds { None } else { Some(kind) }
+}
+
+/// Whether a value is the short name of a type.
+pub fn is_type(value: &str, name: &str) -> bool
+    ensures { result ≡ is_type name.now value.now }
+{
+    value.eq_ignore_ascii_case(name)
+}
+
+/// Whether a type is that of an object that is handed in.
+pub fn is_plugin(value: &str) -> bool
+    ensures { result ≡ is_plugin value.now }
+{
+    value.as_bytes().starts_with(b"plugin.")
+}
+
+/// Whether a type is that of an interceptor that sets the moment.
+#[tactic(auto, unfolding(crate::specs::Rows::is_timestamp))]
+pub fn is_timestamp(value: &str) -> bool
+    ensures { result ≡ is_timestamp value.now }
+{
+    is_type(value, "timestamp")
+        || value == "org.apache.flume.interceptor.TimestampInterceptor$Builder"
+}
+
+/// Whether a type is that of an interceptor that sets the host.
+#[tactic(auto, unfolding(crate::specs::Rows::is_host))]
+pub fn is_host(value: &str) -> bool
+    ensures { result ≡ is_host value.now }
+{
+    is_type(value, "host") || value == "org.apache.flume.interceptor.HostInterceptor$Builder"
+}
+
+/// Whether a type is that of the serializer that reads a group as a date.
+#[tactic(auto, unfolding(crate::specs::Rows::is_millis))]
+pub fn is_millis(value: &str) -> bool
+    ensures { result ≡ is_millis value.now }
+{
+    value == "org.apache.flume.interceptor.RegexExtractorInterceptorMillisSerializer"
+}
+
+// Whether a type is that of an interceptor.
+fn is_step(value: &str) -> bool
+    ensures { result ≡ is_step value.now }
+{
+    is_timestamp(value)
+        || is_host(value)
+        || is_type(value, "static")
+        || is_type(value, "remove_header")
+        || is_type(value, "regex_filter")
+        || is_type(value, "regex_extractor")
+        || is_type(value, "search_replace")
+        || is_plugin(value)
+}
+
+fn has_comma(value: &str) -> bool
+    ensures { result ≡ list_any (λ b. b == 44) value.now }
+{
+    value.as_bytes().contains(&b',')
+}
+
+fn judge_number(low: u64, high: u64, value: &str) -> Option<FaultKind>
+    ensures { result ≡ when (not (is_some (number_in low high value.now))) BadNumber }
+{
+    let within = match number(value) {
+        Some(n) => low <= n && n <= high,
+        None => false,
+    };
+    unless(within, FaultKind::BadNumber)
+}
+
+fn judge_false(value: &str) -> Option<FaultKind>
+    ensures { result ≡ judged False value.now }
+{
+    match truth(value) {
+        None => Some(FaultKind::BadNumber),
+        Some(on) => unless(!on, FaultKind::Unsupported),
+    }
+}
+
+fn is_round_robin_or_random(value: &str) -> bool
+    ensures { result ≡ (bytes_eq value.now (codes "round_robin") || bytes_eq value.now (codes "random")) }
+{
+    value == "round_robin" || value == "random"
+}
+
+fn is_source(value: &str) -> bool
+    ensures { result ≡ (is_type (codes "netcat") value.now || is_type (codes "avro") value.now || is_type (codes "stdin") value.now) }
+{
+    is_type(value, "netcat") || is_type(value, "avro") || is_type(value, "stdin")
+}
+
+fn is_channel(value: &str) -> bool
+    ensures { result ≡ (is_type (codes "memory") value.now || is_type (codes "file") value.now) }
+{
+    is_type(value, "memory") || is_type(value, "file")
+}
+
+fn is_sink(value: &str) -> bool
+    ensures { result ≡ (is_type (codes "avro") value.now || is_type (codes "file_roll") value.now || is_type (codes "null") value.now || is_plugin value.now) }
+{
+    is_type(value, "avro")
+        || is_type(value, "file_roll")
+        || is_type(value, "null")
+        || is_plugin(value)
+}
+
+fn is_processor(value: &str) -> bool
+    ensures { result ≡ (is_type (codes "default") value.now || is_type (codes "failover") value.now || is_type (codes "load_balance") value.now) }
+{
+    is_type(value, "default") || is_type(value, "failover") || is_type(value, "load_balance")
+}
+
+fn is_serializer(value: &str) -> bool
+    ensures { result ≡ (is_type (codes "default") value.now || is_millis value.now) }
+{
+    is_type(value, "default") || is_millis(value)
+}
+
+fn is_selector(value: &str) -> bool
+    ensures { result ≡ (is_type (codes "replicating") value.now || is_type (codes "multiplexing") value.now) }
+{
+    is_type(value, "replicating") || is_type(value, "multiplexing")
+}
+
+impl Rule {
+    /// What is wrong with a value.
+    fn judge(self, value: &str) -> Option<FaultKind>
+        ensures { result ≡ judged self value.now }
+    {
+        match self {
+            Rule::Text => None,
+            Rule::Number { low, high } => judge_number(low, high, value),
+            Rule::Truth => unless(truth(value).is_some(), FaultKind::BadNumber),
+            Rule::False => judge_false(value),
+            Rule::Never => Some(FaultKind::Unsupported),
+            Rule::NoCompression => unless(value == "none", FaultKind::Unsupported),
+            Rule::TextSerializer => unless(value == "TEXT", FaultKind::Unsupported),
+            Rule::RoundRobinOrRandom => {
+                unless(is_round_robin_or_random(value), FaultKind::Unsupported)
+            }
+            Rule::OneFolder => unless(!has_comma(value), FaultKind::Unsupported),
+            Rule::SourceKind => unless(is_source(value), FaultKind::UnknownType),
+            Rule::ChannelKind => unless(is_channel(value), FaultKind::UnknownType),
+            Rule::SinkKind => unless(is_sink(value), FaultKind::UnknownType),
+            Rule::ProcessorKind => unless(is_processor(value), FaultKind::UnknownType),
+            Rule::StepKind => unless(is_step(value), FaultKind::UnknownType),
+            Rule::SerializerKind => unless(is_serializer(value), FaultKind::UnknownType),
+            Rule::SelectorKind => unless(is_selector(value), FaultKind::UnknownType),
+        }
+    }
+}
+
+/// A text and another behind it.
+pub fn joined(alloc: Global, front: &str, back: &str) -> Result<String, AllocError>
+    ensures { IfOk result (λ text. string_bytes text ≡ front.now ++ back.now) }
+{
+    let mut text = String::from_str(alloc, front)?;
+    text.push_str(back)?;
+    Ok(text)
+}
+
+/// What some component's keys are read from, and the front that they share.
+#[derive(Clone, Copy)]
+pub struct Place<'a> {
+    pub alloc: Global,
+    pub properties: &'a Properties,
+    pub front: &'a str,
+}
+
+/// Judges the value of a key, or that it is not there.
+#[tactic(auto, unfolding(crate::specs::Candidates::adds))]
+pub fn check(
+    place: &Place<'_>,
+    found: &mut Findings,
+    required: bool,
+    key: &str,
+    rule: Rule,
+) -> Result<(), AllocError>
+    ensures { OnOk result (Adds (seen found.old) (seen found.new) (row place.now.properties.now place.now.front.now required key.now rule)) }
+{
+    let key = joined(place.alloc, place.front, key)?;
+    match place.properties.get(key.as_str()) {
+        Some((value, line)) => {
+            if let Some(kind) = rule.judge(value) {
+                found.refuse(line, kind);
+            }
+        }
+        None => {
+            if required {
+                found.lacks(key);
+            }
+        }
+    }
+    Ok(())
+}
+
+/// Judges a list that names a thing twice.
+#[tactic(auto, unfolding(crate::specs::Candidates::adds))]
+fn check_twice(found: &mut Findings, line: u32, names: &[&str])
+    ensures { Adds (seen found.old) (seen found.new) (twice line (texts names.now)) }
+{
+    if has_twice(names) {
+        found.refuse(line, FaultKind::Clash);
+    }
+}
+
+/// Judges a list that names a thing that is not among the others.
+#[tactic(auto, unfolding(crate::specs::Candidates::adds))]
+fn check_known(found: &mut Findings, line: u32, names: &[&str], others: &[&str])
+    ensures { Adds (seen found.old) (seen found.new) (unknown line (texts names.now) (texts others.now)) }
+{
+    if !all_among(names, others) {
+        found.refuse(line, FaultKind::UnknownName);
+    }
+}
+
+/// Judges a list of names of things that are there.
+pub fn check_list_of(found: &mut Findings, line: u32, names: &[&str], others: &[&str])
+    ensures { Adds (seen found.old) (seen found.new) (twice line (texts names.now) ⊕ unknown line (texts names.now) (texts others.now)) }
+{
+    check_twice(found, line, names);
+    check_known(found, line, names, others);
+}
+
+/// Judges a list of names that are the first to stand.
+#[tactic(auto, unfolding(crate::specs::Candidates::adds))]
+pub fn check_list(
+    place: &Place<'_>,
+    found: &mut Findings,
+    required: bool,
+    key: &str,
+) -> Result<(), AllocError>
+    ensures { OnOk result (Adds (seen found.old) (seen found.new) (list_row place.now.properties.now place.now.front.now required key.now)) }
+{
+    let key = joined(place.alloc, place.front, key)?;
+    match place.properties.get(key.as_str()) {
+        Some((value, line)) => {
+            let names = words(place.alloc, value)?;
+            check_twice(found, line, names.as_slice());
+        }
+        None => {
+            if required {
+                found.lacks(key);
+            }
+        }
+    }
+    Ok(())
+}
+
+/// Judges a required list of names of things that are there.
+pub fn check_names(
+    place: &Place<'_>,
+    found: &mut Findings,
+    key: &str,
+    others: &[&str],
+) -> Result<(), AllocError>
+    ensures { OnOk result (Adds (seen found.old) (seen found.new) (names_row place.now.properties.now place.now.front.now key.now (texts others.now))) }
+{
+    let key = joined(place.alloc, place.front, key)?;
+    match place.properties.get(key.as_str()) {
+        Some((value, line)) => {
+            let names = words(place.alloc, value)?;
+            check_list_of(found, line, names.as_slice(), others);
+        }
+        None => found.lacks(key),
+    }
+    Ok(())
+}
+
+/// Judges a required key that names one thing that is there.
+pub fn check_name(
+    place: &Place<'_>,
+    found: &mut Findings,
+    key: &str,
+    others: &[&str],
+) -> Result<(), AllocError>
+    ensures { OnOk result (Adds (seen found.old) (seen found.new) (name_row place.now.properties.now place.now.front.now key.now (texts others.now))) }
+{
+    let key = joined(place.alloc, place.front, key)?;
+    match place.properties.get(key.as_str()) {
+        Some((value, line)) => check_known(found, line, &[value], others),
+        None => found.lacks(key),
+    }
+    Ok(())
+}
