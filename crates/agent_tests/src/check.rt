@@ -1,10 +1,11 @@
 // `check -n NAME -f FILE`, example by example.
+use crate::command_words::owned;
 use agent_run::run_agent;
 use host_memory::{MemDisk, MemHost, MemSink, MemSource, Named};
 use std::alloc::{AllocError, Global};
 use std::test::Fail;
 
-const WORKED: &str = "# example
+pub const WORKED: &str = "# example
 a1.sources = r1
 a1.channels = c1 c2
 a1.sinks = k1 k2
@@ -46,11 +47,7 @@ fn host_with(alloc: Global, text: &str, sink: MemSink) -> Result<MemHost, AllocE
 
 // What a run ends with: its status, what it printed and what it said.
 fn told(alloc: Global, words: &[&str], host: &mut MemHost) -> Result<String, Fail> {
-    let mut all = Vec::new(alloc);
-    for word in words {
-        all.push(String::from_str(alloc, word)?)?;
-    }
-    let outcome = run_agent(alloc, &all, host);
+    let outcome = run_agent(alloc, &owned(alloc, words)?, host);
     let mut text = format!(in alloc; "{} ", outcome.status)?;
     if let Some(sink) = host.output() {
         text.push_str(&String::from_utf8(sink.bytes().to_vec(alloc)?)?)?;
@@ -66,31 +63,46 @@ const USAGE: &str =
 
 const A1: [&str; 5] = ["check", "-n", "a1", "-f", "x.conf"];
 
+// The worked configuration with one part written otherwise, the words, and what is told.
+const COUNTED: [(&str, &str, &[&str], &str); 4] = [
+    (
+        "c2.type = file",
+        "c2.type = file",
+        &A1,
+        "0 a1: 1 sources, 2 channels, 2 sinks, 0 groups\n",
+    ),
+    (
+        "c2.type = file",
+        "c2.type = kafka",
+        &A1,
+        "2 flume: line 11: unknown type",
+    ),
+    (
+        "c2.type = file",
+        "c2.type = file",
+        &["check", "-n", "a2", "-f", "x.conf"],
+        "2 flume: no agent a2",
+    ),
+    (
+        "c2.type = file",
+        "c2.type = file",
+        &["check", "-n", "a1"],
+        USAGE,
+    ),
+];
+
 #[test]
 fn a_configuration_is_counted(rt: HostRuntime) -> Result<(), Fail> {
     let alloc = rt.alloc();
-    let mut first = host(alloc, WORKED)?;
-    assert_eq!(rt;
-        told(alloc, &A1, &mut first)?.as_str(),
-        "0 a1: 1 sources, 2 channels, 2 sinks, 0 groups\n"
-    );
-    let unknown = WORKED.replace(alloc, "c2.type = file", "c2.type = kafka")?;
-    let mut second = host(alloc, unknown.as_str())?;
-    assert_eq!(rt;
-        told(alloc, &A1, &mut second)?.as_str(),
-        "2 flume: line 11: unknown type"
-    );
-    let mut third = host(alloc, WORKED)?;
-    let a2 = ["check", "-n", "a2", "-f", "x.conf"];
-    assert_eq!(rt;
-        told(alloc, &a2, &mut third)?.as_str(),
-        "2 flume: no agent a2"
-    );
-    let mut fourth = host(alloc, WORKED)?;
-    assert_eq!(rt;
-        told(alloc, &["check", "-n", "a1"], &mut fourth)?.as_str(),
-        USAGE
-    );
+    for (from, to, words, want) in COUNTED {
+        let text = WORKED.replace(alloc, from, to)?;
+        let mut host = host(alloc, text.as_str())?;
+        assert_eq!(rt;
+            told(alloc, words, &mut host)?.as_str(),
+            want,
+            "{to} {words:?}"
+        );
+    }
     Ok(())
 }
 
@@ -128,24 +140,31 @@ fn faults_are_told(rt: HostRuntime) -> Result<(), Fail> {
     Ok(())
 }
 
+// The worked configuration, and a comment behind it up to this size.
+fn filled(alloc: Global, size: usize) -> Result<String, AllocError> {
+    let mut text = String::from_str(alloc, WORKED)?;
+    for _ in text.len()..size {
+        text.push('#')?;
+    }
+    Ok(text)
+}
+
+// Sizes of the file, and what is told.
+const SIZES: [(usize, &str); 2] = [
+    (
+        1_048_576,
+        "0 a1: 1 sources, 2 channels, 2 sinks, 0 groups\n",
+    ),
+    (1_048_577, "2 flume: configuration too large"),
+];
+
 #[test]
 fn a_file_too_large_or_unread(rt: HostRuntime) -> Result<(), Fail> {
     let alloc = rt.alloc();
-    let mut text = String::from_str(alloc, WORKED)?;
-    for _ in text.len()..1_048_576 {
-        text.push('#')?;
+    for (size, want) in SIZES {
+        let mut host = host(alloc, filled(alloc, size)?.as_str())?;
+        assert_eq!(rt; told(alloc, &A1, &mut host)?.as_str(), want, "{size}");
     }
-    let mut full = host(alloc, text.as_str())?;
-    assert_eq!(rt;
-        told(alloc, &A1, &mut full)?.as_str(),
-        "0 a1: 1 sources, 2 channels, 2 sinks, 0 groups\n"
-    );
-    text.push('#')?;
-    let mut larger = host(alloc, text.as_str())?;
-    assert_eq!(rt;
-        told(alloc, &A1, &mut larger)?.as_str(),
-        "2 flume: configuration too large"
-    );
     let mut failing = host(alloc, WORKED)?.failing_opens(vec![in alloc; 0]?);
     assert_eq!(rt;
         told(alloc, &A1, &mut failing)?.as_str(),
@@ -170,7 +189,7 @@ fn an_output_that_fails_is_a_fault(rt: HostRuntime) -> Result<(), Fail> {
         let (call, want) = *case;
         let sink = MemSink::new(alloc).failing_at(vec![in alloc; call]?);
         let mut host = host_with(alloc, WORKED, sink)?;
-        assert_eq!(rt; told(alloc, &A1, &mut host)?.as_str(), want);
+        assert_eq!(rt; told(alloc, &A1, &mut host)?.as_str(), want, "call {call}");
     }
     Ok(())
 }

@@ -1,23 +1,10 @@
 // Rolled files over a folder in memory.
-use event_core::{Batch, Event, Headers};
 use host_memory::MemRoll;
 use plug_in::{EventSink, SinkRefused};
 use roll_sink::RollSink;
 use std::alloc::Global;
 use std::test::Fail;
-
-fn batch(alloc: Global, bodies: &[&[u8]]) -> Result<Batch, Fail> {
-    let mut batch = Batch::new(alloc);
-    for body in bodies {
-        let Ok(event) = Event::new(Headers::new(alloc), body.to_vec(alloc)?) else {
-            return Err(Fail::from("no event"));
-        };
-        if batch.push(event).is_err() {
-            return Err(Fail::from("no room"));
-        }
-    }
-    Ok(batch)
-}
+use test_fixtures::batch;
 
 // The files as text: each name, a colon and its bytes.
 fn listing(alloc: Global, roll: &MemRoll) -> Result<Vec<u8>, Fail> {
@@ -120,28 +107,34 @@ const CASES: &[Case] = &[
     },
 ];
 
+// Which of the deliveries are refused.
+fn refused(
+    alloc: Global,
+    sink: &mut RollSink<MemRoll>,
+    deliveries: &[Delivery],
+) -> Result<Vec<usize>, Fail> {
+    let mut refused = Vec::new(alloc);
+    for (place, (moment, bodies)) in deliveries.iter().enumerate() {
+        match EventSink::deliver(sink, &batch(alloc, bodies)?, *moment) {
+            Ok(()) => {}
+            Err(SinkRefused::Refused) => refused.push(place)?,
+            Err(_) => return Err("refused otherwise")?,
+        }
+    }
+    Ok(refused)
+}
+
 #[test]
 fn files_are_cut_by_time_and_after_a_fault(rt: HostRuntime) -> Result<(), Fail> {
     let alloc = rt.alloc();
-    for case in CASES {
+    for (row, case) in CASES.iter().enumerate() {
         let folder = MemRoll::new(alloc).failing_at(case.fails.to_vec(alloc)?);
         let mut sink = RollSink::new(alloc, folder, case.interval);
-        for i in 0..case.deliveries.len() {
-            let (moment, bodies) = case.deliveries[i];
-            let answer = EventSink::deliver(&mut sink, &batch(alloc, bodies)?, moment);
-            let refused = case.refused.contains(&i);
-            assert!(rt;
-                answer
-                    == if refused {
-                        Err(SinkRefused::Refused)
-                    } else {
-                        Ok(())
-                    }
-            );
-        }
-        assert!(rt; sink.faults() == case.refused.len() as u64);
+        let found = refused(alloc, &mut sink, case.deliveries)?;
+        assert!(rt; found.as_slice() == case.refused, "row {row}");
+        assert!(rt; sink.faults() == case.refused.len() as u64, "row {row}");
         let text = listing(alloc, &sink.close())?;
-        assert!(rt; text.as_slice() == case.files);
+        assert!(rt; text.as_slice() == case.files, "row {row}");
     }
     Ok(())
 }

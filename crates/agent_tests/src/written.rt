@@ -1,6 +1,6 @@
 // `pipe DIR` on folders that were written before, and on what a stop leaves.
 use crate::left::left;
-use crate::pipe::{TWO_LINES, given_lines, host, only_line, run, written};
+use crate::pipe::{BEGUN, TWO_LINES, given_lines, host, is_piped, only_line, run};
 use flume_host::FileName;
 use host_memory::{DiskFault, MemDisk, MemFile, MemHost, Part, Stood};
 use std::alloc::{AllocError, Global};
@@ -12,9 +12,7 @@ const THIRD_LINE: &[u8] = b"FLUMELOG\x00\x01\x00\x01\x00\x00\x00\x02\
 \x04\x00\x00\x00\x00\x00\x00\x00\x03\x00\x00\x00\x00\x00\x00\x00\x02\x00\x00\x00\x01\x06\x00\x00\x00\x02\
 \x00";
 
-// A log file that an opening began.
-const BEGUN: &[u8] = b"FLUMELOG\x00\x01\x00\x01\x00\x00\x00\x01\x00";
-
+// The second log file, as an opening began it.
 const BEGUN_2: &[u8] = b"FLUMELOG\x00\x01\x00\x01\x00\x00\x00\x02\x00";
 
 // The folder as a stop leaves it at a moment.
@@ -47,35 +45,72 @@ fn file_of<'a>(host: &'a MemHost, name: FileName) -> Option<&'a [u8]> {
     }
 }
 
-#[test]
-fn lines_go_behind_those_of_an_earlier_run(rt: HostRuntime) -> Result<(), Fail> {
-    let alloc = rt.alloc();
-    let mut first = given(alloc, MemDisk::new(alloc), b"a\nb\n")?;
-    assert_eq!(rt; run(alloc, &["pipe", "d"], &mut first)?, (0, 2));
-    let mut second = given(alloc, as_is(&first)?, b"c\n")?;
-    assert_eq!(rt; run(alloc, &["pipe", "d"], &mut second)?, (0, 1));
-    assert_eq!(rt; written(&second), b"OK\n".as_slice());
-    assert_eq!(rt; second.said().len(), 0);
-    assert_eq!(rt; file_of(&second, FileName::Log(1)), Some(TWO_LINES));
-    assert_eq!(rt; file_of(&second, FileName::Log(2)), Some(THIRD_LINE));
-    assert_eq!(rt; THIRD_LINE.len(), 66);
-    assert_eq!(rt;
-        left(alloc, as_is(&second)?)?.as_slice(),
-        b"a\nb\nc\n".as_slice()
-    );
-    Ok(())
+// Lines on a new folder and then on what that run left; how each run ends, what the second answers, and what is then left.
+struct Rerun {
+    first: &'static [u8],
+    first_outcome: (u8, u64),
+    second: &'static [u8],
+    second_outcome: (u8, u64),
+    answers: &'static [u8],
+    logs: [&'static [u8]; 2],
+    left: &'static [u8],
+}
+
+const RERUNS: [Rerun; 2] = [
+    Rerun {
+        first: b"a\nb\n",
+        first_outcome: (0, 2),
+        second: b"c\n",
+        second_outcome: (0, 1),
+        answers: b"OK\n",
+        logs: [TWO_LINES, THIRD_LINE],
+        left: b"a\nb\nc\n",
+    },
+    Rerun {
+        first: b"",
+        first_outcome: (0, 0),
+        second: b"",
+        second_outcome: (0, 0),
+        answers: b"",
+        logs: [BEGUN, BEGUN_2],
+        left: b"",
+    },
+];
+
+// The host of the second run, on what the first left.
+fn second_host(alloc: Global, case: &Rerun) -> Result<MemHost, Fail> {
+    let mut first = given(alloc, MemDisk::new(alloc), case.first)?;
+    if run(alloc, &["pipe", "d"], &mut first)? != case.first_outcome {
+        return Err("the first run ended otherwise")?;
+    }
+    let host = given(alloc, as_is(&first)?, case.second)?;
+    Ok(host)
+}
+
+// Whether the folder has these first log files.
+fn has_logs(host: &MemHost, logs: &[&[u8]; 2]) -> bool {
+    file_of(host, FileName::Log(1)) == Some(logs[0])
+        && file_of(host, FileName::Log(2)) == Some(logs[1])
 }
 
 #[test]
-fn a_folder_without_lines_is_opened_again(rt: HostRuntime) -> Result<(), Fail> {
-    let alloc = rt.alloc();
-    let mut first = given(alloc, MemDisk::new(alloc), b"")?;
-    assert_eq!(rt; run(alloc, &["pipe", "d"], &mut first)?, (0, 0));
-    let mut second = given(alloc, as_is(&first)?, b"")?;
-    assert_eq!(rt; run(alloc, &["pipe", "d"], &mut second)?, (0, 0));
-    assert_eq!(rt; file_of(&second, FileName::Log(1)), Some(BEGUN));
-    assert_eq!(rt; file_of(&second, FileName::Log(2)), Some(BEGUN_2));
-    assert!(rt; left(alloc, as_is(&second)?)?.is_empty());
+fn lines_go_behind_those_of_an_earlier_run(rt: HostRuntime) -> Result<(), Fail> {
+    for case in &RERUNS {
+        let input = case.first;
+        let mut host = second_host(rt.alloc(), case)?;
+        assert!(rt;
+            is_piped(rt.alloc(), &mut host, case.second_outcome, case.answers)?,
+            "{input:?}"
+        );
+        assert_eq!(rt; host.said().len(), 0, "{input:?}");
+        assert!(rt; has_logs(&host, &case.logs), "{input:?}");
+        assert_eq!(rt;
+            left(rt.alloc(), as_is(&host)?)?.as_slice(),
+            case.left,
+            "{input:?}"
+        );
+    }
+    assert_eq!(rt; THIRD_LINE.len(), 66);
     Ok(())
 }
 
@@ -107,12 +142,10 @@ fn a_stop_leaves_a_line_or_not(rt: HostRuntime) -> Result<(), Fail> {
     assert_eq!(rt; run(alloc, &["pipe", "d"], &mut first)?, (0, 1));
     for (moment, stood, there) in STOPS.iter() {
         let mut second = given(alloc, stopped(&first, *moment, *stood)?, b"z\n")?;
-        assert_eq!(rt;
-            run(alloc, &["pipe", "d"], &mut second)?,
-            (0, 1),
+        assert!(rt;
+            is_piped(alloc, &mut second, (0, 1), b"OK\n")?,
             "moment {moment}"
         );
-        assert_eq!(rt; written(&second), b"OK\n".as_slice());
         let want: &[u8] = if *there { b"a\nz\n" } else { b"z\n" };
         assert_eq!(rt;
             left(alloc, as_is(&second)?)?.as_slice(),
@@ -123,26 +156,33 @@ fn a_stop_leaves_a_line_or_not(rt: HostRuntime) -> Result<(), Fail> {
     Ok(())
 }
 
+// What a stop leaves of two lines after this call of the disk failed, and ended the run with status 3.
+fn left_after_fault(alloc: Global, call: u64, stood: Stood) -> Result<Vec<u8>, Fail> {
+    let fault = DiskFault {
+        call,
+        part: Part::Front(1),
+    };
+    let disk = MemDisk::new(alloc).failing_at(vec![in alloc; fault]?);
+    let mut host = given(alloc, disk, b"a\nb\n")?;
+    let (status, _) = run(alloc, &["pipe", "d"], &mut host)?;
+    if status != 3 {
+        return Err("the run ended otherwise")?;
+    }
+    match host.disk("d") {
+        Some(disk) => left(alloc, disk.stopped_at(disk.moments(), &[stood])?),
+        None => Err("no folder")?,
+    }
+}
+
 // Each call of the disk fails in turn: what a stop then leaves has each line that was answered `OK`, and at most the one
 // that was in doubt besides.
 #[test]
 fn what_was_answered_is_left_after_a_fault(rt: HostRuntime) -> Result<(), Fail> {
-    let alloc = rt.alloc();
     for call in 7..15 {
+        let sure: &[u8] = if call < 11 { b"" } else { b"a\n" };
+        let more: &[u8] = if call < 11 { b"a\n" } else { b"a\nb\n" };
         for stood in [Stood::Old, Stood::New, Stood::Garbage(1)] {
-            let fault = DiskFault {
-                call,
-                part: Part::Front(1),
-            };
-            let disk = MemDisk::new(alloc).failing_at(vec![in alloc; fault]?);
-            let mut host = given(alloc, disk, b"a\nb\n")?;
-            let sure: &[u8] = if call < 11 { b"" } else { b"a\n" };
-            let more: &[u8] = if call < 11 { b"a\n" } else { b"a\nb\n" };
-            assert_eq!(rt; run(alloc, &["pipe", "d"], &mut host)?.0, 3, "call {call}");
-            let Some(moments) = host.disk("d").map(|disk| disk.moments()) else {
-                return Err("no folder")?;
-            };
-            let found = left(alloc, stopped(&host, moments, stood)?)?;
+            let found = left_after_fault(rt.alloc(), call, stood)?;
             assert!(rt;
                 found.as_slice() == sure || found.as_slice() == more,
                 "call {call}"
@@ -189,23 +229,35 @@ const FOLDERS: [Folder; 6] = [
     ),
 ];
 
+// A host on a folder with one file, with these lines.
+fn host_on_file(
+    alloc: Global,
+    name: FileName,
+    bytes: &[u8],
+    input: &[u8],
+) -> Result<MemHost, AllocError> {
+    let file = MemFile {
+        name,
+        bytes: bytes.to_vec(alloc)?,
+    };
+    given(
+        alloc,
+        MemDisk::with_files(alloc, vec![in alloc; file]?)?,
+        input,
+    )
+}
+
 #[test]
 fn a_folder_is_refused_for_what_it_holds(rt: HostRuntime) -> Result<(), Fail> {
     let alloc = rt.alloc();
     for (name, bytes, line) in FOLDERS.iter() {
-        let file = MemFile {
-            name: *name,
-            bytes: bytes.to_vec(alloc)?,
-        };
-        let disk = MemDisk::with_files(alloc, vec![in alloc; file]?)?;
-        let mut host = given(alloc, disk, b"a\n")?;
+        let mut host = host_on_file(alloc, *name, bytes, b"a\n")?;
         let (outcome, answers): ((u8, u64), &[u8]) = if line.is_empty() {
             ((0, 1), b"OK\n")
         } else {
             ((4, 0), b"")
         };
-        assert_eq!(rt; run(alloc, &["pipe", "d"], &mut host)?, outcome, "{line}");
-        assert_eq!(rt; written(&host), answers, "{line}");
+        assert!(rt; is_piped(alloc, &mut host, outcome, answers)?, "{line}");
         assert_eq!(rt; only_line(&host), *line);
         assert_eq!(rt; file_of(&host, *name), Some(*bytes), "{line}");
     }
@@ -227,17 +279,9 @@ const LAST_NUMBER: &[u8] = b"FLUMELOG\x00\x01\x00\x01\x00\x00\x00\x02\
 #[test]
 fn lines_are_refused_once_a_number_is_at_its_end(rt: HostRuntime) -> Result<(), Fail> {
     let alloc = rt.alloc();
-    let file = MemFile {
-        name: FileName::Log(1),
-        bytes: NUMBERS.to_vec(alloc)?,
-    };
-    let disk = MemDisk::with_files(alloc, vec![in alloc; file]?)?;
-    let mut host = given(alloc, disk, b"b\nc\nd\n")?;
-    assert_eq!(rt; run(alloc, &["pipe", "d"], &mut host)?, (0, 1));
-    assert_eq!(rt;
-        written(&host),
-        b"OK\nFAILED: channel refused\nFAILED: channel refused\n".as_slice()
-    );
+    let mut host = host_on_file(alloc, FileName::Log(1), NUMBERS, b"b\nc\nd\n")?;
+    let answers = b"OK\nFAILED: channel refused\nFAILED: channel refused\n";
+    assert!(rt; is_piped(alloc, &mut host, (0, 1), answers)?);
     assert_eq!(rt; host.said().len(), 0);
     assert_eq!(rt; file_of(&host, FileName::Log(2)), Some(LAST_NUMBER));
     Ok(())

@@ -12,6 +12,3 @@ pub use command::{Command, read_words};
 pub use error::RunError;
 pub use laws::one_asked;
 pub use reporting::report;
-
-#[cfg(test)]
-mod tests;

@@ -22,6 +22,3 @@ pub use write::{
     write_batch, write_bool, write_bytes, write_event, write_fixed, write_int, write_long,
     write_text,
 };
-
-#[cfg(test)]
-mod tests;

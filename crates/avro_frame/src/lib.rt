@@ -8,6 +8,3 @@ mod write;
 pub use packs::{Message, PackRefused, Packs, no_pack_within, one_cut, one_feed, one_pack};
 pub use pending::{MAX_BUFFERS, MAX_BYTES};
 pub use write::write_pack;
-
-#[cfg(test)]
-mod tests;

@@ -19,8 +19,3 @@ pub use laws::{
 };
 pub use protocol::protocol_text;
 pub use respond::{Status, write_response};
-
-#[cfg(test)]
-mod tests;
-#[cfg(test)]
-mod texts;

@@ -1,8 +1,7 @@
 // The dialogue of docs/FORMATS.md, byte for byte.
-ghost use Rattle.std.specs.Prelude.{◌≤◌, length, IfOk};
-
+use crate::handshakes::answered;
 use avro_frame::{Packs, write_pack};
-use avro_hop::{Asked, Hop, HopRefused, Status, protocol_text, write_response};
+use avro_hop::{Hop, HopRefused, Status, protocol_text};
 use std::alloc::Global;
 use std::test::Fail;
 
@@ -119,20 +118,6 @@ const APPEND_REPLIES: [(Status, [u8; 15]); 2] = [
     ),
 ];
 
-// The payload that answers a message, where this is the verdict on its events, and whether it has any.
-fn reply_to(hop: &mut Hop, message: &[u8], verdict: Status) -> Result<(Vec<u8>, bool), HopRefused>
-    ensures { IfOk result (λ found. length found.0.items ≤ 1_000) }
-{
-    match hop.answer(message)? {
-        Asked::Reply(payload) => Ok((payload, false)),
-        Asked::Events { front, batch: _ } => {
-            let mut payload = front;
-            write_response(verdict, &mut payload)?;
-            Ok((payload, true))
-        }
-    }
-}
-
 // What a server writes to a stream in pieces of this length with these verdicts, and why it ends.
 fn served(
     alloc: Global,
@@ -152,10 +137,10 @@ fn served(
         from = from.saturating_add(taken);
         if let Some(message) = found {
             let verdict = verdicts.get(told).copied().unwrap_or(Status::Unknown);
-            match reply_to(&mut hop, &message.payload, verdict) {
-                Ok((payload, waited)) => {
+            match answered(&mut hop, &message.payload, verdict) {
+                Ok((payload, events)) => {
                     write_pack(message.serial, &payload, &mut out)?;
-                    told = told.saturating_add(usize::from(waited));
+                    told = told.saturating_add(usize::from(events.is_some()));
                 }
                 Err(e) => return Ok((out, Some(e))),
             }

@@ -21,6 +21,3 @@ pub use named::Named;
 pub use parts::{MemFile, Part};
 pub use stops::Stood;
 pub use stream::{MemSink, MemSource};
-
-#[cfg(test)]
-mod tests;

@@ -5,8 +5,6 @@ mod fault;
 mod lines;
 mod pairs;
 mod table;
-#[cfg(test)]
-mod tests;
 mod utf8;
 
 pub use fault::PropRefused;

@@ -1,5 +1,7 @@
 // Packs in the layout of Avro's Java Netty transport.
-use super::*;
+use avro_frame::{
+    Message, PackRefused, Packs, no_pack_within, one_cut, one_feed, one_pack, write_pack,
+};
 use std::alloc::Global;
 use std::test::Fail;
 
@@ -101,12 +103,16 @@ fn cut_at_each_byte(rt: HostRuntime) -> Result<(), Fail> {
 }
 
 #[test]
-fn limits(rt: HostRuntime) -> Result<(), Fail> {
+fn what_passes_a_limit_is_refused_for_good(rt: HostRuntime) {
     for (piece, want) in TOO_GREAT {
         let mut packs = Packs::new(rt.alloc());
-        assert!(rt; packs.feed(piece) == Err(want));
-        assert!(rt; packs.feed(&APPEND) == Err(want));
+        assert!(rt; packs.feed(piece) == Err(want), "{want:?}");
+        assert!(rt; packs.feed(&APPEND) == Err(want), "{want:?}");
     }
+}
+
+#[test]
+fn the_greatest_counts_are_taken(rt: HostRuntime) -> Result<(), Fail> {
     let mut packs = Packs::new(rt.alloc());
     // 65,536 buffers of length 0
     assert!(rt; packs.feed(&[0, 0, 0, 1, 0, 1, 0, 0])? == (8, None));
@@ -120,7 +126,7 @@ fn limits(rt: HostRuntime) -> Result<(), Fail> {
 }
 
 #[test]
-fn writes_a_reply(rt: HostRuntime) -> Result<(), Fail> {
+fn a_reply_is_written(rt: HostRuntime) -> Result<(), Fail> {
     let mut reply = Vec::new(rt.alloc());
     write_pack(7, &[0, 0, 0], &mut reply)?;
     let want = [0u8, 0, 0, 7, 0, 0, 0, 1, 0, 0, 0, 3, 0, 0, 0];

@@ -1,4 +1,6 @@
-use crate::{PropRefused, Properties, read_properties};
+// Properties text, by the rules of its syntax.
+use crate::check::WORKED;
+use prop_text::{PropRefused, Properties, read_properties};
 use std::alloc::Global;
 use std::test::Fail;
 
@@ -92,29 +94,6 @@ fn places_of_no_text(rt: HostRuntime) -> Result<(), Fail> {
     assert_eq!(rt; told(rt.alloc(), b"\xff")?.as_str(), "byte 0: not UTF-8");
     Ok(())
 }
-
-const WORKED: &str = "# example
-a1.sources = r1
-a1.channels = c1 c2
-a1.sinks = k1 k2
-a1.sources.r1.type = netcat
-a1.sources.r1.bind = localhost
-a1.sources.r1.port = 44444
-a1.sources.r1.channels = c1 \\
-    c2
-a1.channels.c1.type = memory
-a1.channels.c2.type = file
-a1.channels.c2.dataDirs = data
-a1.sinks.k1.type = file_roll
-a1.sinks.k1.sink.directory = out
-a1.sinks.k1.channel = c1
-a1.sinks.k2.type = avro
-a1.sinks.k2.hostname = localhost
-a1.sinks.k2.port = 4545
-a1.sinks.k2.channel = c2
-a1.channels.c1.capacity = 1000
-a1.channels.c1.capacity = 200
-";
 
 /// A whole configuration: look-ups, the line of a continued pair, and the last of two equal keys.
 #[test]
