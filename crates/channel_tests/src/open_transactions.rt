@@ -52,8 +52,11 @@ fn ends(table: &mut OpenTable, txn: u64, takes: &[u64]) -> bool {
 const KINDS: [(u64, bool, bool); 3] = [(7, true, true), (7, false, false), (8, true, false)];
 
 // A number, and the least open transaction above it.
-const NEXT: [(Option<u64>, Option<u64>); 3] =
-    [(None, Some(3)), (Some(3), Some(7)), (Some(7), None)];
+const NEXT: [(Option<u64>, Option<u64>); 3] = [
+    (None, Some(3)),
+    (Some(3), Some(7)),
+    (Some(7), None),
+];
 
 #[test]
 fn a_transaction_has_its_own_list(rt: HostRuntime) -> Result<(), Fail> {
