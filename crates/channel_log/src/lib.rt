@@ -5,8 +5,6 @@ mod laws;
 mod loading;
 mod reader;
 mod scan;
-#[cfg(test)]
-mod tests;
 mod writer;
 
 pub use laws::{one_content, some_content};

@@ -44,8 +44,9 @@ pub fn leave(alloc: Global, files: &[WholeFile], want: &Want) -> Result<bool, Al
 }
 
 // Some log files, and what they leave.
+#[derive(Clone, Copy)]
 struct Case {
-    files: &'static [(u32, &'static [Piece])],
+    pieces: &'static [(u32, &'static [Piece])],
     want: Want,
 }
 
@@ -144,45 +145,45 @@ const LEFT: Want = Want::Left(&[(0, b"u"), (1, b"v")], 2, 8);
 
 const CASES: [Case; 16] = [
     Case {
-        files: &[],
+        pieces: &[],
         want: Want::Left(&[], 0, 1),
     },
     Case {
-        files: &[(1, &[BEGUN, CLOSED])],
+        pieces: &[(1, &[BEGUN, CLOSED])],
         want: Want::Left(&[], 0, 1),
     },
     Case {
-        files: &[(1, TWO), (2, THIRD)],
+        pieces: &[(1, TWO), (2, THIRD)],
         want: Want::Left(&[(0, b"a"), (1, b"b"), (2, b"c")], 3, 4),
     },
     Case {
-        files: &[(1, INTERLEAVED)],
+        pieces: &[(1, INTERLEAVED)],
         want: Want::Left(&[(0, b"y")], 2, 5),
     },
     Case {
-        files: &[(1, LEFT_OPEN)],
+        pieces: &[(1, LEFT_OPEN)],
         want: Want::Left(&[], 0, 8),
     },
     Case {
-        files: &[(1, LEFT_OPEN), (2, ROLLED)],
+        pieces: &[(1, LEFT_OPEN), (2, ROLLED)],
         want: LEFT,
     },
     Case {
-        files: &[(1, LEFT_OPEN), (2, REOPENED)],
+        pieces: &[(1, LEFT_OPEN), (2, REOPENED)],
         want: Want::Bad(2, 17),
     },
     Case {
-        files: &[(1, LEFT_OPEN), (2, BLANK), (3, ROLLED_THIRD)],
+        pieces: &[(1, LEFT_OPEN), (2, BLANK), (3, ROLLED_THIRD)],
         want: LEFT,
     },
     // one byte behind an open commit byte
     Case {
-        files: &[(1, &[BEGUN, OPEN, Piece::Garbage(1)])],
+        pieces: &[(1, &[BEGUN, OPEN, Piece::Garbage(1)])],
         want: Want::Bad(1, 16),
     },
     // END counts one record too many
     Case {
-        files: &[(
+        pieces: &[(
             1,
             &[
                 BEGUN,
@@ -197,7 +198,7 @@ const CASES: [Case; 16] = [
     },
     // a commit of a transaction that isn't open
     Case {
-        files: &[(
+        pieces: &[(
             1,
             &[
                 BEGUN,
@@ -211,17 +212,17 @@ const CASES: [Case; 16] = [
     },
     // 17 bytes count as empty, whatever they are
     Case {
-        files: &[(1, &[Piece::Garbage(17)])],
+        pieces: &[(1, &[Piece::Garbage(17)])],
         want: Want::Left(&[], 0, 1),
     },
     // the header of another number
     Case {
-        files: &[(3, THIRD)],
+        pieces: &[(3, THIRD)],
         want: Want::Bad(3, 0),
     },
     // a number that an open take holds
     Case {
-        files: &[(
+        pieces: &[(
             1,
             &[
                 BEGUN,
@@ -238,7 +239,7 @@ const CASES: [Case; 16] = [
     },
     // a transaction of puts takes
     Case {
-        files: &[(
+        pieces: &[(
             1,
             &[
                 BEGUN,
@@ -255,7 +256,7 @@ const CASES: [Case; 16] = [
     },
     // transaction numbers end at 2^64 - 2
     Case {
-        files: &[(
+        pieces: &[(
             1,
             &[
                 BEGUN,
@@ -273,9 +274,10 @@ const CASES: [Case; 16] = [
 #[test]
 fn log_files_leave_what_their_commits_say(rt: HostRuntime) -> Result<(), Fail> {
     let alloc = rt.alloc();
-    for case in CASES.iter() {
-        let files = files(alloc, case.files)?;
-        assert!(&rt; leave(alloc, &files, &case.want)?);
+    for row in 0..CASES.len() {
+        let Case { pieces, want } = CASES[row];
+        let files = files(alloc, pieces)?;
+        assert!(rt; leave(alloc, &files, &want)?, "row {row}");
     }
     Ok(())
 }
@@ -341,10 +343,10 @@ fn leaves(alloc: Global, bytes: Vec<u8>, want: Option<&Want>) -> Result<bool, Al
 fn a_file_is_cut_at_each_length(rt: HostRuntime) -> Result<(), Fail> {
     let alloc = rt.alloc();
     let whole = file(alloc, TWO)?;
-    assert!(&rt; whole.len() == 115);
+    assert!(rt; whole.len() == 115);
     for n in 0..116 {
         let bytes = whole[..n].to_vec(alloc)?;
-        assert!(&rt; leaves(alloc, bytes, want_at(&CUTS, n))?);
+        assert!(rt; leaves(alloc, bytes, want_at(&CUTS, n))?, "{n} bytes");
     }
     Ok(())
 }
@@ -354,9 +356,9 @@ fn each_byte_of_a_file_is_changed(rt: HostRuntime) -> Result<(), Fail> {
     let alloc = rt.alloc();
     for n in 0..115 {
         let mut bytes = file(alloc, TWO)?;
-        assert!(&rt; bytes.len() == 115);
+        assert!(rt; bytes.len() == 115);
         bytes[n] = 255;
-        assert!(&rt; leaves(alloc, bytes, want_at(&CHANGES, n))?);
+        assert!(rt; leaves(alloc, bytes, want_at(&CHANGES, n))?, "byte {n}");
     }
     Ok(())
 }

@@ -1,14 +1,13 @@
 // Folders that were written before, and what a channel that opens them answers and leaves.
 use crate::cases::LINES;
-use crate::opened::{Opened, open, reopen};
+use crate::opened::{channel_of, disk_failing_in_flush, open, reopen};
 use crate::reading::disk;
 use crate::spelled::{Piece, files};
-use crate::steps::{Said, Step, Tried, made};
-use channel_face::{Channel, Counter, Limits, OpenCause, PutTxn, Settled};
-use file_channel::FileChannel;
+use crate::steps::{Said, Step, Tried, Turn, answer};
+use channel_face::{Channel, Counter, Limits, OpenCause, Settled};
 use flume_host::FileName;
-use host_memory::{DiskFault, MemDisk, MemFile, Part};
-use std::alloc::Global;
+use host_memory::{MemDisk, MemFile};
+use std::alloc::{AllocError, Global};
 use std::test::Fail;
 
 const LIMITS: Limits = Limits {
@@ -31,7 +30,7 @@ const THIRD_LINE: &[u8] = b"FLUMELOG\x00\x01\x00\x01\x00\x00\x00\x02\
 \x04\x00\x00\x00\x00\x00\x00\x00\x03\x00\x00\x00\x00\x00\x00\x00\x02\x00\x00\x00\x01\x06\x00\x00\x00\x02\
 \x00";
 
-const PUT_TWO: [(Step, Said); 6] = [
+const PUT_TWO: [Turn; 6] = [
     (Step::BeginPut, Said::Token(1)),
     (Step::Put(1, b'a'), Said::Done),
     (Step::CommitPut(1), Said::First(0)),
@@ -40,7 +39,7 @@ const PUT_TWO: [(Step, Said); 6] = [
     (Step::CommitPut(2), Said::First(1)),
 ];
 
-const PUT_THIRD: [(Step, Said); 8] = [
+const PUT_THIRD: [Turn; 8] = [
     (Step::BeginPut, Said::Token(3)),
     (Step::Put(3, b'c'), Said::Done),
     (Step::CommitPut(3), Said::First(2)),
@@ -51,48 +50,150 @@ const PUT_THIRD: [(Step, Said); 8] = [
     (Step::Take(4), Said::NoEvent),
 ];
 
-fn opened(found: Opened) -> Result<FileChannel<MemDisk>, Fail> {
-    match found {
-        Ok(channel) => Ok(channel),
-        Err((_disk, _cause)) => Err("no channel")?,
+// Nothing is left of a file of 17 bytes.
+const NOTHING: [Turn; 1] = [(Step::Size, Said::Number(0))];
+
+// The last log file is begun, and its length passes the most for a file.
+const LAST: [Turn; 6] = [
+    (Step::BeginPut, Said::Token(1)),
+    (Step::Put(1, b'a'), Said::Done),
+    (Step::CommitPut(1), Said::First(0)),
+    (Step::BeginPut, Said::Token(2)),
+    (Step::Put(2, b'b'), Said::SpentFile),
+    (Step::Size, Said::Number(1)),
+];
+
+// What a log file has to hold.
+enum Holds {
+    Bytes(&'static [u8]),
+    // So many bytes.
+    Length(usize),
+}
+
+// An opening of a folder: the calls of the channel, and the log files after it was closed.
+struct Opening {
+    turns: &'static [Turn],
+    logs: &'static [(u32, Holds)],
+}
+
+// A folder with these log files, opened several times.
+struct Folder {
+    name: &'static str,
+    logs: &'static [(u32, &'static [Piece])],
+    limits: Limits,
+    openings: &'static [Opening],
+}
+
+const FOLDERS: [Folder; 3] = [
+    Folder {
+        name: "opened again",
+        logs: &[],
+        limits: LIMITS,
+        openings: &[
+            Opening {
+                turns: &PUT_TWO,
+                logs: &[(1, Holds::Bytes(TWO_LINES)), (1, Holds::Length(115))],
+            },
+            Opening {
+                turns: &PUT_THIRD,
+                logs: &[
+                    (1, Holds::Bytes(TWO_LINES)),
+                    (2, Holds::Bytes(THIRD_LINE)),
+                    (2, Holds::Length(66)),
+                ],
+            },
+        ],
+    },
+    Folder {
+        name: "a file of 17 bytes counts as empty",
+        logs: &[(1, &[Piece::Garbage(17)])],
+        limits: LIMITS,
+        openings: &[Opening {
+            turns: &NOTHING,
+            logs: &[(2, Holds::Length(17))],
+        }],
+    },
+    Folder {
+        name: "no log file is left",
+        logs: &[(u32::MAX - 1, &[Piece::Garbage(17)])],
+        limits: Limits {
+            capacity: 10,
+            txn_capacity: 10,
+            max_file: 66,
+        },
+        openings: &[Opening {
+            turns: &LAST,
+            logs: &[],
+        }],
+    },
+];
+
+// Whether the log file of this number holds this.
+fn log_holds(disk: &MemDisk, number: u32, want: &Holds) -> bool {
+    match (disk.file(FileName::Log(number)), want) {
+        (Some(found), Holds::Bytes(bytes)) => found == *bytes,
+        (Some(found), Holds::Length(length)) => found.len() == *length,
+        (None, _) => false,
     }
 }
 
-// Opens the folder, makes each call, and hands the folder back where each answered as the table has it.
-fn run(alloc: Global, disk: MemDisk, turns: &[(Step, Said)]) -> Result<MemDisk, Fail> {
-    let mut tried = Tried::new(opened(open(alloc, disk, LIMITS))?);
-    for (step, said) in turns.iter() {
-        if made(alloc, &mut tried, *step)? != *said {
-            return Err("another answer")?;
+// Opens the folder, makes each call, closes it and looks at its files.
+fn opens(
+    alloc: Global,
+    name: &str,
+    disk: MemDisk,
+    limits: Limits,
+    opening: &Opening,
+) -> Result<MemDisk, Fail> {
+    let mut tried = Tried::new(channel_of(open(alloc, disk, limits))?);
+    answer(alloc, name, &mut tried, opening.turns)?;
+    let Tried { channel, ticket: _ } = tried;
+    let disk = channel.close();
+    for (number, want) in opening.logs {
+        if !log_holds(&disk, *number, want) {
+            return Err(Fail::new(format_args!("{name}: log file {number}")));
         }
     }
-    let Tried { channel, ticket: _ } = tried;
-    Ok(channel.close())
+    Ok(disk)
 }
 
-#[test]
-fn a_folder_is_opened_again(rt: HostRuntime) -> Result<(), Fail> {
-    let alloc = rt.alloc();
-    let disk = run(alloc, MemDisk::new(alloc), &PUT_TWO)?;
-    assert!(rt; disk.file(FileName::Log(1)) == Some(TWO_LINES));
-    let disk = run(alloc, disk, &PUT_THIRD)?;
-    assert!(rt; disk.file(FileName::Log(1)) == Some(TWO_LINES) && TWO_LINES.len() == 115);
-    assert!(rt; disk.file(FileName::Log(2)) == Some(THIRD_LINE) && THIRD_LINE.len() == 66);
+fn opens_each_time(alloc: Global, folder: &Folder) -> Result<(), Fail> {
+    let mut disk = disk(alloc, &files(alloc, folder.logs)?)?;
+    for opening in folder.openings {
+        disk = opens(alloc, folder.name, disk, folder.limits, opening)?;
+    }
     Ok(())
 }
 
-// The log files of a folder, and why it is not opened.
-type Folder = (&'static [(u32, &'static [Piece])], OpenCause);
+#[test]
+fn folders_are_opened(rt: HostRuntime) -> Result<(), Fail> {
+    for folder in FOLDERS.iter() {
+        opens_each_time(rt.alloc(), folder)?;
+    }
+    Ok(())
+}
+
+// What stands in a folder that is not opened.
+#[derive(Clone, Copy)]
+enum Kept {
+    Logs(&'static [(u32, &'static [Piece])]),
+    // A checkpoint file of this number.
+    Check(u32, &'static [u8]),
+}
+
+// A folder, the capacity of the channel, and why it is not opened.
+type Refusal = (Kept, u32, OpenCause);
 
 const BEGUN: Piece = Piece::Header(1, 1, 1);
 
-const REFUSED: [Folder; 4] = [
+const REFUSED: [Refusal; 6] = [
     (
-        &[(1, &[BEGUN, Piece::Gate(1), Piece::Garbage(1)])],
+        Kept::Logs(&[(1, &[BEGUN, Piece::Gate(1), Piece::Garbage(1)])]),
+        10,
         OpenCause::BadLog { file: 1, at: 16 },
     ),
     (
-        &[(
+        Kept::Logs(&[(
             1,
             &[
                 BEGUN,
@@ -102,11 +203,12 @@ const REFUSED: [Folder; 4] = [
                 Piece::End(3),
                 Piece::Gate(0),
             ],
-        )],
+        )]),
+        10,
         OpenCause::BadLog { file: 1, at: 16 },
     ),
     (
-        &[(
+        Kept::Logs(&[(
             1,
             &[
                 BEGUN,
@@ -115,69 +217,62 @@ const REFUSED: [Folder; 4] = [
                 Piece::End(1),
                 Piece::Gate(0),
             ],
-        )],
+        )]),
+        10,
         OpenCause::BadLog { file: 1, at: 17 },
     ),
     (
-        &[(u32::MAX, &[Piece::Garbage(17)])],
+        Kept::Logs(&[(u32::MAX, &[Piece::Garbage(17)])]),
+        10,
         OpenCause::Spent {
             counter: Counter::File,
         },
     ),
+    (Kept::Logs(LINES), 1, OpenCause::OverCapacity { count: 2 }),
+    (
+        Kept::Check(3, b"x"),
+        10,
+        OpenCause::BadCheck { file: 3, at: 0 },
+    ),
 ];
 
+fn disk_of(alloc: Global, kept: Kept) -> Result<MemDisk, AllocError> {
+    match kept {
+        Kept::Logs(logs) => disk(alloc, &files(alloc, logs)?),
+        Kept::Check(number, bytes) => {
+            let check = MemFile {
+                name: FileName::Check(number),
+                bytes: bytes.to_vec(alloc)?,
+            };
+            MemDisk::with_files(alloc, vec![in alloc; check]?)
+        }
+    }
+}
+
 // Whether the folder is refused for this cause, and stays as it was.
-fn is_refused(alloc: Global, disk: MemDisk, limits: Limits, want: OpenCause) -> Result<bool, Fail> {
+fn is_refused(alloc: Global, disk: MemDisk, limits: Limits, want: OpenCause) -> bool {
     let calls = disk.moments();
     match open(alloc, disk, limits) {
-        Ok(_channel) => Ok(false),
+        Ok(_channel) => false,
         // the one call that is recorded is the settle
-        Err((disk, cause)) => Ok(cause == want && disk.moments() == calls.saturating_add(1)),
+        Err((disk, cause)) => cause == want && disk.moments() == calls.saturating_add(1),
     }
 }
 
 #[test]
 fn a_folder_is_refused_for_its_cause(rt: HostRuntime) -> Result<(), Fail> {
     let alloc = rt.alloc();
-    for (folder, cause) in REFUSED.iter() {
-        let disk = disk(alloc, &files(alloc, folder)?)?;
-        assert!(rt; is_refused(alloc, disk, LIMITS, *cause)?);
+    for row in 0..REFUSED.len() {
+        let (kept, capacity, cause) = REFUSED[row];
+        let limits = Limits { capacity, ..LIMITS };
+        let disk = disk_of(alloc, kept)?;
+        assert!(rt; is_refused(alloc, disk, limits, cause), "row {row}");
     }
-    let small = Limits {
-        capacity: 1,
-        ..LIMITS
-    };
-    let two = disk(alloc, &files(alloc, LINES)?)?;
-    assert!(rt; is_refused(alloc, two, small, OpenCause::OverCapacity { count: 2 })?);
-    let check = MemFile {
-        name: FileName::Check(3),
-        bytes: b"x".to_vec(alloc)?,
-    };
-    let checked = MemDisk::with_files(alloc, vec![in alloc; check]?)?;
-    assert!(rt;
-        is_refused(
-            alloc,
-            checked,
-            LIMITS,
-            OpenCause::BadCheck { file: 3, at: 0 }
-        )?
-    );
-    Ok(())
-}
-
-#[test]
-fn a_file_of_17_bytes_counts_as_empty(rt: HostRuntime) -> Result<(), Fail> {
-    let alloc = rt.alloc();
-    let blank: &[(u32, &[Piece])] = &[(1, &[Piece::Garbage(17)])];
-    let channel = opened(open(alloc, disk(alloc, &files(alloc, blank)?)?, LIMITS))?;
-    assert!(rt; channel.size() == 0);
-    let left = channel.close();
-    assert!(rt; left.file(FileName::Log(2)).map(|bytes| bytes.len()) == Some(17));
     Ok(())
 }
 
 // The second sync of a flush fails, after which the channel is opened anew.
-const FAILED: [(Step, Said); 7] = [
+const FAILED: [Turn; 7] = [
     (Step::BeginPut, Said::Token(1)),
     (Step::BeginPut, Said::Token(2)),
     (Step::Put(1, b'a'), Said::Done),
@@ -187,50 +282,20 @@ const FAILED: [(Step, Said); 7] = [
     (Step::Asked, Said::Is(Settled::InDoubt)),
 ];
 
-#[test]
-fn a_broken_channel_is_opened_anew(rt: HostRuntime) -> Result<(), Fail> {
-    let alloc = rt.alloc();
-    let whole = opened(open(alloc, MemDisk::new(alloc), LIMITS))?.close();
-    // the flush writes, syncs, writes and syncs
-    let fault = DiskFault {
-        call: whole.calls().saturating_add(3),
-        part: Part::Nothing,
-    };
-    let disk = MemDisk::new(alloc).failing_at(vec![in alloc; fault]?);
-    let mut tried = Tried::new(opened(open(alloc, disk, LIMITS))?);
-    for (step, said) in FAILED.iter() {
-        assert!(rt; made(alloc, &mut tried, *step)? == *said);
-    }
-    assert!(rt; reopen(&mut tried.channel).is_ok());
-    assert!(rt; tried.channel.size() <= 1 && !tried.channel.is_broken());
-    assert!(rt; tried.channel.settled(&tried.ticket) == Settled::InDoubt);
-    // the token of the open transaction is stale
-    assert!(rt; made(alloc, &mut tried, Step::Put(2, b'c'))? == Said::Stale);
-    assert!(rt; !tried.channel.rollback_put(PutTxn::new(1, 2)));
-    Ok(())
-}
-
-// The last log file is begun, and its length passes the most for a file.
-const LAST: [(Step, Said); 6] = [
-    (Step::BeginPut, Said::Token(1)),
-    (Step::Put(1, b'a'), Said::Done),
-    (Step::CommitPut(1), Said::First(0)),
-    (Step::BeginPut, Said::Token(2)),
-    (Step::Put(2, b'b'), Said::SpentFile),
-    (Step::Size, Said::Number(1)),
+// The token of the open transaction is stale then.
+const MENDED: [Turn; 3] = [
+    (Step::Asked, Said::Is(Settled::InDoubt)),
+    (Step::Put(2, b'c'), Said::Stale),
+    (Step::RollbackPut(2), Said::Ended(false)),
 ];
 
 #[test]
-fn no_log_file_is_left(rt: HostRuntime) -> Result<(), Fail> {
+fn a_broken_channel_is_opened_anew(rt: HostRuntime) -> Result<(), Fail> {
     let alloc = rt.alloc();
-    let blank: &[(u32, &[Piece])] = &[(u32::MAX - 1, &[Piece::Garbage(17)])];
-    let short = Limits {
-        max_file: 66,
-        ..LIMITS
-    };
-    let mut tried = Tried::new(opened(open(alloc, disk(alloc, &files(alloc, blank)?)?, short))?);
-    for (step, said) in LAST.iter() {
-        assert!(rt; made(alloc, &mut tried, *step)? == *said);
-    }
-    Ok(())
+    let disk = disk_failing_in_flush(alloc, LIMITS)?;
+    let mut tried = Tried::new(channel_of(open(alloc, disk, LIMITS))?);
+    answer(alloc, "broken", &mut tried, &FAILED)?;
+    assert!(rt; reopen(&mut tried.channel).is_ok());
+    assert!(rt; tried.channel.size() <= 1 && !tried.channel.is_broken());
+    answer(alloc, "mended", &mut tried, &MENDED)
 }

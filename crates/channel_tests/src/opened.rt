@@ -4,10 +4,11 @@ ghost use Rattle.std.specs.Prelude.{◌≡◌, ◌<◌};
 use channel_face::{Limits, OpenCause};
 use file_channel::{FileChannel, OpenRefused, open_channel};
 use flume_host::Steps;
-use host_memory::MemDisk;
+use host_memory::{DiskFault, MemDisk, Part};
 use std::alloc::Global;
 use std::marker::Brand;
 use std::sync::ledger::{Blank, Ledger};
+use std::test::Fail;
 
 /// What an opening answered; after a refusal with the disk.
 pub type Opened = Result<FileChannel<MemDisk>, (MemDisk, OpenCause)>;
@@ -41,4 +42,26 @@ fn reopen_by<L: Ledger>(blank: Blank, channel: &mut FileChannel<MemDisk>) -> Res
 /// Opens the folder of a channel anew.
 pub fn reopen(channel: &mut FileChannel<MemDisk>) -> Result<(), OpenCause> {
     reopen_by::<Brand>(Blank::new(1), channel)
+}
+
+/// The channel that was opened.
+pub fn channel_of(found: Opened) -> Result<FileChannel<MemDisk>, Fail> {
+    match found {
+        Ok(channel) => Ok(channel),
+        Err((_disk, _cause)) => Err(Fail::from("no channel")),
+    }
+}
+
+/// An empty folder's disk after an opening.
+pub fn disk_after_opening(alloc: Global, limits: Limits) -> Result<MemDisk, Fail> {
+    Ok(channel_of(open(alloc, MemDisk::new(alloc), limits))?.close())
+}
+
+/// An empty folder's disk, of which the second sync of the first flush fails. The flush writes, syncs, writes and syncs.
+pub fn disk_failing_in_flush(alloc: Global, limits: Limits) -> Result<MemDisk, Fail> {
+    let fault = DiskFault {
+        call: disk_after_opening(alloc, limits)?.calls().saturating_add(3),
+        part: Part::Nothing,
+    };
+    Ok(MemDisk::new(alloc).failing_at(vec![in alloc; fault]?))
 }

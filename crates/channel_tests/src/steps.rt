@@ -1,11 +1,12 @@
-// Calls of a channel as the rows of a table, each with what it says.
+// Calls of a channel as the rows of a table, each with what it answers.
 use channel_face::{
-    BeginRefused, Channel, CommitRefused, Counter, FlushRefused, PutRefused, PutTxn, Settled,
-    StageRefused, TakeRefused, TakeTxn, Taken, Ticket,
+    BeginRefused, Channel, CommitRefused, Counter, Counts, FlushRefused, PutRefused, PutTxn,
+    Settled, StageCause, StageRefused, TakeRefused, TakeTxn, Taken, Ticket,
 };
-use event_core::{Event, Headers};
+use event_core::{Event, EventRefused};
 use std::alloc::Global;
 use std::test::Fail;
+use test_fixtures::event;
 
 /// A call. Tokens are of the channel's first life, and named by the number of their transaction.
 #[derive(Clone, Copy)]
@@ -14,6 +15,8 @@ pub enum Step {
     BeginTake,
     /// An event of this one byte.
     Put(u64, u8),
+    /// An event of so many bytes.
+    PutBytes(u64, usize),
     Take(u64),
     StagePut(u64),
     StageTake(u64),
@@ -25,6 +28,18 @@ pub enum Step {
     /// What the ticket of the last stage or commit is.
     Asked,
     Size,
+    Capacity,
+    /// One of the counts of the channel.
+    Counted(Count),
+}
+
+/// Which of the counts of a channel.
+#[derive(Clone, Copy)]
+pub enum Count {
+    PutAttempts,
+    PutSuccesses,
+    TakeAttempts,
+    TakeSuccesses,
 }
 
 /// What a call answered.
@@ -51,6 +66,9 @@ pub enum Said {
     Other,
 }
 
+/// A call and what it answers.
+pub type Turn = (Step, Said);
+
 /// A channel, and the ticket of the last stage or commit.
 #[derive(Drop)]
 pub struct Tried<C: Drop> {
@@ -72,13 +90,6 @@ impl<C: Drop> Tried<C> {
     }
 }
 
-pub fn event_of(alloc: Global, body: Vec<u8>) -> Result<Event, Fail> {
-    match Event::new(Headers::new(alloc), body) {
-        Ok(event) => Ok(event),
-        Err(_) => Err("no event")?,
-    }
-}
-
 fn said_of_begin(reply: Result<(u64, u64), BeginRefused>) -> Said {
     match reply {
         Ok((_, number)) => Said::Token(number),
@@ -96,17 +107,14 @@ pub fn begin_put<C: Channel>(channel: &mut C) -> Said {
     })
 }
 
-pub fn begin_take<C: Channel>(channel: &mut C) -> Said {
+fn begin_take<C: Channel>(channel: &mut C) -> Said {
     said_of_begin(match channel.begin_take() {
         Ok(txn) => Ok(txn.into_numbers()),
         Err(refused) => Err(refused),
     })
 }
 
-pub fn put<C: Channel>(channel: &mut C, number: u64, event: &Event) -> Said {
-    let mut txn = PutTxn::new(1, number);
-    let reply = channel.put(&mut txn, event);
-    let _ended = txn.into_numbers();
+fn said_of_put(reply: Result<channel_face::Put, PutRefused>) -> Said {
     match reply {
         Ok(_) => Said::Done,
         Err(PutRefused::Stale) => Said::Stale,
@@ -124,6 +132,26 @@ pub fn put<C: Channel>(channel: &mut C, number: u64, event: &Event) -> Said {
     }
 }
 
+fn put<C: Channel>(channel: &mut C, number: u64, event: &Event) -> Said {
+    let mut txn = PutTxn::new(1, number);
+    let reply = channel.put(&mut txn, event);
+    let _ended = txn.into_numbers();
+    said_of_put(reply)
+}
+
+// Puts an event of a byte so many times.
+fn put_bytes<C: Channel>(
+    alloc: Global,
+    channel: &mut C,
+    number: u64,
+    byte: u8,
+    size: usize,
+) -> Result<Said, EventRefused> {
+    let body = vec![in alloc; byte; size]?;
+    let event = event(alloc, &body)?;
+    Ok(put(channel, number, &event))
+}
+
 fn said_of_event(event: Option<Event>) -> Said {
     match event {
         Some(event) => match event.body().first() {
@@ -134,10 +162,7 @@ fn said_of_event(event: Option<Event>) -> Said {
     }
 }
 
-pub fn take<C: Channel>(channel: &mut C, number: u64) -> Said {
-    let mut txn = TakeTxn::new(1, number);
-    let reply = channel.take(&mut txn);
-    let _ended = txn.into_numbers();
+fn said_of_take(reply: Result<Taken, TakeRefused>) -> Said {
     match reply {
         Ok(Taken { event, spilled: _ }) => said_of_event(event),
         Err(TakeRefused::Stale) => Said::Stale,
@@ -153,35 +178,54 @@ pub fn take<C: Channel>(channel: &mut C, number: u64) -> Said {
     }
 }
 
-// The token of a stage that was refused ends.
-fn put_ticket(reply: Result<Ticket, StageRefused<PutTxn>>) -> Option<Ticket> {
-    match reply {
-        Ok(ticket) => Some(ticket),
-        Err(StageRefused { txn, cause: _ }) => {
-            let _ended = txn.into_numbers();
-            None
-        }
+fn take<C: Channel>(channel: &mut C, number: u64) -> Said {
+    let mut txn = TakeTxn::new(1, number);
+    let reply = channel.take(&mut txn);
+    let _ended = txn.into_numbers();
+    said_of_take(reply)
+}
+
+fn said_of_stage(cause: StageCause) -> Said {
+    match cause {
+        StageCause::Stale => Said::Stale,
+        StageCause::Broken => Said::Broken,
+        StageCause::Full { count } => Said::Full(count),
+        StageCause::Spent { .. } => Said::Other,
     }
 }
 
-fn take_ticket(reply: Result<Ticket, StageRefused<TakeTxn>>) -> Option<Ticket> {
-    match reply {
-        Ok(ticket) => Some(ticket),
-        Err(StageRefused { txn, cause: _ }) => {
-            let _ended = txn.into_numbers();
-            None
-        }
+// What was said in place of a ticket. The token of a stage that was refused ends.
+fn put_not_staged(refused: StageRefused<PutTxn>) -> Said {
+    let StageRefused { txn, cause } = refused;
+    let _ended = txn.into_numbers();
+    said_of_stage(cause)
+}
+
+fn take_not_staged(refused: StageRefused<TakeTxn>) -> Said {
+    let StageRefused { txn, cause } = refused;
+    let _ended = txn.into_numbers();
+    said_of_stage(cause)
+}
+
+// The ticket, or what was said in its place.
+fn stage_put<C: Channel>(channel: &mut C, number: u64) -> Result<Ticket, Said> {
+    match channel.stage_put(PutTxn::new(1, number)) {
+        Ok(ticket) => Ok(ticket),
+        Err(refused) => Err(put_not_staged(refused)),
     }
 }
 
-// The ticket of a commit, or what was said in its place.
+fn stage_take<C: Channel>(channel: &mut C, number: u64) -> Result<Ticket, Said> {
+    match channel.stage_take(TakeTxn::new(1, number)) {
+        Ok(ticket) => Ok(ticket),
+        Err(refused) => Err(take_not_staged(refused)),
+    }
+}
+
 fn commit_put<C: Channel>(channel: &mut C, number: u64) -> Result<Ticket, Said> {
     match channel.commit_put(PutTxn::new(1, number)) {
         Ok(ticket) => Ok(ticket),
-        Err(CommitRefused::Stage(refused)) => {
-            let _none = put_ticket(Err(refused));
-            Err(Said::Other)
-        }
+        Err(CommitRefused::Stage(refused)) => Err(put_not_staged(refused)),
         Err(CommitRefused::InDoubt) => Err(Said::InDoubt),
     }
 }
@@ -189,10 +233,7 @@ fn commit_put<C: Channel>(channel: &mut C, number: u64) -> Result<Ticket, Said> 
 fn commit_take<C: Channel>(channel: &mut C, number: u64) -> Result<Ticket, Said> {
     match channel.commit_take(TakeTxn::new(1, number)) {
         Ok(ticket) => Ok(ticket),
-        Err(CommitRefused::Stage(refused)) => {
-            let _none = take_ticket(Err(refused));
-            Err(Said::Other)
-        }
+        Err(CommitRefused::Stage(refused)) => Err(take_not_staged(refused)),
         Err(CommitRefused::InDoubt) => Err(Said::InDoubt),
     }
 }
@@ -206,62 +247,66 @@ fn said_of_flush(reply: Result<(), FlushRefused>) -> Said {
     }
 }
 
-// Keeps a ticket, and says its first number.
-fn keep<C: Channel + Drop>(tried: &mut Tried<C>, ticket: Option<Ticket>) -> Said {
-    match ticket {
-        Some(ticket) => {
-            tried.ticket = ticket;
-            Said::First(ticket.first)
-        }
-        None => Said::Stale,
+fn count_of(counts: &Counts, count: Count) -> u64 {
+    match count {
+        Count::PutAttempts => counts.put_attempts,
+        Count::PutSuccesses => counts.put_successes,
+        Count::TakeAttempts => counts.take_attempts,
+        Count::TakeSuccesses => counts.take_successes,
     }
 }
 
-fn commit<C: Channel + Drop>(tried: &mut Tried<C>, ticket: Result<Ticket, Said>) -> Said {
+// Keeps a ticket, and says its first number.
+fn keep(kept: &mut Ticket, ticket: Result<Ticket, Said>) -> Said {
     match ticket {
-        Ok(ticket) => keep(tried, Some(ticket)),
+        Ok(ticket) => {
+            *kept = ticket;
+            Said::First(ticket.first)
+        }
         Err(said) => said,
     }
 }
 
-/// Makes a call.
-pub fn made<C: Channel + Drop>(
+// Makes a call.
+fn made<C: Channel + Drop>(
     alloc: Global,
     tried: &mut Tried<C>,
     step: Step,
-) -> Result<Said, Fail> {
+) -> Result<Said, EventRefused> {
+    let Tried { channel, ticket } = tried;
     Ok(match step {
-        Step::BeginPut => begin_put(&mut tried.channel),
-        Step::BeginTake => begin_take(&mut tried.channel),
-        Step::Put(number, byte) => {
-            let event = event_of(alloc, [byte].to_vec(alloc)?)?;
-            put(&mut tried.channel, number, &event)
-        }
-        Step::Take(number) => take(&mut tried.channel, number),
-        Step::StagePut(number) => {
-            let ticket = put_ticket(tried.channel.stage_put(PutTxn::new(1, number)));
-            keep(tried, ticket)
-        }
-        Step::StageTake(number) => {
-            let ticket = take_ticket(tried.channel.stage_take(TakeTxn::new(1, number)));
-            keep(tried, ticket)
-        }
-        Step::CommitPut(number) => {
-            let ticket = commit_put(&mut tried.channel, number);
-            commit(tried, ticket)
-        }
-        Step::CommitTake(number) => {
-            let ticket = commit_take(&mut tried.channel, number);
-            commit(tried, ticket)
-        }
-        Step::RollbackPut(number) => {
-            Said::Ended(tried.channel.rollback_put(PutTxn::new(1, number)))
-        }
-        Step::RollbackTake(number) => {
-            Said::Ended(tried.channel.rollback_take(TakeTxn::new(1, number)))
-        }
-        Step::Flush => said_of_flush(tried.channel.flush()),
-        Step::Asked => Said::Is(tried.channel.settled(&tried.ticket)),
-        Step::Size => Said::Number(tried.channel.size()),
+        Step::BeginPut => begin_put(channel),
+        Step::BeginTake => begin_take(channel),
+        Step::Put(number, byte) => return put_bytes(alloc, channel, number, byte, 1),
+        Step::PutBytes(number, size) => return put_bytes(alloc, channel, number, b'a', size),
+        Step::Take(number) => take(channel, number),
+        Step::StagePut(number) => keep(ticket, stage_put(channel, number)),
+        Step::StageTake(number) => keep(ticket, stage_take(channel, number)),
+        Step::CommitPut(number) => keep(ticket, commit_put(channel, number)),
+        Step::CommitTake(number) => keep(ticket, commit_take(channel, number)),
+        Step::RollbackPut(number) => Said::Ended(channel.rollback_put(PutTxn::new(1, number))),
+        Step::RollbackTake(number) => Said::Ended(channel.rollback_take(TakeTxn::new(1, number))),
+        Step::Flush => said_of_flush(channel.flush()),
+        Step::Asked => Said::Is(channel.settled(ticket)),
+        Step::Size => Said::Number(channel.size()),
+        Step::Capacity => Said::Number(channel.capacity()),
+        Step::Counted(count) => Said::Number(count_of(&channel.counts(), count)),
     })
+}
+
+/// Makes each call, up to the first that does not answer as its row has it.
+pub fn answer<C: Channel + Drop>(
+    alloc: Global,
+    name: &str,
+    tried: &mut Tried<C>,
+    turns: &[Turn],
+) -> Result<(), Fail> {
+    for row in 0..turns.len() {
+        let (step, want) = turns[row];
+        let said = made(alloc, tried, step)?;
+        if said != want {
+            return Err(Fail::new(format_args!("{name}, row {row}: {said:?}")));
+        }
+    }
+    Ok(())
 }

@@ -7,12 +7,13 @@ ghost use Rattle.host_memory.specs.Words.{told_in};
 use crate::cases::{FIRST, NONE, Want, leave};
 use channel_log::LogWriter;
 use channel_replay::WholeFile;
-use event_core::{Event, Headers};
+use event_core::Event;
 use flume_host::FileName;
 use host_memory::{MemDisk, Stood};
 use record_form::Rec;
 use std::alloc::{AllocError, Global};
 use std::test::Fail;
+use test_fixtures::event;
 
 // Begins log file 1 and flushes a frame: an event's PUT and its commit.
 fn flush_one(alloc: Global, disk: &mut MemDisk, event: &Event) -> bool
@@ -71,16 +72,13 @@ fn leaves(alloc: Global, disk: &MemDisk, stop: &Stop) -> Result<bool, AllocError
 #[test]
 fn a_stop_leaves_the_frame_or_not(rt: HostRuntime) -> Result<(), Fail> {
     let alloc = rt.alloc();
-    let body = b"a".to_vec(alloc)?;
-    let Ok(event) = Event::new(Headers::new(alloc), body) else {
-        return Err("no event")?;
-    };
-    assert!(&rt; event.size() == 9);
+    let event = event(alloc, b"a")?;
+    assert!(rt; event.size() == 9);
     let mut disk = MemDisk::new(alloc);
-    assert!(&rt; flush_one(alloc, &mut disk, &event));
-    assert!(&rt; disk.moments() == 7);
-    for stop in STOPS.iter() {
-        assert!(&rt; leaves(alloc, &disk, stop)?);
+    assert!(rt; flush_one(alloc, &mut disk, &event));
+    assert!(rt; disk.moments() == 7);
+    for row in 0..STOPS.len() {
+        assert!(rt; leaves(alloc, &disk, &STOPS[row])?, "row {row}");
     }
     Ok(())
 }

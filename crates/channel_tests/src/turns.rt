@@ -1,15 +1,13 @@
 // Worked examples of channels: the plain one, the one in memory and the one on a disk.
-use crate::opened::open;
-use crate::steps::{Said, Step, Tried, begin_put, event_of, made, put};
+use crate::opened::{channel_of, disk_failing_in_flush, open};
+use crate::steps::{Count, Said, Step, Tried, Turn, answer, begin_put};
 use channel_face::{Channel, Kind, Limits, Settled};
-use file_channel::FileChannel;
-use host_memory::{DiskFault, MemDisk, Part};
+use event_core::Entry;
+use host_memory::MemDisk;
 use memory_channel::MemoryChannel;
 use std::alloc::Global;
 use std::test::Fail;
 use txn_core::Machine;
-
-type Turn = (Step, Said);
 
 // A full channel, until a taker has committed.
 const FULL: [Turn; 12] = [
@@ -28,7 +26,7 @@ const FULL: [Turn; 12] = [
 ];
 
 // Two transactions that commit the other way round, and two takers that roll back the other way round.
-const TURNED: [Turn; 20] = [
+const TURNED: [Turn; 25] = [
     (Step::BeginPut, Said::Token(1)),
     (Step::BeginPut, Said::Token(2)),
     (Step::Put(1, b'x'), Said::Done),
@@ -49,6 +47,11 @@ const TURNED: [Turn; 20] = [
     (Step::Take(5), Said::Event(b'x')),
     (Step::CommitTake(5), Said::First(0)),
     (Step::Size, Said::Number(0)),
+    (Step::Capacity, Said::Number(10)),
+    (Step::Counted(Count::PutAttempts), Said::Number(2)),
+    (Step::Counted(Count::PutSuccesses), Said::Number(2)),
+    (Step::Counted(Count::TakeAttempts), Said::Number(6)),
+    (Step::Counted(Count::TakeSuccesses), Said::Number(2)),
 ];
 
 // The second sync of a flush fails: the commit is in doubt, and the channel is broken.
@@ -77,82 +80,224 @@ const STAGED: [Turn; 7] = [
     (Step::Put(1, b'a'), Said::Stale),
 ];
 
-fn limits(capacity: u32, txn_capacity: u32) -> Limits {
-    Limits {
-        capacity,
-        txn_capacity,
-        max_file: 1_000_000,
-    }
+// An event has at most 1,048,576 bytes, eight of which are not its body's.
+const LARGE: [Turn; 3] = [
+    (Step::BeginPut, Said::Token(1)),
+    (Step::PutBytes(1, 1_048_568), Said::Done),
+    (Step::PutBytes(1, 1_048_569), Said::TooLarge(1_048_577)),
+];
+
+// A batch that passes the capacity is not staged.
+const BATCHES: [Turn; 26] = [
+    (Step::BeginPut, Said::Token(1)),
+    (Step::Put(1, b'a'), Said::Done),
+    (Step::Put(1, b'b'), Said::Done),
+    (Step::Put(1, b'c'), Said::Done),
+    (Step::CommitPut(1), Said::Full(0)),
+    (Step::RollbackPut(1), Said::Ended(true)),
+    (Step::BeginPut, Said::Token(2)),
+    (Step::Put(2, b'y'), Said::Done),
+    (Step::CommitPut(2), Said::First(0)),
+    (Step::BeginPut, Said::Token(3)),
+    (Step::Put(3, b'b'), Said::Done),
+    (Step::Put(3, b'c'), Said::Done),
+    (Step::CommitPut(3), Said::Full(1)),
+    (Step::RollbackPut(3), Said::Ended(true)),
+    (Step::BeginPut, Said::Token(4)),
+    (Step::Put(4, b'x'), Said::Done),
+    (Step::CommitPut(4), Said::First(1)),
+    (Step::BeginPut, Said::Token(5)),
+    (Step::CommitPut(5), Said::First(2)),
+    (Step::BeginTake, Said::Token(6)),
+    (Step::Take(6), Said::Event(b'y')),
+    (Step::Take(6), Said::Event(b'x')),
+    (Step::Take(6), Said::NoEvent),
+    (Step::RollbackTake(6), Said::Ended(true)),
+    (Step::Size, Said::Number(2)),
+    (Step::Counted(Count::PutAttempts), Said::Number(7)),
+];
+
+// What a channel keeps its events in.
+#[derive(Clone, Copy)]
+enum Over {
+    // The plain channel, with the cases of this kind.
+    Plain(Kind),
+    Memory,
+    Disk,
+    // A disk of which the second sync of the first flush fails.
+    FailingDisk,
 }
 
-// A channel in a folder that holds nothing.
-fn on_disk(alloc: Global, disk: MemDisk, limits: Limits) -> Result<FileChannel<MemDisk>, Fail> {
-    match open(alloc, disk, limits) {
-        Ok(channel) => Ok(channel),
-        Err((_disk, _cause)) => Err("no channel")?,
-    }
+struct Example {
+    name: &'static str,
+    over: Over,
+    limits: Limits,
+    turns: &'static [Turn],
 }
 
-// Makes each call, and says whether each answered as the table has it.
-fn all_said<C: Channel + Drop>(alloc: Global, channel: C, turns: &[Turn]) -> Result<bool, Fail> {
-    let mut tried = Tried::new(channel);
-    for (step, said) in turns.iter() {
-        if made(alloc, &mut tried, *step)? != *said {
-            return Ok(false);
+const TEN: Limits = Limits {
+    capacity: 10,
+    txn_capacity: 10,
+    max_file: 1_000_000,
+};
+
+// With room for two events.
+const TWO: Limits = Limits {
+    capacity: 2,
+    txn_capacity: 10,
+    max_file: 1_000_000,
+};
+
+// So with files of at most 1,000 bytes.
+const TEN_SHORT: Limits = Limits {
+    capacity: 10,
+    txn_capacity: 10,
+    max_file: 1000,
+};
+
+const TWO_SHORT: Limits = Limits {
+    capacity: 2,
+    txn_capacity: 10,
+    max_file: 1000,
+};
+
+// With more puts in a transaction than there is room for.
+const TWO_OF_THREE: Limits = Limits {
+    capacity: 2,
+    txn_capacity: 3,
+    max_file: 0,
+};
+
+const EXAMPLES: [Example; 13] = [
+    Example {
+        name: "a full channel, plain",
+        over: Over::Plain(Kind::File),
+        limits: TWO,
+        turns: &FULL,
+    },
+    Example {
+        name: "a full channel, plain, short files",
+        over: Over::Plain(Kind::File),
+        limits: TWO_SHORT,
+        turns: &FULL,
+    },
+    Example {
+        name: "a full channel, on a disk",
+        over: Over::Disk,
+        limits: TWO,
+        turns: &FULL,
+    },
+    Example {
+        name: "commits in turn, plain",
+        over: Over::Plain(Kind::File),
+        limits: TEN,
+        turns: &TURNED,
+    },
+    Example {
+        name: "commits in turn, plain as in memory",
+        over: Over::Plain(Kind::Memory),
+        limits: TEN,
+        turns: &TURNED,
+    },
+    Example {
+        name: "commits in turn, in memory",
+        over: Over::Memory,
+        limits: TEN,
+        turns: &TURNED,
+    },
+    Example {
+        name: "commits in turn, on a disk",
+        over: Over::Disk,
+        limits: TEN,
+        turns: &TURNED,
+    },
+    Example {
+        name: "commits in turn, plain, short files",
+        over: Over::Plain(Kind::File),
+        limits: TEN_SHORT,
+        turns: &TURNED,
+    },
+    Example {
+        name: "commits in turn, plain as in memory, short files",
+        over: Over::Plain(Kind::Memory),
+        limits: TEN_SHORT,
+        turns: &TURNED,
+    },
+    Example {
+        name: "a commit in doubt",
+        over: Over::FailingDisk,
+        limits: TEN,
+        turns: &FAILED,
+    },
+    Example {
+        name: "a flush in doubt",
+        over: Over::FailingDisk,
+        limits: TEN,
+        turns: &STAGED,
+    },
+    Example {
+        name: "an event's size",
+        over: Over::Disk,
+        limits: TEN,
+        turns: &LARGE,
+    },
+    Example {
+        name: "batches over the capacity, in memory",
+        over: Over::Memory,
+        limits: TWO_OF_THREE,
+        turns: &BATCHES,
+    },
+];
+
+// Whether a channel answers as the example has it.
+fn answers<C: Channel + Drop>(alloc: Global, example: &Example, channel: C) -> Result<(), Fail> {
+    answer(alloc, example.name, &mut Tried::new(channel), example.turns)
+}
+
+fn works(alloc: Global, example: &Example) -> Result<(), Fail> {
+    let limits = example.limits;
+    match example.over {
+        Over::Plain(kind) => answers(alloc, example, Machine::new(alloc, limits, kind)?),
+        Over::Memory => answers(alloc, example, MemoryChannel::new(alloc, limits)?),
+        Over::Disk => {
+            let disk = MemDisk::new(alloc);
+            answers(alloc, example, channel_of(open(alloc, disk, limits))?)
+        }
+        Over::FailingDisk => {
+            let disk = disk_failing_in_flush(alloc, limits)?;
+            answers(alloc, example, channel_of(open(alloc, disk, limits))?)
         }
     }
-    Ok(true)
 }
 
 #[test]
-fn a_full_channel_refuses_puts(rt: HostRuntime) -> Result<(), Fail> {
-    let alloc = rt.alloc();
-    let limits = limits(2, 10);
-    assert!(rt; all_said(alloc, Machine::new(alloc, limits, Kind::File)?, &FULL)?);
-    assert!(rt; all_said(alloc, on_disk(alloc, MemDisk::new(alloc), limits)?, &FULL)?);
-    Ok(())
-}
-
-#[test]
-fn transactions_are_in_the_order_of_their_commits(rt: HostRuntime) -> Result<(), Fail> {
-    let alloc = rt.alloc();
-    let limits = limits(10, 10);
-    assert!(rt; all_said(alloc, Machine::new(alloc, limits, Kind::File)?, &TURNED)?);
-    assert!(rt; all_said(alloc, Machine::new(alloc, limits, Kind::Memory)?, &TURNED)?);
-    assert!(rt; all_said(alloc, MemoryChannel::new(alloc, limits)?, &TURNED)?);
-    assert!(rt; all_said(alloc, on_disk(alloc, MemDisk::new(alloc), limits)?, &TURNED)?);
-    Ok(())
-}
-
-#[test]
-fn a_failed_sync_breaks_the_channel(rt: HostRuntime) -> Result<(), Fail> {
-    let alloc = rt.alloc();
-    let calls = on_disk(alloc, MemDisk::new(alloc), limits(10, 10))?
-        .close()
-        .calls();
-    for turns in [FAILED.as_slice(), STAGED.as_slice()] {
-        // the flush writes, syncs, writes and syncs
-        let fault = DiskFault {
-            call: calls.saturating_add(3),
-            part: Part::Nothing,
-        };
-        let disk = MemDisk::new(alloc).failing_at(vec![in alloc; fault]?);
-        assert!(rt; all_said(alloc, on_disk(alloc, disk, limits(10, 10))?, turns)?);
+fn channels_answer_as_worked_out(rt: HostRuntime) -> Result<(), Fail> {
+    for example in EXAMPLES.iter() {
+        works(rt.alloc(), example)?;
     }
     Ok(())
 }
 
+// Whether these are two transactions of puts, the first of one event, and one that takes both.
+fn are_two_and_their_takes(journal: &[Entry]) -> bool {
+    match journal {
+        [Entry::Puts(first), Entry::Puts(_), Entry::Takes(taken)] => {
+            first.len() == 1 && taken.as_slice() == [0, 1].as_slice()
+        }
+        _ => false,
+    }
+}
+
 #[test]
-fn an_event_has_at_most_so_many_bytes(rt: HostRuntime) -> Result<(), Fail> {
+fn the_plain_channel_keeps_a_journal(rt: HostRuntime) -> Result<(), Fail> {
     let alloc = rt.alloc();
-    let mut channel = on_disk(alloc, MemDisk::new(alloc), limits(10, 10))?;
-    assert!(rt; begin_put(&mut channel) == Said::Token(1));
-    for (size, said) in [
-        (1_048_568, Said::Done),
-        (1_048_569, Said::TooLarge(1_048_577)),
-    ] {
-        let event = event_of(alloc, vec![in alloc; b'a'; size]?)?;
-        assert!(rt; put(&mut channel, 1, &event) == said);
+    for kind in [Kind::File, Kind::Memory] {
+        let mut tried = Tried::new(Machine::new(alloc, TEN_SHORT, kind)?);
+        answer(alloc, "a journal", &mut tried, &TURNED)?;
+        assert!(rt;
+            are_two_and_their_takes(tried.channel.journal()),
+            "{kind:?}"
+        );
     }
     Ok(())
 }
@@ -160,9 +305,14 @@ fn an_event_has_at_most_so_many_bytes(rt: HostRuntime) -> Result<(), Fail> {
 #[test]
 fn so_many_transactions_may_be_open(rt: HostRuntime) -> Result<(), Fail> {
     let alloc = rt.alloc();
-    let mut channel = on_disk(alloc, MemDisk::new(alloc), limits(10, 1))?;
+    let limits = Limits {
+        capacity: 10,
+        txn_capacity: 1,
+        max_file: 1_000_000,
+    };
+    let mut channel = channel_of(open(alloc, MemDisk::new(alloc), limits))?;
     for number in 1..=1024 {
-        assert!(rt; begin_put(&mut channel) == Said::Token(number));
+        assert!(rt; begin_put(&mut channel) == Said::Token(number), "{number}");
     }
     assert!(rt; begin_put(&mut channel) == Said::TooManyOpen(1024));
     Ok(())

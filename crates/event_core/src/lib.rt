@@ -10,6 +10,3 @@ pub use event::{Event, MAX_EVENT_SIZE};
 pub use headers::{HeaderPairs, Headers};
 pub use journal::{Batch, Entry, Numbers};
 pub use refused::{EventRefused, NoMemory};
-
-#[cfg(test)]
-mod tests;

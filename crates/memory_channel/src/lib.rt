@@ -4,6 +4,3 @@
 mod channel;
 
 pub use channel::MemoryChannel;
-
-#[cfg(test)]
-mod tests;

@@ -3,8 +3,6 @@
 
 mod opened;
 mod table;
-#[cfg(test)]
-mod tests;
 
 pub use opened::{Ended, Item};
 pub use table::{OpenTable, TableRefused};

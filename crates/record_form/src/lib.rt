@@ -13,6 +13,3 @@ pub use laws::{cut_is_part, lengths, one_spelling, read_is_spelled, written_is_r
 pub use reading::read_record;
 pub use record::{MAX_PUT_SIZE, Pointer, Read, Rec};
 pub use writing::{write_put, write_record};
-
-#[cfg(test)]
-mod tests;

@@ -14,6 +14,3 @@ pub use calls::{Call, Reply, note};
 pub use counted::CountedLists;
 pub use lists::ChannelLists;
 pub use machine::Machine;
-
-#[cfg(test)]
-mod tests;

@@ -1,0 +1,253 @@
+// Threads that put and take in one channel. What comes back is a legal history by the contract of `close`; these tests look
+// at the events: each is there once, and the counts are the sums of what the threads did.
+ghost use Rattle.std.specs.Prelude.{◌≡◌, All, IfSome};
+
+use crate::in_memory::{in_memory, plain};
+use crate::sharing::{Opened, on_disk};
+use crate::work::{Work, number_in, put_and_take};
+use channel_face::Channel;
+use host_memory::MemDisk;
+use shared_channel::{Closed, Pass, Shared};
+use std::alloc::{AllocError, Global};
+use std::sync::Wait;
+use std::test::Fail;
+use std::thread::{Threads, join};
+
+const EVENTS: u32 = 40;
+
+// The work of both.
+fn both<C: Channel>(shared: &Shared<C>, one: Work, other: Work) -> Work
+    requires { (one.pass.table_id ≡ shared.now.turn.table.shared.table_id) × (other.pass.table_id ≡ shared.now.turn.table.shared.table_id) }
+    ensures { result.pass.table_id ≡ one.pass.table_id }
+{
+    let Work {
+        mut pass,
+        mut put,
+        mut taken,
+    } = one;
+    let Work {
+        pass: from,
+        put: other_put,
+        taken: other_taken,
+    } = other;
+    shared.join_pass(&mut pass, from);
+    let _ = put.extend_from_slice(&other_put);
+    let _ = taken.extend_from_slice(&other_taken);
+    Work { pass, put, taken }
+}
+
+fn two<C: Channel + Drop + Send, R: Threads + Wait + Sync>(
+    rt: &R,
+    alloc: Global,
+    shared: &Shared<C>,
+    passes: (Pass, Pass),
+    first: u64,
+) -> Work
+    requires { (passes.0.table_id ≡ shared.now.turn.table.shared.table_id) × (passes.1.table_id ≡ shared.now.turn.table.shared.table_id) }
+    ensures { result.pass.table_id ≡ shared.now.turn.table.shared.table_id }
+{
+    let (a, b) = passes;
+    let (one, other) = join(
+        rt,
+        move || -> Work
+            requires { a.table_id ≡ shared.now.turn.table.shared.table_id }
+            ensures { result.pass.table_id ≡ a.table_id }
+        { put_and_take(rt, alloc, shared, a, first, EVENTS) },
+        move || -> Work
+            requires { b.table_id ≡ shared.now.turn.table.shared.table_id }
+            ensures { result.pass.table_id ≡ b.table_id }
+        { put_and_take(rt, alloc, shared, b, first.wrapping_add(1000), EVENTS) },
+    );
+    both(shared, one, other)
+}
+
+fn four<C: Channel + Drop + Send, R: Threads + Wait + Sync>(
+    rt: &R,
+    alloc: Global,
+    shared: &Shared<C>,
+    one: (Pass, Pass),
+    other: (Pass, Pass),
+    first: u64,
+) -> Work
+    requires one { (one.0.table_id ≡ shared.now.turn.table.shared.table_id) × (one.1.table_id ≡ shared.now.turn.table.shared.table_id) }
+    requires other { (other.0.table_id ≡ shared.now.turn.table.shared.table_id) × (other.1.table_id ≡ shared.now.turn.table.shared.table_id) }
+    ensures { result.pass.table_id ≡ shared.now.turn.table.shared.table_id }
+{
+    let (a, b) = join(
+        rt,
+        move || -> Work
+            requires { (one.0.table_id ≡ shared.now.turn.table.shared.table_id) × (one.1.table_id ≡ shared.now.turn.table.shared.table_id) }
+            ensures { result.pass.table_id ≡ shared.entry.now.turn.table.shared.table_id }
+        { two(rt, alloc, shared, one, first) },
+        move || -> Work
+            requires { (other.0.table_id ≡ shared.now.turn.table.shared.table_id) × (other.1.table_id ≡ shared.now.turn.table.shared.table_id) }
+            ensures { result.pass.table_id ≡ shared.entry.now.turn.table.shared.table_id }
+        { two(rt, alloc, shared, other, first.wrapping_add(10_000)) },
+    );
+    both(shared, a, b)
+}
+
+// The last pass of those that are left.
+pub fn last<C: Channel>(shared: &Shared<C>, passes: &mut Vec<Pass>) -> Option<Pass>
+    requires { All (λ p. p.table_id ≡ shared.now.turn.table.shared.table_id) passes.old.items }
+    ensures { All (λ p. p.table_id ≡ shared.now.turn.table.shared.table_id) passes.new.items × IfSome result (λ p. p.table_id ≡ shared.now.turn.table.shared.table_id) }
+{
+    let _ = shared;
+    passes.pop()
+}
+
+// Two passes of those that are left.
+pub fn pair<C: Channel>(shared: &Shared<C>, passes: &mut Vec<Pass>) -> Option<(Pass, Pass)>
+    requires { All (λ p. p.table_id ≡ shared.now.turn.table.shared.table_id) passes.old.items }
+    ensures left { All (λ p. p.table_id ≡ shared.now.turn.table.shared.table_id) passes.new.items }
+    ensures pair { IfSome result (λ r. (r.0.table_id ≡ shared.now.turn.table.shared.table_id) × (r.1.table_id ≡ shared.now.turn.table.shared.table_id)) }
+{
+    let one = last(shared, passes)?;
+    let other = last(shared, passes)?;
+    Some((one, other))
+}
+
+// The numbers of the events that are left, which stay there.
+fn left_in<C: Channel>(channel: &mut C, left: &mut Vec<u64>) -> Result<(), AllocError> {
+    let Ok(mut txn) = channel.begin_take() else {
+        return Ok(());
+    };
+    for _ in 0..1000 {
+        match channel.take(&mut txn) {
+            Ok(taken) => match taken.event {
+                Some(event) => {
+                    if let Err(e) = left.push(number_in(&event)) {
+                        channel.rollback_take(txn);
+                        return Err(AllocError::from(e));
+                    }
+                }
+                None => break,
+            },
+            Err(_) => break,
+        }
+    }
+    channel.rollback_take(txn);
+    Ok(())
+}
+
+// Whether each event that was put is taken or left, once, and the counts are the sums of what was done.
+fn is_whole<C: Channel + Drop, R: Wait>(
+    rt: &R,
+    alloc: Global,
+    shared: Shared<C>,
+    work: Work,
+    attempts: u64,
+) -> Result<bool, Fail>
+    requires { work.pass.table_id ≡ shared.turn.table.shared.table_id }
+{
+    let Work {
+        pass,
+        mut put,
+        taken,
+    } = work;
+    let Closed {
+        mut channel,
+        pass: _,
+    } = shared.close(rt, pass);
+    let counts = channel.counts();
+    let mut found = Vec::new(alloc);
+    left_in(&mut channel, &mut found)?;
+    let left = found.len() as u64;
+    found.extend_from_slice(&taken)?;
+    found.sort()?;
+    put.sort()?;
+    Ok(
+        found == put
+            && counts.put_attempts == attempts
+            && counts.put_successes == put.len() as u64
+            && counts.take_successes == taken.len() as u64
+            && counts.size == left,
+    )
+}
+
+fn two_are_whole<C: Channel + Drop + Send, R: Threads + Wait + Sync>(
+    rt: &R,
+    alloc: Global,
+    opened: Opened<C>,
+) -> Result<bool, Fail>
+    requires { IfSome opened (λ r. All (λ p. p.table_id ≡ r.0.turn.table.shared.table_id) r.1.items) }
+{
+    let Some((shared, mut passes)) = opened else {
+        return Err(Fail::from("no channel"));
+    };
+    let Some(both) = pair(&shared, &mut passes) else {
+        return Err(Fail::from("no pass"));
+    };
+    let work = two(rt, alloc, &shared, both, 0);
+    is_whole(rt, alloc, shared, work, 2 * u64::from(EVENTS))
+}
+
+fn eight_are_whole<C: Channel + Drop + Send, R: Threads + Wait + Sync>(
+    rt: &R,
+    alloc: Global,
+    opened: Opened<C>,
+) -> Result<bool, Fail>
+    requires { IfSome opened (λ r. All (λ p. p.table_id ≡ r.0.turn.table.shared.table_id) r.1.items) }
+{
+    let Some((shared, mut passes)) = opened else {
+        return Err(Fail::from("no channel"));
+    };
+    let Some(a) = pair(&shared, &mut passes) else {
+        return Err(Fail::from("no pass"));
+    };
+    let Some(b) = pair(&shared, &mut passes) else {
+        return Err(Fail::from("no pass"));
+    };
+    let Some(c) = pair(&shared, &mut passes) else {
+        return Err(Fail::from("no pass"));
+    };
+    let Some(d) = pair(&shared, &mut passes) else {
+        return Err(Fail::from("no pass"));
+    };
+    let shares = &shared;
+    let (one, other) = join(
+        rt,
+        move || -> Work
+            requires one { (a.0.table_id ≡ shares.now.turn.table.shared.table_id) × (a.1.table_id ≡ shares.now.turn.table.shared.table_id) }
+            requires other { (b.0.table_id ≡ shares.now.turn.table.shared.table_id) × (b.1.table_id ≡ shares.now.turn.table.shared.table_id) }
+            ensures { result.pass.table_id ≡ shares.entry.now.turn.table.shared.table_id }
+        { four(rt, alloc, shares, a, b, 0) },
+        move || -> Work
+            requires one { (c.0.table_id ≡ shares.now.turn.table.shared.table_id) × (c.1.table_id ≡ shares.now.turn.table.shared.table_id) }
+            requires other { (d.0.table_id ≡ shares.now.turn.table.shared.table_id) × (d.1.table_id ≡ shares.now.turn.table.shared.table_id) }
+            ensures { result.pass.table_id ≡ shares.entry.now.turn.table.shared.table_id }
+        { four(rt, alloc, shares, c, d, 100_000) },
+    );
+    let work = both(&shared, one, other);
+    is_whole(rt, alloc, shared, work, 8 * u64::from(EVENTS))
+}
+
+#[test]
+fn two_threads_lose_and_double_nothing(rt: HostRuntime) -> Result<(), Fail> {
+    let alloc = rt.alloc();
+    assert!(rt;
+        two_are_whole(&rt, alloc, on_disk(alloc, MemDisk::new(alloc), 2))?,
+        "on a disk"
+    );
+    assert!(rt;
+        two_are_whole(&rt, alloc, in_memory(alloc, 2))?,
+        "in memory"
+    );
+    assert!(rt; two_are_whole(&rt, alloc, plain(alloc, 2))?, "plain");
+    Ok(())
+}
+
+#[test]
+fn eight_threads_lose_and_double_nothing(rt: HostRuntime) -> Result<(), Fail> {
+    let alloc = rt.alloc();
+    assert!(rt;
+        eight_are_whole(&rt, alloc, on_disk(alloc, MemDisk::new(alloc), 8))?,
+        "on a disk"
+    );
+    assert!(rt;
+        eight_are_whole(&rt, alloc, in_memory(alloc, 8))?,
+        "in memory"
+    );
+    assert!(rt; eight_are_whole(&rt, alloc, plain(alloc, 8))?, "plain");
+    Ok(())
+}

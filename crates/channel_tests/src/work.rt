@@ -1,0 +1,100 @@
+// What one thread does with a channel: it puts and takes by turns, through a port.
+ghost use Rattle.std.specs.Prelude.{◌≡◌, IfOk, length};
+
+use channel_face::{Channel, PutFace, TakeFace};
+use event_core::{Batch, Event, EventRefused};
+use shared_channel::{Pass, Port, Shared};
+use std::alloc::{AllocError, Global};
+use std::sync::Wait;
+use test_fixtures::{event, one};
+
+// What was done through a pass: the numbers in the bodies that were put, and in those that were taken for good.
+#[derive(Drop)]
+pub struct Work {
+    pub pass: Pass,
+    pub put: Vec<u64>,
+    pub taken: Vec<u64>,
+}
+
+// The number in a body.
+pub fn number_in(event: &Event) -> u64 {
+    let mut number = 0u64;
+    for byte in event.body() {
+        number = number.wrapping_mul(256).wrapping_add(u64::from(*byte));
+    }
+    number
+}
+
+// A batch of one event with this number.
+pub fn batch_of(alloc: Global, number: u64) -> Result<Batch, EventRefused>
+    ensures { IfOk result (λ batch. length batch ≡ 1) }
+{
+    Ok(one(alloc, event(alloc, &number.to_be_bytes())?)?)
+}
+
+// Puts an event with this number.
+fn put_one<C: Channel, R: Wait>(
+    alloc: Global,
+    port: &mut Port<'_, R, C>,
+    number: u64,
+    put: &mut Vec<u64>,
+) -> Result<(), AllocError>
+    ensures { port.new.pass.table_id ≡ port.old.pass.table_id }
+{
+    let Ok(batch) = batch_of(alloc, number) else {
+        return Ok(());
+    };
+    if port.put_batch(&batch, &[0]).is_ok() {
+        put.push(number)?;
+    }
+    Ok(())
+}
+
+// Takes an event, if one is left, for good or not.
+fn take_one<C: Channel, R: Wait>(
+    port: &mut Port<'_, R, C>,
+    stays: bool,
+    taken: &mut Vec<u64>,
+) -> Result<(), AllocError>
+    ensures { port.new.pass.table_id ≡ port.old.pass.table_id }
+{
+    let Ok(mut txn) = port.begin() else {
+        return Ok(());
+    };
+    let found = port.take(&mut txn);
+    if stays {
+        port.rollback(txn);
+        return Ok(());
+    }
+    let done = port.commit(txn);
+    if let (Ok(Some(event)), Ok(())) = (found, done) {
+        taken.push(number_in(&event))?;
+    }
+    Ok(())
+}
+
+// Puts so many events, whose numbers begin with this one, and takes after each; each third one is given back.
+pub fn put_and_take<C: Channel, R: Wait>(
+    rt: &R,
+    alloc: Global,
+    shared: &Shared<C>,
+    pass: Pass,
+    first: u64,
+    events: u32,
+) -> Work
+    requires { pass.table_id ≡ shared.now.turn.table.shared.table_id }
+    ensures { result.pass.table_id ≡ pass.table_id }
+{
+    let mut put = Vec::new(alloc);
+    let mut taken = Vec::new(alloc);
+    let mut port = Port::new(rt, shared, pass);
+    for i in 0..events {
+        let _ = put_one(alloc, &mut port, first.wrapping_add(u64::from(i)), &mut put);
+        let _ = take_one(&mut port, i % 3 == 0, &mut taken);
+    }
+    Work {
+        pass: port.give_back(),
+        put,
+        taken,
+    }
+}

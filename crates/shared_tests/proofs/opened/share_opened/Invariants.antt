@@ -1,4 +1,0 @@
-use Rattle.shared_tests.proofs.opened.share_opened.Given as goal
-
-abbrev pub ghost-new : goal.ghost-new
-ghost-new g a = g.start
