@@ -1,6 +1,5 @@
 // Folders that were written before, and what a channel that opens them answers and leaves.
 use crate::cases::LINES;
-use crate::opened::{channel_of, disk_failing_in_flush, open, reopen};
 use crate::reading::disk;
 use crate::spelled::{Piece, files};
 use crate::steps::{Said, Step, Tried, Turn, answer};
@@ -9,6 +8,7 @@ use flume_host::FileName;
 use host_memory::{MemDisk, MemFile};
 use std::alloc::{AllocError, Global};
 use std::test::Fail;
+use test_fixtures::{channel_on, disk_failing_in_flush, open, reopen};
 
 const LIMITS: Limits = Limits {
     capacity: 10,
@@ -145,7 +145,7 @@ fn opens(
     limits: Limits,
     opening: &Opening,
 ) -> Result<MemDisk, Fail> {
-    let mut tried = Tried::new(channel_of(open(alloc, disk, limits))?);
+    let mut tried = Tried::new(channel_on(alloc, disk, limits)?);
     answer(alloc, name, &mut tried, opening.turns)?;
     let Tried { channel, ticket: _ } = tried;
     let disk = channel.close();
@@ -293,7 +293,7 @@ const MENDED: [Turn; 3] = [
 fn a_broken_channel_is_opened_anew(rt: HostRuntime) -> Result<(), Fail> {
     let alloc = rt.alloc();
     let disk = disk_failing_in_flush(alloc, LIMITS)?;
-    let mut tried = Tried::new(channel_of(open(alloc, disk, LIMITS))?);
+    let mut tried = Tried::new(channel_on(alloc, disk, LIMITS)?);
     answer(alloc, "broken", &mut tried, &FAILED)?;
     assert!(rt; reopen(&mut tried.channel).is_ok());
     assert!(rt; tried.channel.size() <= 1 && !tried.channel.is_broken());

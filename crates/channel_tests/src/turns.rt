@@ -1,5 +1,4 @@
 // Worked examples of channels: the plain one, the one in memory and the one on a disk.
-use crate::opened::{channel_of, disk_failing_in_flush, open};
 use crate::steps::{Count, Said, Step, Tried, Turn, answer, begin_put};
 use channel_face::{Channel, Kind, Limits, Settled};
 use event_core::Entry;
@@ -7,6 +6,7 @@ use host_memory::MemDisk;
 use memory_channel::MemoryChannel;
 use std::alloc::Global;
 use std::test::Fail;
+use test_fixtures::{channel_on, disk_failing_in_flush};
 use txn_core::Machine;
 
 // A full channel, until a taker has committed.
@@ -261,11 +261,11 @@ fn works(alloc: Global, example: &Example) -> Result<(), Fail> {
         Over::Memory => answers(alloc, example, MemoryChannel::new(alloc, limits)?),
         Over::Disk => {
             let disk = MemDisk::new(alloc);
-            answers(alloc, example, channel_of(open(alloc, disk, limits))?)
+            answers(alloc, example, channel_on(alloc, disk, limits)?)
         }
         Over::FailingDisk => {
             let disk = disk_failing_in_flush(alloc, limits)?;
-            answers(alloc, example, channel_of(open(alloc, disk, limits))?)
+            answers(alloc, example, channel_on(alloc, disk, limits)?)
         }
     }
 }
@@ -310,7 +310,7 @@ fn so_many_transactions_may_be_open(rt: HostRuntime) -> Result<(), Fail> {
         txn_capacity: 1,
         max_file: 1_000_000,
     };
-    let mut channel = channel_of(open(alloc, MemDisk::new(alloc), limits))?;
+    let mut channel = channel_on(alloc, MemDisk::new(alloc), limits)?;
     for number in 1..=1024 {
         assert!(rt; begin_put(&mut channel) == Said::Token(number), "{number}");
     }

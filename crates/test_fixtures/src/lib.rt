@@ -1,8 +1,10 @@
-//! What the crates of tests share: events, batches, and puts of one event.
+//! What the crates of tests share: events, batches, puts of one event, and channels in folders of the disk in memory.
 #![tactic(auto)]
 
 mod made;
+mod opened;
 mod putting;
 
 pub use made::{batch, event, event_with, one};
+pub use opened::{Opened, channel_on, disk_after_opening, disk_failing_in_flush, open, reopen};
 pub use putting::put;

@@ -1,4 +1,0 @@
-use Rattle.channel_tests.proofs.in_memory.share_machine.Given as goal
-
-abbrev pub ghost-new : goal.ghost-new
-ghost-new g a = g.start

@@ -1,0 +1,4 @@
+use Rattle.shared_tests.proofs.in_memory.share_machine.Given as goal
+
+abbrev pub ghost-new : goal.ghost-new
+ghost-new g a = g.start

@@ -1,0 +1,170 @@
+// A channel that breaks and is mended, by a port and through a pass.
+ghost use Rattle.std.specs.Prelude.{◌≡◌, ◌<◌, All, IfSome};
+ghost use Rattle.channel_face.specs.History.{Opening};
+ghost use Rattle.shared_tests.specs.Opened.{IsOpenedAt};
+
+use crate::reopening::Reopening;
+use crate::sharing::{LIMITS, Opened};
+use crate::staged::put_by_port;
+use channel_face::{BeginRefused, Durable, FaceRefused, Limits, OpenCause};
+use file_channel::{FileChannel, OpenRefused, open_channel};
+use flume_host::{Disk, Steps};
+use host_memory::MemDisk;
+use shared_channel::{Pass, Port, Shared};
+use std::alloc::Global;
+use std::marker::Brand;
+use std::process::Abort;
+use std::snapshot::Snapshot;
+use std::sync::Wait;
+use std::sync::ledger::{Blank, Ledger};
+use std::test::Fail;
+use test_fixtures::disk_failing_in_flush;
+
+// Shares a channel that was opened in a folder that was so before.
+fn share_reopening<'a, R: Abort, D: Disk + Drop>(
+    rt: &'a R,
+    alloc: Global,
+    channel: FileChannel<D>,
+    before: Snapshot<D>,
+    limits: Limits,
+) -> Opened<Reopening<'a, R, D>>
+    ghost start: { Opening }
+    requires { IsOpenedAt (D.told channel.0) (D.faults channel.0) channel.1 start }
+    ensures { IfSome result (λ r. All (λ p. p.table_id ≡ r.0.turn.table.shared.table_id) r.1.items) }
+{
+    let _ = before;
+    let _ = limits;
+    match Shared::new(alloc, Reopening { rt, channel }, 1) {
+        Ok(opened) => Some(opened),
+        Err(_) => None,
+    }
+}
+
+fn open_reopening<'a, R: Abort, D: Disk + Drop, L: Ledger>(
+    rt: &'a R,
+    alloc: Global,
+    disk: D,
+    steps: &mut Steps<L>,
+) -> Opened<Reopening<'a, R, D>>
+    ensures { IfSome result (λ r. All (λ p. p.table_id ≡ r.0.turn.table.shared.table_id) r.1.items) }
+{
+    let before = Snapshot::of(&disk);
+    match open_channel(alloc, disk, LIMITS, steps) {
+        Ok(channel) => share_reopening(rt, alloc, channel, before, LIMITS),
+        Err(OpenRefused { disk: _, cause: _ }) => None,
+    }
+}
+
+fn mend_by_port<R: Wait, C: Durable, L: Ledger>(
+    rt: &R,
+    shared: &Shared<C>,
+    pass: Pass,
+    steps: &mut Steps<L>,
+) -> (Pass, Result<bool, OpenCause>)
+    requires { pass.table_id ≡ shared.now.turn.table.shared.table_id }
+    ensures { result.0.table_id ≡ pass.table_id }
+{
+    let mut port = Port::new(rt, shared, pass);
+    let answer = port.mend(steps);
+    (port.give_back(), answer)
+}
+
+// Whether the first put is in doubt, the next one refused, a mend by a port reopens, a token from before is then stale, and the
+// pass has seen the calls of these and the reopening.
+fn breaks_and_is_mended<R: Wait, C: Durable, L: Ledger>(
+    rt: &R,
+    alloc: Global,
+    shared: &Shared<C>,
+    mut pass: Pass,
+    steps: &mut Steps<L>,
+) -> (Pass, bool)
+    requires { pass.table_id ≡ shared.now.turn.table.shared.table_id }
+    ensures { result.0.table_id ≡ pass.table_id }
+{
+    let Ok(token) = shared.begin_put(rt, &mut pass) else {
+        return (pass, false);
+    };
+    let (pass, doubtful) = put_by_port(rt, alloc, shared, pass);
+    let (pass, refused) = put_by_port(rt, alloc, shared, pass);
+    let (mut pass, mended) = mend_by_port(rt, shared, pass, steps);
+    let is_stale = !shared.rollback_put(rt, &mut pass, token);
+    let is_so = doubtful == Some(Err(FaceRefused::InDoubt))
+        && refused == Some(Err(FaceRefused::Begin(BeginRefused::Broken)))
+        && mended == Ok(true)
+        && is_stale;
+    // a begin; a begin, a put, a stage and a flush; a refused begin; a reopening
+    let seen = pass.seen();
+    (pass, is_so && seen == 7)
+}
+
+// Whether a sound channel is put to, is not reopened by a mend, and has the event whose flush failed, or not.
+fn is_sound<R: Wait, C: Durable, L: Ledger>(
+    rt: &R,
+    alloc: Global,
+    shared: &Shared<C>,
+    pass: Pass,
+    steps: &mut Steps<L>,
+) -> (Pass, bool)
+    requires { pass.table_id ≡ shared.now.turn.table.shared.table_id }
+    ensures { result.0.table_id ≡ pass.table_id }
+{
+    let (mut pass, put) = put_by_port(rt, alloc, shared, pass);
+    let before = pass.seen();
+    let mended = shared.mend(rt, &mut pass, steps);
+    let size = shared.size(rt, &mut pass);
+    let is_one_of_two = (size == 1 && put == Some(Ok(0))) || (size == 2 && put == Some(Ok(1)));
+    let is_so = mended == Ok(false) && pass.seen() == before && is_one_of_two;
+    (pass, is_so)
+}
+
+// Whether a reopening of a sound channel makes a token stale, and is counted.
+fn is_reopened<R: Wait, C: Durable, L: Ledger>(
+    rt: &R,
+    shared: &Shared<C>,
+    mut pass: Pass,
+    steps: &mut Steps<L>,
+) -> (Pass, bool)
+    requires { pass.table_id ≡ shared.now.turn.table.shared.table_id }
+    ensures { result.0.table_id ≡ pass.table_id }
+{
+    let before = pass.seen();
+    let Ok(token) = shared.begin_put(rt, &mut pass) else {
+        return (pass, false);
+    };
+    let reopened = shared.reopen(rt, &mut pass, steps);
+    let is_stale = !shared.rollback_put(rt, &mut pass, token);
+    let is_so = reopened == Ok(()) && is_stale && pass.seen() == before.saturating_add(2);
+    (pass, is_so)
+}
+
+fn all_of_it<R: Wait + Abort, L: Ledger>(
+    rt: &R,
+    alloc: Global,
+    blank: Blank,
+    disk: MemDisk,
+) -> Result<(bool, bool, bool), Fail>
+    requires name { blank.name ≡ L.name }
+    requires parts { blank.parts ≡ L.parts }
+    requires some { 0 < L.parts }
+{
+    let mut steps = Steps::<L>::new(blank);
+    let Some((shared, mut passes)) = open_reopening(rt, alloc, disk, &mut steps) else {
+        return Err(Fail::from("no channel"));
+    };
+    let Some(pass) = passes.pop() else {
+        return Err(Fail::from("no pass"));
+    };
+    let (pass, mended) = breaks_and_is_mended(rt, alloc, &shared, pass, &mut steps);
+    let (pass, sound) = is_sound(rt, alloc, &shared, pass, &mut steps);
+    let (_, reopened) = is_reopened(rt, &shared, pass, &mut steps);
+    Ok((mended, sound, reopened))
+}
+
+#[test]
+fn a_mend_reopens_what_is_broken(rt: HostRuntime) -> Result<(), Fail> {
+    let alloc = rt.alloc();
+    let disk = disk_failing_in_flush(alloc, LIMITS)?;
+    let answers = all_of_it::<HostRuntime, Brand>(&rt, alloc, Blank::new(1), disk)?;
+    assert!(rt; answers == (true, true, true));
+    Ok(())
+}
