@@ -1,32 +1,9 @@
 // `check -n NAME -f FILE`, example by example.
-use crate::command_words::owned;
 use agent_run::run_agent;
 use host_memory::{MemDisk, MemHost, MemSink, MemSource, Named};
 use std::alloc::{AllocError, Global};
 use std::test::Fail;
-
-pub const WORKED: &str = "# example
-a1.sources = r1
-a1.channels = c1 c2
-a1.sinks = k1 k2
-a1.sources.r1.type = netcat
-a1.sources.r1.bind = localhost
-a1.sources.r1.port = 44444
-a1.sources.r1.channels = c1 \\
-    c2
-a1.channels.c1.type = memory
-a1.channels.c2.type = file
-a1.channels.c2.dataDirs = data
-a1.sinks.k1.type = file_roll
-a1.sinks.k1.sink.directory = out
-a1.sinks.k1.channel = c1
-a1.sinks.k2.type = avro
-a1.sinks.k2.hostname = localhost
-a1.sinks.k2.port = 4545
-a1.sinks.k2.channel = c2
-a1.channels.c1.capacity = 1000
-a1.channels.c1.capacity = 200
-";
+use test_fixtures::{WORKED, owned};
 
 // A host with one file, `x.conf`.
 fn host(alloc: Global, text: &str) -> Result<MemHost, AllocError> {
@@ -63,44 +40,32 @@ const USAGE: &str =
 
 const A1: [&str; 5] = ["check", "-n", "a1", "-f", "x.conf"];
 
-// The worked configuration with one part written otherwise, the words, and what is told.
-const COUNTED: [(&str, &str, &[&str], &str); 4] = [
+// What stands in place of the worked configuration's `c2.type = file`, the words, and what is told.
+const COUNTED: [(&str, &[&str], &str); 4] = [
     (
-        "c2.type = file",
         "c2.type = file",
         &A1,
         "0 a1: 1 sources, 2 channels, 2 sinks, 0 groups\n",
     ),
+    ("c2.type = kafka", &A1, "2 flume: line 11: unknown type"),
     (
-        "c2.type = file",
-        "c2.type = kafka",
-        &A1,
-        "2 flume: line 11: unknown type",
-    ),
-    (
-        "c2.type = file",
         "c2.type = file",
         &["check", "-n", "a2", "-f", "x.conf"],
         "2 flume: no agent a2",
     ),
-    (
-        "c2.type = file",
-        "c2.type = file",
-        &["check", "-n", "a1"],
-        USAGE,
-    ),
+    ("c2.type = file", &["check", "-n", "a1"], USAGE),
 ];
 
 #[test]
 fn a_configuration_is_counted(rt: HostRuntime) -> Result<(), Fail> {
     let alloc = rt.alloc();
-    for (from, to, words, want) in COUNTED {
-        let text = WORKED.replace(alloc, from, to)?;
+    for (given, words, want) in COUNTED {
+        let text = WORKED.replace(alloc, "c2.type = file", given)?;
         let mut host = host(alloc, text.as_str())?;
         assert_eq!(rt;
             told(alloc, words, &mut host)?.as_str(),
             want,
-            "{to} {words:?}"
+            "{given} {words:?}"
         );
     }
     Ok(())
@@ -140,7 +105,7 @@ fn faults_are_told(rt: HostRuntime) -> Result<(), Fail> {
     Ok(())
 }
 
-// The worked configuration, and a comment behind it up to this size.
+// The worked configuration, and a comment after it up to this size.
 fn filled(alloc: Global, size: usize) -> Result<String, AllocError> {
     let mut text = String::from_str(alloc, WORKED)?;
     for _ in text.len()..size {

@@ -1,36 +1,16 @@
 // What is left in the channel of a folder.
-ghost use Rattle.std.specs.Prelude.{◌≡◌, ◌<◌};
-
 use channel_face::{Channel, Limits, TakeTxn};
-use file_channel::{FileChannel, OpenRefused, open_channel};
-use flume_host::Steps;
+use file_channel::FileChannel;
 use host_memory::MemDisk;
 use std::alloc::Global;
-use std::marker::Brand;
-use std::sync::ledger::{Blank, Ledger};
 use std::test::Fail;
+use test_fixtures::channel_on;
 
 const LIMITS: Limits = Limits {
     capacity: 100,
     txn_capacity: 100,
     max_file: 1_000_000,
 };
-
-fn open_by<L: Ledger>(
-    alloc: Global,
-    blank: Blank,
-    disk: MemDisk,
-) -> Result<FileChannel<MemDisk>, Fail>
-    requires name { blank.name ≡ L.name }
-    requires parts { blank.parts ≡ L.parts }
-    requires some { 0 < L.parts }
-{
-    let mut steps = Steps::<L>::new(blank);
-    match open_channel(alloc, disk, LIMITS, &mut steps) {
-        Ok(channel) => Ok(channel),
-        Err(OpenRefused { disk: _, cause: _ }) => Err("not opened")?,
-    }
-}
 
 // Adds the bodies of the events that takes give, each with a newline.
 fn take_all(
@@ -55,7 +35,7 @@ fn take_all(
 
 /// The bodies of the events that takes give of the folder's channel, each with a newline.
 pub fn left(alloc: Global, disk: MemDisk) -> Result<Vec<u8>, Fail> {
-    let mut channel = open_by::<Brand>(alloc, Blank::new(1), disk)?;
+    let mut channel = channel_on(alloc, disk, LIMITS)?;
     let mut bodies = Vec::new(alloc);
     let Ok(mut txn) = channel.begin_take() else {
         return Err("not begun")?;

@@ -1,10 +1,10 @@
 // `pipe DIR`, example by example.
-use crate::command_words::owned;
 use agent_run::run_agent;
 use flume_host::FileName;
 use host_memory::{DiskFault, MemDisk, MemHost, MemSink, MemSource, Named, Part};
 use std::alloc::{AllocError, Global};
 use std::test::Fail;
+use test_fixtures::owned;
 
 // A header, two frames of one transaction each, and a closed commit byte.
 pub const TWO_LINES: &[u8] = b"FLUMELOG\x00\x01\x00\x01\x00\x00\x00\x01\
@@ -192,10 +192,10 @@ fn every_line_has_its_answer_in_any_pieces(rt: HostRuntime) -> Result<(), Fail> 
     for lines in &LINES {
         for piece in [1, 3, 512, 10_000] {
             let mut host = host_in_pieces(rt.alloc(), lines, piece)?;
-            let (front, count) = (lines.front, lines.count);
+            let (front, count, end) = (lines.front, lines.count, lines.end);
             assert!(rt;
                 is_piped(rt.alloc(), &mut host, lines.outcome, lines.answers)?,
-                "{front:?} and {count}, pieces of {piece}"
+                "{front:?}, {count} and {end:?}, pieces of {piece}"
             );
         }
     }
@@ -255,10 +255,14 @@ fn a_failing_disk_leaves_the_line_in_doubt(rt: HostRuntime) -> Result<(), Fail> 
             let mut host = host_on_failing_disk(rt.alloc(), DiskFault { call, part })?;
             assert!(rt;
                 is_piped(rt.alloc(), &mut host, outcome, answers)?,
-                "call {call}"
+                "call {call}, {part:?}"
             );
             if outcome.0 == 3 {
-                assert_eq!(rt; only_line(&host), "flume: fault outside", "call {call}");
+                assert_eq!(rt;
+                    only_line(&host),
+                    "flume: fault outside",
+                    "call {call}, {part:?}"
+                );
             }
         }
     }

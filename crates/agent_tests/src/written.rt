@@ -1,10 +1,11 @@
-// `pipe DIR` on folders that were written before, and on what a stop leaves.
+// `pipe DIR` on folders that were written before, and on what a crash leaves.
 use crate::left::left;
 use crate::pipe::{BEGUN, TWO_LINES, given_lines, host, is_piped, only_line, run};
 use flume_host::FileName;
-use host_memory::{DiskFault, MemDisk, MemFile, MemHost, Part, Stood};
+use host_memory::{MemDisk, MemFile, MemHost, Part, Stood};
 use std::alloc::{AllocError, Global};
 use std::test::Fail;
+use test_fixtures::disk_failing_at;
 
 // The second log file, with one frame of the third transaction.
 const THIRD_LINE: &[u8] = b"FLUMELOG\x00\x01\x00\x01\x00\x00\x00\x02\
@@ -15,7 +16,7 @@ const THIRD_LINE: &[u8] = b"FLUMELOG\x00\x01\x00\x01\x00\x00\x00\x02\
 // The second log file, as an opening began it.
 const BEGUN_2: &[u8] = b"FLUMELOG\x00\x01\x00\x01\x00\x00\x00\x02\x00";
 
-// The folder as a stop leaves it at a moment.
+// The folder as a crash leaves it at a moment.
 fn stopped(host: &MemHost, moment: u64, stood: Stood) -> Result<MemDisk, Fail> {
     match host.disk("d") {
         Some(disk) => Ok(disk.stopped_at(moment, &[stood])?),
@@ -77,14 +78,11 @@ const RERUNS: [Rerun; 2] = [
     },
 ];
 
-// The host of the second run, on what the first left.
-fn second_host(alloc: Global, case: &Rerun) -> Result<MemHost, Fail> {
+// How the first run ended, and the host of the second, on what the first left.
+fn second_host(alloc: Global, case: &Rerun) -> Result<((u8, u64), MemHost), Fail> {
     let mut first = given(alloc, MemDisk::new(alloc), case.first)?;
-    if run(alloc, &["pipe", "d"], &mut first)? != case.first_outcome {
-        return Err("the first run ended otherwise")?;
-    }
-    let host = given(alloc, as_is(&first)?, case.second)?;
-    Ok(host)
+    let outcome = run(alloc, &["pipe", "d"], &mut first)?;
+    Ok((outcome, given(alloc, as_is(&first)?, case.second)?))
 }
 
 // Whether the folder has these first log files.
@@ -94,10 +92,11 @@ fn has_logs(host: &MemHost, logs: &[&[u8]; 2]) -> bool {
 }
 
 #[test]
-fn lines_go_behind_those_of_an_earlier_run(rt: HostRuntime) -> Result<(), Fail> {
+fn lines_follow_those_of_an_earlier_run(rt: HostRuntime) -> Result<(), Fail> {
     for case in &RERUNS {
         let input = case.first;
-        let mut host = second_host(rt.alloc(), case)?;
+        let (first_outcome, mut host) = second_host(rt.alloc(), case)?;
+        assert_eq!(rt; first_outcome, case.first_outcome, "{input:?}");
         assert!(rt;
             is_piped(rt.alloc(), &mut host, case.second_outcome, case.answers)?,
             "{input:?}"
@@ -114,7 +113,7 @@ fn lines_go_behind_those_of_an_earlier_run(rt: HostRuntime) -> Result<(), Fail> 
     Ok(())
 }
 
-// The moment of a stop, within a recorded call or after the last, and what stands of the calls that nothing made stable;
+// The moment of a crash, within a recorded call or after the last, and what stands of the calls that nothing made stable;
 // and whether the line is then there. Calls 0 to 3 settle the folder and begin its log file. The line's are 4 to 7: the
 // frame is written and synced, and the commit byte is written and synced.
 const STOPS: [(u64, Stood, bool); 11] = [
@@ -136,7 +135,7 @@ const STOPS: [(u64, Stood, bool); 11] = [
 ];
 
 #[test]
-fn a_stop_leaves_a_line_or_not(rt: HostRuntime) -> Result<(), Fail> {
+fn a_crash_leaves_a_line_or_not(rt: HostRuntime) -> Result<(), Fail> {
     let alloc = rt.alloc();
     let mut first = given(alloc, MemDisk::new(alloc), b"a\n")?;
     assert_eq!(rt; run(alloc, &["pipe", "d"], &mut first)?, (0, 1));
@@ -144,37 +143,33 @@ fn a_stop_leaves_a_line_or_not(rt: HostRuntime) -> Result<(), Fail> {
         let mut second = given(alloc, stopped(&first, *moment, *stood)?, b"z\n")?;
         assert!(rt;
             is_piped(alloc, &mut second, (0, 1), b"OK\n")?,
-            "moment {moment}"
+            "moment {moment}, {stood:?}"
         );
         let want: &[u8] = if *there { b"a\nz\n" } else { b"z\n" };
         assert_eq!(rt;
             left(alloc, as_is(&second)?)?.as_slice(),
             want,
-            "moment {moment}"
+            "moment {moment}, {stood:?}"
         );
     }
     Ok(())
 }
 
-// What a stop leaves of two lines after this call of the disk failed, and ended the run with status 3.
-fn left_after_fault(alloc: Global, call: u64, stood: Stood) -> Result<Vec<u8>, Fail> {
-    let fault = DiskFault {
-        call,
-        part: Part::Front(1),
-    };
-    let disk = MemDisk::new(alloc).failing_at(vec![in alloc; fault]?);
+// The status of a run on two lines of which this call of the disk failed, and what a crash then leaves.
+fn left_after_fault(alloc: Global, call: u64, stood: Stood) -> Result<(u8, Vec<u8>), Fail> {
+    let disk = disk_failing_at(alloc, call, Part::Front(1))?;
     let mut host = given(alloc, disk, b"a\nb\n")?;
     let (status, _) = run(alloc, &["pipe", "d"], &mut host)?;
-    if status != 3 {
-        return Err("the run ended otherwise")?;
-    }
     match host.disk("d") {
-        Some(disk) => left(alloc, disk.stopped_at(disk.moments(), &[stood])?),
+        Some(disk) => Ok((
+            status,
+            left(alloc, disk.stopped_at(disk.moments(), &[stood])?)?,
+        )),
         None => Err("no folder")?,
     }
 }
 
-// Each call of the disk fails in turn: what a stop then leaves has each line that was answered `OK`, and at most the one
+// Each call of the disk fails in turn: what a crash then leaves has each line that was answered `OK`, and at most the one
 // that was in doubt besides.
 #[test]
 fn what_was_answered_is_left_after_a_fault(rt: HostRuntime) -> Result<(), Fail> {
@@ -182,10 +177,11 @@ fn what_was_answered_is_left_after_a_fault(rt: HostRuntime) -> Result<(), Fail> 
         let sure: &[u8] = if call < 11 { b"" } else { b"a\n" };
         let more: &[u8] = if call < 11 { b"a\n" } else { b"a\nb\n" };
         for stood in [Stood::Old, Stood::New, Stood::Garbage(1)] {
-            let found = left_after_fault(rt.alloc(), call, stood)?;
+            let (status, found) = left_after_fault(rt.alloc(), call, stood)?;
+            assert_eq!(rt; status, 3, "call {call}, {stood:?}");
             assert!(rt;
                 found.as_slice() == sure || found.as_slice() == more,
-                "call {call}"
+                "call {call}, {stood:?}"
             );
         }
     }
@@ -250,16 +246,16 @@ fn host_on_file(
 #[test]
 fn a_folder_is_refused_for_what_it_holds(rt: HostRuntime) -> Result<(), Fail> {
     let alloc = rt.alloc();
-    for (name, bytes, line) in FOLDERS.iter() {
+    for (row, (name, bytes, line)) in FOLDERS.iter().enumerate() {
         let mut host = host_on_file(alloc, *name, bytes, b"a\n")?;
         let (outcome, answers): ((u8, u64), &[u8]) = if line.is_empty() {
             ((0, 1), b"OK\n")
         } else {
             ((4, 0), b"")
         };
-        assert!(rt; is_piped(alloc, &mut host, outcome, answers)?, "{line}");
-        assert_eq!(rt; only_line(&host), *line);
-        assert_eq!(rt; file_of(&host, *name), Some(*bytes), "{line}");
+        assert!(rt; is_piped(alloc, &mut host, outcome, answers)?, "row {row}");
+        assert_eq!(rt; only_line(&host), *line, "row {row}");
+        assert_eq!(rt; file_of(&host, *name), Some(*bytes), "row {row}");
     }
     Ok(())
 }

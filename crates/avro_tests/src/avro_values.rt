@@ -281,9 +281,9 @@ fn read_number(kind: Number, bytes: &[u8], at: usize) -> Result<(i64, usize), Va
 
 #[test]
 fn numbers_are_read(rt: HostRuntime) {
-    for (kind, bytes, at, want) in NUMBERS {
-        assert!(rt; at <= bytes.len());
-        assert!(rt; read_number(kind, bytes, at) == want, "{bytes:?} at {at}");
+    for (row, (kind, bytes, at, want)) in NUMBERS.into_iter().enumerate() {
+        assert!(rt; at <= bytes.len(), "row {row}");
+        assert!(rt; read_number(kind, bytes, at) == want, "row {row}");
     }
 }
 
@@ -310,9 +310,9 @@ fn read_place(kind: Place, bytes: &[u8], at: usize) -> Result<(usize, usize), Va
 
 #[test]
 fn texts_bytes_and_maps_are_read(rt: HostRuntime) {
-    for (kind, bytes, at, want) in PLACES {
-        assert!(rt; at <= bytes.len());
-        assert!(rt; read_place(kind, bytes, at) == want, "{bytes:?} at {at}");
+    for (row, (kind, bytes, at, want)) in PLACES.into_iter().enumerate() {
+        assert!(rt; at <= bytes.len(), "row {row}");
+        assert!(rt; read_place(kind, bytes, at) == want, "row {row}");
     }
     for (bytes, want) in METAS {
         assert!(rt; read_meta(bytes, 0) == want, "{bytes:?}");
@@ -345,14 +345,18 @@ fn values_are_written(rt: HostRuntime) -> Result<(), Fail> {
 #[test]
 fn events_are_read_and_written(rt: HostRuntime) -> Result<(), Fail> {
     for case in &EVENTS {
+        let length = case.end;
         let (event, end) = read_event(rt.alloc(), case.bytes, 0)?;
-        assert!(rt; end == case.end, "{end}");
-        assert!(rt; event.headers().len() == 1, "{end}");
-        assert!(rt; event.headers().get("h") == Some(case.value), "{end}");
-        assert!(rt; event.body() == b"a".as_slice(), "{end}");
+        assert!(rt; end == length, "{length} bytes");
+        assert!(rt; event.headers().len() == 1, "{length} bytes");
+        assert!(rt;
+            event.headers().get("h") == Some(case.value),
+            "{length} bytes"
+        );
+        assert!(rt; event.body() == b"a".as_slice(), "{length} bytes");
         let mut out = Vec::new(rt.alloc());
         write_event(&event, &mut out)?;
-        assert!(rt; out.as_slice() == case.shortest, "{end}");
+        assert!(rt; out.as_slice() == case.shortest, "{length} bytes");
     }
     Ok(())
 }

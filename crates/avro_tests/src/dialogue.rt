@@ -40,7 +40,7 @@ const FOURTH: [u8; 26] = [
     0x00, 0x00, 0x00, 0x06, 0x70, 0x65, 0x6e, 0x64, 0x00, 0x01,
 ];
 
-// NONE, and behind it this agent's text of 509 bytes; then its hash.
+// NONE, and after it this agent's text of 509 bytes; then its hash.
 const FIRST_REPLY: [u8; 16] = [
     0x00, 0x00, 0x00, 0x01, 0x00, 0x00, 0x00, 0x01, 0x00, 0x00, 0x02, 0x13, 0x04, 0x02, 0xfa, 0x07,
 ];
@@ -77,7 +77,7 @@ fn replies(alloc: Global) -> Result<Vec<u8>, Fail> {
     Ok(stream)
 }
 
-// Serial 6, a buffer of 36 bytes: a handshake of both hashes, and no call behind it; and BOTH.
+// Serial 6, a buffer of 36 bytes: a handshake of both hashes, and no call after it; and BOTH.
 const KNOWN: [u8; 48] = [
     0x00, 0x00, 0x00, 0x06, 0x00, 0x00, 0x00, 0x01, 0x00, 0x00, 0x00, 0x24, 0x30, 0xda, 0x54, 0x05,
     0x9d, 0xf7, 0x2d, 0x95, 0x84, 0xb8, 0x67, 0xd5, 0x20, 0x2e, 0x20, 0x69, 0x00, 0x30, 0xda, 0x54,
@@ -163,7 +163,7 @@ fn a_dialogue(rt: HostRuntime) -> Result<(), Fail> {
 }
 
 #[test]
-fn an_append_behind_a_handshake(rt: HostRuntime) -> Result<(), Fail> {
+fn an_append_after_a_handshake(rt: HostRuntime) -> Result<(), Fail> {
     for append in APPENDS {
         for (verdict, reply) in APPEND_REPLIES {
             let mut stream = Vec::from_slice(rt.alloc(), &KNOWN)?;

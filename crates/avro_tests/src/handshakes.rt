@@ -81,7 +81,7 @@ const REFUSED_CALLS: [(&[u8], u64); 13] = [
         &[0x00, 0x0c, 0x61, 0x70, 0x70, 0x65, 0x6e, 0x64, 0x00, 0x01],
         9,
     ),
-    // a byte behind the event
+    // a byte after the event
     (
         &[
             0x00, 0x0c, 0x61, 0x70, 0x70, 0x65, 0x6e, 0x64, 0x00, 0x00, 0x00,
@@ -105,7 +105,7 @@ const REFUSED_CALLS: [(&[u8], u64); 13] = [
         ],
         16,
     ),
-    // a byte behind the batch
+    // a byte after the batch
     (
         &[
             0x00, 0x16, 0x61, 0x70, 0x70, 0x65, 0x6e, 0x64, 0x42, 0x61, 0x74, 0x63, 0x68, 0x00,
@@ -142,7 +142,7 @@ const REFUSED_CALLS: [(&[u8], u64); 13] = [
     (&[0x00, 0x0c, 0x61, 0x70], 2),
 ];
 
-// What stands behind a hash in place of a text, and where it is at fault: an index that is neither 0 nor 1, one of six
+// What stands after a hash in place of a text, and where it is at fault: an index that is neither 0 nor 1, one of six
 // bytes, a text that is none, and one of -1 bytes.
 const REFUSED_TEXTS: [(&[u8], u64); 4] = [
     (&[0x04, 0x00], 16),
@@ -151,7 +151,7 @@ const REFUSED_TEXTS: [(&[u8], u64); 4] = [
     (&[0x02, 0x01], 17),
 ];
 
-// A message and its answer. The bytes of a call may stand behind a handshake.
+// A message and its answer. The bytes of a call may stand after a handshake.
 struct Step {
     handshake: Option<Handshake>,
     call: &'static [u8],
@@ -168,7 +168,7 @@ struct Handshake {
 enum Answer {
     // the payload, and how many events wait for a verdict, which is OK, if any do
     Payload(&'static [u8], Option<usize>),
-    // the same behind this agent's text and hash, as CLIENT (02) or NONE (04) tells them
+    // the same after this agent's text and hash, as CLIENT (02) or NONE (04) tells them
     Greeting(u8, &'static [u8], Option<usize>),
     Refused(HopRefused),
 }
@@ -202,7 +202,7 @@ const ONE_CALL: Step = Step {
 
 // The messages of connections, in order.
 const CONNECTIONS: &[&[Step]] = &[
-    // a stranger is told this agent's text, and the call behind the handshake is left aside; then it sends its text
+    // a stranger is told this agent's text, and the call after the handshake is left aside; then it sends its text
     &[
         Step {
             handshake: Some(Handshake {
@@ -287,7 +287,7 @@ const CONNECTIONS: &[&[Step]] = &[
         },
         GREETED_BY_A_CALL,
     ],
-    // an unknown name, behind which all is left aside, and an empty one
+    // an unknown name, after which all is left aside, and an empty one
     &[
         GREETED,
         Step {
@@ -330,14 +330,14 @@ fn add_text(text: &Option<&str>, bytes: &mut Vec<u8>) -> Result<(), NoMemory> {
     }
 }
 
-// The text and the hash of this agent, as `found` tells them, and what stands behind.
-fn greeting(alloc: Global, found: u8, behind: &[u8]) -> Result<Vec<u8>, NoMemory> {
+// The text and the hash of this agent, as `found` tells them, and what stands after it.
+fn greeting(alloc: Global, found: u8, rest: &[u8]) -> Result<Vec<u8>, NoMemory> {
     let mut bytes = Vec::from_slice(alloc, &[found, 0x02])?;
     write_text(protocol_text(), &mut bytes)?;
     bytes.push(0x02)?;
     bytes.extend_from_slice(&HASH)?;
     bytes.push(0x00)?;
-    bytes.extend_from_slice(behind)?;
+    bytes.extend_from_slice(rest)?;
     Ok(bytes)
 }
 
@@ -367,8 +367,8 @@ fn is_answered_so(alloc: Global, hop: &mut Hop, step: &Step) -> Result<bool, NoM
         (Answer::Payload(payload, count), Ok((told, events))) => {
             told.as_slice() == *payload && events == *count
         }
-        (Answer::Greeting(how, behind, count), Ok((told, events))) => {
-            told.as_slice() == greeting(alloc, *how, behind)?.as_slice() && events == *count
+        (Answer::Greeting(how, rest, count), Ok((told, events))) => {
+            told.as_slice() == greeting(alloc, *how, rest)?.as_slice() && events == *count
         }
         (Answer::Refused(cause), Err(refused)) => refused == *cause,
         _ => false,
@@ -391,7 +391,7 @@ fn messages_of_connections(rt: HostRuntime) -> Result<(), Fail> {
 
 fn greeted(alloc: Global) -> Result<Hop, Fail> {
     let mut hop = Hop::new(alloc)?;
-    // BOTH with three nulls, and nothing behind an empty name
+    // BOTH with three nulls, and nothing after an empty name
     if !is_answered_so(alloc, &mut hop, &GREETED)? {
         return Err(Fail::from("not BOTH"));
     }
@@ -399,7 +399,7 @@ fn greeted(alloc: Global) -> Result<Hop, Fail> {
 }
 
 #[test]
-fn calls_behind_a_handshake(rt: HostRuntime) -> Result<(), Fail> {
+fn calls_after_a_handshake(rt: HostRuntime) -> Result<(), Fail> {
     let mut hop = greeted(rt.alloc())?;
     for (call, count) in CALLS {
         let (payload, events) = answered(&mut hop, call, Status::Ok)?;
@@ -415,7 +415,7 @@ fn calls_that_are_refused(rt: HostRuntime) -> Result<(), Fail> {
     for (call, at) in REFUSED_CALLS {
         assert!(rt;
             answered(&mut hop, call, Status::Ok) == Err(HopRefused::BadHandshake { at }),
-            "{at}"
+            "{call:?}"
         );
     }
     assert!(rt; is_answered_so(rt.alloc(), &mut hop, &ONE_CALL)?);
@@ -454,7 +454,7 @@ fn an_event_of_a_call(rt: HostRuntime) -> Result<(), Fail> {
     Ok(())
 }
 
-// Cut at each byte, and with no call behind it; then the connection is as it was.
+// Cut at each byte, and with no call after it; then the connection is as it was.
 #[test]
 fn handshakes_that_are_cut(rt: HostRuntime) -> Result<(), Fail> {
     let mut hop = Hop::new(rt.alloc())?;
@@ -480,12 +480,12 @@ fn handshakes_that_are_cut(rt: HostRuntime) -> Result<(), Fail> {
 #[test]
 fn handshakes_with_no_text(rt: HostRuntime) -> Result<(), Fail> {
     let mut hop = Hop::new(rt.alloc())?;
-    for (behind, at) in REFUSED_TEXTS {
+    for (rest, at) in REFUSED_TEXTS {
         let mut told = Vec::from_slice(rt.alloc(), &HASH)?;
-        told.extend_from_slice(behind)?;
+        told.extend_from_slice(rest)?;
         assert!(rt;
             answered(&mut hop, &told, Status::Ok) == Err(HopRefused::BadHandshake { at }),
-            "{at}"
+            "{rest:?}"
         );
     }
     assert!(rt; is_answered_so(rt.alloc(), &mut hop, &GREETED_BY_A_CALL)?);

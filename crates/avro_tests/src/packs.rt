@@ -106,8 +106,8 @@ fn cut_at_each_byte(rt: HostRuntime) -> Result<(), Fail> {
 fn what_passes_a_limit_is_refused_for_good(rt: HostRuntime) {
     for (piece, want) in TOO_GREAT {
         let mut packs = Packs::new(rt.alloc());
-        assert!(rt; packs.feed(piece) == Err(want), "{want:?}");
-        assert!(rt; packs.feed(&APPEND) == Err(want), "{want:?}");
+        assert!(rt; packs.feed(piece) == Err(want), "{piece:?}");
+        assert!(rt; packs.feed(&APPEND) == Err(want), "{piece:?}");
     }
 }
 

@@ -372,7 +372,7 @@ fn refused_texts(rt: HostRuntime) -> Result<(), Fail> {
     Ok(())
 }
 
-// RFC 1321, by another program.
+// RFC 1321, by another program. The hash that a connection tells is compared in the rows of handshakes.
 #[test]
 fn own_hash(rt: HostRuntime) {
     assert!(rt; protocol_text().len() == 509);

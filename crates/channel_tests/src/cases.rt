@@ -176,7 +176,7 @@ const CASES: [Case; 16] = [
         pieces: &[(1, LEFT_OPEN), (2, BLANK), (3, ROLLED_THIRD)],
         want: LEFT,
     },
-    // one byte behind an open commit byte
+    // one byte after an open commit byte
     Case {
         pieces: &[(1, &[BEGUN, OPEN, Piece::Garbage(1)])],
         want: Want::Bad(1, 16),

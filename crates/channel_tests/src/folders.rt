@@ -72,13 +72,13 @@ enum Holds {
 
 // An opening of a folder: the calls of the channel, and the log files after it was closed.
 struct Opening {
+    name: &'static str,
     turns: &'static [Turn],
     logs: &'static [(u32, Holds)],
 }
 
 // A folder with these log files, opened several times.
 struct Folder {
-    name: &'static str,
     logs: &'static [(u32, &'static [Piece])],
     limits: Limits,
     openings: &'static [Opening],
@@ -86,15 +86,16 @@ struct Folder {
 
 const FOLDERS: [Folder; 3] = [
     Folder {
-        name: "opened again",
         logs: &[],
         limits: LIMITS,
         openings: &[
             Opening {
+                name: "a first opening",
                 turns: &PUT_TWO,
                 logs: &[(1, Holds::Bytes(TWO_LINES)), (1, Holds::Length(115))],
             },
             Opening {
+                name: "a second opening",
                 turns: &PUT_THIRD,
                 logs: &[
                     (1, Holds::Bytes(TWO_LINES)),
@@ -105,16 +106,15 @@ const FOLDERS: [Folder; 3] = [
         ],
     },
     Folder {
-        name: "a file of 17 bytes counts as empty",
         logs: &[(1, &[Piece::Garbage(17)])],
         limits: LIMITS,
         openings: &[Opening {
+            name: "a file of 17 bytes counts as empty",
             turns: &NOTHING,
             logs: &[(2, Holds::Length(17))],
         }],
     },
     Folder {
-        name: "no log file is left",
         logs: &[(u32::MAX - 1, &[Piece::Garbage(17)])],
         limits: Limits {
             capacity: 10,
@@ -122,6 +122,7 @@ const FOLDERS: [Folder; 3] = [
             max_file: 66,
         },
         openings: &[Opening {
+            name: "no log file is left",
             turns: &LAST,
             logs: &[],
         }],
@@ -138,13 +139,8 @@ fn log_holds(disk: &MemDisk, number: u32, want: &Holds) -> bool {
 }
 
 // Opens the folder, makes each call, closes it and looks at its files.
-fn opens(
-    alloc: Global,
-    name: &str,
-    disk: MemDisk,
-    limits: Limits,
-    opening: &Opening,
-) -> Result<MemDisk, Fail> {
+fn opens(alloc: Global, disk: MemDisk, limits: Limits, opening: &Opening) -> Result<MemDisk, Fail> {
+    let name = opening.name;
     let mut tried = Tried::new(channel_on(alloc, disk, limits)?);
     answer(alloc, name, &mut tried, opening.turns)?;
     let Tried { channel, ticket: _ } = tried;
@@ -160,7 +156,7 @@ fn opens(
 fn opens_each_time(alloc: Global, folder: &Folder) -> Result<(), Fail> {
     let mut disk = disk(alloc, &files(alloc, folder.logs)?)?;
     for opening in folder.openings {
-        disk = opens(alloc, folder.name, disk, folder.limits, opening)?;
+        disk = opens(alloc, disk, folder.limits, opening)?;
     }
     Ok(())
 }

@@ -15,7 +15,7 @@ fn frame_is_scanned(rt: HostRuntime) {
             }
     );
     for end in 0..FRAME.len() {
-        assert!(&rt; scan_frame(&FRAME[..end]) == Scan::Part);
+        assert!(&rt; scan_frame(&FRAME[..end]) == Scan::Part, "{end}");
     }
     let mut wrong = FRAME;
     wrong[47] = 3;

@@ -77,7 +77,7 @@ fn a_transaction_has_its_own_list(rt: HostRuntime) -> Result<(), Fail> {
 
 // Of the puts of file 1, those from offset 31 on are moved.
 #[test]
-fn puts_behind_an_offset_are_moved(rt: HostRuntime) -> Result<(), Fail> {
+fn puts_from_an_offset_on_are_moved(rt: HostRuntime) -> Result<(), Fail> {
     let mut table = OpenTable::new(rt.alloc())?;
     table.begin(1, true, 2)?;
     table.add(1, Item::Put(FIRST));

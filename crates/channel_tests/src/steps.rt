@@ -19,7 +19,6 @@ pub enum Step {
     PutBytes(u64, usize),
     Take(u64),
     StagePut(u64),
-    StageTake(u64),
     CommitPut(u64),
     CommitTake(u64),
     RollbackPut(u64),
@@ -57,7 +56,6 @@ pub enum Said {
     Stale,
     Broken,
     TooManyOpen(u32),
-    TxnFull(u32),
     TooLarge(u64),
     Full(u32),
     DiskFault,
@@ -124,7 +122,6 @@ fn said_of_put(reply: Result<channel_face::Put, PutRefused>) -> Said {
                 counter: Counter::File,
             },
         ) => Said::SpentFile,
-        Err(PutRefused::TxnFull { count }) => Said::TxnFull(count),
         Err(PutRefused::TooLarge { size }) => Said::TooLarge(size),
         Err(PutRefused::Full { count }) => Said::Full(count),
         Err(PutRefused::DiskFault) => Said::DiskFault,
@@ -139,7 +136,7 @@ fn put<C: Channel>(channel: &mut C, number: u64, event: &Event) -> Said {
     said_of_put(reply)
 }
 
-// Puts an event of a byte so many times.
+// Puts an event whose body is so many times this byte.
 fn put_bytes<C: Channel>(
     alloc: Global,
     channel: &mut C,
@@ -172,7 +169,6 @@ fn said_of_take(reply: Result<Taken, TakeRefused>) -> Said {
                 counter: Counter::File,
             },
         ) => Said::SpentFile,
-        Err(TakeRefused::TxnFull { count }) => Said::TxnFull(count),
         Err(TakeRefused::DiskFault) => Said::DiskFault,
         Err(_) => Said::Other,
     }
@@ -212,13 +208,6 @@ fn stage_put<C: Channel>(channel: &mut C, number: u64) -> Result<Ticket, Said> {
     match channel.stage_put(PutTxn::new(1, number)) {
         Ok(ticket) => Ok(ticket),
         Err(refused) => Err(put_not_staged(refused)),
-    }
-}
-
-fn stage_take<C: Channel>(channel: &mut C, number: u64) -> Result<Ticket, Said> {
-    match channel.stage_take(TakeTxn::new(1, number)) {
-        Ok(ticket) => Ok(ticket),
-        Err(refused) => Err(take_not_staged(refused)),
     }
 }
 
@@ -281,7 +270,6 @@ fn made<C: Channel + Drop>(
         Step::PutBytes(number, size) => return put_bytes(alloc, channel, number, b'a', size),
         Step::Take(number) => take(channel, number),
         Step::StagePut(number) => keep(ticket, stage_put(channel, number)),
-        Step::StageTake(number) => keep(ticket, stage_take(channel, number)),
         Step::CommitPut(number) => keep(ticket, commit_put(channel, number)),
         Step::CommitTake(number) => keep(ticket, commit_take(channel, number)),
         Step::RollbackPut(number) => Said::Ended(channel.rollback_put(PutTxn::new(1, number))),

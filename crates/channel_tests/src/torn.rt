@@ -1,4 +1,4 @@
-// What a stop leaves of a flush, at each of its device calls.
+// What a crash leaves of a flush, at each of its device calls.
 ghost use Rattle.std.specs.Prelude.{◌≤◌};
 ghost use Rattle.event_core.specs.Content.{size};
 ghost use Rattle.channel_log.specs.Writer.{IsUnused};

@@ -168,7 +168,7 @@ const TWO_OF_THREE: Limits = Limits {
     max_file: 0,
 };
 
-const EXAMPLES: [Example; 13] = [
+const EXAMPLES: [Example; 11] = [
     Example {
         name: "a full channel, plain",
         over: Over::Plain(Kind::File),
@@ -188,39 +188,27 @@ const EXAMPLES: [Example; 13] = [
         turns: &FULL,
     },
     Example {
-        name: "commits in turn, plain",
+        name: "commits turned round, plain",
         over: Over::Plain(Kind::File),
         limits: TEN,
         turns: &TURNED,
     },
     Example {
-        name: "commits in turn, plain as in memory",
+        name: "commits turned round, plain as in memory",
         over: Over::Plain(Kind::Memory),
         limits: TEN,
         turns: &TURNED,
     },
     Example {
-        name: "commits in turn, in memory",
+        name: "commits turned round, in memory",
         over: Over::Memory,
         limits: TEN,
         turns: &TURNED,
     },
     Example {
-        name: "commits in turn, on a disk",
+        name: "commits turned round, on a disk",
         over: Over::Disk,
         limits: TEN,
-        turns: &TURNED,
-    },
-    Example {
-        name: "commits in turn, plain, short files",
-        over: Over::Plain(Kind::File),
-        limits: TEN_SHORT,
-        turns: &TURNED,
-    },
-    Example {
-        name: "commits in turn, plain as in memory, short files",
-        over: Over::Plain(Kind::Memory),
-        limits: TEN_SHORT,
         turns: &TURNED,
     },
     Example {
@@ -291,13 +279,13 @@ fn are_two_and_their_takes(journal: &[Entry]) -> bool {
 #[test]
 fn the_plain_channel_keeps_a_journal(rt: HostRuntime) -> Result<(), Fail> {
     let alloc = rt.alloc();
-    for kind in [Kind::File, Kind::Memory] {
+    for (name, kind) in [
+        ("a journal", Kind::File),
+        ("a journal as in memory", Kind::Memory),
+    ] {
         let mut tried = Tried::new(Machine::new(alloc, TEN_SHORT, kind)?);
-        answer(alloc, "a journal", &mut tried, &TURNED)?;
-        assert!(rt;
-            are_two_and_their_takes(tried.channel.journal()),
-            "{kind:?}"
-        );
+        answer(alloc, name, &mut tried, &TURNED)?;
+        assert!(rt; are_two_and_their_takes(tried.channel.journal()), "{name}");
     }
     Ok(())
 }

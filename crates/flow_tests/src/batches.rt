@@ -2,8 +2,8 @@
 use crate::channels::{in_memory, on_disk, plain};
 use crate::choices::{Chooses, selector_of};
 use crate::fixtures::large_event;
-use crate::patterns::Keys;
-use crate::setup::{batch_of, gives, intake_over, sizes};
+use crate::patterns::{DATE, Keys, NUMBERS};
+use crate::setup::{batch_of, gives, intake_over, shows, sizes};
 use crate::steps::Sets;
 use crate::{patterns, steps};
 use channel_face::{Channel, FaceRefused, OwnFace, PutRefused, StageCause};
@@ -43,9 +43,11 @@ enum Deed {
     PutZeros(usize, Verdict),
     // the channel at a place then gives these events, as text, and no more
     Gives(u32, &'static [&'static str]),
+    // the channel at a place has this event next, as text, which is given back to it
+    Shows(u32, &'static str),
 }
 
-use Deed::{Gives, Put, PutZeros};
+use Deed::{Gives, Put, PutZeros, Shows};
 
 fn is_right<C: Channel + Drop>(
     alloc: Global,
@@ -59,6 +61,7 @@ fn is_right<C: Channel + Drop>(
             Ok(intake.accept(one(alloc, large)?, 0) == *verdict)
         }
         Gives(place, events) => gives(alloc, intake, *place, events),
+        Shows(place, event) => shows(alloc, intake, *place, event),
     }
 }
 
@@ -74,18 +77,19 @@ struct Case {
     sizes: [u64; 3],
 }
 
-// Does what a case says, and names it where something is wrong.
+// Does what a case says, and names it and its deed where something is wrong.
 fn run<C: Channel + Drop>(alloc: Global, case: &Case, channels: Vec<C>) -> Result<(), Fail> {
+    let name = case.name;
     let links = links_of(alloc, case.links)?;
     let selector = selector_of(alloc, &case.chooses)?;
     let mut intake = intake_over(alloc, links, selector, channels)?;
-    for deed in case.deeds {
+    for (place, deed) in case.deeds.iter().enumerate() {
         if !is_right(alloc, &mut intake, deed)? {
-            return Err(Fail::from(case.name));
+            return Err(Fail::new(format_args!("{name}: deed {place}")));
         }
     }
     if sizes(alloc, intake)?.as_slice() != case.sizes.as_slice() {
-        return Err(Fail::from(case.name));
+        return Err(Fail::new(format_args!("{name}: sizes")));
     }
     Ok(())
 }
@@ -180,22 +184,17 @@ const TXN_FULL: Verdict = Verdict::Refused {
     cause: FaceRefused::Put(PutRefused::TxnFull { count: 1 }),
 };
 
-const NUMBERS: Keys<'static> = Keys::Extract(
-    "(\\d):(\\d):(\\d)",
-    &[("one", None), ("two", None), ("three", None)],
-);
+const THREE_NUMBERS: &str = "[one=1][state=CZ][three=3][two=2]1:2:3.4foobar5";
 
-const DATE: Keys<'static> = Keys::Extract(
-    "^(\\d{4}-\\d\\d-\\d\\d \\d\\d:\\d\\d)",
-    &[("timestamp", Some("yyyy-MM-dd HH:mm"))],
-);
+// One step sees both bodies, and finds nothing in the second.
+const NUMBERED: &[&str] = &[THREE_NUMBERS, "[state=CZ]1:2"];
 
 const DATED: &[&str] = &[
     "[state=CZ][timestamp=1350586020000]2012-10-18 18:47 up",
     "[state=CZ]2012-02-30 18:47 up",
 ];
 
-const FILED: &[Case] = &[
+const PLAIN_AND_ON_DISK: &[Case] = &[
     // CZ goes to the first channel and may go to the second; US goes to the third and may go to the second, also where that is full
     Case {
         name: "an event goes where its header says",
@@ -234,12 +233,28 @@ const FILED: &[Case] = &[
         chooses: ALL,
         deeds: &[
             Put(&[("CZ", "1:2:3.4foobar5")], TAKEN),
+            Put(&[("CZ", "1:2")], TAKEN),
             Put(&[("CZ", "1:2:3x")], TAKEN),
-            Gives(0, &["[one=1][state=CZ][three=3][two=2]1:2:3.4foobar5"]),
-            Gives(1, &["[one=1][state=CZ][three=3][two=2]1:2:3.4foobar5"]),
-            Gives(2, &["[one=1][state=CZ][three=3][two=2]1:2:3.4foobar5"]),
+            Gives(0, NUMBERED),
+            Gives(1, NUMBERED),
+            Gives(2, NUMBERED),
         ],
         sizes: [0, 0, 0],
+    },
+    Case {
+        name: "an event that is given back stays and dropped events are nowhere",
+        capacities: [10, 10, 10],
+        txn_capacity: 10,
+        links: &[Link::Looks(NUMBERS), Link::Looks(Keys::Filter("x", true))],
+        chooses: ALL,
+        deeds: &[
+            Put(&[("CZ", "1:2:3.4foobar5")], TAKEN),
+            Put(&[("CZ", "1:2:3x")], TAKEN),
+            Shows(0, THREE_NUMBERS),
+            Shows(1, THREE_NUMBERS),
+            Shows(2, THREE_NUMBERS),
+        ],
+        sizes: [1, 1, 1],
     },
     // the date at the front of a body becomes a header of its milliseconds, which for the first body python3 gives:
     // `int(datetime(2012, 10, 18, 18, 47, tzinfo=timezone.utc).timestamp() * 1000)`; the second body has a date that is none
@@ -306,7 +321,7 @@ const FILED: &[Case] = &[
 #[test]
 fn batches_come_into_plain_channels(rt: HostRuntime) -> Result<(), Fail> {
     let alloc = rt.alloc();
-    for case in FILED {
+    for case in PLAIN_AND_ON_DISK {
         run(
             alloc,
             case,
@@ -319,7 +334,7 @@ fn batches_come_into_plain_channels(rt: HostRuntime) -> Result<(), Fail> {
 #[test]
 fn batches_come_into_channels_on_disks(rt: HostRuntime) -> Result<(), Fail> {
     let alloc = rt.alloc();
-    for case in FILED {
+    for case in PLAIN_AND_ON_DISK {
         run(
             alloc,
             case,

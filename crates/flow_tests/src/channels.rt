@@ -1,15 +1,11 @@
 // Empty channels: in memory, plain ones, and in folders of disks in memory.
-ghost use Rattle.std.specs.Prelude.{◌≡◌, ◌<◌};
-
 use channel_face::{Kind, Limits};
-use file_channel::{FileChannel, OpenRefused, open_channel};
-use flume_host::Steps;
+use file_channel::FileChannel;
 use host_memory::MemDisk;
 use memory_channel::MemoryChannel;
 use std::alloc::Global;
-use std::marker::Brand;
-use std::sync::ledger::{Blank, Ledger};
 use std::test::Fail;
+use test_fixtures::channel_on;
 use txn_core::Machine;
 
 // Limits in memory, where there is no file.
@@ -52,27 +48,6 @@ pub fn plain(alloc: Global, capacities: [u32; 3], txn_capacity: u32) -> Result<V
     Ok(channels)
 }
 
-fn open<L: Ledger>(
-    alloc: Global,
-    blank: Blank,
-    disk: MemDisk,
-    limits: Limits,
-) -> Result<FileChannel<MemDisk>, Fail>
-    requires name { blank.name ≡ L.name }
-    requires parts { blank.parts ≡ L.parts }
-    requires some { 0 < L.parts }
-{
-    match open_channel(alloc, disk, limits, &mut Steps::<L>::new(blank)) {
-        Ok(channel) => Ok(channel),
-        Err(OpenRefused { disk: _, cause: _ }) => Err(Fail::from("no channel")),
-    }
-}
-
-// A channel with these limits on a disk.
-pub fn opened(alloc: Global, disk: MemDisk, limits: Limits) -> Result<FileChannel<MemDisk>, Fail> {
-    open::<Brand>(alloc, Blank::new(1), disk, limits)
-}
-
 // The same as `plain`, in folders that hold nothing.
 pub fn on_disk(
     alloc: Global,
@@ -81,7 +56,7 @@ pub fn on_disk(
 ) -> Result<Vec<FileChannel<MemDisk>>, Fail> {
     let mut channels = Vec::new(alloc);
     for capacity in capacities {
-        channels.push(opened(alloc, MemDisk::new(alloc), limits(capacity, txn_capacity))?)?;
+        channels.push(channel_on(alloc, MemDisk::new(alloc), limits(capacity, txn_capacity))?)?;
     }
     Ok(channels)
 }

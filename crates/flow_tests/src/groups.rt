@@ -26,7 +26,7 @@ struct Case {
     fails: &'static [&'static [u64]],
     // moments, and what is answered
     deliveries: &'static [(u64, Answer)],
-    // what the folders hold in the end, with a semicolon behind each
+    // what the folders hold in the end, with a semicolon after each
     files: &'static [u8],
 }
 
@@ -130,7 +130,7 @@ fn is_answer(answer: &Result<u32, GroupRefused>, said: &Answer) -> bool {
     }
 }
 
-// What the folders hold, as text, with a semicolon behind each.
+// What the folders hold, as text, with a semicolon after each.
 fn listings(alloc: Global, members: Vec<Rolls>) -> Result<Vec<u8>, Fail> {
     let mut text = Vec::new(alloc);
     for member in members {
@@ -163,7 +163,7 @@ fn one_member_takes_each_batch(rt: HostRuntime) -> Result<(), Fail> {
     Ok(())
 }
 
-// The moments of deliveries, what is answered, and the count of faults behind it. The second member takes what the first refuses.
+// The moments of deliveries, what is answered, and the count of faults after it. The second member takes what the first refuses.
 // Where both refuse, the group does, and counts that too.
 const DELIVERIES: &[(u64, Result<(), SinkRefused>, u64)] = &[
     (1000, Ok(()), 1),

@@ -19,6 +19,8 @@ mod patterns;
 #[cfg(test)]
 mod plugins;
 #[cfg(test)]
+mod rolled_files;
+#[cfg(test)]
 mod schedules;
 #[cfg(test)]
 mod setup;

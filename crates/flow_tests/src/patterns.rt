@@ -87,13 +87,19 @@ struct Case {
     keys: Keys<'static>,
     headers: Pairs<'static>,
     body: &'static [u8],
-    // the event behind the step as text, or `dropped`
+    // the event after the step as text, or `dropped`
     want: &'static [u8],
 }
 
-const NUMBERS: Keys<'static> = Extract(
+pub const NUMBERS: Keys<'static> = Extract(
     "(\\d):(\\d):(\\d)",
     &[("one", None), ("two", None), ("three", None)],
+);
+
+// A date at the front of a line.
+pub const DATE: Keys<'static> = Extract(
+    "^(\\d{4}-\\d\\d-\\d\\d \\d\\d:\\d\\d)",
+    &[("timestamp", Some("yyyy-MM-dd HH:mm"))],
 );
 
 const OLD: Pairs<'static> = &[("two", "old"), ("four", "old")];
@@ -213,10 +219,7 @@ const CASES: &[Case] = &[
     },
     Case {
         name: "the date of a line",
-        keys: Extract(
-            "^(\\d{4}-\\d\\d-\\d\\d \\d\\d:\\d\\d)",
-            &[("timestamp", Some("yyyy-MM-dd HH:mm"))],
-        ),
+        keys: DATE,
         headers: &[],
         body: b"2012-10-18 18:47 up",
         want: b"[timestamp=1350586020000]2012-10-18 18:47 up",
@@ -345,7 +348,7 @@ const BAD: Option<BuildRefused> = Some(BuildRefused::BadPattern);
 
 const LARGE: Option<BuildRefused> = Some(BuildRefused::NoMemory);
 
-// Patterns, and why no step is built of them. `regex` reads each that is refused for want of memory, and refuses it for its built
+// Patterns, and why no step is built of them. `regex` reads each that is refused as out of memory, and refuses it for its built
 // size, of which the limit is 10 MiB: that is no bad pattern.
 const BUILDS: &[(&str, Option<BuildRefused>)] = &[
     ("(", BAD),
@@ -362,9 +365,14 @@ const BUILDS: &[(&str, Option<BuildRefused>)] = &[
 fn steps_are_built_or_refused(rt: HostRuntime) {
     let alloc = rt.alloc();
     for (regex, want) in BUILDS {
-        for keys in [Filter(regex, false), Replace(regex, "")] {
-            assert!(rt; refusal(alloc, &keys) == *want, "{regex}");
-        }
+        assert!(rt;
+            refusal(alloc, &Filter(regex, false)) == *want,
+            "filter {regex}"
+        );
+        assert!(rt;
+            refusal(alloc, &Replace(regex, "")) == *want,
+            "replace {regex}"
+        );
     }
 }
 
@@ -401,7 +409,7 @@ fn texts_that_are_no_patterns_of_dates(rt: HostRuntime) {
 }
 
 // A step that adds bytes, the bytes of a body, of which an event without headers has 33,554,424 at most, and the size for which
-// the event is refused behind the step.
+// the event is refused after the step.
 const GROWN: &[(Keys<'static>, usize, Option<u64>)] = &[
     // one byte more for the one match
     (Replace("^a", "xx"), 33_554_423, None),

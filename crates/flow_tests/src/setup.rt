@@ -109,10 +109,11 @@ pub fn sizes<C: Channel + Drop>(
     Ok(sizes)
 }
 
-// Takes the next event of the channel at a place out of it, in a transaction of its own.
+// The next event of the channel at a place, by a transaction of its own: it is then gone from the channel, or stays in it.
 fn next_at<C: Channel + Drop>(
     intake: &mut Intake<OwnFace<C>>,
     place: u32,
+    stays: bool,
 ) -> Result<Option<Event>, Fail> {
     if place >= intake.port_count() {
         return Err(Fail::from("no such channel"));
@@ -122,7 +123,9 @@ fn next_at<C: Channel + Drop>(
         return Err(Fail::from("no transaction"));
     };
     let taken = port.take(&mut txn);
-    if port.commit(txn).is_err() {
+    if stays {
+        port.rollback(txn);
+    } else if port.commit(txn).is_err() {
         return Err(Fail::from("no commit"));
     }
     match taken {
@@ -139,12 +142,25 @@ pub fn gives<C: Channel + Drop>(
     events: &[&str],
 ) -> Result<bool, Fail> {
     for want in events {
-        let Some(event) = next_at(intake, place)? else {
+        let Some(event) = next_at(intake, place, false)? else {
             return Ok(false);
         };
         if shown(alloc, &event)?.as_slice() != want.as_bytes() {
             return Ok(false);
         }
     }
-    Ok(next_at(intake, place)?.is_none())
+    Ok(next_at(intake, place, false)?.is_none())
+}
+
+// Whether the next event of the channel at a place is this one, as text. It stays there.
+pub fn shows<C: Channel + Drop>(
+    alloc: Global,
+    intake: &mut Intake<OwnFace<C>>,
+    place: u32,
+    want: &str,
+) -> Result<bool, Fail> {
+    let Some(event) = next_at(intake, place, true)? else {
+        return Ok(false);
+    };
+    Ok(shown(alloc, &event)?.as_slice() == want.as_bytes())
 }

@@ -132,7 +132,7 @@ fn headers_are_set_kept_and_removed(rt: HostRuntime) -> Result<(), Fail> {
     Ok(())
 }
 
-// The size for which an event of such a body is refused behind a step that adds the header `a` = `b`.
+// The size for which an event of such a body is refused after a step that adds the header `a` = `b`.
 fn too_large(alloc: Global, body: usize) -> Result<Option<u64>, Fail> {
     let step = step_of(alloc, &Fixed("a", "b", true))?;
     match apply(&step, large_event(alloc, OLD, b'x', body)?, 0, "h") {

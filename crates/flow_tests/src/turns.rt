@@ -124,7 +124,7 @@ fn group(alloc: Global) -> Result<GroupSink<RollSink<MemRoll>, MemRandom>, Fail>
     Ok(GroupSink::new(run, MemRandom { number: 0, step: 0 }))
 }
 
-// The moments of turns, what each is, and the count of faults and the events that are left behind it.
+// The moments of turns, what each is, and the count of faults and the events that are left after it.
 const GROUP_TURNS: &[(u64, Turn, u64, u64)] = &[
     (7, Turn::Delivered { n: 2 }, 1, 1),
     (8, REFUSED, 3, 1),

@@ -131,7 +131,7 @@ fn a_port_settles_what_another_staged(rt: HostRuntime) -> Result<(), Fail> {
     let one = stage(&rt, &shared, &mut a, &event)?;
     let (b, reply) = put_by_port(&rt, alloc, &shared, b);
     assert!(rt; reply == Some(Ok(1)));
-    // a begin, a put, a stage and a flush, behind the three of the other pass
+    // a begin, a put, a stage and a flush, after the three of the other pass
     assert_eq!(rt; b.seen(), 7);
     assert!(rt; shared.settled(&rt, &mut a, &one) == Settled::Yes);
     assert_eq!(rt; syncs_of(&rt, shared, a, b), before.saturating_add(2));

@@ -5,7 +5,7 @@ use channel_face::{Limits, OpenCause};
 use file_channel::{FileChannel, OpenRefused, open_channel};
 use flume_host::Steps;
 use host_memory::{DiskFault, MemDisk, Part};
-use std::alloc::Global;
+use std::alloc::{AllocError, Global};
 use std::marker::Brand;
 use std::sync::ledger::{Blank, Ledger};
 
@@ -60,14 +60,18 @@ pub fn disk_after_opening(alloc: Global, limits: Limits) -> Result<MemDisk, Open
     Ok(channel_on(alloc, MemDisk::new(alloc), limits)?.close())
 }
 
-/// An empty folder's disk, of which the second sync of the first flush fails. The flush writes, syncs, writes and syncs.
+/// An empty folder's disk, of which one call fails.
+pub fn disk_failing_at(alloc: Global, call: u64, part: Part) -> Result<MemDisk, AllocError> {
+    let fault = DiskFault { call, part };
+    Ok(MemDisk::new(alloc).failing_at(vec![in alloc; fault]?))
+}
+
+/// An empty folder's disk, of which the second sync of the first flush fails, where a channel with these limits is opened and
+/// nothing else comes before the flush. The flush writes, syncs, writes and syncs.
 pub fn disk_failing_in_flush(alloc: Global, limits: Limits) -> Result<MemDisk, OpenCause> {
-    let fault = DiskFault {
-        call: disk_after_opening(alloc, limits)?.calls().saturating_add(3),
-        part: Part::Nothing,
-    };
-    match vec![in alloc; fault] {
-        Ok(faults) => Ok(MemDisk::new(alloc).failing_at(faults)),
+    let calls = disk_after_opening(alloc, limits)?.calls();
+    match disk_failing_at(alloc, calls.saturating_add(3), Part::Nothing) {
+        Ok(disk) => Ok(disk),
         Err(_) => Err(OpenCause::NoMemory),
     }
 }

@@ -2,8 +2,8 @@
 use channel_face::{Channel, CommitRefused, StageRefused};
 use event_core::Event;
 
-/// Puts an event as a transaction of its own, and answers whether it is put and committed. Where it is not put, an empty
-/// transaction is committed.
+/// Puts an event as a transaction of its own, and answers whether it is put and committed. Where the put is refused, the empty
+/// transaction is committed; where the commit is, it is rolled back.
 pub fn put<C: Channel>(channel: &mut C, event: &Event) -> bool {
     let Ok(mut txn) = channel.begin_put() else {
         return false;

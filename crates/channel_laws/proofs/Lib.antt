@@ -1,0 +1,9 @@
+pub mod Moving
+pub mod Telling
+pub mod Settling
+pub mod Staging
+pub mod Numbering
+pub mod Transactions
+pub mod Meeting
+pub mod Worked
+pub mod Owned

@@ -1,0 +1,5 @@
+use Rattle.channel_laws.proofs.Owned.{taken_is_in_journal}
+use Rattle.channel_laws.proofs.ports.port_committed_is_in_journal.Goals as goal
+
+pub returns : goal.returns
+returns g c = λ v count token earlier more all own commit. taken_is_in_journal g.C.Channel.stands g.C.Channel.tells v count earlier more all own token commit

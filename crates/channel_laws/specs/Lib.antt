@@ -1,0 +1,5 @@
+pub mod Tickets
+pub mod Transactions
+pub mod Rows
+pub mod Ports
+pub mod PortRows

@@ -1,0 +1,15 @@
+//! Laws of channels: what the answer to a ticket, to a whole transaction and to a port's says of the journal. Its functions do
+//! nothing: each states a law.
+#![tactic(auto)]
+
+mod ports;
+mod rows;
+mod tickets;
+
+pub use ports::{port_answered_is_in_journal, port_committed_is_in_journal};
+pub use rows::{one_is_taken, two_batches_and_one_flush, two_ports_and_one_flush};
+pub use tickets::{
+    answered_is_in_journal, committed_is_in_journal, own_answered_is_in_journal,
+    own_committed_is_in_journal, settled_is_in_journal, settling_settles, stays_settled,
+    tickets_number_puts, unsettled_is_staged,
+};

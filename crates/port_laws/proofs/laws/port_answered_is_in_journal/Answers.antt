@@ -1,5 +1,0 @@
-use Rattle.port_laws.proofs.Owned.{put_is_in_journal}
-use Rattle.port_laws.proofs.laws.port_answered_is_in_journal.Goals as goal
-
-pub returns : goal.returns
-returns g c = λ v count number events earlier more all own batch keep. put_is_in_journal g.C.Channel.stands g.C.Channel.tells v count earlier more all own number events batch keep

@@ -1,5 +1,0 @@
-use Rattle.port_laws.proofs.Owned.{taken_is_in_journal}
-use Rattle.port_laws.proofs.laws.port_committed_is_in_journal.Goals as goal
-
-pub returns : goal.returns
-returns g c = λ v count token earlier more all own commit. taken_is_in_journal g.C.Channel.stands g.C.Channel.tells v count earlier more all own token commit

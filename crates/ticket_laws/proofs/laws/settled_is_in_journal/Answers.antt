@@ -1,5 +1,0 @@
-use Rattle.ticket_laws.proofs.Staging.{kept_if_settled}
-use Rattle.ticket_laws.proofs.laws.settled_is_in_journal.Goals as goal
-
-pub returns : goal.returns
-returns c = kept_if_settled

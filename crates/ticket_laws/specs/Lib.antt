@@ -1,3 +1,0 @@
-pub mod Tickets
-pub mod Transactions
-pub mod Rows
