@@ -1,7 +1,9 @@
 mod Look
 mod Files
 mod Least
+mod Listed
 mod Replay
 mod Paths
 mod Tearing
+mod Choosing
 pub mod Rolling

@@ -5,6 +5,7 @@ pub mod Laws
 pub mod Stops
 pub mod Rolls
 pub mod Words
+pub mod Faults
 pub mod Times
 pub mod Folders
 pub mod HostWords

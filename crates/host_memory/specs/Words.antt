@@ -3,6 +3,8 @@ use Rattle.std.specs.Prelude.{ℕ, List, [], Option, take, true, false}
 use Rattle.flume_host.specs.Folder.{Files}
 use Rattle.flume_host.specs.Rolled.{Rolled}
 use Rattle.flume_host.specs.Told.{Told}
+use Rattle.host_memory.specs.declared.parts.MemCall.{MemCall}
+use Rattle.host_memory.specs.declared.parts.MemFile.{MemFile}
 use Rattle.host_memory.specs.declared.stream.MemSource.{MemSource}
 use Rattle.host_memory.specs.declared.stream.MemSink.{MemSink}
 use Rattle.host_memory.specs.declared.store.Store.{Store}
@@ -64,6 +66,13 @@ told_in d = told_by d.tells d.store.first.items d.store.calls.items
 -- what a disk would tell by its record, also where it tells nothing
 abbrev pub record_in : MemDisk → Told
 record_in d = replayed d.store
+
+-- the files that it had first, and its recorded calls
+abbrev pub files_first : MemDisk → List MemFile
+files_first d = d.store.first.items
+
+abbrev pub calls_made : MemDisk → List MemCall
+calls_made d = d.store.calls.items
 
 -- what reads of a disk give
 abbrev pub reads_in : MemDisk → Files

@@ -1,5 +1,6 @@
 // A disk in memory keeps its files, and each call that changed them.
 ghost use Rattle.std.specs.Prelude.{◌≡◌};
+ghost use Rattle.host_memory.specs.Faults as Faults;
 ghost use Rattle.host_memory.specs.Parts.{answer_of, told_by};
 
 use crate::parts::{MemFile, Outcome, Part, least_above, place_of, read_bytes};
@@ -25,29 +26,49 @@ pub struct DiskScript {
     calls: u64,
 }
 
+// How much is done of a call that has done this before it fails.
+fn cut_at(part: Part) -> Outcome
+    ensures { result ≡ Faults.cut_at part }
+{
+    match part {
+        Part::Nothing => Outcome::Nothing,
+        Part::Front(n) => Outcome::Partly(n),
+    }
+}
+
+// How much is to be done of the call of this number.
+fn outcome_at(faults: &[DiskFault], call: u64) -> Outcome
+    ensures { result ≡ Faults.outcome_at faults.now call }
+{
+    for i in 0..faults.len() {
+        if call == faults[i].call {
+            return cut_at(faults[i].part);
+        }
+    }
+    Outcome::Whole
+}
+
 impl DiskScript {
-    ghost use Rattle.std.specs.Prelude.{ℕ, ◌+◌, ◌-◌, ◌^◌, min};
+    ghost use Rattle.std.specs.Prelude.{ℕ, ◌+◌, ◌-◌, ◌^◌, ◌↔◌, ◌≢◌, IsTrue, min};
+    ghost use Rattle.host_memory.specs.Faults.{outcome_at};
+    ghost use Rattle.host_memory.specs.declared.parts.Outcome.{Outcome};
 
     // Counts a call, and says how much of it is to be done.
     fn next_outcome(&mut self) -> Outcome
-        ensures { self.new.calls ≡ min (self.old.calls + 1) (2 ^ 64 - 1) }
+        ensures due { result ≡ outcome_at self.old.faults.items self.old.calls }
+        ensures counted { self.new.calls ≡ min (self.old.calls + 1) (2 ^ 64 - 1) }
+        ensures same { self.new.faults.items ≡ self.old.faults.items }
     {
-        let call = self.calls;
-        self.calls = call.saturating_add(1);
-        for fault in &self.faults {
-            if fault.call == call {
-                return match fault.part {
-                    Part::Nothing => Outcome::Nothing,
-                    Part::Front(n) => Outcome::Partly(n),
-                };
-            }
-        }
-        Outcome::Whole
+        let outcome = outcome_at(&self.faults, self.calls);
+        self.calls = self.calls.saturating_add(1);
+        outcome
     }
 
     // Counts a call that only reads, and says whether it is to fail.
     fn next_fails(&mut self) -> bool
-        ensures { self.new.calls ≡ min (self.old.calls + 1) (2 ^ 64 - 1) }
+        ensures due { IsTrue result ↔ (outcome_at self.old.faults.items self.old.calls ≢ Outcome.Whole) }
+        ensures counted { self.new.calls ≡ min (self.old.calls + 1) (2 ^ 64 - 1) }
+        ensures same { self.new.faults.items ≡ self.old.faults.items }
     {
         match self.next_outcome() {
             Outcome::Whole => false,
@@ -69,7 +90,8 @@ impl MemDisk {
     ghost use Rattle.std.specs.Prelude.{[], List, None, Some, IfOk, MatchOption};
     ghost use Rattle.host_memory.specs.Parts.{files_of, start};
     ghost use Rattle.flume_host.specs.Told.{IsLeftAt, clock};
-    ghost use Rattle.host_memory.specs.Words.{told_in, disk_calls, disk_faults, disk_script, reads_in, record_in, syncs_in};
+    ghost use Rattle.host_memory.specs.Stops.{chosen, image_chosen};
+    ghost use Rattle.host_memory.specs.Words.{told_in, calls_made, disk_calls, disk_faults, disk_script, files_first, reads_in, record_in, syncs_in};
 
     /// An empty disk that tells, no call of which is to fail.
     pub fn new(alloc: Global) -> Self
@@ -117,7 +139,8 @@ impl MemDisk {
     /// A disk as a stop at a moment may have left this one, its files stable: moment m is within the recorded call
     /// number m, or after the last. Each recorded call has a choice of what stands of it, and the choices go round.
     pub fn stopped_at(&self, moment: u64, choices: &[Stood]) -> Result<Self, AllocError>
-        ensures left { IfOk result (λ disk. (files : List MemFile) × (told_in disk ≡ Some (start files)) × IsLeftAt (record_in self.now) moment (files_of files)) }
+        ensures left { IfOk result (λ disk. (files : List MemFile) × (told_in disk ≡ Some (start files)) × IsLeftAt (record_in self.now) moment (files_of files)
+            × (files_of files ≡ image_chosen (chosen choices.now) (files_first self.now) (calls_made self.now) moment)) }
         ensures count { IfOk result (λ disk. disk_faults disk ≡ 0) }
     {
         let alloc = self.store.alloc;
@@ -171,6 +194,13 @@ fn answered(outcome: Outcome, noted: Result<(), Failed>) -> Result<(), Failed>
 
 impl Disk for MemDisk {
     ghost use Rattle.host_memory.specs.Laws.{sound};
+    ghost use Rattle.std.specs.Prelude.{ℕ, List, ◌≢◌, ◌⊎◌, ◌↔◌, ◌<◌, ◌≤◌, ◌+◌, ◌-◌, ◌++◌, ◌^◌, IsErr, IfOk, IfSome, OnOk, None, Some, length, min, take, drop};
+    ghost use Rattle.flume_host.specs.Causes.{HasCause};
+    ghost use Rattle.flume_host.specs.Folder.{IsAbove, IsNext};
+    ghost use Rattle.flume_host.specs.Told.{Does, On, Make, Write, Sync, Settle, Remove, WhereTold};
+    ghost use Rattle.host_memory.specs.Faults.{Follows, IsCounted, next_outcome};
+    ghost use Rattle.host_memory.specs.Words.{disk_faults, reads_in, record_in, told_in};
+    ghost use Rattle.host_memory.specs.declared.parts.Outcome.{Outcome};
 
     ghost told = { λ d. told_by d.tells d.store.first.items d.store.calls.items };
 
@@ -182,13 +212,25 @@ impl Disk for MemDisk {
         self.faults
     }
 
-    fn make(&mut self, name: FileName) -> Result<(), Failed> {
+    fn make(&mut self, name: FileName) -> Result<(), Failed>
+        ensures done { Does (On name Make) result (told_in self.old) (told_in self.new) }
+        ensures cause { HasCause (disk_faults self.old) (disk_faults self.new) result }
+        ensures follows { Follows (next_outcome self.old) (On name Make) (record_in self.old) (record_in self.new) result }
+        ensures counted { IsCounted self.old self.new }
+    {
         let outcome = self.script.next_outcome();
         let noted = self.store.make(name, outcome);
         counted(&mut self.faults, answered(outcome, noted))
     }
 
-    fn len(&mut self, name: FileName) -> Result<u64, Failed> {
+    fn len(&mut self, name: FileName) -> Result<u64, Failed>
+        ensures length { IfOk result (λ n. WhereTold (told_in self.old) (λ t. (bytes : List ℕ) × (t.reads name ≡ Some bytes) × (n ≡ length bytes))) }
+        ensures bounded { IfOk result (λ n. n < 2 ^ 63) }
+        ensures same { told_in self.new ≡ told_in self.old }
+        ensures cause { HasCause (disk_faults self.old) (disk_faults self.new) result }
+        ensures listed { IsErr result ↔ ((next_outcome self.old ≢ Outcome.Whole) ⊎ (reads_in self.old name ≡ None)) }
+        ensures counted { IsCounted self.old self.new }
+    {
         if self.script.next_fails() {
             return counted(&mut self.faults, Err(Failed));
         }
@@ -198,7 +240,15 @@ impl Disk for MemDisk {
         }
     }
 
-    fn read(&mut self, name: FileName, at: u64, into: &mut [u8]) -> Result<usize, Failed> {
+    fn read(&mut self, name: FileName, at: u64, into: &mut [u8]) -> Result<usize, Failed>
+        ensures bytes { IfOk result (λ n. WhereTold (told_in self.old) (λ t. (bytes : List ℕ) × (t.reads name ≡ Some bytes)
+            × (n ≡ min (length into.old) (length bytes - at)) × (into.new ≡ take n (drop at bytes) ++ drop n into.old))) }
+        ensures filled { IfOk result (λ n. n ≤ length into.old) }
+        ensures same { told_in self.new ≡ told_in self.old }
+        ensures cause { HasCause (disk_faults self.old) (disk_faults self.new) result }
+        ensures listed { IsErr result ↔ ((next_outcome self.old ≢ Outcome.Whole) ⊎ (reads_in self.old name ≡ None)) }
+        ensures counted { IsCounted self.old self.new }
+    {
         if self.script.next_fails() {
             return counted(&mut self.faults, Err(Failed));
         }
@@ -208,31 +258,59 @@ impl Disk for MemDisk {
         }
     }
 
-    fn write_at(&mut self, name: FileName, at: u64, bytes: &[u8]) -> Result<(), Failed> {
+    fn write_at(&mut self, name: FileName, at: u64, bytes: &[u8]) -> Result<(), Failed>
+        ensures done { Does (On name (Write at bytes.now)) result (told_in self.old) (told_in self.new) }
+        ensures bounded { OnOk result (at + length bytes.now < 2 ^ 63) }
+        ensures cause { HasCause (disk_faults self.old) (disk_faults self.new) result }
+        ensures follows { Follows (next_outcome self.old) (On name (Write at bytes.now)) (record_in self.old) (record_in self.new) result }
+        ensures counted { IsCounted self.old self.new }
+    {
         let outcome = self.script.next_outcome();
         let noted = self.store.write(name, at, bytes, outcome);
         counted(&mut self.faults, answered(outcome, noted))
     }
 
-    fn sync(&mut self, name: FileName) -> Result<(), Failed> {
+    fn sync(&mut self, name: FileName) -> Result<(), Failed>
+        ensures done { Does (On name Sync) result (told_in self.old) (told_in self.new) }
+        ensures cause { HasCause (disk_faults self.old) (disk_faults self.new) result }
+        ensures follows { Follows (next_outcome self.old) (On name Sync) (record_in self.old) (record_in self.new) result }
+        ensures counted { IsCounted self.old self.new }
+    {
         let outcome = self.script.next_outcome();
         let noted = self.store.sync(name, outcome);
         counted(&mut self.faults, answered(outcome, noted))
     }
 
-    fn settle(&mut self) -> Result<(), Failed> {
+    fn settle(&mut self) -> Result<(), Failed>
+        ensures done { Does Settle result (told_in self.old) (told_in self.new) }
+        ensures cause { HasCause (disk_faults self.old) (disk_faults self.new) result }
+        ensures follows { Follows (next_outcome self.old) Settle (record_in self.old) (record_in self.new) result }
+        ensures counted { IsCounted self.old self.new }
+    {
         let outcome = self.script.next_outcome();
         let noted = self.store.settle(outcome);
         counted(&mut self.faults, answered(outcome, noted))
     }
 
-    fn remove(&mut self, name: FileName) -> Result<(), Failed> {
+    fn remove(&mut self, name: FileName) -> Result<(), Failed>
+        ensures done { Does (On name Remove) result (told_in self.old) (told_in self.new) }
+        ensures cause { HasCause (disk_faults self.old) (disk_faults self.new) result }
+        ensures follows { Follows (next_outcome self.old) (On name Remove) (record_in self.old) (record_in self.new) result }
+        ensures counted { IsCounted self.old self.new }
+    {
         let outcome = self.script.next_outcome();
         let noted = self.store.remove(name, outcome);
         counted(&mut self.faults, answered(outcome, noted))
     }
 
-    fn next_name(&mut self, after: Option<FileName>) -> Result<Option<FileName>, Failed> {
+    fn next_name(&mut self, after: Option<FileName>) -> Result<Option<FileName>, Failed>
+        ensures above { IfOk result (λ next. IfSome next (λ n. IsAbove after n)) }
+        ensures next { IfOk result (λ next. WhereTold (told_in self.old) (λ t. IsNext t.reads after next)) }
+        ensures same { told_in self.new ≡ told_in self.old }
+        ensures cause { HasCause (disk_faults self.old) (disk_faults self.new) result }
+        ensures listed { IsErr result ↔ (next_outcome self.old ≢ Outcome.Whole) }
+        ensures counted { IsCounted self.old self.new }
+    {
         if self.script.next_fails() {
             return counted(&mut self.faults, Err(Failed));
         }

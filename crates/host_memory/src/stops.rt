@@ -3,7 +3,7 @@ ghost use Rattle.std.specs.Prelude.{◌≡◌, None, Some, OnOk, IfOk};
 ghost use Rattle.flume_host.specs.Folder.{with_at};
 ghost use Rattle.flume_host.specs.Told.{IsLeftAt, Make, Write, file_after, read_by};
 ghost use Rattle.host_memory.specs.Parts.{call_of, files_of, part_after, part_read, told_of};
-ghost use Rattle.host_memory.specs.Stops.{image_by, image_kept, image_torn, reads_by, stood_of};
+ghost use Rattle.host_memory.specs.Stops.{chosen, image_by, image_chosen, image_kept, image_torn, reads_by, stood_of};
 
 use crate::parts::{
     MemCall, MemFile, Outcome, Recorded, copy_files, is_same, over_bytes, place_of,
@@ -216,7 +216,9 @@ fn leave(
 }
 
 // The choices go round, and without any all is as it was.
-fn choice_at(choices: &[Stood], i: usize) -> Stood {
+fn choice_at(choices: &[Stood], i: usize) -> Stood
+    ensures { result ≡ chosen choices.now i }
+{
     if choices.is_empty() {
         Stood::Old
     } else {
@@ -233,7 +235,8 @@ pub fn image_at(
     moment: u64,
     choices: &[Stood],
 ) -> Result<Vec<MemFile>, AllocError>
-    ensures { IfOk result (λ image. IsLeftAt (told_of first.now calls.now) moment (files_of image.items)) }
+    ensures left { IfOk result (λ image. IsLeftAt (told_of first.now calls.now) moment (files_of image.items)) }
+    ensures chosen { IfOk result (λ image. files_of image.items ≡ image_chosen (chosen choices.now) first.now calls.now moment) }
 {
     let mut files = copy_files(alloc, first)?;
     let mut image = copy_files(alloc, first)?;
