@@ -9,3 +9,4 @@ pub mod LawLemmas
 pub mod Going
 pub mod Spent
 pub mod Grammar
+pub mod Within

@@ -1,11 +1,13 @@
 -- Laws of the channel machine.
-use Rattle.std.specs.Prelude.{◌≡◌, ◌<◌, ℕ, List, [], ◌∷◌, ◌++◌, Bool, Ok}
+use Rattle.std.specs.Prelude.{◌≡◌, ◌<◌, ◌≤◌, ◌+◌, ℕ, List, [], ◌∷◌, ◌++◌, length, Bool, Ok}
 use Rattle.std.specs.List.{AllByRecursion}
 use Rattle.event_core.specs.Content.{Content}
-use Rattle.event_core.specs.Journal.{IsBase, IsJournal, IsWellFormed, after_journal}
-use Rattle.channel_face.specs.Machine.{State, Call, Reopen, Kept, Front, Read, base_of, free}
+use Rattle.event_core.specs.Journal.{IsBase, IsJournal, IsWellFormed, after_journal, put_events}
+use Rattle.channel_face.specs.Machine.{State, Call, Reopen, Kept, Front, Read, base_of, free, count}
 use Rattle.channel_face.specs.History.{Step, Opening, opening, IsRun, state_after, journal, commits}
 use Rattle.channel_face.specs.Counters.{tally, counted}
+use Rattle.channel_face.specs.declared.replies.Kind.{Kind}
+use Rattle.channel_face.specs.declared.replies.Kind.TheVariants.{File as OnFile, Memory as InMemory}
 
 abbrev pub IsFront : Kept → Type 0
 IsFront (Front k) = Unit {0}
@@ -43,3 +45,14 @@ CommitsAreWellFormed =
 -- What is counted of a history with one more call is what was counted, and that call.
 abbrev pub CountsOneCall : Type 0
 CountsOneCall = (s : State) (h : List Step) (step : Step) → tally s (h ++ step ∷ []) ≡ counted (state_after s h) step.call (tally s h)
+
+-- the events that a capacity limits: those that are left and staged, and in a file those of open puts too
+abbrev pub limited : Kind → State → ℕ
+limited OnFile s = count s
+limited InMemory s = length s.items + length (put_events s.staged)
+
+-- Over a run from a base within its capacity a channel never counts more events than that.
+abbrev pub CountStaysWithin : Type 0
+CountStaysWithin =
+    (tells : Bool) (o : Opening) (h : List Step) → length o.base.items ≤ o.rules.limits.capacity → IsRun tells (opening o) h → ReadsNone h
+    → limited o.rules.kind (state_after (opening o) h) ≤ o.rules.limits.capacity

@@ -1,5 +1,5 @@
 // Laws of the channel machine.
-ghost use Rattle.channel_face.specs.Laws.{NumbersRise, TakesLeast, StandsForJournal, CommitsAreWellFormed, CountsOneCall};
+ghost use Rattle.channel_face.specs.Laws.{NumbersRise, TakesLeast, StandsForJournal, CommitsAreWellFormed, CountsOneCall, CountStaysWithin};
 
 /// In every state that a run leads to, the numbers of the events that are left rise, and the next number is above them.
 pub fn numbers_rise()
@@ -24,4 +24,10 @@ pub fn commits_are_well_formed()
 /// What is counted of a history goes on call by call.
 pub fn counts_one_call()
     ensures { CountsOneCall }
+{}
+
+/// A channel never counts more events than its capacity: in a file those that are left, open and staged, in memory those that
+/// are left and staged. It begins with no more, and no reopening reads its list from a disk that does not tell.
+pub fn count_stays_within()
+    ensures { CountStaysWithin }
 {}

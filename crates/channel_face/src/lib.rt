@@ -11,7 +11,8 @@ mod tokens;
 pub use channel::{Channel, Durable};
 pub use face::{PutFace, TakeFace};
 pub use laws::{
-    commits_are_well_formed, counts_one_call, numbers_rise, stands_for_journal, takes_least,
+    commits_are_well_formed, count_stays_within, counts_one_call, numbers_rise, stands_for_journal,
+    takes_least,
 };
 pub use own_face::OwnFace;
 pub use replies::{

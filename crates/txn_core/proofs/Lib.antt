@@ -7,3 +7,4 @@ pub mod Fronts
 pub mod Undone
 pub mod Shadowing
 pub mod Found
+pub mod Again

@@ -1,11 +1,11 @@
 // What is counted of a channel's calls.
 ghost use Rattle.std.specs.Prelude.{◌≡◌};
-ghost use Rattle.txn_core.specs.Noted.{noted, quiet};
+ghost use Rattle.txn_core.specs.Noted.{noted, one_for_put, one_for_take, quiet};
 
 use channel_face::Counts;
 
 /// A call that changes a channel.
-#[derive(Clone, Copy, Debug, PartialEq, Eq)]
+#[derive(Clone, Copy)]
 pub enum Call {
     BeginPut,
     BeginTake,
@@ -22,7 +22,7 @@ pub enum Call {
 }
 
 /// What a call did, as far as it is counted.
-#[derive(Clone, Copy, Debug, PartialEq, Eq)]
+#[derive(Clone, Copy)]
 pub struct Reply {
     /// The call answered `Ok`.
     pub done: bool,
@@ -48,7 +48,8 @@ impl Reply {
 /// Counts a call: puts and takes as attempts, whatever they answered, and the settled events as successes. Each count stops
 /// at 2^64 - 1. The size and the capacity stay.
 pub fn note(counts: &mut Counts, call: Call, reply: Reply)
-    ensures { counts.new ≡ noted counts.old call reply }
+    ensures noted { counts.new ≡ noted counts.old call reply }
+    ensures nothing { one_for_put call ≡ 0 → one_for_take call ≡ 0 → reply.settled_puts ≡ 0 → reply.settled_takes ≡ 0 → counts.new ≡ counts.old }
 {
     let (puts, takes) = match call {
         Call::Put => (1, 0),

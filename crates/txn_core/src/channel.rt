@@ -1,84 +1,12 @@
-// Channels without a device.
-ghost use Rattle.txn_core.specs.Counted.{StandsAs};
+// The plain channel as a channel.
 ghost use Rattle.txn_core.specs.Shadow.{StandsWith};
 
-use crate::{CountedLists, Machine};
+use crate::Machine;
 use channel_face::{
     BeginRefused, Channel, Counts, FlushRefused, Put, PutRefused, PutTxn, Settled, StageRefused,
     TakeRefused, TakeTxn, Taken, Ticket,
 };
 use event_core::Event;
-
-impl Channel for CountedLists {
-    ghost use Rattle.std.specs.Prelude.{true};
-    ghost use Rattle.txn_core.specs.Counted.{StandsAs};
-
-    ghost stands = { StandsAs };
-
-    ghost tells = { λ _. true };
-
-    ghost moment = { λ _. 0 };
-
-    fn begin_put(&mut self) -> Result<PutTxn, BeginRefused> {
-        CountedLists::begin_put(self)
-    }
-
-    fn begin_take(&mut self) -> Result<TakeTxn, BeginRefused> {
-        CountedLists::begin_take(self)
-    }
-
-    fn put(&mut self, txn: &mut PutTxn, event: &Event) -> Result<Put, PutRefused> {
-        CountedLists::put(self, txn, event)
-    }
-
-    fn take(&mut self, txn: &mut TakeTxn) -> Result<Taken, TakeRefused> {
-        CountedLists::take(self, txn)
-    }
-
-    fn stage_put(&mut self, txn: PutTxn) -> Result<Ticket, StageRefused<PutTxn>> {
-        CountedLists::stage_put(self, txn)
-    }
-
-    fn stage_take(&mut self, txn: TakeTxn) -> Result<Ticket, StageRefused<TakeTxn>> {
-        CountedLists::stage_take(self, txn)
-    }
-
-    fn flush(&mut self) -> Result<(), FlushRefused> {
-        CountedLists::flush(self)
-    }
-
-    fn rollback_put(&mut self, txn: PutTxn) -> bool {
-        CountedLists::rollback_put(self, txn)
-    }
-
-    fn rollback_take(&mut self, txn: TakeTxn) -> bool {
-        CountedLists::rollback_take(self, txn)
-    }
-
-    fn settled(&self, ticket: &Ticket) -> Settled {
-        CountedLists::settled(self, ticket)
-    }
-
-    fn size(&self) -> u64 {
-        CountedLists::size(self)
-    }
-
-    fn capacity(&self) -> u64 {
-        CountedLists::capacity(self)
-    }
-
-    fn counts(&self) -> Counts {
-        CountedLists::counts(self)
-    }
-
-    fn is_broken(&self) -> bool {
-        CountedLists::is_broken(self)
-    }
-
-    ghost is_run = { λ c start h stands. stands.0.0 };
-
-    ghost tells_as_opened = { λ c start h stands. stands.0.2 };
-}
 
 impl Channel for Machine {
     ghost use Rattle.std.specs.Prelude.{true};

@@ -5,9 +5,12 @@ ghost use Rattle.event_core.specs.declared.journal.Entry.{Entry};
 ghost use Rattle.channel_face.specs.Calls.{cause_of};
 ghost use Rattle.channel_face.specs.Counters.{Tally, counts_with};
 ghost use Rattle.channel_face.specs.History.{opening};
-ghost use Rattle.channel_face.specs.Machine.{BeginPut, BeginTake, Put, Take, StagePut, StageTake, Flush, RollbackPut, RollbackTake, free, settled, with_entry};
+ghost use Rattle.channel_face.specs.Machine.{BeginPut, BeginTake, Put, Take, StagePut, StageTake, Flush, RollbackPut, RollbackTake, Reopen, Front, broken_state, free, settled, with_entry};
 ghost use Rattle.channel_face.specs.Token.{Token};
 ghost use Rattle.channel_face.specs.declared.replies.BeginRefused.TheVariants as Begin;
+ghost use Rattle.channel_face.specs.declared.replies.FlushRefused.TheVariants as FlushNo;
+ghost use Rattle.channel_face.specs.declared.replies.Kind.{Kind};
+ghost use Rattle.channel_face.specs.declared.replies.OpenCause.{OpenCause};
 ghost use Rattle.channel_face.specs.declared.replies.PutRefused.TheVariants as PutNo;
 ghost use Rattle.txn_core.specs.Counted.{Counted, Makes};
 ghost use Rattle.txn_core.specs.Places.{IsAt};
@@ -21,7 +24,7 @@ use channel_face::{
     BeginRefused, Counts, FlushRefused, Kind, Limits, PutRefused, PutTxn, Settled, StageRefused,
     TakeRefused, TakeTxn, Taken, Ticket,
 };
-use event_core::Event;
+use event_core::{Event, NoMemory};
 use std::alloc::Global;
 use std::marker::Model;
 
@@ -66,6 +69,16 @@ impl CountedLists {
                 capacity: 0,
             },
         }
+    }
+
+    /// The same lists once more, with what was counted.
+    pub fn copy(&self) -> Result<CountedLists, NoMemory>
+        ensures { IfOk result (λ lists. lists ≡ self.now) }
+    {
+        Ok(CountedLists {
+            lists: self.lists.copy()?,
+            counts: self.counts,
+        })
     }
 
     /// Begins a transaction of puts.
@@ -223,12 +236,26 @@ impl CountedLists {
         self.lists.is_broken()
     }
 
-    /// The channel breaks.
+    /// The channel breaks, as by a flush of which the disk failed.
     pub fn fail(&mut self)
-        ensures state { self.new.state ≡ record self.old.state { broken = true } }
-        ensures tally { self.new.tally ≡ self.old.tally }
+        ensures broken { self.new ≡ record self.old { state = broken_state self.old.state } }
+        ensures call { self.old.state.rules.kind ≡ Kind.File → self.old.state.broken ≡ false → Makes self.old (Flush (Err FlushNo.DiskFault)) self.new }
     {
         self.lists.fail();
+        note(&mut self.counts, Call::Flush, Reply::quiet(false));
+    }
+
+    /// A reopen that keeps so many of the staged entries. After want of memory the channel is broken.
+    pub fn restart(&mut self, kept: usize) -> Result<(), NoMemory>
+        requires kind { self.old.state.rules.kind ≡ Kind.File }
+        requires kept { kept ≤ length self.old.state.staged }
+        requires life { self.old.state.life < 2 ^ 64 - 1 }
+        ensures ok { OnOk result (Makes self.old (Reopen (Ok (record { kept = Front kept; txn = self.old.state.txn }))) self.new) }
+        ensures err { OnErr result (Makes self.old (Reopen (Err OpenCause.NoMemory)) self.new) }
+    {
+        let result = self.lists.restart(kept);
+        note(&mut self.counts, Call::Reopen, Reply::quiet(result.is_ok()));
+        result
     }
 
     /// Takes the last put of the transaction at this place back. Its call stays counted.

@@ -3,6 +3,7 @@
 
 mod calls;
 mod channel;
+mod copied;
 mod copies;
 mod counted;
 mod lists;

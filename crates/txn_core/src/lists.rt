@@ -14,6 +14,7 @@ ghost use Rattle.channel_face.specs.declared.replies.OpenCause.{OpenCause};
 ghost use Rattle.txn_core.specs.Places.{IsAt};
 ghost use Rattle.txn_core.specs.Sound.{MayStage, first_number, first_of, size_of_entry};
 
+use crate::copied::copy_list;
 use crate::opened::{
     Open, one_if_staged, place_of, pop_at, push_put_at, push_take_at, push_within, puts_at,
     remove_at, takes_at,
@@ -97,6 +98,35 @@ impl ChannelLists {
             free_from: 0,
             alloc,
         }
+    }
+
+    /// The same lists once more.
+    pub fn copy(&self) -> Result<ChannelLists, NoMemory>
+        ensures { IfOk result (λ lists. lists ≡ self.now) }
+    {
+        let alloc = self.alloc;
+        let most_items = self.items.len() + self.open_puts + self.staged_puts;
+        let items = copy_list(alloc, &self.items, most_items)?;
+        let opened = copy_list(alloc, &self.opened, self.opened.len())?;
+        let staged = copy_list(alloc, &self.staged, self.staged.len() + self.opened.len())?;
+        let ends = Vec::from_slice(alloc, &self.ends)?;
+        Ok(ChannelLists {
+            kind: self.kind,
+            limits: self.limits,
+            items,
+            first: self.first,
+            txn: self.txn,
+            opened,
+            staged,
+            broken: self.broken,
+            life: self.life,
+            frame: self.frame,
+            ends,
+            open_puts: self.open_puts,
+            staged_puts: self.staged_puts,
+            free_from: self.free_from,
+            alloc,
+        })
     }
 
     fn begin_refusal(&self) -> Option<BeginRefused>

@@ -3,7 +3,8 @@ ghost use Rattle.std.specs.Prelude.{◌≡◌, ◌<◌, ◌≤◌, ◌-◌, ◌^
 ghost use Rattle.channel_face.specs.Calls.{cause_of};
 ghost use Rattle.channel_face.specs.Counters.{counts_with};
 ghost use Rattle.channel_face.specs.History.{opening};
-ghost use Rattle.channel_face.specs.Machine.{BeginPut, BeginTake, Put, Take, StagePut, StageTake, Flush, RollbackPut, RollbackTake, Reopen, Front, settled};
+ghost use Rattle.channel_face.specs.Machine.{BeginPut, BeginTake, Put, Take, StagePut, StageTake, Flush, RollbackPut, RollbackTake, Reopen, Front, broken_state, settled};
+ghost use Rattle.channel_face.specs.declared.replies.FlushRefused.TheVariants as FlushNo;
 ghost use Rattle.channel_face.specs.declared.replies.Kind.{Kind};
 ghost use Rattle.channel_face.specs.declared.replies.OpenCause.{OpenCause};
 ghost use Rattle.txn_core.specs.Shadow.{Journaled, Journals};
@@ -12,6 +13,7 @@ use crate::calls::Call;
 use crate::copies::{
     OpenCopy, end_copy, make_room, place_of_copy, push_put_copy, push_take_copy, stage_copy,
 };
+use crate::copied::copy_list;
 use crate::counted::CountedLists;
 use crate::opened::push_within;
 use channel_face::{
@@ -59,6 +61,20 @@ impl Machine {
             entries: Vec::new(alloc),
             settled: 0,
             alloc,
+        })
+    }
+
+    /// The same channel once more. A token of the one is good for the other.
+    pub fn copy(&self) -> Result<Machine, NoMemory>
+        ensures { IfOk result (λ m. m ≡ self.now) }
+    {
+        let room = self.entries.len() + self.copies.len();
+        Ok(Machine {
+            lists: self.lists.copy()?,
+            copies: copy_list(self.alloc, &self.copies, self.copies.len())?,
+            entries: copy_list(self.alloc, &self.entries, room)?,
+            settled: self.settled,
+            alloc: self.alloc,
         })
     }
 
@@ -257,12 +273,29 @@ impl Machine {
         self.lists.is_broken()
     }
 
-    /// The channel breaks.
+    /// The channel breaks, and nothing else changes. A channel in a file that was not broken does so as by a flush of which the
+    /// disk failed.
     pub fn fail(&mut self)
-        ensures state { self.new.counted.state ≡ record self.old.counted.state { broken = true } }
-        ensures tally { self.new.counted.tally ≡ self.old.counted.tally }
-        ensures journal { self.new.journal ≡ self.old.journal }
+        ensures broken { self.new ≡ record self.old { counted = record self.old.counted { state = broken_state self.old.counted.state } } }
+        ensures call { self.old.counted.state.rules.kind ≡ Kind.File → self.old.counted.state.broken ≡ false → Journals self.old (Flush (Err FlushNo.DiskFault)) self.new }
     {
         self.lists.fail();
+    }
+
+    /// A reopening that keeps so many of the staged entries, and the number of the next transaction. After want of memory the
+    /// channel is broken.
+    pub fn restart(&mut self, kept: u32) -> Result<(), NoMemory>
+        requires kind { self.old.counted.state.rules.kind ≡ Kind.File }
+        requires kept { kept ≤ length self.old.counted.state.staged }
+        requires life { self.old.counted.state.life < 2 ^ 64 - 1 }
+        ensures ok { OnOk result (Journals self.old (Reopen (Ok (record { kept = Front kept; txn = self.old.counted.state.txn }))) self.new) }
+        ensures err { OnErr result (Journals self.old (Reopen (Err OpenCause.NoMemory)) self.new) }
+    {
+        let kept = kept as usize;
+        self.lists.restart(kept)?;
+        self.copies.clear();
+        self.entries.truncate(self.settled + kept);
+        self.settled += kept;
+        Ok(())
     }
 }

@@ -1,5 +1,5 @@
 // Open transactions in a list.
-ghost use Rattle.std.specs.Prelude.{◌≡◌, ◌<◌, ◌≤◌, ◌+◌, ◌++◌, ◌∷◌, [], ℕ, List, length, take, drop, slice_get, slice_set, Option, Some, None, vec_capacity, MatchOption, IfSome, IfNone, OnOk, OnErr, true};
+ghost use Rattle.std.specs.Prelude.{◌≡◌, ◌<◌, ◌≤◌, ◌+◌, ◌++◌, ◌∷◌, [], ℕ, List, length, take, drop, slice_get, slice_set, Option, Some, None, vec_capacity, MatchOption, IfSome, IfNone, IfOk, OnOk, OnErr, true};
 ghost use Rattle.event_core.specs.Content.{Content};
 ghost use Rattle.event_core.specs.Journal.{taken_numbers, is_among};
 ghost use Rattle.event_core.specs.declared.journal.Entry.{Entry};
@@ -181,6 +181,20 @@ impl Open {
         }
     }
 
+    /// The same transaction once more.
+    pub(crate) fn copy(&self, alloc: Global) -> Result<Open, NoMemory>
+        ensures { IfOk result (λ copy. copy ≡ self.now) }
+    {
+        let did = match &self.did {
+            Did::Puts(events) => Did::Puts(copy_events(alloc, events)?),
+            Did::Takes(numbers) => Did::Takes(numbers.clone()?),
+        };
+        Ok(Open {
+            own_number: self.own_number,
+            did,
+        })
+    }
+
     /// Hands out the first of its puts.
     pub(crate) fn take_first(&mut self) -> Option<Event>
         ensures { MatchOption result ((puts_in self.old.1 ≡ []) × (self.new ≡ (self.old.0, without_puts self.old.1)))
@@ -191,6 +205,16 @@ impl Open {
             Did::Takes(_) => None,
         }
     }
+}
+
+fn copy_events(alloc: Global, events: &VecDeque<Event>) -> Result<VecDeque<Event>, NoMemory>
+    ensures { IfOk result (λ copy. copy.items ≡ events.now.items) }
+{
+    let mut copy = VecDeque::with_capacity(alloc, events.len())?;
+    for at in 0..events.len() {
+        copy.push_back(events[at].copy()?)?;
+    }
+    Ok(copy)
 }
 
 fn is_among(numbers: &[u64], number: u64) -> bool

@@ -1,6 +1,0 @@
-use Rattle.channel_face.specs.Machine.{Flush}
-use Rattle.txn_core.proofs.Steps.{adds_made}
-use Rattle.txn_core.proofs.channel.CountedListsChannel.flush.Goals as goal
-
-pub returns : goal.returns
-returns c = adds_made c.args.self.now (Flush c.flush.result) c.flush.new.self c.flush.ensures

@@ -1,6 +1,0 @@
-use Rattle.std.proofs.Common.{◌≡◌}
-use Rattle.txn_core.proofs.Steps.{shows_made}
-use Rattle.txn_core.proofs.channel.CountedListsChannel.is_broken.Goals as goal
-
-pub returns : goal.returns
-returns c = shows_made c.args.self.now (λ s. c.is_broken.result ≡ s.broken) c.is_broken.ensures

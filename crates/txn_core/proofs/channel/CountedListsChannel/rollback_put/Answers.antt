@@ -1,6 +1,0 @@
-use Rattle.channel_face.specs.Machine.{RollbackPut}
-use Rattle.txn_core.proofs.Steps.{adds_made}
-use Rattle.txn_core.proofs.channel.CountedListsChannel.rollback_put.Goals as goal
-
-pub returns : goal.returns
-returns c = adds_made c.args.self.now (RollbackPut c.args.txn c.rollback_put.result) c.rollback_put.new.self c.rollback_put.ensures

@@ -1,0 +1,27 @@
+use Rattle.std.proofs.Common.{rules, ◌≡◌, ◌∙◌, ◌≤◌, ◌+◌, length, ap, arith, refl}
+use Rattle.std.specs.Vec.{vec_capacity}
+use Rattle.channel_face.specs.Machine.{entries}
+use Rattle.txn_core.specs.View.{state_of}
+use Rattle.txn_core.proofs.Again.{roomier}
+use Rattle.txn_core.proofs.Kept.{length-entries}
+use Rattle.txn_core.proofs.lists.ChannelLists.copy.Goals as goal
+
+pub invariant_of-result : goal.invariant_of-result
+invariant_of-result c =
+    let m = c.self.inside in
+    let items : c.in_ok-items.items.items ≡ m.items.items = search rules in
+    let opened : c.in_ok-opened.opened.items ≡ m.opened.items = search rules in
+    let staged : c.in_ok-staged.staged.items ≡ m.staged.items = search rules in
+    let ends : c.in_ok-ends.ends.items ≡ m.ends.items = search rules in
+    let more : length m.items.items + m.open_puts + m.staged_puts ≤ vec_capacity c.in_ok-items.items = search rules in
+    let places : length m.staged.items + length m.opened.items ≤ vec_capacity c.in_ok-staged.staged = search rules in
+    rw (items, opened, staged, ends) (roomier (state_of m) m.open_puts m.staged_puts (vec_capacity m.items) (vec_capacity c.in_ok-items.items) (vec_capacity m.staged) (vec_capacity c.in_ok-staged.staged) m.free_from c.self.invariant more (omega (arith, places, length-entries m.staged.items)))
+
+pub returns : goal.returns
+returns c =
+    let m = c.self.inside in
+    let items : c.in_ok-items.items.items ≡ m.items.items = search rules in
+    let opened : c.in_ok-opened.opened.items ≡ m.opened.items = search rules in
+    let staged : c.in_ok-staged.staged.items ≡ m.staged.items = search rules in
+    let ends : c.in_ok-ends.ends.items ≡ m.ends.items = search rules in
+    rw (items, opened, staged, ends) c.self.view_is
