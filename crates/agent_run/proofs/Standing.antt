@@ -15,7 +15,7 @@ use Rattle.event_core.proofs.Sizes.{size-sum}
 use Rattle.event_core.specs.Journal.{Base, after_journal, left, numbered, without}
 use Rattle.channel_face.specs.Machine.{State, base_of}
 use Rattle.channel_face.proofs.Numbers.{numbered-append, without_none}
-use Rattle.txn_core.proofs.Taken.{length-numbered}
+use Rattle.channel_face.proofs.Within.{length-numbered}
 use Rattle.channel_replay.specs.Recover.{Recovers}
 use Rattle.file_channel.specs.Touches.{IsSpentLog, Rests}
 use Rattle.netcat_source.specs.declared.replies.LineVerdict.{LineVerdict}

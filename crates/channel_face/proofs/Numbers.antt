@@ -206,7 +206,7 @@ without-append xs (item ∷ a) b = by_test (is_among xs item.0) (without-append 
     by_test true so = so
     by_test false so = ap (λ (l : Items). item ∷ l) so
 
-or_among : (xs ys : List ℕ) (n : ℕ) → is_among (xs ++ ys) n ≡ (is_among xs n || is_among ys n)
+pub or_among : (xs ys : List ℕ) (n : ℕ) → is_among (xs ++ ys) n ≡ (is_among xs n || is_among ys n)
 or_among [] ys n = refl
 or_among (x ∷ xs) ys n = ap (λ (t : Bool). (x == n) || t) (or_among xs ys n) ∙ sym (or_assoc (x == n) (is_among xs n) (is_among ys n))
   where

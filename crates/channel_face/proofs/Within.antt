@@ -95,11 +95,11 @@ no_longer : (b : Bool) (item : ℕ × Content) (xs ys : List (ℕ × Content)) �
 no_longer true item xs ys le = omega (arith, le)
 no_longer false item xs ys le = omega (arith, le)
 
-pub fewer_left : (numbers : List ℕ) (items : List (ℕ × Content)) → length (without numbers items) ≤ length items
+fewer_left : (numbers : List ℕ) (items : List (ℕ × Content)) → length (without numbers items) ≤ length items
 fewer_left numbers [] = omega arith
 fewer_left numbers (item ∷ items) = no_longer (is_among numbers item.0) item (without numbers items) items (fewer_left numbers items)
 
-left_size : (base : Base) (journal : List Entry) → length (left base journal) ≤ length base.items + length (put_events journal)
+pub left_size : (base : Base) (journal : List Entry) → length (left base journal) ≤ length base.items + length (put_events journal)
 left_size base journal =
     let all : List (ℕ × Content) = base.items ++ numbered base.first (put_events journal) in
     omega (arith, fewer_left (taken_numbers journal) all, length-append base.items (numbered base.first (put_events journal)), length-numbered base.first (put_events journal))
@@ -244,7 +244,7 @@ within_stage_take r s token none within = within_stage r s token.number (entry_o
         let same : Takes allowed.0 ≡ e = entry_same (entry_of token.number s.opened) (Takes allowed.0) e (takes_of-some s token allowed.0 allowed.1).1 is in
         subst (λ (x : Entry). room_refusal s.rules.kind s (length (put_events (x ∷ []))) ≡ None) same (room_for_none s.rules.kind s within.1)
 
-front_size : (k : ℕ) (staged : List Entry) → length (put_events (take k staged)) ≤ length (put_events staged)
+pub front_size : (k : ℕ) (staged : List Entry) → length (put_events (take k staged)) ≤ length (put_events staged)
 front_size zero [] = omega arith
 front_size (suc k) [] = omega arith
 front_size zero (e ∷ staged) = omega arith

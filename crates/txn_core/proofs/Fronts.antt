@@ -6,7 +6,8 @@ use Rattle.event_core.specs.declared.journal.Entry.{Entry}
 use Rattle.event_core.specs.declared.journal.Entry.TheVariants.{Puts, Takes}
 use Rattle.channel_face.specs.Machine.{entries}
 use Rattle.txn_core.specs.Sound.{AreHeld, held_numbers, size_of_entry, takes_in}
-use Rattle.txn_core.proofs.Taken.{Opened, among_entry, drop_at, is_among-append}
+use Rattle.txn_core.proofs.Taken.{Opened, among_entry, drop_at}
+use Rattle.channel_face.proofs.Numbers.{or_among}
 
 -- these numbers are among those
 abbrev pub Covers : List ℕ → List ℕ → Type 0
@@ -44,8 +45,8 @@ held_still : (opened opened' : Opened) (staged : List Entry) (items : List (ℕ 
 held_still opened opened' staged items covers held = covered (held_numbers opened' staged) (held_numbers opened staged) both items held
   where
     both : Covers (held_numbers opened' staged) (held_numbers opened staged)
-    both n is = is_among-append (taken_numbers (entries opened')) (taken_numbers staged) n
-        ∙ or_both (is_among (taken_numbers (entries opened)) n) (is_among (taken_numbers staged) n) (is_among (taken_numbers (entries opened')) n) (is_among (taken_numbers staged) n) (covers n) (λ h. h) (sym (is_among-append (taken_numbers (entries opened)) (taken_numbers staged) n) ∙ is)
+    both n is = or_among (taken_numbers (entries opened')) (taken_numbers staged) n
+        ∙ or_both (is_among (taken_numbers (entries opened)) n) (is_among (taken_numbers staged) n) (is_among (taken_numbers (entries opened')) n) (is_among (taken_numbers staged) n) (covers n) (λ h. h) (sym (or_among (taken_numbers (entries opened)) (taken_numbers staged) n) ∙ is)
 
 last_more : (opened : Opened) (b : ℕ × Entry) → Covers (taken_numbers (entries (opened ++ b ∷ []))) (taken_numbers (entries opened))
 last_more [] b n is = absurd (cc)
@@ -114,10 +115,10 @@ held_staged es place o staged items is = covered (held_numbers rest (staged ++ o
 
     all : Covers (held_numbers rest (staged ++ o.1 ∷ [])) (held_numbers es staged)
     all n among =
-        is_among-append (taken_numbers (entries rest)) (taken_numbers (staged ++ o.1 ∷ [])) n
+        or_among (taken_numbers (entries rest)) (taken_numbers (staged ++ o.1 ∷ [])) n
         ∙ (ap (λ (b : Bool). is_among (taken_numbers (entries rest)) n || b) (last_staged staged o.1 n)
         ∙ or_either (is_among (takes_in o.1) n) (is_among (taken_numbers (entries rest)) n) (is_among (taken_numbers staged) n)
-        (or_both (is_among (taken_numbers (entries es)) n) (is_among (taken_numbers staged) n) (is_among (takes_in o.1) n || is_among (taken_numbers (entries rest)) n) (is_among (taken_numbers staged) n) (removed es place o n is) (λ h. h) (sym (is_among-append (taken_numbers (entries es)) (taken_numbers staged) n) ∙ among)))
+        (or_both (is_among (taken_numbers (entries es)) n) (is_among (taken_numbers staged) n) (is_among (takes_in o.1) n || is_among (taken_numbers (entries rest)) n) (is_among (taken_numbers staged) n) (removed es place o n is) (λ h. h) (sym (or_among (taken_numbers (entries es)) (taken_numbers staged) n) ∙ among)))
 
 -- more of its numbers
 pub covers_more : (numbers : List ℕ) (taken : ℕ) → Covers (numbers ++ taken ∷ []) numbers

@@ -1,23 +1,23 @@
 -- What is true of each plain machine stays true.
-use Rattle.std.proofs.Common.{◌≡◌, ◌<◌, ◌≤◌, ◌+◌, ◌-◌, ◌^◌, ◌++◌, ◌∷◌, [], ℕ, zero, suc, List, length, take, drop, slice_set, Some, None, Bool, true, false, cond, refl, sym, ◌∙◌, ap, arith, length-append, length-set}
+use Rattle.std.proofs.Common.{◌≡◌, ◌<◌, ◌≤◌, ◌+◌, ◌-◌, ◌^◌, ◌++◌, ◌∷◌, [], ℕ, zero, suc, List, length, take, drop, slice_set, Some, None, false, cond, refl, sym, ◌∙◌, ap, arith, length-append, length-set}
 use Rattle.std.proofs.lemmas.Bool.Decides.{nat_tests}
 use Rattle.event_core.specs.Content.{Content}
-use Rattle.event_core.specs.Journal.{put_events, taken_numbers}
+use Rattle.event_core.specs.Journal.{put_events}
 use Rattle.event_core.specs.declared.journal.Entry.{Entry}
 use Rattle.event_core.specs.declared.journal.Entry.TheVariants.{Puts, Takes}
-use Rattle.channel_face.specs.Machine.{State, entries, begin_refusal, put_refusal, take_refusal, count}
-use Rattle.txn_core.specs.Sound.{IsSound, size_of_entry, puts_in}
+use Rattle.channel_face.specs.Machine.{State, base_of, entries, begin_refusal, put_refusal, take_refusal, count}
+use Rattle.txn_core.specs.Sound.{IsSound, size_of_entry}
 use Rattle.txn_core.proofs.Counts.{puts_size, size_put, puts_size-cons, puts_size-append, puts_size-set, puts_size-remove, longer-push, longer-set, longer-remove, length-removed}
 use Rattle.txn_core.specs.Places.{IsAt}
 use Rattle.channel_face.specs.declared.replies.Kind.{Kind}
 use Rattle.channel_face.specs.declared.replies.Kind.TheVariants.{File as OnFile, Memory as InMemory}
 use Rattle.channel_face.specs.Machine.{size_refusal, next_number, settle, is_none_staged, stage, without_entry}
 use Rattle.txn_core.specs.Sound.{one_if_staged}
-use Rattle.event_core.specs.Journal.{left, next, numbered, without, is_among}
+use Rattle.event_core.specs.Journal.{left, next}
 use Rattle.channel_face.proofs.Numbers.{put_events-append}
 use Rattle.channel_face.proofs.Opened.{entries-append}
 use Rattle.std.proofs.lemmas.List.{append-nil}
-use Rattle.txn_core.proofs.Taken.{length-numbered, put-cons}
+use Rattle.channel_face.proofs.Within.{left_size, front_size}
 use Rattle.txn_core.specs.Sound.{AreHeld}
 use Rattle.txn_core.proofs.Fronts.{held_begun, held_set, held_staged}
 
@@ -135,23 +135,13 @@ staged_one s number place entry o o' p p' i r r' f sound at fewer more room fits
       front = held_staged s.opened place (number, entry) s.staged (take f s.items) at.item sound.front;
     }
 
-no_longer : (b : Bool) (item : ℕ × Content) (xs ys : List (ℕ × Content)) → length xs ≤ length ys → length (cond b xs (item ∷ xs)) ≤ length (item ∷ ys)
-no_longer true item xs ys le = omega (arith, le)
-no_longer false item xs ys le = omega (arith, le)
-
-fewer_left : (numbers : List ℕ) (items : List (ℕ × Content)) → length (without numbers items) ≤ length items
-fewer_left numbers [] = omega arith
-fewer_left numbers (item ∷ items) = no_longer (is_among numbers item.0) item (without numbers items) items (fewer_left numbers items)
-
 pub frame_after : (staged : List Entry) (frame : ℕ) → (cond (is_none_staged staged) frame (frame + 1)) ≡ frame + one_if_staged staged
 frame_after [] frame = omega arith
 frame_after (e ∷ staged) frame = refl
 
 pub settled_all : (s : State) (o p i i' r f : ℕ) → IsSound s o p i r f → i ≤ i' → IsSound (settle s) o 0 i' r 0
 settled_all s o p i i' r f sound room =
-    let all : List (ℕ × Content) = s.items ++ numbered s.first (put_events s.staged) in
-    let fewer : length (without (taken_numbers s.staged) all) ≤ length all = fewer_left (taken_numbers s.staged) all in
-    let longer : length all ≡ length s.items + length (put_events s.staged) = length-append s.items (numbered s.first (put_events s.staged)) ∙ ap (λ (n : ℕ). length s.items + n) (length-numbered s.first (put_events s.staged)) in
+    let fewer : length (left (base_of s) s.staged) ≤ length s.items + length (put_events s.staged) = left_size (base_of s) s.staged in
     record {
       open_puts_are = sound.open_puts_are;
       staged_puts_are = refl;
@@ -159,10 +149,10 @@ settled_all s o p i i' r f sound room =
       numbers = omega (arith, sound.numbers);
       begun = sound.begun;
       lists = sound.lists;
-      events = omega (arith, sound.events, sound.staged_puts_are, fewer, longer, room);
+      events = omega (arith, sound.events, sound.staged_puts_are, fewer, room);
       places = omega (arith, sound.places);
-      within = λ kind. omega (arith, sound.within kind, fewer, longer);
-      within_memory = λ kind. omega (arith, sound.within_memory kind, sound.staged_puts_are, fewer, longer);
+      within = λ kind. omega (arith, sound.within kind, fewer);
+      within_memory = λ kind. omega (arith, sound.within_memory kind, sound.staged_puts_are, fewer);
       opened_few = sound.opened_few;
       front = refl;
     }
@@ -203,19 +193,10 @@ take_added s number place numbers taken o p i r f f' sound at allowed held =
       front = held;
     }
 
-fewer_puts : (k : ℕ) (staged : List Entry) → length (put_events (take k staged)) ≤ length (put_events staged)
-fewer_puts zero [] = omega arith
-fewer_puts (suc k) [] = omega arith
-fewer_puts zero (e ∷ staged) = omega arith
-fewer_puts (suc k) (e ∷ staged) = omega (arith, fewer_puts k staged, cons_length e staged, cons_length e (take k staged))
-  where
-    cons_length : (e : Entry) (rest : List Entry) → length (put_events (e ∷ rest)) ≡ size_put e + length (put_events rest)
-    cons_length e rest = ap (λ (l : List Content). length l) (put-cons e rest) ∙ length-append (puts_in e) (put_events rest)
-
 -- all room is enough for a first part of what was staged
 pub front_fits : (s : State) (k : ℕ) (o p i r f : ℕ) → IsSound s o p i r f → (length s.items + length (put_events (take k s.staged)) ≤ i) × (s.first + length (put_events (take k s.staged)) < 2 ^ 64)
 front_fits s k o p i r f sound =
-    let few : length (put_events (take k s.staged)) ≤ length (put_events s.staged) = fewer_puts k s.staged in
+    let few : length (put_events (take k s.staged)) ≤ length (put_events s.staged) = front_size k s.staged in
     (omega (arith, sound.events, sound.staged_puts_are, few), omega (arith, sound.numbers, few))
 
 pub restarted : (s new : State) (k : ℕ) (ends : List ℕ) (o p i i' r r' f : ℕ) → IsSound s o p i r f → i ≤ i'
@@ -223,10 +204,8 @@ pub restarted : (s new : State) (k : ℕ) (ends : List ℕ) (o p i i' r r' f : �
     → IsSound new 0 0 i' r' 0
 restarted s new k ends o p i i' r r' f sound room is =
     let front : List Entry = take k s.staged in
-    let few : length (put_events front) ≤ length (put_events s.staged) = fewer_puts k s.staged in
-    let all : List (ℕ × Content) = s.items ++ numbered s.first (put_events front) in
-    let fewer : length (without (taken_numbers front) all) ≤ length all = fewer_left (taken_numbers front) all in
-    let longer : length all ≡ length s.items + length (put_events front) = length-append s.items (numbered s.first (put_events front)) ∙ ap (λ (n : ℕ). length s.items + n) (length-numbered s.first (put_events front)) in
+    let few : length (put_events front) ≤ length (put_events s.staged) = front_size k s.staged in
+    let fewer : length (left (base_of s) front) ≤ length s.items + length (put_events front) = left_size (base_of s) front in
     rw is (record {
       open_puts_are = refl;
       staged_puts_are = refl;
@@ -234,10 +213,10 @@ restarted s new k ends o p i i' r r' f sound room is =
       numbers = omega (arith, sound.numbers, few);
       begun = sound.begun;
       lists = tt;
-      events = omega (arith, sound.events, sound.staged_puts_are, fewer, longer, few, room);
+      events = omega (arith, sound.events, sound.staged_puts_are, fewer, few, room);
       places = omega arith;
-      within = λ kind. omega (arith, sound.within kind, fewer, longer, few);
-      within_memory = λ kind. omega (arith, sound.within_memory kind, sound.staged_puts_are, fewer, longer, few);
+      within = λ kind. omega (arith, sound.within kind, fewer, few);
+      within_memory = λ kind. omega (arith, sound.within_memory kind, sound.staged_puts_are, fewer, few);
       opened_few = omega arith;
       front = refl;
     })

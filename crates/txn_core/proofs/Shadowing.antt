@@ -1,6 +1,6 @@
 -- Copies of what is open and staged stay those of the state.
-use Rattle.std.proofs.Common.{◌≡◌, ◌≤◌, ◌+◌, ◌++◌, ◌∷◌, [], ℕ, zero, suc, List, length, drop, Option, Some, None, Bool, true, false, ◌==◌, cond, refl, sym, ◌∙◌, ap, arith, length-append}
-use Rattle.std.proofs.lemmas.List.{append-nil}
+use Rattle.std.proofs.Common.{◌≡◌, ◌≤◌, ◌+◌, ◌++◌, ◌∷◌, [], ℕ, List, length, Option, Some, None, Bool, true, false, ◌==◌, cond, refl, sym, ◌∙◌, ap, arith, length-append}
+use Rattle.std.proofs.lemmas.List.{append-nil, drop-append-le}
 use Rattle.event_core.specs.Content.{Content}
 use Rattle.event_core.specs.declared.journal.Entry.{Entry}
 use Rattle.event_core.specs.declared.journal.Entry.TheVariants.{Puts, Takes}
@@ -41,11 +41,6 @@ moved_length : (number : ℕ) (opened : Opened) → length (without_entry number
 moved_length number [] = omega arith
 moved_length number (o ∷ opened) = moved_step (o.0 == number) o opened (without_entry number opened) (entry_of number opened) (moved_length number opened)
 
-drop-append : (n : ℕ) (xs ys : List Entry) → n ≤ length xs → drop n (xs ++ ys) ≡ drop n xs ++ ys
-drop-append zero xs ys le = refl
-drop-append (suc n) [] ys le = absurd (omega (arith, le))
-drop-append (suc n) (x ∷ xs) ys le = drop-append n xs ys (omega (arith, le))
-
 -- a call that settles nothing leaves the journal
 pub quiet_call : (old new : Journaled) (call : Call) → Makes old.counted call new.counted → new.journal ≡ old.journal → kept_by old.counted.state call ≡ [] → Journals old call new
 quiet_call old new call makes same none = record { makes = makes; journal = same ∙ (sym (append-nil old.journal) ∙ ap (λ (l : List Entry). old.journal ++ l) (sym none)) }
@@ -78,7 +73,7 @@ shadow_staged s s' copies copies' all all' settled room room' number shadow ende
     let longer : length (all ++ staged_more (entry_of number copies)) ≡ length all + length (staged_more (entry_of number copies)) = length-append all (staged_more (entry_of number copies)) in
     rw (new, ended, added) (record {
       opened = ap (λ (l : Opened). without_entry number l) shadow.opened;
-      staged = drop-append settled all (staged_more (entry_of number copies)) shadow.within ∙ (ap (λ (l : List Entry). l ++ staged_more (entry_of number copies)) shadow.staged ∙ ap (λ (e : Option Entry). s.staged ++ staged_more e) same);
+      staged = drop-append-le settled all (staged_more (entry_of number copies)) shadow.within ∙ (ap (λ (l : List Entry). l ++ staged_more (entry_of number copies)) shadow.staged ∙ ap (λ (e : Option Entry). s.staged ++ staged_more e) same);
       within = omega (arith, shadow.within, longer);
       fits = omega (arith, shadow.fits, fewer, longer, more);
       few = omega (arith, shadow.few, fewer);

@@ -1,24 +1,16 @@
 -- Numbers among those that transactions take, and what is left without them.
-use Rattle.std.proofs.Common.{◌≡◌, ◌<◌, ◌≤◌, ◌+◌, ◌-◌, ◌^◌, ◌++◌, ◌∷◌, [], ℕ, zero, suc, List, length, length-append, drop, slice_get, slice_set, Some, filter, Bool, true, false, not, ◌==◌, ◌||◌, cond, min, refl, sym, ◌∙◌, ap, append_assoc, arith}
+use Rattle.std.proofs.Common.{◌≡◌, ◌<◌, ◌≤◌, ◌+◌, ◌-◌, ◌^◌, ◌++◌, ◌∷◌, [], ℕ, zero, suc, List, length, length-append, drop, slice_get, slice_set, Some, filter, Bool, true, false, not, ◌||◌, cond, min, refl, sym, ◌∙◌, ap, append_assoc, arith}
 use Rattle.event_core.specs.Content.{Content}
 use Rattle.event_core.specs.Journal.{put_events, taken_numbers, without, is_among, numbered}
 use Rattle.event_core.specs.declared.journal.Entry.{Entry}
 use Rattle.event_core.specs.declared.journal.Entry.TheVariants.{Puts, Takes}
 use Rattle.channel_face.specs.Counters.{capped}
 use Rattle.channel_face.specs.Machine.{entries}
-use Rattle.channel_face.proofs.Numbers.{numbered-append}
+use Rattle.channel_face.proofs.Numbers.{numbered-append, or_among, without_none}
 use Rattle.txn_core.specs.Sound.{puts_in, takes_in, without_puts, one_if_staged}
 
 abbrev pub Opened : Type 0
 Opened = List (ℕ × Entry)
-
-or_assoc : (a b c : Bool) → ((a || b) || c) ≡ (a || (b || c))
-or_assoc true b c = refl
-or_assoc false b c = refl
-
-pub is_among-append : (a b : List ℕ) (n : ℕ) → is_among (a ++ b) n ≡ (is_among a n || is_among b n)
-is_among-append [] b n = refl
-is_among-append (x ∷ a) b n = ap (λ (t : Bool). (x == n) || t) (is_among-append a b n) ∙ sym (or_assoc (x == n) (is_among a n) (is_among b n))
 
 pub taken-cons : (e : Entry) (rest : List Entry) → taken_numbers (e ∷ rest) ≡ takes_in e ++ taken_numbers rest
 taken-cons (Puts events) rest = refl
@@ -29,7 +21,7 @@ put-cons (Puts events) rest = refl
 put-cons (Takes numbers) rest = refl
 
 pub among_entry : (e : Entry) (rest : List Entry) (n : ℕ) → is_among (taken_numbers (e ∷ rest)) n ≡ (is_among (takes_in e) n || is_among (taken_numbers rest) n)
-among_entry e rest n = ap (λ (l : List ℕ). is_among l n) (taken-cons e rest) ∙ is_among-append (takes_in e) (taken_numbers rest) n
+among_entry e rest n = ap (λ (l : List ℕ). is_among l n) (taken-cons e rest) ∙ or_among (takes_in e) (taken_numbers rest) n
 
 pub among_here : (o : ℕ × Entry) (rest : Opened) (n : ℕ) → is_among (takes_in o.1) n ≡ true → is_among (taken_numbers (entries (o ∷ rest))) n ≡ true
 among_here o rest n here = rw (among_entry o.1 (entries rest) n, here) refl
@@ -48,10 +40,6 @@ by_test false item xs ys same = ap (λ (l : List (ℕ × Content)). item ∷ l) 
 pub without_filter : (numbers : List ℕ) (items : List (ℕ × Content)) → filter (λ item. not (is_among numbers item.0)) items ≡ without numbers items
 without_filter numbers [] = refl
 without_filter numbers (item ∷ items) = by_test (is_among numbers item.0) item (filter (λ item. not (is_among numbers item.0)) items) (without numbers items) (without_filter numbers items)
-
-without_none : (items : List (ℕ × Content)) → without [] items ≡ items
-without_none [] = refl
-without_none (item ∷ items) = ap (λ (l : List (ℕ × Content)). item ∷ l) (without_none items)
 
 pub none_taken : (numbers : List ℕ) (items : List (ℕ × Content)) → capped (length numbers) ≡ 0 → without numbers items ≡ items
 none_taken [] items none = without_none items
@@ -99,10 +87,6 @@ moved_one es es' items items' number number' place o is items_are number_is es_a
     let here : List Content = puts_in o.1 in
     let rest : List Content = put_events (entries (drop (place + 1) es)) in
     rw (items_are, number_is, rest_same es es' place o es_are) (append_assoc items (numbered number here) (numbered (number + length here) rest) ∙ ap (λ (l : List (ℕ × Content)). items ++ l) (sym (numbered-append number here rest) ∙ ap (λ (l : List Content). numbered number l) (sym (puts_from es place o is))))
-
-pub length-numbered : (first : ℕ) (events : List Content) → length (numbered first events) ≡ length events
-length-numbered first [] = refl
-length-numbered first (e ∷ events) = omega (arith, length-numbered (first + 1) events)
 
 pub without_next : (numbers : List ℕ) (items : List (ℕ × Content)) (place : ℕ) (item : ℕ × Content) → slice_get items place ≡ Some item → is_among numbers item.0 ≡ false → without numbers (drop place items) ≡ item ∷ without numbers (drop (place + 1) items)
 without_next numbers items place item at not_taken = rw (drop_at items place item at, not_taken) refl

@@ -50,7 +50,8 @@ pub(crate) fn copy_list<T: Copied>(
     ensures items { IfOk result (λ copy. copy.items ≡ list.now) }
     ensures room { IfOk result (λ copy. room ≤ vec_capacity copy) }
 {
-    let mut copy = Vec::with_capacity(alloc, room)?;
+    let mut copy = Vec::new(alloc);
+    copy.reserve(room)?;
     for item in list {
         push_within(&mut copy, item.copied(alloc)?);
     }

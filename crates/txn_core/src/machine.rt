@@ -10,10 +10,10 @@ ghost use Rattle.channel_face.specs.declared.replies.OpenCause.{OpenCause};
 ghost use Rattle.txn_core.specs.Shadow.{Journaled, Journals};
 
 use crate::calls::Call;
+use crate::copied::copy_list;
 use crate::copies::{
     OpenCopy, end_copy, make_room, place_of_copy, push_put_copy, push_take_copy, stage_copy,
 };
-use crate::copied::copy_list;
 use crate::counted::CountedLists;
 use crate::opened::push_within;
 use channel_face::{

@@ -210,7 +210,7 @@ impl Open {
 fn copy_events(alloc: Global, events: &VecDeque<Event>) -> Result<VecDeque<Event>, NoMemory>
     ensures { IfOk result (λ copy. copy.items ≡ events.now.items) }
 {
-    let mut copy = VecDeque::with_capacity(alloc, events.len())?;
+    let mut copy = VecDeque::new(alloc);
     for at in 0..events.len() {
         copy.push_back(events[at].copy()?)?;
     }

@@ -6,7 +6,8 @@ use Rattle.event_core.specs.declared.journal.Entry.TheVariants.{Takes}
 use Rattle.event_core.specs.Journal.{taken_numbers, put_events, numbered}
 use Rattle.channel_face.specs.Machine.{entries}
 use Rattle.txn_core.specs.Sound.{puts_in, without_puts}
-use Rattle.txn_core.proofs.Taken.{moved_one, puts_from_length, rest_same, takes_stay, length-numbered}
+use Rattle.txn_core.proofs.Taken.{moved_one, puts_from_length, rest_same, takes_stay}
+use Rattle.channel_face.proofs.Within.{length-numbered}
 use Rattle.txn_core.proofs.settle.move_puts.Goals as goal
 
 pub move_at-number-requires : goal.move_at-number-requires

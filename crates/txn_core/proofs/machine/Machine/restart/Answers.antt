@@ -1,7 +1,6 @@
-use Rattle.std.proofs.Common.{rules, ◌≡◌, ◌∙◌, ◌≤◌, ◌+◌, ◌++◌, [], length, take, Ok, sym, subst}
+use Rattle.std.proofs.Common.{rules, ◌≡◌, ◌≤◌, ◌+◌, length, take, Ok, sym, subst}
 use Rattle.std.specs.Vec.{vec_capacity}
-use Rattle.channel_face.specs.Machine.{State, Reopen, Front}
-use Rattle.txn_core.specs.Machine.{journaled_of}
+use Rattle.channel_face.specs.Machine.{Reopen, Front}
 use Rattle.txn_core.specs.Shadow.{Journaled, Journals}
 use Rattle.txn_core.proofs.Again.{journal_reopened}
 use Rattle.txn_core.proofs.machine.Machine.restart.Goals as goal
