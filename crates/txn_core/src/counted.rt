@@ -157,9 +157,10 @@ impl CountedLists {
         result
     }
 
-    /// Settles what is staged.
+    /// Settles what is staged. `Broken` is its only refusal.
     pub fn flush(&mut self) -> Result<(), FlushRefused>
-        ensures { Makes self.old (Flush result) self.new }
+        ensures step { Makes self.old (Flush result) self.new }
+        ensures refused { IfErr result (λ refused. refused ≡ FlushRefused.Broken) }
     {
         let (puts, takes) = (self.lists.staged_puts(), self.lists.staged_takes());
         match self.lists.flush() {
@@ -227,6 +228,13 @@ impl CountedLists {
             capacity: self.lists.capacity(),
             ..self.counts
         }
+    }
+
+    /// The life: 1 once it was made, and one more with each reopening.
+    pub fn life(&self) -> u64
+        ensures { result ≡ self.now.state.life }
+    {
+        self.lists.life()
     }
 
     /// Whether the channel is broken.

@@ -1,5 +1,5 @@
 // The plain channel over lists, with the journal of what it settled.
-ghost use Rattle.std.specs.Prelude.{◌≡◌, ◌<◌, ◌≤◌, ◌-◌, ◌^◌, ℕ, List, length, [], Ok, Err, OnOk, OnErr, IfErr, IfOk, false, true};
+ghost use Rattle.std.specs.Prelude.{◌≡◌, ◌<◌, ◌≤◌, ◌-◌, ◌^◌, ◌++◌, ℕ, List, length, [], Ok, Err, OnOk, OnErr, IfErr, IfOk, false, true};
 ghost use Rattle.channel_face.specs.Calls.{cause_of};
 ghost use Rattle.channel_face.specs.Counters.{counts_with};
 ghost use Rattle.channel_face.specs.History.{opening};
@@ -83,6 +83,13 @@ impl Machine {
         ensures { result.now ≡ self.now.journal }
     {
         &self.entries[..self.settled]
+    }
+
+    /// The entries that were settled, and those that are staged, in order.
+    pub fn commits(&self) -> &[Entry]
+        ensures { result.now ≡ self.now.journal ++ self.now.counted.state.staged }
+    {
+        &self.entries
     }
 
     /// Begins a transaction of puts.
@@ -201,9 +208,10 @@ impl Machine {
         }
     }
 
-    /// Settles what is staged.
+    /// Settles what is staged. `Broken` is its only refusal.
     pub fn flush(&mut self) -> Result<(), FlushRefused>
-        ensures { Journals self.old (Flush result) self.new }
+        ensures step { Journals self.old (Flush result) self.new }
+        ensures refused { IfErr result (λ refused. refused ≡ FlushRefused.Broken) }
     {
         match self.lists.flush() {
             Ok(()) => {
@@ -264,6 +272,13 @@ impl Machine {
         ensures { result ≡ counts_with self.now.counted.tally self.now.counted.state }
     {
         self.lists.counts()
+    }
+
+    /// The life: 1 once it was made, and one more with each reopening.
+    pub fn life(&self) -> u64
+        ensures { result ≡ self.now.counted.state.life }
+    {
+        self.lists.life()
     }
 
     /// Whether the channel is broken.

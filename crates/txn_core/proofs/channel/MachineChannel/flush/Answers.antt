@@ -3,4 +3,4 @@ use Rattle.txn_core.proofs.Steps.{adds_journaled}
 use Rattle.txn_core.proofs.channel.MachineChannel.flush.Goals as goal
 
 pub returns : goal.returns
-returns c = adds_journaled c.args.self.now (Flush c.flush.result) c.flush.new.self c.flush.ensures
+returns c = adds_journaled c.args.self.now (Flush c.flush.result) c.flush.new.self c.flush.ensures.step
