@@ -231,7 +231,7 @@ SpillsNone (Some e) spilled = Unit {0}
 
 abbrev pub AdmitsBegin : State → Result Token BeginRefused → Type 0
 AdmitsBegin s (Ok token) = (begin_refusal s ≡ None) × (token ≡ record { life = s.life; number = s.txn })
-AdmitsBegin s (Err Begin.NoMemory) = Unit {0}
+AdmitsBegin s (Err Begin.NoMemory) = begin_refusal s ≡ None
 AdmitsBegin s (Err e) = begin_refusal s ≡ Some e
 
 abbrev pub AdmitsPut : State → Option (List Content) → Content → Result PutDone PutRefused → Type 0

@@ -7,7 +7,6 @@ ghost use Rattle.channel_face.specs.Counters.{Tally, counts_with};
 ghost use Rattle.channel_face.specs.History.{opening};
 ghost use Rattle.channel_face.specs.Machine.{BeginPut, BeginTake, Put, Take, StagePut, StageTake, Flush, RollbackPut, RollbackTake, Reopen, Front, broken_state, free, settled, with_entry};
 ghost use Rattle.channel_face.specs.Token.{Token};
-ghost use Rattle.channel_face.specs.declared.replies.BeginRefused.TheVariants as Begin;
 ghost use Rattle.channel_face.specs.declared.replies.FlushRefused.TheVariants as FlushNo;
 ghost use Rattle.channel_face.specs.declared.replies.Kind.{Kind};
 ghost use Rattle.channel_face.specs.declared.replies.OpenCause.{OpenCause};
@@ -293,13 +292,25 @@ impl CountedLists {
         self.lists.free_number()
     }
 
-    /// Counts a call that is refused for want of memory before it comes to the lists.
-    pub fn out_of_memory(&mut self, call: Call)
-        ensures begin_put { call ≡ Call.BeginPut → Makes self.old (BeginPut (Err Begin.NoMemory)) self.new }
-        ensures begin_take { call ≡ Call.BeginTake → Makes self.old (BeginTake (Err Begin.NoMemory)) self.new }
-        ensures put { call ≡ Call.Put → (token : Token) (event : Content) → Makes self.old (Put token event (Err PutNo.NoMemory)) self.new }
+    /// Counts a put that is refused for want of memory before it comes to the lists.
+    pub fn out_of_memory(&mut self)
+        ensures put { (token : Token) (event : Content) → Makes self.old (Put token event (Err PutNo.NoMemory)) self.new }
+        ensures state { self.new.state ≡ self.old.state }
+    {
+        note(&mut self.counts, Call::Put, Reply::quiet(false));
+    }
+
+    /// Counts a begin that is out of memory before it comes to the lists. It is refused for that only where nothing else
+    /// refuses it.
+    pub fn refuse_begin(&mut self, call: Call) -> BeginRefused
+        ensures begin_put { call ≡ Call.BeginPut → Makes self.old (BeginPut (Err result)) self.new }
+        ensures begin_take { call ≡ Call.BeginTake → Makes self.old (BeginTake (Err result)) self.new }
         ensures state { self.new.state ≡ self.old.state }
     {
         note(&mut self.counts, call, Reply::quiet(false));
+        match self.lists.begin_refusal() {
+            Some(refused) => refused,
+            None => BeginRefused::NoMemory,
+        }
     }
 }

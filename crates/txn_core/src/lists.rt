@@ -129,7 +129,8 @@ impl ChannelLists {
         })
     }
 
-    fn begin_refusal(&self) -> Option<BeginRefused>
+    /// Why a transaction can't begin.
+    pub fn begin_refusal(&self) -> Option<BeginRefused>
         ensures { result ≡ begin_refusal self.now }
     {
         if self.broken {

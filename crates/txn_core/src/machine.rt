@@ -97,8 +97,7 @@ impl Machine {
         ensures { Journals self.old (BeginPut result) self.new }
     {
         if make_room(&mut self.copies, &mut self.entries).is_err() {
-            self.lists.out_of_memory(Call::BeginPut);
-            return Err(BeginRefused::NoMemory);
+            return Err(self.lists.refuse_begin(Call::BeginPut));
         }
         match self.lists.begin_put() {
             Ok(txn) => {
@@ -115,8 +114,7 @@ impl Machine {
         ensures { Journals self.old (BeginTake result) self.new }
     {
         if make_room(&mut self.copies, &mut self.entries).is_err() {
-            self.lists.out_of_memory(Call::BeginTake);
-            return Err(BeginRefused::NoMemory);
+            return Err(self.lists.refuse_begin(Call::BeginTake));
         }
         match self.lists.begin_take() {
             Ok(txn) => {
@@ -135,7 +133,7 @@ impl Machine {
         ensures same { txn.new ≡ txn.old }
     {
         let Ok(copy) = event.copy() else {
-            self.lists.out_of_memory(Call::Put);
+            self.lists.out_of_memory();
             return Err(PutRefused::NoMemory);
         };
         match self.lists.put(txn, event) {

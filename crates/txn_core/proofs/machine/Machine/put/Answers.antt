@@ -11,7 +11,7 @@ pub returns-in_default-clause-step : goal.returns-in_default-clause-step
 returns-in_default-clause-step c =
     let new : Journaled = record { counted = c.out_of_memory.new.self; journal = (journaled_of c.self.inside).journal } in
     subst (λ (j : Journaled). Journals j (Put c.args.txn.now c.args.event.now (Err PutNo.NoMemory)) new) c.self.view_is
-    (quiet_call (journaled_of c.self.inside) new (Put c.args.txn.now c.args.event.now (Err PutNo.NoMemory)) (c.out_of_memory.ensures.put refl c.args.txn.now c.args.event.now) refl refl)
+    (quiet_call (journaled_of c.self.inside) new (Put c.args.txn.now c.args.event.now (Err PutNo.NoMemory)) (c.out_of_memory.ensures.put c.args.txn.now c.args.event.now) refl refl)
 
 pub push_put_copy-requires : goal.push_put_copy-requires
 push_put_copy-requires c =
