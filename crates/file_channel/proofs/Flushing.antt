@@ -252,9 +252,9 @@ writes_of told told' w s waits given none = from (some_or_none (length waits.rec
   where
     from : (length waits.records ≡ 0) ⊎ (1 ≤ length waits.records) → Tells told told' WritesLast
     from (inl nothing) = subst (λ (v : Option Told). Tells told v WritesLast) (sym (none (waits.pending.counted ∙ nothing)))
-        (tells_same told WritesLast (λ t is. record { file = w.file; last = (waits.disk t is).none; others = λ name other. refl; syncs = omega arith }))
+        (tells_same told WritesLast (λ t is. record { file = w.file; was = file_of 1 w.file (waits.disk t is).frames; there = (waits.disk t is).rest.reads; last = (waits.disk t is).none; others = λ name other. refl; syncs = omega arith }))
     from (inr some) =
         let ready = ready_frames told w s waits in
         tells_more told told' (Changes (Log w.file) (LacksOrHas 1 w.file ready.0 waits.records) 2) WritesLast
-        (λ t u old new changes. record { file = w.file; last = (waits.disk t old).none; others = λ name other. (changes.others name other).1; syncs = changes.syncs })
+        (λ t u old new changes. record { file = w.file; was = file_of 1 w.file (waits.disk t old).frames; there = (waits.disk t old).rest.reads; last = (waits.disk t old).none; others = λ name other. (changes.others name other).1; syncs = changes.syncs })
         (given ready.0 ready.1 some)

@@ -21,9 +21,11 @@ flushes (Flush (Ok done)) = true
 flushes (Flush (Err FlushNo.DiskFault)) = true
 flushes call = false
 
--- One log file alone, above which there was none, may read otherwise now, and at most two syncs were made.
+-- One log file alone, which was there and above which there was none, may read otherwise now, and at most two syncs were made.
 pub record WritesLast (t u : Told) : Type 0 where
   pub file : ℕ
+  pub was : List ℕ
+  pub there : t.reads (Log file) ≡ Some was
   pub last : (n : ℕ) → file < n → t.reads (Log n) ≡ None
   pub others : (name : FileName) → same_name name (Log file) ≡ false → u.reads name ≡ t.reads name
   pub syncs : u.syncs ≤ t.syncs + 2

@@ -141,6 +141,7 @@ impl<D: Disk + Drop> FileChannel<D> {
         ensures gains { OnOk result (Tells (D.told self.old.0) (D.told self.new.0) (λ t u. GainsLog t.reads IsBegun u.reads)) }
         ensures any_moment { Tells (D.told self.old.0) (D.told self.new.0) (λ t u. LeavesOnly t u (MayRecover self.old.1.state)) }
         ensures later { D.faults self.old.0 ≤ D.faults self.new.0 }
+        ensures well { OnOk result (D.faults self.new.0 ≡ D.faults self.old.0) }
         ensures spent { 2 ^ 64 - 1 ≤ self.old.1.state.life → (result ≡ Err (OpenCause.Spent Counter.Life)) × (self.new.0 ≡ self.old.0) }
         ensures refused { IfErr result (λ cause. ((cause ≡ OpenCause.Spent Counter.Life) × (self.new.0 ≡ self.old.0)) ⊎ IsRefused (D.told self.old.0) (D.told self.new.0) (D.faults self.old.0) (D.faults self.new.0) self.old.1.state.rules.limits.capacity cause) }
         ensures ticks { WhereTold (D.told self.old.0) (λ t. WhereLogs t.reads (λ logs. steps.new ≤ steps.old + record_count (lines logs))) }

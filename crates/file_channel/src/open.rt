@@ -188,6 +188,7 @@ impl<D: Disk + Drop> Writing<D> {
         ensures any_moment { Tells (D.told self.old.disk) (D.told self.new.disk) OpensOver }
         ensures ticks { WhereTold (D.told self.old.disk) (λ t. WhereLogs t.reads (λ logs. steps.new ≤ steps.old + record_count (lines logs))) }
         ensures later { D.faults self.old.disk ≤ D.faults self.new.disk }
+        ensures well { OnOk result (D.faults self.new.disk ≡ D.faults self.old.disk) }
     {
         match open_log(self.alloc, &mut self.disk, limits, steps) {
             Ok((replayed, log)) => {
@@ -255,6 +256,7 @@ impl<D: Disk + Drop> LoggedLists<D> {
         ensures gains { OnOk result (Tells (D.told self.old.0) (D.told self.new.0) (λ t u. GainsLog t.reads IsBegun u.reads)) }
         ensures any_moment { Tells (D.told self.old.0) (D.told self.new.0) (λ t u. LeavesOnly t u (MayRecover self.old.1)) }
         ensures later { D.faults self.old.0 ≤ D.faults self.new.0 }
+        ensures well { OnOk result (D.faults self.new.0 ≡ D.faults self.old.0) }
         ensures refused { IfErr result (λ cause. ((cause ≡ OpenCause.Spent Counter.Life) × (self.new.0 ≡ self.old.0)) ⊎ IsRefused (D.told self.old.0) (D.told self.new.0) (D.faults self.old.0) (D.faults self.new.0) self.old.1.rules.limits.capacity cause) }
         ensures ticks { WhereTold (D.told self.old.0) (λ t. WhereLogs t.reads (λ logs. steps.new ≤ steps.old + record_count (lines logs))) }
     {
