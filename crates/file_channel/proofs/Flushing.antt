@@ -6,18 +6,21 @@ use Rattle.std.specs.Prelude.{IsSomeAnd}
 use Rattle.std.specs.List.{AllByRecursion}
 use Rattle.flume_host.specs.Folder.{Allows, Entry, Files, Folder, IsImage, same_name, settle_entry}
 use Rattle.flume_host.specs.Told.{Changes, LeavesOnly, OneFile, Tells, Told}
-use Rattle.flume_host.specs.declared.names.FileName.TheVariants.{Log}
+use Rattle.flume_host.specs.declared.names.FileName.TheVariants.{Check, Log}
+use Rattle.flume_host.specs.declared.names.FileName.{FileName}
 use Rattle.flume_host.proofs.Images.{stable_only}
 use Rattle.flume_host.proofs.Telling.{tells_more, tells_same}
 use Rattle.event_core.specs.Journal.{is_among, taken_numbers}
 use Rattle.record_form.specs.declared.record.Rec.{Rec}
 use Rattle.channel_log.specs.Frames.{Holds, IsFrame, header, opened}
 use Rattle.channel_log.specs.Writer.{HasFrames, IsAtRest, IsPending, IsReady, LacksOrHas, Writer, file_of}
+use Rattle.event_core.specs.Journal.{after_journal}
 use Rattle.channel_face.specs.Machine.{State, base_of, next_number, settle}
 use Rattle.channel_replay.specs.Recover.{AreLogs, LogFile, Recovers}
+use Rattle.file_channel.specs.Folders.{HasNoCheck, OpensTo}
 use Rattle.file_channel.specs.Logs.{HasLog}
 use Rattle.file_channel.specs.Touches.{WritesLast}
-use Rattle.file_channel.specs.Written.{IsLogged, MayRecover, OnDisk, Waits}
+use Rattle.file_channel.specs.Written.{IsLogged, MayRecover, OnDisk, RecoversSettled, Waits}
 use Rattle.file_channel.proofs.Ending.{flush_mirrored}
 use Rattle.file_channel.proofs.Recovering.{flush_logged, flush_recovers, settled_recovers}
 
@@ -73,6 +76,15 @@ log_image t w s records P image disk one = (
         let differs : same_name (Log n) (Log w.file) ≡ false = other_log n w.file other in
         as_read (t.reads (Log n)) (image (Log n)) (subst (λ (e : Entry). Allows e (image (Log n))) (disk.still (Log n) differs) (one.others (Log n) differs))
 
+-- no image has a checkpoint, as there is none
+none_left : (t : Told) (w : Writer) (s : State) (records : List Rec) (image : Files) → OnDisk t w s records → ((name : FileName) → same_name name (Log w.file) ≡ false → Allows (t.now name) (image name)) → HasNoCheck image
+none_left t w s records image disk others n = as_read (t.reads (Check n)) (image (Check n)) (subst (λ (e : Entry). Allows e (image (Check n))) (disk.still (Check n) refl) (others (Check n) refl)) ∙ disk.unchecked n
+
+-- so what its log recovers to is what it opens to
+may_open : (s : State) (image : Files) → HasNoCheck image → (txn : ℕ) × (txn ≤ s.txn) × (Recovers image (base_of s) txn ⊎ Recovers image (after_journal (base_of s) s.staged) txn) → MayRecover s image
+may_open s image none (txn, low, inl is) = (txn, low, inl (none, is))
+may_open s image none (txn, low, inr is) = (txn, low, inr (none, is))
+
 -- at any moment of a flush, where records wait
 flush_moments : (told told' : Option Told) (w : Writer) (s : State) (waits : Waits told w s) → ((frames : List (List Rec)) → IsReady told 1 w.file w.gate frames → Tells told told' (Changes (Log w.file) (LacksOrHas 1 w.file frames waits.records) 2))
     → Tells told told' (λ t u. LeavesOnly t u (MayRecover s))
@@ -89,7 +101,7 @@ flush_moments (Some t) (Some u) w s waits given =
       past = changes.images.past;
       each = λ m image low left.
           let has = log_image t w s waits.records (λ bytes. HasFrames 1 w.file disk.frames bytes ⊎ HasFrames 1 w.file (disk.frames ++ waits.records ∷ []) bytes) image disk (changes.images.each m image low left) in
-          flush_recovers s image disk.earlier w.file disk.frames waits.records disk.logs has.1;
+          may_open s image (none_left t w s waits.records image disk (changes.images.each m image low left).others) (flush_recovers s image disk.earlier w.file disk.frames waits.records disk.logs has.1);
     }
 
 -- while nothing is written
@@ -111,10 +123,10 @@ rest_recovers t w s records image disk are =
       others = λ n differs. are n;
     } in
     let has = log_image t w s records both image disk one in
-    flush_recovers s image disk.earlier w.file disk.frames records disk.logs has.1
+    may_open s image (none_left t w s records image disk one.others) (flush_recovers s image disk.earlier w.file disk.frames records disk.logs has.1)
 
 -- just what is settled
-pub rest_exactly : (t : Told) (w : Writer) (s : State) (records : List Rec) (image : Files) → OnDisk t w s records → IsImage t.now image → (txn : ℕ) × (txn ≤ s.txn) × Recovers image (base_of s) txn
+pub rest_exactly : (t : Told) (w : Writer) (s : State) (records : List Rec) (image : Files) → OnDisk t w s records → IsImage t.now image → RecoversSettled s image
 unfolding log_image
 rest_exactly t w s records image disk are =
     let bytes : List ℕ = file_of 1 w.file disk.frames in
@@ -126,7 +138,8 @@ rest_exactly t w s records image disk are =
       others = λ n differs. are n;
     } in
     let has = log_image t w s records frames image disk one in
-    settled_recovers s image disk.earlier w.file disk.frames records disk.logs has.1
+    let found = settled_recovers s image disk.earlier w.file disk.frames records disk.logs has.1 in
+    (found.0, found.1, (none_left t w s records image disk one.others, found.2))
 
 rest_moments : (told : Option Told) (w : Writer) (s : State) → Waits told w s → Tells told told (λ t u. LeavesOnly t u (MayRecover s))
 rest_moments None w s waits = tt
@@ -174,6 +187,7 @@ disk_after (Some t) (Some v) w w' s waits given flushed file earlier u is =
       small = disk.small;
       before = same_logs t.reads v.reads 0 w.file disk.earlier (λ n low. (changes.others (Log n) (other_log n w.file (λ at. absurd (omega (arith, low, at))))).1) disk.before;
       none = λ n high. (changes.others (Log n) (other_log n w.file (λ at. absurd (omega (arith, high, at))))).1 ∙ disk.none n high;
+      unchecked = λ n. (changes.others (Check n) refl).1 ∙ disk.unchecked n;
       logs = flush_logged s disk.earlier disk.frames waits.records disk.logs earlier;
     }))
   where
@@ -202,6 +216,7 @@ logged_after told told' w w' b s log whole earlier given flushed writer none = f
       small = disk.small;
       before = disk.before;
       none = disk.none;
+      unchecked = disk.unchecked;
       logs = record { sound = disk.logs.sound; legal = disk.logs.legal; mirrors = flush_mirrored s _ [] disk.logs.mirrors earlier };
     }
 

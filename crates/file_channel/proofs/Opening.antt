@@ -22,7 +22,7 @@ use Rattle.channel_replay.specs.declared.refused.ReplayRefused.TheVariants as re
 use Rattle.channel_replay.proofs.Earlier.{takes_earlier}
 use Rattle.channel_replay.proofs.Lines.{lines-append}
 use Rattle.channel_replay.proofs.OneList.{has_one_list, one_list}
-use Rattle.file_channel.specs.Folders.{AreSame, GainsLog, HasNoCheck, IsAsBefore, IsBegun, IsFirstCheck, IsNextFile, OpensFrom, OpensOver, Refuses, as_cause, last_file, log_name}
+use Rattle.file_channel.specs.Folders.{AreSame, GainsLog, HasNoCheck, IsAsBefore, IsBegun, IsFirstCheck, IsNextFile, Opens, OpensFrom, OpensOver, OpensTo, Refuses, as_cause, last_file, log_name}
 use Rattle.file_channel.specs.Logs.{begun}
 use Rattle.file_channel.specs.Mirrors.{Mirrors}
 use Rattle.file_channel.specs.Written.{IsFresh, IsLogged, OnDisk}
@@ -163,6 +163,18 @@ pub as_before_recovers : (files folder : Files) (left : Base) (txn : ℕ) → Is
 as_before_recovers files folder left txn (inl same) recovers = same_recovers files folder left txn same recovers
 as_before_recovers files folder left txn (inr gains) recovers = blank_recovers files folder left txn gains recovers
 
+-- and has no checkpoint where the folder had none
+pub as_before_unchecked : (files folder : Files) → IsAsBefore files folder → HasNoCheck files → HasNoCheck folder
+as_before_unchecked files folder (inl same) none n = same (Check n) ∙ none n
+as_before_unchecked files folder (inr gains) none n = gains.others (Check n) refl ∙ none n
+
+pub opens_to : (files : Files) (capacity : ℕ) (base : Base) (txn : ℕ) → Opens files capacity base txn → OpensTo files base txn
+opens_to files capacity base txn opens = (opens.check, opens.recovers)
+
+-- so it opens to the same
+pub as_before_opens : (files folder : Files) (left : Base) (txn : ℕ) → IsAsBefore files folder → OpensTo files left txn → OpensTo folder left txn
+as_before_opens files folder left txn as_before (none, recovers) = (as_before_unchecked files folder as_before none, as_before_recovers files folder left txn as_before recovers)
+
 -- images and files during an opening
 
 pub joined : (t u v : Told) (P : Files → Type 0) → LeavesOnly t u P → LeavesOnly u v P → LeavesOnly t v P
@@ -231,10 +243,10 @@ begun_mirrors s logs base txn fresh stands most some = record {
   few = omega (arith, ap (λ (l : List _). length l) fresh.opened);
 }
 
-begun_on_disk : (t v : Told) (w : Writer) (s : State) (base : Base) (txn number : ℕ) → IsFresh s base txn → Recovers t.reads base txn → txn ≤ 2 ^ 64 - 1 → 1 ≤ txn → IsNextFile t.reads number
+begun_on_disk : (t v : Told) (w : Writer) (s : State) (base : Base) (txn number : ℕ) → IsFresh s base txn → OpensTo t.reads base txn → txn ≤ 2 ^ 64 - 1 → 1 ≤ txn → IsNextFile t.reads number
     → Changes (Log number) IsBlank 1 (done Settle t) v → IsAtRest v 1 number 16 [] → w.file ≡ number → w.gate ≡ 16 → OnDisk v w s []
 unfolding begun_gains
-begun_on_disk t v w s base txn number fresh recovers most some next changes rest file gate =
+begun_on_disk t v w s base txn number fresh (unchecked, recovers) most some next changes rest file gate =
     let one = has_one_list t.reads in
     let g : GainsLog t.reads IsBegun v.reads = begun_gains t v number next changes rest in
     rw file (record {
@@ -245,6 +257,7 @@ begun_on_disk t v w s base txn number fresh recovers most some next changes rest
       small = omega (arith, next.small);
       before = before_gained t.reads v.reads IsBegun g one.0 one.1;
       none = none_behind t.reads v.reads IsBegun g;
+      unchecked = λ n. g.others (Check n) refl ∙ unchecked n;
       logs = record { sound = (recovers one.0 one.1).sound; legal = tt; mirrors = begun_mirrors s one.0 base txn fresh (recovers one.0 one.1) most some };
     })
 
@@ -302,14 +315,14 @@ begun_stays told told' later number reads is next begins =
     follows told told' later SettledAs (BeginsFile number) (λ t u. IsAsBefore t.reads u.reads)
     (λ t u v old mid new same changes. begin_stays t v number (next_at told told' number is next t old) (reads v new) (changes_of t u v number same changes)) is begins
 
-begun_disk : (told told' later : Option Told) (w : Writer) (s : State) (base : Base) (txn number : ℕ) → IsFresh s base txn → WhereTold told (λ t. Recovers t.reads base txn) → txn ≤ 2 ^ 64 - 1 → 1 ≤ txn → Tells told told' SettledAs
+begun_disk : (told told' later : Option Told) (w : Writer) (s : State) (base : Base) (txn number : ℕ) → IsFresh s base txn → WhereTold told (λ t. OpensTo t.reads base txn) → txn ≤ 2 ^ 64 - 1 → 1 ≤ txn → Tells told told' SettledAs
     → WhereTold told' (λ t. IsNextFile t.reads number) → Tells told' later (BeginsFile number) → IsReady later 1 number 16 [] → w.file ≡ number → w.gate ≡ 16 → (v : Told) → later ≡ Some v → OnDisk v w s []
 begun_disk told told' later w s base txn number fresh recovers most some is next begins ready file gate v new =
     let b = back told' later (BeginsFile number) begins v new in
     let a = back told told' SettledAs is b.0 b.1 in
     begun_on_disk a.0 v w s base txn number fresh (recovers a.0 a.1) most some (next_at told told' number is next a.0 a.1) (changes_of a.0 b.0 v number a.2 b.2) (ready v new) file gate
 
-pub begun_logged : (told told' later : Option Told) (w : Writer) (s : State) (base : Base) (txn number most_bytes : ℕ) → IsFresh s base txn → WhereTold told (λ t. Recovers t.reads base txn) → txn ≤ 2 ^ 64 - 1 → 1 ≤ txn → Tells told told' SettledAs
+pub begun_logged : (told told' later : Option Told) (w : Writer) (s : State) (base : Base) (txn number most_bytes : ℕ) → IsFresh s base txn → WhereTold told (λ t. OpensTo t.reads base txn) → txn ≤ 2 ^ 64 - 1 → 1 ≤ txn → Tells told told' SettledAs
     → WhereTold told' (λ t. IsNextFile t.reads number) → Tells told' later (BeginsFile number) → IsReady later 1 number 16 [] → w ≡ record { file = number; gate = 16; max_file = most_bytes; started = false; bytes = []; count = 0 } → IsLogged later w 0 s
 begun_logged told told' later w s base txn number most_bytes fresh recovers most some is next begins ready writer =
     let bytes : w.bytes ≡ [] = ap (λ (x : Writer). x.bytes) writer in

@@ -24,7 +24,7 @@ use Rattle.file_channel.specs.Folders.{IsAsBefore, IsOfFile, IsRefused, Opens, O
 use Rattle.file_channel.specs.Written.{IsFresh, IsLogged, MayRecover, MayRest, Waits}
 use Rattle.file_channel.specs.Whole.{IsWhole}
 use Rattle.file_channel.proofs.Flushing.{rest_recovers}
-use Rattle.file_channel.proofs.Opening.{EitherImage, ReadsAreLeft, as_before_recovers, only_more}
+use Rattle.file_channel.proofs.Opening.{EitherImage, ReadsAreLeft, as_before_opens, only_more}
 
 differ : {A : Type 0} → true ≡ false → A
 differ is = absurd (cc)
@@ -69,8 +69,8 @@ pub rests_still : (told : Option Told) (s : State) → MayRest told s → Tells 
 rests_still told s rests = tells_same told (λ t u. LeavesOnly t u (MayRecover s)) (λ t is. started t (MayRecover s) (rests t is))
 
 may_recover_as : (s : State) (files image : Files) → IsAsBefore files image → MayRecover s files → MayRecover s image
-may_recover_as s files image as_before (n, low, inl found) = (n, low, inl (as_before_recovers files image (base_of s) n as_before found))
-may_recover_as s files image as_before (n, low, inr found) = (n, low, inr (as_before_recovers files image (after_journal (base_of s) s.staged) n as_before found))
+may_recover_as s files image as_before (n, low, inl found) = (n, low, inl (as_before_opens files image (base_of s) n as_before found))
+may_recover_as s files image as_before (n, low, inr found) = (n, low, inr (as_before_opens files image (after_journal (base_of s) s.staged) n as_before found))
 
 pub opens_leaves : (told told' : Option Told) (s : State) → MayRest told s → ReadsAreLeft told → Tells told told' OpensOver → Tells told told' (λ t u. LeavesOnly t u (MayRecover s))
 opens_leaves told told' s rests reads tells = tells_more told told' OpensOver (λ t u. LeavesOnly t u (MayRecover s)) over tells
@@ -111,10 +111,10 @@ renewed_moves (Some t) s s' base txn rests reads life kind rises recovers is = f
     front k few same = (record { kept = Front k; txn = txn }, record { admitted = ((life, few), kind); state = renewed_as s s' base (kept_base s (Front k)) txn is same })
 
     from : MayRecover s t.reads → (kept : Reopened) × Moves true s (Reopen (Ok kept)) s'
-    from (n, low, inl found) = front 0 (omega arith) ((recovers_once t.reads base (base_of s) txn n (recovers t refl) found).0 ∙ sym (after_none (base_of s)))
+    from (n, low, inl found) = front 0 (omega arith) ((recovers_once t.reads base (base_of s) txn n (recovers t refl) found.1).0 ∙ sym (after_none (base_of s)))
     from (n, low, inr found) =
         front (length s.staged) (omega arith)
-        ((recovers_once t.reads base (after_journal (base_of s) s.staged) txn n (recovers t refl) found).0 ∙ ap (λ (l : List Entry). after_journal (base_of s) l) (sym (take_all (length s.staged) s.staged (omega arith))))
+        ((recovers_once t.reads base (after_journal (base_of s) s.staged) txn n (recovers t refl) found.1).0 ∙ ap (λ (l : List Entry). after_journal (base_of s) l) (sym (take_all (length s.staged) s.staged (omega arith))))
 
 -- a refusal
 

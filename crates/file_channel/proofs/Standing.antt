@@ -34,10 +34,10 @@ use Rattle.channel_face.proofs.Leaving.{journal-push, leaves_as_before}
 use Rattle.channel_face.proofs.LawLemmas.{after_none, sound_opening, stands_for}
 use Rattle.channel_face.proofs.Loose.{loose}
 use Rattle.channel_face.proofs.Tallies.{tally-push}
-use Rattle.channel_replay.specs.Recover.{Recovers}
+use Rattle.file_channel.specs.Folders.{OpensTo}
 use Rattle.txn_core.specs.Counted.{Counted, Makes}
 use Rattle.file_channel.specs.Folders.{Opens, OpensFrom}
-use Rattle.file_channel.proofs.Opening.{as_before_recovers}
+use Rattle.file_channel.proofs.Opening.{as_before_opens}
 use Rattle.file_channel.specs.Stands.{MayFind, StandsOver, has_fault, is_fault, until}
 use Rattle.file_channel.specs.Touches.{Flushed, Rests, flushes}
 use Rattle.file_channel.specs.Written.{MayRecover, RecoversSettled}
@@ -149,7 +149,7 @@ take_every [] = refl
 take_every (e ∷ j) = ap (λ (l : List Entry). e ∷ l) (take_every j)
 
 -- a flush is one more call of the run
-finds_staged : (start : Opening) (h : List Step) (s : State) (image : Files) (txn : ℕ) → IsBase start.base → IsRun true (opening start) h → state_after (opening start) h ≡ s → s.broken ≡ false → Recovers image (after_journal (base_of s) s.staged) txn → MayFind start h image
+finds_staged : (start : Opening) (h : List Step) (s : State) (image : Files) (txn : ℕ) → IsBase start.base → IsRun true (opening start) h → state_after (opening start) h ≡ s → s.broken ≡ false → OpensTo image (after_journal (base_of s) s.staged) txn → MayFind start h image
 finds_staged start h s image txn base run is whole found =
     let flush : Step = record { pass = 0; call = Flush (Ok tt); moment = 0 } in
     let here : State = state_after (opening start) h in
@@ -164,7 +164,7 @@ finds_staged start h s image txn base run is whole found =
 finds_either : (start : Opening) (h : List Step) (s : State) (image : Files) → IsBase start.base → IsRun true (opening start) h → state_after (opening start) h ≡ s → s.broken ≡ false → MayRecover s image → MayFind start h image
 finds_either start h s image base run is whole found = from found.2
   where
-    from : Recovers image (base_of s) found.0 ⊎ Recovers image (after_journal (base_of s) s.staged) found.0 → MayFind start h image
+    from : OpensTo image (base_of s) found.0 ⊎ OpensTo image (after_journal (base_of s) s.staged) found.0 → MayFind start h image
     from (inl settled) = finds_settled start h s image base run is (found.0, found.1, settled)
     from (inr staged) = finds_staged start h s image found.0 base run is whole staged
 
@@ -419,7 +419,7 @@ adds_over told told' f f' old call new makes up cause touched rests =
 -- a reopen
 
 -- one that keeps all that is staged is a call more of the run
-finds_kept : (start : Opening) (h : List Step) (s : State) (image : Files) (txn : ℕ) → IsBase start.base → IsRun true (opening start) h → state_after (opening start) h ≡ s → s.life < 2 ^ 64 - 1 → s.rules.kind ≡ OnFile → Recovers image (after_journal (base_of s) s.staged) txn → MayFind start h image
+finds_kept : (start : Opening) (h : List Step) (s : State) (image : Files) (txn : ℕ) → IsBase start.base → IsRun true (opening start) h → state_after (opening start) h ≡ s → s.life < 2 ^ 64 - 1 → s.rules.kind ≡ OnFile → OpensTo image (after_journal (base_of s) s.staged) txn → MayFind start h image
 finds_kept start h s image txn base run is life kind found =
     let here : State = state_after (opening start) h in
     let k : ℕ = length here.staged in
@@ -537,7 +537,7 @@ flush_fault (Err (FlushNo.Spent counter)) is = absurd (cc)
 
 -- A channel that was just opened stands for no calls: whatever a stop left since recovers to its base.
 pub stands_first : (told : Option Told) (faults : ℕ) (c : Counted) (start : Opening) → IsBase start.base → start.tells ≡ is_some_of told → c.state ≡ opening start → c.tally ≡ tally (opening start) [] → start.faults ≤ faults
-    → WhereTold told (EachMoment start.from (λ m image. (txn : ℕ) × Recovers image start.base txn)) → StandsOver told faults c start []
+    → WhereTold told (EachMoment start.from (λ m image. (txn : ℕ) × OpensTo image start.base txn)) → StandsOver told faults c start []
 stands_first told faults c start base same state count later images = record {
   base = base;
   tells = same;
@@ -589,8 +589,8 @@ pub stands_opened : (told told' : Option Told) (faults : ℕ) (c : Counted) (sta
     → WhereTold told (λ t. Opens t.reads capacity start.base start.txn) → Tells told told' OpensFrom → StandsOver told' faults c start []
 stands_opened told told' faults c start capacity base same state count later from opens tells = stands_first told' faults c start base same state count later images
   where
-    images : (u : Told) → told' ≡ Some u → EachMoment start.from (λ m image. (txn : ℕ) × Recovers image start.base txn) u
+    images : (u : Told) → told' ≡ Some u → EachMoment start.from (λ m image. (txn : ℕ) × OpensTo image start.base txn) u
     images u is m image since left =
         let b = back told told' OpensFrom tells u is in
         let first : clock (done Settle b.0) ≤ m = omega (arith, since, from, ap moment_of b.1, length-append b.0.past (under_way Settle b.0.now ∷ [])) in
-        (start.txn, as_before_recovers b.0.reads image start.base start.txn (b.2.each m image first left) (opens b.0 b.1).recovers)
+        (start.txn, as_before_opens b.0.reads image start.base start.txn (b.2.each m image first left) ((opens b.0 b.1).check, (opens b.0 b.1).recovers))

@@ -65,6 +65,7 @@ log_same told w b s s' log many few broken step = record {
       small = disk.small;
       before = disk.before;
       none = disk.none;
+      unchecked = disk.unchecked;
       logs = record { sound = disk.logs.sound; legal = disk.logs.legal; mirrors = step _ records disk.logs.mirrors };
     }
 

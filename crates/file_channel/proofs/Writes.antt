@@ -57,6 +57,7 @@ waits_more told w w' s s' rec waits adds step =
       small = rw file disk.small;
       before = rw file disk.before;
       none = rw file disk.none;
+      unchecked = disk.unchecked;
       logs = record { sound = disk.logs.sound; legal = disk.logs.legal; mirrors = step _ waits.records disk.logs.mirrors };
     }
 

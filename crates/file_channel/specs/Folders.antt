@@ -43,6 +43,11 @@ pub record Opens (files : Files) (capacity : ℕ) (base : Base) (txn : ℕ) : Ty
   pub within : length base.items ≤ capacity
   pub last : files (Log last_file) ≡ None
 
+-- A folder opens to this where its events are within the capacity and a number of a log file is left: no checkpoint is there, and its log
+-- recovers to it.
+abbrev pub OpensTo : Files → Base → ℕ → Type 0
+OpensTo files base txn = HasNoCheck files × Recovers files base txn
+
 -- a folder without checkpoints leaves so many events of which P holds
 abbrev pub LeavesSo : Files → (ℕ → Type 0) → Type 0
 LeavesSo files P = HasNoCheck files × ((base : Base) × (txn : ℕ) × Recovers files base txn × P (length base.items))

@@ -14,7 +14,7 @@ use Rattle.channel_face.specs.declared.replies.FlushRefused.TheVariants as Flush
 use Rattle.channel_face.specs.declared.replies.CheckRefused.TheVariants as CheckNo
 use Rattle.channel_face.specs.declared.replies.PruneRefused.TheVariants as PruneNo
 use Rattle.channel_face.specs.declared.replies.OpenCause.TheVariants as OpenNo
-use Rattle.channel_replay.specs.Recover.{Recovers}
+use Rattle.file_channel.specs.Folders.{OpensTo}
 use Rattle.txn_core.specs.Counted.{Counted}
 
 -- the calls that had ended by this moment
@@ -22,9 +22,9 @@ abbrev pub until : ℕ → List Step → List Step
 until m [] = []
 until m (step ∷ h) = if nat_le step.moment m then step ∷ until m h else until m h
 
--- an image recovers to something that a stop after these calls may leave
+-- an image opens to something that a stop after these calls may leave
 abbrev pub MayFind : Opening → List Step → Files → Type 0
-MayFind start h image = (found : Base) × (txn : ℕ) × Recovers image found txn × MayLeave start h found
+MayFind start h image = (found : Base) × (txn : ℕ) × OpensTo image found txn × MayLeave start h found
 
 -- the call was refused because the disk failed
 abbrev pub is_fault : Call → Bool
@@ -45,7 +45,7 @@ has_fault (step ∷ h) = is_fault step.call || has_fault h
 
 -- The opening's numbers rise, and the disk tells as it did then. The calls are a run from there to this state, with these counts, and none ended later
 -- than now. The disk's count of faults is no less than at the opening, and a call was refused for a fault of the disk only where it rose. Where the
--- disk tells, whatever a stop leaves at a moment since the opening recovers to something that the calls up to that moment may leave.
+-- disk tells, whatever a stop leaves at a moment since the opening opens to something that the calls up to that moment may leave.
 pub record StandsOver (told : Option Told) (faults : ℕ) (c : Counted) (start : Opening) (h : List Step) : Type 0 where
   pub base : IsBase start.base
   pub tells : start.tells ≡ is_some_of told

@@ -53,6 +53,6 @@ pub record HadNoRoom (size : ℕ) (t u : Told) : Type 0 where
 abbrev pub IsSpentLog : Told → ℕ → Type 0
 IsSpentLog t max_file = IsSomeAnd (t.reads (Log 4_294_967_295)) (λ bytes. max_file ≤ length bytes)
 
--- Unless the channel is broken, whatever a stop now leaves recovers to just what is settled.
+-- Unless the channel is broken, whatever a stop now leaves opens to just what is settled.
 abbrev pub Rests : Option Told → State → Type 0
 Rests told s = s.broken ≡ false → WhereTold told (λ t. (image : Files) → IsImage t.now image → RecoversSettled s image)

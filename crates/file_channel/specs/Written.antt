@@ -8,7 +8,8 @@ use Rattle.event_core.specs.Journal.{Base, after_journal}
 use Rattle.record_form.specs.declared.record.Rec.{Rec}
 use Rattle.channel_log.specs.Writer.{IsAtRest, IsPending, Writer}
 use Rattle.channel_face.specs.Machine.{State, base_of}
-use Rattle.channel_replay.specs.Recover.{AreLogs, LogFile, Recovers}
+use Rattle.channel_replay.specs.Recover.{AreLogs, LogFile}
+use Rattle.file_channel.specs.Folders.{HasNoCheck, OpensTo}
 use Rattle.file_channel.specs.Mirrors.{busy}
 use Rattle.file_channel.specs.Logs.{Logs}
 
@@ -29,6 +30,7 @@ pub record OnDisk (t : Told) (w : Writer) (s : State) (records : List Rec) : Typ
   pub small : w.file < 2 ^ 32
   pub before : AreLogs t.reads 0 w.file earlier
   pub none : (n : ℕ) → w.file < n → t.reads (Log n) ≡ None
+  pub unchecked : HasNoCheck t.reads
   pub logs : Logs s earlier frames records
 
 -- Some records wait, and the disk, as far as it tells, has the rest.
@@ -44,17 +46,17 @@ pub record IsLogged (told : Option Told) (w : Writer) (busy_ones : ℕ) (s : Sta
   pub room : length w.bytes + 21 * busy_ones + 6 ≤ 2_097_152
   pub waits : s.broken ≡ false → Waits told w s
 
--- an image recovers to what is settled, or to that with what is staged
+-- an image opens to what is settled, or to that with what is staged
 abbrev pub MayRecover : State → Files → Type 0
-MayRecover s image = (txn : ℕ) × (txn ≤ s.txn) × (Recovers image (base_of s) txn ⊎ Recovers image (after_journal (base_of s) s.staged) txn)
+MayRecover s image = (txn : ℕ) × (txn ≤ s.txn) × (OpensTo image (base_of s) txn ⊎ OpensTo image (after_journal (base_of s) s.staged) txn)
 
--- whatever a stop now leaves recovers so
+-- whatever a stop now leaves opens so
 abbrev pub MayRest : Option Told → State → Type 0
 MayRest told s = WhereTold told (λ t. (image : Files) → IsImage t.now image → MayRecover s image)
 
--- an image recovers to just what is settled
+-- an image opens to just what is settled
 abbrev pub RecoversSettled : State → Files → Type 0
-RecoversSettled s image = (txn : ℕ) × (txn ≤ s.txn) × Recovers image (base_of s) txn
+RecoversSettled s image = (txn : ℕ) × (txn ≤ s.txn) × OpensTo image (base_of s) txn
 
 -- A state of these events and next numbers, in which nothing is open or staged.
 pub record IsFresh (s : State) (base : Base) (txn : ℕ) : Type 0 where

@@ -2,7 +2,7 @@ use Rattle.std.proofs.Common.{rules, ◌≤◌, ◌-◌, ◌^◌, refl, ◌∙�
 use Rattle.flume_host.specs.Told.{Tells}
 use Rattle.channel_replay.specs.Plain.{base_of}
 use Rattle.file_channel.specs.Folders.{Opens}
-use Rattle.file_channel.proofs.Opening.{SettledAs, as_settled, begun_from, begun_logged, begun_over, begun_stays, has_settled, is_unused, refused_from, refused_over}
+use Rattle.file_channel.proofs.Opening.{SettledAs, as_settled, begun_from, begun_logged, begun_over, begun_stays, has_settled, is_unused, opens_to, refused_from, refused_over}
 use Rattle.file_channel.proofs.open.open_log.Goals as goal
 
 pub returns-in-Err-read_folder-clause-any_moment : goal.returns-in-Err-read_folder-clause-any_moment
@@ -29,7 +29,7 @@ returns-in-Ok-begin-clause-logged g c = λ s fresh.
     let found = c.in-Ok-read_folder.found in
     let fits : found.0.next.txn ≤ 2 ^ 64 - 1 = search rules in
     begun_logged was read (g.D.Disk.told c.begin.new.disk) c.in-Ok-begin.log s (base_of found.0) found.0.next.txn found.1 c.args.limits.max_file fresh
-    (λ t told. ((as_settled was (g.D.Disk.told c.settle.new.self) (λ files. Opens files c.args.limits.capacity (base_of found.0) found.0.next.txn) (has_settled was (g.D.Disk.told c.settle.new.self) (g.D.Disk.told c.settle.new.self) c.in-Ok.ensures.done refl) c.in-Ok-read_folder.ensures.opens) t told).recovers)
+    (λ t told. opens_to t.reads c.args.limits.capacity (base_of found.0) found.0.next.txn ((as_settled was (g.D.Disk.told c.settle.new.self) (λ files. Opens files c.args.limits.capacity (base_of found.0) found.0.next.txn) (has_settled was (g.D.Disk.told c.settle.new.self) (g.D.Disk.told c.settle.new.self) c.in-Ok.ensures.done refl) c.in-Ok-read_folder.ensures.opens) t told))
     fits c.in-Ok-read_folder.ensures.txn settled (rw (← c.in-Ok-read_folder.ensures.same) at c.in-Ok-read_folder.ensures.next) c.in-Ok-begin.ensures.any_moment c.in-Ok-begin.ensures.begun c.in-Ok-begin.ensures.writer
 
 pub returns-in-Ok-begin-clause-any_moment : goal.returns-in-Ok-begin-clause-any_moment
