@@ -2,10 +2,14 @@
 use Rattle.std.proofs.lemmas.List.{drop_all, drop_more, drop-map, length-map}
 use Rattle.std.specs.Borrow.{Bor}
 use Rattle.std.specs.List.{flat_map}
-use Rattle.plan_judging.specs.Claims.{Wish, Claims}
+use Rattle.plan_judging.specs.Claims.{Wish, Claims, plugin_wish, step_wish, sink_wish}
+use Rattle.plan_judging.specs.declared.claims.Claimed.TheVariants.{Plugin, Step}
 use Rattle.prop_text.specs.Views.{texts}
-use Rattle.std.proofs.Common.{◌≡◌, ℕ, ◌+◌, ◌≤◌, ◌<◌, map, get_or, drop, length, subst, slice_get, Some, zero, suc, arith, List, [], ◌∷◌, ◌++◌, refl, sym, ap, ◌∙◌, append-nil, append_assoc}
+use Rattle.std.proofs.Common.{◌≡◌, ℕ, ◌+◌, ◌≤◌, ◌<◌, map, get_or, drop, length, subst, slice_get, Option, None, Some, zero, suc, arith, List, [], ◌∷◌, ◌++◌, refl, sym, ap, ◌∙◌, append-nil, append_assoc, Result, Ok, Err, OnOk}
 use Rattle.std.proofs.lemmas.List.Sums.{fold-append}
+use Rattle.prop_text.specs.Pairs.{Pair}
+use Rattle.plan_judging.specs.declared.rules.Row.{Row}
+use Rattle.plan_judging.specs.Rows.{row_of, rows_after, rows_of}
 use Rattle.plan_judging.specs.Candidates.{Seen, Candidates, adds, Adds, ◌⊕◌, first_of, least_of, nothing, each}
 
 pub adds_more : (s : Seen) (a b : Candidates) → adds (adds s a) b ≡ adds s (a ⊕ b)
@@ -22,8 +26,35 @@ adds_nothing s = refl
 pub join : {s t u : Seen} {a b : Candidates} → Adds s t a → Adds t u b → Adds s u (a ⊕ b)
 join {s} {t} {u} {a} {b} first second = record { is = second.is ∙ ap (λ (x : Seen). adds x b) first.is ∙ adds_more s a b }
 
+-- the same, where what comes last may fail
+pub join_last : {s t : Seen} {a : Candidates} {T E : Type 0} (r : Result T E) (u : Seen) (b : Candidates) → Adds s t a → OnOk r (Adds t u b) → OnOk r (Adds s u (a ⊕ b))
+join_last (Ok x) u b first last = join first last
+join_last (Err e) u b first last = tt
+
+-- what holds whatever comes
+pub whatever : {P : Type 0} {T E : Type 0} (r : Result T E) → P → OnOk r P
+whatever (Ok x) p = p
+whatever (Err e) p = tt
+
 pub add_nothing : (s : Seen) → Adds s s nothing
 add_nothing s = record { is = sym (adds_nothing s) }
+
+-- rows one after another
+join_nothing : (c : Candidates) → c ⊕ nothing ≡ c
+unfolding ◌⊕◌
+join_nothing c = λ i. record { faults = append-nil c.faults i; missing = append-nil c.missing i }
+
+join_assoc : (a b c : Candidates) → a ⊕ (b ⊕ c) ≡ (a ⊕ b) ⊕ c
+unfolding ◌⊕◌
+join_assoc a b c = λ i. record { faults = sym (append_assoc a.faults b.faults c.faults) i; missing = sym (append_assoc a.missing b.missing c.missing) i }
+
+each_after : (pairs : List Pair) (at : List ℕ) (c : Candidates) (rs : List Row) → c ⊕ each (row_of pairs at) rs ≡ rows_after pairs at c rs
+each_after pairs at c [] = join_nothing c
+each_after pairs at c (r ∷ rs) = join_assoc c (row_of pairs at r) (each (row_of pairs at) rs) ∙ each_after pairs at (c ⊕ row_of pairs at r) rs
+
+pub rows_each : (pairs : List Pair) (at : List ℕ) (rs : List Row) → each (row_of pairs at) rs ≡ rows_of pairs at rs
+rows_each pairs at [] = refl
+rows_each pairs at (r ∷ rs) = each_after pairs at (row_of pairs at r) rs
 
 -- a loop over some things, of which the first n are judged: what is left completes the candidates
 pub record Goes {A : Type 0} (f : A → Candidates) (n : ℕ) (xs : List A) (old now : Seen) : Type 0 where
@@ -83,3 +114,21 @@ gathered {f} {n} {names} {old} {now} past before = record {
 
 pub claims_join : {a b c x y : List Wish} → Claims a b x → Claims b c y → Claims a c (x ++ y)
 claims_join {a} {b} {c} {x} {y} first second = record { is = second.is ∙ ap (λ (l : List Wish). l ++ y) first.is ∙ append_assoc a x y }
+
+pub claims_last : {a b x : List Wish} {T E : Type 0} (r : Result T E) (c y : List Wish) → Claims a b x → OnOk r (Claims b c y) → OnOk r (Claims a c (x ++ y))
+claims_last (Ok v) c y first last = claims_join first last
+claims_last (Err e) c y first last = tt
+
+-- one claim for each name
+pub flat_one : (f : List ℕ → Wish) (names : List (List ℕ)) → flat_map (λ name. f name ∷ []) names ≡ map f names
+flat_one f [] = refl
+flat_one f (name ∷ names) = ap (λ (l : List Wish). f name ∷ l) (flat_one f names)
+
+-- what is handed in, at an interceptor and at a sink
+pub plugin_step : (o : Option Pair) → plugin_wish Step o ≡ step_wish o
+plugin_step None = refl
+plugin_step (Some kind) = refl
+
+pub plugin_sink : (o : Option Pair) → plugin_wish Plugin o ≡ sink_wish o
+plugin_sink None = refl
+plugin_sink (Some kind) = refl

@@ -76,7 +76,7 @@ components_of pairs agent sources channels sinks groups =
     ⊕ each (sink_named pairs agent channels) sinks
     ⊕ each (group_named pairs agent sinks) groups
 
--- all that may be at fault, with these components
+-- all that may be at fault, patterns apart, with these components
 abbrev pub candidates_of : List Pair → List ℕ → List (List ℕ) → List (List ℕ) → List (List ℕ) → List (List ℕ) → Candidates
 candidates_of pairs agent sources channels sinks groups =
     lists pairs (agent ++ codes ".") ⊕ components_of pairs agent sources channels sinks groups ⊕ clashes (claims_of pairs agent sources channels sinks groups)

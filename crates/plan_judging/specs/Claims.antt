@@ -73,6 +73,11 @@ abbrev pub sink_wish : Option Pair → List Wish
 sink_wish None = []
 sink_wish (Some kind) = if is_plugin kind.value then record { what = Plugin; text = drop 7 kind.value; number = 0; line = kind.line } ∷ [] else []
 
+-- an object that is handed in, as what it is claimed
+abbrev pub plugin_wish : Claimed → Option Pair → List Wish
+plugin_wish what None = []
+plugin_wish what (Some kind) = if is_plugin kind.value then record { what = what; text = drop 7 kind.value; number = 0; line = kind.line } ∷ [] else []
+
 abbrev pub member_wish : ℕ → List ℕ → Wish
 member_wish line member = record { what = Sink; text = member; number = 0; line = line }
 

@@ -7,6 +7,7 @@ use Rattle.prop_text.specs.Pairs.{Pair}
 use Rattle.prop_text.specs.Winners.{lookup}
 use Rattle.plan_judging.specs.declared.findings.FaultKind.{FaultKind}
 use Rattle.plan_judging.specs.declared.findings.FaultKind.TheVariants.{UnknownType, UnknownName, BadNumber, Unsupported, Clash}
+use Rattle.plan_judging.specs.declared.rules.Row.{Row}
 use Rattle.plan_judging.specs.declared.rules.Rule.{Rule}
 use Rattle.plan_judging.specs.declared.rules.Rule.TheVariants.{Text, Number, Truth, False, Never, NoCompression, TextSerializer, RoundRobinOrRandom, OneFolder, SourceKind, ChannelKind, SinkKind, ProcessorKind, StepKind, SerializerKind, SelectorKind}
 use Rattle.plan_judging.specs.Candidates.{Candidates, nothing, ◌⊕◌}
@@ -80,6 +81,20 @@ judged_pair required key rule (Some p) = of_kind p.line (judged rule p.value)
 -- a row, of the component whose keys begin so
 abbrev pub row : List Pair → List ℕ → Bool → List ℕ → Rule → Candidates
 row pairs at required key rule = judged_pair required (at ++ key) rule (lookup (at ++ key) pairs)
+
+-- a row as the code has it
+abbrev pub row_of : List Pair → List ℕ → Row → Candidates
+row_of pairs at r = row pairs at r.required r.key.now r.rule
+
+-- rows after other candidates
+abbrev pub rows_after : List Pair → List ℕ → Candidates → List Row → Candidates
+rows_after pairs at c [] = c
+rows_after pairs at c (r ∷ rs) = rows_after pairs at (c ⊕ row_of pairs at r) rs
+
+-- some rows of a component, in their order
+abbrev pub rows_of : List Pair → List ℕ → List Row → Candidates
+rows_of pairs at [] = nothing
+rows_of pairs at (r ∷ rs) = rows_after pairs at (row_of pairs at r) rs
 
 -- a list that names a thing twice
 abbrev pub twice : ℕ → List (List ℕ) → Candidates

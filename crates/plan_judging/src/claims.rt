@@ -9,11 +9,11 @@ ghost use Rattle.plan_judging.specs.Agents.{step_claims};
 ghost use Rattle.prop_text.specs.Views.{texts};
 ghost use Rattle.prop_text.specs.Winners.{lookup};
 ghost use Rattle.plan_judging.specs.Candidates.{Adds, seen, each};
-ghost use Rattle.plan_judging.specs.Claims.{code, same_wish, clash, clashes, listener, source_of_wish, source_wish, folder_wish, channel_wish, sink_wish, member_wish, group_wish, wish, wishes, Claims};
+ghost use Rattle.plan_judging.specs.Claims.{code, same_wish, clash, clashes, listener, plugin_wish, source_of_wish, source_wish, folder_wish, channel_wish, sink_wish, member_wish, group_wish, wish, wishes, Claims};
 
 use crate::findings::{FaultKind, Findings};
 use crate::group::{front_of, names_at};
-use crate::rules::{Place, is_plugin, is_type, joined};
+use crate::rules::{Place, is_plugin, is_type, type_at, value_at};
 use crate::values::number;
 use std::alloc::{AllocError, Global};
 
@@ -112,12 +112,10 @@ fn claim_listener(place: &Place<'_>, claims: &mut Vec<Claim>) -> Result<(), Allo
     ensures { OnOk result (Claims (wishes claims.old.items) (wishes claims.new.items)
         (listener (lookup (place.now.front.now ++ codes "bind") place.now.properties.now) (lookup (place.now.front.now ++ codes "port") place.now.properties.now))) }
 {
-    let bind_key = joined(place.alloc, place.front, "bind")?;
-    let port_key = joined(place.alloc, place.front, "port")?;
-    let Some((bind, _)) = place.properties.get(bind_key.as_str()) else {
+    let Some((bind, _)) = value_at(place, "bind")? else {
         return Ok(());
     };
-    let Some((port, line)) = place.properties.get(port_key.as_str()) else {
+    let Some((port, line)) = value_at(place, "port")? else {
         return Ok(());
     };
     match port_number(port) {
@@ -159,8 +157,7 @@ pub fn claim_source(place: &Place<'_>, claims: &mut Vec<Claim>) -> Result<(), Al
     ensures { OnOk result (Claims (wishes claims.old.items) (wishes claims.new.items)
         (source_wish place.now.properties.now place.now.front.now (lookup (place.now.front.now ++ codes "type") place.now.properties.now))) }
 {
-    let key = joined(place.alloc, place.front, "type")?;
-    match place.properties.get(key.as_str()) {
+    match type_at(place)? {
         None => Ok(()),
         Some((kind, line)) => claim_source_of(place, claims, kind, line),
     }
@@ -170,10 +167,22 @@ fn claim_folder(place: &Place<'_>, claims: &mut Vec<Claim>) -> Result<(), AllocE
     ensures { OnOk result (Claims (wishes claims.old.items) (wishes claims.new.items)
         (folder_wish (lookup (place.now.front.now ++ codes "dataDirs") place.now.properties.now))) }
 {
-    let key = joined(place.alloc, place.front, "dataDirs")?;
-    match place.properties.get(key.as_str()) {
+    match value_at(place, "dataDirs")? {
         None => Ok(()),
         Some((folder, line)) => push(place.alloc, claims, Claimed::Folder, folder, 0, line),
+    }
+}
+
+// The claim of an object that is handed in.
+fn claim_plugin(place: &Place<'_>, claims: &mut Vec<Claim>, what: Claimed) -> Result<(), AllocError>
+    ensures { OnOk result (Claims (wishes claims.old.items) (wishes claims.new.items)
+        (plugin_wish what (lookup (place.now.front.now ++ codes "type") place.now.properties.now))) }
+{
+    match type_at(place)? {
+        Some((kind, line)) if is_plugin(kind) => {
+            push(place.alloc, claims, what, plugin_name(kind), 0, line)
+        }
+        _ => Ok(()),
     }
 }
 
@@ -182,20 +191,12 @@ fn claim_step(place: &Place<'_>, claims: &mut Vec<Claim>, name: &str) -> Result<
     ensures { OnOk result (Claims (wishes claims.old.items) (wishes claims.new.items) (step_claims place.now.properties.now place.now.front.now name.now)) }
 {
     let front = front_of(place.alloc, place.front, "interceptors.", name)?;
-    let key = joined(place.alloc, front.as_str(), "type")?;
-    match place.properties.get(key.as_str()) {
-        Some((kind, line)) if is_plugin(kind) => {
-            push(
-                place.alloc,
-                claims,
-                Claimed::Step,
-                plugin_name(kind),
-                0,
-                line,
-            )
-        }
-        _ => Ok(()),
-    }
+    let place = Place {
+        alloc: place.alloc,
+        properties: place.properties,
+        front: front.as_str(),
+    };
+    claim_plugin(&place, claims, Claimed::Step)
 }
 
 fn claim_each(place: &Place<'_>, claims: &mut Vec<Claim>, names: &[&str]) -> Result<(), AllocError>
@@ -221,8 +222,7 @@ pub fn claim_channel(place: &Place<'_>, claims: &mut Vec<Claim>) -> Result<(), A
     ensures { OnOk result (Claims (wishes claims.old.items) (wishes claims.new.items)
         (channel_wish place.now.properties.now place.now.front.now (lookup (place.now.front.now ++ codes "type") place.now.properties.now))) }
 {
-    let key = joined(place.alloc, place.front, "type")?;
-    match place.properties.get(key.as_str()) {
+    match type_at(place)? {
         Some((kind, _)) if is_type(kind, "file") => claim_folder(place, claims),
         _ => Ok(()),
     }
@@ -233,20 +233,7 @@ pub fn claim_sink(place: &Place<'_>, claims: &mut Vec<Claim>) -> Result<(), Allo
     ensures { OnOk result (Claims (wishes claims.old.items) (wishes claims.new.items)
         (sink_wish (lookup (place.now.front.now ++ codes "type") place.now.properties.now))) }
 {
-    let key = joined(place.alloc, place.front, "type")?;
-    match place.properties.get(key.as_str()) {
-        Some((kind, line)) if is_plugin(kind) => {
-            push(
-                place.alloc,
-                claims,
-                Claimed::Plugin,
-                plugin_name(kind),
-                0,
-                line,
-            )
-        }
-        _ => Ok(()),
-    }
+    claim_plugin(place, claims, Claimed::Plugin)
 }
 
 /// The name of an object that is handed in.
@@ -280,8 +267,7 @@ pub fn claim_group(
     ensures { OnOk result (Claims (wishes claims.old.items) (wishes claims.new.items)
         (group_wish (lookup (place.now.front.now ++ codes "sinks") place.now.properties.now) (texts members.now))) }
 {
-    let key = joined(place.alloc, place.front, "sinks")?;
-    match place.properties.get(key.as_str()) {
+    match value_at(place, "sinks")? {
         None => Ok(()),
         Some((_, line)) => claim_members(place.alloc, claims, line, members),
     }

@@ -5,10 +5,10 @@ ghost use Rattle.std.specs.Str.{bytes_eq};
 ghost use Rattle.prop_text.specs.Views.{texts};
 ghost use Rattle.prop_text.specs.Winners.{lookup};
 ghost use Rattle.plan_judging.specs.Candidates.{Adds, seen, each};
-ghost use Rattle.plan_judging.specs.Components.{front_of, once, names_in, several, priority, failover, load_balance, group_of, group_by_kind, channel_of, same_channel, other_channel, one_channel, group_at};
+ghost use Rattle.plan_judging.specs.Components.{front_of, once, names_in, several, priority, failover, group_of, group_by_kind, channel_of, same_channel, other_channel, one_channel, group_at};
 
 use crate::findings::{FaultKind, Findings};
-use crate::rules::{Place, Rule, check, check_names, is_type, joined};
+use crate::rules::{Place, Row, Rule, check, check_names, check_rows, is_type, joined, value_at};
 use crate::values::{is_among, words};
 use prop_text::Properties;
 use std::alloc::{AllocError, Global};
@@ -18,10 +18,45 @@ const PRIORITY: Rule = Rule::Number {
     high: 4_294_967_295,
 };
 
-const MILLIS: Rule = Rule::Number {
-    low: 0,
-    high: u64::MAX,
+const KIND: [Row; 1] = [Row {
+    required: false,
+    key: "processor.type",
+    rule: Rule::ProcessorKind,
+}];
+
+const PENALTY: Row = Row {
+    required: false,
+    key: "processor.maxpenalty",
+    rule: Rule::Number {
+        low: 0,
+        high: u64::MAX,
+    },
 };
+
+const SELECTOR: Row = Row {
+    required: false,
+    key: "processor.selector",
+    rule: Rule::RoundRobinOrRandom,
+};
+
+const BACKOFF: Row = Row {
+    required: false,
+    key: "processor.backoff",
+    rule: Rule::Truth,
+};
+
+const TIMEOUT: Row = Row {
+    required: false,
+    key: "processor.selector.maxTimeOut",
+    rule: Rule::Number {
+        low: 0,
+        high: u64::MAX,
+    },
+};
+
+const FAILOVER: [Row; 1] = [PENALTY];
+
+const LOAD_BALANCE: [Row; 3] = [SELECTOR, BACKOFF, TIMEOUT];
 
 /// The names, each once, where it stands first.
 pub fn once<'a>(alloc: Global, names: &[&'a str]) -> Result<Vec<&'a str>, AllocError>
@@ -71,8 +106,7 @@ fn check_several(
     ensures { OnOk result (Adds (seen found.old) (seen found.new)
         (several (texts members.now) (lookup (place.now.front.now ++ codes "sinks") place.now.properties.now))) }
 {
-    let key = joined(place.alloc, place.front, "sinks")?;
-    if let Some((_, line)) = place.properties.get(key.as_str()) {
+    if let Some((_, line)) = value_at(place, "sinks")? {
         if members.len() > 1 {
             found.refuse(line, FaultKind::Unsupported);
         }
@@ -108,26 +142,9 @@ fn check_failover(
     ensures { OnOk result (Adds (seen found.old) (seen found.new) (failover place.now.properties.now place.now.front.now (texts members.now))) }
 {
     check_priorities(place, found, members)?;
-    check(place, found, false, "processor.maxpenalty", MILLIS)?;
-    Ok(())
+    check_rows(place, found, &FAILOVER)
 }
 
-fn check_load_balance(place: &Place<'_>, found: &mut Findings) -> Result<(), AllocError>
-    ensures { OnOk result (Adds (seen found.old) (seen found.new) (load_balance place.now.properties.now place.now.front.now)) }
-{
-    check(
-        place,
-        found,
-        false,
-        "processor.selector",
-        Rule::RoundRobinOrRandom,
-    )?;
-    check(place, found, false, "processor.backoff", Rule::Truth)?;
-    check(place, found, false, "processor.selector.maxTimeOut", MILLIS)?;
-    Ok(())
-}
-
-#[tactic(auto, unfolding(crate::specs::Candidates::adds))]
 fn check_kind(
     place: &Place<'_>,
     found: &mut Findings,
@@ -140,7 +157,7 @@ fn check_kind(
         return check_failover(place, found, members);
     }
     if is_type(kind, "load_balance") {
-        return check_load_balance(place, found);
+        return check_rows(place, found, &LOAD_BALANCE);
     }
     if is_type(kind, "default") {
         return check_several(place, found, members);
@@ -157,8 +174,7 @@ fn check_by_kind(
     ensures { OnOk result (Adds (seen found.old) (seen found.new)
         (group_by_kind place.now.properties.now place.now.front.now (texts members.now) (lookup (place.now.front.now ++ codes "processor.type") place.now.properties.now))) }
 {
-    let key = joined(place.alloc, place.front, "processor.type")?;
-    match place.properties.get(key.as_str()) {
+    match value_at(place, "processor.type")? {
         None => check_several(place, found, members),
         Some((kind, _)) => check_kind(place, found, members, kind),
     }
@@ -168,11 +184,7 @@ fn check_by_kind(
 pub fn front_of(alloc: Global, agent: &str, part: &str, name: &str) -> Result<String, AllocError>
     ensures { IfOk result (λ front. string_bytes front ≡ front_of agent.now part.now name.now) }
 {
-    let mut front = String::from_str(alloc, agent)?;
-    front.push_str(part)?;
-    front.push_str(name)?;
-    front.push_str(".")?;
-    Ok(front)
+    [agent, part, name, "."].concat(alloc)
 }
 
 /// The agent whose components are read.
@@ -281,8 +293,7 @@ pub fn check_group_at(
         (group_at place.now.properties.now agent.now.name.now (texts sinks.now) place.now.front.now (texts members.now))) }
 {
     check_names(place, found, "sinks", sinks)?;
-    check(place, found, false, "processor.type", Rule::ProcessorKind)?;
+    check_rows(place, found, &KIND)?;
     check_by_kind(place, found, members)?;
-    check_one_channel(agent, found, sinks, members)?;
-    Ok(())
+    check_one_channel(agent, found, sinks, members)
 }

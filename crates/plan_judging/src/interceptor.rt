@@ -4,39 +4,99 @@ ghost use Rattle.std.specs.Prelude.{OnOk, ◌++◌, codes};
 ghost use Rattle.prop_text.specs.Views.{texts};
 ghost use Rattle.prop_text.specs.Winners.{lookup};
 ghost use Rattle.plan_judging.specs.Candidates.{Adds, seen, each};
-ghost use Rattle.plan_judging.specs.Components.{host_step, remove_step, date_by_kind, serializer, serializer_named, extractor_step, step_of, step_by_kind, step, step_named, steps, front_of};
+ghost use Rattle.plan_judging.specs.Components.{date_by_kind, serializer, serializer_named, extractor_step, step_of, step, step_named, steps, front_of};
 
 use crate::findings::Findings;
 use crate::group::{front_of, names_at};
 use crate::rules::{
-    Place, Rule, check, check_list, is_host, is_millis, is_timestamp, is_type, joined,
+    Place, Row, Rule, check_list, check_rows, is_host, is_millis, is_timestamp, is_type, type_at,
 };
 use std::alloc::AllocError;
 
-fn check_host(place: &Place<'_>, found: &mut Findings) -> Result<(), AllocError>
-    ensures { OnOk result (Adds (seen found.old) (seen found.new) (host_step place.now.properties.now place.now.front.now)) }
-{
-    check(place, found, false, "useIP", Rule::Truth)?;
-    check(place, found, false, "preserveExisting", Rule::Truth)?;
-    Ok(())
-}
+const KIND: [Row; 1] = [Row {
+    required: true,
+    key: "type",
+    rule: Rule::StepKind,
+}];
 
-fn check_remove(place: &Place<'_>, found: &mut Findings) -> Result<(), AllocError>
-    ensures { OnOk result (Adds (seen found.old) (seen found.new) (remove_step place.now.properties.now place.now.front.now)) }
-{
-    check(place, found, false, "matching", Rule::Never)?;
-    check(place, found, false, "fromListSeparator", Rule::Never)?;
-    Ok(())
-}
+const USE_IP: Row = Row {
+    required: false,
+    key: "useIP",
+    rule: Rule::Truth,
+};
+
+const PRESERVE: Row = Row {
+    required: false,
+    key: "preserveExisting",
+    rule: Rule::Truth,
+};
+
+const MATCHING: Row = Row {
+    required: false,
+    key: "matching",
+    rule: Rule::Never,
+};
+
+const SEPARATOR: Row = Row {
+    required: false,
+    key: "fromListSeparator",
+    rule: Rule::Never,
+};
+
+const EXCLUDE: Row = Row {
+    required: false,
+    key: "excludeEvents",
+    rule: Rule::Truth,
+};
+
+const SEARCH: Row = Row {
+    required: true,
+    key: "searchPattern",
+    rule: Rule::Text,
+};
+
+const SERIALIZER: [Row; 2] = [
+    Row {
+        required: false,
+        key: "type",
+        rule: Rule::SerializerKind,
+    },
+    Row {
+        required: true,
+        key: "name",
+        rule: Rule::Text,
+    },
+];
+
+const DATE: [Row; 1] = [Row {
+    required: true,
+    key: "pattern",
+    rule: Rule::Text,
+}];
+
+const EXTRACTOR: [Row; 1] = [Row {
+    required: true,
+    key: "regex",
+    rule: Rule::Text,
+}];
+
+const STAMP: [Row; 1] = [PRESERVE];
+
+const HOST: [Row; 2] = [USE_IP, PRESERVE];
+
+const REMOVE: [Row; 2] = [MATCHING, SEPARATOR];
+
+const FILTER: [Row; 1] = [EXCLUDE];
+
+const REPLACE: [Row; 1] = [SEARCH];
 
 #[tactic(auto, unfolding(crate::specs::Candidates::adds))]
 fn check_date(place: &Place<'_>, found: &mut Findings) -> Result<(), AllocError>
     ensures { OnOk result (Adds (seen found.old) (seen found.new)
         (date_by_kind place.now.properties.now place.now.front.now (lookup (place.now.front.now ++ codes "type") place.now.properties.now))) }
 {
-    let key = joined(place.alloc, place.front, "type")?;
-    match place.properties.get(key.as_str()) {
-        Some((kind, _)) if is_millis(kind) => check(place, found, true, "pattern", Rule::Text),
+    match type_at(place)? {
+        Some((kind, _)) if is_millis(kind) => check_rows(place, found, &DATE),
         _ => Ok(()),
     }
 }
@@ -44,10 +104,8 @@ fn check_date(place: &Place<'_>, found: &mut Findings) -> Result<(), AllocError>
 fn check_serializer(place: &Place<'_>, found: &mut Findings) -> Result<(), AllocError>
     ensures { OnOk result (Adds (seen found.old) (seen found.new) (serializer place.now.properties.now place.now.front.now)) }
 {
-    check(place, found, false, "type", Rule::SerializerKind)?;
-    check(place, found, true, "name", Rule::Text)?;
-    check_date(place, found)?;
-    Ok(())
+    check_rows(place, found, &SERIALIZER)?;
+    check_date(place, found)
 }
 
 fn check_serializer_named(
@@ -82,59 +140,47 @@ fn check_serializers(
 fn check_extractor(place: &Place<'_>, found: &mut Findings) -> Result<(), AllocError>
     ensures { OnOk result (Adds (seen found.old) (seen found.new) (extractor_step place.now.properties.now place.now.front.now)) }
 {
-    check(place, found, true, "regex", Rule::Text)?;
+    check_rows(place, found, &EXTRACTOR)?;
     check_list(place, found, true, "serializers")?;
     let names = names_at(place, "serializers")?;
-    check_serializers(place, found, names.as_slice())?;
-    Ok(())
+    check_serializers(place, found, names.as_slice())
 }
 
-#[tactic(auto, unfolding(crate::specs::Candidates::adds))]
 fn check_kind(place: &Place<'_>, found: &mut Findings, kind: &str) -> Result<(), AllocError>
     ensures { OnOk result (Adds (seen found.old) (seen found.new) (step_of place.now.properties.now place.now.front.now kind.now)) }
 {
     if is_timestamp(kind) {
-        return check(place, found, false, "preserveExisting", Rule::Truth);
+        return check_rows(place, found, &STAMP);
     }
     if is_host(kind) {
-        return check_host(place, found);
+        return check_rows(place, found, &HOST);
     }
     if is_type(kind, "static") {
-        return check(place, found, false, "preserveExisting", Rule::Truth);
+        return check_rows(place, found, &STAMP);
     }
     if is_type(kind, "remove_header") {
-        return check_remove(place, found);
+        return check_rows(place, found, &REMOVE);
     }
     if is_type(kind, "regex_filter") {
-        return check(place, found, false, "excludeEvents", Rule::Truth);
+        return check_rows(place, found, &FILTER);
     }
     if is_type(kind, "regex_extractor") {
         return check_extractor(place, found);
     }
     if is_type(kind, "search_replace") {
-        return check(place, found, true, "searchPattern", Rule::Text);
+        return check_rows(place, found, &REPLACE);
     }
     Ok(())
-}
-
-#[tactic(auto, unfolding(crate::specs::Candidates::adds))]
-fn check_by_kind(place: &Place<'_>, found: &mut Findings) -> Result<(), AllocError>
-    ensures { OnOk result (Adds (seen found.old) (seen found.new)
-        (step_by_kind place.now.properties.now place.now.front.now (lookup (place.now.front.now ++ codes "type") place.now.properties.now))) }
-{
-    let key = joined(place.alloc, place.front, "type")?;
-    match place.properties.get(key.as_str()) {
-        None => Ok(()),
-        Some((kind, _)) => check_kind(place, found, kind),
-    }
 }
 
 fn check_step(place: &Place<'_>, found: &mut Findings) -> Result<(), AllocError>
     ensures { OnOk result (Adds (seen found.old) (seen found.new) (step place.now.properties.now place.now.front.now)) }
 {
-    check(place, found, true, "type", Rule::StepKind)?;
-    check_by_kind(place, found)?;
-    Ok(())
+    check_rows(place, found, &KIND)?;
+    match type_at(place)? {
+        None => Ok(()),
+        Some((kind, _)) => check_kind(place, found, kind),
+    }
 }
 
 fn check_step_named(place: &Place<'_>, found: &mut Findings, name: &str) -> Result<(), AllocError>
@@ -164,6 +210,5 @@ pub fn check_steps(place: &Place<'_>, found: &mut Findings) -> Result<(), AllocE
 {
     check_list(place, found, false, "interceptors")?;
     let names = names_at(place, "interceptors")?;
-    check_each(place, found, names.as_slice())?;
-    Ok(())
+    check_each(place, found, names.as_slice())
 }

@@ -26,8 +26,7 @@ fn check_lists(place: &Place<'_>, found: &mut Findings) -> Result<(), AllocError
     check_list(place, found, true, "sources")?;
     check_list(place, found, true, "channels")?;
     check_list(place, found, true, "sinks")?;
-    check_list(place, found, false, "sinkgroups")?;
-    Ok(())
+    check_list(place, found, false, "sinkgroups")
 }
 
 fn judge_source(
@@ -48,8 +47,7 @@ fn judge_source(
     };
     check_source(&place, found, channels)?;
     claim_source(&place, claims)?;
-    claim_steps(&place, claims)?;
-    Ok(())
+    claim_steps(&place, claims)
 }
 
 fn judge_sources(
@@ -84,8 +82,7 @@ fn judge_channel(
         front: front.as_str(),
     };
     check_channel(&place, found)?;
-    claim_channel(&place, claims)?;
-    Ok(())
+    claim_channel(&place, claims)
 }
 
 fn judge_channels(
@@ -120,8 +117,7 @@ fn judge_sink(
         front: front.as_str(),
     };
     check_sink(&place, found, channels)?;
-    claim_sink(&place, claims)?;
-    Ok(())
+    claim_sink(&place, claims)
 }
 
 fn judge_sinks(
@@ -155,8 +151,7 @@ fn judge_group_at(
         (group_wish (lookup (place.now.front.now ++ codes "sinks") place.now.properties.now) (texts members.now))) }
 {
     check_group_at(agent, place, found, sinks, members)?;
-    claim_group(place, claims, members)?;
-    Ok(())
+    claim_group(place, claims, members)
 }
 
 fn judge_group(
@@ -213,8 +208,7 @@ fn judge_components(
     judge_sources(agent, found, claims, channels, sources)?;
     judge_channels(agent, found, claims, channels)?;
     judge_sinks(agent, found, claims, channels, sinks)?;
-    judge_groups(agent, found, claims, sinks, groups)?;
-    Ok(())
+    judge_groups(agent, found, claims, sinks, groups)
 }
 
 /// What is at fault in an agent with these components, its patterns apart.

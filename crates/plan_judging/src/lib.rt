@@ -17,5 +17,5 @@ pub use claims::plugin_name;
 pub use findings::{Fault, FaultKind, Findings};
 pub use group::{Agent, front_of, names_at, names_in, once};
 pub use judging::judge;
-pub use rules::{Place, is_host, is_millis, is_plugin, is_timestamp, is_type, joined};
+pub use rules::{Place, is_host, is_millis, is_plugin, is_timestamp, is_type, joined, value_at};
 pub use values::{number, push_listed, truth, words};

@@ -1,14 +1,15 @@
 //! What the value of a key has to be.
 
-ghost use Rattle.std.specs.Prelude.{◌≡◌, ◌≤◌, ◌<◌, ◌^◌, ◌++◌, ◌||◌, Bool, is_some, not, ◌==◌, IfOk, OnOk, string_bytes, length, codes};
+ghost use Rattle.std.specs.Prelude.{◌≡◌, ◌≤◌, ◌<◌, ◌^◌, ◌++◌, ◌||◌, Bool, is_some, not, ◌==◌, IfOk, OnOk, MatchOption, None, Some, string_bytes, length, codes};
+ghost use Rattle.prop_text.specs.Winners.{lookup};
 ghost use Rattle.prop_text.specs.Views.{texts};
 ghost use Rattle.std.specs.List.{list_any};
 ghost use Rattle.std.specs.Str.{bytes_eq};
 ghost use Rattle.plan_judging.specs.declared.findings.FaultKind.TheVariants.{BadNumber};
 ghost use Rattle.plan_judging.specs.declared.rules.Rule.TheVariants.{False};
 ghost use Rattle.plan_judging.specs.Candidates.{Adds, seen, ◌⊕◌};
-ghost use Rattle.plan_judging.specs.Words.{number_in, truth_of};
-ghost use Rattle.plan_judging.specs.Rows.{when, is_type, is_plugin, is_timestamp, is_host, is_millis, is_step, judged, row, twice, unknown, list_row, names_row, name_row};
+ghost use Rattle.plan_judging.specs.Words.{number_in, truth_of, words};
+ghost use Rattle.plan_judging.specs.Rows.{when, is_type, is_plugin, is_timestamp, is_host, is_millis, is_step, judged, row, rows_of, of_kind, absent, twice, unknown, list_row, names_row, name_row};
 
 use crate::findings::{FaultKind, Findings};
 use crate::values::{all_among, has_twice, number, truth, words};
@@ -200,9 +201,7 @@ impl Rule {
 pub fn joined(alloc: Global, front: &str, back: &str) -> Result<String, AllocError>
     ensures { IfOk result (λ text. string_bytes text ≡ front.now ++ back.now) }
 {
-    let mut text = String::from_str(alloc, front)?;
-    text.push_str(back)?;
-    Ok(text)
+    [front, back].concat(alloc)
 }
 
 /// What some component's keys are read from, and the front that they share.
@@ -213,8 +212,54 @@ pub struct Place<'a> {
     pub front: &'a str,
 }
 
-/// Judges the value of a key, or that it is not there.
+/// The value at a component's key, and the number of the line that it stands on.
+pub fn value_at<'a>(place: &Place<'a>, key: &str) -> Result<Option<(&'a str, u32)>, AllocError>
+    ensures { IfOk result (λ found. MatchOption found
+        (lookup (place.now.front.now ++ key.now) place.now.properties.now ≡ None)
+        (λ v. lookup (place.now.front.now ++ key.now) place.now.properties.now
+        ≡ Some (record { key = place.now.front.now ++ key.now; value = v.0.now; line = v.1 }))) }
+{
+    let key = joined(place.alloc, place.front, key)?;
+    Ok(place.properties.get(key.as_str()))
+}
+
+/// The type of a component, and the number of its line.
+pub fn type_at<'a>(place: &Place<'a>) -> Result<Option<(&'a str, u32)>, AllocError>
+    ensures { IfOk result (λ found. MatchOption found
+        (lookup (place.now.front.now ++ codes "type") place.now.properties.now ≡ None)
+        (λ v. lookup (place.now.front.now ++ codes "type") place.now.properties.now
+        ≡ Some (record { key = place.now.front.now ++ codes "type"; value = v.0.now; line = v.1 }))) }
+{
+    value_at(place, "type")
+}
+
+// A key is not there.
+fn lack(
+    place: &Place<'_>,
+    found: &mut Findings,
+    required: bool,
+    key: &str,
+) -> Result<(), AllocError>
+    ensures { OnOk result (Adds (seen found.old) (seen found.new)
+        (absent required (place.now.front.now ++ key.now))) }
+{
+    if required {
+        found.lacks(joined(place.alloc, place.front, key)?);
+    }
+    Ok(())
+}
+
+// A line of which something may be wrong.
 #[tactic(auto, unfolding(crate::specs::Candidates::adds))]
+fn blame(found: &mut Findings, line: u32, kind: Option<FaultKind>)
+    ensures { Adds (seen found.old) (seen found.new) (of_kind line kind) }
+{
+    if let Some(kind) = kind {
+        found.refuse(line, kind);
+    }
+}
+
+/// Judges the value of a key, or that it is not there.
 pub fn check(
     place: &Place<'_>,
     found: &mut Findings,
@@ -224,23 +269,34 @@ pub fn check(
 ) -> Result<(), AllocError>
     ensures { OnOk result (Adds (seen found.old) (seen found.new) (row place.now.properties.now place.now.front.now required key.now rule)) }
 {
-    let key = joined(place.alloc, place.front, key)?;
-    match place.properties.get(key.as_str()) {
+    match value_at(place, key)? {
+        None => lack(place, found, required, key),
         Some((value, line)) => {
-            if let Some(kind) = rule.judge(value) {
-                found.refuse(line, kind);
-            }
+            blame(found, line, rule.judge(value));
+            Ok(())
         }
-        None => {
-            if required {
-                found.lacks(key);
-            }
-        }
+    }
+}
+
+/// A row of the table of components: a key, whether it is required, and what its value has to be.
+pub struct Row {
+    pub required: bool,
+    pub key: &'static str,
+    pub rule: Rule,
+}
+
+/// Judges the keys of some rows.
+pub fn check_rows(place: &Place<'_>, found: &mut Findings, rows: &[Row]) -> Result<(), AllocError>
+    ensures { OnOk result (Adds (seen found.old) (seen found.new)
+        (rows_of place.now.properties.now place.now.front.now rows.now)) }
+{
+    for row in rows {
+        check(place, found, row.required, row.key, row.rule)?;
     }
     Ok(())
 }
 
-/// Judges a list that names a thing twice.
+// Judges a list that names a thing twice.
 #[tactic(auto, unfolding(crate::specs::Candidates::adds))]
 fn check_twice(found: &mut Findings, line: u32, names: &[&str])
     ensures { Adds (seen found.old) (seen found.new) (twice line (texts names.now)) }
@@ -250,7 +306,7 @@ fn check_twice(found: &mut Findings, line: u32, names: &[&str])
     }
 }
 
-/// Judges a list that names a thing that is not among the others.
+// Judges a list that names a thing that is not among the others.
 #[tactic(auto, unfolding(crate::specs::Candidates::adds))]
 fn check_known(found: &mut Findings, line: u32, names: &[&str], others: &[&str])
     ensures { Adds (seen found.old) (seen found.new) (unknown line (texts names.now) (texts others.now)) }
@@ -261,15 +317,23 @@ fn check_known(found: &mut Findings, line: u32, names: &[&str], others: &[&str])
 }
 
 /// Judges a list of names of things that are there.
-pub fn check_list_of(found: &mut Findings, line: u32, names: &[&str], others: &[&str])
-    ensures { Adds (seen found.old) (seen found.new) (twice line (texts names.now) ⊕ unknown line (texts names.now) (texts others.now)) }
+pub fn check_list_of(
+    alloc: Global,
+    found: &mut Findings,
+    line: u32,
+    value: &str,
+    others: &[&str],
+) -> Result<(), AllocError>
+    ensures { OnOk result (Adds (seen found.old) (seen found.new)
+        (twice line (words value.now) ⊕ unknown line (words value.now) (texts others.now))) }
 {
-    check_twice(found, line, names);
-    check_known(found, line, names, others);
+    let names = words(alloc, value)?;
+    check_twice(found, line, names.as_slice());
+    check_known(found, line, names.as_slice(), others);
+    Ok(())
 }
 
 /// Judges a list of names that are the first to stand.
-#[tactic(auto, unfolding(crate::specs::Candidates::adds))]
 pub fn check_list(
     place: &Place<'_>,
     found: &mut Findings,
@@ -278,19 +342,14 @@ pub fn check_list(
 ) -> Result<(), AllocError>
     ensures { OnOk result (Adds (seen found.old) (seen found.new) (list_row place.now.properties.now place.now.front.now required key.now)) }
 {
-    let key = joined(place.alloc, place.front, key)?;
-    match place.properties.get(key.as_str()) {
+    match value_at(place, key)? {
+        None => lack(place, found, required, key),
         Some((value, line)) => {
             let names = words(place.alloc, value)?;
             check_twice(found, line, names.as_slice());
-        }
-        None => {
-            if required {
-                found.lacks(key);
-            }
+            Ok(())
         }
     }
-    Ok(())
 }
 
 /// Judges a required list of names of things that are there.
@@ -302,15 +361,10 @@ pub fn check_names(
 ) -> Result<(), AllocError>
     ensures { OnOk result (Adds (seen found.old) (seen found.new) (names_row place.now.properties.now place.now.front.now key.now (texts others.now))) }
 {
-    let key = joined(place.alloc, place.front, key)?;
-    match place.properties.get(key.as_str()) {
-        Some((value, line)) => {
-            let names = words(place.alloc, value)?;
-            check_list_of(found, line, names.as_slice(), others);
-        }
-        None => found.lacks(key),
+    match value_at(place, key)? {
+        None => lack(place, found, true, key),
+        Some((value, line)) => check_list_of(place.alloc, found, line, value, others),
     }
-    Ok(())
 }
 
 /// Judges a required key that names one thing that is there.
@@ -322,10 +376,11 @@ pub fn check_name(
 ) -> Result<(), AllocError>
     ensures { OnOk result (Adds (seen found.old) (seen found.new) (name_row place.now.properties.now place.now.front.now key.now (texts others.now))) }
 {
-    let key = joined(place.alloc, place.front, key)?;
-    match place.properties.get(key.as_str()) {
-        Some((value, line)) => check_known(found, line, &[value], others),
-        None => found.lacks(key),
+    match value_at(place, key)? {
+        None => lack(place, found, true, key),
+        Some((value, line)) => {
+            check_known(found, line, &[value], others);
+            Ok(())
+        }
     }
-    Ok(())
 }

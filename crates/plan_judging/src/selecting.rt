@@ -7,29 +7,20 @@ ghost use Rattle.prop_text.specs.Winners.{lookup};
 ghost use Rattle.plan_judging.specs.Rows.{twice, unknown};
 ghost use Rattle.plan_judging.specs.Words.{words};
 ghost use Rattle.plan_judging.specs.Candidates.{Adds, seen, each, nothing, ◌⊕◌};
-ghost use Rattle.plan_judging.specs.Components.{channels_row, channels_rows, multiplexing, selector_of, selector_by_kind, selector};
+ghost use Rattle.plan_judging.specs.Components.{channels_row, channels_rows, multiplexing, selector_of, selector};
 
 use crate::findings::Findings;
-use crate::rules::{Place, Rule, check, check_list_of, is_type, joined};
-use crate::values::words;
+use crate::rules::{
+    Place, Row, Rule, check_list_of, check_rows, is_type, joined, type_at, value_at,
+};
 use std::alloc::{AllocError, Global};
 
-// Judges a list of channels.
-fn check_channels(
-    alloc: Global,
-    found: &mut Findings,
-    value: &str,
-    line: u32,
-    channels: &[&str],
-) -> Result<(), AllocError>
-    ensures { OnOk result (Adds (seen found.old) (seen found.new) (twice line (words value.now) ⊕ unknown line (words value.now) (texts channels.now))) }
-{
-    let names = words(alloc, value)?;
-    check_list_of(found, line, names.as_slice(), channels);
-    Ok(())
-}
+const KIND: [Row; 1] = [Row {
+    required: false,
+    key: "type",
+    rule: Rule::SelectorKind,
+}];
 
-#[tactic(auto, unfolding(crate::specs::Candidates::adds))]
 fn check_row(
     place: &Place<'_>,
     found: &mut Findings,
@@ -38,10 +29,9 @@ fn check_row(
 ) -> Result<(), AllocError>
     ensures { OnOk result (Adds (seen found.old) (seen found.new) (channels_row place.now.properties.now place.now.front.now key.now (texts channels.now))) }
 {
-    let key = joined(place.alloc, place.front, key)?;
-    match place.properties.get(key.as_str()) {
+    match value_at(place, key)? {
         None => Ok(()),
-        Some((value, line)) => check_channels(place.alloc, found, value, line, channels),
+        Some((value, line)) => check_list_of(place.alloc, found, line, value, channels),
     }
 }
 
@@ -60,13 +50,13 @@ fn check_key(
         (if starts_with nat_eq key.now front.now then (twice line (words value.now) ⊕ unknown line (words value.now) (texts channels.now)) else nothing)) }
 {
     if key.as_bytes().starts_with(front.as_bytes()) {
-        return check_channels(alloc, found, value, line, channels);
+        return check_list_of(alloc, found, line, value, channels);
     }
     Ok(())
 }
 
 // Judges the lists at the keys that begin so.
-fn check_rows(
+fn check_mapped(
     place: &Place<'_>,
     found: &mut Findings,
     key: &str,
@@ -98,9 +88,8 @@ fn check_multiplexing(
     ensures { OnOk result (Adds (seen found.old) (seen found.new) (multiplexing place.now.properties.now place.now.front.now (texts channels.now))) }
 {
     check_row(place, found, "default", channels)?;
-    check_rows(place, found, "mapping.", channels)?;
-    check_rows(place, found, "optional.", channels)?;
-    Ok(())
+    check_mapped(place, found, "mapping.", channels)?;
+    check_mapped(place, found, "optional.", channels)
 }
 
 #[tactic(auto, unfolding(crate::specs::Candidates::adds))]
@@ -121,22 +110,6 @@ fn check_kind(
     Ok(())
 }
 
-#[tactic(auto, unfolding(crate::specs::Candidates::adds))]
-fn check_by_kind(
-    place: &Place<'_>,
-    found: &mut Findings,
-    channels: &[&str],
-) -> Result<(), AllocError>
-    ensures { OnOk result (Adds (seen found.old) (seen found.new)
-        (selector_by_kind place.now.properties.now place.now.front.now (texts channels.now) (lookup (place.now.front.now ++ codes "type") place.now.properties.now))) }
-{
-    let key = joined(place.alloc, place.front, "type")?;
-    match place.properties.get(key.as_str()) {
-        None => check_row(place, found, "optional", channels),
-        Some((kind, _)) => check_kind(place, found, channels, kind),
-    }
-}
-
 /// Judges the selector of a source that has these channels.
 pub fn check_selector(
     place: &Place<'_>,
@@ -145,7 +118,9 @@ pub fn check_selector(
 ) -> Result<(), AllocError>
     ensures { OnOk result (Adds (seen found.old) (seen found.new) (selector place.now.properties.now place.now.front.now (texts channels.now))) }
 {
-    check(place, found, false, "type", Rule::SelectorKind)?;
-    check_by_kind(place, found, channels)?;
-    Ok(())
+    check_rows(place, found, &KIND)?;
+    match type_at(place)? {
+        None => check_row(place, found, "optional", channels),
+        Some((kind, _)) => check_kind(place, found, channels, kind),
+    }
 }

@@ -4,73 +4,106 @@ ghost use Rattle.std.specs.Prelude.{OnOk, ◌++◌, codes};
 ghost use Rattle.prop_text.specs.Views.{texts};
 ghost use Rattle.prop_text.specs.Winners.{lookup};
 ghost use Rattle.plan_judging.specs.Candidates.{Adds, seen};
-ghost use Rattle.plan_judging.specs.Components.{avro_sink, roll_sink, sink_of, sink_by_kind, sink};
+ghost use Rattle.plan_judging.specs.Components.{sink_of, sink};
 
 use crate::findings::Findings;
-use crate::rules::{Place, Rule, check, check_name, is_type, joined};
+use crate::rules::{Place, Row, Rule, check_name, check_rows, is_type, type_at};
 use std::alloc::AllocError;
 
-const PORT: Rule = Rule::Number {
-    low: 1,
-    high: 65_535,
+const KIND: [Row; 1] = [Row {
+    required: true,
+    key: "type",
+    rule: Rule::SinkKind,
+}];
+
+const HOST: Row = Row {
+    required: true,
+    key: "hostname",
+    rule: Rule::Text,
 };
 
-const BATCH: Rule = Rule::Number {
-    low: 1,
-    high: 10_000,
+const PORT: Row = Row {
+    required: true,
+    key: "port",
+    rule: Rule::Number {
+        low: 1,
+        high: 65_535,
+    },
 };
 
-const SECONDS: Rule = Rule::Number {
-    low: 0,
-    high: 4_294_967_295,
+const AVRO_BATCH: Row = Row {
+    required: false,
+    key: "batch-size",
+    rule: Rule::Number {
+        low: 1,
+        high: 10_000,
+    },
 };
 
-fn check_avro(place: &Place<'_>, found: &mut Findings) -> Result<(), AllocError>
-    ensures { OnOk result (Adds (seen found.old) (seen found.new) (avro_sink place.now.properties.now place.now.front.now)) }
-{
-    check(place, found, true, "hostname", Rule::Text)?;
-    check(place, found, true, "port", PORT)?;
-    check(place, found, false, "batch-size", BATCH)?;
-    check(place, found, false, "compression-type", Rule::NoCompression)?;
-    Ok(())
-}
+const COMPRESSION: Row = Row {
+    required: false,
+    key: "compression-type",
+    rule: Rule::NoCompression,
+};
 
-fn check_roll(place: &Place<'_>, found: &mut Findings) -> Result<(), AllocError>
-    ensures { OnOk result (Adds (seen found.old) (seen found.new) (roll_sink place.now.properties.now place.now.front.now)) }
-{
-    check(place, found, true, "sink.directory", Rule::Text)?;
-    check(place, found, false, "sink.rollInterval", SECONDS)?;
-    check(place, found, false, "sink.batchSize", BATCH)?;
-    check(place, found, false, "sink.serializer", Rule::TextSerializer)?;
-    Ok(())
-}
+const FOLDER: Row = Row {
+    required: true,
+    key: "sink.directory",
+    rule: Rule::Text,
+};
 
-#[tactic(auto, unfolding(crate::specs::Candidates::adds))]
+const INTERVAL: Row = Row {
+    required: false,
+    key: "sink.rollInterval",
+    rule: Rule::Number {
+        low: 0,
+        high: 4_294_967_295,
+    },
+};
+
+const ROLL_BATCH: Row = Row {
+    required: false,
+    key: "sink.batchSize",
+    rule: Rule::Number {
+        low: 1,
+        high: 10_000,
+    },
+};
+
+const SERIALIZER: Row = Row {
+    required: false,
+    key: "sink.serializer",
+    rule: Rule::TextSerializer,
+};
+
+const NULL_BATCH: Row = Row {
+    required: false,
+    key: "batchSize",
+    rule: Rule::Number {
+        low: 1,
+        high: 10_000,
+    },
+};
+
+const AVRO: [Row; 4] = [HOST, PORT, AVRO_BATCH, COMPRESSION];
+
+const ROLL: [Row; 4] = [FOLDER, INTERVAL, ROLL_BATCH, SERIALIZER];
+
+const NULL: [Row; 1] = [NULL_BATCH];
+
 fn check_kind(place: &Place<'_>, found: &mut Findings, kind: &str) -> Result<(), AllocError>
     ensures { OnOk result (Adds (seen found.old) (seen found.new) (sink_of place.now.properties.now place.now.front.now kind.now)) }
 {
     if is_type(kind, "avro") {
-        return check_avro(place, found);
+        return check_rows(place, found, &AVRO);
     }
     if is_type(kind, "file_roll") {
-        return check_roll(place, found);
+        return check_rows(place, found, &ROLL);
     }
     if is_type(kind, "null") {
-        return check(place, found, false, "batchSize", BATCH);
+        return check_rows(place, found, &NULL);
     }
     Ok(())
-}
-
-#[tactic(auto, unfolding(crate::specs::Candidates::adds))]
-fn check_by_kind(place: &Place<'_>, found: &mut Findings) -> Result<(), AllocError>
-    ensures { OnOk result (Adds (seen found.old) (seen found.new)
-        (sink_by_kind place.now.properties.now place.now.front.now (lookup (place.now.front.now ++ codes "type") place.now.properties.now))) }
-{
-    let key = joined(place.alloc, place.front, "type")?;
-    match place.properties.get(key.as_str()) {
-        None => Ok(()),
-        Some((kind, _)) => check_kind(place, found, kind),
-    }
 }
 
 /// Judges a sink.
@@ -81,8 +114,10 @@ pub fn check_sink(
 ) -> Result<(), AllocError>
     ensures { OnOk result (Adds (seen found.old) (seen found.new) (sink place.now.properties.now (texts channels.now) place.now.front.now)) }
 {
-    check(place, found, true, "type", Rule::SinkKind)?;
+    check_rows(place, found, &KIND)?;
     check_name(place, found, "channel", channels)?;
-    check_by_kind(place, found)?;
-    Ok(())
+    match type_at(place)? {
+        None => Ok(()),
+        Some((kind, _)) => check_kind(place, found, kind),
+    }
 }

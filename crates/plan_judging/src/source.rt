@@ -4,82 +4,82 @@ ghost use Rattle.std.specs.Prelude.{OnOk, ◌++◌, codes};
 ghost use Rattle.prop_text.specs.Winners.{lookup};
 ghost use Rattle.prop_text.specs.Views.{texts};
 ghost use Rattle.plan_judging.specs.Candidates.{Adds, seen};
-ghost use Rattle.plan_judging.specs.Components.{netcat_source, avro_source, stdin_source, source_of, source_by_kind, selector, source, names_in};
+ghost use Rattle.plan_judging.specs.Components.{source_of, selector, source, names_in};
 
 use crate::findings::Findings;
 use crate::group::names_at;
 use crate::interceptor::check_steps;
-use crate::rules::{Place, Rule, check, check_names, is_type, joined};
+use crate::rules::{Place, Row, Rule, check_names, check_rows, is_type, joined, type_at};
 use crate::selecting::check_selector;
 use std::alloc::AllocError;
 
-const PORT: Rule = Rule::Number {
-    low: 1,
-    high: 65_535,
+const KIND: [Row; 1] = [Row {
+    required: true,
+    key: "type",
+    rule: Rule::SourceKind,
+}];
+
+const BIND: Row = Row {
+    required: true,
+    key: "bind",
+    rule: Rule::Text,
 };
 
-const LINE_LENGTH: Rule = Rule::Number {
-    low: 1,
-    high: 1_048_568,
+const PORT: Row = Row {
+    required: true,
+    key: "port",
+    rule: Rule::Number {
+        low: 1,
+        high: 65_535,
+    },
 };
 
-const THREADS: Rule = Rule::Number { low: 1, high: 64 };
+const LINE_LENGTH: Row = Row {
+    required: false,
+    key: "max-line-length",
+    rule: Rule::Number {
+        low: 1,
+        high: 1_048_568,
+    },
+};
 
-fn check_netcat(place: &Place<'_>, found: &mut Findings) -> Result<(), AllocError>
-    ensures { OnOk result (Adds (seen found.old) (seen found.new) (netcat_source place.now.properties.now place.now.front.now)) }
-{
-    check(place, found, true, "bind", Rule::Text)?;
-    check(place, found, true, "port", PORT)?;
-    check(place, found, false, "max-line-length", LINE_LENGTH)?;
-    check(place, found, false, "ack-every-event", Rule::Truth)?;
-    check(place, found, false, "threads", THREADS)?;
-    Ok(())
-}
+const ACK: Row = Row {
+    required: false,
+    key: "ack-every-event",
+    rule: Rule::Truth,
+};
 
-fn check_avro(place: &Place<'_>, found: &mut Findings) -> Result<(), AllocError>
-    ensures { OnOk result (Adds (seen found.old) (seen found.new) (avro_source place.now.properties.now place.now.front.now)) }
-{
-    check(place, found, true, "bind", Rule::Text)?;
-    check(place, found, true, "port", PORT)?;
-    check(place, found, false, "threads", THREADS)?;
-    check(place, found, false, "compression-type", Rule::NoCompression)?;
-    Ok(())
-}
+const THREADS: Row = Row {
+    required: false,
+    key: "threads",
+    rule: Rule::Number { low: 1, high: 64 },
+};
 
-fn check_stdin(place: &Place<'_>, found: &mut Findings) -> Result<(), AllocError>
-    ensures { OnOk result (Adds (seen found.old) (seen found.new) (stdin_source place.now.properties.now place.now.front.now)) }
-{
-    check(place, found, false, "max-line-length", LINE_LENGTH)?;
-    check(place, found, false, "ack-every-event", Rule::Truth)?;
-    Ok(())
-}
+const COMPRESSION: Row = Row {
+    required: false,
+    key: "compression-type",
+    rule: Rule::NoCompression,
+};
 
-#[tactic(auto, unfolding(crate::specs::Candidates::adds))]
+const NETCAT: [Row; 5] = [BIND, PORT, LINE_LENGTH, ACK, THREADS];
+
+const AVRO: [Row; 4] = [BIND, PORT, THREADS, COMPRESSION];
+
+const STDIN: [Row; 2] = [LINE_LENGTH, ACK];
+
 fn check_kind(place: &Place<'_>, found: &mut Findings, kind: &str) -> Result<(), AllocError>
     ensures { OnOk result (Adds (seen found.old) (seen found.new) (source_of place.now.properties.now place.now.front.now kind.now)) }
 {
     if is_type(kind, "netcat") {
-        return check_netcat(place, found);
+        return check_rows(place, found, &NETCAT);
     }
     if is_type(kind, "avro") {
-        return check_avro(place, found);
+        return check_rows(place, found, &AVRO);
     }
     if is_type(kind, "stdin") {
-        return check_stdin(place, found);
+        return check_rows(place, found, &STDIN);
     }
     Ok(())
-}
-
-#[tactic(auto, unfolding(crate::specs::Candidates::adds))]
-fn check_by_kind(place: &Place<'_>, found: &mut Findings) -> Result<(), AllocError>
-    ensures { OnOk result (Adds (seen found.old) (seen found.new)
-        (source_by_kind place.now.properties.now place.now.front.now (lookup (place.now.front.now ++ codes "type") place.now.properties.now))) }
-{
-    let key = joined(place.alloc, place.front, "type")?;
-    match place.properties.get(key.as_str()) {
-        None => Ok(()),
-        Some((kind, _)) => check_kind(place, found, kind),
-    }
 }
 
 // Judges the selector of a source.
@@ -105,10 +105,12 @@ pub fn check_source(
 ) -> Result<(), AllocError>
     ensures { OnOk result (Adds (seen found.old) (seen found.new) (source place.now.properties.now (texts channels.now) place.now.front.now)) }
 {
-    check(place, found, true, "type", Rule::SourceKind)?;
+    check_rows(place, found, &KIND)?;
     check_names(place, found, "channels", channels)?;
     check_steps(place, found)?;
     check_selector_at(place, found)?;
-    check_by_kind(place, found)?;
-    Ok(())
+    match type_at(place)? {
+        None => Ok(()),
+        Some((kind, _)) => check_kind(place, found, kind),
+    }
 }

@@ -1,6 +1,6 @@
 use Rattle.std.proofs.Common.{arith}
 use Rattle.plan_judging.proofs.Joins.{begins, goes_on, ends, drop_from_get}
-use Rattle.plan_judging.proofs.selecting.check_rows.Goals as goal
+use Rattle.plan_judging.proofs.selecting.check_mapped.Goals as goal
 
 pub loop-at-init : goal.loop-at-init
 loop-at-init c = begins _ _ _
