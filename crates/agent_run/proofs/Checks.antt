@@ -5,7 +5,7 @@ use Rattle.flume_host.specs.Causes.{Rose}
 use Rattle.flume_host.specs.HostState.{HostState, WasRead, file_limit}
 use Rattle.prop_text.specs.declared.fault.PropRefused.TheVariants as text
 use Rattle.flume_config.specs.declared.plan.Plan.{Plan}
-use Rattle.flume_config.specs.declared.refused.PlanRefused.TheVariants as plan
+use Rattle.plan_refused.specs.declared.refused.PlanRefused.TheVariants as plan
 use Rattle.agent_words.specs.Statuses.{status_of}
 use Rattle.agent_words.specs.declared.error.RunError.{RunError}
 use Rattle.agent_words.specs.declared.error.RunError.TheVariants.{Usage, FileTooLarge, Text, NoAgent, Plan as Plan', Fault, BadCheckpoint, BadLog, OverCapacity, Spent, Damaged, NoMemory, InputTooLong, LineTooLong}

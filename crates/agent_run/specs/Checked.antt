@@ -13,8 +13,8 @@ use Rattle.flume_config.specs.declared.plan.StepPlan.TheVariants.{Step, Regex, P
 use Rattle.flume_config.specs.declared.plan.SinkPlan.{SinkPlan}
 use Rattle.flume_config.specs.declared.plan.SinkKind.{SinkKind}
 use Rattle.flume_config.specs.declared.plan.SinkKind.TheVariants.{Null, Roll, Avro, Plugin}
-use Rattle.flume_config.specs.declared.refused.PlanRefused.{PlanRefused}
-use Rattle.flume_config.specs.declared.refused.PlanRefused.TheVariants as plan
+use Rattle.plan_refused.specs.declared.refused.PlanRefused.{PlanRefused}
+use Rattle.plan_refused.specs.declared.refused.PlanRefused.TheVariants as plan
 use Rattle.agent_words.specs.Statuses.{status_of}
 use Rattle.agent_words.specs.declared.error.RunError.{RunError}
 use Rattle.agent_words.specs.declared.error.RunError.TheVariants as errors

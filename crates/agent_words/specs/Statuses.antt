@@ -2,8 +2,8 @@
 use Rattle.std.specs.Prelude.{ℕ}
 use Rattle.prop_text.specs.declared.fault.PropRefused.{PropRefused}
 use Rattle.prop_text.specs.declared.fault.PropRefused.TheVariants as text
-use Rattle.flume_config.specs.declared.refused.PlanRefused.{PlanRefused}
-use Rattle.flume_config.specs.declared.refused.PlanRefused.TheVariants as plan
+use Rattle.plan_refused.specs.declared.refused.PlanRefused.{PlanRefused}
+use Rattle.plan_refused.specs.declared.refused.PlanRefused.TheVariants as plan
 use Rattle.agent_words.specs.declared.error.RunError.{RunError}
 use Rattle.agent_words.specs.declared.error.RunError.TheVariants.{Usage, FileTooLarge, Text, NoAgent, Plan, Fault, BadCheckpoint, BadLog, OverCapacity, Spent, Damaged, NoMemory, InputTooLong, LineTooLong}
 

@@ -13,7 +13,7 @@ use std::alloc::Global;
 const MOST: u32 = 1_000_000;
 
 /// What the program is asked to do.
-#[derive(Debug, Drop)]
+#[derive(Drop)]
 pub enum Command {
     /// `pipe DIR`: standard input is one session into the log of a folder.
     Pipe { dir: String },

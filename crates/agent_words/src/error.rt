@@ -4,7 +4,7 @@ ghost use Rattle.std.specs.Prelude.{◌≡◌};
 ghost use Rattle.agent_words.specs.Statuses.{status_of};
 ghost use Rattle.agent_words.specs.declared.error.RunError.TheVariants as errors;
 
-use flume_config::PlanRefused;
+use plan_refused::PlanRefused;
 use prop_text::PropRefused;
 use std::alloc::AllocError;
 use thiserror::Error;

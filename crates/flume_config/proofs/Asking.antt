@@ -1,5 +1,5 @@
 -- Texts that are judged one after another.
-use Rattle.std.proofs.Common.{ℕ, ◌+◌, ◌≤◌, ◌<◌, Bool, get_or, drop, length, subst, arith, List, [], ◌∷◌, ◌++◌, refl, sym, ap, ◌∙◌}
+use Rattle.std.proofs.Common.{ℕ, ◌+◌, ◌≤◌, ◌<◌, Bool, get_or, drop, length, subst, arith, List, [], ◌∷◌, ◌++◌, refl, sym, ap, ◌∙◌, Result, Ok, Err, OnOk}
 use Rattle.std.proofs.lemmas.List.{drop_all, length-map}
 use Rattle.std.specs.Borrow.{Bor}
 use Rattle.std.specs.List.{flat_map}
@@ -35,6 +35,11 @@ ask_both {s} {t} {u} {xs} {ys} first second = record {
   are = are_more xs ys first.verdicts second.verdicts first.are second.are;
   adds = adds_both xs ys first.verdicts second.verdicts first.are s t u first.adds second.adds;
 }
+
+-- the same, where what comes last may fail
+pub ask_last : {s t : Seen} {xs : List Asked} {T E : Type 0} (r : Result T E) (u : Seen) (ys : List Asked) → Asks s t xs → OnOk r (Asks t u ys) → OnOk r (Asks s u (xs ++ ys))
+ask_last (Ok v) u ys first last = ask_both first last
+ask_last (Err e) u ys first last = tt
 
 -- a loop over names, of which the first n are judged
 pub record AsksOn (f : List ℕ → List Asked) (n : ℕ) (names : List (Bor (List ℕ))) (old now : Seen) : Type 0 where

@@ -1,8 +1,8 @@
 -- A refusal of what was found is one of the plan.
 use Rattle.std.proofs.Common.{◌≡◌, ℕ, List, true, Err}
 use Rattle.prop_text.specs.Pairs.{Pair}
-use Rattle.flume_config.specs.declared.refused.PlanRefused.{PlanRefused}
-use Rattle.flume_config.specs.declared.refused.PlanRefused.TheVariants.{NoAgent, UnknownType, UnknownName, BadNumber, BadPattern, Unsupported, Clash, Missing, NoMemory}
+use Rattle.plan_refused.specs.declared.refused.PlanRefused.{PlanRefused}
+use Rattle.plan_refused.specs.declared.refused.PlanRefused.TheVariants.{NoAgent, UnknownType, UnknownName, BadNumber, BadPattern, Unsupported, Clash, Missing, NoMemory}
 use Rattle.plan_judging.specs.Agents.{is_agent}
 use Rattle.plan_judging.specs.Candidates.{Seen}
 use Rattle.flume_config.specs.Plans.{Refuses, IsJudged, Plans}

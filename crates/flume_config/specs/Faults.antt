@@ -6,7 +6,8 @@ use Rattle.plan_judging.specs.Candidates.{Candidates, ◌⊕◌, first_of, least
 use Rattle.plan_judging.specs.Agents.{sources, channels, sinks, groups, candidates_of}
 use Rattle.flume_config.specs.Patterns.{Asked, asked_of, bad_ones}
 
--- and the bad ones of the texts that have to be patterns, by these verdicts on them
+-- all that may be at fault, with these components: what rests on no pattern, and the bad ones of the texts that have to be patterns, by these
+-- verdicts on them
 abbrev pub all_of : List Pair → List ℕ → List (List ℕ) → List (List ℕ) → List (List ℕ) → List (List ℕ) → List Bool → Candidates
 all_of pairs agent sources channels sinks groups verdicts = candidates_of pairs agent sources channels sinks groups ⊕ bad_ones (asked_of pairs agent sources) verdicts
 

@@ -3,8 +3,8 @@ use Rattle.std.specs.Prelude.{◌≡◌, ℕ, Bool, true, false, List, Some, Non
 use Rattle.prop_text.specs.Pairs.{Pair}
 use Rattle.prop_text.specs.Views.{texts}
 use Rattle.plan_judging.specs.declared.findings.FaultKind.TheVariants as kinds
-use Rattle.flume_config.specs.declared.refused.PlanRefused.{PlanRefused}
-use Rattle.flume_config.specs.declared.refused.PlanRefused.TheVariants.{NoAgent, UnknownType, UnknownName, BadNumber, BadPattern, Unsupported, Clash, Missing, NoMemory}
+use Rattle.plan_refused.specs.declared.refused.PlanRefused.{PlanRefused}
+use Rattle.plan_refused.specs.declared.refused.PlanRefused.TheVariants.{NoAgent, UnknownType, UnknownName, BadNumber, BadPattern, Unsupported, Clash, Missing, NoMemory}
 use Rattle.flume_config.specs.declared.plan.Plan.{Plan}
 use Rattle.flume_config.specs.declared.planning.AgentNames.{AgentNames}
 use Rattle.plan_judging.specs.Candidates.{Seen, adds}

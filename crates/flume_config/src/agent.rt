@@ -1,6 +1,7 @@
 //! The plan of an agent, or its first fault.
 
-ghost use Rattle.std.specs.Prelude.{◌≡◌, IfOk, MatchOption, ◌++◌};
+ghost use Rattle.std.specs.Prelude.{◌≡◌, IfOk, MatchOption, ◌++◌, true};
+ghost use Rattle.plan_judging.specs.Agents.{is_agent};
 ghost use Rattle.prop_text.specs.Views.{texts};
 ghost use Rattle.plan_judging.specs.Candidates.{seen};
 ghost use Rattle.flume_config.specs.Plans.{IsJudged, IsRight, Refuses, IsPlan, Plans, Names};
@@ -8,8 +9,8 @@ ghost use Rattle.flume_config.specs.Plans.{IsJudged, IsRight, Refuses, IsPlan, P
 use crate::patterns::judge;
 use crate::plan::Plan;
 use crate::planning::{AgentNames, channels, groups, is_agent, sinks, sources};
-use crate::refused::PlanRefused;
 use plan_judging::{Agent, FaultKind, Findings, Place, names_at};
+use plan_refused::PlanRefused;
 use prop_text::Properties;
 use std::alloc::{AllocError, Global};
 
@@ -82,6 +83,19 @@ fn plan(agent: &Agent<'_>, names: &AgentNames<'_>) -> Result<Plan, AllocError>
     })
 }
 
+// The plan of an agent of which there is some key, or what is at fault.
+fn judged_plan(agent: &Agent<'_>, names: &AgentNames<'_>) -> Result<Plan, PlanRefused>
+    requires there { is_agent agent.now.properties.now agent.now.name.now ≡ true }
+    requires names { Names agent.now.properties.now agent.now.name.now names.now }
+    ensures { Plans agent.now.properties.now agent.now.name.now result }
+{
+    let found = judged(agent, names)?;
+    if let Some(refused) = refusal(found) {
+        return Err(refused);
+    }
+    Ok(plan(agent, names)?)
+}
+
 /// The plan of an agent, by the pairs of a properties text, or the first that applies: no key begins with the agent's name and a dot;
 /// the fault with the least line, and on one line the first of unknown type, unknown name, bad number, unsupported and clash; the
 /// least key by bytes that is required and not there. Want of memory may come at any time. The components and their keys are those
@@ -98,9 +112,5 @@ pub fn plan_of(alloc: Global, properties: &Properties, agent: &str) -> Result<Pl
         name: agent,
     };
     let names = agent_names(&agent)?;
-    let found = judged(&agent, &names)?;
-    if let Some(refused) = refusal(found) {
-        return Err(refused);
-    }
-    Ok(plan(&agent, &names)?)
+    judged_plan(&agent, &names)
 }

@@ -6,7 +6,6 @@ mod laws;
 mod patterns;
 mod plan;
 mod planning;
-mod refused;
 mod routing;
 mod stepping;
 mod values;
@@ -17,4 +16,4 @@ pub use plan::{
     ChannelKind, ChannelPlan, GroupPlan, Plan, Processor, SinkKind, SinkPlan, SourceKind,
     SourcePlan, StepPlan,
 };
-pub use refused::PlanRefused;
+pub use plan_refused::PlanRefused;

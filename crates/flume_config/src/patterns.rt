@@ -9,7 +9,7 @@ ghost use Rattle.flume_config.specs.Patterns.{Asks, IsVerdict, asked_at, asked_o
 ghost use Rattle.flume_config.specs.Plans.{IsSeen};
 
 use plan_judging::{
-    Agent, FaultKind, Findings, Place, front_of, is_millis, is_type, joined, names_at,
+    Agent, FaultKind, Findings, Place, front_of, is_millis, is_type, names_at, value_at,
 };
 use regex_steps::{BuildRefused, DatePattern, RegexKeys, RegexStep};
 use std::alloc::{AllocError, Global};
@@ -76,8 +76,7 @@ fn ask_at(
 ) -> Result<(), AllocError>
     ensures { OnOk result (Asks (seen found.old) (seen found.new) (asked_at is_date (lookup (place.now.front.now ++ key.now) place.now.properties.now))) }
 {
-    let key = joined(place.alloc, place.front, key)?;
-    match place.properties.get(key.as_str()) {
+    match value_at(place, key)? {
         None => Ok(()),
         Some((value, line)) => ask(place.alloc, found, value, line, is_date),
     }
@@ -88,8 +87,7 @@ fn ask_date(place: &Place<'_>, found: &mut Findings) -> Result<(), AllocError>
     ensures { OnOk result (Asks (seen found.old) (seen found.new)
         (asked_of_date place.now.properties.now place.now.front.now (lookup (place.now.front.now ++ codes "type") place.now.properties.now))) }
 {
-    let key = joined(place.alloc, place.front, "type")?;
-    match place.properties.get(key.as_str()) {
+    match value_at(place, "type")? {
         Some((kind, _)) if is_millis(kind) => ask_at(place, found, true, "pattern"),
         _ => Ok(()),
     }
@@ -125,8 +123,7 @@ fn ask_extractor(place: &Place<'_>, found: &mut Findings) -> Result<(), AllocErr
 {
     ask_at(place, found, false, "regex")?;
     let names = names_at(place, "serializers")?;
-    ask_serializers(place, found, names.as_slice())?;
-    Ok(())
+    ask_serializers(place, found, names.as_slice())
 }
 
 #[tactic(auto, using(crate::proofs::Asking::ask_none))]
@@ -150,8 +147,7 @@ fn ask_by_kind(place: &Place<'_>, found: &mut Findings) -> Result<(), AllocError
     ensures { OnOk result (Asks (seen found.old) (seen found.new)
         (asked_by_kind place.now.properties.now place.now.front.now (lookup (place.now.front.now ++ codes "type") place.now.properties.now))) }
 {
-    let key = joined(place.alloc, place.front, "type")?;
-    match place.properties.get(key.as_str()) {
+    match value_at(place, "type")? {
         None => Ok(()),
         Some((kind, _)) => ask_kind(place, found, kind),
     }

@@ -5,7 +5,7 @@ use regex_steps::RegexKeys;
 use selectors::Selector;
 
 /// What an agent is made of, in the order of its lists.
-#[derive(Debug, Drop)]
+#[derive(Drop)]
 pub struct Plan {
     pub sources: Vec<SourcePlan>,
     pub channels: Vec<ChannelPlan>,
@@ -15,7 +15,7 @@ pub struct Plan {
 
 /// A source, the line of its type, the places of its channels in the plan, from 0, its interceptors in their order, and its
 /// selector, which names its channels by their places among them.
-#[derive(Debug, Drop)]
+#[derive(Drop)]
 pub struct SourcePlan {
     pub name: String,
     pub line: u32,
@@ -37,7 +37,7 @@ pub enum StepPlan {
 }
 
 /// The keys of a source's type. A longest line is in bytes, with its newline.
-#[derive(Debug, Drop)]
+#[derive(Drop)]
 pub enum SourceKind {
     Netcat {
         bind: String,
@@ -58,7 +58,7 @@ pub enum SourceKind {
 }
 
 /// A channel and the line of its type. Capacities are in events.
-#[derive(Debug, Drop)]
+#[derive(Drop)]
 pub struct ChannelPlan {
     pub name: String,
     pub line: u32,
@@ -68,7 +68,7 @@ pub struct ChannelPlan {
 }
 
 /// The keys of a channel's type. A file's greatest length is in bytes, the checkpoint interval in milliseconds.
-#[derive(Debug, Drop)]
+#[derive(Drop)]
 pub enum ChannelKind {
     Memory,
     File {
@@ -80,7 +80,7 @@ pub enum ChannelKind {
 }
 
 /// A sink, the line of its type, the place of its channel in the plan, and how many events it takes at a time.
-#[derive(Debug, Drop)]
+#[derive(Drop)]
 pub struct SinkPlan {
     pub name: String,
     pub line: u32,
@@ -90,7 +90,7 @@ pub struct SinkPlan {
 }
 
 /// The keys of a sink's type. The interval is in seconds, and 0 is never.
-#[derive(Debug, Drop)]
+#[derive(Drop)]
 pub enum SinkKind {
     Null,
     Roll { folder: String, interval: u32 },
@@ -99,7 +99,7 @@ pub enum SinkKind {
 }
 
 /// A group, the places of its sinks in the plan, and their priorities. The penalty is in milliseconds.
-#[derive(Debug, Drop)]
+#[derive(Drop)]
 pub struct GroupPlan {
     pub name: String,
     pub sinks: Vec<u32>,
@@ -110,7 +110,7 @@ pub struct GroupPlan {
 }
 
 /// How a group chooses among its sinks.
-#[derive(Clone, Copy, PartialEq, Eq, Debug)]
+#[derive(Clone, Copy, Debug)]
 pub enum Processor {
     Single,
     Failover,

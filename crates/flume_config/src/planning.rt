@@ -14,7 +14,9 @@ use crate::plan::{
 };
 use crate::routing::selector;
 use crate::stepping::steps;
-use crate::values::{line_at, number_at, place_at, places, text_at, truth_at};
+use crate::values::{
+    count_at, line_at, number_at, place_at, places, port_at, str_at, text_at, truth_at,
+};
 use plan_judging::{Agent, Place, front_of, is_plugin, is_type, joined, names_at, plugin_name};
 use prop_text::Properties;
 use selectors::Selector;
@@ -45,10 +47,10 @@ fn netcat_kind(place: &Place<'_>, kind: &str) -> Result<SourceKind, AllocError>
     ensures { IfOk result (IsSourceKind place.now.properties.now place.now.front.now kind.now) }
 {
     Ok(SourceKind::Netcat {
-        port: number_at(place, 1, 65_535, 1, "port")? as u16,
-        max_line: number_at(place, 1, 1_048_568, 512, "max-line-length")? as u32,
+        port: port_at(place)?,
+        max_line: count_at(place, 1, 1_048_568, 512, "max-line-length")?,
         ack: truth_at(place, true, "ack-every-event")?,
-        threads: number_at(place, 1, 64, 4, "threads")? as u32,
+        threads: count_at(place, 1, 64, 4, "threads")?,
         bind: text_at(place, "bind")?,
     })
 }
@@ -59,8 +61,8 @@ fn avro_kind(place: &Place<'_>, kind: &str) -> Result<SourceKind, AllocError>
     ensures { IfOk result (IsSourceKind place.now.properties.now place.now.front.now kind.now) }
 {
     Ok(SourceKind::Avro {
-        port: number_at(place, 1, 65_535, 1, "port")? as u16,
-        threads: number_at(place, 1, 64, 4, "threads")? as u32,
+        port: port_at(place)?,
+        threads: count_at(place, 1, 64, 4, "threads")?,
         bind: text_at(place, "bind")?,
     })
 }
@@ -75,7 +77,7 @@ fn source_kind(place: &Place<'_>, kind: &str) -> Result<SourceKind, AllocError>
         return avro_kind(place, kind);
     }
     Ok(SourceKind::Stdin {
-        max_line: number_at(place, 1, 1_048_568, 512, "max-line-length")? as u32,
+        max_line: count_at(place, 1, 1_048_568, 512, "max-line-length")?,
         ack: truth_at(place, true, "ack-every-event")?,
     })
 }
@@ -105,8 +107,7 @@ fn selector_at(place: &Place<'_>, channels: &[&str]) -> Result<Selector, AllocEr
 fn kind_at(place: &Place<'_>) -> Result<SourceKind, AllocError>
     ensures { IfOk result (IsSourceKind place.now.properties.now place.now.front.now (text_at place.now.properties.now (place.now.front.now ++ codes "type"))) }
 {
-    let kind = text_at(place, "type")?;
-    source_kind(place, kind.as_str())
+    source_kind(place, str_at(place, "type")?)
 }
 
 // The source of these keys and interceptors.
@@ -170,8 +171,8 @@ fn memory_channel(place: &Place<'_>, name: &str) -> Result<ChannelPlan, AllocErr
     Ok(ChannelPlan {
         line: line_at(place, "type")?,
         kind: ChannelKind::Memory,
-        capacity: number_at(place, 1, 10_000_000, 100, "capacity")? as u32,
-        txn_capacity: number_at(place, 1, 100_000, 100, "transactionCapacity")? as u32,
+        capacity: count_at(place, 1, 10_000_000, 100, "capacity")?,
+        txn_capacity: count_at(place, 1, 100_000, 100, "transactionCapacity")?,
         name: String::from_str(place.alloc, name)?,
     })
 }
@@ -182,11 +183,11 @@ fn file_channel(place: &Place<'_>, name: &str) -> Result<ChannelPlan, AllocError
 {
     Ok(ChannelPlan {
         line: line_at(place, "type")?,
-        capacity: number_at(place, 1, 10_000_000, 1_000_000, "capacity")? as u32,
-        txn_capacity: number_at(place, 1, 100_000, 10_000, "transactionCapacity")? as u32,
+        capacity: count_at(place, 1, 10_000_000, 1_000_000, "capacity")?,
+        txn_capacity: count_at(place, 1, 100_000, 10_000, "transactionCapacity")?,
         kind: ChannelKind::File {
             max_file: number_at(place, 4096, 2_146_435_071, 2_146_435_071, "maxFileSize")?,
-            interval: number_at(place, 1000, 86_400_000, 30_000, "checkpointInterval")? as u32,
+            interval: count_at(place, 1000, 86_400_000, 30_000, "checkpointInterval")?,
             on_close: truth_at(place, true, "checkpointOnClose")?,
             folder: text_at(place, "dataDirs")?,
         },
@@ -197,8 +198,7 @@ fn file_channel(place: &Place<'_>, name: &str) -> Result<ChannelPlan, AllocError
 fn channel_at(place: &Place<'_>, name: &str) -> Result<ChannelPlan, AllocError>
     ensures { IfOk result (IsChannel place.now.properties.now place.now.front.now name.now) }
 {
-    let kind = text_at(place, "type")?;
-    if is_type(kind.as_str(), "memory") {
+    if is_type(str_at(place, "type")?, "memory") {
         memory_channel(place, name)
     } else {
         file_channel(place, name)
@@ -250,9 +250,9 @@ fn avro_sink(place: &Place<'_>, channel: u32, name: &str) -> Result<SinkPlan, Al
     Ok(SinkPlan {
         line: line_at(place, "type")?,
         channel,
-        batch: number_at(place, 1, 10_000, 100, "batch-size")? as u32,
+        batch: count_at(place, 1, 10_000, 100, "batch-size")?,
         kind: SinkKind::Avro {
-            port: number_at(place, 1, 65_535, 1, "port")? as u16,
+            port: port_at(place)?,
             host: text_at(place, "hostname")?,
         },
         name: String::from_str(place.alloc, name)?,
@@ -267,9 +267,9 @@ fn roll_sink(place: &Place<'_>, channel: u32, name: &str) -> Result<SinkPlan, Al
     Ok(SinkPlan {
         line: line_at(place, "type")?,
         channel,
-        batch: number_at(place, 1, 10_000, 100, "sink.batchSize")? as u32,
+        batch: count_at(place, 1, 10_000, 100, "sink.batchSize")?,
         kind: SinkKind::Roll {
-            interval: number_at(place, 0, 4_294_967_295, 30, "sink.rollInterval")? as u32,
+            interval: count_at(place, 0, 4_294_967_295, 30, "sink.rollInterval")?,
             folder: text_at(place, "sink.directory")?,
         },
         name: String::from_str(place.alloc, name)?,
@@ -309,7 +309,7 @@ fn null_sink(place: &Place<'_>, channel: u32, name: &str) -> Result<SinkPlan, Al
         line: line_at(place, "type")?,
         kind: SinkKind::Null,
         channel,
-        batch: number_at(place, 1, 10_000, 100, "batchSize")? as u32,
+        batch: count_at(place, 1, 10_000, 100, "batchSize")?,
         name: String::from_str(place.alloc, name)?,
     })
 }
@@ -317,15 +317,15 @@ fn null_sink(place: &Place<'_>, channel: u32, name: &str) -> Result<SinkPlan, Al
 fn sink_at(place: &Place<'_>, channel: u32, name: &str) -> Result<SinkPlan, AllocError>
     ensures { IfOk result (λ sink. SinkWith place.now.properties.now place.now.front.now channel name.now sink) }
 {
-    let kind = text_at(place, "type")?;
-    if is_type(kind.as_str(), "avro") {
+    let kind = str_at(place, "type")?;
+    if is_type(kind, "avro") {
         return avro_sink(place, channel, name);
     }
-    if is_type(kind.as_str(), "file_roll") {
+    if is_type(kind, "file_roll") {
         return roll_sink(place, channel, name);
     }
-    if is_plugin(kind.as_str()) {
-        return plugin_sink(place, channel, name, kind.as_str());
+    if is_plugin(kind) {
+        return plugin_sink(place, channel, name, kind);
     }
     null_sink(place, channel, name)
 }
@@ -339,8 +339,8 @@ fn sink(agent: &Agent<'_>, channels: &[&str], name: &str) -> Result<SinkPlan, Al
         properties: agent.properties,
         front: front.as_str(),
     };
-    let channel = text_at(&place, "channel")?;
-    let channel = place_at(channels, channel.as_str())?;
+    let channel = str_at(&place, "channel")?;
+    let channel = place_at(channels, channel)?;
     sink_at(&place, channel, name)
 }
 
@@ -368,8 +368,7 @@ fn processor(place: &Place<'_>, kind: &str) -> Result<Processor, AllocError>
     if !is_type(kind, "load_balance") {
         return Ok(Processor::Single);
     }
-    let selector = text_at(place, "processor.selector")?;
-    if selector.as_str() == "random" {
+    if str_at(place, "processor.selector")? == "random" {
         Ok(Processor::Random)
     } else {
         Ok(Processor::RoundRobin)
@@ -410,7 +409,7 @@ fn priority(place: &Place<'_>, kind: &str, member: &str) -> Result<u32, AllocErr
         properties: place.properties,
         front: front.as_str(),
     };
-    Ok(number_at(&priorities, 0, 4_294_967_295, 0, member)? as u32)
+    Ok(count_at(&priorities, 0, 4_294_967_295, 0, member)?)
 }
 
 fn priorities(place: &Place<'_>, kind: &str, members: &[&str]) -> Result<Vec<u32>, AllocError>
@@ -452,8 +451,8 @@ fn group_at(
 ) -> Result<GroupPlan, AllocError>
     ensures { IfOk result (GroupWith place.now.properties.now place.now.front.now (texts sinks.now) (texts members.now) name.now) }
 {
-    let kind = text_at(place, "processor.type")?;
-    group_with(place, sinks, members, name, kind.as_str())
+    let kind = str_at(place, "processor.type")?;
+    group_with(place, sinks, members, name, kind)
 }
 
 fn group(agent: &Agent<'_>, sinks: &[&str], name: &str) -> Result<GroupPlan, AllocError>

@@ -9,7 +9,7 @@ ghost use Rattle.plan_judging.specs.Words.{words};
 ghost use Rattle.flume_config.specs.Values.{text_at, place_of, places_at, mapped_at, mapped, seen_pair, IsSelector};
 
 use crate::stepping::text_else;
-use crate::values::{places, text_at};
+use crate::values::{places, str_at};
 use plan_judging::{Place, is_type, joined, names_at, once, words};
 use selectors::Selector;
 use std::alloc::{AllocError, Global};
@@ -108,8 +108,7 @@ fn replicating(place: &Place<'_>, channels: &[&str]) -> Result<Selector, AllocEr
 pub fn selector(place: &Place<'_>, channels: &[&str]) -> Result<Selector, AllocError>
     ensures { IfOk result (IsSelector place.now.properties.now place.now.front.now (texts channels.now)) }
 {
-    let kind = text_at(place, "type")?;
-    if is_type(kind.as_str(), "multiplexing") {
+    if is_type(str_at(place, "type")?, "multiplexing") {
         multiplexing(place, channels)
     } else {
         replicating(place, channels)

@@ -8,11 +8,11 @@ ghost use Rattle.plan_judging.specs.Rows.{is_type, is_plugin, is_timestamp, is_h
 ghost use Rattle.flume_config.specs.Values.{text_at, text_else, pattern_line, removed, names_listed, date_of, is_other, IsStep, IsGroup, IsRegex, IsStepPlan, StepNamed, Match};
 
 use crate::plan::StepPlan;
-use crate::values::{line_at, text_at, truth_at};
+use crate::values::{line_at, str_at, text_at, truth_at};
 use interceptors::Step;
 use plan_judging::{
-    Place, front_of, is_host, is_millis, is_plugin, is_timestamp, is_type, joined, names_at,
-    plugin_name, push_listed,
+    Place, front_of, is_host, is_millis, is_plugin, is_timestamp, is_type, names_at, plugin_name,
+    push_listed, value_at,
 };
 use regex_steps::{Group, RegexKeys};
 use std::alloc::AllocError;
@@ -21,8 +21,7 @@ use std::alloc::AllocError;
 pub fn text_else(place: &Place<'_>, default: &str, key: &str) -> Result<String, AllocError>
     ensures { IfOk result (λ text. string_bytes text ≡ text_else place.now.properties.now default.now (place.now.front.now ++ key.now)) }
 {
-    let key = joined(place.alloc, place.front, key)?;
-    match place.properties.get(key.as_str()) {
+    match value_at(place, key)? {
         None => String::from_str(place.alloc, default),
         Some((value, _)) => String::from_str(place.alloc, value),
     }
@@ -32,8 +31,7 @@ pub fn text_else(place: &Place<'_>, default: &str, key: &str) -> Result<String, 
 fn pattern_line(place: &Place<'_>, key: &str) -> Result<u32, AllocError>
     ensures { IfOk result (λ line. line ≡ pattern_line place.now.properties.now place.now.front.now key.now) }
 {
-    let key = joined(place.alloc, place.front, key)?;
-    match place.properties.get(key.as_str()) {
+    match value_at(place, key)? {
         None => line_at(place, "type"),
         Some((_, line)) => Ok(line),
     }
@@ -75,8 +73,7 @@ fn static_step(place: &Place<'_>, kind: &str) -> Result<Step, AllocError>
 fn push_from_list(place: &Place<'_>, names: &mut Vec<String>) -> Result<(), AllocError>
     ensures { OnOk result (map string_bytes names.new.items ≡ map string_bytes names.old.items ++ names_listed (lookup (place.now.front.now ++ codes "fromList") place.now.properties.now)) }
 {
-    let key = joined(place.alloc, place.front, "fromList")?;
-    match place.properties.get(key.as_str()) {
+    match value_at(place, "fromList")? {
         None => Ok(()),
         Some((list, _)) => push_listed(place.alloc, names, list),
     }
@@ -87,8 +84,7 @@ fn removed(place: &Place<'_>) -> Result<Vec<String>, AllocError>
     ensures { IfOk result (λ names. map string_bytes names.items ≡ removed place.now.properties.now place.now.front.now) }
 {
     let mut names = Vec::new(place.alloc);
-    let key = joined(place.alloc, place.front, "withName")?;
-    if let Some((name, _)) = place.properties.get(key.as_str()) {
+    if let Some((name, _)) = value_at(place, "withName")? {
         names.push(String::from_str(place.alloc, name)?)?;
     }
     push_from_list(place, &mut names)?;
@@ -108,8 +104,7 @@ fn date_of(place: &Place<'_>) -> Result<Option<String>, AllocError>
     ensures { IfOk result (λ date. option_map string_bytes date
         ≡ date_of place.now.properties.now place.now.front.now (lookup (place.now.front.now ++ codes "type") place.now.properties.now)) }
 {
-    let key = joined(place.alloc, place.front, "type")?;
-    match place.properties.get(key.as_str()) {
+    match value_at(place, "type")? {
         Some((kind, _)) if is_millis(kind) => {
             let pattern = text_at(place, "pattern")?;
             Ok(Some(pattern))
@@ -242,10 +237,10 @@ fn other_plan(place: &Place<'_>, kind: &str) -> Result<StepPlan, AllocError>
 fn step(place: &Place<'_>) -> Result<StepPlan, AllocError>
     ensures { IfOk result (IsStepPlan place.now.properties.now place.now.front.now) }
 {
-    let kind = text_at(place, "type")?;
-    match header_step(place, kind.as_str())? {
+    let kind = str_at(place, "type")?;
+    match header_step(place, kind)? {
         Some(step) => Ok(StepPlan::Step(step)),
-        None => other_plan(place, kind.as_str()),
+        None => other_plan(place, kind),
     }
 }
 

@@ -1,7 +1,7 @@
 use Rattle.std.proofs.Common.{◌≡◌, ◌++◌, codes, ap, ◌∙◌}
 use Rattle.prop_text.specs.Views.{texts}
 use Rattle.plan_judging.specs.Components.{names_in}
-use Rattle.flume_config.proofs.Asking.{ask_both}
+use Rattle.flume_config.proofs.Asking.{ask_last}
 use Rattle.flume_config.proofs.patterns.ask_extractor.Goals as goal
 
 pub returns : goal.returns
@@ -9,4 +9,4 @@ returns c =
     let pairs = c.args.place.now.properties.now in
     let names : texts c.as_slice.result.now ≡ names_in pairs (c.args.place.now.front.now ++ codes "serializers") =
     ap texts c.as_slice.ensures.value ∙ c.in_ok-names.ensures in
-    ask_both c.in_ok-ask_at.ensures (rw names at c.in_ok-ask_serializers.ensures)
+    ask_last _ _ _ c.in_ok-ask_at.ensures (rw names at c.ask_serializers.ensures)

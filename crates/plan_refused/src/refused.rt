@@ -1,14 +1,14 @@
 //! Why an agent has no plan.
 
 ghost use Rattle.std.specs.Prelude.{◌≡◌};
-ghost use Rattle.flume_config.specs.declared.refused.PlanRefused.TheVariants.{NoMemory};
+ghost use Rattle.plan_refused.specs.declared.refused.PlanRefused.TheVariants.{NoMemory};
 
 use std::alloc::{AllocError, AllocFailed};
 use thiserror::Error;
 
-/// The first fault of an agent's configuration, or want of memory. Its text is the line that a user reads; the name of the agent
-/// is put behind that of `NoAgent` by who knows it.
-#[derive(PartialEq, Eq, Debug, Drop, Error)]
+/// The first fault of an agent's configuration, or out of memory. Its text is the line that a user reads; who knows the agent's
+/// name puts it after that of `NoAgent`.
+#[derive(Debug, Drop, Error)]
 pub enum PlanRefused {
     /// No key begins with the agent's name and a dot.
     #[error("no agent")]
