@@ -204,6 +204,13 @@ impl CountedLists {
         self.lists.settled(ticket)
     }
 
+    /// The events that are left, with their numbers.
+    pub fn left(&self) -> &[Item]
+        ensures { result.now ≡ self.now.state.items }
+    {
+        self.lists.left()
+    }
+
     /// How many events are left.
     pub fn size(&self) -> u64
         ensures { result ≡ length self.now.state.items }

@@ -562,6 +562,13 @@ impl ChannelLists {
         Settled::InDoubt
     }
 
+    /// The events that are left, with their numbers.
+    pub fn left(&self) -> &[Item]
+        ensures { result.now ≡ self.now.items }
+    {
+        &self.items
+    }
+
     /// How many events are left.
     pub fn size(&self) -> u64
         ensures { result ≡ length self.now.items }

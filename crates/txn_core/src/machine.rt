@@ -16,6 +16,7 @@ use crate::copies::{
 };
 use crate::counted::CountedLists;
 use crate::opened::push_within;
+use crate::settle::Item;
 use channel_face::{
     BeginRefused, Counts, FlushRefused, Kind, Limits, PutRefused, PutTxn, Settled, StageRefused,
     TakeRefused, TakeTxn, Taken, Ticket,
@@ -249,6 +250,13 @@ impl Machine {
         ensures { result ≡ settled self.now.counted.state ticket.now }
     {
         self.lists.settled(ticket)
+    }
+
+    /// The events that are left, with their numbers.
+    pub fn left(&self) -> &[Item]
+        ensures { result.now ≡ self.now.counted.state.items }
+    {
+        self.lists.left()
     }
 
     /// How many events are left.
