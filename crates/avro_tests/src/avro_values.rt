@@ -281,19 +281,24 @@ fn read_number(kind: Number, bytes: &[u8], at: usize) -> Result<(i64, usize), Va
 
 #[test]
 fn numbers_are_read(rt: HostRuntime) {
-    for (row, (kind, bytes, at, want)) in NUMBERS.into_iter().enumerate() {
+    for (row, case) in NUMBERS.iter().enumerate() {
+        let (kind, bytes, at, want) = *case;
         assert!(rt; at <= bytes.len(), "row {row}");
         assert!(rt; read_number(kind, bytes, at) == want, "row {row}");
     }
 }
 
+fn is_long(alloc: Global, value: i64, bytes: &[u8]) -> Result<bool, NoMemory> {
+    let mut out = Vec::new(alloc);
+    write_long(value, &mut out)?;
+    Ok(out.as_slice() == bytes && read_long(bytes, 0) == Ok((value, bytes.len())))
+}
+
 #[test]
 fn longs_are_written_and_read_again(rt: HostRuntime) -> Result<(), Fail> {
-    for (value, bytes) in LONGS {
-        let mut out = Vec::new(rt.alloc());
-        write_long(value, &mut out)?;
-        assert!(rt; out.as_slice() == bytes, "{value}");
-        assert!(rt; read_long(bytes, 0) == Ok((value, bytes.len())), "{value}");
+    for case in &LONGS {
+        let (value, bytes) = *case;
+        assert!(rt; is_long(rt.alloc(), value, bytes)?, "{value}");
     }
     Ok(())
 }
@@ -310,11 +315,13 @@ fn read_place(kind: Place, bytes: &[u8], at: usize) -> Result<(usize, usize), Va
 
 #[test]
 fn texts_bytes_and_maps_are_read(rt: HostRuntime) {
-    for (row, (kind, bytes, at, want)) in PLACES.into_iter().enumerate() {
+    for (row, case) in PLACES.iter().enumerate() {
+        let (kind, bytes, at, want) = *case;
         assert!(rt; at <= bytes.len(), "row {row}");
         assert!(rt; read_place(kind, bytes, at) == want, "row {row}");
     }
-    for (bytes, want) in METAS {
+    for case in &METAS {
+        let (bytes, want) = *case;
         assert!(rt; read_meta(bytes, 0) == want, "{bytes:?}");
     }
 }
@@ -342,23 +349,34 @@ fn values_are_written(rt: HostRuntime) -> Result<(), Fail> {
     Ok(())
 }
 
+// Whether an event of the body a is read and written as the case says.
+fn is_event(alloc: Global, case: &EventCase) -> Result<bool, Fail> {
+    let (event, end) = read_event(alloc, case.bytes, 0)?;
+    let has_header = event.headers().len() == 1 && event.headers().get("h") == Some(case.value);
+    let is_read = end == case.end && has_header && event.body() == b"a".as_slice();
+    let mut out = Vec::new(alloc);
+    write_event(&event, &mut out)?;
+    Ok(is_read && out.as_slice() == case.shortest)
+}
+
 #[test]
 fn events_are_read_and_written(rt: HostRuntime) -> Result<(), Fail> {
-    for case in &EVENTS {
-        let length = case.end;
-        let (event, end) = read_event(rt.alloc(), case.bytes, 0)?;
-        assert!(rt; end == length, "{length} bytes");
-        assert!(rt; event.headers().len() == 1, "{length} bytes");
-        assert!(rt;
-            event.headers().get("h") == Some(case.value),
-            "{length} bytes"
-        );
-        assert!(rt; event.body() == b"a".as_slice(), "{length} bytes");
-        let mut out = Vec::new(rt.alloc());
-        write_event(&event, &mut out)?;
-        assert!(rt; out.as_slice() == case.shortest, "{length} bytes");
+    for (row, case) in EVENTS.iter().enumerate() {
+        assert!(rt; is_event(rt.alloc(), case)?, "row {row}");
     }
     Ok(())
+}
+
+// Whether a batch of two events, whose second has the body y, is read of all the bytes, and is written in one block.
+fn is_batch(alloc: Global, bytes: &[u8]) -> Result<bool, Fail> {
+    let (batch, end) = read_batch(alloc, bytes, 0)?;
+    if batch.len() != 2 {
+        return Ok(false);
+    }
+    let is_read = end == bytes.len() && batch.get(1).body() == b"y".as_slice();
+    let mut out = Vec::new(alloc);
+    write_batch(&batch, &mut out)?;
+    Ok(is_read && out.as_slice() == BATCHES[0])
 }
 
 #[test]
@@ -366,14 +384,9 @@ fn batches_are_read_and_written(rt: HostRuntime) -> Result<(), Fail> {
     let mut none = Vec::new(rt.alloc());
     write_batch(&Batch::new(rt.alloc()), &mut none)?;
     assert!(rt; none.as_slice() == [0u8].as_slice());
-    for bytes in BATCHES {
-        let (batch, end) = read_batch(rt.alloc(), bytes, 0)?;
-        assert!(rt; end == bytes.len(), "{bytes:?}");
-        assert!(rt; batch.len() == 2, "{bytes:?}");
-        assert!(rt; batch.get(1).body() == b"y".as_slice(), "{bytes:?}");
-        let mut out = Vec::new(rt.alloc());
-        write_batch(&batch, &mut out)?;
-        assert!(rt; out.as_slice() == BATCHES[0], "{bytes:?}");
+    for bytes in &BATCHES {
+        let bytes = *bytes;
+        assert!(rt; is_batch(rt.alloc(), bytes)?, "{bytes:?}");
     }
     Ok(())
 }

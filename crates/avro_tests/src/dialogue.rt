@@ -1,6 +1,6 @@
 // The dialogue of docs/FORMATS.md, byte for byte.
 use crate::handshakes::answered;
-use avro_frame::{Packs, write_pack};
+use avro_frame::{Message, Packs, write_pack};
 use avro_hop::{Hop, HopRefused, Status, protocol_text};
 use std::alloc::Global;
 use std::test::Fail;
@@ -118,6 +118,18 @@ const APPEND_REPLIES: [(Status, [u8; 15]); 2] = [
     ),
 ];
 
+// Adds what a server writes after a message with this verdict, and says whether events waited for it.
+fn add_reply(
+    hop: &mut Hop,
+    message: &Message,
+    verdict: Status,
+    out: &mut Vec<u8>,
+) -> Result<bool, HopRefused> {
+    let (payload, events) = answered(hop, &message.payload, verdict)?;
+    write_pack(message.serial, &payload, out)?;
+    Ok(events.is_some())
+}
+
 // What a server writes to a stream in pieces of this length with these verdicts, and why it ends.
 fn served(
     alloc: Global,
@@ -137,11 +149,8 @@ fn served(
         from = from.saturating_add(taken);
         if let Some(message) = found {
             let verdict = verdicts.get(told).copied().unwrap_or(Status::Unknown);
-            match answered(&mut hop, &message.payload, verdict) {
-                Ok((payload, events)) => {
-                    write_pack(message.serial, &payload, &mut out)?;
-                    told = told.saturating_add(usize::from(events.is_some()));
-                }
+            match add_reply(&mut hop, &message, verdict, &mut out) {
+                Ok(waited) => told = told.saturating_add(usize::from(waited)),
                 Err(e) => return Ok((out, Some(e))),
             }
         }
@@ -162,17 +171,26 @@ fn a_dialogue(rt: HostRuntime) -> Result<(), Fail> {
     Ok(())
 }
 
+// Whether an append after a handshake is replied to so.
+fn is_replied(alloc: Global, append: &[u8], verdict: Status, reply: &[u8]) -> Result<bool, Fail> {
+    let mut stream = Vec::from_slice(alloc, &KNOWN)?;
+    stream.extend_from_slice(append)?;
+    let mut want = Vec::from_slice(alloc, &KNOWN_REPLY)?;
+    want.extend_from_slice(reply)?;
+    let (out, end) = served(alloc, &stream, 64, &[verdict])?;
+    Ok(out.as_slice() == want.as_slice() && end.is_none())
+}
+
 #[test]
 fn an_append_after_a_handshake(rt: HostRuntime) -> Result<(), Fail> {
-    for append in APPENDS {
-        for (verdict, reply) in APPEND_REPLIES {
-            let mut stream = Vec::from_slice(rt.alloc(), &KNOWN)?;
-            stream.extend_from_slice(append)?;
-            let mut want = Vec::from_slice(rt.alloc(), &KNOWN_REPLY)?;
-            want.extend_from_slice(&reply)?;
-            let (out, end) = served(rt.alloc(), &stream, 64, &[verdict])?;
-            assert!(rt; out.as_slice() == want.as_slice());
-            assert!(rt; end.is_none());
+    for append in &APPENDS {
+        let append = *append;
+        for case in &APPEND_REPLIES {
+            let (verdict, reply) = *case;
+            assert!(rt;
+                is_replied(rt.alloc(), append, verdict, &reply)?,
+                "{append:?}, {reply:?}"
+            );
         }
     }
     Ok(())

@@ -398,25 +398,40 @@ fn greeted(alloc: Global) -> Result<Hop, Fail> {
     Ok(hop)
 }
 
+// Whether a call is answered OK, and has so many events.
+fn is_taken(hop: &mut Hop, call: &[u8], count: usize) -> bool {
+    match answered(hop, call, Status::Ok) {
+        Ok((payload, events)) => {
+            payload.as_slice() == [0u8, 0, 0].as_slice() && events == Some(count)
+        }
+        Err(_) => false,
+    }
+}
+
 #[test]
 fn calls_after_a_handshake(rt: HostRuntime) -> Result<(), Fail> {
     let mut hop = greeted(rt.alloc())?;
-    for (call, count) in CALLS {
-        let (payload, events) = answered(&mut hop, call, Status::Ok)?;
-        assert!(rt; payload.as_slice() == [0u8, 0, 0].as_slice(), "{call:?}");
-        assert!(rt; events == Some(count), "{call:?}");
+    for case in &CALLS {
+        let (call, count) = *case;
+        assert!(rt; is_taken(&mut hop, call, count), "{call:?}");
     }
     Ok(())
+}
+
+// Where a message is at fault, if it is.
+fn fault_of(hop: &mut Hop, message: &[u8]) -> Option<u64> {
+    match answered(hop, message, Status::Ok) {
+        Err(HopRefused::BadHandshake { at }) => Some(at),
+        _ => None,
+    }
 }
 
 #[test]
 fn calls_that_are_refused(rt: HostRuntime) -> Result<(), Fail> {
     let mut hop = greeted(rt.alloc())?;
-    for (call, at) in REFUSED_CALLS {
-        assert!(rt;
-            answered(&mut hop, call, Status::Ok) == Err(HopRefused::BadHandshake { at }),
-            "{call:?}"
-        );
+    for case in &REFUSED_CALLS {
+        let (call, at) = *case;
+        assert!(rt; fault_of(&mut hop, call) == Some(at), "{call:?}");
     }
     assert!(rt; is_answered_so(rt.alloc(), &mut hop, &ONE_CALL)?);
     Ok(())
@@ -436,22 +451,39 @@ fn a_verdict_of_failure(rt: HostRuntime) -> Result<(), Fail> {
     Ok(())
 }
 
+// Whether a call has just the event of the body a with the header h = v.
+fn is_the_event(hop: &mut Hop, call: &[u8]) -> bool {
+    match hop.answer(call) {
+        Ok(Asked::Events { front, batch }) => {
+            if !front.is_empty() || batch.len() != 1 {
+                return false;
+            }
+            let event = batch.get(0);
+            event.headers().get("h") == Some("v") && event.body() == b"a".as_slice()
+        }
+        _ => false,
+    }
+}
+
 // The row's event, in both spellings.
 #[test]
 fn an_event_of_a_call(rt: HostRuntime) -> Result<(), Fail> {
     let mut hop = greeted(rt.alloc())?;
     for call in [APPEND.as_slice(), SIZED.as_slice()] {
-        match hop.answer(call)? {
-            Asked::Reply(_) => return Err(Fail::from("no events")),
-            Asked::Events { front, batch } => {
-                assert!(rt; front.is_empty());
-                assert!(rt; batch.len() == 1);
-                assert!(rt; batch.get(0).headers().get("h") == Some("v"));
-                assert!(rt; batch.get(0).body() == b"a".as_slice());
-            }
-        }
+        assert!(rt; is_the_event(&mut hop, call), "{call:?}");
     }
     Ok(())
+}
+
+// Where a handshake is at fault that is cut after so many bytes.
+fn fault_of_cut(len: usize) -> u64 {
+    match len {
+        0..16 => 0,
+        16 => 16,
+        17..33 => 17,
+        33 => 33,
+        _ => 34,
+    }
 }
 
 // Cut at each byte, and with no call after it; then the connection is as it was.
@@ -460,33 +492,29 @@ fn handshakes_that_are_cut(rt: HostRuntime) -> Result<(), Fail> {
     let mut hop = Hop::new(rt.alloc())?;
     let message = message_of(rt.alloc(), &Some(KNOWN), &[])?;
     for len in 0..35 {
-        let front = message.get(..len).ok_or("short")?;
-        let at = match len {
-            0..16 => 0,
-            16 => 16,
-            17..33 => 17,
-            33 => 33,
-            _ => 34,
-        };
-        assert!(rt;
-            answered(&mut hop, front, Status::Ok) == Err(HopRefused::BadHandshake { at }),
-            "{len}"
-        );
+        let found = message
+            .get(..len)
+            .and_then(|front| fault_of(&mut hop, front));
+        assert!(rt; found == Some(fault_of_cut(len)), "{len}");
     }
     assert!(rt; is_answered_so(rt.alloc(), &mut hop, &GREETED_BY_A_CALL)?);
     Ok(())
 }
 
+// Where a handshake is at fault with these bytes after the hash, if it is.
+fn fault_after_hash(alloc: Global, hop: &mut Hop, rest: &[u8]) -> Result<Option<u64>, AllocError> {
+    let mut told = Vec::from_slice(alloc, &HASH)?;
+    told.extend_from_slice(rest)?;
+    Ok(fault_of(hop, &told))
+}
+
 #[test]
 fn handshakes_with_no_text(rt: HostRuntime) -> Result<(), Fail> {
     let mut hop = Hop::new(rt.alloc())?;
-    for (rest, at) in REFUSED_TEXTS {
-        let mut told = Vec::from_slice(rt.alloc(), &HASH)?;
-        told.extend_from_slice(rest)?;
-        assert!(rt;
-            answered(&mut hop, &told, Status::Ok) == Err(HopRefused::BadHandshake { at }),
-            "{rest:?}"
-        );
+    for case in &REFUSED_TEXTS {
+        let (rest, at) = *case;
+        let found = fault_after_hash(rt.alloc(), &mut hop, rest)?;
+        assert!(rt; found == Some(at), "{rest:?}");
     }
     assert!(rt; is_answered_so(rt.alloc(), &mut hop, &GREETED_BY_A_CALL)?);
     Ok(())
@@ -522,9 +550,9 @@ fn large_batch(alloc: Global) -> Result<Vec<u8>, NoMemory> {
     Ok(call)
 }
 
-// Whether the answer is FAILED, and no events wait for a verdict.
-fn is_failed(answer: Result<(Vec<u8>, Option<usize>), HopRefused>) -> bool {
-    match answer {
+// Whether a call is answered FAILED, and no events wait for a verdict.
+fn is_failed(hop: &mut Hop, call: &[u8]) -> bool {
+    match answered(hop, call, Status::Ok) {
         Ok((payload, events)) => payload.as_slice() == [0u8, 0, 2].as_slice() && events.is_none(),
         Err(_) => false,
     }
@@ -534,11 +562,9 @@ fn is_failed(answer: Result<(Vec<u8>, Option<usize>), HopRefused>) -> bool {
 fn an_event_of_a_call_that_is_too_large(rt: HostRuntime) -> Result<(), Fail> {
     let mut hop = greeted(rt.alloc())?;
     let mut call = large_append(rt.alloc())?;
-    assert!(rt; is_failed(answered(&mut hop, &call, Status::Ok)));
+    assert!(rt; is_failed(&mut hop, &call));
     call.push(0)?;
-    assert!(rt;
-        answered(&mut hop, &call, Status::Ok) == Err(HopRefused::BadHandshake { at: 33_554_438 })
-    );
+    assert!(rt; fault_of(&mut hop, &call) == Some(33_554_438));
     Ok(())
 }
 
@@ -546,6 +572,6 @@ fn an_event_of_a_call_that_is_too_large(rt: HostRuntime) -> Result<(), Fail> {
 fn a_batch_with_an_event_that_is_too_large(rt: HostRuntime) -> Result<(), Fail> {
     let mut hop = greeted(rt.alloc())?;
     let call = large_batch(rt.alloc())?;
-    assert!(rt; is_failed(answered(&mut hop, &call, Status::Ok)));
+    assert!(rt; is_failed(&mut hop, &call));
     Ok(())
 }

@@ -53,6 +53,15 @@ const TOO_GREAT: [(&[u8], PackRefused); 4] = [
     ),
 ];
 
+// Gives a piece, adds the message that it ends, if it ends one, and says how many of its bytes are taken.
+fn add_message(packs: &mut Packs, piece: &[u8], out: &mut Vec<Message>) -> Result<usize, Fail> {
+    let (taken, found) = packs.feed(piece)?;
+    if let Some(message) = found {
+        out.push(message)?;
+    }
+    Ok(taken)
+}
+
 // The messages of a stream that comes in pieces of this length.
 fn messages(alloc: Global, stream: &[u8], len: usize) -> Result<Vec<Message>, Fail> {
     let mut packs = Packs::new(alloc);
@@ -60,13 +69,15 @@ fn messages(alloc: Global, stream: &[u8], len: usize) -> Result<Vec<Message>, Fa
     let mut from = 0usize;
     for _ in 0..stream.len() {
         let to = from.saturating_add(len).min(stream.len());
-        let (taken, found) = packs.feed(stream.get(from..to).ok_or("no piece")?)?;
-        from = from.saturating_add(taken);
-        if let Some(message) = found {
-            out.push(message)?;
-        }
+        let piece = stream.get(from..to).unwrap_or(&[]);
+        from = from.saturating_add(add_message(&mut packs, piece, &mut out)?);
     }
     Ok(out)
+}
+
+// Whether a message has this serial and payload.
+fn is_message(message: &Message, serial: u32, payload: &[u8]) -> bool {
+    message.serial == serial && message.payload.as_slice() == payload
 }
 
 #[test]
@@ -77,51 +88,71 @@ fn a_stream_in_pieces(rt: HostRuntime) -> Result<(), Fail> {
         let found = messages(rt.alloc(), &stream, len)?;
         assert!(rt; found.len() == MESSAGES.len(), "{len}");
         for (message, (serial, payload)) in found.iter().zip(&MESSAGES) {
-            assert!(rt; message.serial == *serial, "{len}");
-            assert!(rt; message.payload.as_slice() == *payload, "{len}");
+            assert!(rt; is_message(message, *serial, payload), "{len}, {serial}");
         }
     }
     Ok(())
 }
 
+// Whether a pack that is cut here is read by two pieces, and is waited for after the first.
+fn is_read_by_two(alloc: Global, cut: usize) -> Result<bool, Fail> {
+    let (front, back) = APPEND.get(..cut).zip(APPEND.get(cut..)).ok_or("no cut")?;
+    let mut packs = Packs::new(alloc);
+    let is_waited_for = matches!(packs.feed(front)?, (taken, None) if taken == cut);
+    match packs.feed(back)? {
+        (taken, Some(message)) => {
+            let is_whole = is_message(&message, 7, MESSAGES[0].1);
+            Ok(is_waited_for && is_whole && taken == back.len())
+        }
+        (_, None) => Ok(false),
+    }
+}
+
 #[test]
 fn cut_at_each_byte(rt: HostRuntime) -> Result<(), Fail> {
     for cut in 0..28 {
-        let (front, back) = APPEND.split_at(cut);
-        let mut packs = Packs::new(rt.alloc());
-        assert!(rt; packs.feed(front)? == (cut, None), "{cut}");
-        let (taken, found) = packs.feed(back)?;
-        assert!(rt; taken == 28 - cut, "{cut}");
-        let message = found.ok_or("no message")?;
-        assert!(rt; message.serial == 7, "{cut}");
-        assert!(rt;
-            message.payload.as_slice() == APPEND.split_at(12).1,
-            "{cut}"
-        );
+        assert!(rt; is_read_by_two(rt.alloc(), cut)?, "{cut}");
     }
     Ok(())
 }
 
+// Whether this piece, and then a pack, are refused for this cause.
+fn is_refused_for_good(alloc: Global, piece: &[u8], want: PackRefused) -> bool {
+    let mut packs = Packs::new(alloc);
+    let first = packs.feed(piece).err();
+    first == Some(want) && packs.feed(&APPEND).err() == Some(want)
+}
+
 #[test]
 fn what_passes_a_limit_is_refused_for_good(rt: HostRuntime) {
-    for (piece, want) in TOO_GREAT {
-        let mut packs = Packs::new(rt.alloc());
-        assert!(rt; packs.feed(piece) == Err(want), "{piece:?}");
-        assert!(rt; packs.feed(&APPEND) == Err(want), "{piece:?}");
+    for case in &TOO_GREAT {
+        let (piece, want) = *case;
+        assert!(rt; is_refused_for_good(rt.alloc(), piece, want), "{piece:?}");
+    }
+}
+
+// How many bytes are taken, and how long the payload of the message is that they end, if they end one.
+fn fed(packs: &mut Packs, bytes: &[u8]) -> Result<(usize, Option<usize>), PackRefused> {
+    match packs.feed(bytes)? {
+        (taken, None) => Ok((taken, None)),
+        (taken, Some(message)) => Ok((taken, Some(message.payload.len()))),
     }
 }
 
 #[test]
 fn the_greatest_counts_are_taken(rt: HostRuntime) -> Result<(), Fail> {
     let mut packs = Packs::new(rt.alloc());
-    // 65,536 buffers of length 0
-    assert!(rt; packs.feed(&[0, 0, 0, 1, 0, 1, 0, 0])? == (8, None));
     let zeros = vec![in rt.alloc(); 0u8; 4 * 65_536]?;
-    let (taken, found) = packs.feed(&zeros)?;
-    assert!(rt; taken == 4 * 65_536);
-    assert!(rt; found.ok_or("no message")?.payload.is_empty());
-    // a buffer of 67,108,864 bytes is waited for
-    assert!(rt; packs.feed(&[0, 0, 0, 1, 0, 0, 0, 1, 4, 0, 0, 0, 0])? == (13, None));
+    let rows: [(&[u8], (usize, Option<usize>)); 3] = [
+        // 65,536 buffers of length 0
+        (&[0, 0, 0, 1, 0, 1, 0, 0], (8, None)),
+        (&zeros, (4 * 65_536, Some(0))),
+        // a buffer of 67,108,864 bytes is waited for
+        (&[0, 0, 0, 1, 0, 0, 0, 1, 4, 0, 0, 0, 0], (13, None)),
+    ];
+    for (row, (bytes, want)) in rows.into_iter().enumerate() {
+        assert!(rt; fed(&mut packs, bytes) == Ok(want), "row {row}");
+    }
     Ok(())
 }
 
