@@ -7,9 +7,10 @@ mod opened;
 mod putting;
 mod words;
 
-pub use made::{batch, event, event_with, one};
+pub use made::{batch, event, event_with, headers_of, one};
 pub use opened::{
-    Opened, channel_on, disk_after_opening, disk_failing_at, disk_failing_in_flush, open, reopen,
+    OpenAnswer, channel_on, disk_after_opening, disk_failing_at, disk_failing_in_flush, open,
+    reopen,
 };
 pub use putting::put;
 pub use words::{WORKED, owned};

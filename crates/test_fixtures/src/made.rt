@@ -13,7 +13,17 @@ pub fn event(alloc: Global, body: &[u8]) -> Result<Event, EventRefused>
     Event::new(Headers::new(alloc), body)
 }
 
-/// An event of this body with these headers. A key that stands twice has its last value.
+/// The headers of these keys and values, set in this order: a key that stands twice has its last value. No clause says so.
+pub fn headers_of(alloc: Global, pairs: &[(&str, &str)]) -> Result<Headers, NoMemory> {
+    let mut headers = Headers::new(alloc);
+    for i in 0..pairs.len() {
+        let (key, value) = pairs[i];
+        headers.set(key, value)?;
+    }
+    Ok(headers)
+}
+
+/// An event of this body with these headers. A key that stands twice has its last value. The contract speaks of the body alone.
 pub fn event_with(
     alloc: Global,
     headers: &[(&str, &str)],
@@ -21,13 +31,9 @@ pub fn event_with(
 ) -> Result<Event, EventRefused>
     ensures { IfOk result (λ event. event.body ≡ body.now) }
 {
-    let mut all = Headers::new(alloc);
-    for i in 0..headers.len() {
-        let (key, value) = headers[i];
-        all.set(key, value)?;
-    }
+    let headers = headers_of(alloc, headers)?;
     let body = body.to_vec(alloc)?;
-    Event::new(all, body)
+    Event::new(headers, body)
 }
 
 /// A batch of this one event.
@@ -42,7 +48,7 @@ pub fn one(alloc: Global, event: Event) -> Result<Batch, NoMemory>
     }
 }
 
-/// A batch of events of these bodies, without headers.
+/// A batch of events of these bodies, without headers. The contract speaks of their number alone.
 pub fn batch(alloc: Global, bodies: &[&[u8]]) -> Result<Batch, EventRefused>
     ensures { IfOk result (λ batch. length batch ≡ length bodies.now) }
 {

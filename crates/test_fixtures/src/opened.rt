@@ -10,9 +10,9 @@ use std::marker::Brand;
 use std::sync::ledger::{Blank, Ledger};
 
 /// What an opening answered; after a refusal with the disk.
-pub type Opened = Result<FileChannel<MemDisk>, (MemDisk, OpenCause)>;
+pub type OpenAnswer = Result<FileChannel<MemDisk>, (MemDisk, OpenCause)>;
 
-fn open_by<L: Ledger>(alloc: Global, blank: Blank, disk: MemDisk, limits: Limits) -> Opened
+fn open_by<L: Ledger>(alloc: Global, blank: Blank, disk: MemDisk, limits: Limits) -> OpenAnswer
     requires name { blank.name ≡ L.name }
     requires parts { blank.parts ≡ L.parts }
     requires some { 0 < L.parts }
@@ -25,7 +25,7 @@ fn open_by<L: Ledger>(alloc: Global, blank: Blank, disk: MemDisk, limits: Limits
 }
 
 /// Opens the channel of a folder.
-pub fn open(alloc: Global, disk: MemDisk, limits: Limits) -> Opened {
+pub fn open(alloc: Global, disk: MemDisk, limits: Limits) -> OpenAnswer {
     open_by::<Brand>(alloc, Blank::new(1), disk, limits)
 }
 
