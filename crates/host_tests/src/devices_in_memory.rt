@@ -25,15 +25,19 @@ fn source(
     Ok(source.failing_at(fails.to_vec(alloc)?))
 }
 
+// What the reads of a source answer in order.
+const READS: [Result<usize, Failed>; 5] = [Ok(1), Ok(1), Ok(4), Err(Failed), Ok(0)];
+
 #[test]
 fn a_source_gives_pieces_and_fails_where_chosen(rt: HostRuntime) -> Result<(), Fail> {
     let mut source = source(rt.alloc(), b"abcdef", &[1, 0, 9], &[3])?;
     let mut into = [0u8; 4];
-    for want in [Ok(1), Ok(1), Ok(4), Err(Failed), Ok(0)] {
-        assert_eq!(rt; source.read(&mut into), want);
+    for (row, want) in READS.iter().enumerate() {
+        let want = *want;
+        assert!(rt; source.read(&mut into) == want, "row {row}");
     }
-    assert_eq!(rt; into.as_slice(), b"cdef".as_slice());
-    assert_eq!(rt; (source.calls(), source.faults()), (5, 1));
+    assert!(rt; into.as_slice() == b"cdef".as_slice());
+    assert!(rt; (source.calls(), source.faults()) == (5, 1));
     Ok(())
 }
 
@@ -49,7 +53,10 @@ const SINK_CALLS: [(Option<&[u8]>, Result<usize, Failed>); 5] = [
 fn sink_call(sink: &mut MemSink, bytes: Option<&[u8]>) -> Result<usize, Failed> {
     match bytes {
         Some(bytes) => sink.write(bytes),
-        None => sink.flush().map(|()| 0),
+        None => {
+            sink.flush()?;
+            Ok(0)
+        }
     }
 }
 
@@ -58,15 +65,16 @@ fn a_sink_takes_pieces_and_fails_where_chosen(rt: HostRuntime) -> Result<(), Fai
     let pieces = [2, 9].as_slice().to_vec(rt.alloc())?;
     let fails = [2, 3].as_slice().to_vec(rt.alloc())?;
     let mut sink = MemSink::new(rt.alloc()).in_pieces(pieces).failing_at(fails);
-    for (row, (bytes, want)) in SINK_CALLS.iter().enumerate() {
-        assert_eq!(rt; sink_call(&mut sink, *bytes), *want, "row {row}");
+    for (row, case) in SINK_CALLS.iter().enumerate() {
+        let (bytes, want) = *case;
+        assert!(rt; sink_call(&mut sink, bytes) == want, "row {row}");
     }
-    assert_eq!(rt; sink.bytes(), b"abcde".as_slice());
-    assert_eq!(rt; (sink.calls(), sink.faults()), (5, 2));
+    assert!(rt; sink.bytes() == b"abcde".as_slice());
+    assert!(rt; (sink.calls(), sink.faults()) == (5, 2));
     Ok(())
 }
 
-#[derive(Clone, Copy, Debug)]
+#[derive(Clone, Copy)]
 enum Step {
     Make(FileName),
     Write(FileName, u64, &'static [u8]),
@@ -76,7 +84,7 @@ enum Step {
     Len(FileName),
 }
 
-// Makes a call whose condition holds, and says whether it answered Ok.
+// Makes a call whose condition holds, and says whether it answered Ok. A call whose condition does not hold is not made.
 fn try_step(disk: &mut MemDisk, step: Step) -> Option<bool> {
     match step {
         Step::Make(name) => match disk.file(name) {
@@ -126,42 +134,80 @@ const CALLS_THAT_SUCCEED: [Step; 7] = [
     Step::Len(TWO),
 ];
 
+const FILES_AFTER_THEM: [(FileName, Option<&[u8]>); 3] = [
+    (ONE, None),
+    (TWO, Some(b"abxyz")),
+    (THREE, Some(b"seven")),
+];
+
+// A name, and the next one that is there.
+const NEXT_NAMES: [(Option<FileName>, Option<FileName>); 3] = [
+    (None, Some(TWO)),
+    (Some(TWO), Some(THREE)),
+    (Some(THREE), None),
+];
+
 #[test]
 fn a_disk_does_what_is_asked(rt: HostRuntime) -> Result<(), Fail> {
     let mut disk = disk(rt.alloc())?;
-    for step in CALLS_THAT_SUCCEED {
-        assert_eq!(rt; try_step(&mut disk, step), Some(true), "{step:?}");
+    for (row, step) in CALLS_THAT_SUCCEED.iter().enumerate() {
+        let step = *step;
+        assert!(rt; try_step(&mut disk, step) == Some(true), "row {row}");
     }
-    for (name, bytes) in [
-        (ONE, None),
-        (TWO, Some(b"abxyz".as_slice())),
-        (THREE, Some(b"seven".as_slice())),
-    ] {
-        assert_eq!(rt; disk.file(name), bytes, "{name:?}");
+    for case in &FILES_AFTER_THEM {
+        let (name, bytes) = *case;
+        assert!(rt; disk.file(name) == bytes, "{name:?}");
     }
-    for (after, next) in [
-        (None, Some(TWO)),
-        (Some(TWO), Some(THREE)),
-        (Some(THREE), None),
-    ] {
-        assert_eq!(rt; disk.next_name(after), Ok(next), "{after:?}");
+    for case in &NEXT_NAMES {
+        let (after, next) = *case;
+        assert!(rt; disk.next_name(after) == Ok(next), "{after:?}");
     }
-    assert_eq!(rt; (disk.calls(), disk.syncs(), disk.faults()), (10, 1, 0));
+    assert!(rt; (disk.calls(), disk.syncs(), disk.faults()) == (10, 1, 0));
     Ok(())
 }
 
-// What is left of each of the first calls, which fail.
-const FAULTS: [Part; 10] = [
-    Part::Nothing,
-    Part::Front(0),
-    Part::Front(2),
-    Part::Nothing,
-    Part::Front(9),
-    Part::Nothing,
-    Part::Nothing,
-    Part::Nothing,
-    Part::Front(1),
-    Part::Nothing,
+// The first calls, which fail, and what is left of each.
+const FAULTS: [DiskFault; 10] = [
+    DiskFault {
+        call: 0,
+        part: Part::Nothing,
+    },
+    DiskFault {
+        call: 1,
+        part: Part::Front(0),
+    },
+    DiskFault {
+        call: 2,
+        part: Part::Front(2),
+    },
+    DiskFault {
+        call: 3,
+        part: Part::Nothing,
+    },
+    DiskFault {
+        call: 4,
+        part: Part::Front(9),
+    },
+    DiskFault {
+        call: 5,
+        part: Part::Nothing,
+    },
+    DiskFault {
+        call: 6,
+        part: Part::Nothing,
+    },
+    DiskFault {
+        call: 7,
+        part: Part::Nothing,
+    },
+    DiskFault {
+        call: 8,
+        part: Part::Front(1),
+    },
+    DiskFault {
+        call: 9,
+        part: Part::Nothing,
+    },
 ];
 
 const CALLS_THAT_FAIL: [(Step, bool); 11] = [
@@ -178,26 +224,16 @@ const CALLS_THAT_FAIL: [(Step, bool); 11] = [
     (Step::Len(TWO), true),
 ];
 
-fn failing_disk(alloc: Global) -> Result<MemDisk, AllocError> {
-    let mut faults = Vec::new(alloc);
-    for (call, part) in FAULTS.iter().enumerate() {
-        faults.push(DiskFault {
-            call: call as u64,
-            part: *part,
-        })?;
-    }
-    Ok(disk(alloc)?.failing_at(faults))
-}
-
 #[test]
 fn a_disk_fails_where_chosen(rt: HostRuntime) -> Result<(), Fail> {
-    let mut disk = failing_disk(rt.alloc())?;
-    for (row, (step, ok)) in CALLS_THAT_FAIL.iter().enumerate() {
-        assert_eq!(rt; try_step(&mut disk, *step), Some(*ok), "row {row}");
+    let mut disk = disk(rt.alloc())?.failing_at(FAULTS.to_vec(rt.alloc())?);
+    for (row, case) in CALLS_THAT_FAIL.iter().enumerate() {
+        let (step, ok) = *case;
+        assert!(rt; try_step(&mut disk, step) == Some(ok), "row {row}");
     }
-    assert_eq!(rt; disk.file(ONE), None);
-    assert_eq!(rt; disk.file(TWO), Some(b"ayz".as_slice()));
-    assert_eq!(rt; (disk.calls(), disk.syncs(), disk.faults()), (11, 1, 10));
+    assert!(rt; disk.file(ONE).is_none());
+    assert!(rt; disk.file(TWO) == Some(b"ayz".as_slice()));
+    assert!(rt; (disk.calls(), disk.syncs(), disk.faults()) == (11, 1, 10));
     Ok(())
 }
 
@@ -209,30 +245,91 @@ const CALLS_BEFORE_A_STOP: [Step; 5] = [
     Step::Remove(ONE),
 ];
 
-// A moment, what stands of the second write and of the removal, and what a crash then leaves: the second file, and whether
-// the first is there.
-const STOPS: [(u64, Stood, Stood, &[u8], bool); 7] = [
-    (2, Stood::Old, Stood::Old, b"abc", true),
-    (3, Stood::Old, Stood::Old, b"abc", true),
-    (3, Stood::New, Stood::Old, b"XYc", true),
-    (3, Stood::Front(1), Stood::Old, b"Xbc", true),
-    (4, Stood::Garbage(b'?'), Stood::Old, b"??c", true),
-    (4, Stood::Old, Stood::New, b"abc", false),
-    (5, Stood::Old, Stood::Old, b"abc", false),
+struct Stop {
+    moment: u64,
+    // what stands of the second write and of the removal
+    written: Stood,
+    removed: Stood,
+    // what a crash then leaves of the second file, and whether the first is there
+    two: &'static [u8],
+    one: bool,
+}
+
+const STOPS: [Stop; 7] = [
+    Stop {
+        moment: 2,
+        written: Stood::Old,
+        removed: Stood::Old,
+        two: b"abc",
+        one: true,
+    },
+    Stop {
+        moment: 3,
+        written: Stood::Old,
+        removed: Stood::Old,
+        two: b"abc",
+        one: true,
+    },
+    Stop {
+        moment: 3,
+        written: Stood::New,
+        removed: Stood::Old,
+        two: b"XYc",
+        one: true,
+    },
+    Stop {
+        moment: 3,
+        written: Stood::Front(1),
+        removed: Stood::Old,
+        two: b"Xbc",
+        one: true,
+    },
+    Stop {
+        moment: 4,
+        written: Stood::Garbage(b'?'),
+        removed: Stood::Old,
+        two: b"??c",
+        one: true,
+    },
+    Stop {
+        moment: 4,
+        written: Stood::Old,
+        removed: Stood::New,
+        two: b"abc",
+        one: false,
+    },
+    Stop {
+        moment: 5,
+        written: Stood::Old,
+        removed: Stood::Old,
+        two: b"abc",
+        one: false,
+    },
 ];
+
+// Whether a crash of the disk leaves what is said.
+fn is_left(disk: &MemDisk, stop: &Stop) -> Result<bool, AllocError> {
+    let stood = [
+        Stood::New,
+        Stood::New,
+        Stood::Old,
+        stop.written,
+        stop.removed,
+    ];
+    let left = disk.stopped_at(stop.moment, &stood)?;
+    Ok(left.file(TWO) == Some(stop.two) && left.file(ONE).is_some() == stop.one)
+}
 
 #[test]
 fn a_stop_leaves_what_is_chosen(rt: HostRuntime) -> Result<(), Fail> {
     let mut disk = disk(rt.alloc())?;
-    for step in CALLS_BEFORE_A_STOP {
-        assert_eq!(rt; try_step(&mut disk, step), Some(true), "{step:?}");
+    for (row, step) in CALLS_BEFORE_A_STOP.iter().enumerate() {
+        let step = *step;
+        assert!(rt; try_step(&mut disk, step) == Some(true), "row {row}");
     }
-    assert_eq!(rt; disk.moments(), 5);
-    for (row, (moment, written, removed, two, one)) in STOPS.iter().enumerate() {
-        let stood = [Stood::New, Stood::New, Stood::Old, *written, *removed];
-        let left = disk.stopped_at(*moment, &stood)?;
-        assert_eq!(rt; left.file(TWO), Some(*two), "row {row}");
-        assert_eq!(rt; left.file(ONE).is_some(), *one, "row {row}");
+    assert!(rt; disk.moments() == 5);
+    for (row, stop) in STOPS.iter().enumerate() {
+        assert!(rt; is_left(&disk, stop)?, "row {row}");
     }
     Ok(())
 }
@@ -252,28 +349,39 @@ fn host(alloc: Global) -> Result<MemHost, AllocError> {
 fn a_host_hands_its_input_out_and_takes_it_back(rt: HostRuntime) -> Result<(), Fail> {
     let mut host = host(rt.alloc())?;
     let mut input = host.take_input();
-    assert_eq!(rt; input.read(&mut [0; 4]), Err(Failed));
-    assert_eq!(rt; input.read(&mut [0; 4]), Ok(2));
+    for want in [Err(Failed), Ok(2)] {
+        assert!(rt; input.read(&mut [0; 4]) == want);
+    }
     host.keep_input(input);
-    assert_eq!(rt; (host.faults(), host.take_input().faults()), (1, 0));
+    assert!(rt; (host.faults(), host.take_input().faults()) == (1, 0));
     Ok(())
+}
+
+// What was written to the output that was given back.
+fn kept_output<'a>(host: &'a MemHost) -> &'a [u8] {
+    match host.output() {
+        Some(sink) => sink.bytes(),
+        None => b"",
+    }
+}
+
+// What was said first.
+fn first_line<'a>(host: &'a MemHost) -> &'a str {
+    match host.said() {
+        [line, ..] => line.as_str(),
+        [] => "",
+    }
 }
 
 #[test]
 fn a_host_keeps_its_output_and_what_is_said(rt: HostRuntime) -> Result<(), Fail> {
     let mut host = host(rt.alloc())?;
     let mut output = host.take_output();
-    assert_eq!(rt; output.write(b"out"), Ok(3));
+    assert!(rt; output.write(b"out") == Ok(3));
     host.keep_output(output);
-    assert_eq!(rt;
-        host.output().map(|sink| sink.bytes()),
-        Some(b"out".as_slice())
-    );
     host.say("a line");
-    assert_eq!(rt;
-        host.said().first().map(|line| line.as_str()),
-        Some("a line")
-    );
+    assert!(rt; kept_output(&host) == b"out".as_slice());
+    assert!(rt; first_line(&host) == "a line");
     Ok(())
 }
 
@@ -288,22 +396,27 @@ fn is_opened(host: &mut MemHost, path: &str) -> bool {
     }
 }
 
+// Whether the first file is in a folder that was given back.
+fn has_one(host: &MemHost, path: &str) -> bool {
+    match host.disk(path) {
+        Some(disk) => disk.file(ONE).is_some(),
+        None => false,
+    }
+}
+
+const OPENINGS: [(&str, bool); 4] = [("kept", true), ("new", true), ("new", false), ("new", true)];
+
 #[test]
 fn a_host_opens_folders(rt: HostRuntime) -> Result<(), Fail> {
     let mut host = host(rt.alloc())?;
-    for (path, opened) in [("kept", true), ("new", true), ("new", false), ("new", true)] {
-        assert_eq!(rt; is_opened(&mut host, path), opened, "{path}");
+    for (row, case) in OPENINGS.iter().enumerate() {
+        let (path, opened) = *case;
+        assert!(rt; is_opened(&mut host, path) == opened, "row {row}");
     }
-    assert_eq!(rt;
-        host.disk("kept").map(|disk| disk.file(ONE).is_some()),
-        Some(true)
-    );
+    assert!(rt; has_one(&host, "kept"));
     assert!(rt; host.open_disk("new").is_ok());
     assert!(rt; matches!(host.open_disk("new"), Err(NameRefused::Failed)));
-    assert_eq!(rt;
-        (host.opens(), host.faults(), host.disk_faults()),
-        (6, 2, 0)
-    );
+    assert!(rt; (host.opens(), host.faults(), host.disk_faults()) == (6, 2, 0));
     Ok(())
 }
 
@@ -339,37 +452,46 @@ const ROLL_CALLS: [(RollCall, Result<usize, Failed>); 9] = [
 
 fn roll_call(roll: &mut MemRoll, call: RollCall) -> Result<usize, Failed> {
     match call {
-        RollCall::Begin(name) => roll.begin(name).map(|()| 0),
-        RollCall::Write(bytes) => roll.write(bytes),
-        RollCall::Flush => roll.flush().map(|()| 0),
+        RollCall::Begin(name) => roll.begin(name)?,
+        RollCall::Write(bytes) => return roll.write(bytes),
+        RollCall::Flush => roll.flush()?,
     }
+    Ok(0)
 }
+
+// The files, and what they hold then.
+const ROLLED: [(&str, &[u8]); 2] = [("one", b"ab"), ("two", b"z")];
 
 #[test]
 fn rolled_files_take_pieces_and_fail_where_chosen(rt: HostRuntime) -> Result<(), Fail> {
     let fails = [4].as_slice().to_vec(rt.alloc())?;
     let pieces = [2].as_slice().to_vec(rt.alloc())?;
     let mut roll = MemRoll::new(rt.alloc()).in_pieces(pieces).failing_at(fails);
-    for (row, (call, want)) in ROLL_CALLS.iter().enumerate() {
-        assert!(rt; roll_call(&mut roll, *call) == *want, "row {row}");
+    for (row, case) in ROLL_CALLS.iter().enumerate() {
+        let (call, want) = *case;
+        assert!(rt; roll_call(&mut roll, call) == want, "row {row}");
     }
-    assert!(rt; rolled(&roll, "one") == Some(b"ab".as_slice()));
-    assert!(rt; rolled(&roll, "two") == Some(b"z".as_slice()));
+    for case in &ROLLED {
+        let (name, want) = *case;
+        assert!(rt; rolled(&roll, name) == Some(want), "{name}");
+    }
     assert!(rt; (roll.faults(), roll.calls()) == (4, 9));
     Ok(())
 }
 
+const CLOCK: MemClock = MemClock {
+    moment: 5000,
+    step: 10,
+};
+
+const RANDOM: MemRandom = MemRandom {
+    number: u64::MAX,
+    step: 2,
+};
+
 #[test]
 fn a_host_hands_out_times(rt: HostRuntime) -> Result<(), Fail> {
-    let clock = MemClock {
-        moment: 5000,
-        step: 10,
-    };
-    let random = MemRandom {
-        number: u64::MAX,
-        step: 2,
-    };
-    let mut host = host(rt.alloc())?.with_times(clock, random);
+    let mut host = host(rt.alloc())?.with_times(CLOCK, RANDOM);
     let mut clock = host.clock();
     assert!(rt; (clock.now(), clock.now()) == (5000, 5010));
     let mut random = host.random();
@@ -377,25 +499,24 @@ fn a_host_hands_out_times(rt: HostRuntime) -> Result<(), Fail> {
     Ok(())
 }
 
+// Whether the folder of this path was given back with this file.
+fn has_rolled(host: &MemHost, path: &str, name: &str, bytes: &[u8]) -> bool {
+    match host.roll(path) {
+        Some(roll) => rolled(roll, name) == Some(bytes),
+        None => false,
+    }
+}
+
 #[test]
 fn a_host_hands_out_rolled_files(rt: HostRuntime) -> Result<(), Fail> {
-    let clock = MemClock {
-        moment: 5000,
-        step: 10,
-    };
-    let random = MemRandom {
-        number: u64::MAX,
-        step: 2,
-    };
-    let mut host = host(rt.alloc())?.with_times(clock, random);
+    let mut host = host(rt.alloc())?;
     let Ok(mut roll) = host.open_roll("out") else {
         return Err(Fail::from("not opened"));
     };
     assert!(rt; (roll.begin("5000-1"), roll.write(b"x\n")) == (Ok(()), Ok(2)));
     assert!(rt; host.open_roll("out").is_err());
     host.keep_roll("out", roll);
-    let kept = host.roll("out").and_then(|roll| rolled(roll, "5000-1"));
-    assert!(rt; kept == Some(b"x\n".as_slice()));
+    assert!(rt; has_rolled(&host, "out", "5000-1", b"x\n"));
     assert!(rt; (host.faults(), host.opens()) == (1, 2));
     Ok(())
 }
@@ -421,13 +542,18 @@ const READINGS: [(&str, Result<usize, FileRefused>, u64); 5] = [
     ("none", Err(FileRefused::Failed), 2),
 ];
 
+// How many bytes the file of this path has, as it is read.
+fn size_read(host: &mut MemHost, path: &str) -> Result<usize, FileRefused> {
+    Ok(host.read_file(path)?.len())
+}
+
 #[test]
 fn a_host_reads_whole_files(rt: HostRuntime) -> Result<(), Fail> {
     let mut host = host_with_files(rt.alloc())?;
-    for (row, (path, want, faults)) in READINGS.iter().enumerate() {
-        let found = host.read_file(*path).map(|bytes| bytes.len());
-        assert!(rt; found == *want, "row {row}");
-        assert!(rt; host.faults() == *faults, "row {row}");
+    for (row, case) in READINGS.iter().enumerate() {
+        let (path, want, faults) = *case;
+        assert!(rt; size_read(&mut host, path) == want, "row {row}");
+        assert!(rt; host.faults() == faults, "row {row}");
     }
     Ok(())
 }
