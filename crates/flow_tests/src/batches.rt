@@ -318,10 +318,14 @@ const PLAIN_AND_ON_DISK: &[Case] = &[
     },
 ];
 
+fn plain_and_on_disk() -> &'static [Case] {
+    PLAIN_AND_ON_DISK
+}
+
 #[test]
 fn batches_come_into_plain_channels(rt: HostRuntime) -> Result<(), Fail> {
     let alloc = rt.alloc();
-    for case in PLAIN_AND_ON_DISK {
+    for case in plain_and_on_disk() {
         run(
             alloc,
             case,
@@ -334,7 +338,7 @@ fn batches_come_into_plain_channels(rt: HostRuntime) -> Result<(), Fail> {
 #[test]
 fn batches_come_into_channels_on_disks(rt: HostRuntime) -> Result<(), Fail> {
     let alloc = rt.alloc();
-    for case in PLAIN_AND_ON_DISK {
+    for case in plain_and_on_disk() {
         run(
             alloc,
             case,

@@ -1,5 +1,6 @@
 // Deliveries by groups of rolled files.
 use crate::fixtures::{listing, roll_sink};
+use event_core::Batch;
 use host_memory::{MemRandom, MemRoll};
 use plug_in::{EventSink, SinkRefused};
 use roll_sink::RollSink;
@@ -140,25 +141,37 @@ fn listings(alloc: Global, members: Vec<Rolls>) -> Result<Vec<u8>, Fail> {
     Ok(text)
 }
 
-// Whether the deliveries of a batch of one event are as the case says.
-fn is_right(alloc: Global, case: &Case) -> Result<bool, Fail> {
+// The place of the first delivery of this batch that is answered otherwise.
+fn first_wrong(
+    group: &mut GroupRun<Rolls>,
+    one: &Batch,
+    deliveries: &[(u64, Answer)],
+) -> Option<usize> {
+    for (place, (moment, said)) in deliveries.iter().enumerate() {
+        if !is_answer(&group.deliver(one, *moment, 0), said) {
+            return Some(place);
+        }
+    }
+    None
+}
+
+// Makes the deliveries of a batch of one event, and names the first that is not as the case says.
+fn deliver(alloc: Global, case: &Case) -> Result<(), Fail> {
     let one = batch(alloc, &[b"e"])?;
     let members = members_of(alloc, case.fails)?;
     let mut group = group_of(alloc, members, case.kind, case.priorities, false)?;
-    for (moment, said) in case.deliveries {
-        if !is_answer(&group.deliver(&one, *moment, 0), said) {
-            return Ok(false);
-        }
+    let wrong = first_wrong(&mut group, &one, case.deliveries);
+    let files = listings(alloc, group.into_members())?;
+    if wrong.is_none() && files.as_slice() == case.files {
+        return Ok(());
     }
-    Ok(listings(alloc, group.into_members())?.as_slice() == case.files)
+    Err(Fail::new(format_args!("{}: delivery {wrong:?} or files", case.name)))
 }
 
 #[test]
 fn one_member_takes_each_batch(rt: HostRuntime) -> Result<(), Fail> {
-    let alloc = rt.alloc();
     for case in CASES {
-        let is_taken = is_right(alloc, case)?;
-        assert!(rt; is_taken, "{}", case.name);
+        deliver(rt.alloc(), case)?;
     }
     Ok(())
 }
@@ -172,6 +185,15 @@ const DELIVERIES: &[(u64, Result<(), SinkRefused>, u64)] = &[
     (5000, Ok(()), 5),
 ];
 
+fn is_delivered<S: EventSink>(
+    sink: &mut S,
+    one: &Batch,
+    delivery: &(u64, Result<(), SinkRefused>, u64),
+) -> bool {
+    let (moment, answer, faults) = delivery;
+    sink.deliver(one, *moment) == *answer && sink.faults() == *faults
+}
+
 #[test]
 fn a_group_is_a_sink(rt: HostRuntime) -> Result<(), Fail> {
     let alloc = rt.alloc();
@@ -179,9 +201,8 @@ fn a_group_is_a_sink(rt: HostRuntime) -> Result<(), Fail> {
     let members = members_of(alloc, &[&[0, 1], &[4]])?;
     let run = group_of(alloc, members, GroupKind::Failover, &[1, 0], false)?;
     let mut sink = GroupSink::new(run, MemRandom { number: 5, step: 3 });
-    for (moment, answer, faults) in DELIVERIES {
-        assert!(rt; sink.deliver(&one, *moment) == *answer, "at {moment}");
-        assert!(rt; sink.faults() == *faults, "at {moment}");
+    for (row, delivery) in DELIVERIES.iter().enumerate() {
+        assert!(rt; is_delivered(&mut sink, &one, delivery), "row {row}");
     }
     let files = listings(alloc, sink.close())?;
     assert!(rt; files.as_slice() == b";1000-1:e\n1000-2:e\n;".as_slice());

@@ -273,56 +273,49 @@ fn events_pass_steps_over_patterns(rt: HostRuntime) -> Result<(), Fail> {
     Ok(())
 }
 
-const STAMP: &str = "yyyy-MM-dd HH:mm:ss.SSS";
-
-// A pattern of dates, a body, and the milliseconds, which GNU `date` gives (`date -u -d DATE +%s`).
-const DATES: &[(&str, &[u8], Option<&str>)] = &[
-    (STAMP, b"1970-01-01 00:00:00.000", Some("0")),
-    (STAMP, b"1969-12-31 23:59:59.999", Some("-1")),
-    (STAMP, b"0000-01-01 00:00:00.000", Some("-62167219200000")),
-    (STAMP, b"9999-12-31 23:59:59.999", Some("253402300799999")),
-    (STAMP, b"2012-12-31 23:59:59.999", Some("1356998399999")),
-    (STAMP, b"2100-02-28 12:00:00.500", Some("4107499200500")),
-    (STAMP, b"1900-03-01 00:00:00.000", Some("-2203891200000")),
-    (STAMP, b"2000-02-29 00:00:00.000", Some("951782400000")),
-    // one beyond each field's limits
-    (STAMP, b"2012-00-31 23:59:59.999", None),
-    (STAMP, b"2012-13-31 23:59:59.999", None),
-    (STAMP, b"2012-12-00 23:59:59.999", None),
-    (STAMP, b"2012-12-32 23:59:59.999", None),
-    (STAMP, b"2012-11-31 23:59:59.999", None),
-    (STAMP, b"2100-02-29 12:00:00.500", None),
-    (STAMP, b"1900-02-29 12:00:00.500", None),
-    (STAMP, b"2012-12-31 24:00:00.000", None),
-    (STAMP, b"2012-12-31 23:60:00.000", None),
-    (STAMP, b"2012-12-31 23:59:60.000", None),
-    // as many digits as letters, and the whole group
-    (STAMP, b"2012-12-31 23:59:59.99", None),
-    (STAMP, b"2012-12-31 23:59:59.9999", None),
-    (STAMP, b"212-12-31 23:59:59.999", None),
-    (STAMP, b"2012-12-31 23:59:59,999", None),
-    (STAMP, b"2012-12-31 23:59:+9.999", None),
-    (STAMP, b" 2012-12-31 23:59:59.999", None),
-    // fields that are left out
-    ("dd/MM", b"28/02", Some("5011200000")),
-    ("dd/MM", b"29/02", None),
-    ("yyyyMMdd", b"20121018", Some("1350518400000")),
-    ("HHmm", b"1847", Some("67620000")),
-    ("SSS ss", b"250 07", Some("7250")),
-    ("", b"", Some("0")),
-    ("", b"x", None),
-    // texts between quotes, and characters beyond ASCII
-    (
-        "yyyy-MM-dd'T'HH:mm'Z'",
-        b"2012-10-18T18:47Z",
-        Some("1350586020000"),
-    ),
-    ("yyyy-MM-dd'T'HH:mm'Z'", b"2012-10-18 18:47Z", None),
-    ("'at ''y'HH", b"at y01", Some("3600000")),
-    ("HH\u{b7}mm", b"18\xc2\xb747", Some("67620000")),
-    ("HH\u{b7}mm", b"18\xb747", None),
-    ("HH''mm", b"1847", Some("67620000")),
-];
+// Rows of a pattern of dates, a body, and the milliseconds, which GNU `date` gives (`date -u -d DATE +%s`), or nothing where the
+// body is no such date. A line that begins with `//` is a comment.
+const DATES: &str = "yyyy-MM-dd HH:mm:ss.SSS|1970-01-01 00:00:00.000|0
+yyyy-MM-dd HH:mm:ss.SSS|1969-12-31 23:59:59.999|-1
+yyyy-MM-dd HH:mm:ss.SSS|0000-01-01 00:00:00.000|-62167219200000
+yyyy-MM-dd HH:mm:ss.SSS|9999-12-31 23:59:59.999|253402300799999
+yyyy-MM-dd HH:mm:ss.SSS|2012-12-31 23:59:59.999|1356998399999
+yyyy-MM-dd HH:mm:ss.SSS|2100-02-28 12:00:00.500|4107499200500
+yyyy-MM-dd HH:mm:ss.SSS|1900-03-01 00:00:00.000|-2203891200000
+yyyy-MM-dd HH:mm:ss.SSS|2000-02-29 00:00:00.000|951782400000
+// one beyond each field's limits
+yyyy-MM-dd HH:mm:ss.SSS|2012-00-31 23:59:59.999|
+yyyy-MM-dd HH:mm:ss.SSS|2012-13-31 23:59:59.999|
+yyyy-MM-dd HH:mm:ss.SSS|2012-12-00 23:59:59.999|
+yyyy-MM-dd HH:mm:ss.SSS|2012-12-32 23:59:59.999|
+yyyy-MM-dd HH:mm:ss.SSS|2012-11-31 23:59:59.999|
+yyyy-MM-dd HH:mm:ss.SSS|2100-02-29 12:00:00.500|
+yyyy-MM-dd HH:mm:ss.SSS|1900-02-29 12:00:00.500|
+yyyy-MM-dd HH:mm:ss.SSS|2012-12-31 24:00:00.000|
+yyyy-MM-dd HH:mm:ss.SSS|2012-12-31 23:60:00.000|
+yyyy-MM-dd HH:mm:ss.SSS|2012-12-31 23:59:60.000|
+// as many digits as letters, and the whole group
+yyyy-MM-dd HH:mm:ss.SSS|2012-12-31 23:59:59.99|
+yyyy-MM-dd HH:mm:ss.SSS|2012-12-31 23:59:59.9999|
+yyyy-MM-dd HH:mm:ss.SSS|212-12-31 23:59:59.999|
+yyyy-MM-dd HH:mm:ss.SSS|2012-12-31 23:59:59,999|
+yyyy-MM-dd HH:mm:ss.SSS|2012-12-31 23:59:+9.999|
+yyyy-MM-dd HH:mm:ss.SSS| 2012-12-31 23:59:59.999|
+// fields that are left out
+dd/MM|28/02|5011200000
+dd/MM|29/02|
+yyyyMMdd|20121018|1350518400000
+HHmm|1847|67620000
+SSS ss|250 07|7250
+||0
+|x|
+// texts between quotes, and characters beyond ASCII
+yyyy-MM-dd'T'HH:mm'Z'|2012-10-18T18:47Z|1350586020000
+yyyy-MM-dd'T'HH:mm'Z'|2012-10-18 18:47Z|
+'at ''y'HH|at y01|3600000
+HH·mm|18·47|67620000
+HH''mm|1847|67620000
+";
 
 // Whether the whole body, read as a date of this pattern, becomes this header.
 fn is_date(alloc: Global, pattern: &str, body: &[u8], want: Option<&str>) -> Result<bool, Fail> {
@@ -334,13 +327,31 @@ fn is_date(alloc: Global, pattern: &str, body: &[u8], want: Option<&str>) -> Res
     }
 }
 
+// The pattern, the body and the milliseconds of a row.
+fn row_is_date(alloc: Global, row: &str) -> Result<bool, Fail> {
+    let (pattern, rest) = row.split_once('|').ok_or("no row")?;
+    let (body, millis) = rest.split_once('|').ok_or("no row")?;
+    let want = if millis.is_empty() {
+        None
+    } else {
+        Some(millis)
+    };
+    is_date(alloc, pattern, body.as_bytes(), want)
+}
+
 #[test]
 fn dates_become_milliseconds(rt: HostRuntime) -> Result<(), Fail> {
     let alloc = rt.alloc();
-    for (pattern, body, want) in DATES {
-        let is_right = is_date(alloc, pattern, body, *want)?;
-        assert!(rt; is_right, "{pattern} {body:?}");
+    let mut count = 0u32;
+    for row in DATES.lines() {
+        if !row.starts_with("//") {
+            assert!(rt; row_is_date(alloc, row)?, "{row}");
+            count = count.saturating_add(1);
+        }
     }
+    assert!(rt; count == 36);
+    // a body that is no text
+    assert!(rt; is_date(alloc, "HH\u{b7}mm", b"18\xb747", None)?);
     Ok(())
 }
 

@@ -80,24 +80,39 @@ const CASES: &[Case] = &[
     },
 ];
 
-// Whether the turns over a channel of three events are as the case says.
-fn is_right(alloc: Global, case: &Case) -> Result<bool, Fail> {
-    let mut face = channel_of(alloc, case.txn_capacity, &[b"a", b"b", b"c"])?;
-    let mut sink = roll_sink(alloc, case.fails)?;
-    for turn in case.turns {
-        if drain_turn(alloc, &mut face, &mut sink, case.batch.max(1), 7) != *turn {
-            return Ok(false);
+// The place of the first turn that is not as the case says.
+fn first_wrong(
+    alloc: Global,
+    face: &mut Face,
+    sink: &mut RollSink<MemRoll>,
+    case: &Case,
+) -> Option<usize> {
+    let batch = case.batch.max(1);
+    for (place, turn) in case.turns.iter().enumerate() {
+        if drain_turn(alloc, face, sink, batch, 7) != *turn {
+            return Some(place);
         }
     }
-    Ok(face.channel.size() == case.left && listing(alloc, sink)?.as_slice() == case.files)
+    None
+}
+
+// Makes the turns over a channel of three events, and names the first that is not as the case says.
+fn drain(alloc: Global, case: &Case) -> Result<(), Fail> {
+    let mut face = channel_of(alloc, case.txn_capacity, &[b"a", b"b", b"c"])?;
+    let mut sink = roll_sink(alloc, case.fails)?;
+    let wrong = first_wrong(alloc, &mut face, &mut sink, case);
+    let is_left = face.channel.size() == case.left;
+    let files = listing(alloc, sink)?;
+    if wrong.is_none() && is_left && files.as_slice() == case.files {
+        return Ok(());
+    }
+    Err(Fail::new(format_args!("{}: turn {wrong:?}, or what is left", case.name)))
 }
 
 #[test]
 fn events_are_taken_out_once_they_are_delivered(rt: HostRuntime) -> Result<(), Fail> {
-    let alloc = rt.alloc();
     for case in CASES {
-        let is_delivered = is_right(alloc, case)?;
-        assert!(rt; is_delivered, "{}", case.name);
+        drain(rt.alloc(), case)?;
     }
     Ok(())
 }
@@ -132,18 +147,26 @@ const GROUP_TURNS: &[(u64, Turn, u64, u64)] = &[
     (2009, Turn::Empty, 3, 0),
 ];
 
+// Whether a turn is as its row says.
+fn is_turned(
+    alloc: Global,
+    face: &mut Face,
+    sink: &mut Box<dyn EventSink + Send>,
+    row: &(u64, Turn, u64, u64),
+) -> bool {
+    let (moment, turn, faults, left) = row;
+    let found = drain_turn(alloc, face, sink, 2, *moment);
+    found == *turn && sink.faults() == *faults && face.channel.size() == *left
+}
+
 #[test]
 fn a_boxed_group_is_a_sink(rt: HostRuntime) -> Result<(), Fail> {
     let alloc = rt.alloc();
     let mut sink: Box<dyn EventSink + Send> = Box::new(alloc, group(alloc)?)?;
     let mut face = channel_of(alloc, 5, &[b"a", b"b", b"c"])?;
-    for (moment, turn, faults, left) in GROUP_TURNS {
-        assert!(rt;
-            drain_turn(alloc, &mut face, &mut sink, 2, *moment) == *turn,
-            "at {moment}"
-        );
-        assert!(rt; sink.faults() == *faults, "at {moment}");
-        assert!(rt; face.channel.size() == *left, "at {moment}");
+    for row in GROUP_TURNS {
+        let is_so = is_turned(alloc, &mut face, &mut sink, row);
+        assert!(rt; is_so, "at {}", row.0);
     }
     Ok(())
 }
