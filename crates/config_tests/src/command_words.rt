@@ -21,71 +21,59 @@ fn told(alloc: Global, words: &[&str]) -> Result<String, NoMemory> {
     Ok(text)
 }
 
-const COMMANDS: [(&[&str], &str); 31] = [
-    (&["pipe", "d"], "pipe d"),
-    (&["load", "1", "d"], "load 1 d"),
-    (&["load", "1000000", "d"], "load 1000000 d"),
-    (&["agent", "-n", "a1", "-f", "f.conf"], "agent a1 f.conf"),
-    (
-        &["agent", "--conf-file", "f.conf", "--name", "a1"],
-        "agent a1 f.conf",
-    ),
-    (
-        &["check", "-n", "a1", "--conf-file", "f.conf"],
-        "check a1 f.conf",
-    ),
-    (
-        &["agent", "-c", "conf", "-n", "a1", "--conf", "-n", "-f", "f"],
-        "agent a1 f",
-    ),
-    (
-        &[
-            "agent",
-            "-Dflume.root.logger=INFO",
-            "-n",
-            "a1",
-            "-D",
-            "-f",
-            "f",
-        ],
-        "agent a1 f",
-    ),
-    (
-        &["check", "-f", "check", "-n", "agent"],
-        "check agent check",
-    ),
-    (&[], "none"),
-    (&["pipe"], "none"),
-    (&["pipe", ""], "none"),
-    (&["pipe", "-d"], "none"),
-    (&["pipe", "d", "e"], "none"),
-    (&["Pipe", "d"], "none"),
-    (&["tool", "d"], "none"),
-    (&["load", "0", "d"], "none"),
-    (&["load", "01", "d"], "none"),
-    (&["load", "+1", "d"], "none"),
-    (&["load", "1000001", "d"], "none"),
-    (&["load", "1", "-d"], "none"),
-    (&["load", "1"], "none"),
-    (&["agent"], "none"),
-    (&["agent", "-n", "a1"], "none"),
-    (&["agent", "-n", "a1", "-f"], "none"),
-    (&["agent", "-n", "a1", "-n", "a1", "-f", "f"], "none"),
-    (
-        &["agent", "-n", "a1", "-f", "f", "--conf-file", "g"],
-        "none",
-    ),
-    (&["agent", "--name=a1", "-f", "f"], "none"),
-    (&["agent", "-na1", "-f", "f"], "none"),
-    (&["agent", "-n", "-f", "-f", "f"], "none"),
-    (&["check", "-n", "a1", "-f", "f", "-c"], "none"),
-];
+// Words of a command line, and after `>` the command that they are.
+const COMMANDS: &str = "pipe d > pipe d
+load 1 d > load 1 d
+load 1000000 d > load 1000000 d
+agent -n a1 -f f.conf > agent a1 f.conf
+agent --conf-file f.conf --name a1 > agent a1 f.conf
+check -n a1 --conf-file f.conf > check a1 f.conf
+agent -c conf -n a1 --conf -n -f f > agent a1 f
+agent -Dflume.root.logger=INFO -n a1 -D -f f > agent a1 f
+check -f check -n agent > check agent check
+> none
+pipe > none
+pipe  > none
+pipe -d > none
+pipe d e > none
+Pipe d > none
+tool d > none
+load 0 d > none
+load 01 d > none
+load +1 d > none
+load 1000001 d > none
+load 1 -d > none
+load 1 > none
+agent > none
+agent -n a1 > none
+agent -n a1 -f > none
+agent -n a1 -n a1 -f f > none
+agent -n a1 -f f --conf-file g > none
+agent --name=a1 -f f > none
+agent -na1 -f f > none
+agent -n -f -f f > none
+check -n a1 -f f -c > none
+";
+
+// Whether the words of a row, each after a space but for the first, are the command that it names.
+fn is_command(alloc: Global, row: &str) -> Result<bool, Fail> {
+    if let Some(want) = row.strip_prefix("> ") {
+        return Ok(told(alloc, &[])?.as_str() == want);
+    }
+    let (words, want) = row.split_once(" > ").ok_or("no row")?;
+    let mut all = Vec::new(alloc);
+    for word in words.split(' ') {
+        all.push(word)?;
+    }
+    Ok(told(alloc, &all)?.as_str() == want)
+}
 
 #[test]
 fn commands_are_read(rt: HostRuntime) -> Result<(), Fail> {
-    for (words, want) in COMMANDS {
-        assert!(rt; told(rt.alloc(), words)?.as_str() == want, "at {words:?}");
+    for row in COMMANDS.lines() {
+        assert!(rt; is_command(rt.alloc(), row)?, "at {row}");
     }
+    assert!(rt; COMMANDS.lines().count() == 31);
     one_asked();
     Ok(())
 }
@@ -123,14 +111,15 @@ fn reported(alloc: Global, names: &[&str]) -> Result<String, NoMemory> {
     report(alloc, &channels)
 }
 
+fn is_reported(alloc: Global, names: &[&str], form: &str) -> Result<bool, NoMemory> {
+    let want = form.replace(alloc, "COUNTS", REPORTED)?;
+    Ok(reported(alloc, names)?.as_str() == want.as_str())
+}
+
 #[test]
 fn reports(rt: HostRuntime) -> Result<(), Fail> {
-    for (names, form) in REPORTS {
-        let want = form.replace(rt.alloc(), "COUNTS", REPORTED)?;
-        assert!(rt;
-            reported(rt.alloc(), names)?.as_str() == want.as_str(),
-            "at {names:?}"
-        );
+    for (names, form) in &REPORTS {
+        assert!(rt; is_reported(rt.alloc(), names, form)?, "at {names:?}");
     }
     Ok(())
 }
@@ -141,44 +130,66 @@ fn is_told(alloc: Global, error: &RunError, line: &str, status: u8) -> Result<bo
     Ok(text.as_str() == line && error.status() == status)
 }
 
+#[derive(Clone, Copy)]
+enum Plain {
+    Usage,
+    FileTooLarge,
+    NotUtf8,
+    BadEscape,
+    NoMemoryForText,
+    UnknownType,
+    BadPattern,
+    NoMemoryForPlan,
+    Fault,
+    NoMemory,
+    InputTooLong,
+    LineTooLong,
+}
+
+// The ends that name nothing, with their lines and statuses.
+const PLAIN: [(Plain, &str, u8); 12] = [
+    (
+        Plain::Usage,
+        "usage: flume pipe DIR | agent -n NAME -f FILE | check -n NAME -f FILE | load N DIR",
+        1,
+    ),
+    (Plain::FileTooLarge, "flume: configuration too large", 2),
+    (Plain::NotUtf8, "flume: byte 7: not UTF-8", 2),
+    (Plain::BadEscape, "flume: line 3: bad escape", 2),
+    (Plain::NoMemoryForText, "flume: no memory", 5),
+    (Plain::UnknownType, "flume: line 11: unknown type", 2),
+    (Plain::BadPattern, "flume: line 4: bad pattern", 2),
+    (Plain::NoMemoryForPlan, "flume: no memory", 5),
+    (Plain::Fault, "flume: fault outside", 3),
+    (Plain::NoMemory, "flume: no memory", 5),
+    (Plain::InputTooLong, "flume: input too long", 6),
+    (Plain::LineTooLong, "flume: line too long", 7),
+];
+
+fn plain_end(end: Plain) -> RunError {
+    match end {
+        Plain::Usage => RunError::Usage,
+        Plain::FileTooLarge => RunError::FileTooLarge,
+        Plain::NotUtf8 => RunError::Text(PropRefused::NotUtf8 { at: 7 }),
+        Plain::BadEscape => RunError::Text(PropRefused::BadEscape { line: 3 }),
+        Plain::NoMemoryForText => RunError::Text(PropRefused::NoMemory),
+        Plain::UnknownType => RunError::Plan(PlanRefused::UnknownType { line: 11 }),
+        Plain::BadPattern => RunError::Plan(PlanRefused::BadPattern { line: 4 }),
+        Plain::NoMemoryForPlan => RunError::Plan(PlanRefused::NoMemory),
+        Plain::Fault => RunError::Fault,
+        Plain::NoMemory => RunError::NoMemory,
+        Plain::InputTooLong => RunError::InputTooLong,
+        Plain::LineTooLong => RunError::LineTooLong,
+    }
+}
+
 #[test]
 fn ends_without_a_text_of_their_own(rt: HostRuntime) -> Result<(), Fail> {
-    let rows: [(RunError, &str, u8); 12] = [
-        (
-            RunError::Usage,
-            "usage: flume pipe DIR | agent -n NAME -f FILE | check -n NAME -f FILE | load N DIR",
-            1,
-        ),
-        (RunError::FileTooLarge, "flume: configuration too large", 2),
-        (
-            RunError::Text(PropRefused::NotUtf8 { at: 7 }),
-            "flume: byte 7: not UTF-8",
-            2,
-        ),
-        (
-            RunError::Text(PropRefused::BadEscape { line: 3 }),
-            "flume: line 3: bad escape",
-            2,
-        ),
-        (RunError::Text(PropRefused::NoMemory), "flume: no memory", 5),
-        (
-            RunError::Plan(PlanRefused::UnknownType { line: 11 }),
-            "flume: line 11: unknown type",
-            2,
-        ),
-        (
-            RunError::Plan(PlanRefused::BadPattern { line: 4 }),
-            "flume: line 4: bad pattern",
-            2,
-        ),
-        (RunError::Plan(PlanRefused::NoMemory), "flume: no memory", 5),
-        (RunError::Fault, "flume: fault outside", 3),
-        (RunError::NoMemory, "flume: no memory", 5),
-        (RunError::InputTooLong, "flume: input too long", 6),
-        (RunError::LineTooLong, "flume: line too long", 7),
-    ];
-    for (row, (error, line, status)) in rows.iter().enumerate() {
-        assert!(rt; is_told(rt.alloc(), error, line, *status)?, "row {row}");
+    for (row, (end, line, status)) in PLAIN.iter().enumerate() {
+        assert!(rt;
+            is_told(rt.alloc(), &plain_end(*end), line, *status)?,
+            "row {row}"
+        );
     }
     Ok(())
 }
@@ -241,9 +252,9 @@ fn end_naming(end: Named, name: String) -> RunError {
 
 #[test]
 fn ends_that_name_something(rt: HostRuntime) -> Result<(), Fail> {
-    for (end, name, line, status) in NAMED {
-        let error = end_naming(end, String::from_str(rt.alloc(), name)?);
-        assert!(rt; is_told(rt.alloc(), &error, line, status)?, "{line}");
+    for (end, name, line, status) in &NAMED {
+        let error = end_naming(*end, String::from_str(rt.alloc(), name)?);
+        assert!(rt; is_told(rt.alloc(), &error, line, *status)?, "{line}");
     }
     Ok(())
 }

@@ -7,3 +7,5 @@ mod command_words;
 mod plans;
 #[cfg(test)]
 mod properties;
+#[cfg(test)]
+mod steps;
