@@ -1,9 +1,9 @@
 // `check -n NAME -f FILE`, example by example.
-use agent_run::run_agent;
+use crate::pipe::{run, written};
 use host_memory::{MemDisk, MemHost, MemSink, MemSource, Named};
 use std::alloc::{AllocError, Global};
 use std::test::Fail;
-use test_fixtures::{WORKED, owned};
+use test_fixtures::WORKED;
 
 // A host with one file, `x.conf`.
 fn host(alloc: Global, text: &str) -> Result<MemHost, AllocError> {
@@ -22,17 +22,22 @@ fn host_with(alloc: Global, text: &str, sink: MemSink) -> Result<MemHost, AllocE
     Ok(MemHost::new(alloc, source, sink, folders).with_files(files))
 }
 
-// What a run ends with: its status, what it printed and what it said.
-fn told(alloc: Global, words: &[&str], host: &mut MemHost) -> Result<String, Fail> {
-    let outcome = run_agent(alloc, &owned(alloc, words)?, host);
-    let mut text = format!(in alloc; "{} ", outcome.status)?;
-    if let Some(sink) = host.output() {
-        text.push_str(&String::from_utf8(sink.bytes().to_vec(alloc)?)?)?;
-    }
+// Adds what a run printed and then what it said.
+fn add_words(host: &MemHost, text: &mut Vec<u8>) -> Result<(), AllocError> {
+    text.extend_from_slice(written(host))?;
     for line in host.said() {
-        text.push_str(line.as_str())?;
+        text.extend_from_slice(line.as_str().as_bytes())?;
     }
-    Ok(text)
+    Ok(())
+}
+
+// Whether a run tells this: its status as a digit, a space, what it printed and what it said.
+fn is_told(alloc: Global, words: &[&str], host: MemHost, want: &str) -> Result<bool, AllocError> {
+    let mut host = host;
+    let (status, _accepted) = run(alloc, words, &mut host)?;
+    let mut text = vec![in alloc; b'0'.saturating_add(status), b' ']?;
+    add_words(&host, &mut text)?;
+    Ok(text.as_slice() == want.as_bytes())
 }
 
 const USAGE: &str =
@@ -56,17 +61,17 @@ const COUNTED: [(&str, &[&str], &str); 4] = [
     ("c2.type = file", &["check", "-n", "a1"], USAGE),
 ];
 
+fn is_counted(alloc: Global, given: &str, words: &[&str], want: &str) -> Result<bool, AllocError> {
+    let text = WORKED.replace(alloc, "c2.type = file", given)?;
+    is_told(alloc, words, host(alloc, text.as_str())?, want)
+}
+
 #[test]
 fn a_configuration_is_counted(rt: HostRuntime) -> Result<(), Fail> {
-    let alloc = rt.alloc();
-    for (given, words, want) in COUNTED {
-        let text = WORKED.replace(alloc, "c2.type = file", given)?;
-        let mut host = host(alloc, text.as_str())?;
-        assert_eq!(rt;
-            told(alloc, words, &mut host)?.as_str(),
-            want,
-            "{given} {words:?}"
-        );
+    for case in &COUNTED {
+        let (given, words, want) = *case;
+        let is_so = is_counted(rt.alloc(), given, words, want)?;
+        assert!(rt; is_so, "{given} {words:?}");
     }
     Ok(())
 }
@@ -94,13 +99,16 @@ const FAULTS: [(&str, &str); 7] = [
     ),
 ];
 
+fn is_told_of(alloc: Global, text: &str, want: &str) -> Result<bool, AllocError> {
+    is_told(alloc, &A1, host(alloc, text)?, want)
+}
+
 #[test]
 fn faults_are_told(rt: HostRuntime) -> Result<(), Fail> {
-    let alloc = rt.alloc();
     for case in &FAULTS {
         let (text, want) = *case;
-        let mut host = host(alloc, text)?;
-        assert_eq!(rt; told(alloc, &A1, &mut host)?.as_str(), want, "at {text:?}");
+        let is_so = is_told_of(rt.alloc(), text, want)?;
+        assert!(rt; is_so, "at {text:?}");
     }
     Ok(())
 }
@@ -123,18 +131,26 @@ const SIZES: [(usize, &str); 2] = [
     (1_048_577, "2 flume: configuration too large"),
 ];
 
+fn is_told_of_size(alloc: Global, size: usize, want: &str) -> Result<bool, AllocError> {
+    let text = filled(alloc, size)?;
+    is_told_of(alloc, text.as_str(), want)
+}
+
+// Whether a file that is not read is a fault outside.
+fn is_unread(alloc: Global) -> Result<bool, AllocError> {
+    let host = host(alloc, WORKED)?.failing_opens(vec![in alloc; 0]?);
+    is_told(alloc, &A1, host, "3 flume: fault outside")
+}
+
 #[test]
 fn a_file_too_large_or_unread(rt: HostRuntime) -> Result<(), Fail> {
-    let alloc = rt.alloc();
-    for (size, want) in SIZES {
-        let mut host = host(alloc, filled(alloc, size)?.as_str())?;
-        assert_eq!(rt; told(alloc, &A1, &mut host)?.as_str(), want, "{size}");
+    for case in &SIZES {
+        let (size, want) = *case;
+        let is_so = is_told_of_size(rt.alloc(), size, want)?;
+        assert!(rt; is_so, "{size}");
     }
-    let mut failing = host(alloc, WORKED)?.failing_opens(vec![in alloc; 0]?);
-    assert_eq!(rt;
-        told(alloc, &A1, &mut failing)?.as_str(),
-        "3 flume: fault outside"
-    );
+    let is_so = is_unread(rt.alloc())?;
+    assert!(rt; is_so, "unread");
     Ok(())
 }
 
@@ -147,14 +163,17 @@ const OUTPUTS: [(u64, &str); 2] = [
     ),
 ];
 
+fn is_fault(alloc: Global, call: u64, want: &str) -> Result<bool, AllocError> {
+    let sink = MemSink::new(alloc).failing_at(vec![in alloc; call]?);
+    is_told(alloc, &A1, host_with(alloc, WORKED, sink)?, want)
+}
+
 #[test]
 fn an_output_that_fails_is_a_fault(rt: HostRuntime) -> Result<(), Fail> {
-    let alloc = rt.alloc();
     for case in &OUTPUTS {
         let (call, want) = *case;
-        let sink = MemSink::new(alloc).failing_at(vec![in alloc; call]?);
-        let mut host = host_with(alloc, WORKED, sink)?;
-        assert_eq!(rt; told(alloc, &A1, &mut host)?.as_str(), want, "call {call}");
+        let is_so = is_fault(rt.alloc(), call, want)?;
+        assert!(rt; is_so, "call {call}");
     }
     Ok(())
 }

@@ -42,8 +42,10 @@ pub fn host(alloc: Global, outside: Outside) -> Result<MemHost, AllocError> {
     Ok(MemHost::new(alloc, outside.source, outside.sink, folders))
 }
 
+/// The status and the count of accepted lines of a run.
 pub fn run(alloc: Global, words: &[&str], host: &mut MemHost) -> Result<(u8, u64), AllocError> {
-    let outcome = run_agent(alloc, &owned(alloc, words)?, host);
+    let words = owned(alloc, words)?;
+    let outcome = run_agent(alloc, &words, host);
     Ok((outcome.status, outcome.accepted))
 }
 
@@ -54,11 +56,12 @@ pub fn written<'a>(host: &'a MemHost) -> &'a [u8] {
     }
 }
 
-// What was said to standard error, where it is one line.
-pub fn only_line<'a>(host: &'a MemHost) -> &'a str {
+/// Whether this line alone was said to standard error, or none where it is empty.
+pub fn is_said(host: &MemHost, line: &str) -> bool {
     match host.said() {
-        [line] => line.as_str(),
-        _ => "",
+        [] => line.is_empty(),
+        [only] => only.as_str() == line,
+        _ => false,
     }
 }
 
@@ -72,31 +75,37 @@ pub fn is_piped(
     Ok(run(alloc, &["pipe", "d"], host)? == outcome && written(host) == answers)
 }
 
-fn log_of<'a>(host: &'a MemHost) -> Option<&'a [u8]> {
+/// A file of the folder `d`.
+pub fn file_of<'a>(host: &'a MemHost, name: FileName) -> Option<&'a [u8]> {
     match host.disk("d") {
-        Some(disk) => disk.file(FileName::Log(1)),
+        Some(disk) => disk.file(name),
         None => None,
     }
 }
 
 // Input, how it ends, what is answered, and the log file.
-const LOGS: [(&[u8], (u8, u64), &[u8], &[u8]); 2] = [
+type Log = (&'static [u8], (u8, u64), &'static [u8], &'static [u8]);
+
+const LOGS: [Log; 2] = [
     (b"a\nb\n", (0, 2), b"OK\nOK\n", TWO_LINES),
     (b"", (0, 0), b"", BEGUN),
 ];
 
+// Whether a run on the input is as the row says, and nothing is said.
+fn is_logged(alloc: Global, row: &Log) -> Result<bool, AllocError> {
+    let (input, outcome, answers, log) = *row;
+    let mut host = host(alloc, given_lines(alloc, input)?)?;
+    let is_so = is_piped(alloc, &mut host, outcome, answers)?;
+    Ok(is_so && file_of(&host, FileName::Log(1)) == Some(log) && is_said(&host, ""))
+}
+
 #[test]
 fn each_line_makes_a_frame(rt: HostRuntime) -> Result<(), Fail> {
-    for (input, outcome, answers, log) in LOGS {
-        let mut host = host(rt.alloc(), given_lines(rt.alloc(), input)?)?;
-        assert!(rt;
-            is_piped(rt.alloc(), &mut host, outcome, answers)?,
-            "{input:?}"
-        );
-        assert_eq!(rt; log_of(&host), Some(log), "{input:?}");
-        assert_eq!(rt; host.said().len(), 0, "{input:?}");
+    for row in &LOGS {
+        let is_so = is_logged(rt.alloc(), row)?;
+        assert!(rt; is_so, "{:?}", row.0);
     }
-    assert_eq!(rt; TWO_LINES.len(), 115);
+    assert!(rt; TWO_LINES.len() == 115);
     Ok(())
 }
 
@@ -178,25 +187,22 @@ const LINES: [Lines; 8] = [
     },
 ];
 
-// A host whose input comes in pieces of this length, and whose output takes two bytes at a time.
-fn host_in_pieces(alloc: Global, lines: &Lines, piece: usize) -> Result<MemHost, AllocError> {
+// Whether the lines are answered so, where the input comes in pieces of this length, and the output takes two bytes at a time.
+fn is_answered(alloc: Global, lines: &Lines, piece: usize) -> Result<bool, AllocError> {
     let input = long_line(alloc, lines.front, lines.count, lines.end)?;
     let mut given = given_lines(alloc, &input)?;
     given.source = given.source.in_pieces(vec![in alloc; piece]?);
     given.sink = given.sink.in_pieces(vec![in alloc; 2]?);
-    host(alloc, given)
+    let mut host = host(alloc, given)?;
+    is_piped(alloc, &mut host, lines.outcome, lines.answers)
 }
 
 #[test]
 fn every_line_has_its_answer_in_any_pieces(rt: HostRuntime) -> Result<(), Fail> {
-    for lines in &LINES {
+    for (row, lines) in LINES.iter().enumerate() {
         for piece in [1, 3, 512, 10_000] {
-            let mut host = host_in_pieces(rt.alloc(), lines, piece)?;
-            let (front, count, end) = (lines.front, lines.count, lines.end);
-            assert!(rt;
-                is_piped(rt.alloc(), &mut host, lines.outcome, lines.answers)?,
-                "{front:?}, {count} and {end:?}, pieces of {piece}"
-            );
+            let is_so = is_answered(rt.alloc(), lines, piece)?;
+            assert!(rt; is_so, "row {row}, pieces of {piece}");
         }
     }
     Ok(())
@@ -214,27 +220,25 @@ const OTHER_WORDS: [&[&str]; 9] = [
     &["load", "1", "d"],
 ];
 
-#[test]
-fn other_words_are_no_command(rt: HostRuntime) -> Result<(), Fail> {
-    for words in OTHER_WORDS {
-        let mut host = host(rt.alloc(), given_lines(rt.alloc(), b"a\n")?)?;
-        assert_eq!(rt; run(rt.alloc(), words, &mut host)?, (1, 0), "{words:?}");
-        assert_eq!(rt; written(&host), b"".as_slice(), "{words:?}");
-        assert_eq!(rt; log_of(&host), None, "{words:?}");
-        assert_eq!(rt;
-            only_line(&host),
-            "usage: flume pipe DIR | agent -n NAME -f FILE | check -n NAME -f FILE | load N DIR",
-            "{words:?}"
-        );
-    }
-    Ok(())
+const USAGE: &str =
+    "usage: flume pipe DIR | agent -n NAME -f FILE | check -n NAME -f FILE | load N DIR";
+
+// Whether the words are no command: nothing is read, written or logged.
+fn is_no_command(alloc: Global, words: &[&str]) -> Result<bool, AllocError> {
+    let mut host = host(alloc, given_lines(alloc, b"a\n")?)?;
+    let outcome = run(alloc, words, &mut host)?;
+    let is_kept = written(&host).is_empty() && file_of(&host, FileName::Log(1)).is_none();
+    Ok(outcome == (1, 0) && is_kept && is_said(&host, USAGE))
 }
 
-// A host whose disk fails at this call.
-fn host_on_failing_disk(alloc: Global, fault: DiskFault) -> Result<MemHost, AllocError> {
-    let mut given = given_lines(alloc, b"a\nb\n")?;
-    given.disk = given.disk.failing_at(vec![in alloc; fault]?);
-    host(alloc, given)
+#[test]
+fn other_words_are_no_command(rt: HostRuntime) -> Result<(), Fail> {
+    for words in &OTHER_WORDS {
+        let words = *words;
+        let is_so = is_no_command(rt.alloc(), words)?;
+        assert!(rt; is_so, "{words:?}");
+    }
+    Ok(())
 }
 
 // What a failing call of the disk leads to. Opening takes seven calls, of which three look for files, and each line four.
@@ -247,23 +251,22 @@ fn after_failing_call(call: u64) -> ((u8, u64), &'static [u8]) {
     }
 }
 
+// Whether a run on a disk that fails at this call ends as it has to.
+fn is_in_doubt(alloc: Global, fault: DiskFault) -> Result<bool, AllocError> {
+    let (outcome, answers) = after_failing_call(fault.call);
+    let mut given = given_lines(alloc, b"a\nb\n")?;
+    given.disk = given.disk.failing_at(vec![in alloc; fault]?);
+    let mut host = host(alloc, given)?;
+    let is_so = is_piped(alloc, &mut host, outcome, answers)?;
+    Ok(is_so && (outcome.0 != 3 || is_said(&host, "flume: fault outside")))
+}
+
 #[test]
 fn a_failing_disk_leaves_the_line_in_doubt(rt: HostRuntime) -> Result<(), Fail> {
     for call in 0..16 {
         for part in [Part::Nothing, Part::Front(1)] {
-            let (outcome, answers) = after_failing_call(call);
-            let mut host = host_on_failing_disk(rt.alloc(), DiskFault { call, part })?;
-            assert!(rt;
-                is_piped(rt.alloc(), &mut host, outcome, answers)?,
-                "call {call}, {part:?}"
-            );
-            if outcome.0 == 3 {
-                assert_eq!(rt;
-                    only_line(&host),
-                    "flume: fault outside",
-                    "call {call}, {part:?}"
-                );
-            }
+            let is_so = is_in_doubt(rt.alloc(), DiskFault { call, part })?;
+            assert!(rt; is_so, "call {call}, {part:?}");
         }
     }
     Ok(())
@@ -280,41 +283,47 @@ const OUTPUTS: [(u64, (u8, u64), &[u8]); 6] = [
     (5, (0, 2), b"OK\nOK\n"),
 ];
 
-// A host whose output fails at this call.
-fn host_with_failing_output(alloc: Global, call: u64) -> Result<MemHost, AllocError> {
+// Whether a run whose output fails at this call ends so.
+fn is_cut(
+    alloc: Global,
+    call: u64,
+    outcome: (u8, u64),
+    answers: &[u8],
+) -> Result<bool, AllocError> {
     let mut given = given_lines(alloc, b"a\nb\n")?;
     given.sink = given.sink.failing_at(vec![in alloc; call]?);
-    host(alloc, given)
+    let mut host = host(alloc, given)?;
+    is_piped(alloc, &mut host, outcome, answers)
 }
 
 #[test]
 fn a_failing_output_cuts_the_answers(rt: HostRuntime) -> Result<(), Fail> {
-    for (call, outcome, answers) in OUTPUTS {
-        let mut host = host_with_failing_output(rt.alloc(), call)?;
-        assert!(rt;
-            is_piped(rt.alloc(), &mut host, outcome, answers)?,
-            "call {call}"
-        );
+    for case in &OUTPUTS {
+        let (call, outcome, answers) = *case;
+        let is_so = is_cut(rt.alloc(), call, outcome, answers)?;
+        assert!(rt; is_so, "call {call}");
     }
     Ok(())
 }
 
-// A host whose input comes in pieces of two bytes, of which the second fails.
-fn host_with_failing_input(alloc: Global) -> Result<MemHost, AllocError> {
+// Whether a run ends with a fault after the first line, where the input comes in pieces of two bytes, and the second fails.
+fn is_cut_off(alloc: Global) -> Result<bool, AllocError> {
     let mut given = given_lines(alloc, b"a\nb\n")?;
-    given.source = given
-        .source
-        .in_pieces(vec![in alloc; 2]?)
-        .failing_at(vec![in alloc; 1]?);
-    host(alloc, given)
+    let source = given.source.in_pieces(vec![in alloc; 2]?);
+    given.source = source.failing_at(vec![in alloc; 1]?);
+    let mut host = host(alloc, given)?;
+    is_piped(alloc, &mut host, (3, 1), b"OK\n")
+}
+
+// Whether a run ends with a fault where the folder is not opened.
+fn is_not_opened(alloc: Global) -> Result<bool, AllocError> {
+    let mut host = host(alloc, given_lines(alloc, b"a\n")?)?.failing_opens(vec![in alloc; 0]?);
+    is_piped(alloc, &mut host, (3, 0), b"")
 }
 
 #[test]
 fn a_failing_input_or_opening_ends_with_a_fault(rt: HostRuntime) -> Result<(), Fail> {
-    let alloc = rt.alloc();
-    let mut first = host_with_failing_input(alloc)?;
-    assert!(rt; is_piped(alloc, &mut first, (3, 1), b"OK\n")?);
-    let mut second = host(alloc, given_lines(alloc, b"a\n")?)?.failing_opens(vec![in alloc; 0]?);
-    assert!(rt; is_piped(alloc, &mut second, (3, 0), b"")?);
+    let is_so = (is_cut_off(rt.alloc())?, is_not_opened(rt.alloc())?);
+    assert!(rt; is_so == (true, true));
     Ok(())
 }

@@ -1,6 +1,6 @@
 // `pipe DIR` on folders that were written before, and on what a crash leaves.
 use crate::left::left;
-use crate::pipe::{BEGUN, TWO_LINES, given_lines, host, is_piped, only_line, run};
+use crate::pipe::{BEGUN, TWO_LINES, file_of, given_lines, host, is_piped, is_said, run};
 use flume_host::FileName;
 use host_memory::{MemDisk, MemFile, MemHost, Part, Stood};
 use std::alloc::{AllocError, Global};
@@ -39,13 +39,6 @@ fn given(alloc: Global, disk: MemDisk, input: &[u8]) -> Result<MemHost, AllocErr
     host(alloc, outside)
 }
 
-fn file_of<'a>(host: &'a MemHost, name: FileName) -> Option<&'a [u8]> {
-    match host.disk("d") {
-        Some(disk) => disk.file(name),
-        None => None,
-    }
-}
-
 // Lines on a new folder and then on what that run left; how each run ends, what the second answers, and what is then left.
 struct Rerun {
     first: &'static [u8],
@@ -78,11 +71,13 @@ const RERUNS: [Rerun; 2] = [
     },
 ];
 
-// How the first run ended, and the host of the second, on what the first left.
-fn second_host(alloc: Global, case: &Rerun) -> Result<((u8, u64), MemHost), Fail> {
+// The host of the second run, on what the first left, if that ended as it has to.
+fn second_host(alloc: Global, case: &Rerun) -> Result<MemHost, Fail> {
     let mut first = given(alloc, MemDisk::new(alloc), case.first)?;
-    let outcome = run(alloc, &["pipe", "d"], &mut first)?;
-    Ok((outcome, given(alloc, as_is(&first)?, case.second)?))
+    if run(alloc, &["pipe", "d"], &mut first)? != case.first_outcome {
+        return Err("the first run")?;
+    }
+    Ok(given(alloc, as_is(&first)?, case.second)?)
 }
 
 // Whether the folder has these first log files.
@@ -91,25 +86,27 @@ fn has_logs(host: &MemHost, logs: &[&[u8]; 2]) -> bool {
         && file_of(host, FileName::Log(2)) == Some(logs[1])
 }
 
+// Whether the channel of the folder has these bodies left.
+fn leaves(alloc: Global, host: &MemHost, bodies: &[u8]) -> Result<bool, Fail> {
+    Ok(left(alloc, as_is(host)?)?.as_slice() == bodies)
+}
+
+// Whether the second run ends as it has to.
+fn is_rerun(alloc: Global, case: &Rerun) -> Result<bool, Fail> {
+    let mut host = second_host(alloc, case)?;
+    if !is_piped(alloc, &mut host, case.second_outcome, case.answers)? {
+        return Ok(false);
+    }
+    Ok(is_said(&host, "") && has_logs(&host, &case.logs) && leaves(alloc, &host, case.left)?)
+}
+
 #[test]
 fn lines_follow_those_of_an_earlier_run(rt: HostRuntime) -> Result<(), Fail> {
     for case in &RERUNS {
-        let input = case.first;
-        let (first_outcome, mut host) = second_host(rt.alloc(), case)?;
-        assert_eq!(rt; first_outcome, case.first_outcome, "{input:?}");
-        assert!(rt;
-            is_piped(rt.alloc(), &mut host, case.second_outcome, case.answers)?,
-            "{input:?}"
-        );
-        assert_eq!(rt; host.said().len(), 0, "{input:?}");
-        assert!(rt; has_logs(&host, &case.logs), "{input:?}");
-        assert_eq!(rt;
-            left(rt.alloc(), as_is(&host)?)?.as_slice(),
-            case.left,
-            "{input:?}"
-        );
+        let is_so = is_rerun(rt.alloc(), case)?;
+        assert!(rt; is_so, "{:?}", case.first);
     }
-    assert_eq!(rt; THIRD_LINE.len(), 66);
+    assert!(rt; THIRD_LINE.len() == 66);
     Ok(())
 }
 
@@ -134,37 +131,42 @@ const STOPS: [(u64, Stood, bool); 11] = [
     (8, Stood::Garbage(255), true),
 ];
 
+// The host of a run of one line.
+fn ran_once(alloc: Global) -> Result<MemHost, Fail> {
+    let mut host = given(alloc, MemDisk::new(alloc), b"a\n")?;
+    if run(alloc, &["pipe", "d"], &mut host)? != (0, 1) {
+        return Err("the first run")?;
+    }
+    Ok(host)
+}
+
+// Whether a run on what a crash left ends well and finds the line, or not.
+fn is_found(alloc: Global, disk: MemDisk, there: bool) -> Result<bool, Fail> {
+    let want: &[u8] = if there { b"a\nz\n" } else { b"z\n" };
+    let mut host = given(alloc, disk, b"z\n")?;
+    Ok(is_piped(alloc, &mut host, (0, 1), b"OK\n")? && leaves(alloc, &host, want)?)
+}
+
 #[test]
 fn a_crash_leaves_a_line_or_not(rt: HostRuntime) -> Result<(), Fail> {
-    let alloc = rt.alloc();
-    let mut first = given(alloc, MemDisk::new(alloc), b"a\n")?;
-    assert_eq!(rt; run(alloc, &["pipe", "d"], &mut first)?, (0, 1));
-    for (moment, stood, there) in STOPS.iter() {
-        let mut second = given(alloc, stopped(&first, *moment, *stood)?, b"z\n")?;
-        assert!(rt;
-            is_piped(alloc, &mut second, (0, 1), b"OK\n")?,
-            "moment {moment}, {stood:?}"
-        );
-        let want: &[u8] = if *there { b"a\nz\n" } else { b"z\n" };
-        assert_eq!(rt;
-            left(alloc, as_is(&second)?)?.as_slice(),
-            want,
-            "moment {moment}, {stood:?}"
-        );
+    let first = ran_once(rt.alloc())?;
+    for case in &STOPS {
+        let (moment, stood, there) = *case;
+        let is_so = is_found(rt.alloc(), stopped(&first, moment, stood)?, there)?;
+        assert!(rt; is_so, "moment {moment}, {stood:?}");
     }
     Ok(())
 }
 
-// The status of a run on two lines of which this call of the disk failed, and what a crash then leaves.
-fn left_after_fault(alloc: Global, call: u64, stood: Stood) -> Result<(u8, Vec<u8>), Fail> {
+// What a crash leaves of a run on two lines of which this call of the disk failed, which ends with a fault.
+fn left_after_fault(alloc: Global, call: u64, stood: Stood) -> Result<Vec<u8>, Fail> {
     let disk = disk_failing_at(alloc, call, Part::Front(1))?;
     let mut host = given(alloc, disk, b"a\nb\n")?;
-    let (status, _) = run(alloc, &["pipe", "d"], &mut host)?;
+    if run(alloc, &["pipe", "d"], &mut host)?.0 != 3 {
+        return Err("no fault")?;
+    }
     match host.disk("d") {
-        Some(disk) => Ok((
-            status,
-            left(alloc, disk.stopped_at(disk.moments(), &[stood])?)?,
-        )),
+        Some(disk) => left(alloc, disk.stopped_at(disk.moments(), &[stood])?),
         None => Err("no folder")?,
     }
 }
@@ -177,12 +179,9 @@ fn what_was_answered_is_left_after_a_fault(rt: HostRuntime) -> Result<(), Fail> 
         let sure: &[u8] = if call < 11 { b"" } else { b"a\n" };
         let more: &[u8] = if call < 11 { b"a\n" } else { b"a\nb\n" };
         for stood in [Stood::Old, Stood::New, Stood::Garbage(1)] {
-            let (status, found) = left_after_fault(rt.alloc(), call, stood)?;
-            assert_eq!(rt; status, 3, "call {call}, {stood:?}");
-            assert!(rt;
-                found.as_slice() == sure || found.as_slice() == more,
-                "call {call}, {stood:?}"
-            );
+            let found = left_after_fault(rt.alloc(), call, stood)?;
+            let is_so = found.as_slice() == sure || found.as_slice() == more;
+            assert!(rt; is_so, "call {call}, {stood:?}");
         }
     }
     Ok(())
@@ -243,19 +242,24 @@ fn host_on_file(
     )
 }
 
+// Whether a folder of one file is refused with this line, or taken where there is none, and the file stays as it is.
+fn is_refused(alloc: Global, folder: &Folder) -> Result<bool, AllocError> {
+    let (name, bytes, line) = *folder;
+    let mut host = host_on_file(alloc, name, bytes, b"a\n")?;
+    let (outcome, answers): ((u8, u64), &[u8]) = if line.is_empty() {
+        ((0, 1), b"OK\n")
+    } else {
+        ((4, 0), b"")
+    };
+    let is_so = is_piped(alloc, &mut host, outcome, answers)?;
+    Ok(is_so && is_said(&host, line) && file_of(&host, name) == Some(bytes))
+}
+
 #[test]
 fn a_folder_is_refused_for_what_it_holds(rt: HostRuntime) -> Result<(), Fail> {
-    let alloc = rt.alloc();
-    for (row, (name, bytes, line)) in FOLDERS.iter().enumerate() {
-        let mut host = host_on_file(alloc, *name, bytes, b"a\n")?;
-        let (outcome, answers): ((u8, u64), &[u8]) = if line.is_empty() {
-            ((0, 1), b"OK\n")
-        } else {
-            ((4, 0), b"")
-        };
-        assert!(rt; is_piped(alloc, &mut host, outcome, answers)?, "row {row}");
-        assert_eq!(rt; only_line(&host), *line, "row {row}");
-        assert_eq!(rt; file_of(&host, *name), Some(*bytes), "row {row}");
+    for (row, folder) in FOLDERS.iter().enumerate() {
+        let is_so = is_refused(rt.alloc(), folder)?;
+        assert!(rt; is_so, "row {row}");
     }
     Ok(())
 }
@@ -277,8 +281,8 @@ fn lines_are_refused_once_a_number_is_at_its_end(rt: HostRuntime) -> Result<(), 
     let alloc = rt.alloc();
     let mut host = host_on_file(alloc, FileName::Log(1), NUMBERS, b"b\nc\nd\n")?;
     let answers = b"OK\nFAILED: channel refused\nFAILED: channel refused\n";
-    assert!(rt; is_piped(alloc, &mut host, (0, 1), answers)?);
-    assert_eq!(rt; host.said().len(), 0);
-    assert_eq!(rt; file_of(&host, FileName::Log(2)), Some(LAST_NUMBER));
+    let is_so = is_piped(alloc, &mut host, (0, 1), answers)?;
+    assert!(rt; is_so && is_said(&host, ""));
+    assert!(rt; file_of(&host, FileName::Log(2)) == Some(LAST_NUMBER));
     Ok(())
 }

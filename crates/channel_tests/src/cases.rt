@@ -44,7 +44,6 @@ pub fn leave(alloc: Global, files: &[WholeFile], want: &Want) -> Result<bool, Al
 }
 
 // Some log files, and what they leave.
-#[derive(Clone, Copy)]
 struct Case {
     pieces: &'static [(u32, &'static [Piece])],
     want: Want,
@@ -271,13 +270,14 @@ const CASES: [Case; 16] = [
     },
 ];
 
+fn case_leaves(alloc: Global, case: &Case) -> Result<bool, AllocError> {
+    leave(alloc, &files(alloc, case.pieces)?, &case.want)
+}
+
 #[test]
 fn log_files_leave_what_their_commits_say(rt: HostRuntime) -> Result<(), Fail> {
-    let alloc = rt.alloc();
-    for row in 0..CASES.len() {
-        let Case { pieces, want } = CASES[row];
-        let files = files(alloc, pieces)?;
-        assert!(rt; leave(alloc, &files, &want)?, "row {row}");
+    for (row, case) in CASES.iter().enumerate() {
+        assert!(rt; case_leaves(rt.alloc(), case)?, "row {row}");
     }
     Ok(())
 }
@@ -339,26 +339,37 @@ fn leaves(alloc: Global, bytes: Vec<u8>, want: Option<&Want>) -> Result<bool, Al
     }
 }
 
+// Whether the first bytes of the file leave what is expected.
+fn is_cut_well(alloc: Global, whole: &[u8], length: usize) -> Result<bool, AllocError> {
+    let bytes = whole.get(..length).unwrap_or(&[]).to_vec(alloc)?;
+    leaves(alloc, bytes, want_at(&CUTS, length))
+}
+
 #[test]
 fn a_file_is_cut_at_each_length(rt: HostRuntime) -> Result<(), Fail> {
-    let alloc = rt.alloc();
-    let whole = file(alloc, TWO)?;
+    let whole = file(rt.alloc(), TWO)?;
     assert!(rt; whole.len() == 115);
     for n in 0..116 {
-        let bytes = whole[..n].to_vec(alloc)?;
-        assert!(rt; leaves(alloc, bytes, want_at(&CUTS, n))?, "{n} bytes");
+        assert!(rt; is_cut_well(rt.alloc(), &whole, n)?, "{n} bytes");
     }
     Ok(())
 }
 
+// Whether the file with another byte at this offset leaves what is expected.
+fn is_changed_well(alloc: Global, whole: &[u8], at: usize) -> Result<bool, AllocError> {
+    let mut bytes = whole.to_vec(alloc)?;
+    if let Some(byte) = bytes.as_mut_slice().get_mut(at) {
+        *byte = 255;
+    }
+    leaves(alloc, bytes, want_at(&CHANGES, at))
+}
+
 #[test]
 fn each_byte_of_a_file_is_changed(rt: HostRuntime) -> Result<(), Fail> {
-    let alloc = rt.alloc();
+    let whole = file(rt.alloc(), TWO)?;
+    assert!(rt; whole.len() == 115);
     for n in 0..115 {
-        let mut bytes = file(alloc, TWO)?;
-        assert!(rt; bytes.len() == 115);
-        bytes[n] = 255;
-        assert!(rt; leaves(alloc, bytes, want_at(&CHANGES, n))?, "byte {n}");
+        assert!(rt; is_changed_well(rt.alloc(), &whole, n)?, "byte {n}");
     }
     Ok(())
 }

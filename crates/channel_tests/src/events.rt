@@ -1,20 +1,11 @@
 // Events, their headers, and batches.
-use event_core::{Event, EventRefused, Headers, MAX_EVENT_SIZE, NoMemory, Numbers};
+use event_core::{Event, EventRefused, Headers, MAX_EVENT_SIZE, Numbers};
 use std::alloc::{AllocError, Global};
 use std::test::Fail;
-use test_fixtures::{batch, event};
+use test_fixtures::{batch, event, headers_of};
 
 // Headers that are set in this order.
 const SET: [(&str, &str); 4] = [("é", "4"), ("b", "1"), ("Z", "2"), ("b", "3")];
-
-fn headers_of(alloc: Global, pairs: &[(&str, &str)]) -> Result<Headers, NoMemory> {
-    let mut headers = Headers::new(alloc);
-    for i in 0..pairs.len() {
-        let (key, value) = pairs[i];
-        headers.set(key, value)?;
-    }
-    Ok(headers)
-}
 
 fn joined(alloc: Global, headers: &Headers) -> Result<String, AllocError> {
     let mut text = String::new(alloc);

@@ -246,23 +246,22 @@ fn disk_of(alloc: Global, kept: Kept) -> Result<MemDisk, AllocError> {
 }
 
 // Whether the folder is refused for this cause, and stays as it was.
-fn is_refused(alloc: Global, disk: MemDisk, limits: Limits, want: OpenCause) -> bool {
+fn is_refused(alloc: Global, refusal: &Refusal) -> Result<bool, AllocError> {
+    let (kept, capacity, want) = *refusal;
+    let limits = Limits { capacity, ..LIMITS };
+    let disk = disk_of(alloc, kept)?;
     let calls = disk.moments();
     match open(alloc, disk, limits) {
-        Ok(_channel) => false,
+        Ok(_channel) => Ok(false),
         // the one call that is recorded is the settle
-        Err((disk, cause)) => cause == want && disk.moments() == calls.saturating_add(1),
+        Err((disk, cause)) => Ok(cause == want && disk.moments() == calls.saturating_add(1)),
     }
 }
 
 #[test]
 fn a_folder_is_refused_for_its_cause(rt: HostRuntime) -> Result<(), Fail> {
-    let alloc = rt.alloc();
-    for row in 0..REFUSED.len() {
-        let (kept, capacity, cause) = REFUSED[row];
-        let limits = Limits { capacity, ..LIMITS };
-        let disk = disk_of(alloc, kept)?;
-        assert!(rt; is_refused(alloc, disk, limits, cause), "row {row}");
+    for (row, refusal) in REFUSED.iter().enumerate() {
+        assert!(rt; is_refused(rt.alloc(), refusal)?, "row {row}");
     }
     Ok(())
 }

@@ -62,12 +62,14 @@ const NEXT: [(Option<u64>, Option<u64>); 3] = [
 fn a_transaction_has_its_own_list(rt: HostRuntime) -> Result<(), Fail> {
     assert!(rt; OpenTable::new(rt.alloc())?.next_txn(None).is_none());
     let mut table = two_open(rt.alloc())?;
-    for (txn, puts, is_open) in KINDS {
+    for case in &KINDS {
+        let (txn, puts, is_open) = *case;
         assert!(rt; table.has(txn, puts) == is_open, "{txn}, puts: {puts}");
     }
     assert!(rt; has(&table, 7, &[FIRST, SECOND], &[]));
     assert!(rt; has(&table, 3, &[], &[0]));
-    for (after, next) in NEXT {
+    for case in &NEXT {
+        let (after, next) = *case;
         assert!(rt; table.next_txn(after) == next, "after {after:?}");
     }
     assert!(rt; ends(&mut table, 3, &[0]));

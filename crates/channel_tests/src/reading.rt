@@ -83,7 +83,8 @@ fn reads_all<L: Ledger>(alloc: Global, blank: Blank) -> Result<bool, AllocError>
     if !reader.drops() {
         return Ok(false);
     }
-    for want in RECORDS {
+    for want in &RECORDS {
+        let want = *want;
         match reader.next(&mut disk, &mut steps) {
             Ok(given) => {
                 if seen(&given) != want {

@@ -161,7 +161,8 @@ fn read_with(place: usize, value: u8) -> Read {
 
 #[test]
 fn the_first_fault_is_told(rt: HostRuntime) {
-    for (place, value, at) in FAULTS {
+    for case in &FAULTS {
+        let (place, value, at) = *case;
         assert!(rt;
             read_with(place, value) == Read::Bad { at },
             "{value} at {place}"
@@ -178,9 +179,8 @@ const NO_COUNT: [(&[u8], u32); 3] = [
 
 #[test]
 fn a_count_is_at_least_one(rt: HostRuntime) {
-    for row in 0..NO_COUNT.len() {
-        let (bytes, at) = NO_COUNT[row];
-        assert!(rt; read_record(bytes) == Read::Bad { at }, "row {row}");
+    for (row, (bytes, at)) in NO_COUNT.iter().enumerate() {
+        assert!(rt; read_record(bytes) == Read::Bad { at: *at }, "row {row}");
     }
 }
 

@@ -77,8 +77,8 @@ fn a_stop_leaves_the_frame_or_not(rt: HostRuntime) -> Result<(), Fail> {
     let mut disk = MemDisk::new(alloc);
     assert!(rt; flush_one(alloc, &mut disk, &event));
     assert!(rt; disk.moments() == 7);
-    for row in 0..STOPS.len() {
-        assert!(rt; leaves(alloc, &disk, &STOPS[row])?, "row {row}");
+    for (row, stop) in STOPS.iter().enumerate() {
+        assert!(rt; leaves(alloc, &disk, stop)?, "row {row}");
     }
     Ok(())
 }

@@ -134,13 +134,14 @@ fn puts_beside_a_sync<A: Channel + Drop + Send, B: Channel + Drop + Send, R: Thr
     rt: &R,
     alloc: Global,
     gate: &Gate,
-    held: (&Shared<A>, Pass),
-    other: (&Shared<B>, Pass),
+    one: &Shared<A>,
+    a: Pass,
+    two: &Shared<B>,
+    b: Pass,
 ) -> (Answer, Answer)
-    requires { (held.1.table_id ≡ held.0.now.turn.table.shared.table_id) × (other.1.table_id ≡ other.0.now.turn.table.shared.table_id) }
+    requires a { a.table_id ≡ one.now.turn.table.shared.table_id }
+    requires b { b.table_id ≡ two.now.turn.table.shared.table_id }
 {
-    let (one, a) = held;
-    let (two, b) = other;
     join(
         rt,
         move || -> Answer
@@ -178,7 +179,7 @@ fn gate_sync(rt: HostRuntime) -> Result<(), Fail> {
         return Err(Fail::from("no pass"));
     };
     gate.holds.store(1, SeqCst);
-    let (one, two) = puts_beside_a_sync(&rt, alloc, &gate, (&held, a), (&other, b));
+    let (one, two) = puts_beside_a_sync(&rt, alloc, &gate, &held, a, &other, b);
     assert!(rt; one == Some(Ok(0)) && two == Some(Ok(0)));
     assert_eq!(rt; gate.given_up.load(SeqCst), 0);
     Ok(())

@@ -15,6 +15,8 @@ use std::thread::{Threads, join};
 
 const EVENTS: u32 = 40;
 
+type Four = ((Pass, Pass), (Pass, Pass));
+
 // The work of both.
 fn both<C: Channel>(shared: &Shared<C>, one: Work, other: Work) -> Work
     requires { (one.pass.table_id ≡ shared.now.turn.table.shared.table_id) × (other.pass.table_id ≡ shared.now.turn.table.shared.table_id) }
@@ -107,6 +109,18 @@ pub fn pair<C: Channel>(shared: &Shared<C>, passes: &mut Vec<Pass>) -> Option<(P
     Some((one, other))
 }
 
+// Four passes of those that are left.
+fn fours<C: Channel>(shared: &Shared<C>, passes: &mut Vec<Pass>) -> Option<Four>
+    requires { All (λ p. p.table_id ≡ shared.now.turn.table.shared.table_id) passes.old.items }
+    ensures left { All (λ p. p.table_id ≡ shared.now.turn.table.shared.table_id) passes.new.items }
+    ensures one { IfSome result (λ r. (r.0.0.table_id ≡ shared.now.turn.table.shared.table_id) × (r.0.1.table_id ≡ shared.now.turn.table.shared.table_id)) }
+    ensures other { IfSome result (λ r. (r.1.0.table_id ≡ shared.now.turn.table.shared.table_id) × (r.1.1.table_id ≡ shared.now.turn.table.shared.table_id)) }
+{
+    let one = pair(shared, passes)?;
+    let other = pair(shared, passes)?;
+    Some((one, other))
+}
+
 // The numbers of the events that are left, which stay there.
 fn left_in<C: Channel>(channel: &mut C, left: &mut Vec<u64>) -> Result<(), AllocError> {
     let Ok(mut txn) = channel.begin_take() else {
@@ -182,6 +196,37 @@ fn two_are_whole<C: Channel + Drop + Send, R: Threads + Wait + Sync>(
     is_whole(rt, alloc, shared, work, 2 * u64::from(EVENTS))
 }
 
+fn eight<C: Channel + Drop + Send, R: Threads + Wait + Sync>(
+    rt: &R,
+    alloc: Global,
+    shared: &Shared<C>,
+    one: Four,
+    other: Four,
+) -> Work
+    requires a { (one.0.0.table_id ≡ shared.now.turn.table.shared.table_id) × (one.0.1.table_id ≡ shared.now.turn.table.shared.table_id) }
+    requires b { (one.1.0.table_id ≡ shared.now.turn.table.shared.table_id) × (one.1.1.table_id ≡ shared.now.turn.table.shared.table_id) }
+    requires c { (other.0.0.table_id ≡ shared.now.turn.table.shared.table_id) × (other.0.1.table_id ≡ shared.now.turn.table.shared.table_id) }
+    requires d { (other.1.0.table_id ≡ shared.now.turn.table.shared.table_id) × (other.1.1.table_id ≡ shared.now.turn.table.shared.table_id) }
+    ensures { result.pass.table_id ≡ shared.now.turn.table.shared.table_id }
+{
+    let (a, b) = one;
+    let (c, d) = other;
+    let (first, second) = join(
+        rt,
+        move || -> Work
+            requires one { (a.0.table_id ≡ shared.now.turn.table.shared.table_id) × (a.1.table_id ≡ shared.now.turn.table.shared.table_id) }
+            requires other { (b.0.table_id ≡ shared.now.turn.table.shared.table_id) × (b.1.table_id ≡ shared.now.turn.table.shared.table_id) }
+            ensures { result.pass.table_id ≡ shared.entry.now.turn.table.shared.table_id }
+        { four(rt, alloc, shared, a, b, 0) },
+        move || -> Work
+            requires one { (c.0.table_id ≡ shared.now.turn.table.shared.table_id) × (c.1.table_id ≡ shared.now.turn.table.shared.table_id) }
+            requires other { (d.0.table_id ≡ shared.now.turn.table.shared.table_id) × (d.1.table_id ≡ shared.now.turn.table.shared.table_id) }
+            ensures { result.pass.table_id ≡ shared.entry.now.turn.table.shared.table_id }
+        { four(rt, alloc, shared, c, d, 100_000) },
+    );
+    both(shared, first, second)
+}
+
 fn eight_are_whole<C: Channel + Drop + Send, R: Threads + Wait + Sync>(
     rt: &R,
     alloc: Global,
@@ -192,33 +237,13 @@ fn eight_are_whole<C: Channel + Drop + Send, R: Threads + Wait + Sync>(
     let Some((shared, mut passes)) = opened else {
         return Err(Fail::from("no channel"));
     };
-    let Some(a) = pair(&shared, &mut passes) else {
+    let Some(one) = fours(&shared, &mut passes) else {
         return Err(Fail::from("no pass"));
     };
-    let Some(b) = pair(&shared, &mut passes) else {
+    let Some(other) = fours(&shared, &mut passes) else {
         return Err(Fail::from("no pass"));
     };
-    let Some(c) = pair(&shared, &mut passes) else {
-        return Err(Fail::from("no pass"));
-    };
-    let Some(d) = pair(&shared, &mut passes) else {
-        return Err(Fail::from("no pass"));
-    };
-    let shares = &shared;
-    let (one, other) = join(
-        rt,
-        move || -> Work
-            requires one { (a.0.table_id ≡ shares.now.turn.table.shared.table_id) × (a.1.table_id ≡ shares.now.turn.table.shared.table_id) }
-            requires other { (b.0.table_id ≡ shares.now.turn.table.shared.table_id) × (b.1.table_id ≡ shares.now.turn.table.shared.table_id) }
-            ensures { result.pass.table_id ≡ shares.entry.now.turn.table.shared.table_id }
-        { four(rt, alloc, shares, a, b, 0) },
-        move || -> Work
-            requires one { (c.0.table_id ≡ shares.now.turn.table.shared.table_id) × (c.1.table_id ≡ shares.now.turn.table.shared.table_id) }
-            requires other { (d.0.table_id ≡ shares.now.turn.table.shared.table_id) × (d.1.table_id ≡ shares.now.turn.table.shared.table_id) }
-            ensures { result.pass.table_id ≡ shares.entry.now.turn.table.shared.table_id }
-        { four(rt, alloc, shares, c, d, 100_000) },
-    );
-    let work = both(&shared, one, other);
+    let work = eight(rt, alloc, &shared, one, other);
     is_whole(rt, alloc, shared, work, 8 * u64::from(EVENTS))
 }
 

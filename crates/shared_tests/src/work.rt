@@ -73,6 +73,21 @@ fn take_one<C: Channel, R: Wait>(
     Ok(())
 }
 
+// Puts an event with this number, and then takes one, for good or not.
+fn put_then_take<C: Channel, R: Wait>(
+    alloc: Global,
+    port: &mut Port<'_, R, C>,
+    number: u64,
+    stays: bool,
+    put: &mut Vec<u64>,
+    taken: &mut Vec<u64>,
+)
+    ensures { port.new.pass.table_id ≡ port.old.pass.table_id }
+{
+    let _ = put_one(alloc, port, number, put);
+    let _ = take_one(port, stays, taken);
+}
+
 // Puts so many events, whose numbers begin with this one, and takes after each; each third one is given back.
 pub fn put_and_take<C: Channel, R: Wait>(
     rt: &R,
@@ -89,8 +104,8 @@ pub fn put_and_take<C: Channel, R: Wait>(
     let mut taken = Vec::new(alloc);
     let mut port = Port::new(rt, shared, pass);
     for i in 0..events {
-        let _ = put_one(alloc, &mut port, first.wrapping_add(u64::from(i)), &mut put);
-        let _ = take_one(&mut port, i % 3 == 0, &mut taken);
+        let number = first.wrapping_add(u64::from(i));
+        put_then_take(alloc, &mut port, number, i % 3 == 0, &mut put, &mut taken);
     }
     Work {
         pass: port.give_back(),
