@@ -1,0 +1,7 @@
+pub mod World
+pub mod Channels
+pub mod Steps
+pub mod Held
+pub mod New
+pub mod Laws
+pub mod Rows

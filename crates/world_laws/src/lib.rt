@@ -1,0 +1,7 @@
+//! The delivery model of several agents: its steps, the accounting that each step keeps, and what follows from this. Its functions
+//! do nothing: each states a law.
+#![tactic(auto)]
+
+mod laws;
+
+pub use laws::reply_is_lost;
