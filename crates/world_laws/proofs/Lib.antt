@@ -1,2 +1,14 @@
 pub mod Lists
+pub mod Histories
+pub mod Opens
+pub mod Becoming
+pub mod Taking
+pub mod Moving
+pub mod Staying
+pub mod Speaking
+pub mod Storing
+pub mod Holding
+pub mod Naming
+pub mod Delivering
+pub mod Keeping
 pub mod Worked

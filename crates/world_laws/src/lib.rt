@@ -4,4 +4,6 @@
 
 mod laws;
 
-pub use laws::reply_is_lost;
+pub use laws::{
+    each_step_keeps_the_accounting, every_run_keeps_the_accounting, new_is_held, reply_is_lost,
+};
