@@ -11,4 +11,6 @@ pub mod Holding
 pub mod Naming
 pub mod Delivering
 pub mod Keeping
+pub mod Once
+pub mod Reaching
 pub mod Worked
