@@ -13,4 +13,5 @@ pub mod Delivering
 pub mod Keeping
 pub mod Once
 pub mod Reaching
+pub mod Marking
 pub mod Worked

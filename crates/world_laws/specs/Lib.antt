@@ -5,4 +5,7 @@ pub mod Held
 pub mod New
 pub mod Kept
 pub mod Laws
+pub mod Marks
+pub mod Labels
+pub mod MarkLaws
 pub mod Rows

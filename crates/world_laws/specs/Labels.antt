@@ -1,0 +1,134 @@
+-- Which steps of the world a source's batch and a turn of a sink are: a relation between the calls that they made on channels, with the requests
+-- and replies of their links, and a list of steps.
+use Rattle.std.specs.Prelude.{◌≡◌, ◌⊎◌, ℕ, List, [], ◌∷◌, ◌++◌, Some, None, Ok, Err, true, false}
+use Rattle.event_core.specs.Content.{Content}
+use Rattle.channel_face.specs.Machine.{Call, Checkpoint, Reopen, Kept, Front, Read}
+use Rattle.channel_face.specs.Faces.{Own}
+use Rattle.channel_face.specs.declared.replies.CheckRefused.TheVariants as CheckNo
+use Rattle.world_laws.specs.World.{Tag}
+use Rattle.world_laws.specs.Steps.{Step, Deliver, Accept, Flush, Acknowledge, Take, Send, Output, Reply, Commit, Aside, Mend, EndAttempt, EndWork, Fail}
+use Rattle.world_laws.specs.Marks.{Mark, Settles, Breaks, Stores, Begins, Takes, Commits, GivesUp, OnlySettles, puts_marks, takes_marks}
+
+-- A batch. One that comes from outside is offered first, under a tag that no request has.
+
+-- a channel that has to take its share for a work (node, work, channel)
+abbrev pub accept_steps : ℕ → ℕ → ℕ → List Mark → List Step
+accept_steps n work channel [] = []
+accept_steps n work channel (Settles ∷ marks) = Flush n channel true ∷ accept_steps n work channel marks
+accept_steps n work channel (Breaks ∷ marks) = Flush n channel false ∷ accept_steps n work channel marks
+accept_steps n work channel (Stores events ∷ marks) = Accept n work channel ∷ accept_steps n work channel marks
+accept_steps n work channel (other ∷ marks) = accept_steps n work channel marks
+
+-- a channel that may miss its share (node, channel)
+abbrev pub aside_steps : ℕ → ℕ → List Mark → List Step
+aside_steps n channel [] = []
+aside_steps n channel (Settles ∷ marks) = Flush n channel true ∷ aside_steps n channel marks
+aside_steps n channel (Breaks ∷ marks) = Flush n channel false ∷ aside_steps n channel marks
+aside_steps n channel (Stores events ∷ marks) = Aside n channel events ∷ aside_steps n channel marks
+aside_steps n channel (other ∷ marks) = aside_steps n channel marks
+
+-- What was called on one of a source's channels: the channel's place in the node, and the calls of the batch of required events and of that of
+-- optional ones. A batch that wasn't tried has none.
+pub record Tried : Type 0 where
+  pub channel : ℕ
+  pub required : List Own
+  pub optional : List Own
+
+abbrev pub required_steps : ℕ → ℕ → List Tried → List Step
+required_steps n work [] = []
+required_steps n work (tried ∷ ports) = accept_steps n work tried.channel (puts_marks [] tried.required) ++ required_steps n work ports
+
+abbrev pub optional_steps : ℕ → List Tried → List Step
+optional_steps n [] = []
+optional_steps n (tried ∷ ports) = aside_steps n tried.channel (puts_marks [] tried.optional) ++ optional_steps n ports
+
+-- How a batch of a source ended: the chain made nothing of it, as an event became too large or memory was wanting; a channel refused its required
+-- events, or left in doubt whether it has them; or each required channel answered Ok.
+pub data Ended : Type 0 where
+  NothingMade : Ended
+  Refused : Ended
+  Taken : Ended
+
+-- The steps of a batch at a node: the packet comes, and the chain makes these events of its batch; required channels take their shares in order;
+-- the work ends, or the optional channels take theirs, and it is acknowledged. Entries that were staged before a refusal stay.
+abbrev pub IsBatch : ℕ → ℕ → ℕ → List Content → List Tried → Ended → List Step → Type 0
+IsBatch n packet work made ports NothingMade steps = steps ≡ []
+IsBatch n packet work made ports Refused steps = steps ≡ Deliver packet made ∷ required_steps n work ports ++ EndWork n work ∷ []
+IsBatch n packet work made ports Taken steps =
+    steps ≡ Deliver packet made ∷ required_steps n work ports ++ optional_steps n ports ++ Acknowledge n work ∷ []
+
+-- A turn of a sink.
+
+-- what is called on the channel up to the delivery, or up to the turn's end, and behind it (node, channel, attempt)
+abbrev pub turn_steps : ℕ → ℕ → ℕ → List Mark → List Step
+turn_steps n channel attempt [] = []
+turn_steps n channel attempt (Settles ∷ marks) = Flush n channel true ∷ turn_steps n channel attempt marks
+turn_steps n channel attempt (Breaks ∷ marks) = Flush n channel false ∷ turn_steps n channel attempt marks
+turn_steps n channel attempt (Stores events ∷ marks) = turn_steps n channel attempt marks
+turn_steps n channel attempt (Begins ∷ marks) = Take n channel None ∷ turn_steps n channel attempt marks
+turn_steps n channel attempt (Takes e ∷ marks) = Take n channel (Some attempt) ∷ turn_steps n channel attempt marks
+turn_steps n channel attempt (Commits ∷ marks) = Commit n attempt ∷ turn_steps n channel attempt marks
+turn_steps n channel attempt (GivesUp ∷ marks) = EndAttempt n attempt ∷ turn_steps n channel attempt marks
+
+-- What one try to deliver came to: a last sink took the events; a request with them was sent to another node under this tag, and the packet that
+-- is its own OK came; the request was sent, and nothing that counts came of it; or nothing was sent.
+pub data Try : Type 0 where
+  Put : Try
+  Answered : ℕ → Tag → ℕ → Try
+  Unanswered : ℕ → Tag → Try
+  Unsent : Try
+
+abbrev pub try_steps : ℕ → ℕ → Try → List Step
+try_steps n attempt Put = Output n attempt ∷ []
+try_steps n attempt (Answered to tag packet) = Send n attempt to tag ∷ Reply n attempt packet ∷ []
+try_steps n attempt (Unanswered to tag) = Send n attempt to tag ∷ []
+try_steps n attempt Unsent = []
+
+-- the tries of a sink, or of a group's members one after another; only the last one delivers
+abbrev pub tries_steps : ℕ → ℕ → List Try → List Step
+tries_steps n attempt [] = []
+tries_steps n attempt (try ∷ tries) = try_steps n attempt try ++ tries_steps n attempt tries
+
+abbrev pub IsDone : Try → Type 0
+IsDone Put = Unit {0}
+IsDone (Answered to tag packet) = Unit {0}
+IsDone other = ⊥
+
+abbrev pub NoneDone : List Try → Type 0
+NoneDone [] = Unit {0}
+NoneDone (Put ∷ tries) = ⊥
+NoneDone (Answered to tag packet ∷ tries) = ⊥
+NoneDone (other ∷ tries) = NoneDone tries
+
+-- the last one delivered, and none before it
+abbrev pub EndsDone : List Try → Type 0
+EndsDone tries = (front : List Try) × (last : Try) × (tries ≡ front ++ last ∷ []) × NoneDone front × IsDone last
+
+-- Only a delivery is committed. Where the turn was rolled back, or its open take was ended by a mend, there may be one too.
+abbrev pub EndsTries : List Try → List Mark → Type 0
+EndsTries tries (Commits ∷ marks) = EndsDone tries × OnlySettles marks
+EndsTries tries (GivesUp ∷ marks) = (NoneDone tries ⊎ EndsDone tries) × OnlySettles marks
+EndsTries tries marks = (NoneDone tries ⊎ EndsDone tries) × OnlySettles marks
+
+-- The steps of a turn: takes, tries to deliver, and the end. An attempt whose open take a mend has ended meanwhile has no end of its own.
+abbrev pub IsTurnOf : ℕ → ℕ → ℕ → List Own → List Try → List Own → List Step → Type 0
+IsTurnOf n channel attempt taking tries ending steps =
+    EndsTries tries (takes_marks ending)
+    × (steps ≡ turn_steps n channel attempt (takes_marks taking) ++ tries_steps n attempt tries ++ turn_steps n channel attempt (takes_marks ending))
+
+-- Upkeep.
+
+-- what a reopening kept; of a disk that doesn't tell, of which the world has none, nothing is said
+abbrev pub mend_steps : ℕ → ℕ → Kept → List Step
+mend_steps n channel (Front kept) = Mend n channel kept ∷ []
+mend_steps n channel (Read base) = []
+
+-- A checkpoint settles what is staged, or the channel breaks; a reopening keeps so many of the staged entries, or the channel breaks; and no other
+-- call of upkeep is a step (node, channel).
+abbrev pub upkeep_steps : ℕ → ℕ → Call → List Step
+upkeep_steps n channel (Checkpoint (Ok done)) = Flush n channel true ∷ []
+upkeep_steps n channel (Checkpoint (Err CheckNo.CheckFault)) = Flush n channel true ∷ []
+upkeep_steps n channel (Checkpoint (Err CheckNo.DiskFault)) = Flush n channel false ∷ []
+upkeep_steps n channel (Reopen (Ok r)) = mend_steps n channel r.kept
+upkeep_steps n channel (Reopen (Err cause)) = Fail n channel ∷ []
+upkeep_steps n channel call = []
