@@ -14,4 +14,7 @@ pub mod Keeping
 pub mod Once
 pub mod Reaching
 pub mod Marking
+pub mod Fitting
+pub mod Summing
+pub mod Agreeing
 pub mod Worked

@@ -8,4 +8,5 @@ pub mod Laws
 pub mod Marks
 pub mod Labels
 pub mod MarkLaws
+pub mod Agrees
 pub mod Rows

@@ -1,4 +1,5 @@
-// Laws of the calls of whole transactions, as marks. These functions do nothing: each states a law.
+// Laws of calls as steps of the world. These functions do nothing: each states a law.
+ghost use Rattle.world_laws.specs.Agrees.{CallsAreSteps};
 ghost use Rattle.world_laws.specs.MarkLaws.{BatchStores, TakesAreMarked};
 
 use channel_face::{PutFace, TakeFace};
@@ -13,4 +14,11 @@ pub fn batch_stores<P: PutFace>(face: &P)
 /// give the transaction up, unless a reopening has ended it.
 pub fn takes_are_marked<T: TakeFace>(face: &T)
     ensures { TakesAreMarked (T.saw face.now) (T.seen face.now) }
+{}
+
+/// Each call of a running file channel that is a step of the world is one that a channel of the world which agrees with it can take,
+/// and then the two agree again: a stage of puts, a flush, a begin of takes, and a take that came to no flush, a stage and a rollback of
+/// takes. They agree too after a call that is no step.
+pub fn calls_are_steps()
+    ensures { CallsAreSteps }
 {}
