@@ -1,5 +1,5 @@
 -- Each call of a running channel that is a step can be taken by a channel of the world that agrees with it.
-use Rattle.std.proofs.Common.{◌⊎◌, inl, inr, ◌≡◌, ◌<◌, ◌≤◌, ◌+◌, ◌-◌, ◌^◌, ◌++◌, ◌∷◌, [], ℕ, List, length, length-append, Option, Some, None, Result, Ok, Err, Bool, true, false, not, nat_le, nat_lt, cond, refl, sym, ◌∙◌, ap, subst, arith, append_assoc}
+use Rattle.std.proofs.Common.{◌⊎◌, inl, inr, ◌≡◌, ◌<◌, ◌≤◌, ◌+◌, ◌-◌, ◌^◌, ◌++◌, ◌∷◌, [], ℕ, List, length, length-append, take, Option, Some, None, Result, Ok, Err, Bool, ◌&&◌, true, false, not, nat_le, nat_lt, cond, refl, sym, ◌∙◌, ap, subst, arith, append_assoc}
 use Rattle.std.specs.List.{AllByRecursion}
 use Rattle.std.proofs.lemmas.List.{append-nil}
 use Rattle.std.proofs.lemmas.Bool.Decides.{nat_tests}
@@ -8,7 +8,7 @@ use Rattle.event_core.specs.Journal.{Base, left, next, put_events, taken_numbers
 use Rattle.event_core.specs.declared.journal.Entry.{Entry}
 use Rattle.event_core.specs.declared.journal.Entry.TheVariants.{Puts, Takes}
 use Rattle.channel_face.specs.Token.{Token}
-use Rattle.channel_face.specs.Machine.{State, Rules, Call, BeginPut, BeginTake, Put, Take, StagePut, StageTake, Flush, RollbackPut, RollbackTake, Admits, after, begin_refusal, put_refusal, take_refusal, free, first_event, add_take, after_take, size_refusal, room_refusal, stage_put_refusal, stage_take_refusal, or_else, puts_of, takes_of, base_of, settle, settle_if, broken_state, close, stage, entries, entry_of, with_entry, without_entry, add_put, after_put, after_begin, count, next_number, is_some_of}
+use Rattle.channel_face.specs.Machine.{State, Rules, Call, BeginPut, BeginTake, Put, Take, StagePut, StageTake, Flush, RollbackPut, RollbackTake, Checkpoint, Prune, Reopen, Front, SpillsNone, Admits, after, after_reopen, begin_refusal, put_refusal, take_refusal, free, first_event, add_take, after_take, size_refusal, room_refusal, stage_put_refusal, stage_take_refusal, or_else, puts_of, takes_of, base_of, settle, settle_if, broken_state, close, stage, entries, entry_of, with_entry, without_entry, add_put, after_put, after_begin, count, next_number, is_some_of}
 use Rattle.channel_face.specs.History.{opening}
 use Rattle.channel_face.specs.Laws.{limited}
 use Rattle.channel_face.specs.declared.replies.Kind.{Kind}
@@ -17,6 +17,10 @@ use Rattle.channel_face.specs.declared.replies.Ticket.{Ticket}
 use Rattle.channel_face.specs.declared.replies.StageCause.TheVariants as StageNo
 use Rattle.channel_face.specs.declared.replies.Counter.TheVariants.{Number}
 use Rattle.channel_face.specs.declared.replies.FlushRefused.TheVariants as FlushNo
+use Rattle.channel_face.specs.declared.replies.PutRefused.{PutRefused}
+use Rattle.channel_face.specs.declared.replies.PutRefused.TheVariants as PutNo
+use Rattle.channel_face.specs.declared.replies.CheckRefused.TheVariants as CheckNo
+use Rattle.channel_face.specs.declared.replies.OpenCause.{OpenCause}
 use Rattle.channel_face.specs.declared.replies.Taken.{Taken}
 use Rattle.channel_face.specs.declared.replies.TakeRefused.{TakeRefused}
 use Rattle.channel_face.specs.declared.replies.TakeRefused.TheVariants as TakeNo
@@ -25,9 +29,9 @@ use Rattle.channel_face.proofs.Numbers.{put_events-append, times-append, among_t
 use Rattle.channel_face.proofs.Opened.{entries-append}
 use Rattle.channel_face.proofs.Within.{within_run, within_opening}
 use Rattle.world_laws.specs.World.{Channel, Delivery, and_then}
-use Rattle.world_laws.specs.Channels.{unless, only_if, is_empty, next_token, put_all, stage_all, put_transaction, stored, flushed, take_begun, taken, committed, given_up}
+use Rattle.world_laws.specs.Channels.{unless, only_if, is_empty, next_token, put_all, stage_all, put_transaction, stored, flushed, failed, reopened, take_begun, taken, committed, given_up}
 use Rattle.world_laws.specs.Held.{IsHistory}
-use Rattle.world_laws.specs.Agrees.{IsReached, sum_of, puts_one, takes_one, times, times_in, Agrees, IsTaken, IsTakenFrom, IsPreparing, CallsAreTaken}
+use Rattle.world_laws.specs.Agrees.{IsReached, sum_of, puts_one, takes_one, times, times_in, Agrees, IsTaken, IsTakenFrom, IsSettling, IsBreaking, IsNoStep, CallsAreTaken}
 use Rattle.world_laws.proofs.Histories.{sound_is}
 use Rattle.world_laws.proofs.Opens.{takes_of-from}
 use Rattle.world_laws.proofs.Summing.{sum-push, sum-with, sum-without, sum_both, open_events, no_events, with-push, without-push}
@@ -71,7 +75,7 @@ size_free : (k : Kind) (s : State) (e : Content) → k ≡ OnFile → size e ≤
 size_free OnFile s e is small room = rw (lt_false 1048576 (size e) small, le_false s.rules.limits.capacity (count s) room) refl
 size_free other s e is small room = absurd (cc)
 
-put_free : (s : State) (events : List Content) (e : Content) → s.broken ≡ false → length events < s.rules.limits.txn_capacity → s.rules.kind ≡ OnFile → size e ≤ 1048576 → count s < s.rules.limits.capacity → put_refusal s (Some events) e ≡ None
+pub put_free : (s : State) (events : List Content) (e : Content) → s.broken ≡ false → length events < s.rules.limits.txn_capacity → s.rules.kind ≡ OnFile → size e ≤ 1048576 → count s < s.rules.limits.capacity → put_refusal s (Some events) e ≡ None
 put_free s events e broken few kind small room = cond_false s.broken _ _ None broken (cond_false (nat_le s.rules.limits.txn_capacity (length events)) _ _ None (le_false s.rules.limits.txn_capacity (length events) few) (size_free s.rules.kind s e kind small room))
 
 room_free : (k : Kind) (s : State) (size : ℕ) → k ≡ OnFile → room_refusal k s size ≡ None
@@ -98,6 +102,25 @@ stage_allows s events none = from s.broken refl none
     from : (b : Bool) → s.broken ≡ b → cond b (Some StageNo.Broken) (or_else (room_refusal s.rules.kind s (length events)) (cond test (Some (StageNo.Spent Number)) None)) ≡ None → (s.broken ≡ false) × (next_number s + length events ≤ 2 ^ 64 - 1)
     from true is it = absurd (cc)
     from false is it = (is, few test refl (or_else_none (room_refusal s.rules.kind s (length events)) (cond test (Some (StageNo.Spent Number)) None) it))
+
+pub put_whole : (s : State) (puts : Option (List Content)) (e : Content) → put_refusal s puts e ≡ None → s.broken ≡ false
+put_whole s None e none = absurd (cc)
+put_whole s (Some events) e none = grind (arith, nat_tests)
+
+pub take_whole : (s : State) (takes : Option (List ℕ)) → take_refusal s takes ≡ None → s.broken ≡ false
+take_whole s None none = absurd (cc)
+take_whole s (Some numbers) none = grind (arith, nat_tests)
+
+le_true : (a b : ℕ) → a ≤ b → nat_le a b ≡ true
+le_true a b le = grind (arith, nat_tests)
+
+lt_true : (a b : ℕ) → a < b → nat_lt a b ≡ true
+lt_true a b less = grind (arith, nat_tests)
+
+both_tests : (a b : Bool) → a ≡ true → b ≡ true → (a && b) ≡ true
+both_tests true true x y = refl
+both_tests true false x y = absurd (cc)
+both_tests false b x y = absurd (cc)
 
 -- a whole transaction of puts
 
@@ -173,7 +196,7 @@ same_among n xs ys same = from (among_times n xs) (among_times n ys)
     from (inr a) (inl b) = absurd (omega (arith, same, a.1, b.1))
     from (inr a) (inr b) = a.0 ∙ sym b.0
 
-without_same : (xs ys : List ℕ) (items : List (ℕ × Content)) → ((n : ℕ) → times n xs ≡ times n ys) → without xs items ≡ without ys items
+pub without_same : (xs ys : List ℕ) (items : List (ℕ × Content)) → ((n : ℕ) → times n xs ≡ times n ys) → without xs items ≡ without ys items
 without_same xs ys [] same = refl
 without_same xs ys (item ∷ items) same =
     ap (λ (b : Bool). cond b (without xs items) (item ∷ without xs items)) (same_among item.0 xs ys (same item.0))
@@ -257,8 +280,8 @@ module _ (s : State) (c : Channel) (reached : IsReached s) (is : IsHistory c.sta
         }),
       )
 
-  settled_goes : Admits true s (Flush (Ok tt)) → IsTaken (flushed true c) (after s (Flush (Ok tt)))
-  settled_goes may =
+  settles : s.broken ≡ false → IsTaken (flushed true c) (settle s)
+  settles may =
       let make : Channel = record c { state = settle t; journal = c.journal ++ t.staged } in
       let base : base_of t ≡ base_of s = ap (λ (l : List (ℕ × Content)). record { items = l; first = t.first }) agrees.items ∙ ap (λ (n : ℕ). record { items = s.items; first = n }) agrees.first in (
         make,
@@ -276,21 +299,62 @@ module _ (s : State) (c : Channel) (reached : IsReached s) (is : IsHistory c.sta
         },
       )
 
-  broken_goes : Admits true s (Flush (Err FlushNo.DiskFault)) → IsTaken (flushed false c) (after s (Flush (Err FlushNo.DiskFault)))
-  broken_goes may =
-      let make : Channel = record c { state = broken_state t } in (
+  settled_goes : (call : Call) → IsSettling call → Admits true s call → IsTaken (flushed true c) (after s call)
+  settled_goes (Flush (Ok done)) is may = settles may
+  settled_goes (Checkpoint (Ok done)) is may = settles may.0
+  settled_goes (Checkpoint (Err CheckNo.CheckFault)) is may = settles may.0
+  settled_goes call is may = absurd is
+
+  breaks : Agrees (broken_state t) (broken_state s)
+  breaks = record {
+    rules = agrees.rules;
+    items = agrees.items;
+    first = agrees.first;
+    staged = agrees.staged;
+    broken = refl;
+    no_puts = agrees.no_puts;
+    few = agrees.few;
+    held = agrees.held;
+    txn = agrees.txn;
+  }
+
+  broken_by : s.broken ≡ false → IsTaken (flushed false c) (broken_state s)
+  broken_by may =
+      let make : Channel = record c { state = broken_state t } in
+      (make, ap (λ (b : Bool). only_if (not b) make) (agrees.broken ∙ may), breaks)
+
+  broken_goes : (call : Call) → IsBreaking call → Admits true s call → IsTaken (flushed false c) (after s call)
+  broken_goes (Put token e (Err PutNo.DiskFault)) is may = broken_by (put_whole s (puts_of s token) e may.0)
+  broken_goes (Take token (Err TakeNo.DiskFault)) is may = broken_by (take_whole s (takes_of s token) may.0)
+  broken_goes (Flush (Err FlushNo.DiskFault)) is may = broken_by may.0
+  broken_goes (Checkpoint (Err CheckNo.DiskFault)) is may = broken_by may.0
+  broken_goes call is may = absurd is
+
+  failed_goes : (cause : OpenCause) → Admits true s (Reopen (Err cause)) → IsTaken (failed c) (after s (Reopen (Err cause)))
+  failed_goes cause may = from t.broken refl
+    where
+      from : (b : Bool) → t.broken ≡ b → IsTaken (Some (cond b c (record c { state = broken_state t }))) (broken_state s)
+      from true is = (c, refl, subst (λ (x : State). Agrees x (broken_state s)) (ap (λ (b : Bool). record t { broken = b }) (sym is)) breaks)
+      from false is = (record c { state = broken_state t }, refl, breaks)
+
+  reopened_goes : (kept txn : ℕ) → t.life < 2 ^ 64 - 1 → t.txn ≤ txn → Admits true s (Reopen (Ok (record { kept = Front kept; txn = txn }))) → IsTaken (reopened kept c) (after s (Reopen (Ok (record { kept = Front kept; txn = txn }))))
+  reopened_goes kept txn life few may =
+      let make : Channel = record c { state = after_reopen t (Ok (record { kept = Front kept; txn = t.txn })); journal = c.journal ++ take kept t.staged; named = take (length c.journal + kept) c.named } in
+      let size = ap (λ (l : List Entry). length l) agrees.staged in
+      let test : (nat_le kept (length t.staged) && nat_lt t.life (2 ^ 64 - 1)) ≡ true = both_tests (nat_le kept (length t.staged)) (nat_lt t.life (2 ^ 64 - 1)) (le_true kept (length t.staged) (omega (arith, size, may.0.1))) (lt_true t.life (2 ^ 64 - 1) life) in
+      let base : base_of t ≡ base_of s = ap (λ (l : List (ℕ × Content)). record { items = l; first = t.first }) agrees.items ∙ ap (λ (n : ℕ). record { items = s.items; first = n }) agrees.first in (
         make,
-        ap (λ (b : Bool). only_if (not b) make) (agrees.broken ∙ may.0),
+        ap (λ (b : Bool). only_if b make) test,
         record {
           rules = agrees.rules;
-          items = agrees.items;
-          first = agrees.first;
-          staged = agrees.staged;
+          items = ap (λ (b : Base). left b (take kept t.staged)) base ∙ ap (λ (l : List Entry). left (base_of s) (take kept l)) agrees.staged;
+          first = ap (λ (b : Base). next b (take kept t.staged)) base ∙ ap (λ (l : List Entry). next (base_of s) (take kept l)) agrees.staged;
+          staged = refl;
           broken = refl;
-          no_puts = agrees.no_puts;
-          few = agrees.few;
-          held = agrees.held;
-          txn = agrees.txn;
+          no_puts = refl;
+          few = omega arith;
+          held = λ n. refl;
+          txn = omega (arith, few);
         },
       )
 
@@ -447,8 +511,65 @@ module _ (s : State) (c : Channel) (reached : IsReached s) (is : IsHistory c.sta
             now_t ∙ (sym now_s ∙ ap (λ (x : State). takes_of x token) there),
           )
 
-  preparing_goes : (call : Call) → IsPreparing s call → Admits true s call → Agrees t (after s call)
-  preparing_goes (BeginPut (Ok token)) is may =
+  -- a transaction of puts ends
+  puts_end : (number : ℕ) (events : List Content) → entry_of number s.opened ≡ Some (Puts events) → Agrees t (close number s)
+  puts_end number events entry =
+      let puts = sum-without puts_one number s.opened (Puts events) entry in
+      let takes = sum-without takes_one number s.opened (Puts events) entry in
+      record {
+        rules = agrees.rules;
+        items = agrees.items;
+        first = agrees.first;
+        staged = agrees.staged;
+        broken = agrees.broken;
+        no_puts = agrees.no_puts;
+        few = omega (arith, takes, agrees.few);
+        held = λ n. let held = sum-without (times_in n) number s.opened (Puts events) entry in omega (arith, held, agrees.held n);
+        txn = omega (arith, puts, agrees.txn);
+      }
+
+  empty_ends : (number : ℕ) → entry_of number s.opened ≡ Some (Puts []) → Agrees t (stage number (entry_of number s.opened) s)
+  empty_ends number entry = subst (λ (o : Option Entry). Agrees t (stage number o s)) (sym entry) (puts_end number [] entry)
+
+  put_same : (token : Token) (e : Content) (refused : PutRefused) → IsNoStep s (Put token e (Err refused)) → Agrees t (after s (Put token e (Err refused)))
+  put_same token e PutNo.DiskFault is = absurd is
+  put_same token e refused is = agrees
+
+  take_same : (token : Token) (refused : TakeRefused) → IsNoStep s (Take token (Err refused)) → Agrees t (after s (Take token (Err refused)))
+  take_same token TakeNo.DiskFault is = absurd is
+  take_same token refused is = agrees
+
+  none_taken : (event : Option Content) (spilled : Bool) (takes : Option (List ℕ)) (items : List (ℕ × Content)) (number : ℕ) → event ≡ None → event ≡ first_event items → SpillsNone event spilled → Agrees t (add_take (settle_if spilled s) number takes items)
+  none_taken (Some e) spilled takes items number none gives quiet = absurd (cc)
+  none_taken None spilled takes (item ∷ items) number none gives quiet = absurd (cc)
+  none_taken None spilled None [] number none gives quiet = subst (λ (b : Bool). Agrees t (settle_if b s)) (sym quiet) agrees
+  none_taken None spilled (Some numbers) [] number none gives quiet = subst (λ (b : Bool). Agrees t (settle_if b s)) (sym quiet) agrees
+
+  no_step_goes : (call : Call) → IsNoStep s call → Admits true s call → Agrees t (after s call)
+  no_step_goes (BeginPut (Err refused)) is may = agrees
+  no_step_goes (BeginTake (Err refused)) is may = agrees
+  no_step_goes (BeginTake (Ok token)) is may = absurd is
+  no_step_goes (Put token e (Err refused)) is may = put_same token e refused is
+  no_step_goes (Take token (Ok got)) is may = none_taken got.event got.spilled (takes_of s token) (free s) token.number is may.1 may.3
+  no_step_goes (Take token (Err refused)) is may = take_same token refused is
+  no_step_goes (StagePut token (Ok ticket)) is may = empty_ends token.number (puts_of-some s token [] is).1
+  no_step_goes (StagePut token (Err cause)) is may = agrees
+  no_step_goes (StageTake token (Ok ticket)) is may = absurd is
+  no_step_goes (StageTake token (Err cause)) is may = agrees
+  no_step_goes (Flush (Ok done)) is may = absurd is
+  no_step_goes (Flush (Err FlushNo.Broken)) is may = agrees
+  no_step_goes (Flush (Err FlushNo.DiskFault)) is may = absurd is
+  no_step_goes (Flush (Err (FlushNo.Spent counter))) is may = absurd is
+  no_step_goes (RollbackTake token false) is may = agrees
+  no_step_goes (RollbackTake token true) is may = absurd is
+  no_step_goes (Checkpoint (Ok done)) is may = absurd is
+  no_step_goes (Checkpoint (Err CheckNo.Broken)) is may = agrees
+  no_step_goes (Checkpoint (Err (CheckNo.Spent counter))) is may = agrees
+  no_step_goes (Checkpoint (Err CheckNo.CheckFault)) is may = absurd is
+  no_step_goes (Checkpoint (Err CheckNo.DiskFault)) is may = absurd is
+  no_step_goes (Prune reply) is may = agrees
+  no_step_goes (Reopen reply) is may = absurd is
+  no_step_goes (BeginPut (Ok token)) is may =
       let puts = sum-push puts_one s.opened (s.txn, Puts []) in
       let takes = sum-push takes_one s.opened (s.txn, Puts []) in
       record {
@@ -462,7 +583,7 @@ module _ (s : State) (c : Channel) (reached : IsReached s) (is : IsHistory c.sta
         held = λ n. let held = sum-push (times_in n) s.opened (s.txn, Puts []) in omega (arith, held, agrees.held n);
         txn = omega (arith, puts, agrees.txn);
       }
-  preparing_goes (Put token e (Ok done)) is may =
+  no_step_goes (Put token e (Ok done)) is may =
       let a = put_allows s (puts_of s token) e fits.kind may.0 in
       let entry = (puts_of-some s token a.0 a.1).1 in
       let new : Entry = Puts (a.0 ++ e ∷ []) in
@@ -481,27 +602,12 @@ module _ (s : State) (c : Channel) (reached : IsReached s) (is : IsHistory c.sta
         held = λ n. let held = sum-with (times_in n) token.number s.opened (Puts a.0) new entry in omega (arith, held, agrees.held n);
         txn = omega (arith, puts, agrees.txn);
       })
-  preparing_goes (RollbackPut token false) is may = agrees
-  preparing_goes (RollbackPut token true) is may = from (puts_of s token) refl may
+  no_step_goes (RollbackPut token false) is may = agrees
+  no_step_goes (RollbackPut token true) is may = from (puts_of s token) refl may
     where
       from : (puts : Option (List Content)) → puts_of s token ≡ puts → true ≡ is_some_of (puts_of s token) → Agrees t (close token.number s)
       from None has some = let bad : true ≡ false = some ∙ ap is_some_of has in absurd (cc)
-      from (Some events) has some =
-          let entry = (puts_of-some s token events has).1 in
-          let puts = sum-without puts_one token.number s.opened (Puts events) entry in
-          let takes = sum-without takes_one token.number s.opened (Puts events) entry in
-          record {
-            rules = agrees.rules;
-            items = agrees.items;
-            first = agrees.first;
-            staged = agrees.staged;
-            broken = agrees.broken;
-            no_puts = agrees.no_puts;
-            few = omega (arith, takes, agrees.few);
-            held = λ n. let held = sum-without (times_in n) token.number s.opened (Puts events) entry in omega (arith, held, agrees.held n);
-            txn = omega (arith, puts, agrees.txn);
-          }
-  preparing_goes call is may = absurd is
+      from (Some events) has some = puts_end token.number events (puts_of-some s token events has).1
 
   -- Each call that is a step can be taken, and the two agree again.
   pub calls_are_taken : CallsAreTaken s c
@@ -513,5 +619,7 @@ module _ (s : State) (c : Channel) (reached : IsReached s) (is : IsHistory c.sta
     taken = taken_goes;
     committed = committed_goes;
     given_up = given_up_goes;
-    preparing = preparing_goes;
+    reopened = reopened_goes;
+    failed = failed_goes;
+    no_step = no_step_goes;
   }

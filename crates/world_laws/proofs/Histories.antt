@@ -12,7 +12,7 @@ use Rattle.channel_face.proofs.LawLemmas.{sound_opening, stands_for, commits_for
 use Rattle.world_laws.specs.World.{Channel, commits}
 use Rattle.world_laws.specs.Held.{IsHistory, Balances, nothing}
 
-all_push : (calls : List Made) (m : Made) → ReadsNone calls → KeepsFront m.call → ReadsNone (calls ++ m ∷ [])
+pub all_push : (calls : List Made) (m : Made) → ReadsNone calls → KeepsFront m.call → ReadsNone (calls ++ m ∷ [])
 all_push [] m all one = (one, tt)
 all_push (c ∷ calls) m all one = (all.0, all_push calls m all.1 one)
 

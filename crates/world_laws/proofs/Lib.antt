@@ -17,4 +17,5 @@ pub mod Marking
 pub mod Fitting
 pub mod Summing
 pub mod Agreeing
+pub mod Spilling
 pub mod Worked

@@ -1,18 +1,22 @@
 -- When a channel of the world agrees with a channel that runs: each step that a call was can be taken there too.
-use Rattle.std.specs.Prelude.{◌≡◌, ◌≤◌, ◌+◌, ℕ, List, [], ◌∷◌, length, Option, Some, Ok, Err, true, false, ◌==◌, if◌then◌else◌}
+use Rattle.std.specs.Prelude.{◌≡◌, ◌<◌, ◌≤◌, ◌+◌, ◌-◌, ◌^◌, ℕ, List, [], ◌∷◌, length, Option, Some, None, Ok, Err, true, false, ◌==◌, if◌then◌else◌}
 use Rattle.event_core.specs.Content.{Content}
 use Rattle.event_core.specs.Journal.{IsBase}
 use Rattle.event_core.specs.declared.journal.Entry.{Entry}
 use Rattle.event_core.specs.declared.journal.Entry.TheVariants.{Puts, Takes}
 use Rattle.channel_face.specs.Token.{Token}
-use Rattle.channel_face.specs.Machine.{State, Call, BeginPut, BeginTake, Put, Take, StagePut, StageTake, Flush, RollbackPut, RollbackTake, Admits, after, puts_of, takes_of}
+use Rattle.channel_face.specs.Machine.{State, Call, BeginPut, BeginTake, Put, Take, StagePut, StageTake, Flush, RollbackPut, RollbackTake, Checkpoint, Prune, Reopen, Front, Admits, after, settle, puts_of, takes_of}
 use Rattle.channel_face.specs.History.{Opening, Step as Made, opening, IsRun, state_after}
-use Rattle.channel_face.specs.Laws.{ReadsNone}
+use Rattle.channel_face.specs.Laws.{ReadsNone, KeepsFront}
 use Rattle.channel_face.specs.declared.replies.Kind.TheVariants.{File as OnFile}
 use Rattle.channel_face.specs.declared.replies.Ticket.{Ticket}
+use Rattle.channel_face.specs.declared.replies.PutRefused.TheVariants as PutNo
+use Rattle.channel_face.specs.declared.replies.TakeRefused.TheVariants as TakeNo
 use Rattle.channel_face.specs.declared.replies.FlushRefused.TheVariants as FlushNo
+use Rattle.channel_face.specs.declared.replies.CheckRefused.TheVariants as CheckNo
+use Rattle.channel_face.specs.declared.replies.OpenCause.{OpenCause}
 use Rattle.world_laws.specs.World.{Channel, Delivery}
-use Rattle.world_laws.specs.Channels.{stored, flushed, take_begun, taken, committed, given_up}
+use Rattle.world_laws.specs.Channels.{stored, flushed, failed, take_begun, taken, committed, given_up, reopened}
 use Rattle.world_laws.specs.Held.{IsHistory}
 
 -- Calls that were answered as the machine may answer them lead a file channel here, from a base within its capacity. No reopening read its list
@@ -72,22 +76,55 @@ IsTaken step s = (d : Channel) × (step ≡ Some d) × Agrees d.state s
 abbrev pub IsTakenFrom : Option (Channel × Content) → Content → Token → State → Token → Type 0
 IsTakenFrom step e own s token = (d : Channel) × (step ≡ Some (d, e)) × Agrees d.state s × (takes_of d.state own ≡ takes_of s token)
 
--- A call that is no step of the world: a begin, a put that came to no flush, or a rollback of puts.
-abbrev pub IsPreparing : State → Call → Type 0
-IsPreparing s (BeginPut (Ok token)) = Unit {0}
-IsPreparing s (Put token e (Ok done)) = done.spilled ≡ false
-IsPreparing s (RollbackPut token ended) = Unit {0}
-IsPreparing s call = ⊥
+-- What a call is for the world's channel.
 
--- Each call of the running channel that is a step is one that the world's channel can take: a stage of puts, a flush, a begin of takes, and, where
--- the tokens are of open takes of the same numbers, a take that came to no flush, a stage and a rollback of takes. After each the two agree again,
--- and so they do after a call that is no step.
+-- a flush: what is staged settles
+abbrev pub IsSettling : Call → Type 0
+IsSettling (Flush (Ok done)) = Unit {0}
+IsSettling (Checkpoint (Ok done)) = Unit {0}
+IsSettling (Checkpoint (Err CheckNo.CheckFault)) = Unit {0}
+IsSettling call = ⊥
+
+-- a flush that failed: the channel breaks, and keeps it staged
+abbrev pub IsBreaking : Call → Type 0
+IsBreaking (Put token e (Err PutNo.DiskFault)) = Unit {0}
+IsBreaking (Take token (Err TakeNo.DiskFault)) = Unit {0}
+IsBreaking (Flush (Err FlushNo.DiskFault)) = Unit {0}
+IsBreaking (Checkpoint (Err CheckNo.DiskFault)) = Unit {0}
+IsBreaking call = ⊥
+
+-- No step: a begin, a put that came to no flush, a rollback or an empty stage of puts; a take that gave no event; and a refused call, unless the
+-- disk failed.
+abbrev pub IsNoStep : State → Call → Type 0
+IsNoStep s (BeginPut reply) = Unit {0}
+IsNoStep s (BeginTake (Err refused)) = Unit {0}
+IsNoStep s (Put token e (Ok done)) = done.spilled ≡ false
+IsNoStep s (Put token e (Err PutNo.DiskFault)) = ⊥
+IsNoStep s (Put token e (Err refused)) = Unit {0}
+IsNoStep s (Take token (Ok got)) = got.event ≡ None
+IsNoStep s (Take token (Err TakeNo.DiskFault)) = ⊥
+IsNoStep s (Take token (Err refused)) = Unit {0}
+IsNoStep s (StagePut token (Ok ticket)) = puts_of s token ≡ Some []
+IsNoStep s (StagePut token (Err cause)) = Unit {0}
+IsNoStep s (StageTake token (Err cause)) = Unit {0}
+IsNoStep s (Flush (Err FlushNo.Broken)) = Unit {0}
+IsNoStep s (RollbackPut token ended) = Unit {0}
+IsNoStep s (RollbackTake token false) = Unit {0}
+IsNoStep s (Checkpoint (Err CheckNo.Broken)) = Unit {0}
+IsNoStep s (Checkpoint (Err (CheckNo.Spent counter))) = Unit {0}
+IsNoStep s (Prune reply) = Unit {0}
+IsNoStep s call = ⊥
+
+-- Each call of the running channel that is a step is one that the world's channel can take: a stage of puts, a flush, a begin of takes; where the
+-- tokens are of open takes of the same numbers, a take that came to no flush, a stage and a rollback of takes; and a reopening, if the world's
+-- channel has a life left and has begun no more transactions than the next number says. After each the two agree again, and so they do after a
+-- call that is no step.
 pub record CallsAreTaken (s : State) (c : Channel) : Type 0 where
   pub stored :
       (token : Token) (ticket : Ticket) (e : Content) (events : List Content) → puts_of s token ≡ Some (e ∷ events)
       → Admits true s (StagePut token (Ok ticket)) → IsTaken (stored (e ∷ events) c) (after s (StagePut token (Ok ticket)))
-  pub settled : Admits true s (Flush (Ok tt)) → IsTaken (flushed true c) (after s (Flush (Ok tt)))
-  pub broken : Admits true s (Flush (Err FlushNo.DiskFault)) → IsTaken (flushed false c) (after s (Flush (Err FlushNo.DiskFault)))
+  pub settled : (call : Call) → IsSettling call → Admits true s call → IsTaken (flushed true c) (after s call)
+  pub broken : (call : Call) → IsBreaking call → Admits true s call → IsTaken (flushed false c) (after s call)
   pub begun : (token : Token) → Admits true s (BeginTake (Ok token)) → IsTaken (take_begun c) (after s (BeginTake (Ok token)))
   pub taken :
       (token own : Token) (e : Content) → takes_of c.state own ≡ takes_of s token → Admits true s (Take token (Ok (record { event = Some e; spilled = false })))
@@ -98,7 +135,29 @@ pub record CallsAreTaken (s : State) (c : Channel) : Type 0 where
   pub given_up :
       (token own : Token) → takes_of c.state own ≡ takes_of s token → Admits true s (RollbackTake token true)
       → IsTaken (given_up own c) (after s (RollbackTake token true))
-  pub preparing : (call : Call) → IsPreparing s call → Admits true s call → Agrees c.state (after s call)
+  pub reopened :
+      (kept txn : ℕ) → c.state.life < 2 ^ 64 - 1 → c.state.txn ≤ txn → Admits true s (Reopen (Ok (record { kept = Front kept; txn = txn })))
+      → IsTaken (reopened kept c) (after s (Reopen (Ok (record { kept = Front kept; txn = txn }))))
+  pub failed : (cause : OpenCause) → Admits true s (Reopen (Err cause)) → IsTaken (failed c) (after s (Reopen (Err cause)))
+  pub no_step : (call : Call) → IsNoStep s call → Admits true s call → Agrees c.state (after s call)
 
 abbrev pub CallsAreSteps : Type 0
 CallsAreSteps = (s : State) (c : Channel) → IsReached s → IsHistory c.state c.journal → Agrees c.state s → CallsAreTaken s c
+
+-- A put that came to a flush is a flush and then a put that came to none, and so is a take that gave an event.
+pub record SpillsAreFlushes (s : State) : Type 0 where
+  pub put :
+      (token : Token) (e : Content) → Admits true s (Put token e (Ok (record { spilled = true })))
+      → Admits true s (Flush (Ok tt)) × Admits true (settle s) (Put token e (Ok (record { spilled = false })))
+      × (after s (Put token e (Ok (record { spilled = true }))) ≡ after (settle s) (Put token e (Ok (record { spilled = false }))))
+  pub take :
+      (token : Token) (e : Content) → Admits true s (Take token (Ok (record { event = Some e; spilled = true })))
+      → Admits true s (Flush (Ok tt)) × Admits true (settle s) (Take token (Ok (record { event = Some e; spilled = false })))
+      × (after s (Take token (Ok (record { event = Some e; spilled = true }))) ≡ after (settle s) (Take token (Ok (record { event = Some e; spilled = false }))))
+
+abbrev pub SpillsAreSteps : Type 0
+SpillsAreSteps = (s : State) → s.rules.kind ≡ OnFile → SpillsAreFlushes s
+
+-- What a call leads to is reached again.
+abbrev pub ReachedOn : Type 0
+ReachedOn = (s : State) (call : Call) → IsReached s → Admits true s call → KeepsFront call → IsReached (after s call)

@@ -10,4 +10,6 @@ pub use laws::{
     each_step_keeps_the_accounting, every_run_keeps_the_accounting, new_is_held,
     no_delivery_is_named_twice, reply_is_lost,
 };
-pub use marks::{batch_stores, calls_are_steps, takes_are_marked};
+pub use marks::{
+    batch_stores, calls_are_steps, reached_goes_on, spills_are_steps, takes_are_marked,
+};
