@@ -18,4 +18,5 @@ pub mod Fitting
 pub mod Summing
 pub mod Agreeing
 pub mod Spilling
+pub mod Joining
 pub mod Worked

@@ -17,7 +17,6 @@ use Rattle.channel_face.specs.declared.replies.CheckRefused.TheVariants as Check
 use Rattle.channel_face.specs.declared.replies.OpenCause.{OpenCause}
 use Rattle.world_laws.specs.World.{Channel, Delivery}
 use Rattle.world_laws.specs.Channels.{stored, flushed, failed, take_begun, taken, committed, given_up, reopened}
-use Rattle.world_laws.specs.Held.{IsHistory}
 
 -- Calls that were answered as the machine may answer them lead a file channel here, from a base within its capacity. No reopening read its list
 -- from a disk that doesn't tell.
@@ -140,9 +139,6 @@ pub record CallsAreTaken (s : State) (c : Channel) : Type 0 where
       → IsTaken (reopened kept c) (after s (Reopen (Ok (record { kept = Front kept; txn = txn }))))
   pub failed : (cause : OpenCause) → Admits true s (Reopen (Err cause)) → IsTaken (failed c) (after s (Reopen (Err cause)))
   pub no_step : (call : Call) → IsNoStep s call → Admits true s call → Agrees c.state (after s call)
-
-abbrev pub CallsAreSteps : Type 0
-CallsAreSteps = (s : State) (c : Channel) → IsReached s → IsHistory c.state c.journal → Agrees c.state s → CallsAreTaken s c
 
 -- A put that came to a flush is a flush and then a put that came to none, and so is a take that gave an event.
 pub record SpillsAreFlushes (s : State) : Type 0 where

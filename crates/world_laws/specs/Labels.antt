@@ -7,7 +7,7 @@ use Rattle.channel_face.specs.Faces.{Own}
 use Rattle.channel_face.specs.declared.replies.CheckRefused.TheVariants as CheckNo
 use Rattle.world_laws.specs.World.{Tag}
 use Rattle.world_laws.specs.Steps.{Step, Deliver, Accept, Flush, Acknowledge, Take, Send, Output, Reply, Commit, Aside, Mend, EndAttempt, EndWork, Fail}
-use Rattle.world_laws.specs.Marks.{Mark, Settles, Breaks, Stores, Begins, Takes, Commits, GivesUp, OnlySettles, puts_marks, takes_marks}
+use Rattle.world_laws.specs.Marks.{Mark, Settles, Breaks, Stores, Begins, Takes, Commits, GivesUp, OnlySettles, StoresOnce, puts_marks, takes_marks}
 
 -- A batch. One that comes from outside is offered first, under a tag that no request has.
 
@@ -27,10 +27,11 @@ aside_steps n channel (Breaks ∷ marks) = Flush n channel false ∷ aside_steps
 aside_steps n channel (Stores events ∷ marks) = Aside n channel events ∷ aside_steps n channel marks
 aside_steps n channel (other ∷ marks) = aside_steps n channel marks
 
--- What was called on one of a source's channels: the channel's place in the node, and the calls of the batch of required events and of that of
--- optional ones. A batch that wasn't tried has none.
+-- What was called on one of a source's channels: its place in the node; the events that it has to take, by the selector, and the calls of their
+-- batch; and the calls of the batch of those that it may miss. A batch that wasn't tried has no calls.
 pub record Tried : Type 0 where
   pub channel : ℕ
+  pub share : List Content
   pub required : List Own
   pub optional : List Own
 
@@ -42,20 +43,41 @@ abbrev pub optional_steps : ℕ → List Tried → List Step
 optional_steps n [] = []
 optional_steps n (tried ∷ ports) = aside_steps n tried.channel (puts_marks [] tried.optional) ++ optional_steps n ports
 
--- How a batch of a source ended: the chain made nothing of it, as an event became too large or memory was wanting; a channel refused its required
--- events, or left in doubt whether it has them; or each required channel answered Ok.
+-- a share is stored as one entry, or there is none
+abbrev pub IsGiven : List Content → List Mark → Type 0
+IsGiven [] marks = marks ≡ []
+IsGiven (e ∷ events) marks = StoresOnce (e ∷ events) marks
+
+abbrev pub AllGiven : List Tried → Type 0
+AllGiven [] = Unit {0}
+AllGiven (tried ∷ ports) = IsGiven tried.share (puts_marks [] tried.required) × AllGiven ports
+
+abbrev pub NoneTried : List Tried → Type 0
+NoneTried [] = Unit {0}
+NoneTried (tried ∷ ports) = (tried.required ≡ []) × (tried.optional ≡ []) × NoneTried ports
+
+-- up to a channel that refused its share, or left in doubt whether it has it; then no other was tried. Memory may be wanting before any is.
+abbrev pub GivenUpTo : List Tried → Type 0
+GivenUpTo [] = Unit {0}
+GivenUpTo (tried ∷ ports) =
+    (IsGiven tried.share (puts_marks [] tried.required) × (tried.optional ≡ []) × GivenUpTo ports)
+    ⊎ ((OnlySettles (puts_marks [] tried.required) ⊎ StoresOnce tried.share (puts_marks [] tried.required)) × (tried.optional ≡ []) × NoneTried ports)
+
+-- How a batch of a source ended: the chain made nothing of it, as an event became too large or memory was wanting; a channel refused its share, or
+-- left in doubt whether it has it; or each channel took its share.
 pub data Ended : Type 0 where
   NothingMade : Ended
   Refused : Ended
   Taken : Ended
 
--- The steps of a batch at a node: the packet comes, and the chain makes these events of its batch; required channels take their shares in order;
--- the work ends, or the optional channels take theirs, and it is acknowledged. Entries that were staged before a refusal stay.
+-- The steps of a batch at a node: the packet comes, and the chain makes these events of its batch; channels take their shares in order; and the
+-- work ends, or the channels take what they may miss, and the work is acknowledged. Entries that were staged before a refusal stay.
 abbrev pub IsBatch : ℕ → ℕ → ℕ → List Content → List Tried → Ended → List Step → Type 0
-IsBatch n packet work made ports NothingMade steps = steps ≡ []
-IsBatch n packet work made ports Refused steps = steps ≡ Deliver packet made ∷ required_steps n work ports ++ EndWork n work ∷ []
+IsBatch n packet work made ports NothingMade steps = NoneTried ports × (steps ≡ [])
+IsBatch n packet work made ports Refused steps =
+    GivenUpTo ports × (steps ≡ Deliver packet made ∷ required_steps n work ports ++ EndWork n work ∷ [])
 IsBatch n packet work made ports Taken steps =
-    steps ≡ Deliver packet made ∷ required_steps n work ports ++ optional_steps n ports ++ Acknowledge n work ∷ []
+    AllGiven ports × (steps ≡ Deliver packet made ∷ required_steps n work ports ++ optional_steps n ports ++ Acknowledge n work ∷ [])
 
 -- A turn of a sink.
 
@@ -110,11 +132,27 @@ EndsTries tries (Commits ∷ marks) = EndsDone tries × OnlySettles marks
 EndsTries tries (GivesUp ∷ marks) = (NoneDone tries ⊎ EndsDone tries) × OnlySettles marks
 EndsTries tries marks = (NoneDone tries ⊎ EndsDone tries) × OnlySettles marks
 
--- The steps of a turn: takes, tries to deliver, and the end. An attempt whose open take a mend has ended meanwhile has no end of its own.
-abbrev pub IsTurnOf : ℕ → ℕ → ℕ → List Own → List Try → List Own → List Step → Type 0
-IsTurnOf n channel attempt taking tries ending steps =
-    EndsTries tries (takes_marks ending)
-    × (steps ≡ turn_steps n channel attempt (takes_marks taking) ++ tries_steps n attempt tries ++ turn_steps n channel attempt (takes_marks ending))
+-- the events that takes gave, in order
+abbrev pub taken_events : List Mark → List Content
+taken_events [] = []
+taken_events (Takes e ∷ marks) = e ∷ taken_events marks
+taken_events (other ∷ marks) = taken_events marks
+
+-- A turn: the calls up to the last take, the tries to deliver the events that were taken, and the calls behind them.
+pub record Turned : Type 0 where
+  pub taking : List Own
+  pub events : List Content
+  pub tries : List Try
+  pub ending : List Own
+
+-- The steps of a turn: takes, tries to deliver just what they gave, and the end. An attempt whose open take a mend has ended meanwhile has no end
+-- of its own.
+abbrev pub IsTurnOf : ℕ → ℕ → ℕ → Turned → List Step → Type 0
+IsTurnOf n channel attempt turned steps =
+    (taken_events (takes_marks turned.taking) ≡ turned.events) × EndsTries turned.tries (takes_marks turned.ending)
+    × (steps
+    ≡ turn_steps n channel attempt (takes_marks turned.taking) ++ tries_steps n attempt turned.tries
+    ++ turn_steps n channel attempt (takes_marks turned.ending))
 
 -- Upkeep.
 

@@ -9,4 +9,5 @@ pub mod Marks
 pub mod Labels
 pub mod MarkLaws
 pub mod Agrees
+pub mod Joins
 pub mod Rows

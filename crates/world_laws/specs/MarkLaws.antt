@@ -6,11 +6,7 @@ use Rattle.channel_face.specs.Machine.{State}
 use Rattle.channel_face.specs.Faces.{Own, IsPutBatch, IsTakeBegun, IsTake, IsTakeCommit, IsTakeRolledBack}
 use Rattle.channel_face.specs.declared.replies.FaceRefused.{FaceRefused}
 use Rattle.channel_face.specs.declared.replies.FaceRefused.TheVariants.{InDoubt}
-use Rattle.world_laws.specs.Marks.{Mark, Stores, Begins, Takes, Commits, GivesUp, OnlySettles, puts_marks, takes_marks}
-
--- these events are staged as one entry; before and after that what is staged settles, or the channel breaks
-abbrev pub StoresOnce : List Content → List Mark → Type 0
-StoresOnce events marks = (front back : List Mark) × (marks ≡ front ++ Stores events ∷ back) × OnlySettles front × OnlySettles back
+use Rattle.world_laws.specs.Marks.{Mark, Begins, Takes, Commits, GivesUp, OnlySettles, StoresOnce, puts_marks, takes_marks}
 
 -- a batch that was answered Ok, or that is in doubt, is staged, and one that was refused is not
 abbrev pub StoresBy : Result ℕ FaceRefused → List Content → List Mark → Type 0

@@ -1,6 +1,6 @@
 -- What the calls that a source or a sink made on a channel are for the world: each call's marks. They leave out the numbers by which the world
 -- names nodes, works and attempts.
-use Rattle.std.specs.Prelude.{List, [], ◌∷◌, ◌++◌, Option, Some, None, Ok, Err, Bool, true, false}
+use Rattle.std.specs.Prelude.{◌≡◌, List, [], ◌∷◌, ◌++◌, Option, Some, None, Ok, Err, Bool, true, false}
 use Rattle.event_core.specs.Content.{Content}
 use Rattle.channel_face.specs.Machine.{Call, BeginTake, Put, Take, StagePut, StageTake, Flush, RollbackTake}
 use Rattle.channel_face.specs.Faces.{Own}
@@ -72,3 +72,7 @@ OnlySettles [] = Unit {0}
 OnlySettles (Settles ∷ marks) = OnlySettles marks
 OnlySettles (Breaks ∷ marks) = OnlySettles marks
 OnlySettles (other ∷ marks) = ⊥
+
+-- these events are staged as one entry; before and after that what is staged settles, or the channel breaks
+abbrev pub StoresOnce : List Content → List Mark → Type 0
+StoresOnce events marks = (front back : List Mark) × (marks ≡ front ++ Stores events ∷ back) × OnlySettles front × OnlySettles back

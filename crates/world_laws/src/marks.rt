@@ -1,5 +1,6 @@
 // Laws of calls as steps of the world. These functions do nothing: each states a law.
-ghost use Rattle.world_laws.specs.Agrees.{CallsAreSteps, ReachedOn, SpillsAreSteps};
+ghost use Rattle.world_laws.specs.Agrees.{ReachedOn, SpillsAreSteps};
+ghost use Rattle.world_laws.specs.Joins.{CallsAreSteps};
 ghost use Rattle.world_laws.specs.MarkLaws.{BatchStores, TakesAreMarked};
 
 use channel_face::{PutFace, TakeFace};
