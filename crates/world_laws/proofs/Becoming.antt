@@ -48,6 +48,7 @@ Is c = IsHistory c.state c.journal
 pub record Becomes (c d : Channel) (added : Added) : Type 0 where
   pub history : Is d
   pub later : d.later ≡ c.later
+  pub last : d.last ≡ c.last
   pub settled : List Entry
   pub journal : d.journal ≡ c.journal ++ settled
   pub longer : commits d ≡ commits c ++ entries_of added
@@ -58,6 +59,7 @@ pub record Becomes (c d : Channel) (added : Added) : Type 0 where
 pub record Reopens (c d : Channel) (cut : ℕ) : Type 0 where
   pub history : Is d
   pub later : d.later ≡ c.later
+  pub last : d.last ≡ c.last
   pub settled : List Entry
   pub journal : d.journal ≡ c.journal ++ settled
   pub shorter : commits d ≡ take cut (commits c)
@@ -76,6 +78,7 @@ quiet : (c : Channel) (s : State) → IsHistory s c.journal → s.staged ≡ c.s
 quiet c s history staged life = record {
   history = history;
   later = refl;
+  last = refl;
   settled = [];
   journal = sym (append-nil c.journal);
   longer = ap (λ (l : List Entry). c.journal ++ l) staged ∙ sym (append-nil (commits c));
@@ -157,6 +160,7 @@ stored_becomes c d (e ∷ events) full h is =
       record {
         history = t.history;
         later = refl;
+        last = refl;
         settled = [];
         journal = sym (append-nil c.journal);
         longer = ap (λ (l : List Entry). c.journal ++ l) t.staged ∙ sym (append_assoc c.journal c.state.staged (Puts (e ∷ events) ∷ []));
@@ -178,6 +182,7 @@ flushed_becomes true c d h is =
       record {
         history = history_call c.state (settle c.state) c.journal (commits c) (Flush (Ok tt)) h (not_true c.state.broken u.0) tt refl refl refl;
         later = refl;
+        last = refl;
         settled = c.state.staged;
         journal = refl;
         longer = refl;
@@ -271,6 +276,7 @@ reopened_becomes kept c d h is =
     subst (λ (x : Channel). Reopens c x (length c.journal + kept)) u.1 (record {
       history = history_call c.state make.state c.journal make.journal (Reopen (Ok (record { kept = Front kept; txn = c.state.txn }))) h ((lt_of c.state.life (2 ^ 64 - 1) both.1, le_of kept (length c.state.staged) both.0), h.kind) tt refl refl refl;
       later = refl;
+      last = refl;
       settled = take kept c.state.staged;
       journal = refl;
       shorter = append-nil (c.journal ++ take kept c.state.staged) ∙ sym (take_front c.journal c.state.staged kept);
@@ -312,6 +318,7 @@ committed_becomes token delivery events numbers c d h opened are is = (from numb
         inl (subst (λ (x : Channel). Becomes c x (ATakes (n ∷ numbers) delivery)) it (record {
           history = subst (λ (y : Option Entry). IsHistory (s y) c.journal) opened history;
           later = refl;
+          last = refl;
           settled = [];
           journal = sym (append-nil c.journal);
           longer = sym (append_assoc c.journal c.state.staged (Takes (n ∷ numbers) ∷ []));

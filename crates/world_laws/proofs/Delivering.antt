@@ -177,7 +177,7 @@ take_local w n number old own c got here right is there no_tag no_delivery t gav
     more : Attempt
     more = record own { events = own.events ++ got.1 ∷ [] }
 
-    due : (y : Option Delivery) → y ≡ None → IsDue w n more y
+    due : (y : Option Delivery) → y ≡ None → IsDue w n got.0 more y
     due None none = tt
     due (Some x) none = absurd (cc)
 
@@ -307,7 +307,7 @@ send_delivers w n number to tag old own c here right packets unused is there amo
     t5 : AttemptAgrees w' n c own
     t5 = agrees_later w w' n c own e (subst (λ (x : Channel). AttemptAgrees w n x own) (same_some t.0 c (sym t.1 ∙ there)) t.2)
 
-    due_sent : (delivery : Option Delivery) → delivery ≡ None → IsDue w' n sent delivery
+    due_sent : (delivery : Option Delivery) → delivery ≡ None → IsDue w' n c sent delivery
     due_sent None empty = tt
     due_sent (Some d) empty = absurd (cc)
 
@@ -359,9 +359,9 @@ send_delivers w n number to tag old own c here right packets unused is there amo
 
 -- a last sink takes it
 
-deposit_delivers : (w : World) (n number : ℕ) (old : Node) (own : Attempt) → AtNode w n old → IsDelivering w → live old.attempts number ≡ Some own
+deposit_delivers : (w : World) (n number : ℕ) (old : Node) (own : Attempt) (c : Channel) → AtNode w n old → IsDelivering w → live old.attempts number ≡ Some own → slice_get old.channels own.channel ≡ Some c → c.last ≡ true
     → IsDelivering (stepped w n (record old { outputs = old.outputs ++ own.events ∷ []; attempts = slice_set old.attempts number (Some (record own { delivery = Some (Output (length old.outputs)) })) }) [])
-deposit_delivers w n number old own here right is =
+deposit_delivers w n number old own c here right is there last =
     delivering w n old new [] here later right (λ k a has. agree k a (live_set old.attempts number (Some given) k a has)) apart (λ k d has. named_later w w' n d e (right.named n old here k d has))
     (record { tags = once_less (HoldsTag w) (HoldsTag w') right.once.tags tags; outputs = λ a b m p x y. once_fresh (λ h z. HoldsOutput w h z.0 z.1) (λ h z. HoldsOutput w' h z.0 z.1) (λ z. (z.0 ≡ n) × (z.1 ≡ length old.outputs)) (AnAttempt n number) (λ a b z x y. right.once.outputs a b z.0 z.1 x y) outputs fresh a b (m, p) x y })
   where
@@ -389,7 +389,7 @@ deposit_delivers w n number old own here right is =
         let t = right.attempts n old here number own is in
         let t5 = agrees_later w w' n t.0 own e t.2 in
         subst (λ (y : Attempt). (x : Channel) × (slice_get old.channels y.channel ≡ Some x) × AttemptAgrees w' n x y) (same_some given a it.1)
-        (t.0, t.1, record { numbers = t5.numbers; alive = t5.alive; open_take = t5.open_take; events = t5.events; asked = t5.asked; delivery = (new, set_here w.nodes n old new here, get_last old.outputs own.events) })
+        (t.0, t.1, record { numbers = t5.numbers; alive = t5.alive; open_take = t5.open_take; events = t5.events; asked = t5.asked; delivery = (ap (λ (x : Channel). x.last) (same_some t.0 c (sym t.1 ∙ there)) ∙ last, (new, set_here w.nodes n old new here, get_last old.outputs own.events)) })
 
     tags : (h : Holder) (x : Tag) → HoldsTag w' h x → HoldsTag w h x
     tags = tags_from w n old new [] here later right (HoldsTag w) (λ h x held other. held) by_attempt (λ channel d place k i ack x has named now its. (d, k, i, ack, (old, here, has), named, ack_was w n old new [] here later right n d place k i ack (right.named n old here channel d has) named now, its))
@@ -410,16 +410,16 @@ deposit_delivers w n number old own here right is =
         let one : out.0 ≡ old = same_some out.0 old (sym out.1 ∙ (ap (λ (j : ℕ). slice_get w.nodes j) node ∙ here)) in
         beyond events p place (ap (λ (y : Node). slice_get y.outputs p) (sym one) ∙ out.2)
 
-    due_output : (m : ℕ) (a : Attempt) (p : ℕ) → a.delivery ≡ Some (Output p) → IsDue w m a a.delivery → IsOutput w m p a.events
-    due_output m a p its due = subst (λ (y : Option Delivery). IsDue w m a y) its due
+    due_output : (m : ℕ) (x : Channel) (a : Attempt) (p : ℕ) → a.delivery ≡ Some (Output p) → IsDue w m x a a.delivery → IsOutput w m p a.events
+    due_output m x a p its due = (subst (λ (y : Option Delivery). IsDue w m x a y) its due).1
 
     fresh : (h : Holder) (z : ℕ × ℕ) → (z.0 ≡ n) × (z.1 ≡ length old.outputs) → HoldsOutput w h z.0 z.1 → ⊥
     fresh (AnAttempt m k) z same held =
         let s = right.attempts m held.1.1.0 held.1.1.1 k held.1.0 held.1.1.2 in
-        at_old m z.1 held.1.0.events (held.0 ∙ same.0) same.1 (due_output m held.1.0 z.1 held.1.2 s.2.delivery)
+        at_old m z.1 held.1.0.events (held.0 ∙ same.0) same.1 (due_output m s.0 held.1.0 z.1 held.1.2 s.2.delivery)
     fresh (ACommit m channel place) z same held =
         let d = named_there w m held.1.0 place (Output z.1) (right.named m held.1.1.0 held.1.1.1 channel held.1.0 held.1.1.2) held.1.2 in
-        at_old m z.1 d.0 (held.0 ∙ same.0) same.1 d.1
+        at_old m z.1 d.0 (held.0 ∙ same.0) same.1 d.1.1
 
     outputs : (h : Holder) (z : ℕ × ℕ) → HoldsOutput w' h z.0 z.1 → HoldsOutput w h z.0 z.1 ⊎ ((h ≡ AnAttempt n number) × ((z.0 ≡ n) × (z.1 ≡ length old.outputs)))
     outputs = outputs_from w n old new [] here later right (λ h z. HoldsOutput w h z.0 z.1 ⊎ ((h ≡ AnAttempt n number) × ((z.0 ≡ n) × (z.1 ≡ length old.outputs)))) (λ h z held other. inl held) by_attempt (λ channel d place p has named. inl (refl, (d, (old, here, has), named)))
@@ -450,8 +450,8 @@ module _ (w : World) (n number : ℕ) (old : Node) (own : Attempt) (delivery : D
   e : Extends w committed_world
   e = extends w n old committed_node [] here later
 
-  due : IsDue w n own (Some delivery)
-  due = subst (λ (y : Option Delivery). IsDue w n own y) its t5.delivery
+  due : IsDue w n c own (Some delivery)
+  due = subst (λ (y : Option Delivery). IsDue w n c own y) its t5.delivery
 
   same_packet : (m to : ℕ) (tag : Tag) (a b : List Content) → IsRequest w m tag a → IsRequest w to tag b → (to ≡ m) × (a ≡ b)
   same_packet m to tag a b x y =
@@ -461,8 +461,8 @@ module _ (w : World) (n number : ℕ) (old : Node) (own : Attempt) (delivery : D
       both : Request m tag a ≡ Request to tag b → (to ≡ m) × (a ≡ b)
       both h = (cc, cc)
 
-  delivers : (dl : Delivery) → d.later ≡ c.later → IsDue w n own (Some dl) → IsDelivered w n d own.events dl
-  delivers (Output place) same due = due
+  delivers : (dl : Delivery) → d.later ≡ c.later → IsDue w n c own (Some dl) → IsDelivered w n d own.events dl
+  delivers (Output place) same due = (becomes.last ∙ due.0, due.1)
   delivers (Acked m place) same due =
       let asked = t5.asked due.0.tag due.2 in
       let answers = packets.asked m place due.0 due.1 in
@@ -518,7 +518,7 @@ module _ (w : World) (n number : ℕ) (old : Node) (own : Attempt) (delivery : D
 
   tag_due : (k i : ℕ) (ack : Work) (x : Tag) → delivery ≡ Acked k i → IsAck committed_world k i ack → ack.tag ≡ x → HoldsTag w (AnAttempt n number) x
   tag_due k i ack x same now of_tag =
-      let mine = subst (λ (y : Delivery). IsDue w n own (Some y)) same due in
+      let mine = subst (λ (y : Delivery). IsDue w n c own (Some y)) same due in
       let one = one_ack committed_world k i mine.0 ack (e.acks k i mine.0 mine.1) now in
       (own, (old, here, is), mine.2 ∙ ap (λ (y : Work). Some y.tag) one ∙ ap (λ (y : Tag). Some y) of_tag)
 
@@ -577,7 +577,7 @@ delivers_after w n old (ChannelMoved place c d added there put becomes keeps) he
 delivers_after w n old (TakeBegan place c d there begins) here right packets = local_delivers w n old (node_after {w = w} {n = n} {old = old} (TakeBegan place c d there begins)) [] here right (begin_local w n place old c d there begins here right)
 delivers_after w n old (TookOne number a c got is there tag delivery t took becomes keeps) here right packets = local_delivers w n old (node_after {w = w} {n = n} {old = old} (TookOne number a c got is there tag delivery t took becomes keeps)) [] here right (take_local w n number old a c got here right is there tag delivery t took becomes keeps)
 delivers_after w n old (Sent number a c to tag is there none among unused) here right packets = send_delivers w n number to tag old a c here right packets unused is there among none
-delivers_after w n old (Deposited number a is) here right packets = deposit_delivers w n number old a here right is
+delivers_after w n old (Deposited number a c is there last) here right packets = deposit_delivers w n number old a c here right is there last
 delivers_after w n old (Answered number a tag k m place is own sent) here right packets =
     let ack = packets.replied k m place tag sent in
     local_delivers w n old (node_after {w = w} {n = n} {old = old} (Answered number a tag k m place is own sent)) [] here right (reply_local w n number old a tag m place ack.0 here right is own ack.1 ack.2)

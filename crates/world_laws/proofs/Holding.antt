@@ -74,10 +74,10 @@ extends w n old new more here later = record {
   outputs = λ m place events is. node_goes (λ node. slice_get node.outputs place ≡ Some events) w n old new here (later.outputs place events) m is.0 is.1 is.2;
 }
 
-pub due_later : (w w' : World) (n : ℕ) (a : Attempt) (delivery : Option Delivery) → Extends w w' → IsDue w n a delivery → IsDue w' n a delivery
-due_later w w' n a None e due = tt
-due_later w w' n a (Some (Output place)) e due = e.outputs n place a.events due
-due_later w w' n a (Some (Acked m place)) e due = (due.0, e.acks m place due.0 due.1, due.2)
+pub due_later : (w w' : World) (n : ℕ) (c : Channel) (a : Attempt) (delivery : Option Delivery) → Extends w w' → IsDue w n c a delivery → IsDue w' n c a delivery
+due_later w w' n c a None e due = tt
+due_later w w' n c a (Some (Output place)) e due = (due.0, e.outputs n place a.events due.1)
+due_later w w' n c a (Some (Acked m place)) e due = (due.0, e.acks m place due.0 due.1, due.2)
 
 pub agrees_later : (w w' : World) (n : ℕ) (c : Channel) (a : Attempt) → Extends w w' → AttemptAgrees w n c a → AttemptAgrees w' n c a
 agrees_later w w' n c a e t = record {
@@ -86,11 +86,11 @@ agrees_later w w' n c a e t = record {
   open_take = t.open_take;
   events = t.events;
   asked = λ tag is. let k = t.asked tag is in (k.0, k.1, e.requests k.0 tag a.events k.2);
-  delivery = due_later w w' n a a.delivery e t.delivery;
+  delivery = due_later w w' n c a a.delivery e t.delivery;
 }
 
 delivered_later : (w w' : World) (n : ℕ) (c : Channel) (events : List Content) (delivery : Delivery) → Extends w w' → IsDelivered w n c events delivery → IsDelivered w' n c events delivery
-delivered_later w w' n c events (Output place) e is = e.outputs n place events is
+delivered_later w w' n c events (Output place) e is = (is.0, e.outputs n place events is.1)
 delivered_later w w' n c events (Acked m place) e is = (is.0, e.acks m place is.0 is.1, is.2, is.3)
 
 names_later : (w w' : World) (n : ℕ) (c : Channel) (entry : Entry) (name : Option Delivery) → Extends w w' → Names w n c entry name → Names w' n c entry name

@@ -46,7 +46,7 @@ pub data Moved (w : World) (n : ℕ) (old : Node) : Type 0 where
   Sent :
       (number : ℕ) (a : Attempt) (c : Channel) (to : ℕ) (tag : Tag) → live old.attempts number ≡ Some a → slice_get old.channels a.channel ≡ Some c
       → a.delivery ≡ None → is_among c.later to ≡ true → Unused w tag → Moved w n old
-  Deposited : (number : ℕ) (a : Attempt) → live old.attempts number ≡ Some a → Moved w n old
+  Deposited : (number : ℕ) (a : Attempt) (c : Channel) → live old.attempts number ≡ Some a → slice_get old.channels a.channel ≡ Some c → c.last ≡ true → Moved w n old
   Answered :
       (number : ℕ) (a : Attempt) (tag : Tag) (k m place : ℕ) → live old.attempts number ≡ Some a → a.tag ≡ Some tag
       → slice_get w.sent k ≡ Some (Reply tag m place) → Moved w n old
@@ -83,7 +83,7 @@ node_after {w} {n} {old} (TakeBegan place c d there begins) = record old { chann
 node_after {w} {n} {old} (TookOne number a c got is there tag delivery t took becomes keeps) =
     record old { channels = slice_set old.channels a.channel got.0; attempts = slice_set old.attempts number (Some (record a { events = a.events ++ got.1 ∷ [] })) }
 node_after {w} {n} {old} (Sent number a c to tag is there none among unused) = record old { attempts = slice_set old.attempts number (Some (record a { tag = Some tag })) }
-node_after {w} {n} {old} (Deposited number a is) = record old { outputs = old.outputs ++ a.events ∷ []; attempts = slice_set old.attempts number (Some (record a { delivery = Some (Output (length old.outputs)) })) }
+node_after {w} {n} {old} (Deposited number a c is there last) = record old { outputs = old.outputs ++ a.events ∷ []; attempts = slice_set old.attempts number (Some (record a { delivery = Some (Output (length old.outputs)) })) }
 node_after {w} {n} {old} (Answered number a tag k m place is own sent) = record old { attempts = slice_set old.attempts number (Some (record a { delivery = Some (Acked m place) })) }
 node_after {w} {n} {old} (CommittedTo number a delivery c d is its there t becomes keeps) = record old { channels = slice_set old.channels a.channel d; attempts = slice_set old.attempts number None }
 node_after {w} {n} {old} (AttemptEnded number a c d is there becomes keeps) = record old { channels = slice_set old.channels a.channel d; attempts = slice_set old.attempts number None }
@@ -300,7 +300,7 @@ module _ (w : World) (held : Held w) (n : ℕ) (old : Node) (here : AtNode w n o
       let a = and_then-some (live old.attempts number) (λ a. and_then (slice_get old.channels a.channel) (go a)) x is in
       let c = and_then-some (slice_get old.channels a.0.channel) (go a.0) x a.2 in
       let it = only_if-some (is_none a.0.delivery && c.0.last) (make a.0) x c.2 in
-      (Deposited number a.0 a.1, it.1, refl)
+      (Deposited number a.0 c.0 a.1 c.1 (both_true (is_none a.0.delivery) c.0.last it.0).1, it.1, refl)
 
   end_attempt_moves : (number : ℕ) (x : Node) → end_attempt number old ≡ Some x → Quietly w n old x
   end_attempt_moves number x is =

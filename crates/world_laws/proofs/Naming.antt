@@ -9,7 +9,7 @@ use Rattle.event_core.specs.declared.journal.Entry.TheVariants.{Puts, Takes}
 use Rattle.channel_face.specs.Machine.{entry_of}
 use Rattle.channel_face.proofs.Numbers.{put_events-append}
 use Rattle.world_laws.specs.World.{Channel, Delivery, Output, Acked, Attempt, World, commits}
-use Rattle.world_laws.specs.Held.{Are, events_of, Names, IsDelivered, CommitsAreNamed, AttemptAgrees}
+use Rattle.world_laws.specs.Held.{Are, events_of, Names, IsDelivered, CommitsAreNamed, IsDue, AttemptAgrees}
 use Rattle.world_laws.proofs.Lists.{cons_same, no_some, get_front, get_one, get_take, take_lengths}
 use Rattle.world_laws.proofs.Becoming.{Added, NoEntry, APuts, ATakes, IsPut, Becomes, Reopens}
 use Rattle.world_laws.proofs.Holding.{NamedLess}
@@ -37,6 +37,11 @@ pub are_more : (c d : Channel) (more : List Entry) (numbers : List ℕ) (events 
 are_more c d more numbers events journal are =
     ap (λ (l : List Content). events_of l numbers) (ap put_events journal ∙ put_events-append c.journal more) ∙ more_events (put_events c.journal) (put_events more) numbers events are
 
+due_on : (w : World) (n : ℕ) (c d : Channel) (a : Attempt) (delivery : Option Delivery) → d.last ≡ c.last → IsDue w n c a delivery → IsDue w n d a delivery
+due_on w n c d a None last due = tt
+due_on w n c d a (Some (Output place)) last due = (last ∙ due.0, due.1)
+due_on w n c d a (Some (Acked m place)) last due = due
+
 -- an attempt whose open take stays
 pub agrees_on : (w : World) (n : ℕ) (c d : Channel) (added : Added) (a : Attempt) → Becomes c d added → ((e : Entry) → entry_of a.token.number c.state.opened ≡ Some e → entry_of a.token.number d.state.opened ≡ Some e) → AttemptAgrees w n c a → AttemptAgrees w n d a
 agrees_on w n c d added a b keeps t = record {
@@ -45,22 +50,22 @@ agrees_on w n c d added a b keeps t = record {
   open_take = keeps (Takes t.numbers) t.open_take;
   events = are_more c d b.settled t.numbers a.events b.journal t.events;
   asked = λ tag is. let k = t.asked tag is in (k.0, ap (λ (l : List ℕ). is_among l k.0) b.later ∙ k.1, k.2);
-  delivery = t.delivery;
+  delivery = due_on w n c d a a.delivery b.last t.delivery;
 }
 
 -- names
 
-delivered_on : (w : World) (n : ℕ) (c d : Channel) (events : List Content) (delivery : Delivery) → d.later ≡ c.later → IsDelivered w n c events delivery → IsDelivered w n d events delivery
-delivered_on w n c d events (Output place) later is = is
-delivered_on w n c d events (Acked m place) later is = (is.0, is.1, ap (λ (l : List ℕ). is_among l m) later ∙ is.2, is.3)
+delivered_on : (w : World) (n : ℕ) (c d : Channel) (events : List Content) (delivery : Delivery) → d.later ≡ c.later → d.last ≡ c.last → IsDelivered w n c events delivery → IsDelivered w n d events delivery
+delivered_on w n c d events (Output place) later last is = (last ∙ is.0, is.1)
+delivered_on w n c d events (Acked m place) later last is = (is.0, is.1, ap (λ (l : List ℕ). is_among l m) later ∙ is.2, is.3)
 
-names_on : (w : World) (n : ℕ) (c d : Channel) (more : List Entry) (entry : Entry) (name : Option Delivery) → d.later ≡ c.later → d.journal ≡ c.journal ++ more → Names w n c entry name → Names w n d entry name
-names_on w n c d more (Puts events) name later journal is = is
-names_on w n c d more (Takes numbers) None later journal is = is
-names_on w n c d more (Takes numbers) (Some delivery) later journal is = (is.0, are_more c d more numbers is.0 journal is.1, delivered_on w n c d is.0 delivery later is.2)
+names_on : (w : World) (n : ℕ) (c d : Channel) (more : List Entry) (entry : Entry) (name : Option Delivery) → d.later ≡ c.later → d.last ≡ c.last → d.journal ≡ c.journal ++ more → Names w n c entry name → Names w n d entry name
+names_on w n c d more (Puts events) name later last journal is = is
+names_on w n c d more (Takes numbers) None later last journal is = is
+names_on w n c d more (Takes numbers) (Some delivery) later last journal is = (is.0, are_more c d more numbers is.0 journal is.1, delivered_on w n c d is.0 delivery later last is.2)
 
-one_named : (w : World) (n : ℕ) (c d : Channel) (more : List Entry) (e : Entry) (x : Option Delivery) → d.later ≡ c.later → d.journal ≡ c.journal ++ more → commits d ≡ commits c ++ e ∷ [] → d.named ≡ c.named ++ x ∷ [] → Names w n d e x → CommitsAreNamed w n c → CommitsAreNamed w n d
-one_named w n c d more e x later journal longer named new was = record {
+one_named : (w : World) (n : ℕ) (c d : Channel) (more : List Entry) (e : Entry) (x : Option Delivery) → d.later ≡ c.later → d.last ≡ c.last → d.journal ≡ c.journal ++ more → commits d ≡ commits c ++ e ∷ [] → d.named ≡ c.named ++ x ∷ [] → Names w n d e x → CommitsAreNamed w n c → CommitsAreNamed w n d
+one_named w n c d more e x later last journal longer named new was = record {
   beside = ap length named ∙ (length-append c.named (x ∷ []) ∙ (ap (λ (k : ℕ). k + 1) was.beside ∙ (sym (length-append (commits c) (e ∷ [])) ∙ ap length (sym longer))));
   names = λ place entry name at_commits at_named. from place entry name
       (get_one (commits c) e place entry (ap (λ (l : List Entry). slice_get l place) (sym longer) ∙ at_commits))
@@ -68,7 +73,7 @@ one_named w n c d more e x later journal longer named new was = record {
 }
   where
     from : (place : ℕ) (entry : Entry) (name : Option Delivery) → (slice_get (commits c) place ≡ Some entry) ⊎ ((place ≡ length (commits c)) × (e ≡ entry)) → (slice_get c.named place ≡ Some name) ⊎ ((place ≡ length c.named) × (x ≡ name)) → Names w n d entry name
-    from place entry name (inl a) (inl b) = names_on w n c d more entry name later journal (was.names place entry name a b)
+    from place entry name (inl a) (inl b) = names_on w n c d more entry name later last journal (was.names place entry name a b)
     from place entry name (inl a) (inr b) = let less = slice_get_within (commits c) place entry a in absurd (omega (arith, less, b.0, was.beside))
     from place entry name (inr a) (inl b) = let less = slice_get_within c.named place name b in absurd (omega (arith, less, a.0, was.beside))
     from place entry name (inr a) (inr b) = subst (λ (y : Option Delivery). Names w n d entry y) b.1 (subst (λ (y : Entry). Names w n d y x) a.1 new)
@@ -85,16 +90,16 @@ named_becomes w n c d NoEntry b new was =
     let named : d.named ≡ c.named = b.named ∙ append-nil c.named in
     record {
       beside = ap length named ∙ (was.beside ∙ ap length (sym same));
-      names = λ place entry name at_commits at_named. names_on w n c d b.settled entry name b.later b.journal
+      names = λ place entry name at_commits at_named. names_on w n c d b.settled entry name b.later b.last b.journal
           (was.names place entry name (ap (λ (l : List Entry). slice_get l place) (sym same) ∙ at_commits) (ap (λ (l : List (Option Delivery)). slice_get l place) (sym named) ∙ at_named));
     }
-named_becomes w n c d (APuts events) b new was = one_named w n c d b.settled (Puts events) None b.later b.journal b.longer b.named refl was
-named_becomes w n c d (ATakes numbers delivery) b new was = one_named w n c d b.settled (Takes numbers) (Some delivery) b.later b.journal b.longer b.named new was
+named_becomes w n c d (APuts events) b new was = one_named w n c d b.settled (Puts events) None b.later b.last b.journal b.longer b.named refl was
+named_becomes w n c d (ATakes numbers delivery) b new was = one_named w n c d b.settled (Takes numbers) (Some delivery) b.later b.last b.journal b.longer b.named new was
 
 pub named_reopens : (w : World) (n : ℕ) (c d : Channel) (cut : ℕ) → Reopens c d cut → CommitsAreNamed w n c → CommitsAreNamed w n d
 named_reopens w n c d cut r was = record {
   beside = ap length r.named ∙ (take_lengths cut c.named (commits c) was.beside ∙ ap length (sym r.shorter));
-  names = λ place entry name at_commits at_named. names_on w n c d r.settled entry name r.later r.journal
+  names = λ place entry name at_commits at_named. names_on w n c d r.settled entry name r.later r.last r.journal
       (was.names place entry name (get_take cut (commits c) place entry (ap (λ (l : List Entry). slice_get l place) (sym r.shorter) ∙ at_commits)) (get_take cut c.named place name (ap (λ (l : List (Option Delivery)). slice_get l place) (sym r.named) ∙ at_named)));
 }
 

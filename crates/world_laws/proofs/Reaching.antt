@@ -9,10 +9,10 @@ use Rattle.world_laws.specs.World.{Delivery, Output, Acked, Channel, Work, Node,
 use Rattle.world_laws.specs.Steps.{Step, happens, next, run}
 use Rattle.world_laws.specs.Held.{AtNode, AtChannel, IsAck, Names, CommitsAreNamed, ACommit, Held, events_of}
 use Rattle.world_laws.specs.New.{IsNew}
-use Rattle.world_laws.specs.Kept.{IsIn, IsTakenAt, StandsOr, EachStands, KeptWithin, LinksRise, NoneIsNamedTwice, IsStillLeft, WasTakenOnce}
+use Rattle.world_laws.specs.Kept.{IsIn, IsTakenAt, StandsOr, EachStands, KeptWithin, ChannelsAreThere, LinksRise, NoneIsNamedTwice, IsStillLeft, WasTakenOnce}
 use Rattle.world_laws.proofs.Lists.{same_some, no_some, cons_same, not_empty, get_front, get_behind, get_some}
 use Rattle.world_laws.proofs.Moving.{Moved, moves, node_after, sent_by, stepped}
-use Rattle.world_laws.proofs.Staying.{came, all_go, node_cases}
+use Rattle.world_laws.proofs.Staying.{came, goes, all_go, required_same, node_cases}
 use Rattle.world_laws.proofs.Holding.{named_there}
 use Rattle.world_laws.proofs.Keeping.{step_holds, new_holds}
 use Rattle.world_laws.proofs.Once.{left_or_taken}
@@ -51,10 +51,19 @@ event_at put (n ∷ numbers) (x ∷ events) (suc i) k e are has at_k =
 
 -- Each event that the chain made of an acknowledged batch is left in each channel that it has to reach, or went on from there.
 pub each_stands :
-    (Rest : World → ℕ → Work → Type 0) (w : World) (n place : ℕ) (ack : Work) → Held w → IsAck w n place ack
+    (Rest : World → ℕ → Work → Type 0) (w : World) (n place : ℕ) (ack : Work) → Held w → ChannelsAreThere w → IsAck w n place ack
     → ((channel m at : ℕ) (c : Channel) (other : Work) → AtChannel w n channel c → is_among c.later m ≡ true → IsAck w m at other → Rest w m other) → EachStands Rest w n ack
-each_stands Rest w n place ack held is_ack rest node channel c e here there made required = by (left_or_taken c (held.numbers n channel c (node, here, there)) number.0 e number.1)
+each_stands Rest w n place ack held own_there is_ack rest node channel e here made required = (c, there, by (left_or_taken c (held.numbers n channel c (node, here, there)) number.0 e number.1))
   where
+    is_there : (c : Channel) × (slice_get node.channels channel ≡ Some c)
+    is_there = own_there n channel node e here required
+
+    c : Channel
+    c = is_there.0
+
+    there : slice_get node.channels channel ≡ Some c
+    there = is_there.1
+
     one_node : is_ack.0 ≡ node
     one_node = same_some is_ack.0 node (sym is_ack.1 ∙ here)
 
@@ -82,7 +91,7 @@ each_stands Rest w n place ack held is_ack rest node channel c e here there made
     went at i taken (Takes ns) (Some (Output p)) is named names =
         let same : ns ≡ taken.0 = cc in
         let has = event_at (put_events c.journal) ns names.0 i number.0 e names.1 (ap (λ (l : List ℕ). slice_get l i) same ∙ taken.2) number.1 in
-        inr (inl (p, names.0, record { number = number.0; put = number.1; place = at; at = i; taken = taken; names = named }, names.2, (i, has)))
+        inr (inl (p, names.0, record { number = number.0; put = number.1; place = at; at = i; taken = taken; names = named }, names.2.0, names.2.1, (i, has)))
     went at i taken (Takes ns) (Some (Acked m p)) is named names =
         let same : ns ≡ taken.0 = cc in
         let has = event_at (put_events c.journal) ns names.0 i number.0 e names.1 (ap (λ (l : List ℕ). slice_get l i) same ∙ taken.2) number.1 in
@@ -107,11 +116,11 @@ each_stands Rest w n place ack held is_ack rest node channel c e here there made
 
 -- down to the last hop
 
-kept_from : (w : World) → Held w → LinksRise w → (hops n place : ℕ) (ack : Work) → length w.nodes ≤ n + hops → IsAck w n place ack → KeptWithin hops w n ack
-kept_from w held rise zero n place ack few is = let less = slice_get_within w.nodes n is.0 is.1 in absurd (omega (arith, few, less))
-kept_from w held rise (suc hops) n place ack few is =
-    each_stands (KeptWithin hops) w n place ack held is
-    (λ channel m at c other there among acked. let less = rise n channel m c there among in kept_from w held rise hops m at other (omega (arith, few, less)) acked)
+kept_from : (w : World) → Held w → ChannelsAreThere w → LinksRise w → (hops n place : ℕ) (ack : Work) → length w.nodes ≤ n + hops → IsAck w n place ack → KeptWithin hops w n ack
+kept_from w held own_there rise zero n place ack few is = let less = slice_get_within w.nodes n is.0 is.1 in absurd (omega (arith, few, less))
+kept_from w held own_there rise (suc hops) n place ack few is =
+    each_stands (KeptWithin hops) w n place ack held own_there is
+    (λ channel m at c other there among acked. let less = rise n channel m c there among in kept_from w held own_there rise hops m at other (omega (arith, few, less)) acked)
 
 -- links stay as they are, and so does the number of nodes
 
@@ -133,27 +142,42 @@ links_after w n old m here rise l place to d has among = from (node_cases w n ol
         let less = rise n place to c.0 (old, here, c.1) (ap (λ (x : List ℕ). is_among x to) (sym c.2) ∙ among) in
         omega (arith, less, same.0)
 
+channels_after : (w : World) (n : ℕ) (old : Node) (m : Moved w n old) → AtNode w n old → ChannelsAreThere w → ChannelsAreThere (stepped w n (node_after m) (sent_by m))
+channels_after w n old m here are l channel node e has required = from (node_cases w n old (node_after m) l node here has)
+  where
+    Any : Channel → Channel → Type 0
+    Any c d = Unit {0}
+
+    from : ((l ≢ n) × AtNode w l node) ⊎ ((l ≡ n) × (node_after m ≡ node)) → (c : Channel) × (slice_get node.channels channel ≡ Some c)
+    from (inl was) = are l channel node e was.1 required
+    from (inr same) =
+        let same_one : node.required ≡ old.required = ap (λ (k : Node). k.required) (sym same.1) ∙ required_same w n old m in
+        let c = are n channel old e here (ap (λ (r : List (Content × List ℕ)). is_among (required_of r e) channel) (sym same_one) ∙ required) in
+        let d = goes Any old.channels (node_after m).channels (all_go Any w n old m (λ c. tt) (λ c d added b. tt) (λ c d cut r. tt)) channel c.0 c.1 in
+        (d.0, ap (λ (k : Node). slice_get k.channels channel) (sym same.1) ∙ d.1)
+
 abbrev Linked : ℕ → World → Type 0
-Linked nodes w = Held w × LinksRise w × (length w.nodes ≡ nodes)
+Linked nodes w = Held w × ChannelsAreThere w × LinksRise w × (length w.nodes ≡ nodes)
 
 step_linked : (nodes : ℕ) (w : World) (step : Step) → Linked nodes w → Linked nodes (next w (happens w step))
-step_linked nodes w step linked = let rest = from (happens w step) refl in (step_holds w step linked.0, rest.0, rest.1)
+step_linked nodes w step linked = let rest = from (happens w step) refl in (step_holds w step linked.0, rest.0, rest.1, rest.2)
   where
-    from : (x : Option World) → happens w step ≡ x → LinksRise (next w x) × (length (next w x).nodes ≡ nodes)
-    from None is = (linked.1, linked.2)
+    from : (x : Option World) → happens w step ≡ x → ChannelsAreThere (next w x) × LinksRise (next w x) × (length (next w x).nodes ≡ nodes)
+    from None is = (linked.1, linked.2, linked.3)
     from (Some new) is =
         let went = moves w step new linked.0 is in
-        subst (λ (v : World). LinksRise v × (length v.nodes ≡ nodes)) went.is (links_after w went.n went.old went.move went.here linked.1, set_length w.nodes went.n (node_after went.move) ∙ linked.2)
+        subst (λ (v : World). ChannelsAreThere v × LinksRise v × (length v.nodes ≡ nodes)) went.is
+        (channels_after w went.n went.old went.move went.here linked.1, links_after w went.n went.old went.move went.here linked.2, set_length w.nodes went.n (node_after went.move) ∙ linked.3)
 
 run_linked : (nodes : ℕ) (w : World) (steps : List Step) → Linked nodes w → Linked nodes (run w steps)
 run_linked nodes w [] linked = linked
 run_linked nodes w (step ∷ steps) linked = run_linked nodes (next w (happens w step)) steps (step_linked nodes w step linked)
 
 -- Over every list of steps from a new world whose links have no cycle, each acknowledged batch is kept within as many hops as there are nodes.
-pub kept_down : (w : World) (steps : List Step) (n place : ℕ) (ack : Work) → IsNew w → LinksRise w → IsAck (run w steps) n place ack → KeptWithin (length w.nodes) (run w steps) n ack
-kept_down w steps n place ack new rise is =
-    let linked = run_linked (length w.nodes) w steps (new_holds w new, rise, refl) in
-    kept_from (run w steps) linked.0 linked.1 (length w.nodes) n place ack (omega (arith, linked.2)) is
+pub kept_down : (w : World) (steps : List Step) (n place : ℕ) (ack : Work) → IsNew w → ChannelsAreThere w → LinksRise w → IsAck (run w steps) n place ack → KeptWithin (length w.nodes) (run w steps) n ack
+kept_down w steps n place ack new are rise is =
+    let linked = run_linked (length w.nodes) w steps (new_holds w new, are, rise, refl) in
+    kept_from (run w steps) linked.0 linked.1 linked.2 (length w.nodes) n place ack (omega (arith, linked.3)) is
 
 -- no delivery is named twice
 

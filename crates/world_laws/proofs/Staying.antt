@@ -105,7 +105,7 @@ acks_stay w n old (Acknowledged number work is all settled) place ack was = get_
 acks_stay w n old m place ack was = was
 
 pub outputs_stay : (w : World) (n : ℕ) (old : Node) (m : Moved w n old) → (place : ℕ) (events : List Content) → slice_get old.outputs place ≡ Some events → slice_get (node_after m).outputs place ≡ Some events
-outputs_stay w n old (Deposited number a is) place events was = get_front old.outputs (a.events ∷ []) place events was
+outputs_stay w n old (Deposited number a c is there last) place events was = get_front old.outputs (a.events ∷ []) place events was
 outputs_stay w n old m place events was = was
 
 -- an acknowledgement was one, or was a work

@@ -82,9 +82,9 @@ AcknowledgedIsStored w = (n : ℕ) (node : Node) → AtNode w n node → AcksAre
 
 -- Takes are delivered.
 
--- the delivery is of these events, taken from this channel of the node
+-- the delivery is of these events, taken from this channel of the node: an output place is that of a channel with a last sink
 abbrev pub IsDelivered : World → ℕ → Channel → List Content → Delivery → Type 0
-IsDelivered w n c events (Output place) = IsOutput w n place events
+IsDelivered w n c events (Output place) = (c.last ≡ true) × IsOutput w n place events
 IsDelivered w n c events (Acked m place) = (ack : Work) × IsAck w m place ack × (is_among c.later m ≡ true) × (ack.batch ≡ events)
 
 -- an entry of puts names nothing, and one of takes names a delivery of its events
@@ -122,7 +122,7 @@ HoldsOutput w (AnAttempt n number) m place = (n ≡ m) × ((a : Attempt) × IsAt
 HoldsOutput w (ACommit n channel at) m place =
     (n ≡ m) × ((c : Channel) × AtChannel w n channel c × (slice_get c.named at ≡ Some (Some (Output place))))
 
--- The second part: each take entry, staged or settled, names an output place of its node with just its events, or an acknowledgement, of
+-- The second part: each take entry, staged or settled, names an output place with just its events, which a last sink took, or an acknowledgement, of
 -- a node to which the channel's sinks point, with just its events as batch. No two of them hold one output place or one tag, so none names
 -- what another one names.
 pub record TakesAreDelivered (w : World) : Type 0 where
@@ -159,11 +159,12 @@ pub record PacketsAgree (w : World) : Type 0 where
 
 -- Attempts.
 
--- an attempt's delivery, if any, is an output place with its events, or an acknowledgement of its own tag
-abbrev pub IsDue : World → ℕ → Attempt → Option Delivery → Type 0
-IsDue w n a None = Unit {0}
-IsDue w n a (Some (Output place)) = IsOutput w n place a.events
-IsDue w n a (Some (Acked m place)) = (ack : Work) × IsAck w m place ack × (a.tag ≡ Some ack.tag)
+-- the delivery of an attempt of this channel, if any, is an output place with its events, where the channel has a last sink, or an acknowledgement of
+-- its own tag
+abbrev pub IsDue : World → ℕ → Channel → Attempt → Option Delivery → Type 0
+IsDue w n c a None = Unit {0}
+IsDue w n c a (Some (Output place)) = (c.last ≡ true) × IsOutput w n place a.events
+IsDue w n c a (Some (Acked m place)) = (ack : Work) × IsAck w m place ack × (a.tag ≡ Some ack.tag)
 
 -- its open take is of just its events, and its tag, if any, is that of a request with them for a node to which the channel's sinks point
 pub record AttemptAgrees (w : World) (n : ℕ) (c : Channel) (a : Attempt) : Type 0 where
@@ -172,7 +173,7 @@ pub record AttemptAgrees (w : World) (n : ℕ) (c : Channel) (a : Attempt) : Typ
   pub open_take : entry_of a.token.number c.state.opened ≡ Some (Takes numbers)
   pub events : Are c numbers a.events
   pub asked : (tag : Tag) → a.tag ≡ Some tag → (to : ℕ) × (is_among c.later to ≡ true) × IsRequest w to tag a.events
-  pub delivery : IsDue w n a a.delivery
+  pub delivery : IsDue w n c a a.delivery
 
 -- The fifth part: each attempt agrees with its channel and the world, no two of a channel have one open take, and nobody else holds the tag
 -- or the output place of an attempt.

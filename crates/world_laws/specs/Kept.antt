@@ -33,14 +33,14 @@ pub record WasTakenFor (c : Channel) (e : Content) (delivery : Delivery) : Type 
 abbrev pub StandsOr : (World → ℕ → Work → Type 0) → World → ℕ → Channel → Content → Type 0
 StandsOr Rest w n c e =
     IsLeft c e
-    ⊎ ((place : ℕ) × (events : List Content) × WasTakenFor c e (Output place) × IsOutput w n place events × IsIn events e)
+    ⊎ ((place : ℕ) × (events : List Content) × WasTakenFor c e (Output place) × (c.last ≡ true) × IsOutput w n place events × IsIn events e)
     ⊎ ((m place : ℕ) × (ack : Work) × WasTakenFor c e (Acked m place) × (is_among c.later m ≡ true) × IsAck w m place ack × IsIn ack.batch e × Rest w m ack)
 
--- so it is with each event that the chain made of an acknowledged batch, in each channel that it has to reach
+-- so it is with each event that the chain made of an acknowledged batch, in each channel that it has to reach: there is such a channel
 abbrev pub EachStands : (World → ℕ → Work → Type 0) → World → ℕ → Work → Type 0
 EachStands Rest w n ack =
-    (node : Node) (channel : ℕ) (c : Channel) (e : Content) → AtNode w n node → slice_get node.channels channel ≡ Some c
-    → IsIn ack.made e → is_among (required_of node.required e) channel ≡ true → StandsOr Rest w n c e
+    (node : Node) (channel : ℕ) (e : Content) → AtNode w n node → IsIn ack.made e → is_among (required_of node.required e) channel ≡ true
+    → (c : Channel) × (slice_get node.channels channel ≡ Some c) × StandsOr Rest w n c e
 
 -- whatever the other node does with the batch
 abbrev pub Anything : World → ℕ → Work → Type 0
@@ -50,6 +50,12 @@ Anything w n ack = Unit {0}
 abbrev pub KeptWithin : ℕ → World → ℕ → Work → Type 0
 KeptWithin zero w n ack = ⊥
 KeptWithin (suc hops) w n ack = EachStands (KeptWithin hops) w n ack
+
+-- each channel that the selector of a node names is one of its channels
+abbrev pub ChannelsAreThere : World → Type 0
+ChannelsAreThere w =
+    (n channel : ℕ) (node : Node) (e : Content) → AtNode w n node → is_among (required_of node.required e) channel ≡ true
+    → (c : Channel) × (slice_get node.channels channel ≡ Some c)
 
 -- the nodes to which the sinks of a node's channels point stand behind it, so links have no cycle
 abbrev pub LinksRise : World → Type 0

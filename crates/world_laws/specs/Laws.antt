@@ -6,7 +6,7 @@ use Rattle.world_laws.specs.World.{World, Work, Channel}
 use Rattle.world_laws.specs.Steps.{Step, happens, next, run}
 use Rattle.world_laws.specs.Held.{IsAck, AtChannel, Held}
 use Rattle.world_laws.specs.New.{IsNew}
-use Rattle.world_laws.specs.Kept.{EachStands, Anything, KeptWithin, LinksRise, NoneIsNamedTwice, IsStillLeft, WasTakenOnce}
+use Rattle.world_laws.specs.Kept.{EachStands, Anything, KeptWithin, ChannelsAreThere, LinksRise, NoneIsNamedTwice, IsStillLeft, WasTakenOnce}
 
 -- In a new world the accounting holds.
 abbrev pub NewIsHeld : Type 0
@@ -20,15 +20,16 @@ EachStepKeeps = (w : World) (step : Step) → Held w → Held (next w (happens w
 abbrev pub EveryRunKeeps : Type 0
 EveryRunKeeps = (w : World) (steps : List Step) → IsNew w → Held (run w steps)
 
--- Where it holds, each event that the chain made of an acknowledged batch is left in each channel that it has to reach, or went on from there.
+-- Where it holds, and selectors name channels that are there, each event that the chain made of an acknowledged batch is left in each channel that
+-- it has to reach, or went on from there.
 abbrev pub AcknowledgedIsKept : Type 0
-AcknowledgedIsKept = (w : World) (n place : ℕ) (ack : Work) → Held w → IsAck w n place ack → EachStands Anything w n ack
+AcknowledgedIsKept = (w : World) (n place : ℕ) (ack : Work) → Held w → ChannelsAreThere w → IsAck w n place ack → EachStands Anything w n ack
 
--- And so on, down to the last hop: over every list of steps from a new world whose links have no cycle, each acknowledged batch is kept within as
+-- And so on, down to the last hop: over every list of steps from a new world whose links have no cycle and whose selectors name channels that are there, each acknowledged batch is kept within as
 -- many hops as there are nodes.
 abbrev pub AcknowledgedIsKeptDown : Type 0
 AcknowledgedIsKeptDown =
-    (w : World) (steps : List Step) (n place : ℕ) (ack : Work) → IsNew w → LinksRise w → IsAck (run w steps) n place ack
+    (w : World) (steps : List Step) (n place : ℕ) (ack : Work) → IsNew w → ChannelsAreThere w → LinksRise w → IsAck (run w steps) n place ack
     → KeptWithin (length w.nodes) (run w steps) n ack
 
 -- Where the accounting holds, no delivery is named twice.

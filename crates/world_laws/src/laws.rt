@@ -17,9 +17,9 @@ pub fn every_run_keeps_the_accounting()
     ensures { EveryRunKeeps }
 {}
 
-/// Where the accounting holds, each event that the chain made of an acknowledged batch is left in each channel that it has to reach; or
-/// a committed and settled take of it names an output place of the node with it, or an acknowledgement of a node to which the channel's
-/// sinks point, of a batch with it.
+/// Where the accounting holds, and selectors name channels that are there, each event that the chain made of an acknowledged batch is
+/// left in each channel that it has to reach; or a committed and settled take of it names an output place of the node with it, which a
+/// last sink took, or an acknowledgement of a node to which the channel's sinks point, of a batch with it.
 pub fn acknowledged_is_kept()
     ensures { AcknowledgedIsKept }
 {}
