@@ -222,7 +222,7 @@ module _ (w : World) (held : Held w) (n : ℕ) (old : Node) (here : AtNode w n o
   channel_moves place f added x put becomes is =
       let g = by_channel place f old x refl is in
       let b = becomes g.0 g.1 (is_at place g.0 g.2) g.3 in
-      (ChannelMoved place g.0 g.1 added g.2 put b.0 b.1, g.4, refl)
+      (ChannelMoved place g.0 g.1 added g.2 put b.0 b.1, g.4, refl {a = []})
 
   accept_moves : (number place : ℕ) (x : Node) → accept number place old ≡ Some x → Quietly w n old x
   accept_moves number place x is =
@@ -237,16 +237,16 @@ module _ (w : World) (held : Held w) (n : ℕ) (old : Node) (here : AtNode w n o
     where
       from : (work : Work) (c : Channel) → live old.works number ≡ Some work → slice_get old.channels place ≡ Some c → is_empty (share old work.made place) ≡ false → is_passed work place ≡ false
           → (got : Option Channel) → stored (share old work.made place) c ≡ got → accepted old number work place c got ≡ x → Quietly w n old x
-      from work c its there full fresh None got same = (WorkEnded number, same, refl)
+      from work c its there full fresh None got same = (WorkEnded number, same, refl {a = []})
       from work c its there full fresh (Some d) got same =
           let b = stored_becomes c d (share old work.made place) full (is_at place c there) got in
-          (Stored number work place c d its there fresh b.0 b.1, same, refl)
+          (Stored number work place c d its there fresh b.0 b.1, same, refl {a = []})
 
   end_work_moves : (number : ℕ) (x : Node) → end_work number old ≡ Some x → Quietly w n old x
   end_work_moves number x is =
       let make : Node = record old { works = slice_set old.works number None } in
       let a = and_then-some (live old.works number) (λ work. Some make) x is in
-      (WorkEnded number, same_some make x a.2, refl)
+      (WorkEnded number, same_some make x a.2, refl {a = []})
 
   acknowledge_moves : (number : ℕ) (r : Node × List Packet) → acknowledge n number old ≡ Some r → By w n old r
   acknowledge_moves number r is =
@@ -262,7 +262,7 @@ module _ (w : World) (held : Held w) (n : ℕ) (old : Node) (here : AtNode w n o
       let make : Channel → Channel → Node = λ c d. record old { channels = slice_set old.channels place d; attempts = old.attempts ++ Some (attempt_of place c) ∷ [] } in
       let c = and_then-some (slice_get old.channels place) (λ c. and_then (take_begun c) (λ d. Some (make c d))) x is in
       let d = and_then-some (take_begun c.0) (λ d. Some (make c.0 d)) x c.2 in
-      (TakeBegan place c.0 d.0 c.1 (take_begun_becomes c.0 d.0 (is_at place c.0 c.1) d.1), same_some (make c.0 d.0) x d.2, refl)
+      (TakeBegan place c.0 d.0 c.1 (take_begun_becomes c.0 d.0 (is_at place c.0 c.1) d.1), same_some (make c.0 d.0) x d.2, refl {a = []})
 
   take_one_moves : (place number : ℕ) (x : Node) → take_one place number old ≡ Some x → Quietly w n old x
   take_one_moves place number x is =
@@ -277,7 +277,7 @@ module _ (w : World) (held : Held w) (n : ℕ) (old : Node) (here : AtNode w n o
       let t = agrees_at number a.0 c.0 a.1 c.1 in
       let b = taken_becomes a.0.token c.0 g.0 (is_at a.0.channel c.0 c.1) g.1 in
       let gave = took c.0 a.0.token t.numbers g.0 (held.numbers n a.0.channel c.0 (old, here, c.1)) t.alive t.open_take g.1 in
-      (TookOne number a.0 c.0 g.0 a.1 c.1 (none_of a.0.tag none.0) (none_of a.0.delivery none.1) t gave b.0 b.1, it.1, refl)
+      (TookOne number a.0 c.0 g.0 a.1 c.1 (none_of a.0.tag none.0) (none_of a.0.delivery none.1) t gave b.0 b.1, it.1, refl {a = []})
 
   take_moves : (place : ℕ) (number : Option ℕ) (x : Node) → take_from place number old ≡ Some x → Quietly w n old x
   take_moves place None x is = begin_take_moves place x is
@@ -300,7 +300,7 @@ module _ (w : World) (held : Held w) (n : ℕ) (old : Node) (here : AtNode w n o
       let a = and_then-some (live old.attempts number) (λ a. and_then (slice_get old.channels a.channel) (go a)) x is in
       let c = and_then-some (slice_get old.channels a.0.channel) (go a.0) x a.2 in
       let it = only_if-some (is_none a.0.delivery && c.0.last) (make a.0) x c.2 in
-      (Deposited number a.0 c.0 a.1 c.1 (both_true (is_none a.0.delivery) c.0.last it.0).1, it.1, refl)
+      (Deposited number a.0 c.0 a.1 c.1 (both_true (is_none a.0.delivery) c.0.last it.0).1, it.1, refl {a = []})
 
   end_attempt_moves : (number : ℕ) (x : Node) → end_attempt number old ≡ Some x → Quietly w n old x
   end_attempt_moves number x is =
@@ -308,7 +308,7 @@ module _ (w : World) (held : Held w) (n : ℕ) (old : Node) (here : AtNode w n o
       let a = and_then-some (live old.attempts number) (λ a. on_channel a.channel (given_up a.token) less) x is in
       let g = by_channel a.0.channel (given_up a.0.token) less x refl a.2 in
       let b = given_up_becomes a.0.token g.0 g.1 (is_at a.0.channel g.0 g.2) g.3 in
-      (AttemptEnded number a.0 g.0 g.1 a.1 g.2 b.0 b.1, g.4, refl)
+      (AttemptEnded number a.0 g.0 g.1 a.1 g.2 b.0 b.1, g.4, refl {a = []})
 
   reply_moves : (number : ℕ) (tag : Tag) (k m place : ℕ) (x : Node) → slice_get w.sent k ≡ Some (Reply tag m place) → replied number tag m place old ≡ Some x → Quietly w n old x
   reply_moves number tag k m place x sent is =
@@ -317,7 +317,7 @@ module _ (w : World) (held : Held w) (n : ℕ) (old : Node) (here : AtNode w n o
       from a.0 a.1 (is_tag tag a.0.tag) refl a.2
     where
       from : (a : Attempt) → live old.attempts number ≡ Some a → (b : Bool) → is_tag tag a.tag ≡ b → cond b (Some (record old { attempts = slice_set old.attempts number (Some (record a { delivery = Some (Acked m place) })) })) (end_attempt number old) ≡ Some x → Quietly w n old x
-      from a has true own it = (Answered number a tag k m place has (own_is tag a.tag own) sent, same_some (record old { attempts = slice_set old.attempts number (Some (record a { delivery = Some (Acked m place) })) }) x it, refl)
+      from a has true own it = (Answered number a tag k m place has (own_is tag a.tag own) sent, same_some (record old { attempts = slice_set old.attempts number (Some (record a { delivery = Some (Acked m place) })) }) x it, refl {a = []})
       from a has false own it = end_attempt_moves number x it
 
   commit_moves : (number : ℕ) (x : Node) → commit number old ≡ Some x → Quietly w n old x
@@ -328,20 +328,20 @@ module _ (w : World) (held : Held w) (n : ℕ) (old : Node) (here : AtNode w n o
       let g = by_channel a.0.channel (committed a.0.token dl.0 a.0.events) less x refl dl.2 in
       let t = agrees_at number a.0 g.0 a.1 g.2 in
       let b = committed_becomes a.0.token dl.0 a.0.events t.numbers g.0 g.1 (is_at a.0.channel g.0 g.2) t.open_take t.events g.3 in
-      (CommittedTo number a.0 dl.0 g.0 g.1 a.1 dl.1 g.2 t b.0 b.1, g.4, refl)
+      (CommittedTo number a.0 dl.0 g.0 g.1 a.1 dl.1 g.2 t b.0 b.1, g.4, refl {a = []})
 
   mend_moves : (place kept : ℕ) (x : Node) → mend place kept old ≡ Some x → Quietly w n old x
   mend_moves place kept x is =
       let make : Channel → Channel → Node = λ c d. record old { channels = slice_set old.channels place d; works = without_works place (length c.journal) old.works; attempts = without_attempts place old.attempts } in
       let c = and_then-some (slice_get old.channels place) (λ c. and_then (reopened kept c) (λ d. Some (make c d))) x is in
       let d = and_then-some (reopened kept c.0) (λ d. Some (make c.0 d)) x c.2 in
-      (Mended place (length c.0.journal + kept) c.0 d.0 c.1 (reopened_becomes kept c.0 d.0 (is_at place c.0 c.1) d.1), same_some (make c.0 d.0) x d.2, refl)
+      (Mended place (length c.0.journal + kept) c.0 d.0 c.1 (reopened_becomes kept c.0 d.0 (is_at place c.0 c.1) d.1), same_some (make c.0 d.0) x d.2, refl {a = []})
 
   restart_moves : (kept : List ℕ) (x : Node) → restart kept old ≡ Some x → Quietly w n old x
   restart_moves kept x is =
       let make : List Channel → Node = λ ds. record old { channels = ds; works = ended old.works; attempts = ended old.attempts } in
       let ds = and_then-some (all_reopened kept old.channels) (λ ds. Some (make ds)) x is in
-      (Restarted ds.0 (all_reopen kept old.channels ds.0 is_at ds.1), same_some (make ds.0) x ds.2, refl)
+      (Restarted ds.0 (all_reopen kept old.channels ds.0 is_at ds.1), same_some (make ds.0) x ds.2, refl {a = []})
 
 -- Each step of the world is a move.
 pub moves : (w : World) (step : Step) (new : World) → Held w → happens w step ≡ Some new → Went w new
@@ -354,7 +354,7 @@ moves w (Steps.Deliver k made) new held is =
   where
     from : (p : Packet) → slice_get w.sent k ≡ Some p → delivered w made p ≡ Some new → Went w new
     from (Reply tag m place) there it = absurd (no_some new it)
-    from (Request n tag batch) there it = went_quietly w n (begin_work tag batch made) new (λ old x here q. (Began k tag batch made there, same_some _ x q, refl)) it
+    from (Request n tag batch) there it = went_quietly w n (begin_work tag batch made) new (λ old x here q. (Began k tag batch made there, same_some _ x q, refl {a = []})) it
 moves w (Steps.Accept n work place) new held is = went_quietly w n (accept work place) new (λ old x here q. accept_moves w held n old here work place x q) is
 moves w (Steps.Flush n place done) new held is = went_quietly w n (on_channel place (flushed done)) new (λ old x here q. channel_moves w held n old here place (flushed done) NoEntry x tt (flushed_becomes done) q) is
 moves w (Steps.Acknowledge n work) new held is = went w n (acknowledge n work) new (λ old r here q. acknowledge_moves w held n old here work r q) is

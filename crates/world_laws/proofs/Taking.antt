@@ -35,6 +35,9 @@ first_some : (items : List (ℕ × Content)) (e : Content) → first_event items
 first_some [] e is = absurd (no_some e is)
 first_some (item ∷ rest) e is = (item, rest, refl, same_some item.1 e is)
 
+event_of : (put : List Content) (k j : ℕ) (x e : Content) → k ≡ j → slice_get put j ≡ Some x → x ≡ e → slice_get put k ≡ Some e
+event_of put k j x e number has same = ap (λ (i : ℕ). slice_get put i) number ∙ (has ∙ ap (λ (y : Content). Some y) same)
+
 -- the open take of this token, which had these numbers, has one more, and the event is that of this number
 pub record Took (c : Channel) (token : Token) (numbers : List ℕ) (got : Channel × Content) : Type 0 where
   pub number : ℕ
@@ -59,7 +62,7 @@ took c token numbers got right life opened is =
     subst (Took c token numbers) it (record {
       number = f.0.0;
       opened = entry_of-with token.number s.opened (Takes numbers) (Takes (numbers ++ f.0.0 ∷ [])) opened;
-      event = ap (λ (k : ℕ). slice_get (put_events c.journal) k) number ∙ (which.1 ∙ ap (λ (x : Content). Some x) f.3);
+      event = event_of (put_events c.journal) f.0.0 put.0 f.0.1 e.0 number which.1 f.3;
       journal = refl;
       named = refl;
     })

@@ -35,11 +35,12 @@ abbrev pub sum_of : (Entry → ℕ) → List (ℕ × Entry) → ℕ
 sum_of f [] = 0
 sum_of f (o ∷ opened) = f o.1 + sum_of f opened
 
--- one for each of puts, and one for each of takes
+-- one for each of puts
 abbrev pub puts_one : Entry → ℕ
 puts_one (Puts events) = 1
 puts_one (Takes numbers) = 0
 
+-- and one for each of takes
 abbrev pub takes_one : Entry → ℕ
 takes_one (Puts events) = 0
 takes_one (Takes numbers) = 1
@@ -151,6 +152,7 @@ pub record SpillsAreFlushes (s : State) : Type 0 where
       → Admits true s (Flush (Ok tt)) × Admits true (settle s) (Take token (Ok (record { event = Some e; spilled = false })))
       × (after s (Take token (Ok (record { event = Some e; spilled = true }))) ≡ after (settle s) (Take token (Ok (record { event = Some e; spilled = false }))))
 
+-- so it is in each state of a file channel
 abbrev pub SpillsAreSteps : Type 0
 SpillsAreSteps = (s : State) → s.rules.kind ≡ OnFile → SpillsAreFlushes s
 

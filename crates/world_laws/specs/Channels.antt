@@ -16,10 +16,12 @@ abbrev pub unless : {A B : Type 0} → Option A → B → Option B
 unless None x = Some x
 unless (Some refused) x = None
 
+-- there is none
 abbrev pub is_none : {A : Type 0} → Option A → Bool
 is_none None = true
 is_none (Some x) = false
 
+-- there are none
 abbrev pub is_empty : {A : Type 0} → List A → Bool
 is_empty [] = true
 is_empty (x ∷ xs) = false

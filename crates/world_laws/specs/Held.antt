@@ -14,21 +14,27 @@ use Rattle.world_laws.specs.Channels.{is_empty}
 
 -- What there is, by place or number.
 
+-- the node at this place
 abbrev pub AtNode : World → ℕ → Node → Type 0
 AtNode w n node = slice_get w.nodes n ≡ Some node
 
+-- the channel at this place of the node
 abbrev pub AtChannel : World → ℕ → ℕ → Channel → Type 0
 AtChannel w n channel c = (node : Node) × AtNode w n node × (slice_get node.channels channel ≡ Some c)
 
+-- the attempt of this number, which has not ended
 abbrev pub IsAttempt : World → ℕ → ℕ → Attempt → Type 0
 IsAttempt w n number a = (node : Node) × AtNode w n node × (live node.attempts number ≡ Some a)
 
+-- the work of this number, which has not ended
 abbrev pub IsWork : World → ℕ → ℕ → Work → Type 0
 IsWork w n number work = (node : Node) × AtNode w n node × (live node.works number ≡ Some work)
 
+-- the acknowledgement at this place of the node
 abbrev pub IsAck : World → ℕ → ℕ → Work → Type 0
 IsAck w n place ack = (node : Node) × AtNode w n node × (slice_get node.acks place ≡ Some ack)
 
+-- the output place holds these events
 abbrev pub IsOutput : World → ℕ → ℕ → List Content → Type 0
 IsOutput w n place events = (node : Node) × AtNode w n node × (slice_get node.outputs place ≡ Some events)
 
@@ -58,6 +64,7 @@ pub record Stores (node : Node) (log : Channel → List Entry) (work : Work) : T
       (e : ℕ × ℕ) → Has work.entries e
       → (c : Channel) × (slice_get node.channels e.0 ≡ Some c) × (slice_get (log c) e.1 ≡ Some (Puts (share node work.made e.0)))
 
+-- the log of what is settled; that of what is staged too is `commits`
 abbrev pub journal_of : Channel → List Entry
 journal_of c = c.journal
 
@@ -105,6 +112,7 @@ pub data Holder : Type 0 where
   AnAttempt : ℕ → ℕ → Holder
   ACommit : ℕ → ℕ → ℕ → Holder
 
+-- the holder is a commit
 abbrev pub IsCommit : Holder → Type 0
 IsCommit (AnAttempt n number) = ⊥
 IsCommit (ACommit n channel place) = Unit {0}
@@ -132,6 +140,7 @@ pub record TakesAreDelivered (w : World) : Type 0 where
 
 -- Each number is left or was taken.
 
+-- no events, and the first put gets the number 0
 abbrev pub nothing : Base
 nothing = record { items = []; first = 0 }
 
@@ -195,6 +204,7 @@ pub data Namer : Type 0 where
   AnAck : ℕ → Namer
   AWork : ℕ → Namer
 
+-- this one of the node names the entry
 abbrev pub NamesEntry : Node → Namer → ℕ × ℕ → Type 0
 NamesEntry node (AnAck place) e = (ack : Work) × (slice_get node.acks place ≡ Some ack) × Has ack.entries e
 NamesEntry node (AWork number) e = (work : Work) × (live node.works number ≡ Some work) × Has work.entries e
@@ -222,6 +232,7 @@ pub record IsHistory (s : State) (settled : List Entry) : Type 0 where
   pub state : state_after (opening start) calls ≡ s
   pub journal_is : journal (opening start) calls ≡ settled
 
+-- so it is with each channel of the world
 abbrev pub ChannelsAreHistories : World → Type 0
 ChannelsAreHistories w = (n channel : ℕ) (c : Channel) → AtChannel w n channel c → IsHistory c.state c.journal
 

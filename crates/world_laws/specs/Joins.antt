@@ -52,6 +52,7 @@ pub record StepsAreTaken (w : World) (n channel : ℕ) (node : Node) (c : Channe
   pub work_ends : (number : ℕ) → (live node.works number ≡ None) ⊎ ((new : World) × (happens w (Steps.EndWork n number) ≡ Some new))
   pub attempt_ends : (number : ℕ) → (live node.attempts number ≡ None) ⊎ ((new : World) × (happens w (Steps.EndAttempt n number) ≡ Some new))
 
+-- So it is where the accounting holds and the two channels agree.
 abbrev pub CallsAreSteps : Type 0
 CallsAreSteps =
     (w : World) (n channel : ℕ) (node : Node) (c : Channel) (s : State) → Held w → AtNode w n node → slice_get node.channels channel ≡ Some c

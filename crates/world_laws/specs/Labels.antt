@@ -35,10 +35,12 @@ pub record Tried : Type 0 where
   pub required : List Own
   pub optional : List Own
 
+-- the shares that channels have to take, in order (node, work)
 abbrev pub required_steps : ℕ → ℕ → List Tried → List Step
 required_steps n work [] = []
 required_steps n work (tried ∷ ports) = accept_steps n work tried.channel (puts_marks [] tried.required) ++ required_steps n work ports
 
+-- what channels may miss, in order (node)
 abbrev pub optional_steps : ℕ → List Tried → List Step
 optional_steps n [] = []
 optional_steps n (tried ∷ ports) = aside_steps n tried.channel (puts_marks [] tried.optional) ++ optional_steps n ports
@@ -48,10 +50,12 @@ abbrev pub IsGiven : List Content → List Mark → Type 0
 IsGiven [] marks = marks ≡ []
 IsGiven (e ∷ events) marks = StoresOnce (e ∷ events) marks
 
+-- each channel was given its share
 abbrev pub AllGiven : List Tried → Type 0
 AllGiven [] = Unit {0}
 AllGiven (tried ∷ ports) = IsGiven tried.share (puts_marks [] tried.required) × AllGiven ports
 
+-- no channel was tried
 abbrev pub NoneTried : List Tried → Type 0
 NoneTried [] = Unit {0}
 NoneTried (tried ∷ ports) = (tried.required ≡ []) × (tried.optional ≡ []) × NoneTried ports
@@ -100,6 +104,7 @@ pub data Try : Type 0 where
   Unanswered : ℕ → Tag → Try
   Unsent : Try
 
+-- the steps of a try (node, attempt)
 abbrev pub try_steps : ℕ → ℕ → Try → List Step
 try_steps n attempt Put = Output n attempt ∷ []
 try_steps n attempt (Answered to tag packet) = Send n attempt to tag ∷ Reply n attempt packet ∷ []
@@ -111,11 +116,13 @@ abbrev pub tries_steps : ℕ → ℕ → List Try → List Step
 tries_steps n attempt [] = []
 tries_steps n attempt (try ∷ tries) = try_steps n attempt try ++ tries_steps n attempt tries
 
+-- it delivered
 abbrev pub IsDone : Try → Type 0
 IsDone Put = Unit {0}
 IsDone (Answered to tag packet) = Unit {0}
 IsDone other = ⊥
 
+-- none of them delivered
 abbrev pub NoneDone : List Try → Type 0
 NoneDone [] = Unit {0}
 NoneDone (Put ∷ tries) = ⊥

@@ -14,6 +14,7 @@ StoresBy (Ok number) events marks = StoresOnce events marks
 StoresBy (Err InDoubt) events marks = StoresOnce events marks
 StoresBy (Err refused) events marks = OnlySettles marks
 
+-- so it is with each batch of some events that a face was given
 abbrev pub BatchStores : (List Own → State → Type 0) → ℕ → Type 0
 BatchStores saw seen =
     (e : Content) (events : List Content) (result : Result ℕ FaceRefused) (earlier own : List Own)

@@ -46,6 +46,7 @@ abbrev pub puts_marks : List Content → List Own → List Mark
 puts_marks put [] = []
 puts_marks put (o ∷ own) = put_marks put o.call ++ puts_marks (put_by put o.call) own
 
+-- the event that a take gave, if any
 abbrev pub event_marks : Option Content → List Mark
 event_marks None = []
 event_marks (Some e) = Takes e ∷ []

@@ -13,6 +13,7 @@ use Rattle.world_laws.specs.New.{IsNew}
 abbrev pub hi : Content
 hi = record { headers = []; body = 104 ∷ 105 ∷ [] }
 
+-- a file channel for ten events, with nothing in it
 abbrev pub small : Opening
 small = record {
   rules = record { kind = OnFile; limits = record { capacity = 10; txn_capacity = 10; max_file = 0 } };
@@ -38,6 +39,7 @@ agent later last = record {
 abbrev pub start : World
 start = record { nodes = agent (1 ∷ []) false ∷ agent [] true ∷ []; sent = [] }
 
+-- the tag of a connection and a serial
 abbrev pub tag : ℕ → ℕ → Tag
 tag connection serial = record { connection = connection; serial = serial }
 
@@ -69,6 +71,7 @@ pub record IsTwiceThere (first second : Node) : Type 0 where
       (c : Channel) × (second.channels ≡ c ∷ []) × (c.journal ≡ Puts (hi ∷ []) ∷ Puts (hi ∷ []) ∷ [])
       × (c.state.items ≡ (0, hi) ∷ (1, hi) ∷ [])
 
+-- the world has two nodes, of which P is true
 abbrev pub AreTwo : (Node → Node → Type 0) → World → Type 0
 AreTwo P w = (first second : Node) × (w.nodes ≡ first ∷ second ∷ []) × P first second
 

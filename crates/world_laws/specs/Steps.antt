@@ -52,6 +52,7 @@ on_channel channel f node =
 abbrev pub begin_work : Tag → List Content → List Content → Node → Option Node
 begin_work tag batch made node = Some (record node { works = node.works ++ Some (record { batch = batch; tag = tag; made = made; entries = [] }) ∷ [] })
 
+-- a work ends
 abbrev pub end_work : ℕ → Node → Option Node
 end_work number node = and_then (live node.works number) (λ work. Some (record node { works = slice_set node.works number None }))
 
@@ -79,6 +80,7 @@ abbrev pub is_passed_by : Node → Work → ℕ → List Channel → Bool
 is_passed_by node work channel [] = true
 is_passed_by node work channel (c ∷ cs) = (is_empty (share node work.made channel) || is_passed work channel) && is_passed_by node work (channel + 1) cs
 
+-- the place is one of the journal of this channel, if there is one
 abbrev pub is_below : ℕ → Option Channel → Bool
 is_below place None = false
 is_below place (Some c) = nat_lt place (length c.journal)
@@ -112,6 +114,7 @@ take_one channel number node =
       attempts = slice_set node.attempts number (Some (record attempt { events = attempt.events ++ got.1 ∷ [] }));
     }))))
 
+-- an attempt begins, or this one takes one more event
 abbrev pub take_from : ℕ → Option ℕ → Node → Option Node
 take_from channel None node = begin_take channel node
 take_from channel (Some number) node = take_one channel number node
@@ -140,6 +143,7 @@ end_attempt number node =
     and_then (live node.attempts number)
     (λ attempt. on_channel attempt.channel (given_up attempt.token) (record node { attempts = slice_set node.attempts number None }))
 
+-- the tag is one's own
 abbrev pub is_tag : Tag → Option Tag → Bool
 is_tag tag None = false
 is_tag tag (Some own) = (tag.connection == own.connection) && (tag.serial == own.serial)
@@ -214,6 +218,7 @@ at w number f =
     and_then (slice_get w.nodes number) (λ node. and_then (f node)
     (λ stepped. Some (record { nodes = slice_set w.nodes number stepped.0; sent = w.sent ++ stepped.1 })))
 
+-- so, where no request has this tag
 abbrev pub if_fresh : World → Tag → Option World → Option World
 if_fresh w tag stepped = if is_fresh tag w.sent then stepped else None
 

@@ -66,6 +66,7 @@ pub data Packet : Type 0 where
   Request : ℕ → Tag → List Content → Packet
   Reply : Tag → ℕ → ℕ → Packet
 
+-- The agents, and what they sent.
 pub record World : Type 0 where
   pub nodes : List Node
   -- all packets that were ever sent
