@@ -19,7 +19,7 @@ use Rattle.world_laws.specs.World.{Channel, Delivery}
 use Rattle.world_laws.specs.Channels.{stored, flushed, failed, take_begun, taken, committed, given_up, reopened}
 
 -- Calls that were answered as the machine may answer them lead a file channel here, from a base within its capacity. No reopening read its list
--- from a disk that doesn't tell.
+-- from a disk that does not show its contents.
 pub record IsReached (s : State) : Type 0 where
   pub start : Opening
   pub calls : List Made
@@ -45,7 +45,7 @@ abbrev pub takes_one : Entry → ℕ
 takes_one (Puts events) = 0
 takes_one (Takes numbers) = 1
 
--- how often a number stands there
+-- how often a number is there
 abbrev pub times : ℕ → List ℕ → ℕ
 times n [] = 0
 times n (x ∷ xs) = (if x == n then 1 else 0) + times n xs
@@ -127,7 +127,8 @@ pub record CallsAreTaken (s : State) (c : Channel) : Type 0 where
   pub broken : (call : Call) → IsBreaking call → Admits true s call → IsTaken (flushed false c) (after s call)
   pub begun : (token : Token) → Admits true s (BeginTake (Ok token)) → IsTaken (take_begun c) (after s (BeginTake (Ok token)))
   pub taken :
-      (token own : Token) (e : Content) → takes_of c.state own ≡ takes_of s token → Admits true s (Take token (Ok (record { event = Some e; spilled = false })))
+      (token own : Token) (e : Content) → takes_of c.state own ≡ takes_of s token
+      → Admits true s (Take token (Ok (record { event = Some e; spilled = false })))
       → IsTakenFrom (taken own c) e own (after s (Take token (Ok (record { event = Some e; spilled = false })))) token
   pub committed :
       (token own : Token) (ticket : Ticket) (delivery : Delivery) (events : List Content) → takes_of c.state own ≡ takes_of s token
@@ -150,7 +151,8 @@ pub record SpillsAreFlushes (s : State) : Type 0 where
   pub take :
       (token : Token) (e : Content) → Admits true s (Take token (Ok (record { event = Some e; spilled = true })))
       → Admits true s (Flush (Ok tt)) × Admits true (settle s) (Take token (Ok (record { event = Some e; spilled = false })))
-      × (after s (Take token (Ok (record { event = Some e; spilled = true }))) ≡ after (settle s) (Take token (Ok (record { event = Some e; spilled = false }))))
+      × (after s (Take token (Ok (record { event = Some e; spilled = true })))
+      ≡ after (settle s) (Take token (Ok (record { event = Some e; spilled = false }))))
 
 -- so it is in each state of a file channel
 abbrev pub SpillsAreSteps : Type 0

@@ -59,7 +59,8 @@ Are c numbers events = events_of (put_events c.journal) numbers ≡ map (λ e. S
 
 -- The entries of a work are of different channels, each in the channel's `log` with just the channel's share.
 pub record Stores (node : Node) (log : Channel → List Entry) (work : Work) : Type 0 where
-  pub apart : (i j : ℕ) (a b : ℕ × ℕ) → slice_get work.entries i ≡ Some a → slice_get work.entries j ≡ Some b → a.0 ≡ b.0 → i ≡ j
+  pub apart :
+      (i j : ℕ) (a b : ℕ × ℕ) → slice_get work.entries i ≡ Some a → slice_get work.entries j ≡ Some b → a.0 ≡ b.0 → i ≡ j
   pub there :
       (e : ℕ × ℕ) → Has work.entries e
       → (c : Channel) × (slice_get node.channels e.0 ≡ Some c) × (slice_get (log c) e.1 ≡ Some (Puts (share node work.made e.0)))
@@ -100,7 +101,7 @@ Names w n c (Puts events) name = name ≡ None
 Names w n c (Takes numbers) None = ⊥
 Names w n c (Takes numbers) (Some delivery) = (events : List Content) × Are c numbers events × IsDelivered w n c events delivery
 
--- beside each commit of the channel, staged or settled, stands what it names
+-- beside each commit of the channel, staged or settled, is what it names
 pub record CommitsAreNamed (w : World) (n : ℕ) (c : Channel) : Type 0 where
   pub beside : length c.named ≡ length (commits c)
   pub names :
@@ -134,7 +135,9 @@ HoldsOutput w (ACommit n channel at) m place =
 -- a node to which the channel's sinks point, with just its events as batch. No two of them hold one output place or one tag, so none names
 -- what another one names.
 pub record TakesAreDelivered (w : World) : Type 0 where
-  pub named : (n : ℕ) (node : Node) → AtNode w n node → (channel : ℕ) (c : Channel) → slice_get node.channels channel ≡ Some c → CommitsAreNamed w n c
+  pub named :
+      (n : ℕ) (node : Node) → AtNode w n node → (channel : ℕ) (c : Channel) → slice_get node.channels channel ≡ Some c
+      → CommitsAreNamed w n c
   pub tags : (a b : Holder) (tag : Tag) → IsCommit a → IsCommit b → HoldsTag w a tag → HoldsTag w b tag → a ≡ b
   pub outputs : (a b : Holder) (n place : ℕ) → IsCommit a → IsCommit b → HoldsOutput w a n place → HoldsOutput w b n place → a ≡ b
 
@@ -164,7 +167,8 @@ pub record PacketsAgree (w : World) : Type 0 where
       (j k n m : ℕ) (tag : Tag) (a b : List Content) → slice_get w.sent j ≡ Some (Request n tag a)
       → slice_get w.sent k ≡ Some (Request m tag b) → j ≡ k
   pub asked : (n place : ℕ) (ack : Work) → IsAck w n place ack → IsRequest w n ack.tag ack.batch
-  pub replied : (k n place : ℕ) (tag : Tag) → slice_get w.sent k ≡ Some (Reply tag n place) → (ack : Work) × IsAck w n place ack × (ack.tag ≡ tag)
+  pub replied :
+      (k n place : ℕ) (tag : Tag) → slice_get w.sent k ≡ Some (Reply tag n place) → (ack : Work) × IsAck w n place ack × (ack.tag ≡ tag)
 
 -- Attempts.
 
@@ -191,11 +195,13 @@ pub record AttemptsAgree (w : World) : Type 0 where
       (n : ℕ) (node : Node) → AtNode w n node → (number : ℕ) (a : Attempt) → live node.attempts number ≡ Some a
       → (c : Channel) × (slice_get node.channels a.channel ≡ Some c) × AttemptAgrees w n c a
   pub apart :
-      (n : ℕ) (node : Node) → AtNode w n node → (i j : ℕ) (a b : Attempt) → live node.attempts i ≡ Some a → live node.attempts j ≡ Some b
+      (n : ℕ) (node : Node) → AtNode w n node → (i j : ℕ) (a b : Attempt)
+      → live node.attempts i ≡ Some a → live node.attempts j ≡ Some b
       → a.channel ≡ b.channel → a.token.number ≡ b.token.number → i ≡ j
   pub tags : (n number : ℕ) (b : Holder) (tag : Tag) → HoldsTag w (AnAttempt n number) tag → HoldsTag w b tag → AnAttempt n number ≡ b
   pub outputs :
-      (n number : ℕ) (b : Holder) (m place : ℕ) → HoldsOutput w (AnAttempt n number) m place → HoldsOutput w b m place → AnAttempt n number ≡ b
+      (n number : ℕ) (b : Holder) (m place : ℕ) → HoldsOutput w (AnAttempt n number) m place
+      → HoldsOutput w b m place → AnAttempt n number ≡ b
 
 -- Works.
 

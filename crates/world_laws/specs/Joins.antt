@@ -27,16 +27,20 @@ pub record StepsAreTaken (w : World) (n channel : ℕ) (node : Node) (c : Channe
   pub accept :
       (number : ℕ) (work : Work) (token : Token) (ticket : Ticket) (e : Content) (events : List Content) → live node.works number ≡ Some work
       → is_passed work channel ≡ false → share node work.made channel ≡ e ∷ events → puts_of s token ≡ Some (e ∷ events)
-      → Admits true s (StagePut token (Ok ticket)) → StepIsTaken w (Steps.Accept n number channel) n channel (after s (StagePut token (Ok ticket)))
+      → Admits true s (StagePut token (Ok ticket))
+      → StepIsTaken w (Steps.Accept n number channel) n channel (after s (StagePut token (Ok ticket)))
   pub aside :
       (token : Token) (ticket : Ticket) (e : Content) (events : List Content) → puts_of s token ≡ Some (e ∷ events)
-      → Admits true s (StagePut token (Ok ticket)) → StepIsTaken w (Steps.Aside n channel (e ∷ events)) n channel (after s (StagePut token (Ok ticket)))
+      → Admits true s (StagePut token (Ok ticket))
+      → StepIsTaken w (Steps.Aside n channel (e ∷ events)) n channel (after s (StagePut token (Ok ticket)))
   pub settled : (call : Call) → IsSettling call → Admits true s call → StepIsTaken w (Steps.Flush n channel true) n channel (after s call)
   pub broken : (call : Call) → IsBreaking call → Admits true s call → StepIsTaken w (Steps.Flush n channel false) n channel (after s call)
-  pub begun : (token : Token) → Admits true s (BeginTake (Ok token)) → StepIsTaken w (Steps.Take n channel None) n channel (after s (BeginTake (Ok token)))
+  pub begun :
+      (token : Token) → Admits true s (BeginTake (Ok token))
+      → StepIsTaken w (Steps.Take n channel None) n channel (after s (BeginTake (Ok token)))
   pub taken :
-      (number : ℕ) (a : Attempt) (token : Token) (e : Content) → IsTaking node c s channel number a token → a.tag ≡ None → a.delivery ≡ None
-      → Admits true s (Take token (Ok (record { event = Some e; spilled = false })))
+      (number : ℕ) (a : Attempt) (token : Token) (e : Content) → IsTaking node c s channel number a token → a.tag ≡ None
+      → a.delivery ≡ None → Admits true s (Take token (Ok (record { event = Some e; spilled = false })))
       → StepIsTaken w (Steps.Take n channel (Some number)) n channel (after s (Take token (Ok (record { event = Some e; spilled = false }))))
   pub committed :
       (number : ℕ) (a : Attempt) (delivery : Delivery) (token : Token) (ticket : Ticket) → IsTaking node c s channel number a token
@@ -48,12 +52,16 @@ pub record StepsAreTaken (w : World) (n channel : ℕ) (node : Node) (c : Channe
   pub mended :
       (kept txn : ℕ) → c.state.life < 2 ^ 64 - 1 → c.state.txn ≤ txn → Admits true s (Reopen (Ok (record { kept = Front kept; txn = txn })))
       → StepIsTaken w (Steps.Mend n channel kept) n channel (after s (Reopen (Ok (record { kept = Front kept; txn = txn }))))
-  pub failed : (cause : OpenCause) → Admits true s (Reopen (Err cause)) → StepIsTaken w (Steps.Fail n channel) n channel (after s (Reopen (Err cause)))
-  pub work_ends : (number : ℕ) → (live node.works number ≡ None) ⊎ ((new : World) × (happens w (Steps.EndWork n number) ≡ Some new))
-  pub attempt_ends : (number : ℕ) → (live node.attempts number ≡ None) ⊎ ((new : World) × (happens w (Steps.EndAttempt n number) ≡ Some new))
+  pub failed :
+      (cause : OpenCause) → Admits true s (Reopen (Err cause))
+      → StepIsTaken w (Steps.Fail n channel) n channel (after s (Reopen (Err cause)))
+  pub work_ends :
+      (number : ℕ) → (live node.works number ≡ None) ⊎ ((new : World) × (happens w (Steps.EndWork n number) ≡ Some new))
+  pub attempt_ends :
+      (number : ℕ) → (live node.attempts number ≡ None) ⊎ ((new : World) × (happens w (Steps.EndAttempt n number) ≡ Some new))
 
 -- So it is where the accounting holds and the two channels agree.
 abbrev pub CallsAreSteps : Type 0
 CallsAreSteps =
-    (w : World) (n channel : ℕ) (node : Node) (c : Channel) (s : State) → Held w → AtNode w n node → slice_get node.channels channel ≡ Some c
-    → IsReached s → Agrees c.state s → StepsAreTaken w n channel node c s
+    (w : World) (n channel : ℕ) (node : Node) (c : Channel) (s : State) → Held w → AtNode w n node
+    → slice_get node.channels channel ≡ Some c → IsReached s → Agrees c.state s → StepsAreTaken w n channel node c s

@@ -33,8 +33,10 @@ pub record WasTakenFor (c : Channel) (e : Content) (delivery : Delivery) : Type 
 abbrev pub StandsOr : (World → ℕ → Work → Type 0) → World → ℕ → Channel → Content → Type 0
 StandsOr Rest w n c e =
     IsLeft c e
-    ⊎ ((place : ℕ) × (events : List Content) × WasTakenFor c e (Output place) × (c.last ≡ true) × IsOutput w n place events × IsIn events e)
-    ⊎ ((m place : ℕ) × (ack : Work) × WasTakenFor c e (Acked m place) × (is_among c.later m ≡ true) × IsAck w m place ack × IsIn ack.batch e × Rest w m ack)
+    ⊎ ((place : ℕ) × (events : List Content) × WasTakenFor c e (Output place) × (c.last ≡ true)
+    × IsOutput w n place events × IsIn events e)
+    ⊎ ((m place : ℕ) × (ack : Work) × WasTakenFor c e (Acked m place) × (is_among c.later m ≡ true)
+    × IsAck w m place ack × IsIn ack.batch e × Rest w m ack)
 
 -- so it is with each event that the chain made of an acknowledged batch, in each channel that it has to reach: there is such a channel
 abbrev pub EachStands : (World → ℕ → Work → Type 0) → World → ℕ → Work → Type 0
@@ -46,7 +48,7 @@ EachStands Rest w n ack =
 abbrev pub Anything : World → ℕ → Work → Type 0
 Anything w n ack = Unit {0}
 
--- each stands or ended at a last sink within so many hops: where it went on, the other node's acknowledged batch is kept within one less
+-- each is left or ended at a last sink within so many hops: where it went on, the other node's acknowledged batch is kept within one less
 abbrev pub KeptWithin : ℕ → World → ℕ → Work → Type 0
 KeptWithin zero w n ack = ⊥
 KeptWithin (suc hops) w n ack = EachStands (KeptWithin hops) w n ack
@@ -57,7 +59,7 @@ ChannelsAreThere w =
     (n channel : ℕ) (node : Node) (e : Content) → AtNode w n node → is_among (required_of node.required e) channel ≡ true
     → (c : Channel) × (slice_get node.channels channel ≡ Some c)
 
--- the nodes to which the sinks of a node's channels point stand behind it, so links have no cycle
+-- the nodes to which the sinks of a node's channels point come after it, so links have no cycle
 abbrev pub LinksRise : World → Type 0
 LinksRise w = (n channel m : ℕ) (c : Channel) → AtChannel w n channel c → is_among c.later m ≡ true → n < m
 

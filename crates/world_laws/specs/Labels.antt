@@ -1,4 +1,4 @@
--- Which steps of the world a source's batch and a turn of a sink are: a relation between the calls that they made on channels, with the requests
+-- Which steps of the world a source's batch and a sink run are: a relation between the calls that they made on channels, with the requests
 -- and replies of their links, and a list of steps.
 use Rattle.std.specs.Prelude.{◌≡◌, ◌⊎◌, ℕ, List, [], ◌∷◌, ◌++◌, Some, None, Ok, Err, true, false}
 use Rattle.event_core.specs.Content.{Content}
@@ -60,14 +60,15 @@ abbrev pub NoneTried : List Tried → Type 0
 NoneTried [] = Unit {0}
 NoneTried (tried ∷ ports) = (tried.required ≡ []) × (tried.optional ≡ []) × NoneTried ports
 
--- up to a channel that refused its share, or left in doubt whether it has it; then no other was tried. Memory may be wanting before any is.
+-- up to a channel that refused its share, or left in doubt whether it has it; then no other was tried. It may be out of memory before any is.
 abbrev pub GivenUpTo : List Tried → Type 0
 GivenUpTo [] = Unit {0}
 GivenUpTo (tried ∷ ports) =
     (IsGiven tried.share (puts_marks [] tried.required) × (tried.optional ≡ []) × GivenUpTo ports)
-    ⊎ ((OnlySettles (puts_marks [] tried.required) ⊎ StoresOnce tried.share (puts_marks [] tried.required)) × (tried.optional ≡ []) × NoneTried ports)
+    ⊎ ((OnlySettles (puts_marks [] tried.required) ⊎ StoresOnce tried.share (puts_marks [] tried.required))
+    × (tried.optional ≡ []) × NoneTried ports)
 
--- How a batch of a source ended: the chain made nothing of it, as an event became too large or memory was wanting; a channel refused its share, or
+-- How a batch of a source ended: the chain made nothing of it, as an event became too large or there was no memory; a channel refused its share, or
 -- left in doubt whether it has it; or each channel took its share.
 pub data Ended : Type 0 where
   NothingMade : Ended
@@ -83,18 +84,18 @@ IsBatch n packet work made ports Refused steps =
 IsBatch n packet work made ports Taken steps =
     AllGiven ports × (steps ≡ Deliver packet made ∷ required_steps n work ports ++ optional_steps n ports ++ Acknowledge n work ∷ [])
 
--- A turn of a sink.
+-- A sink run.
 
--- what is called on the channel up to the delivery, or up to the turn's end, and behind it (node, channel, attempt)
-abbrev pub turn_steps : ℕ → ℕ → ℕ → List Mark → List Step
-turn_steps n channel attempt [] = []
-turn_steps n channel attempt (Settles ∷ marks) = Flush n channel true ∷ turn_steps n channel attempt marks
-turn_steps n channel attempt (Breaks ∷ marks) = Flush n channel false ∷ turn_steps n channel attempt marks
-turn_steps n channel attempt (Stores events ∷ marks) = turn_steps n channel attempt marks
-turn_steps n channel attempt (Begins ∷ marks) = Take n channel None ∷ turn_steps n channel attempt marks
-turn_steps n channel attempt (Takes e ∷ marks) = Take n channel (Some attempt) ∷ turn_steps n channel attempt marks
-turn_steps n channel attempt (Commits ∷ marks) = Commit n attempt ∷ turn_steps n channel attempt marks
-turn_steps n channel attempt (GivesUp ∷ marks) = EndAttempt n attempt ∷ turn_steps n channel attempt marks
+-- what is called on the channel before the delivery, or after it (node, channel, attempt)
+abbrev pub sink_steps : ℕ → ℕ → ℕ → List Mark → List Step
+sink_steps n channel attempt [] = []
+sink_steps n channel attempt (Settles ∷ marks) = Flush n channel true ∷ sink_steps n channel attempt marks
+sink_steps n channel attempt (Breaks ∷ marks) = Flush n channel false ∷ sink_steps n channel attempt marks
+sink_steps n channel attempt (Stores events ∷ marks) = sink_steps n channel attempt marks
+sink_steps n channel attempt (Begins ∷ marks) = Take n channel None ∷ sink_steps n channel attempt marks
+sink_steps n channel attempt (Takes e ∷ marks) = Take n channel (Some attempt) ∷ sink_steps n channel attempt marks
+sink_steps n channel attempt (Commits ∷ marks) = Commit n attempt ∷ sink_steps n channel attempt marks
+sink_steps n channel attempt (GivesUp ∷ marks) = EndAttempt n attempt ∷ sink_steps n channel attempt marks
 
 -- What one try to deliver came to: a last sink took the events; a request with them was sent to another node under this tag, and the packet that
 -- is its own OK came; the request was sent, and nothing that counts came of it; or nothing was sent.
@@ -133,7 +134,7 @@ NoneDone (other ∷ tries) = NoneDone tries
 abbrev pub EndsDone : List Try → Type 0
 EndsDone tries = (front : List Try) × (last : Try) × (tries ≡ front ++ last ∷ []) × NoneDone front × IsDone last
 
--- Only a delivery is committed. Where the turn was rolled back, or its open take was ended by a mend, there may be one too.
+-- Only a delivery is committed. Where the transaction was rolled back, or its open take was ended by a mend, there may be one too.
 abbrev pub EndsTries : List Try → List Mark → Type 0
 EndsTries tries (Commits ∷ marks) = EndsDone tries × OnlySettles marks
 EndsTries tries (GivesUp ∷ marks) = (NoneDone tries ⊎ EndsDone tries) × OnlySettles marks
@@ -145,25 +146,25 @@ taken_events [] = []
 taken_events (Takes e ∷ marks) = e ∷ taken_events marks
 taken_events (other ∷ marks) = taken_events marks
 
--- A turn: the calls up to the last take, the tries to deliver the events that were taken, and the calls behind them.
-pub record Turned : Type 0 where
+-- What a sink run did: the calls up to the last take, the events that were taken, the tries to deliver them, and the calls after these.
+pub record Ran : Type 0 where
   pub taking : List Own
   pub events : List Content
   pub tries : List Try
   pub ending : List Own
 
--- The steps of a turn: takes, tries to deliver just what they gave, and the end. An attempt whose open take a mend has ended meanwhile has no end
+-- The steps of a sink run: takes, tries to deliver just what they gave, and the end. An attempt whose open take a mend has ended meanwhile has no end
 -- of its own.
-abbrev pub IsTurnOf : ℕ → ℕ → ℕ → Turned → List Step → Type 0
-IsTurnOf n channel attempt turned steps =
-    (taken_events (takes_marks turned.taking) ≡ turned.events) × EndsTries turned.tries (takes_marks turned.ending)
+abbrev pub IsSinkRun : ℕ → ℕ → ℕ → Ran → List Step → Type 0
+IsSinkRun n channel attempt ran steps =
+    (taken_events (takes_marks ran.taking) ≡ ran.events) × EndsTries ran.tries (takes_marks ran.ending)
     × (steps
-    ≡ turn_steps n channel attempt (takes_marks turned.taking) ++ tries_steps n attempt turned.tries
-    ++ turn_steps n channel attempt (takes_marks turned.ending))
+    ≡ sink_steps n channel attempt (takes_marks ran.taking) ++ tries_steps n attempt ran.tries
+    ++ sink_steps n channel attempt (takes_marks ran.ending))
 
 -- Upkeep.
 
--- what a reopening kept; of a disk that doesn't tell, of which the world has none, nothing is said
+-- what a reopening kept; the world has no disk that does not show its contents
 abbrev pub mend_steps : ℕ → ℕ → Kept → List Step
 mend_steps n channel (Front kept) = Mend n channel kept ∷ []
 mend_steps n channel (Read base) = []

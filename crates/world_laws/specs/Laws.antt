@@ -23,14 +23,15 @@ EveryRunKeeps = (w : World) (steps : List Step) → IsNew w → Held (run w step
 -- Where it holds, and selectors name channels that are there, each event that the chain made of an acknowledged batch is left in each channel that
 -- it has to reach, or went on from there.
 abbrev pub AcknowledgedIsKept : Type 0
-AcknowledgedIsKept = (w : World) (n place : ℕ) (ack : Work) → Held w → ChannelsAreThere w → IsAck w n place ack → EachStands Anything w n ack
+AcknowledgedIsKept =
+    (w : World) (n place : ℕ) (ack : Work) → Held w → ChannelsAreThere w → IsAck w n place ack → EachStands Anything w n ack
 
--- And so on, down to the last hop: over every list of steps from a new world whose links have no cycle and whose selectors name channels that are there, each acknowledged batch is kept within as
--- many hops as there are nodes.
+-- And so on, down to the last hop: over every list of steps from a new world whose links have no cycle and whose selectors name channels that are
+-- there, each acknowledged batch is kept within as many hops as there are nodes.
 abbrev pub AcknowledgedIsKeptDown : Type 0
 AcknowledgedIsKeptDown =
-    (w : World) (steps : List Step) (n place : ℕ) (ack : Work) → IsNew w → ChannelsAreThere w → LinksRise w → IsAck (run w steps) n place ack
-    → KeptWithin (length w.nodes) (run w steps) n ack
+    (w : World) (steps : List Step) (n place : ℕ) (ack : Work) → IsNew w → ChannelsAreThere w → LinksRise w
+    → IsAck (run w steps) n place ack → KeptWithin (length w.nodes) (run w steps) n ack
 
 -- Where the accounting holds, no delivery is named twice.
 abbrev pub NoDeliveryTwice : Type 0
@@ -39,5 +40,6 @@ NoDeliveryTwice = (w : World) → Held w → NoneIsNamedTwice w
 -- And each number that was put, and settled, in a channel is left with its event or was taken once, and not both.
 abbrev pub EachIsLeftOrTakenOnce : Type 0
 EachIsLeftOrTakenOnce =
-    (w : World) (n channel number : ℕ) (c : Channel) (e : Content) → Held w → AtChannel w n channel c → slice_get (put_events c.journal) number ≡ Some e
+    (w : World) (n channel number : ℕ) (c : Channel) (e : Content) → Held w → AtChannel w n channel c
+    → slice_get (put_events c.journal) number ≡ Some e
     → IsStillLeft c number e ⊎ WasTakenOnce c number

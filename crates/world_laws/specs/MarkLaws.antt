@@ -43,7 +43,8 @@ CommitsBy (Err refused) marks = IsGivenUp marks
 -- What the calls of a transaction of takes are as marks.
 pub record TakesAreMarked (saw : List Own → State → Type 0) (seen : ℕ) : Type 0 where
   pub begun : (result : Result Token FaceRefused) (own : List Own) → IsTakeBegun seen result own → BeginsBy result (takes_marks own)
-  pub taken : (token : Token) (result : Result (Option Content) FaceRefused) (own : List Own) → IsTake seen token result own → TakesBy result (takes_marks own)
+  pub taken :
+      (token : Token) (result : Result (Option Content) FaceRefused) (own : List Own) → IsTake seen token result own → TakesBy result (takes_marks own)
   pub committed :
       (token : Token) (result : Result (Unit {0}) FaceRefused) (earlier own : List Own) → IsTakeCommit saw seen token result earlier own
       → CommitsBy result (takes_marks own)

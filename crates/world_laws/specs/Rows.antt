@@ -50,7 +50,8 @@ twice =
     Offer 0 (tag 0 1) (hi ∷ []) ∷ Deliver 0 (hi ∷ []) ∷ Accept 0 0 0 ∷ Flush 0 0 true ∷ Acknowledge 0 0
     ∷ Take 0 0 None ∷ Take 0 0 (Some 0) ∷ Send 0 0 1 (tag 1 1) ∷ Deliver 2 (hi ∷ []) ∷ Accept 1 0 0 ∷ Flush 1 0 true ∷ Acknowledge 1 0
     ∷ Restart 0 (0 ∷ [])
-    ∷ Take 0 0 None ∷ Take 0 0 (Some 1) ∷ Send 0 1 1 (tag 2 1) ∷ Deliver 4 (hi ∷ []) ∷ Accept 1 1 0 ∷ Flush 1 0 true ∷ Acknowledge 1 1 ∷ []
+    ∷ Take 0 0 None ∷ Take 0 0 (Some 1) ∷ Send 0 1 1 (tag 2 1)
+    ∷ Deliver 4 (hi ∷ []) ∷ Accept 1 1 0 ∷ Flush 1 0 true ∷ Acknowledge 1 1 ∷ []
 
 -- the reply of the second connection comes, and the take is committed
 abbrev pub committed : List Step

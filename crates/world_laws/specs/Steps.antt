@@ -50,7 +50,9 @@ on_channel channel f node =
 
 -- a work begins, with the events that the chain made of its batch
 abbrev pub begin_work : Tag → List Content → List Content → Node → Option Node
-begin_work tag batch made node = Some (record node { works = node.works ++ Some (record { batch = batch; tag = tag; made = made; entries = [] }) ∷ [] })
+begin_work tag batch made node = Some (record node {
+  works = node.works ++ Some (record { batch = batch; tag = tag; made = made; entries = [] }) ∷ [];
+})
 
 -- a work ends
 abbrev pub end_work : ℕ → Node → Option Node
@@ -78,7 +80,8 @@ accept number channel node =
 -- the work passed each channel, from this place on, that has to take some of its events
 abbrev pub is_passed_by : Node → Work → ℕ → List Channel → Bool
 is_passed_by node work channel [] = true
-is_passed_by node work channel (c ∷ cs) = (is_empty (share node work.made channel) || is_passed work channel) && is_passed_by node work (channel + 1) cs
+is_passed_by node work channel (c ∷ cs) =
+    (is_empty (share node work.made channel) || is_passed work channel) && is_passed_by node work (channel + 1) cs
 
 -- the place is one of the journal of this channel, if there is one
 abbrev pub is_below : ℕ → Option Channel → Bool
@@ -108,7 +111,8 @@ begin_take channel node = and_then (slice_get node.channels channel) (λ c. and_
 -- an attempt of this channel that was not sent and has no delivery takes one more event
 abbrev pub take_one : ℕ → ℕ → Node → Option Node
 take_one channel number node =
-    and_then (live node.attempts number) (λ attempt. and_then (slice_get node.channels attempt.channel) (λ c. and_then (taken attempt.token c) (λ got.
+    and_then (live node.attempts number) (λ attempt.
+    and_then (slice_get node.channels attempt.channel) (λ c. and_then (taken attempt.token c) (λ got.
     only_if ((attempt.channel == channel) && (is_none attempt.tag && is_none attempt.delivery)) (record node {
       channels = slice_set node.channels attempt.channel got.0;
       attempts = slice_set node.attempts number (Some (record attempt { events = attempt.events ++ got.1 ∷ [] }));
@@ -168,16 +172,17 @@ without_attempts channel [] = []
 without_attempts channel (None ∷ attempts) = None ∷ without_attempts channel attempts
 without_attempts channel (Some a ∷ attempts) = (if a.channel == channel then None else Some a) ∷ without_attempts channel attempts
 
--- one of these entries is of the channel, at this place or behind it
+-- one of these entries is of the channel, at this place or after it
 abbrev pub has_from : ℕ → ℕ → List (ℕ × ℕ) → Bool
 has_from channel place [] = false
 has_from channel place (e ∷ entries) = ((e.0 == channel) && nat_le place e.1) || has_from channel place entries
 
--- those without the works that have an entry of this channel behind a journal of this length
+-- those without the works that have an entry of this channel beyond a journal of this length
 abbrev pub without_works : ℕ → ℕ → List (Option Work) → List (Option Work)
 without_works channel journal [] = []
 without_works channel journal (None ∷ works) = None ∷ without_works channel journal works
-without_works channel journal (Some w ∷ works) = (if has_from channel journal w.entries then None else Some w) ∷ without_works channel journal works
+without_works channel journal (Some w ∷ works) =
+    (if has_from channel journal w.entries then None else Some w) ∷ without_works channel journal works
 
 -- one channel is opened again: attempts that took from it end, and works with an entry of it that wasn't in its journal
 abbrev pub mend : ℕ → ℕ → Node → Option Node
@@ -194,7 +199,9 @@ ended (x ∷ xs) = None ∷ ended xs
 
 -- the agent crashed: all channels are opened again, and all works and attempts end
 abbrev pub restart : List ℕ → Node → Option Node
-restart kept node = and_then (all_reopened kept node.channels) (λ new. Some (record node { channels = new; works = ended node.works; attempts = ended node.attempts }))
+restart kept node =
+    and_then (all_reopened kept node.channels)
+    (λ new. Some (record node { channels = new; works = ended node.works; attempts = ended node.attempts }))
 
 -- a request is sent to the node
 abbrev pub offered : ℕ → Tag → List Content → Node → Option (Node × List Packet)

@@ -17,16 +17,16 @@ pub fn every_run_keeps_the_accounting()
     ensures { EveryRunKeeps }
 {}
 
-/// Where the accounting holds, and selectors name channels that are there, each event that the chain made of an acknowledged batch is
-/// left in each channel that it has to reach; or a committed and settled take of it names an output place of the node with it, which a
-/// last sink took, or an acknowledgement of a node to which the channel's sinks point, of a batch with it.
+/// Where the accounting holds, and selectors name channels that are there, each event that the chain made of an acknowledged
+/// batch is left in each channel that it has to reach; or a committed and settled take of it names an output place of the node
+/// with it, which a last sink took, or an acknowledgement of a node to which the channel's sinks point, of a batch with it.
 pub fn acknowledged_is_kept()
     ensures { AcknowledgedIsKept }
 {}
 
-/// And so on, down to the last hop. Over every list of steps from a new world whose links have no cycle, each acknowledged event is left
-/// in a channel of each path that it has to take, or was committed after a delivery at the path's last sink; at each hop "event" is one
-/// that the node's chain made of the batch.
+/// And so on, down to the last hop. Over every list of steps from a new world whose links have no cycle, each acknowledged event
+/// is left in a channel of each path that it has to take, or was committed after a delivery at the path's last sink; at each hop
+/// "event" is one that the node's chain made of the batch.
 pub fn acknowledged_is_kept_down()
     ensures { AcknowledgedIsKeptDown }
 {}
@@ -36,14 +36,14 @@ pub fn no_delivery_is_named_twice()
     ensures { NoDeliveryTwice }
 {}
 
-/// Where it holds, each number that was put in a channel, and settled, is left with its event, or was taken by just one commit, and
-/// not both.
+/// Where it holds, each number that was put in a channel, and settled, is left with its event, or was taken by just one commit,
+/// and not both.
 pub fn each_is_left_or_taken_once()
     ensures { EachIsLeftOrTakenOnce }
 {}
 
-/// A worked world of two agents: a reply is lost, the first agent crashes and sends again. The second agent has the event twice, and
-/// the first none left. The first reply in place of the second rolls the attempt back.
+/// A worked world of two agents: a reply is lost, the first agent crashes and sends again. The second agent has the event twice,
+/// and the first none left. The first reply in place of the second rolls the attempt back.
 pub fn reply_is_lost()
     ensures { ReplyIsLost }
 {}

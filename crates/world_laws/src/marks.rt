@@ -11,15 +11,15 @@ pub fn batch_stores<P: PutFace>(face: &P)
     ensures { BatchStores (P.saw face.now) (P.seen face.now) }
 {}
 
-/// A begin of takes, a take and a commit that were answered Ok, or a commit in doubt, are just that; a refused commit and a rollback
-/// give the transaction up, unless a reopening has ended it.
+/// A begin of takes, a take and a commit that were answered Ok, or a commit in doubt, are just that; a refused commit and a
+/// rollback give the transaction up, unless a reopening has ended it.
 pub fn takes_are_marked<T: TakeFace>(face: &T)
     ensures { TakesAreMarked (T.saw face.now) (T.seen face.now) }
 {}
 
-/// Each call of a running file channel that is a step of the world is one that a channel of the world which agrees with it can take,
-/// and then the two agree again: a stage of puts, a flush or a checkpoint, a begin of takes, a take that came to no flush, a stage and a
-/// rollback of takes, and a reopening. They agree too after a call that is no step.
+/// Each call of a running file channel that is a step of the world is one that a channel of the world which agrees with it can
+/// take, and then the two agree again: a stage of puts, a flush or a checkpoint, a begin of takes, a take that came to no flush,
+/// a stage and a rollback of takes, and a reopening. They agree too after a call that is no step.
 pub fn calls_are_steps()
     ensures { CallsAreSteps }
 {}
