@@ -6,7 +6,7 @@ use Rattle.world_laws.specs.World.{Channel, Node, live}
 use Rattle.world_laws.specs.Steps.{Reply}
 use Rattle.world_laws.specs.Held.{AtNode}
 use Rattle.world_laws.specs.New.{IsNewChannel, IsNewNode, IsNew}
-use Rattle.world_laws.specs.Rows.{small, agent, start, twice, committed, LeadsTo, AreTwo, IsTwiceThere}
+use Rattle.world_laws.specs.Rows.{small, agent, start, twice, committed, LeadsTo, AreTwo, IsTwiceThere, CallsAreItsSteps}
 use Rattle.world_laws.proofs.Lists.{same_some, no_some}
 
 new_agent : (later : List ℕ) (last : Bool) → IsNewNode (agent later last)
@@ -31,3 +31,9 @@ twice_there = (_, _, refl, record { first_has = (_, refl, refl, refl, refl); sec
 pub rolled_back : LeadsTo (Some start) (twice ++ Reply 0 1 3 ∷ []) (AreTwo (λ first second. live first.attempts 1 ≡ None))
 unfolding event_bytes u32_bytes
 rolled_back = (_, _, refl, refl)
+
+pub its_steps : CallsAreItsSteps
+its_steps = record {
+  batch = ((([], _, refl, tt, tt), tt), refl);
+  sink_run = (refl, (([], _, refl, tt, tt), tt), refl);
+}

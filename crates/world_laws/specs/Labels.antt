@@ -60,9 +60,9 @@ abbrev pub NoneTried : List Tried → Type 0
 NoneTried [] = Unit {0}
 NoneTried (tried ∷ ports) = (tried.required ≡ []) × (tried.optional ≡ []) × NoneTried ports
 
--- up to a channel that refused its share, or left in doubt whether it has it; then no other was tried. It may be out of memory before any is.
+-- up to a channel that refused its share, or left in doubt whether it has it; then no other was tried
 abbrev pub GivenUpTo : List Tried → Type 0
-GivenUpTo [] = Unit {0}
+GivenUpTo [] = ⊥
 GivenUpTo (tried ∷ ports) =
     (IsGiven tried.share (puts_marks [] tried.required) × (tried.optional ≡ []) × GivenUpTo ports)
     ⊎ ((OnlySettles (puts_marks [] tried.required) ⊎ StoresOnce tried.share (puts_marks [] tried.required))
@@ -76,11 +76,12 @@ pub data Ended : Type 0 where
   Taken : Ended
 
 -- The steps of a batch at a node: the packet comes, and the chain makes these events of its batch; channels take their shares in order; and the
--- work ends, or the channels take what they may miss, and the work is acknowledged. Entries that were staged before a refusal stay.
+-- work ends, or the channels take what they may miss, and the work is acknowledged. Entries that were staged before a refusal stay. Out of memory
+-- may come before any channel is tried.
 abbrev pub IsBatch : ℕ → ℕ → ℕ → List Content → List Tried → Ended → List Step → Type 0
 IsBatch n packet work made ports NothingMade steps = NoneTried ports × (steps ≡ [])
 IsBatch n packet work made ports Refused steps =
-    GivenUpTo ports × (steps ≡ Deliver packet made ∷ required_steps n work ports ++ EndWork n work ∷ [])
+    (NoneTried ports ⊎ GivenUpTo ports) × (steps ≡ Deliver packet made ∷ required_steps n work ports ++ EndWork n work ∷ [])
 IsBatch n packet work made ports Taken steps =
     AllGiven ports × (steps ≡ Deliver packet made ∷ required_steps n work ports ++ optional_steps n ports ++ Acknowledge n work ∷ [])
 

@@ -1,13 +1,19 @@
 -- A worked world: a reply is lost and the first agent crashes.
-use Rattle.std.specs.Prelude.{◌≡◌, ℕ, List, [], ◌∷◌, ◌++◌, Option, Some, None, Bool, true, false}
+use Rattle.std.specs.Prelude.{◌≡◌, ℕ, List, [], ◌∷◌, ◌++◌, Option, Some, None, Ok, Bool, true, false}
 use Rattle.event_core.specs.Content.{Content}
 use Rattle.event_core.specs.declared.journal.Entry.TheVariants.{Puts, Takes}
+use Rattle.channel_face.specs.Token.{Token}
+use Rattle.channel_face.specs.Machine.{Call, BeginPut, BeginTake, Put, StagePut, StageTake}
+use Rattle.channel_face.specs.Machine as Calls
 use Rattle.channel_face.specs.History.{Opening, opening}
+use Rattle.channel_face.specs.Faces.{Own}
+use Rattle.channel_face.specs.declared.replies.Ticket.{Ticket}
 use Rattle.channel_face.specs.declared.replies.Kind.TheVariants.{File as OnFile}
 use Rattle.world_laws.specs.World.{Tag, Acked, Channel, Node, World, live}
 use Rattle.world_laws.specs.Steps.{Step, Offer, Deliver, Accept, Flush, Acknowledge, Take, Send, Reply, Commit, Restart, happens}
 use Rattle.world_laws.specs.Held.{nothing}
 use Rattle.world_laws.specs.New.{IsNew}
+use Rattle.world_laws.specs.Labels.{Tried, Taken, IsBatch, Answered, Ran, IsSinkRun}
 
 -- an event without headers
 abbrev pub hi : Content
@@ -81,3 +87,43 @@ pub record ReplyIsLost : Type 0 where
   pub begins : IsNew start
   pub delivered : LeadsTo (Some start) (twice ++ committed) (AreTwo IsTwiceThere)
   pub other_reply : LeadsTo (Some start) (twice ++ Reply 0 1 3 ∷ []) (AreTwo (λ first second. live first.attempts 1 ≡ None))
+
+-- the calls of a batch and of a sink run of the first agent, each answered Ok
+
+abbrev pub token : Token
+token = record { life = 1; number = 1 }
+
+abbrev pub ticket : Ticket
+ticket = record { life = 1; frame = 1; first = 0; count = 1 }
+
+-- a call; its state and moment are of no account here
+abbrev pub own : Call → Own
+own call = record { call = call; before = opening small; moment = 0 }
+
+-- a begin, a put, a stage and a flush on the one channel
+abbrev pub given : Tried
+given = record {
+  channel = 0;
+  share = hi ∷ [];
+  required =
+      own (BeginPut (Ok token)) ∷ own (Put token hi (Ok (record { spilled = false }))) ∷ own (StagePut token (Ok ticket))
+      ∷ own (Calls.Flush (Ok tt)) ∷ [];
+  optional = [];
+}
+
+-- a begin and a take; the request of the second connection is answered; a stage and a flush
+abbrev pub sent_on : Ran
+sent_on = record {
+  taking = own (BeginTake (Ok token)) ∷ own (Calls.Take token (Ok (record { event = Some hi; spilled = false }))) ∷ [];
+  events = hi ∷ [];
+  tries = Answered 1 (tag 2 1) 5 ∷ [];
+  ending = own (StageTake token (Ok ticket)) ∷ own (Calls.Flush (Ok tt)) ∷ [];
+}
+
+-- They are the steps by which the first agent accepts and acknowledges the event, and by which it takes, sends and commits it.
+pub record CallsAreItsSteps : Type 0 where
+  pub batch :
+      IsBatch 0 0 0 (hi ∷ []) (given ∷ []) Taken (Deliver 0 (hi ∷ []) ∷ Accept 0 0 0 ∷ Flush 0 0 true ∷ Acknowledge 0 0 ∷ [])
+  pub sink_run :
+      IsSinkRun 0 0 1 sent_on
+      (Take 0 0 None ∷ Take 0 0 (Some 1) ∷ Send 0 1 1 (tag 2 1) ∷ Reply 0 1 5 ∷ Commit 0 1 ∷ Flush 0 0 true ∷ [])

@@ -1,6 +1,6 @@
 // Laws of the delivery model. These functions do nothing: each states a law.
 ghost use Rattle.world_laws.specs.Laws.{NewIsHeld, EachStepKeeps, EveryRunKeeps, AcknowledgedIsKept, AcknowledgedIsKeptDown, NoDeliveryTwice, EachIsLeftOrTakenOnce};
-ghost use Rattle.world_laws.specs.Rows.{ReplyIsLost};
+ghost use Rattle.world_laws.specs.Rows.{CallsAreItsSteps, ReplyIsLost};
 
 /// In a world of agents with new channels and nothing else, the accounting holds.
 pub fn new_is_held()
@@ -46,4 +46,10 @@ pub fn each_is_left_or_taken_once()
 /// and the first none left. The first reply in place of the second rolls the attempt back.
 pub fn reply_is_lost()
     ensures { ReplyIsLost }
+{}
+
+/// The calls of a batch that this world's first agent answers, and of the sink run that sends the event on, are the steps of the worked
+/// world by the relation of calls and steps.
+pub fn calls_of_the_worked_world()
+    ensures { CallsAreItsSteps }
 {}
