@@ -1,0 +1,30 @@
+use Rattle.std.proofs.Common.{rules, ◌≡◌, ◌∙◌, ◌<◌, ◌++◌, ◌∷◌, [], List, length, drop, refl, sym, ap, Some, None, Option, true, false}
+use Rattle.std.specs.Prelude.{◌==◌}
+use Rattle.std.specs.Vec.{with_items}
+use Rattle.std.specs.List.{slice_get, slice_set}
+use Rattle.std.proofs.lemmas.Option.{slice_get_read}
+use Rattle.event_core.specs.Journal.{is_among}
+use Rattle.world_laws.specs.World.{Attempt, Work, Channel, Node, Tag, Acked, Output, live}
+use Rattle.hop_core.specs.contracts.node.Node.{the_view}
+use Rattle.hop_core.specs.contracts.work.OpenAttempt.{the_view as attempt_view}
+use Rattle.hop_core.proofs.Nodes.{written_back, output_done}
+use Rattle.hop_core.proofs.node.Node.output.Goals as goal
+
+pub returns : goal.returns
+returns c =
+    let node = the_view c.self.inside in
+    let a = c.attempt.inside in
+    let alive : live node.attempts c.args.number ≡ Some (attempt_view a) = search rules in
+    let within : a.channel < length node.channels = search rules in
+    let at : slice_get node.channels a.channel ≡ Some c.index.result.now = slice_get_read node.channels (length node.channels) a.channel c.index.result.now refl within c.index.ensures in
+    let undelivered : a.delivery ≡ None = search rules in
+    let last : c.index.result.now.last ≡ true = search rules in
+    let more : c.push.new.self.items ≡ node.outputs ++ a.events ∷ [] = search rules in
+    let place : c.output-delivery.result ≡ Output (length node.outputs) = search rules in
+    let value : c.deref_mut.result.now ≡ node.attempts = search rules in
+    let there : live c.deref_mut.result.now c.args.number ≡ Some (attempt_view a) = rw value alive in
+    let said = c.set_delivery.ensures (attempt_view a) there in
+    let changed : c.set_delivery.new.attempts ≡ slice_set node.attempts c.args.number (Some (record (attempt_view a) { delivery = Some (Output (length node.outputs)) })) = cc in
+    let size : length c.set_delivery.new.attempts ≡ c.self.inside.attempts.len = search rules in
+    let back : (with_items c.self.inside.attempts c.set_delivery.new.attempts).items ≡ c.set_delivery.new.attempts = written_back c.self.inside.attempts.len c.set_delivery.new.attempts (drop (length c.set_delivery.new.attempts) c.self.inside.attempts.items) size in
+    rw (← c.self.view_is) (output_done node c.args.number (attempt_view a) c.index.result.now c.push.new.self.items (with_items c.self.inside.attempts c.set_delivery.new.attempts).items alive at undelivered last more (back ∙ changed))

@@ -1,0 +1,9 @@
+pub mod DeliveryView
+pub mod PacketView
+pub mod Ending
+pub mod Done
+pub mod Refusals
+pub mod Did
+pub mod Puts
+pub mod Start
+pub mod Labels
