@@ -17,7 +17,7 @@ use Rattle.channel_log.specs.Writer.{HasFrames, IsAtRest, IsPending, IsReady, La
 use Rattle.event_core.specs.Journal.{after_journal}
 use Rattle.channel_face.specs.Machine.{State, base_of, next_number, settle}
 use Rattle.channel_replay.specs.Recover.{AreLogs, LogFile, Recovers}
-use Rattle.file_channel.specs.Folders.{HasNoCheck, OpensTo}
+use Rattle.file_channel.specs.Folders.{HasNoCheck}
 use Rattle.file_channel.specs.Logs.{HasLog}
 use Rattle.file_channel.specs.Touches.{WritesLast}
 use Rattle.file_channel.specs.Written.{IsLogged, MayRecover, OnDisk, RecoversSettled, Waits}
