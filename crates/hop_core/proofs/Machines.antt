@@ -1,12 +1,11 @@
 -- What the calls of a machine are in a step of the world.
-use Rattle.std.proofs.Common.{◌≡◌, ◌∙◌, ◌++◌, ◌∷◌, ◌+◌, [], ℕ, List, length, drop, zero, suc, Option, Some, None, Result, Ok, Err, Bool, true, false, refl, ap, sym, arith, rules}
+use Rattle.std.proofs.Common.{◌≡◌, ◌∙◌, ◌∷◌, ◌+◌, [], ℕ, List, drop, zero, suc, Option, Some, None, Ok, Err, Bool, true, false, refl, ap, sym, arith}
 use Rattle.std.proofs.lemmas.List.{append-nil}
 use Rattle.std.specs.List.{slice_get}
 use Rattle.event_core.specs.Content.{Content}
-use Rattle.event_core.specs.declared.journal.Entry.{Entry}
 use Rattle.channel_face.specs.Token.{Token}
-use Rattle.channel_face.specs.Machine.{State, Put, puts_of, takes_of, put_refusal, take_refusal, begin_refusal, after_put, add_put, settle_if, AdmitsPut, AdmitsTake, AdmitsBegin}
-use Rattle.channel_face.specs.History.{Moves, kept_by}
+use Rattle.channel_face.specs.Machine.{State, Put, puts_of, put_refusal, take_refusal, begin_refusal, after_put, add_put, settle_if, AdmitsPut, AdmitsTake, AdmitsBegin}
+use Rattle.channel_face.specs.History.{Moves}
 use Rattle.channel_face.specs.declared.replies.Put.{Put as PutDone}
 use Rattle.channel_face.specs.declared.replies.PutRefused.{PutRefused}
 use Rattle.channel_face.specs.declared.replies.PutRefused.TheVariants as PutNo
@@ -15,8 +14,7 @@ use Rattle.channel_face.specs.declared.replies.TakeRefused.TheVariants as TakeNo
 use Rattle.channel_face.specs.declared.replies.BeginRefused.{BeginRefused}
 use Rattle.channel_face.specs.declared.replies.BeginRefused.TheVariants as Begin
 use Rattle.txn_core.specs.Shadow.{Journaled, Journals}
-use Rattle.world_laws.specs.World.{and_then}
-use Rattle.world_laws.specs.Channels.{put_all, unless}
+use Rattle.world_laws.specs.Channels.{put_all}
 use Rattle.hop_core.specs.Refusals.{is_begin_refusal, is_put_refusal, is_take_refusal}
 
 -- the refusals are those of the state

@@ -1,17 +1,16 @@
 -- What a node does in a step that can be taken.
-use Rattle.std.proofs.Common.{◌≡◌, ◌∙◌, ◌<◌, ◌≤◌, ◌++◌, ◌∷◌, ◌+◌, ◌&&◌, [], ℕ, zero, suc, List, length, map, take, Bool, true, false, Option, Some, None, Result, Ok, Err, refl, ap, sym, arith, rules}
+use Rattle.std.proofs.Common.{◌≡◌, ◌∙◌, ◌++◌, ◌∷◌, ◌&&◌, [], ℕ, zero, suc, List, length, take, Bool, true, false, Option, Some, None, Result, Ok, Err, refl, ap, sym, arith}
 use Rattle.std.proofs.lemmas.Bool.Decides.{nat_tests}
 use Rattle.std.proofs.Math.Seq.{take-append_seam}
 use Rattle.std.specs.Prelude.{◌==◌}
 use Rattle.std.specs.Bool.{IsTrue}
 use Rattle.std.specs.List.{slice_get, slice_set}
-use Rattle.std.proofs.lemmas.Option.{slice_get_read}
 use Rattle.event_core.specs.Content.{Content}
 use Rattle.event_core.specs.Journal.{is_among}
 use Rattle.event_core.specs.declared.refused.NoMemory.{NoMemory}
-use Rattle.world_laws.specs.World.{Tag, Delivery, Output, Acked, Channel, Node, Work, Attempt, Packet, Request, Reply, and_then, live, share, commits}
-use Rattle.world_laws.specs.Channels.{is_none, is_empty, only_if, stored, aside, taken, committed, given_up, reopened, all_reopened}
-use Rattle.world_laws.specs.Steps.{on_channel, accept, accepted, acknowledge, take_one, send, output, replied, commit, end_attempt, end_work, mend, restart, is_passed, is_passed_by, are_settled, is_tag, ended, without_works, without_attempts}
+use Rattle.world_laws.specs.World.{Tag, Delivery, Output, Acked, Channel, Node, Work, Attempt, Request, Reply, and_then, live, share, commits}
+use Rattle.world_laws.specs.Channels.{is_empty, stored, aside, taken, committed, given_up, reopened, all_reopened}
+use Rattle.world_laws.specs.Steps.{on_channel, accept, acknowledge, take_one, send, output, replied, commit, end_attempt, end_work, mend, restart, is_passed, is_passed_by, are_settled, is_tag, ended, without_works, without_attempts}
 use Rattle.hop_core.specs.Did.{Did}
 use Rattle.hop_core.specs.Done.{is_done, is_done_work}
 

@@ -1,7 +1,6 @@
 -- The world that a plan begins with is new.
 use Rattle.std.proofs.Common.{◌≡◌, ℕ, zero, suc, [], ◌∷◌, List, map, Some, refl, subst, true}
 use Rattle.std.specs.List.{slice_get}
-use Rattle.world_laws.specs.World.{World, Node, Channel}
 use Rattle.world_laws.specs.New.{IsNew, IsNewNode, IsNewChannel}
 use Rattle.channel_face.specs.declared.replies.Kind.TheVariants.{File as OnFile}
 use Rattle.hop_core.specs.Start.{new_channel, new_node, new_world}

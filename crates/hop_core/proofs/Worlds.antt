@@ -4,7 +4,7 @@ use Rattle.std.specs.List.{slice_get, slice_set}
 use Rattle.std.proofs.lemmas.List.{append-nil}
 use Rattle.event_core.specs.Content.{Content}
 use Rattle.event_core.specs.declared.refused.NoMemory.{NoMemory}
-use Rattle.world_laws.specs.World.{World, Node, Packet, Tag, and_then}
+use Rattle.world_laws.specs.World.{World, Node, Packet, Tag}
 use Rattle.world_laws.specs.Steps.{Step, at, happens, next, offered, quietly, if_fresh, is_fresh}
 use Rattle.world_laws.specs.Held.{Held}
 use Rattle.world_laws.specs.Laws.{EachStepKeeps}

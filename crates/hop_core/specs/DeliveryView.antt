@@ -12,4 +12,5 @@ delivery_back (Output place) = record { by = None; place = place }
 delivery_back (Acked node place) = record { by = Some node; place = place }
 
 pub delivery_back_ok : (d : Inside) → Unit {0} → delivery_back (delivery_of d.by d.place) ≡ d
-delivery_back_ok d h = elim d.by as (λ (by : Option ℕ). delivery_back (delivery_of by d.place) ≡ record { by = by; place = d.place }) [ None ↦ refl | Some node ↦ refl ]
+delivery_back_ok d h =
+    elim d.by as (λ (by : Option ℕ). delivery_back (delivery_of by d.place) ≡ record { by = by; place = d.place }) [ None ↦ refl | Some node ↦ refl ]

@@ -11,7 +11,8 @@ Did goal old (Ok false) new = (goal ≡ None) × (new ≡ old)
 Did goal old (Err refused) new = new ≡ old
 
 -- The same of a step that sends a packet.
-abbrev pub Sent : {A : Type 0} → Option (A × List Packet) → A → Result (Option Packet) NoMemory → A → Type 0
+abbrev pub Sent : {A : Type 0} → Option (A × List Packet) → A → Result (Option Packet) NoMemory → A
+    → Type 0
 Sent goal old (Ok (Some packet)) new = goal ≡ Some (new, packet ∷ [])
 Sent goal old (Ok None) new = (goal ≡ None) × (new ≡ old)
 Sent goal old (Err refused) new = new ≡ old
@@ -19,4 +20,5 @@ Sent goal old (Err refused) new = new ≡ old
 -- the channel with a transaction of takes, and its token's life and number
 abbrev pub IsTakeBegun : Channel → Option (Channel × ℕ × ℕ) → Type 0
 IsTakeBegun old None = take_begun old ≡ None
-IsTakeBegun old (Some begun) = (take_begun old ≡ Some begun.0) × (begun.1 ≡ old.state.life) × (begun.2 ≡ old.state.txn)
+IsTakeBegun old (Some begun) =
+    (take_begun old ≡ Some begun.0) × (begun.1 ≡ old.state.life) × (begun.2 ≡ old.state.txn)

@@ -1,19 +1,22 @@
 -- The program's steps as steps of the model.
-use Rattle.std.specs.Prelude.{ℕ, Option, Some, None}
+use Rattle.std.specs.Prelude.{Option, None}
 use Rattle.world_laws.specs.World.{Node}
 use Rattle.world_laws.specs.Channels.{aside, failed, flushed}
 use Rattle.world_laws.specs.Steps.{Step, accept, commit, end_attempt, end_work, mend, on_channel, output, restart, take_from}
 use Rattle.hop_core.specs.declared.plan.HopStep.{HopStep}
 use Rattle.hop_core.specs.declared.plan.HopStep.TheVariants as Hop
 
+-- the step of the model that this one is
 abbrev pub step_of : HopStep → Step
-step_of (Hop.Offer node connection serial batch) = Step.Offer node (record { connection = connection; serial = serial }) batch
+step_of (Hop.Offer node connection serial batch) =
+    Step.Offer node (record { connection = connection; serial = serial }) batch
 step_of (Hop.Deliver packet made) = Step.Deliver packet made
 step_of (Hop.Accept node work channel) = Step.Accept node work channel
 step_of (Hop.Flush node channel done) = Step.Flush node channel done
 step_of (Hop.Acknowledge node work) = Step.Acknowledge node work
 step_of (Hop.Take node channel attempt) = Step.Take node channel attempt
-step_of (Hop.Send node attempt to connection serial) = Step.Send node attempt to (record { connection = connection; serial = serial })
+step_of (Hop.Send node attempt to connection serial) =
+    Step.Send node attempt to (record { connection = connection; serial = serial })
 step_of (Hop.Output node attempt) = Step.Output node attempt
 step_of (Hop.Reply node attempt packet) = Step.Reply node attempt packet
 step_of (Hop.Commit node attempt) = Step.Commit node attempt

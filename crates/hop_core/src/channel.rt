@@ -33,7 +33,13 @@ impl Model for NodeChannel {
 
     ghost Value = { Channel };
 
-    ghost view = { λ c. record { state = c.machine.counted.state; journal = c.machine.journal; named = c.named.items; later = c.later.items; last = c.last } };
+    ghost view = { λ c. record {
+      state = c.machine.counted.state;
+      journal = c.machine.journal;
+      named = c.named.items;
+      later = c.later.items;
+      last = c.last;
+    } };
 
     ghost invariant = { λ c. c.machine.counted.state.rules.kind ≡ Kind.File };
 }
@@ -173,7 +179,8 @@ impl NodeChannel {
         life: u64,
         number: u64,
     ) -> Result<Option<(NodeChannel, Event)>, NoMemory>
-        ensures { IfOk result (λ got. got ≡ taken (record { life = life; number = number }) self.now) }
+        ensures { IfOk result (λ got.
+            got ≡ taken (record { life = life; number = number }) self.now) }
     {
         let mut copy = self.copy()?;
         let mut txn = TakeTxn::new(life, number);
@@ -203,7 +210,8 @@ impl NodeChannel {
         delivery: Delivery,
         events: &Batch,
     ) -> Result<Option<NodeChannel>, NoMemory>
-        ensures { IfOk result (λ new. new ≡ committed (record { life = life; number = number }) delivery events.now self.now) }
+        ensures { IfOk result (λ new.
+            new ≡ committed (record { life = life; number = number }) delivery events.now self.now) }
     {
         let mut copy = self.copy()?;
         match copy.machine.stage_take(TakeTxn::new(life, number)) {

@@ -39,7 +39,14 @@ impl Model for Node {
 
     ghost Value = { Node };
 
-    ghost view = { λ n. record { required = map (λ pair. (pair.0, pair.1.items)) n.required.items; channels = n.channels.items; acks = n.acks.items; outputs = n.outputs.items; works = n.works.items; attempts = n.attempts.items } };
+    ghost view = { λ n. record {
+      required = map (λ pair. (pair.0, pair.1.items)) n.required.items;
+      channels = n.channels.items;
+      acks = n.acks.items;
+      outputs = n.outputs.items;
+      works = n.works.items;
+      attempts = n.attempts.items;
+    } };
 }
 
 impl Node {
@@ -113,7 +120,8 @@ impl Node {
 
     // Whether the work has passed each channel that has to take some of its events.
     fn is_passed_by(&self, work: &Work) -> Result<bool, NoMemory>
-        ensures { IfOk result (λ passed. passed ≡ is_passed_by self.now work.now 0 self.now.channels) }
+        ensures { IfOk result (λ passed.
+            passed ≡ is_passed_by self.now work.now 0 self.now.channels) }
     {
         for place in 0..self.channels.len() {
             let channel = place as u64;
@@ -310,7 +318,7 @@ impl Node {
         let Some(attempt) = live(&self.attempts, number) else {
             return Ok(false);
         };
-        let Some(delivery) = attempt.delivery else {
+        let Some(delivery) = attempt.delivered() else {
             return Ok(false);
         };
         let place = attempt.channel as usize;
@@ -416,7 +424,8 @@ impl Node {
 
     // All channels reopened, with these numbers of staged entries.
     fn all_reopened(&self, kept: &[u32]) -> Result<Option<Vec<NodeChannel>>, NoMemory>
-        ensures { IfOk result (λ all. option_map (λ v. v.items) all ≡ all_reopened kept.now self.now.channels) }
+        ensures { IfOk result (λ all.
+            option_map (λ v. v.items) all ≡ all_reopened kept.now self.now.channels) }
     {
         if kept.len() != self.channels.len() {
             return Ok(None);

@@ -10,7 +10,8 @@ use std::alloc::Global;
 
 // Whether the event has to reach the channel, by the first pair with an equal event.
 fn is_required(required: &[(Event, Vec<u32>)], event: &Event, channel: u64) -> bool
-    ensures { result ≡ Face.is_among (required_of (map (λ pair. (pair.0, pair.1.items)) required.now) event.now) channel }
+    ensures { let pairs = map (λ pair. (pair.0, pair.1.items)) required.now in
+        result ≡ Face.is_among (required_of pairs event.now) channel }
 {
     for place in 0..required.len() {
         if is_same_event(&required[place].0, event) {
@@ -28,7 +29,9 @@ pub(crate) fn share(
     made: &Batch,
     channel: u64,
 ) -> Result<Batch, NoMemory>
-    ensures { IfOk result (λ batch. batch ≡ filter (λ e. Face.is_among (required_of (map (λ pair. (pair.0, pair.1.items)) required.now) e) channel) made.now) }
+    ensures { let pairs = map (λ pair. (pair.0, pair.1.items)) required.now in
+        IfOk result (λ batch.
+        batch ≡ filter (λ e. Face.is_among (required_of pairs e) channel) made.now) }
 {
     let mut batch = Batch::new(alloc);
     for at in 0..made.len() {

@@ -30,7 +30,12 @@ impl Model for Work {
 
     ghost Value = { Work };
 
-    ghost view = { λ w. record { batch = w.batch; tag = w.tag; made = w.made; entries = w.entries.items } };
+    ghost view = { λ w. record {
+      batch = w.batch;
+      tag = w.tag;
+      made = w.made;
+      entries = w.entries.items;
+    } };
 }
 
 impl Work {
@@ -48,7 +53,8 @@ impl Work {
 
     /// Its entries, and this one of the channel.
     pub(crate) fn entries_and(&self, channel: u32, place: u64) -> Result<Vec<EntryName>, NoMemory>
-        ensures { IfOk result (λ entries. entries.items ≡ self.now.entries ++ (channel, place) ∷ []) }
+        ensures { IfOk result (λ entries.
+            entries.items ≡ self.now.entries ++ (channel, place) ∷ []) }
     {
         let mut entries = self.entries.clone()?;
         entries.push((channel, place))?;
@@ -84,13 +90,27 @@ impl Model for OpenAttempt {
 
     ghost Value = { Attempt };
 
-    ghost view = { λ a. record { channel = a.channel; token = record { life = a.life; number = a.txn }; events = a.events; tag = a.tag; delivery = a.delivery } };
+    ghost view = { λ a. record {
+      channel = a.channel;
+      token = record { life = a.life; number = a.txn };
+      events = a.events;
+      tag = a.tag;
+      delivery = a.delivery;
+    } };
 }
 
 impl OpenAttempt {
+    /// Its delivery, where it has one.
+    pub(crate) fn delivered(&self) -> Option<Delivery>
+        ensures { result ≡ self.now.delivery }
+    {
+        self.delivery
+    }
+
     /// What a reply with this tag means for it: of its own connection and serial, it is delivered.
     pub(crate) fn decision(&self, tag: Tag) -> Decision
-        ensures { result ≡ (if is_tag tag self.now.tag then Decision.Commit else Decision.Rollback) }
+        ensures { result
+            ≡ (if is_tag tag self.now.tag then Decision.Commit else Decision.Rollback) }
     {
         match self.tag {
             Some(own) => {
@@ -108,7 +128,8 @@ impl OpenAttempt {
 
 /// The work of this number has these entries.
 pub(crate) fn set_entries(works: &mut [Option<Work>], number: u64, entries: Vec<EntryName>)
-    ensures { (work : Face.Work) → live works.old number ≡ Some work → works.new ≡ slice_set works.old number (Some (record work { entries = entries.items })) }
+    ensures { (work : Face.Work) → live works.old number ≡ Some work
+        → works.new ≡ slice_set works.old number (Some (record work { entries = entries.items })) }
 {
     let place = number as usize;
     if place < works.len() {
@@ -124,7 +145,9 @@ pub(crate) fn add_event(
     number: u64,
     event: Event,
 ) -> Result<(), NoMemory>
-    ensures ok { OnOk result ((a : Face.Attempt) → live attempts.old number ≡ Some a → attempts.new ≡ slice_set attempts.old number (Some (record a { events = a.events ++ event ∷ [] }))) }
+    ensures ok { OnOk result ((a : Face.Attempt) → live attempts.old number ≡ Some a
+        → attempts.new
+        ≡ slice_set attempts.old number (Some (record a { events = a.events ++ event ∷ [] }))) }
     ensures err { OnErr result (attempts.new ≡ attempts.old) }
 {
     let place = number as usize;
@@ -140,7 +163,8 @@ pub(crate) fn add_event(
 
 /// The attempt of this number has this tag.
 pub(crate) fn set_tag(attempts: &mut [Option<OpenAttempt>], number: u64, tag: Tag)
-    ensures { (a : Face.Attempt) → live attempts.old number ≡ Some a → attempts.new ≡ slice_set attempts.old number (Some (record a { tag = Some tag })) }
+    ensures { (a : Face.Attempt) → live attempts.old number ≡ Some a
+        → attempts.new ≡ slice_set attempts.old number (Some (record a { tag = Some tag })) }
 {
     let place = number as usize;
     if place < attempts.len() {
@@ -152,7 +176,8 @@ pub(crate) fn set_tag(attempts: &mut [Option<OpenAttempt>], number: u64, tag: Ta
 
 /// The attempt of this number has this delivery.
 pub(crate) fn set_delivery(attempts: &mut [Option<OpenAttempt>], number: u64, delivery: Delivery)
-    ensures { (a : Face.Attempt) → live attempts.old number ≡ Some a → attempts.new ≡ slice_set attempts.old number (Some (record a { delivery = Some delivery })) }
+    ensures { (a : Face.Attempt) → live attempts.old number ≡ Some a
+        → attempts.new ≡ slice_set attempts.old number (Some (record a { delivery = Some delivery })) }
 {
     let place = number as usize;
     if place < attempts.len() {

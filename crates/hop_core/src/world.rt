@@ -84,7 +84,7 @@ impl World {
 
     // A request comes from outside.
     fn offer(&mut self, node: u32, tag: Tag, batch: &Batch) -> Result<bool, NoMemory>
-        ensures { Did (if_fresh self.old tag (at self.old node (offered node tag batch.now))) self.old result self.new }
+        ensures { Did (happens self.old (Steps.Offer node tag batch.now)) self.old result self.new }
     {
         if node as usize >= self.nodes.len() || !self.is_fresh(tag) {
             return Ok(false);
@@ -119,7 +119,7 @@ impl World {
 
     // A work is acknowledged, and its reply is sent.
     fn acknowledge(&mut self, node: u32, work: u64) -> Result<bool, NoMemory>
-        ensures { Did (at self.old node (Steps.acknowledge node work)) self.old result self.new }
+        ensures { Did (happens self.old (Steps.Acknowledge node work)) self.old result self.new }
     {
         let place = node as usize;
         if place >= self.nodes.len() {
@@ -135,7 +135,7 @@ impl World {
 
     // An attempt is sent.
     fn send(&mut self, node: u32, attempt: u64, to: u32, tag: Tag) -> Result<bool, NoMemory>
-        ensures { Did (if_fresh self.old tag (at self.old node (Steps.send attempt to tag))) self.old result self.new }
+        ensures { Did (happens self.old (Steps.Send node attempt to tag)) self.old result self.new }
     {
         let place = node as usize;
         if place >= self.nodes.len() || !self.is_fresh(tag) {
@@ -151,7 +151,8 @@ impl World {
 
     // A reply that was sent comes to an attempt.
     fn reply(&mut self, node: u32, attempt: u64, packet: u64) -> Result<bool, NoMemory>
-        ensures { Did (happens self.old (Steps.Reply node attempt packet)) self.old result self.new }
+        ensures { Did (happens self.old (Steps.Reply node attempt packet))
+            self.old result self.new }
     {
         let number = packet as usize;
         let place = node as usize;
@@ -167,7 +168,8 @@ impl World {
 
     // A step of one node that sends nothing.
     fn at(&mut self, node: u32, step: &HopStep) -> Result<bool, NoMemory>
-        ensures { Did (at self.old node (λ n. quietly (node_step step.now n))) self.old result self.new }
+        ensures { Did (at self.old node (λ n. quietly (node_step step.now n)))
+            self.old result self.new }
     {
         let place = node as usize;
         if place >= self.nodes.len() {
@@ -254,7 +256,8 @@ impl World {
     /// delivered, each number is left or was taken once, and packets, attempts and works agree. In a new world it holds
     /// (`World::new`), so it holds after every list of steps (`world_laws::every_run_keeps_the_accounting`).
     pub fn apply(&mut self, step: &HopStep) -> Result<bool, NoMemory>
-        ensures taken { IfOk result (λ taken. taken ≡ is_some (happens self.old (step_of step.now))) }
+        ensures taken { IfOk result (λ taken.
+            taken ≡ is_some (happens self.old (step_of step.now))) }
         ensures new { OnOk result (self.new ≡ next self.old (happens self.old (step_of step.now))) }
         ensures same { OnErr result (self.new ≡ self.old) }
         ensures acknowledged { Held self.old → AcknowledgedIsStored self.new }

@@ -1,6 +1,5 @@
-use Rattle.std.proofs.Common.{◌≡◌, None}
+use Rattle.std.proofs.Common.{None}
 use Rattle.std.proofs.lemmas.List.Edits.{map_over_more}
-use Rattle.hop_core.proofs.Live.{ended_is}
 use Rattle.hop_core.proofs.lists.end_all.Goals as goal
 
 pub loop-place-preserved : goal.loop-place-preserved

@@ -1,4 +1,4 @@
-use Rattle.std.proofs.Common.{◌≡◌, ◌∙◌, ◌∷◌, ◌+◌, List, drop, sym, ap, subst}
+use Rattle.std.proofs.Common.{◌∙◌, ◌+◌, List, drop, sym, ap}
 use Rattle.event_core.specs.Content.{Content}
 use Rattle.channel_face.specs.Token.{Token}
 use Rattle.world_laws.specs.Channels.{put_all}

@@ -1,4 +1,4 @@
-use Rattle.std.proofs.Common.{◌≡◌, ◌++◌, drop, take, map}
+use Rattle.std.proofs.Common.{◌≡◌, take, map}
 use Rattle.std.specs.Prelude.{filter}
 use Rattle.event_core.specs.Journal.{is_among}
 use Rattle.world_laws.specs.World.{required_of}

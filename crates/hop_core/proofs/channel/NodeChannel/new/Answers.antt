@@ -1,4 +1,4 @@
-use Rattle.std.proofs.Common.{rules, ◌≡◌, ap}
+use Rattle.std.proofs.Common.{rules, ap}
 use Rattle.channel_face.specs.Machine.{State}
 use Rattle.hop_core.proofs.channel.NodeChannel.new.Goals as goal
 

@@ -1,9 +1,9 @@
-use Rattle.std.proofs.Common.{rules, ◌≡◌, ◌∙◌, ◌<◌, ◌++◌, ◌∷◌, [], ℕ, List, length, drop, refl, sym, ap, Some, None, Option, true, false}
+use Rattle.std.proofs.Common.{rules, ◌≡◌, ◌∙◌, ◌<◌, ◌++◌, ◌∷◌, [], ℕ, List, length, drop, refl, sym, ap, Some, None, true, false}
 use Rattle.std.specs.Vec.{with_items}
 use Rattle.std.specs.List.{slice_get, slice_set}
 use Rattle.std.proofs.lemmas.Option.{slice_get_read}
 use Rattle.event_core.specs.Content.{Content}
-use Rattle.world_laws.specs.World.{Channel, Work, commits, live, share}
+use Rattle.world_laws.specs.World.{Channel, commits, live, share}
 use Rattle.world_laws.specs.Channels.{is_empty, stored}
 use Rattle.world_laws.specs.Steps.{is_passed}
 use Rattle.hop_core.specs.contracts.node.Node.{the_view}

@@ -1,4 +1,4 @@
-use Rattle.std.proofs.Common.{◌≡◌, drop, length}
+use Rattle.std.proofs.Common.{◌≡◌, drop}
 use Rattle.world_laws.specs.Channels.{all_reopened}
 use Rattle.hop_core.proofs.Reopens.{with_front}
 use Rattle.hop_core.proofs.node.Node.all_reopened.Given as goal

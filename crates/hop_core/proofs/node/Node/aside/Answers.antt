@@ -1,9 +1,6 @@
-use Rattle.std.proofs.Common.{rules, ◌≡◌, ◌∙◌, ◌<◌, ◌++◌, ◌∷◌, [], List, length, refl, sym, ap, Some, None, Option, true, false}
-use Rattle.std.specs.Prelude.{◌==◌}
-use Rattle.std.specs.List.{slice_get, slice_set}
+use Rattle.std.proofs.Common.{rules, ◌≡◌, ◌<◌, length, refl, Some, false}
+use Rattle.std.specs.List.{slice_get}
 use Rattle.std.proofs.lemmas.Option.{slice_get_read}
-use Rattle.event_core.specs.Journal.{is_among}
-use Rattle.world_laws.specs.World.{Attempt, Work, Channel, Node, Tag, Acked, Output, live}
 use Rattle.hop_core.specs.contracts.node.Node.{the_view}
 use Rattle.world_laws.specs.Channels.{is_empty, stored}
 use Rattle.hop_core.proofs.Nodes.{aside_done}

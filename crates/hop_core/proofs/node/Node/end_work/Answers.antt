@@ -1,10 +1,7 @@
-use Rattle.std.proofs.Common.{rules, ◌≡◌, ◌∙◌, ◌<◌, ◌++◌, ◌∷◌, [], List, length, drop, refl, sym, ap, Some, None, Option, true, false}
-use Rattle.std.specs.Prelude.{◌==◌}
+use Rattle.std.proofs.Common.{rules, ◌≡◌, ◌∙◌, length, drop, Some, None}
 use Rattle.std.specs.Vec.{with_items}
-use Rattle.std.specs.List.{slice_get, slice_set}
-use Rattle.std.proofs.lemmas.Option.{slice_get_read}
-use Rattle.event_core.specs.Journal.{is_among}
-use Rattle.world_laws.specs.World.{Attempt, Work, Channel, Node, Tag, Acked, Output, live}
+use Rattle.std.specs.List.{slice_set}
+use Rattle.world_laws.specs.World.{live}
 use Rattle.hop_core.specs.contracts.node.Node.{the_view}
 use Rattle.hop_core.proofs.Nodes.{written_back, end_work_done}
 use Rattle.hop_core.proofs.node.Node.end_work.Goals as goal

@@ -1,4 +1,4 @@
-use Rattle.std.proofs.Common.{rules, ◌≡◌, ◌∙◌, ◌<◌, List, length, sym, ap, subst, true, false}
+use Rattle.std.proofs.Common.{rules, ◌≡◌, ◌∙◌, ◌<◌, length, sym, ap, subst, true, false}
 use Rattle.world_laws.specs.World.{Node, share}
 use Rattle.world_laws.specs.Channels.{is_empty}
 use Rattle.world_laws.specs.Steps.{is_passed}

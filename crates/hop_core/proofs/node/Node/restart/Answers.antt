@@ -1,10 +1,6 @@
-use Rattle.std.proofs.Common.{rules, ◌≡◌, ◌∙◌, ◌<◌, ◌++◌, ◌∷◌, [], List, length, drop, refl, sym, ap, Some, None, Option, true, false}
+use Rattle.std.proofs.Common.{rules, ◌≡◌, ◌∙◌, length, drop, ap, Some}
 use Rattle.std.specs.Vec.{with_items}
-use Rattle.std.specs.Prelude.{◌==◌}
-use Rattle.std.specs.List.{slice_get, slice_set}
-use Rattle.std.proofs.lemmas.Option.{slice_get_read}
-use Rattle.event_core.specs.Journal.{is_among}
-use Rattle.world_laws.specs.World.{Attempt, Work, Channel, Node, Tag, Acked, Output, live, share, commits}
+use Rattle.world_laws.specs.World.{Node}
 use Rattle.hop_core.specs.contracts.node.Node.{the_view}
 use Rattle.world_laws.specs.Channels.{all_reopened}
 use Rattle.world_laws.specs.Steps.{ended}

@@ -1,7 +1,5 @@
-use Rattle.std.proofs.Common.{rules, ◌≡◌, ◌∙◌, ◌<◌, ◌++◌, ◌∷◌, [], List, length, refl, sym, ap, Some, None, true}
-use Rattle.std.specs.List.{slice_get, slice_set}
-use Rattle.std.proofs.lemmas.Option.{slice_get_read}
-use Rattle.world_laws.specs.World.{World, Node, Packet}
+use Rattle.std.proofs.Common.{rules, ◌≡◌, ◌∙◌, ◌<◌, ◌++◌, ◌∷◌, [], length, ap, true}
+use Rattle.world_laws.specs.World.{World, Packet}
 use Rattle.world_laws.specs.Steps as Steps
 use Rattle.hop_core.specs.contracts.world.World.{the_view}
 use Rattle.hop_core.proofs.Worlds.{offered_is}
