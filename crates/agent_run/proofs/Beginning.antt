@@ -13,7 +13,7 @@ use Rattle.channel_face.specs.History.{Opening, opening}
 use Rattle.channel_face.specs.Machine.{State, base_of, is_some_of}
 use Rattle.channel_face.specs.declared.replies.Kind.TheVariants.{File as OnFile}
 use Rattle.channel_face.proofs.LawLemmas.{after_none}
-use Rattle.channel_replay.specs.Recover.{Recovers}
+use Rattle.file_channel.specs.Folders.{OpensTo}
 use Rattle.txn_core.specs.Counted.{Counted}
 use Rattle.file_channel.specs.Folders.{IsAsBefore, Opens, OpensFrom}
 use Rattle.file_channel.specs.Stands.{MayFind, StandsOver}
@@ -54,7 +54,7 @@ idle_at_first s opened =
 found_none : (start : Opening) (image : Files) → MayFind start [] image → GivesLines start.base [] image
 found_none start image may =
     let found : may.0 ≡ start.base = may.3.1 ∙ ap (λ (l : List Entry). after_journal start.base l) (none_taken may.3.0) ∙ after_none start.base in
-    (may.1, subst (λ (b : Base). Recovers image b may.1) (found ∙ sym (behind_none start.base)) may.2)
+    (may.1, subst (λ (b : Base). OpensTo image b may.1) (found ∙ sym (behind_none start.base)) may.2)
 
 no_front : (base : Base) (image : Files) → GivesLines base [] image → GivesFront base [] [] image
 no_front base image gives = record { more = []; rest = []; first = refl; one = omega arith; gives = gives }

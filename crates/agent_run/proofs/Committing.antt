@@ -30,7 +30,7 @@ use Rattle.channel_face.specs.declared.replies.StageCause.TheVariants as StageNo
 use Rattle.channel_face.specs.declared.replies.Ticket.{Ticket}
 use Rattle.channel_face.proofs.LawLemmas.{after_none}
 use Rattle.txn_core.proofs.Kept.{few_opened, put_allows}
-use Rattle.channel_replay.specs.Recover.{Recovers}
+use Rattle.file_channel.specs.Folders.{OpensTo}
 use Rattle.file_channel.specs.Touches.{Flushed, IsSpentLog, Rests, flushes}
 use Rattle.file_channel.specs.Written.{MayRecover}
 use Rattle.file_channel.proofs.Opening.{joined, only_more}
@@ -293,8 +293,8 @@ staged_gain told told' start s event has flushed = tells_more told told' (λ t u
     gains image may = (
       may.0,
       elim may.2 [
-        | inl was ↦ inl (subst (λ (b : Base). Recovers image b may.0) has.base was)
-        | inr is ↦ inr (subst (λ (b : Base). Recovers image b may.0) (ap (λ (l : List Entry). after_journal (base_of s) l) has.staged ∙ ap (λ (b : Base). after_journal b (one_put event)) has.base) is)
+        | inl was ↦ inl (subst (λ (b : Base). OpensTo image b may.0) has.base was)
+        | inr is ↦ inr (subst (λ (b : Base). OpensTo image b may.0) (ap (λ (l : List Entry). after_journal (base_of s) l) has.staged ∙ ap (λ (b : Base). after_journal b (one_put event)) has.base) is)
       ],
     )
 
@@ -309,8 +309,8 @@ none_stays told told' start s token events has flushed = tells_more told told' (
     keeps image may = (
       may.0,
       elim may.2 [
-        | inl was ↦ subst (λ (b : Base). Recovers image b may.0) has.base was
-        | inr is ↦ subst (λ (b : Base). Recovers image b may.0) none is
+        | inl was ↦ subst (λ (b : Base). OpensTo image b may.0) has.base was
+        | inr is ↦ subst (λ (b : Base). OpensTo image b may.0) none is
       ],
     )
 

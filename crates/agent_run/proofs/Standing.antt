@@ -16,7 +16,7 @@ use Rattle.event_core.specs.Journal.{Base, after_journal, left, numbered, withou
 use Rattle.channel_face.specs.Machine.{State, base_of}
 use Rattle.channel_face.proofs.Numbers.{numbered-append, without_none}
 use Rattle.channel_face.proofs.Within.{length-numbered}
-use Rattle.channel_replay.specs.Recover.{Recovers}
+use Rattle.file_channel.specs.Folders.{OpensTo}
 use Rattle.file_channel.specs.Touches.{IsSpentLog, Rests}
 use Rattle.netcat_source.specs.declared.replies.LineVerdict.{LineVerdict}
 use Rattle.netcat_source.specs.declared.replies.LineVerdict.TheVariants.{Accepted, Refused, InDoubt, NoMemory}
@@ -120,7 +120,7 @@ module _ (t u v : Told) (s : State) (done : List Handled) (line : List ℕ) (f :
   same_length = length-map f.holds.acks (λ (a : Acknowledged). a.line)
 
   keeps_lines : (image : Files) → Keeps (base_of s) image → GivesLines b lines image
-  keeps_lines image keeps = (keeps.0, subst (λ (x : Base). Recovers image x keeps.0) f.base keeps.1)
+  keeps_lines image keeps = (keeps.0, subst (λ (x : Base). OpensTo image x keeps.0) f.base keeps.1)
 
   pub with_line : after_journal (base_of s) (one_put (event_of line)) ≡ behind f.holds.base (lines_in f.holds.acks ++ line ∷ [])
   with_line = ap (λ (x : Base). after_journal x (one_put (event_of line))) f.base ∙ behind-push b lines line
@@ -182,7 +182,7 @@ module _ (t u v : Told) (s : State) (done : List Handled) (line : List ℕ) (f :
     later = clock_rises u v (MayGain (base_of s) (event_of line)) run
 
     gives_all : (image : Files) → IsImage v.now image → GivesLines b (lines ++ line ∷ []) image
-    gives_all image left = let k = rests image left in (k.0, subst (λ (x : Base). Recovers image x k.0) (base' ∙ with_line) k.1)
+    gives_all image left = let k = rests image left in (k.0, subst (λ (x : Base). OpensTo image x k.0) (base' ∙ with_line) k.1)
 
     up_to' : UpTo (clock v) acks'
     up_to' = up_to-push (clock v) acks new (up_to (clock u) (clock v) acks later f.moments) (omega arith)
@@ -198,7 +198,7 @@ module _ (t u v : Told) (s : State) (done : List Handled) (line : List ℕ) (f :
         let acked : by m acks' ≡ lines = by-none m acks new before ∙ here m since in
         elim may.1 [
           | inl was ↦ all_front b lines (line ∷ []) (lines_in acks' ++ []) (by m acks') image more_lines' acked (keeps_lines image (may.0, was))
-          | inr is ↦ one_front b lines line (lines_in acks' ++ []) (by m acks') image more_lines' acked (may.0, subst (λ (x : Base). Recovers image x may.0) with_line is)
+          | inr is ↦ one_front b lines line (lines_in acks' ++ []) (by m acks') image more_lines' acked (may.0, subst (λ (x : Base). OpensTo image x may.0) with_line is)
         ]
 
     after : (m : ℕ) (image : Files) → clock v ≤ m → IsImage v.now image → MayGain (base_of s) (event_of line) image → GivesFront b (lines_in acks' ++ []) (by m acks') image
@@ -288,7 +288,7 @@ module _ (t u v : Told) (s : State) (done : List Handled) (line : List ℕ) (f :
     doubt_front : (acked : List (List ℕ)) (image : Files) → acked ≡ lines → MayGain (base_of s) (event_of line) image → GivesFront b (lines ++ line ∷ []) acked image
     doubt_front acked image same may = elim may.1 [
       | inl was ↦ all_front b lines (line ∷ []) (lines ++ line ∷ []) acked image refl same (keeps_lines image (may.0, was))
-      | inr is ↦ one_front b lines line (lines ++ line ∷ []) acked image refl same (may.0, subst (λ (x : Base). Recovers image x may.0) with_line is)
+      | inr is ↦ one_front b lines line (lines ++ line ∷ []) acked image refl same (may.0, subst (λ (x : Base). OpensTo image x may.0) with_line is)
     ]
 
     pub one_in_doubt : (f.holds.refused ≡ []) ⊎ (IsAtEnd b f.holds.txn (length acks) ⊎ IsSpentLog v default_limits.max_file) → Holds done (line ∷ []) t v

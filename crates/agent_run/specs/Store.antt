@@ -14,7 +14,7 @@ use Rattle.channel_face.specs.declared.replies.BeginRefused.{BeginRefused}
 use Rattle.channel_face.specs.declared.replies.BeginRefused.TheVariants as BeginNo
 use Rattle.channel_face.specs.declared.replies.PutRefused.{PutRefused}
 use Rattle.channel_face.specs.declared.replies.PutRefused.TheVariants as PutNo
-use Rattle.channel_replay.specs.Recover.{Recovers}
+use Rattle.file_channel.specs.Folders.{OpensTo}
 use Rattle.file_channel.specs.Touches.{IsSpentLog}
 use Rattle.netcat_source.specs.declared.replies.LineVerdict.{LineVerdict}
 use Rattle.netcat_source.specs.declared.replies.LineVerdict.TheVariants.{Accepted, Refused, InDoubt, NoMemory}
@@ -50,13 +50,13 @@ put_verdict PutNo.NoMemory = NoMemory
 abbrev pub one_put : Content → List Entry
 one_put event = Puts (event ∷ []) ∷ []
 
--- an image recovers to a base
+-- an image opens to a base
 abbrev pub Keeps : Base → Files → Type 0
-Keeps base image = (txn : ℕ) × Recovers image base txn
+Keeps base image = (txn : ℕ) × OpensTo image base txn
 
--- an image recovers to a base, or to it and one event behind it
+-- an image opens to a base, or to it and one event behind it
 abbrev pub MayGain : Base → Content → Files → Type 0
-MayGain base event image = (txn : ℕ) × (Recovers image base txn ⊎ Recovers image (after_journal base (one_put event)) txn)
+MayGain base event image = (txn : ℕ) × (OpensTo image base txn ⊎ OpensTo image (after_journal base (one_put event)) txn)
 
 -- what a stop may leave while an event is put: with the event only where it is accepted or in doubt
 abbrev pub MayShow : LineVerdict → Base → Content → Files → Type 0

@@ -7,8 +7,7 @@ use Rattle.event_core.specs.Journal.{Base, numbered}
 use Rattle.channel_face.specs.declared.replies.Limits.{Limits}
 use Rattle.channel_face.specs.declared.replies.OpenCause.{OpenCause}
 use Rattle.channel_face.specs.declared.replies.OpenCause.TheVariants as causes
-use Rattle.channel_replay.specs.Recover.{Recovers}
-use Rattle.file_channel.specs.Folders.{AreSame, IsAsBefore, Opens, OpensFrom, OpensOver, Refuses}
+use Rattle.file_channel.specs.Folders.{AreSame, IsAsBefore, Opens, OpensFrom, OpensOver, OpensTo, Refuses}
 use Rattle.file_channel.specs.Touches.{IsSpentLog}
 use Rattle.netcat_source.specs.declared.replies.LineVerdict.TheVariants.{Accepted, Refused}
 use Rattle.agent_run.specs.Handled.{Handled, all_with}
@@ -25,9 +24,9 @@ event_of line = content [] line
 abbrev pub behind : Base → List (List ℕ) → Base
 behind base lines = record { items = base.items ++ numbered base.first (map event_of lines); first = base.first + length lines }
 
--- an image recovers to a base and these lines behind it
+-- an image opens to a base and these lines behind it
 abbrev pub GivesLines : Base → List (List ℕ) → Files → Type 0
-GivesLines base lines image = (txn : ℕ) × Recovers image (behind base lines) txn
+GivesLines base lines image = (txn : ℕ) × OpensTo image (behind base lines) txn
 
 -- A line that was acknowledged, and the disk's clock when it was.
 pub record Acknowledged : Type 0 where
@@ -42,7 +41,7 @@ abbrev pub by : ℕ → List Acknowledged → List (List ℕ)
 by m [] = []
 by m (a ∷ acks) = if nat_le a.moment m then a.line ∷ by m acks else by m acks
 
--- An image recovers to a base and, behind it, a first part of the lines: those that were acknowledged, and at most one more.
+-- An image opens to a base and, behind it, a first part of the lines: those that were acknowledged, and at most one more.
 pub record GivesFront (base : Base) (lines acknowledged : List (List ℕ)) (image : Files) : Type 0 where
   pub more : List (List ℕ)
   pub rest : List (List ℕ)
