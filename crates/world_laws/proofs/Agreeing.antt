@@ -40,7 +40,7 @@ use Rattle.world_laws.proofs.Fitting.{Fits, fits_of, fits_run, begin_allows, put
 -- what a reached state is
 
 reached_fits : (s : State) → IsReached s → Fits s
-reached_fits s r = subst Fits r.state (fits_run (opening r.start) r.calls r.run (record { kind = r.kind; few = omega arith; spent = λ some. absurd (omega (arith, some)); fits = tt }))
+reached_fits s r = subst Fits r.state (fits_run (opening r.start) r.calls r.run (record { kind = r.kind; few = omega arith; fits = tt }))
 
 reached_within : (s : State) → IsReached s → count s ≤ s.rules.limits.capacity
 reached_within s r =
@@ -239,8 +239,8 @@ module _ (s : State) (c : Channel) (reached : IsReached s) (is : IsHistory c.sta
   numbered : AreNumbered t.txn t.opened
   numbered = (sound_is t c.journal is).numbered
 
-  stored_goes : (token : Token) (ticket : Ticket) (e : Content) (events : List Content) → puts_of s token ≡ Some (e ∷ events) → Admits true s (StagePut token (Ok ticket)) → IsTaken (stored (e ∷ events) c) (after s (StagePut token (Ok ticket)))
-  stored_goes token ticket e events puts may =
+  stored_goes : (token : Token) (ticket : Ticket) (e : Content) (events : List Content) → t.txn < 2 ^ 64 - 1 → puts_of s token ≡ Some (e ∷ events) → Admits true s (StagePut token (Ok ticket)) → IsTaken (stored (e ∷ events) c) (after s (StagePut token (Ok ticket)))
+  stored_goes token ticket e events few puts may =
       let all : List Content = e ∷ events in
       let entry : entry_of token.number s.opened ≡ Some (Puts all) = (puts_of-some s token all puts).1 in
       let allowed = stage_allows s all (ap (stage_put_refusal s) (sym puts) ∙ may.0) in
@@ -249,7 +249,6 @@ module _ (s : State) (c : Channel) (reached : IsReached s) (is : IsHistory c.sta
       let takes = sum-without takes_one token.number s.opened (Puts all) entry in
       let both = sum_both s.opened in
       let both_t = sum_both t.opened in
-      let some : 1 ≤ length s.opened = omega (arith, both, one) in
       let within = reached_within s reached in
       let shown = open_events token.number s.opened all entry in
       let items = ap length agrees.items in
@@ -264,7 +263,7 @@ module _ (s : State) (c : Channel) (reached : IsReached s) (is : IsHistory c.sta
         few = omega (arith, own.0, txn_cap);
         room = omega (arith, within, shown, items, staged, cap);
       } in
-      let goes = transaction_goes t e events room own.1 (omega (arith, both_t, agrees.no_puts, agrees.few, both, one, fits.few)) (omega (arith, agrees.txn, one, fits.spent some)) (omega (arith, allowed.1, agrees.first, staged)) in (
+      let goes = transaction_goes t e events room own.1 (omega (arith, both_t, agrees.no_puts, agrees.few, both, one, fits.few)) few (omega (arith, allowed.1, agrees.first, staged)) in (
         record c { state = put_staged t all; named = c.named ++ None ∷ [] },
         ap (λ (o : Option State). and_then o (λ x. Some (record c { state = x; named = c.named ++ None ∷ [] }))) goes,
         subst (Agrees (put_staged t all)) (sym (staged_state s token e events entry)) (record {
@@ -276,7 +275,6 @@ module _ (s : State) (c : Channel) (reached : IsReached s) (is : IsHistory c.sta
           no_puts = agrees.no_puts;
           few = omega (arith, agrees.few, takes);
           held = λ n. let held = sum-without (times_in n) token.number s.opened (Puts all) entry in omega (arith, agrees.held n, held);
-          txn = omega (arith, agrees.txn, one);
         }),
       )
 
@@ -295,7 +293,6 @@ module _ (s : State) (c : Channel) (reached : IsReached s) (is : IsHistory c.sta
           no_puts = agrees.no_puts;
           few = agrees.few;
           held = agrees.held;
-          txn = agrees.txn;
         },
       )
 
@@ -315,7 +312,6 @@ module _ (s : State) (c : Channel) (reached : IsReached s) (is : IsHistory c.sta
     no_puts = agrees.no_puts;
     few = agrees.few;
     held = agrees.held;
-    txn = agrees.txn;
   }
 
   broken_by : s.broken ≡ false → IsTaken (flushed false c) (broken_state s)
@@ -337,8 +333,8 @@ module _ (s : State) (c : Channel) (reached : IsReached s) (is : IsHistory c.sta
       from true is = (c, refl, subst (λ (x : State). Agrees x (broken_state s)) (ap (λ (b : Bool). record t { broken = b }) (sym is)) breaks)
       from false is = (record c { state = broken_state t }, refl, breaks)
 
-  reopened_goes : (kept txn : ℕ) → t.life < 2 ^ 64 - 1 → t.txn ≤ txn → Admits true s (Reopen (Ok (record { kept = Front kept; txn = txn }))) → IsTaken (reopened kept c) (after s (Reopen (Ok (record { kept = Front kept; txn = txn }))))
-  reopened_goes kept txn life few may =
+  reopened_goes : (kept txn : ℕ) → t.life < 2 ^ 64 - 1 → Admits true s (Reopen (Ok (record { kept = Front kept; txn = txn }))) → IsTaken (reopened kept c) (after s (Reopen (Ok (record { kept = Front kept; txn = txn }))))
+  reopened_goes kept txn life may =
       let make : Channel = record c { state = after_reopen t (Ok (record { kept = Front kept; txn = t.txn })); journal = c.journal ++ take kept t.staged; named = take (length c.journal + kept) c.named } in
       let size = ap (λ (l : List Entry). length l) agrees.staged in
       let test : (nat_le kept (length t.staged) && nat_lt t.life (2 ^ 64 - 1)) ≡ true = both_tests (nat_le kept (length t.staged)) (nat_lt t.life (2 ^ 64 - 1)) (le_true kept (length t.staged) (omega (arith, size, may.0.1))) (lt_true t.life (2 ^ 64 - 1) life) in
@@ -354,19 +350,17 @@ module _ (s : State) (c : Channel) (reached : IsReached s) (is : IsHistory c.sta
           no_puts = refl;
           few = omega arith;
           held = λ n. refl;
-          txn = omega (arith, few);
         },
       )
 
-  begun_goes : (token : Token) → Admits true s (BeginTake (Ok token)) → IsTaken (take_begun c) (after s (BeginTake (Ok token)))
-  begun_goes token may =
+  begun_goes : (token : Token) → t.txn < 2 ^ 64 - 1 → Admits true s (BeginTake (Ok token)) → IsTaken (take_begun c) (after s (BeginTake (Ok token)))
+  begun_goes token few may =
       let allowed = begin_allows s may.0 in
       let both = sum_both s.opened in
       let both_t = sum_both t.opened in
       let make : Channel = record c { state = after_begin (Takes []) t (Ok (next_token t)) } in
-      let free = begin_free t (agrees.broken ∙ allowed.0) (omega (arith, both, both_t, agrees.no_puts, agrees.few, allowed.1)) (omega (arith, agrees.txn, allowed.2)) in
+      let free = begin_free t (agrees.broken ∙ allowed.0) (omega (arith, both, both_t, agrees.no_puts, agrees.few, allowed.1)) few in
       let puts_t = sum-push puts_one t.opened (t.txn, Takes []) in
-      let puts_s = sum-push puts_one s.opened (s.txn, Takes []) in
       let takes_t = sum-push takes_one t.opened (t.txn, Takes []) in
       let takes_s = sum-push takes_one s.opened (s.txn, Takes []) in (
         make,
@@ -380,7 +374,6 @@ module _ (s : State) (c : Channel) (reached : IsReached s) (is : IsHistory c.sta
           no_puts = omega (arith, puts_t, agrees.no_puts);
           few = omega (arith, takes_t, takes_s, agrees.few);
           held = λ n. let held_t = sum-push (times_in n) t.opened (t.txn, Takes []) in let held_s = sum-push (times_in n) s.opened (s.txn, Takes []) in omega (arith, held_t, held_s, agrees.held n);
-          txn = omega (arith, puts_s, agrees.txn);
         },
       )
 
@@ -389,7 +382,6 @@ module _ (s : State) (c : Channel) (reached : IsReached s) (is : IsHistory c.sta
     ended : (staged_t staged_s : List Entry) → staged_t ≡ staged_s → Agrees (record t { opened = without_entry own.number t.opened; staged = staged_t }) (record s { opened = without_entry token.number s.opened; staged = staged_s })
     ended staged_t staged_s same =
         let puts_t = sum-without puts_one own.number t.opened (Takes numbers) mine in
-        let puts_s = sum-without puts_one token.number s.opened (Takes numbers) its in
         let takes_t = sum-without takes_one own.number t.opened (Takes numbers) mine in
         let takes_s = sum-without takes_one token.number s.opened (Takes numbers) its in
         record {
@@ -401,7 +393,6 @@ module _ (s : State) (c : Channel) (reached : IsReached s) (is : IsHistory c.sta
           no_puts = omega (arith, puts_t, agrees.no_puts);
           few = omega (arith, takes_t, takes_s, agrees.few);
           held = λ n. let held_t = sum-without (times_in n) own.number t.opened (Takes numbers) mine in let held_s = sum-without (times_in n) token.number s.opened (Takes numbers) its in omega (arith, held_t, held_s, agrees.held n);
-          txn = omega (arith, puts_s, agrees.txn);
         }
 
     staged_both : Agrees (stage own.number (entry_of own.number t.opened) t) (stage token.number (entry_of token.number s.opened) s)
@@ -419,7 +410,6 @@ module _ (s : State) (c : Channel) (reached : IsReached s) (is : IsHistory c.sta
     more_both k =
         let new : Entry = Takes (numbers ++ k ∷ []) in
         let puts_t = sum-with puts_one own.number t.opened (Takes numbers) new mine in
-        let puts_s = sum-with puts_one token.number s.opened (Takes numbers) new its in
         let takes_t = sum-with takes_one own.number t.opened (Takes numbers) new mine in
         let takes_s = sum-with takes_one token.number s.opened (Takes numbers) new its in
         record {
@@ -431,7 +421,6 @@ module _ (s : State) (c : Channel) (reached : IsReached s) (is : IsHistory c.sta
           no_puts = omega (arith, puts_t, agrees.no_puts);
           few = omega (arith, takes_t, takes_s, agrees.few);
           held = λ n. let held_t = sum-with (times_in n) own.number t.opened (Takes numbers) new mine in let held_s = sum-with (times_in n) token.number s.opened (Takes numbers) new its in omega (arith, held_t, held_s, agrees.held n);
-          txn = omega (arith, puts_s, agrees.txn);
         }
 
   takes_both : (token own : Token) (numbers : List ℕ) → takes_of t own ≡ takes_of s token → takes_of s token ≡ Some numbers → (entry_of own.number t.opened ≡ Some (Takes numbers)) × (entry_of token.number s.opened ≡ Some (Takes numbers))
@@ -514,7 +503,6 @@ module _ (s : State) (c : Channel) (reached : IsReached s) (is : IsHistory c.sta
   -- a transaction of puts ends
   puts_end : (number : ℕ) (events : List Content) → entry_of number s.opened ≡ Some (Puts events) → Agrees t (close number s)
   puts_end number events entry =
-      let puts = sum-without puts_one number s.opened (Puts events) entry in
       let takes = sum-without takes_one number s.opened (Puts events) entry in
       record {
         rules = agrees.rules;
@@ -525,7 +513,6 @@ module _ (s : State) (c : Channel) (reached : IsReached s) (is : IsHistory c.sta
         no_puts = agrees.no_puts;
         few = omega (arith, takes, agrees.few);
         held = λ n. let held = sum-without (times_in n) number s.opened (Puts events) entry in omega (arith, held, agrees.held n);
-        txn = omega (arith, puts, agrees.txn);
       }
 
   empty_ends : (number : ℕ) → entry_of number s.opened ≡ Some (Puts []) → Agrees t (stage number (entry_of number s.opened) s)
@@ -570,7 +557,6 @@ module _ (s : State) (c : Channel) (reached : IsReached s) (is : IsHistory c.sta
   no_step_goes (Prune reply) is may = agrees
   no_step_goes (Reopen reply) is may = absurd is
   no_step_goes (BeginPut (Ok token)) is may =
-      let puts = sum-push puts_one s.opened (s.txn, Puts []) in
       let takes = sum-push takes_one s.opened (s.txn, Puts []) in
       record {
         rules = agrees.rules;
@@ -581,13 +567,11 @@ module _ (s : State) (c : Channel) (reached : IsReached s) (is : IsHistory c.sta
         no_puts = agrees.no_puts;
         few = omega (arith, takes, agrees.few);
         held = λ n. let held = sum-push (times_in n) s.opened (s.txn, Puts []) in omega (arith, held, agrees.held n);
-        txn = omega (arith, puts, agrees.txn);
       }
   no_step_goes (Put token e (Ok done)) is may =
       let a = put_allows s (puts_of s token) e fits.kind may.0 in
       let entry = (puts_of-some s token a.0 a.1).1 in
       let new : Entry = Puts (a.0 ++ e ∷ []) in
-      let puts = sum-with puts_one token.number s.opened (Puts a.0) new entry in
       let takes = sum-with takes_one token.number s.opened (Puts a.0) new entry in
       let there : record s { opened = with_entry token.number new s.opened } ≡ after s (Put token e (Ok done)) =
       ap (λ (b : Bool). add_put (settle_if b s) token.number (Some a.0) e) (sym is) ∙ ap (λ (p : Option (List Content)). add_put (settle_if done.spilled s) token.number p e) (sym a.1) in
@@ -600,7 +584,6 @@ module _ (s : State) (c : Channel) (reached : IsReached s) (is : IsHistory c.sta
         no_puts = agrees.no_puts;
         few = omega (arith, takes, agrees.few);
         held = λ n. let held = sum-with (times_in n) token.number s.opened (Puts a.0) new entry in omega (arith, held, agrees.held n);
-        txn = omega (arith, puts, agrees.txn);
       })
   no_step_goes (RollbackPut token false) is may = agrees
   no_step_goes (RollbackPut token true) is may = from (puts_of s token) refl may

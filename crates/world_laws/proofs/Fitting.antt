@@ -29,7 +29,6 @@ OpenFits r opened = AllByRecursion (λ (o : ℕ × Entry). EntryFits r o.1) open
 pub record Fits (s : State) : Type 0 where
   pub kind : s.rules.kind ≡ OnFile
   pub few : length s.opened ≤ 1024
-  pub spent : 1 ≤ length s.opened → s.txn ≤ 2 ^ 64 - 1
   pub fits : OpenFits s.rules s.opened
 
 pub fits_of : (r : Rules) (number : ℕ) (opened : Opened) (entry : Entry) → OpenFits r opened → entry_of number opened ≡ Some entry → EntryFits r entry
@@ -101,16 +100,15 @@ put_allows s (Some events) event kind none =
 
 -- each call keeps it
 
-same_fits : (s s' : State) → s'.rules ≡ s.rules → s'.opened ≡ s.opened → s'.txn ≡ s.txn → Fits s → Fits s'
-same_fits s s' rules opened txn f = record {
+same_fits : (s s' : State) → s'.rules ≡ s.rules → s'.opened ≡ s.opened → Fits s → Fits s'
+same_fits s s' rules opened f = record {
   kind = ap (λ (r : Rules). r.kind) rules ∙ f.kind;
   few = subst (λ (l : Opened). length l ≤ 1024) (sym opened) f.few;
-  spent = λ some. subst (λ (n : ℕ). n ≤ 2 ^ 64 - 1) (sym txn) (f.spent (subst (λ (l : Opened). 1 ≤ length l) opened some));
   fits = subst (λ (r : Rules). OpenFits r s'.opened) (sym rules) (subst (OpenFits s.rules) (sym opened) f.fits);
 }
 
 settled_fits : (b : Bool) (s : State) → Fits s → Fits (settle_if b s)
-settled_fits true s f = same_fits s (settle s) refl refl refl f
+settled_fits true s f = same_fits s (settle s) refl refl f
 settled_fits false s f = f
 
 closed_fits : (number : ℕ) (s : State) (staged : List Entry) → Fits s → Fits (record s { opened = without_entry number s.opened; staged = staged })
@@ -119,7 +117,6 @@ closed_fits number s staged f =
     record {
       kind = f.kind;
       few = omega (arith, f.few, shorter);
-      spent = λ some. f.spent (omega (arith, some, shorter));
       fits = without_fits s.rules number s.opened f.fits;
     }
 
@@ -136,7 +133,6 @@ changed_fits number entry s fits f =
     record {
       kind = f.kind;
       few = omega (arith, f.few, same);
-      spent = λ some. f.spent (omega (arith, some, same));
       fits = with_fits s.rules number entry s.opened fits f.fits;
     }
 
@@ -147,7 +143,6 @@ begun_fits entry s fits none f =
     record {
       kind = f.kind;
       few = omega (arith, free.1, longer);
-      spent = λ some. omega (arith, free.2);
       fits = push_fits s.rules s.opened (s.txn, entry) fits f.fits;
     }
 
@@ -169,10 +164,10 @@ take_fits b number (Some numbers) [] s f = settled_fits b s f
 take_fits b number (Some numbers) (item ∷ items) s f = changed_fits number (Takes (numbers ++ item.0 ∷ [])) (settle_if b s) tt (settled_fits b s f)
 
 reopen_fits : (s : State) (kept : Kept) (txn : ℕ) → Fits s → Fits (after_reopen s (Ok (record { kept = kept; txn = txn })))
-reopen_fits s kept txn f = record { kind = f.kind; few = omega arith; spent = λ some. absurd (omega (arith, some)); fits = tt }
+reopen_fits s kept txn f = record { kind = f.kind; few = omega arith; fits = tt }
 
 broken_fits : (s : State) → Fits s → Fits (broken_state s)
-broken_fits s f = same_fits s (broken_state s) refl refl refl f
+broken_fits s f = same_fits s (broken_state s) refl refl f
 
 fits_after : (s : State) (call : Call) → Admits true s call → Fits s → Fits (after s call)
 fits_after s (BeginPut (Ok token)) may f = begun_fits (Puts []) s (omega arith, tt) may.0 f

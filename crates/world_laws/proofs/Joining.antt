@@ -1,5 +1,5 @@
 -- What a channel can do, a step of the world can.
-use Rattle.std.proofs.Common.{◌⊎◌, inl, inr, ◌≡◌, ◌≢◌, ◌<◌, ◌≤◌, ◌-◌, ◌^◌, ◌++◌, ◌∷◌, [], ℕ, List, length, slice_get, slice_set, Option, Some, None, Ok, Err, Bool, true, false, ◌==◌, ◌&&◌, not, refl, ◌∙◌, ap}
+use Rattle.std.proofs.Common.{◌⊎◌, inl, inr, ◌≡◌, ◌≢◌, ◌<◌, ◌-◌, ◌^◌, ◌++◌, ◌∷◌, [], ℕ, List, length, slice_get, slice_set, Option, Some, None, Ok, Err, Bool, true, false, ◌==◌, ◌&&◌, not, refl, ◌∙◌, ap}
 use Rattle.std.proofs.lemmas.Bool.Decides.{eqb_tells}
 use Rattle.event_core.specs.Content.{Content}
 use Rattle.channel_face.specs.Token.{Token}
@@ -46,10 +46,10 @@ module _ (w : World) (n channel : ℕ) (node : Node) (c : Channel) (s : State) (
       (is ∙ goes (on_channel channel f) (record node { channels = slice_set node.channels channel taken_it.0 }) (on_channel_goes f taken_it.0 taken_it.1))
       (set_here node.channels channel c taken_it.0 there) taken_it.2
 
-  accepts : (number : ℕ) (work : Work) (token : Token) (ticket : Ticket) (e : Content) (events : List Content) → live node.works number ≡ Some work → is_passed work channel ≡ false → share node work.made channel ≡ e ∷ events
+  accepts : (number : ℕ) (work : Work) (token : Token) (ticket : Ticket) (e : Content) (events : List Content) → c.state.txn < 2 ^ 64 - 1 → live node.works number ≡ Some work → is_passed work channel ≡ false → share node work.made channel ≡ e ∷ events
       → puts_of s token ≡ Some (e ∷ events) → Admits true s (StagePut token (Ok ticket)) → StepIsTaken w (Steps.Accept n number channel) n channel (after s (StagePut token (Ok ticket)))
-  accepts number work token ticket e events its fresh mine puts may =
-      let t = can.stored token ticket e events puts may in
+  accepts number work token ticket e events few its fresh mine puts may =
+      let t = can.stored token ticket e events few puts may in
       let mine_of : Work → List Content = λ k. share node k.made channel in
       let test : Work → Bool = λ k. not (is_empty (mine_of k)) && not (is_passed k channel) in
       let go : Work → Channel → Option Node = λ k x. only_if (test k) (accepted node number k channel x (stored (mine_of k) x)) in
@@ -62,9 +62,9 @@ module _ (w : World) (n channel : ℕ) (node : Node) (c : Channel) (s : State) (
       ∙ (ap (λ (b : Bool). only_if b (accepted node number work channel c (stored (mine_of work) c))) yes ∙ ap (λ (o : Option Channel). Some (accepted node number work channel c o)) got)) in
       leaves (Steps.Accept n number channel) new t.0 (after s (StagePut token (Ok ticket))) (goes (accept number channel) new step) (set_here node.channels channel c t.0 there) t.2
 
-  begins : (token : Token) → Admits true s (BeginTake (Ok token)) → StepIsTaken w (Steps.Take n channel None) n channel (after s (BeginTake (Ok token)))
-  begins token may =
-      let t = can.begun token may in
+  begins : (token : Token) → c.state.txn < 2 ^ 64 - 1 → Admits true s (BeginTake (Ok token)) → StepIsTaken w (Steps.Take n channel None) n channel (after s (BeginTake (Ok token)))
+  begins token few may =
+      let t = can.begun token few may in
       let make : Channel → Channel → Option Node = λ x d. Some (record node { channels = slice_set node.channels channel d; attempts = node.attempts ++ Some (attempt_of channel x) ∷ [] }) in
       let new : Node = record node { channels = slice_set node.channels channel t.0; attempts = node.attempts ++ Some (attempt_of channel c) ∷ [] } in
       let step : begin_take channel node ≡ Some new = ap (λ (o : Option Channel). and_then o (λ x. and_then (take_begun x) (make x))) there ∙ ap (λ (o : Option Channel). and_then o (make c)) t.1 in
@@ -116,9 +116,9 @@ module _ (w : World) (n channel : ℕ) (node : Node) (c : Channel) (s : State) (
         let step : end_attempt number node ≡ Some new = ap (λ (o : Option Attempt). and_then o (λ k. on_channel k.channel (given_up k.token) less)) is.live_one ∙ ends_with (given_up a.token) t.0 t.1 in
         leaves (Steps.EndAttempt n number) new t.0 (after s (RollbackTake token true)) (goes (end_attempt number) new step) (set_own t.0) t.2
 
-  mends : (kept txn : ℕ) → c.state.life < 2 ^ 64 - 1 → c.state.txn ≤ txn → Admits true s (Reopen (Ok (record { kept = Front kept; txn = txn }))) → StepIsTaken w (Steps.Mend n channel kept) n channel (after s (Reopen (Ok (record { kept = Front kept; txn = txn }))))
-  mends kept txn life few may =
-      let t = can.reopened kept txn life few may in
+  mends : (kept txn : ℕ) → c.state.life < 2 ^ 64 - 1 → Admits true s (Reopen (Ok (record { kept = Front kept; txn = txn }))) → StepIsTaken w (Steps.Mend n channel kept) n channel (after s (Reopen (Ok (record { kept = Front kept; txn = txn }))))
+  mends kept txn life may =
+      let t = can.reopened kept txn life may in
       let make : Channel → Channel → Option Node = λ x d. Some (record node { channels = slice_set node.channels channel d; works = without_works channel (length x.journal) node.works; attempts = without_attempts channel node.attempts }) in
       let new : Node = record node { channels = slice_set node.channels channel t.0; works = without_works channel (length c.journal) node.works; attempts = without_attempts channel node.attempts } in
       let step : mend channel kept node ≡ Some new = ap (λ (o : Option Channel). and_then o (λ x. and_then (reopened kept x) (make x))) there ∙ ap (λ (o : Option Channel). and_then o (make c)) t.1 in
@@ -151,7 +151,7 @@ module _ (w : World) (n channel : ℕ) (node : Node) (c : Channel) (s : State) (
   steps_are_taken : StepsAreTaken w n channel node c s
   steps_are_taken = record {
     accept = accepts;
-    aside = λ token ticket e events puts may. by_channel (Steps.Aside n channel (e ∷ events)) (aside (e ∷ events)) (after s (StagePut token (Ok ticket))) refl (can.stored token ticket e events puts may);
+    aside = λ token ticket e events few puts may. by_channel (Steps.Aside n channel (e ∷ events)) (aside (e ∷ events)) (after s (StagePut token (Ok ticket))) refl (can.stored token ticket e events few puts may);
     settled = λ call is may. by_channel (Steps.Flush n channel true) (flushed true) (after s call) refl (can.settled call is may);
     broken = λ call is may. by_channel (Steps.Flush n channel false) (flushed false) (after s call) refl (can.broken call is may);
     begun = begins;

@@ -26,7 +26,7 @@ begins = record { sent = refl; nodes = nodes }
 
 pub twice_there : LeadsTo (Some start) (twice ++ committed) (AreTwo IsTwiceThere)
 unfolding event_bytes u32_bytes
-twice_there = (_, _, refl, record { first_has = (_, refl, refl, refl, refl); second_has = (_, refl, refl, refl) })
+twice_there = (_, _, refl, record { first_acks = refl; second_acks = refl; first_has = (_, refl, refl, refl, refl); second_has = (_, refl, refl, refl) })
 
 pub rolled_back : LeadsTo (Some start) (twice ++ Reply 0 1 3 ∷ []) (AreTwo (λ first second. live first.attempts 1 ≡ None))
 unfolding event_bytes u32_bytes
@@ -35,5 +35,5 @@ rolled_back = (_, _, refl, refl)
 pub its_steps : CallsAreItsSteps
 its_steps = record {
   batch = ((([], _, refl, tt, tt), tt), refl);
-  sink_run = (refl, (([], _, refl, tt, tt), tt), refl);
+  sink_run = (tt, refl, (([], _, refl, tt, tt), tt), refl);
 }

@@ -56,7 +56,7 @@ times_in n (Puts events) = 0
 times_in n (Takes numbers) = times n numbers
 
 -- The world's channel t has the same left, numbered and staged as the running one, s, and is broken where it is. It has no open puts and no more
--- open takes, and these hold the same numbers. It has begun no more transactions, those of open puts left out.
+-- open takes, and these hold the same numbers.
 pub record Agrees (t s : State) : Type 0 where
   pub rules : t.rules ≡ s.rules
   pub items : t.items ≡ s.items
@@ -66,7 +66,6 @@ pub record Agrees (t s : State) : Type 0 where
   pub no_puts : sum_of puts_one t.opened ≡ 0
   pub few : sum_of takes_one t.opened ≤ sum_of takes_one s.opened
   pub held : (n : ℕ) → sum_of (times_in n) t.opened ≡ sum_of (times_in n) s.opened
-  pub txn : t.txn + sum_of puts_one s.opened ≤ s.txn
 
 -- the step can be taken by the world's channel, which agrees then too
 abbrev pub IsTaken : Option Channel → State → Type 0
@@ -115,17 +114,19 @@ IsNoStep s (Checkpoint (Err (CheckNo.Spent counter))) = Unit {0}
 IsNoStep s (Prune reply) = Unit {0}
 IsNoStep s call = ⊥
 
--- Each call of the running channel that is a step is one that the world's channel can take: a stage of puts, a flush, a begin of takes; where the
--- tokens are of open takes of the same numbers, a take that came to no flush, a stage and a rollback of takes; and a reopening, if the world's
--- channel has a life left and has begun no more transactions than the next number says. After each the two agree again, and so they do after a
--- call that is no step.
+-- Each call of the running channel that is a step is one that the world's channel can take: a flush; a stage of puts and a begin of takes, if the
+-- world's channel has a number left for a transaction; where the tokens are of open takes of the same numbers, a take that came to no flush, a stage
+-- and a rollback of takes; and a reopening, if the world's channel has a life left. After each the two agree again, and so they do after a call that
+-- is no step.
 pub record CallsAreTaken (s : State) (c : Channel) : Type 0 where
   pub stored :
-      (token : Token) (ticket : Ticket) (e : Content) (events : List Content) → puts_of s token ≡ Some (e ∷ events)
+      (token : Token) (ticket : Ticket) (e : Content) (events : List Content) → c.state.txn < 2 ^ 64 - 1
+      → puts_of s token ≡ Some (e ∷ events)
       → Admits true s (StagePut token (Ok ticket)) → IsTaken (stored (e ∷ events) c) (after s (StagePut token (Ok ticket)))
   pub settled : (call : Call) → IsSettling call → Admits true s call → IsTaken (flushed true c) (after s call)
   pub broken : (call : Call) → IsBreaking call → Admits true s call → IsTaken (flushed false c) (after s call)
-  pub begun : (token : Token) → Admits true s (BeginTake (Ok token)) → IsTaken (take_begun c) (after s (BeginTake (Ok token)))
+  pub begun :
+      (token : Token) → c.state.txn < 2 ^ 64 - 1 → Admits true s (BeginTake (Ok token)) → IsTaken (take_begun c) (after s (BeginTake (Ok token)))
   pub taken :
       (token own : Token) (e : Content) → takes_of c.state own ≡ takes_of s token
       → Admits true s (Take token (Ok (record { event = Some e; spilled = false })))
@@ -137,7 +138,7 @@ pub record CallsAreTaken (s : State) (c : Channel) : Type 0 where
       (token own : Token) → takes_of c.state own ≡ takes_of s token → Admits true s (RollbackTake token true)
       → IsTaken (given_up own c) (after s (RollbackTake token true))
   pub reopened :
-      (kept txn : ℕ) → c.state.life < 2 ^ 64 - 1 → c.state.txn ≤ txn → Admits true s (Reopen (Ok (record { kept = Front kept; txn = txn })))
+      (kept txn : ℕ) → c.state.life < 2 ^ 64 - 1 → Admits true s (Reopen (Ok (record { kept = Front kept; txn = txn })))
       → IsTaken (reopened kept c) (after s (Reopen (Ok (record { kept = Front kept; txn = txn }))))
   pub failed : (cause : OpenCause) → Admits true s (Reopen (Err cause)) → IsTaken (failed c) (after s (Reopen (Err cause)))
   pub no_step : (call : Call) → IsNoStep s call → Admits true s call → Agrees c.state (after s call)

@@ -51,7 +51,7 @@ put_transaction s events =
 abbrev pub stored : List Content → Channel → Option Channel
 stored events c = and_then (put_transaction c.state events) (λ s. Some (record c { state = s; named = c.named ++ None ∷ [] }))
 
--- so, where there are some
+-- the same, where there are some events
 abbrev pub aside : List Content → Channel → Option Channel
 aside events c = if is_empty events then None else stored events c
 

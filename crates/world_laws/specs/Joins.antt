@@ -1,5 +1,5 @@
 -- Each call of a running channel that is a step of the world can be taken in each world whose channel agrees with it.
-use Rattle.std.specs.Prelude.{◌≡◌, ◌<◌, ◌≤◌, ◌-◌, ◌^◌, ◌⊎◌, ℕ, List, ◌∷◌, slice_get, Some, None, Ok, Err, true, false}
+use Rattle.std.specs.Prelude.{◌≡◌, ◌<◌, ◌-◌, ◌^◌, ◌⊎◌, ℕ, List, ◌∷◌, slice_get, Some, None, Ok, Err, true, false}
 use Rattle.event_core.specs.Content.{Content}
 use Rattle.channel_face.specs.Token.{Token}
 use Rattle.channel_face.specs.Machine.{State, BeginTake, Take, StagePut, StageTake, RollbackTake, Reopen, Front, Call, Admits, after, puts_of, takes_of}
@@ -21,22 +21,25 @@ pub record IsTaking (node : Node) (c : Channel) (s : State) (channel number : �
   pub of : a.channel ≡ channel
   pub same : takes_of c.state a.token ≡ takes_of s token
 
--- What the running channel, in the state s, calls next is a step of this world at channel c of the node. A refused call ends a work or an attempt:
--- this can be taken too, unless a mend or a restart has ended it already.
+-- What the running channel, in the state s, calls next is a step of this world at channel c of the node, if this has a number left for a transaction
+-- that begins, and a life for a reopening. A refused call ends a work or an attempt: this can be taken too, unless a mend or a restart has ended it
+-- already.
 pub record StepsAreTaken (w : World) (n channel : ℕ) (node : Node) (c : Channel) (s : State) : Type 0 where
   pub accept :
-      (number : ℕ) (work : Work) (token : Token) (ticket : Ticket) (e : Content) (events : List Content) → live node.works number ≡ Some work
-      → is_passed work channel ≡ false → share node work.made channel ≡ e ∷ events → puts_of s token ≡ Some (e ∷ events)
+      (number : ℕ) (work : Work) (token : Token) (ticket : Ticket) (e : Content) (events : List Content) → c.state.txn < 2 ^ 64 - 1
+      → live node.works number ≡ Some work → is_passed work channel ≡ false → share node work.made channel ≡ e ∷ events
+      → puts_of s token ≡ Some (e ∷ events)
       → Admits true s (StagePut token (Ok ticket))
       → StepIsTaken w (Steps.Accept n number channel) n channel (after s (StagePut token (Ok ticket)))
   pub aside :
-      (token : Token) (ticket : Ticket) (e : Content) (events : List Content) → puts_of s token ≡ Some (e ∷ events)
+      (token : Token) (ticket : Ticket) (e : Content) (events : List Content) → c.state.txn < 2 ^ 64 - 1
+      → puts_of s token ≡ Some (e ∷ events)
       → Admits true s (StagePut token (Ok ticket))
       → StepIsTaken w (Steps.Aside n channel (e ∷ events)) n channel (after s (StagePut token (Ok ticket)))
   pub settled : (call : Call) → IsSettling call → Admits true s call → StepIsTaken w (Steps.Flush n channel true) n channel (after s call)
   pub broken : (call : Call) → IsBreaking call → Admits true s call → StepIsTaken w (Steps.Flush n channel false) n channel (after s call)
   pub begun :
-      (token : Token) → Admits true s (BeginTake (Ok token))
+      (token : Token) → c.state.txn < 2 ^ 64 - 1 → Admits true s (BeginTake (Ok token))
       → StepIsTaken w (Steps.Take n channel None) n channel (after s (BeginTake (Ok token)))
   pub taken :
       (number : ℕ) (a : Attempt) (token : Token) (e : Content) → IsTaking node c s channel number a token → a.tag ≡ None
@@ -50,7 +53,7 @@ pub record StepsAreTaken (w : World) (n channel : ℕ) (node : Node) (c : Channe
       (number : ℕ) (a : Attempt) (token : Token) → IsTaking node c s channel number a token → Admits true s (RollbackTake token true)
       → StepIsTaken w (Steps.EndAttempt n number) n channel (after s (RollbackTake token true))
   pub mended :
-      (kept txn : ℕ) → c.state.life < 2 ^ 64 - 1 → c.state.txn ≤ txn → Admits true s (Reopen (Ok (record { kept = Front kept; txn = txn })))
+      (kept txn : ℕ) → c.state.life < 2 ^ 64 - 1 → Admits true s (Reopen (Ok (record { kept = Front kept; txn = txn })))
       → StepIsTaken w (Steps.Mend n channel kept) n channel (after s (Reopen (Ok (record { kept = Front kept; txn = txn }))))
   pub failed :
       (cause : OpenCause) → Admits true s (Reopen (Err cause))

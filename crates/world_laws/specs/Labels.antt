@@ -98,6 +98,19 @@ sink_steps n channel attempt (Takes e ∷ marks) = Take n channel (Some attempt)
 sink_steps n channel attempt (Commits ∷ marks) = Commit n attempt ∷ sink_steps n channel attempt marks
 sink_steps n channel attempt (GivesUp ∷ marks) = EndAttempt n attempt ∷ sink_steps n channel attempt marks
 
+-- takes, any number of them; before and after each what is staged settles, or the channel breaks
+abbrev pub OnlyTakes : List Mark → Type 0
+OnlyTakes [] = Unit {0}
+OnlyTakes (Settles ∷ marks) = OnlyTakes marks
+OnlyTakes (Breaks ∷ marks) = OnlyTakes marks
+OnlyTakes (Takes e ∷ marks) = OnlyTakes marks
+OnlyTakes (other ∷ marks) = ⊥
+
+-- one begin, and then takes alone; a begin that was refused is no run, and no step
+abbrev pub BeginsAndTakes : List Mark → Type 0
+BeginsAndTakes (Begins ∷ marks) = OnlyTakes marks
+BeginsAndTakes other = ⊥
+
 -- What one try to deliver came to: a last sink took the events; a request with them was sent to another node under this tag, and the packet that
 -- is its own OK came; the request was sent, and nothing that counts came of it; or nothing was sent.
 pub data Try : Type 0 where
@@ -154,11 +167,12 @@ pub record Ran : Type 0 where
   pub tries : List Try
   pub ending : List Own
 
--- The steps of a sink run: takes, tries to deliver just what they gave, and the end. An attempt whose open take a mend has ended meanwhile has no end
--- of its own.
+-- The steps of a sink run: a begin and takes, tries to deliver just what they gave, and the end. An attempt whose open take a mend has ended
+-- meanwhile has no end of its own.
 abbrev pub IsSinkRun : ℕ → ℕ → ℕ → Ran → List Step → Type 0
 IsSinkRun n channel attempt ran steps =
-    (taken_events (takes_marks ran.taking) ≡ ran.events) × EndsTries ran.tries (takes_marks ran.ending)
+    BeginsAndTakes (takes_marks ran.taking) × (taken_events (takes_marks ran.taking) ≡ ran.events)
+    × EndsTries ran.tries (takes_marks ran.ending)
     × (steps
     ≡ sink_steps n channel attempt (takes_marks ran.taking) ++ tries_steps n attempt ran.tries
     ++ sink_steps n channel attempt (takes_marks ran.ending))

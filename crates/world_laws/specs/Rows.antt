@@ -19,6 +19,10 @@ use Rattle.world_laws.specs.Labels.{Tried, Taken, IsBatch, Answered, Ran, IsSink
 abbrev pub hi : Content
 hi = record { headers = []; body = 104 ∷ 105 ∷ [] }
 
+-- another one
+abbrev pub ho : Content
+ho = record { headers = []; body = 104 ∷ 111 ∷ [] }
+
 -- a file channel for ten events, with nothing in it
 abbrev pub small : Opening
 small = record {
@@ -49,11 +53,12 @@ start = record { nodes = agent (1 ∷ []) false ∷ agent [] true ∷ []; sent =
 abbrev pub tag : ℕ → ℕ → Tag
 tag connection serial = record { connection = connection; serial = serial }
 
--- The event is accepted and acknowledged by the first agent, taken, sent, accepted and acknowledged by the second, and the reply isn't delivered. The
--- first agent crashes, takes and sends again, and the second accepts and acknowledges again.
+-- An event is offered, of which the first agent's chain makes another. This is accepted and acknowledged there, taken, sent, accepted and
+-- acknowledged by the second agent, and the reply isn't delivered. The first crashes, takes and sends again, and the second accepts and acknowledges
+-- again.
 abbrev pub twice : List Step
 twice =
-    Offer 0 (tag 0 1) (hi ∷ []) ∷ Deliver 0 (hi ∷ []) ∷ Accept 0 0 0 ∷ Flush 0 0 true ∷ Acknowledge 0 0
+    Offer 0 (tag 0 1) (ho ∷ []) ∷ Deliver 0 (hi ∷ []) ∷ Accept 0 0 0 ∷ Flush 0 0 true ∷ Acknowledge 0 0
     ∷ Take 0 0 None ∷ Take 0 0 (Some 0) ∷ Send 0 0 1 (tag 1 1) ∷ Deliver 2 (hi ∷ []) ∷ Accept 1 0 0 ∷ Flush 1 0 true ∷ Acknowledge 1 0
     ∷ Restart 0 (0 ∷ [])
     ∷ Take 0 0 None ∷ Take 0 0 (Some 1) ∷ Send 0 1 1 (tag 2 1)
@@ -69,8 +74,14 @@ LeadsTo None steps P = ⊥
 LeadsTo (Some w) [] P = P w
 LeadsTo (Some w) (step ∷ steps) P = LeadsTo (happens w step) steps P
 
--- The second agent has two entries, and the first none left: its take names the second acknowledgement.
+-- The second agent has two entries, and the first none left: its take names the second acknowledgement. Each acknowledgement has the batch that was
+-- asked for, and names the entry that stores what was made of it.
 pub record IsTwiceThere (first second : Node) : Type 0 where
+  pub first_acks : first.acks ≡ record { batch = ho ∷ []; tag = tag 0 1; made = hi ∷ []; entries = (0, 0) ∷ [] } ∷ []
+  pub second_acks :
+      second.acks
+      ≡ record { batch = hi ∷ []; tag = tag 1 1; made = hi ∷ []; entries = (0, 0) ∷ [] }
+      ∷ record { batch = hi ∷ []; tag = tag 2 1; made = hi ∷ []; entries = (0, 1) ∷ [] } ∷ []
   pub first_has :
       (c : Channel) × (first.channels ≡ c ∷ []) × (c.journal ≡ Puts (hi ∷ []) ∷ Takes (0 ∷ []) ∷ [])
       × (c.named ≡ None ∷ Some (Acked 1 1) ∷ []) × (c.state.items ≡ [])

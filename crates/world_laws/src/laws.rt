@@ -24,9 +24,9 @@ pub fn acknowledged_is_kept()
     ensures { AcknowledgedIsKept }
 {}
 
-/// And so on, down to the last hop. Over every list of steps from a new world whose links have no cycle, each acknowledged event
-/// is left in a channel of each path that it has to take, or was committed after a delivery at the path's last sink; at each hop
-/// "event" is one that the node's chain made of the batch.
+/// And so on, down to the last hop. Over every list of steps from a new world whose links have no cycle, and whose selectors name
+/// channels that are there, each acknowledged event is left in a channel of each path that it has to take, or was committed after
+/// a delivery at the path's last sink; at each hop "event" is one that the node's chain made of the batch.
 pub fn acknowledged_is_kept_down()
     ensures { AcknowledgedIsKeptDown }
 {}
