@@ -39,7 +39,7 @@ pub enum HopStep {
         packet: u64,
         made: Batch,
     },
-    /// A required channel of the work stages the events that it has to take.
+    /// A required channel of the work stages the events that it has to take, or the work ends refused.
     Accept {
         node: u32,
         work: u64,

@@ -3,6 +3,7 @@ ghost use Rattle.std.specs.Prelude.{◌≡◌, is_some, IfOk, OnOk, OnErr};
 ghost use Rattle.world_laws.specs.Steps as Steps;
 ghost use Rattle.world_laws.specs.Steps.{happens, next, at, if_fresh, offered, quietly, is_fresh};
 ghost use Rattle.world_laws.specs.Held.{AcknowledgedIsStored, AttemptsAgree, Held, NumbersAreLeftOrTaken, PacketsAgree, TakesAreDelivered, WorksAgree};
+ghost use Rattle.world_laws.specs.New.{IsNew};
 ghost use Rattle.hop_core.specs.Did.{Did};
 ghost use Rattle.hop_core.specs.Labels.{node_step, step_of};
 ghost use Rattle.hop_core.specs.Start.{new_world};
@@ -47,9 +48,11 @@ impl World {
         })
     }
 
-    /// The world of the plan: new channels and nothing else. The delivery accounting holds in it.
+    /// The world of the plan: new channels and nothing else. The delivery accounting holds in it. The plan may be any; where a
+    /// selector names a channel that isn't there, a batch is acknowledged without it.
     pub fn new(alloc: Global, plan: WorldPlan) -> Result<World, NoMemory>
         ensures new { IfOk result (λ w. w ≡ new_world plan) }
+        ensures begins { IfOk result IsNew }
         ensures held { IfOk result Held }
     {
         new_is_held();
