@@ -188,7 +188,8 @@ fn is_named(all: &Picture, entry: &EntryRow) -> bool {
         None => {
             for row in &all.outputs {
                 if row.node == entry.node && row.place == place {
-                    return are_letters(all, entry.node, entry.channel, &entry.values, &row.events);
+                    return channel.last
+                        && are_letters(all, entry.node, entry.channel, &entry.values, &row.events);
                 }
             }
             false
@@ -333,7 +334,9 @@ fn attempt_agrees(all: &Picture, attempt: &AttemptRow) -> bool {
     }
     match attempt.delivery {
         None => true,
-        Some((None, place)) => is_output(all, attempt.node, place, &attempt.events),
+        Some((None, place)) => {
+            channel.last && is_output(all, attempt.node, place, &attempt.events)
+        }
         Some((Some(from), place)) => match ack_of(all, from, place) {
             Some(ack) => attempt.tag == Some(ack.tag),
             None => false,

@@ -23,27 +23,30 @@ const MORE: [(Row, Counts); 8] = [
 
 // What is wrong: of an entry, of a work or an acknowledgement, of a packet, of an attempt, or of what is left; by a letter. Which
 // part it breaks, from 0.
-const WRONG: [(u8, usize); 17] = [
+const WRONG: [(u8, usize); 19] = [
     // an acknowledged entry is only staged, is of another event, is not named, is named by two
     (b's', 0),
     (b'o', 0),
     (b'n', 0),
     (b't', 0),
-    // a take names nothing, names what another one names, names a batch of another event
+    // a take names nothing, names what another one names, names a batch of another event, names an output without a last sink
     (b'N', 1),
     (b'T', 1),
     (b'B', 1),
+    (b'O', 1),
     // a number is not left, is left and taken
     (b'l', 2),
     (b'L', 2),
     // two requests have one tag, a reply names an acknowledgement of another tag
     (b'r', 3),
     (b'R', 3),
-    // an attempt has no open take, one of another event, a tag that was never sent, an output that another one has
+    // an attempt has no open take, one of another event, a tag that was never sent, an output that another one has, an output
+    // without a last sink
     (b'c', 4),
     (b'e', 4),
     (b'g', 4),
     (b'u', 4),
+    (b'm', 4),
     // a work's entry is not there, is one that an acknowledgement names
     (b'w', 5),
     (b'W', 5),
@@ -64,6 +67,9 @@ fn spoil_entries(all: &mut Picture, wrong: u8) {
         }
     }
     for row in all.channels.iter_mut() {
+        if wrong == b'm' || wrong == b'O' {
+            row.last = false;
+        }
         if wrong == b'l' {
             row.left.clear();
         }
@@ -123,16 +129,21 @@ fn spoil_packets_and_attempts(all: &mut Picture, wrong: u8) {
     }
 }
 
-// A second entry that takes the same number and names the same acknowledgement.
-fn name_again(alloc: Global, all: &mut Picture) -> Result<(), NoMemory> {
+// A second entry that takes the same number and names the same acknowledgement; or one that takes what an output has.
+fn name_more(alloc: Global, all: &mut Picture, wrong: u8) -> Result<(), NoMemory> {
+    let (node, name) = match wrong {
+        b'T' => (0, (Some(1), 1)),
+        b'O' => (1, (None, 0)),
+        _ => return Ok(()),
+    };
     all.entries.push(EntryRow {
-        node: 0,
+        node,
         channel: 0,
         place: 9,
         settled: true,
         takes: true,
         values: Vec::from_slice(alloc, &[0])?,
-        name: Some((Some(1), 1)),
+        name: Some(name),
     })?;
     Ok(())
 }
@@ -148,9 +159,7 @@ fn what_is_wrong_is_found(rt: HostRuntime) -> Result<(), Fail> {
         spoil_entries(&mut all, wrong);
         spoil_works(&mut all, wrong);
         spoil_packets_and_attempts(&mut all, wrong);
-        if wrong == b'T' {
-            name_again(rt.alloc(), &mut all)?;
-        }
+        name_more(rt.alloc(), &mut all, wrong)?;
         let found = parts(&all);
         assert_eq!(rt;
             found.get(part).copied(),
