@@ -3,3 +3,5 @@ pub mod Images
 pub mod Moments
 pub mod OneFile
 pub mod Keeps
+pub mod Talking
+pub mod Settling

@@ -1,6 +1,7 @@
 -- What a host tells of itself.
 use Rattle.std.specs.Prelude.{◌≡◌, ◌<◌, ◌≤◌, ℕ, List, length, Option, Some}
 use Rattle.flume_host.specs.Causes.{Rose}
+use Rattle.flume_host.specs.HandedOut.{HandedOut}
 use Rattle.flume_host.specs.declared.names.FileRefused.{FileRefused}
 use Rattle.flume_host.specs.declared.names.FileRefused.TheVariants.{Failed, TooLarge, NoMemory}
 
@@ -17,6 +18,12 @@ pub record HostState : Type 0 where
   -- the moments that each clock gives that is handed out, and the numbers of each chance
   pub moments : Option (ℕ → ℕ)
   pub draws : Option (ℕ → ℕ)
+  -- its listeners, and its dialers, where it tells of them
+  pub ears : Option HandedOut
+  pub calls : Option HandedOut
+  -- the host's name and its address, as texts
+  pub name : Option (List ℕ)
+  pub address : Option (List ℕ)
   -- the host's own faults, and those of the input and the output that were given back
   pub faults : ℕ
   -- the faults of the disks that were given back

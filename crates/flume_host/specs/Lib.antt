@@ -4,3 +4,6 @@ pub mod Told
 pub mod Series
 pub mod HostState
 pub mod Rolled
+pub mod Links
+pub mod Listens
+pub mod HandedOut

@@ -1,11 +1,15 @@
 // What hands the outside out and takes it back.
-ghost use Rattle.std.specs.Prelude.{◌≡◌, ◌≢◌, ◌≤◌, List, ℕ, Option, None, MatchResult, IfOk, OnErr, OnOk};
+ghost use Rattle.std.specs.Prelude.{◌≡◌, ◌≢◌, ◌≤◌, List, ℕ, Option, None, MatchResult, IfOk, OnErr, OnOk, string_bytes};
 ghost use Rattle.flume_host.specs.Causes.{Counts, Rose};
 ghost use Rattle.flume_host.specs.Told.{Told};
 ghost use Rattle.flume_host.specs.HostState.{HostState, KeepsNamed, WasRead, NotRead};
 ghost use Rattle.flume_host.specs.Rolled.{Rolled, opened};
+ghost use Rattle.flume_host.specs.HandedOut.{HandedOut, FaultsBy, HandsOut, IsOut, Names, TakesBack, fresh_links};
 
-use crate::{Clock, Disk, FileRefused, NameRefused, Random, RollDir, Sink, Source};
+use crate::{
+    Clock, Dialer, Disk, FileRefused, Listener, NameRefused, NoMemory, Random, RollDir, Sink,
+    Source,
+};
 
 /// The outside of one run. An object that is handed out starts with a count of 0 faults, and giving it back raises a
 /// count of the host exactly where the object's own count isn't 0. Giving back takes no memory.
@@ -17,6 +21,10 @@ pub trait Host {
     type Disk: Disk + Send + Drop;
 
     type Roll: RollDir + Send + Drop;
+
+    type Listener: Listener + Send + Drop;
+
+    type Dialer: Dialer + Send + Drop;
 
     type Clock: Clock + Send + Drop;
 
@@ -127,6 +135,49 @@ pub trait Host {
         ensures no_more { (p : List ℕ) → roll_room self.new p → roll_room self.old p }
         ensures state { state self.new ≡ state self.old }
         ensures named { KeepsNamed (folder self.old) (folder self.new) (room self.old) (room self.new) };
+
+    /// A listener at this address and port. A further call of the same two gives a further listener of them, and each link
+    /// of a peer is given by one of these only.
+    fn listen(&mut self, bind: &str, port: u16) -> Result<Self::Listener, NameRefused>
+        ensures told { IfOk result (λ listener. Self.Listener.told listener ≡ fresh_links (state self.old).ears) }
+        ensures counts { IfOk result (λ listener. (Self.Listener.faults listener ≡ 0) × (Self.Listener.waits listener ≡ 0)) }
+        ensures state { (n : ℕ) × (ears : Option HandedOut)
+            × (state self.new ≡ record (state self.old) { ears = ears; faults = n })
+            × HandsOut result bind.now port (state self.old).ears ears × FaultsBy result (state self.old).faults n }
+        ensures named { KeepsNamed (folder self.old) (folder self.new) (room self.old) (room self.new) }
+        ensures rolls { KeepsNamed (rolled self.old) (rolled self.new) (roll_room self.old) (roll_room self.new) };
+
+    /// Takes a listener of this address and port back. Its faults are in no count of the host.
+    fn keep_listener(&mut self, bind: &str, port: u16, listener: Self::Listener)
+        requires { IsOut bind.now port (state self.old).ears }
+        ensures state { (ears : Option HandedOut) × (state self.new ≡ record (state self.old) { ears = ears })
+            × TakesBack bind.now port (Self.Listener.told listener) (state self.old).ears ears }
+        ensures named { KeepsNamed (folder self.old) (folder self.new) (room self.old) (room self.new) }
+        ensures rolls { KeepsNamed (rolled self.old) (rolled self.new) (roll_room self.old) (roll_room self.new) };
+
+    /// A dialer of this address and port. Nothing outside is touched: a fault shows only when it dials.
+    fn dialer(&mut self, host: &str, port: u16) -> Result<Self::Dialer, NoMemory>
+        ensures told { IfOk result (λ dialer. Self.Dialer.told dialer ≡ fresh_links (state self.old).calls) }
+        ensures count { IfOk result (λ dialer. Self.Dialer.faults dialer ≡ 0) }
+        ensures state { (calls : Option HandedOut) × (state self.new ≡ record (state self.old) { calls = calls })
+            × HandsOut result host.now port (state self.old).calls calls }
+        ensures named { KeepsNamed (folder self.old) (folder self.new) (room self.old) (room self.new) }
+        ensures rolls { KeepsNamed (rolled self.old) (rolled self.new) (roll_room self.old) (roll_room self.new) };
+
+    /// Takes a dialer of this address and port back. Its faults are in no count of the host.
+    fn keep_dialer(&mut self, host: &str, port: u16, dialer: Self::Dialer)
+        requires { IsOut host.now port (state self.old).calls }
+        ensures state { (calls : Option HandedOut) × (state self.new ≡ record (state self.old) { calls = calls })
+            × TakesBack host.now port (Self.Dialer.told dialer) (state self.old).calls calls }
+        ensures named { KeepsNamed (folder self.old) (folder self.new) (room self.old) (room self.new) }
+        ensures rolls { KeepsNamed (rolled self.old) (rolled self.new) (roll_room self.old) (roll_room self.new) };
+
+    /// The host's name, or its address as text where `use_ip` is true.
+    fn host_name(&mut self, use_ip: bool) -> Result<String, NameRefused>
+        ensures name { IfOk result (λ text. Names use_ip (state self.old).name (state self.old).address (string_bytes text)) }
+        ensures state { (n : ℕ) × (state self.new ≡ record (state self.old) { faults = n }) × FaultsBy result (state self.old).faults n }
+        ensures named { KeepsNamed (folder self.old) (folder self.new) (room self.old) (room self.new) }
+        ensures rolls { KeepsNamed (rolled self.old) (rolled self.new) (roll_room self.old) (roll_room self.new) };
 
     /// A clock.
     fn clock(&mut self) -> Self::Clock

@@ -1,10 +1,14 @@
 //! The outside of the agent as traits: a source and a sink of bytes, a disk that is one folder of files, a folder of
-//! rolled files, time and chance, and the host that hands them out. Each object counts its faults, and may tell its contents to the contracts.
+//! rolled files, links with peers, who accepts them and who dials them, time and chance, the wish to stop, and the host
+//! that hands them out. Each object counts its faults, and may tell its contents to the contracts.
 #![tactic(auto)]
 
 mod clock;
 mod disk;
+mod halt;
 mod host;
+mod link;
+mod listener;
 mod names;
 mod roll;
 mod steps;
@@ -12,8 +16,11 @@ mod stream;
 
 pub use clock::{Clock, Random};
 pub use disk::Disk;
+pub use halt::Halt;
 pub use host::Host;
-pub use names::{Failed, FileName, FileRefused, NameRefused};
+pub use link::{Link, LinkRead};
+pub use listener::{Dialer, Listener};
+pub use names::{Failed, FileName, FileRefused, NameRefused, NoMemory};
 pub use roll::RollDir;
 pub use steps::Steps;
 pub use stream::{Sink, Source};

@@ -4,6 +4,10 @@
 #[derive(Clone, Copy, Debug, PartialEq, Eq)]
 pub struct Failed;
 
+/// Want of memory. What was asked for is as before.
+#[derive(Clone, Copy, Debug, PartialEq, Eq)]
+pub struct NoMemory;
+
 /// The name of a file in a channel's folder. All log files come before all checkpoints, and each kind goes by number.
 #[derive(Clone, Copy, Debug, PartialEq, Eq)]
 pub enum FileName {

@@ -1,0 +1,69 @@
+-- What a link tells, and what each call does to it.
+use Rattle.std.specs.Prelude.{◌≡◌, ℕ, ◌+◌, ◌≤◌, List, [], ◌++◌, take, Option, Bool, true, false}
+use Rattle.std.specs.Prelude.{Result, Ok, Err, MatchResult}
+use Rattle.flume_host.specs.Causes.{Rose}
+use Rattle.flume_host.specs.Told.{Tells}
+use Rattle.flume_host.specs.declared.names.Failed.{Failed}
+use Rattle.flume_host.specs.declared.link.LinkRead.{LinkRead}
+use Rattle.flume_host.specs.declared.link.LinkRead.TheVariants.{Got, End, Quiet}
+
+-- What a link tells of all its calls.
+pub record LinkTold : Type 0 where
+  -- all that its reads gave, and all that its writes took
+  pub gave : List ℕ
+  pub took : List ℕ
+  -- how many reads gave bytes, and how many waited in vain
+  pub pieces : ℕ
+  pub quiets : ℕ
+  -- a read found the end
+  pub ended : Bool
+  -- the last call failed
+  pub failed : Bool
+
+-- a link of which nothing was asked
+abbrev pub unused : LinkTold
+unused = record { gave = []; took = []; pieces = 0; quiets = 0; ended = false; failed = false }
+
+-- what a read brought has room, and is not empty
+abbrev pub FitsIn : LinkRead → ℕ → Type 0
+FitsIn (Got n) room = (1 ≤ n) × (n ≤ room)
+FitsIn End room = Unit {0}
+FitsIn Quiet room = Unit {0}
+
+-- the count of waits did not fall, and rose where nothing came
+abbrev pub CountsWait : Result LinkRead Failed → ℕ → ℕ → Type 0
+CountsWait (Ok (Got n)) before now = before ≤ now
+CountsWait (Ok End) before now = before ≤ now
+CountsWait (Ok Quiet) before now = Rose before now
+CountsWait (Err failed) before now = before ≤ now
+
+-- a call that failed gave nothing and took nothing
+abbrev pub broke : LinkTold → LinkTold
+broke t = record t { failed = true }
+
+-- a read brought this, and left these bytes in what it read into
+abbrev pub heard : LinkRead → List ℕ → LinkTold → LinkTold
+heard (Got n) into t = record t { gave = t.gave ++ take n into; pieces = t.pieces + 1; failed = false }
+heard End into t = record t { ended = true; failed = false }
+heard Quiet into t = record t { quiets = t.quiets + 1; failed = false }
+
+-- a write took these bytes
+abbrev pub wrote : List ℕ → LinkTold → LinkTold
+wrote bytes t = record t { took = t.took ++ bytes; failed = false }
+
+-- a read with this answer, which left these bytes in what it read into
+abbrev pub Hears : Result LinkRead Failed → List ℕ → Option LinkTold → Option LinkTold → Type 0
+Hears result into old new =
+    Tells old new (λ t u. MatchResult result (λ read. u ≡ heard read into t) (λ _. u ≡ broke t))
+
+-- a write of these bytes with this answer
+abbrev pub Sends : Result ℕ Failed → List ℕ → Option LinkTold → Option LinkTold → Type 0
+Sends result bytes old new =
+    Tells old new (λ t u. MatchResult result (λ n. u ≡ wrote (take n bytes) t) (λ _. u ≡ broke t))
+
+-- From the one to the other its reads gave these bytes, its writes took these, and so many reads gave bytes
+-- or waited in vain.
+pub record Talks (given taken : List ℕ) (turns : ℕ) (t u : LinkTold) : Type 0 where
+  pub gave : u.gave ≡ t.gave ++ given
+  pub took : u.took ≡ t.took ++ taken
+  pub count : u.pieces + u.quiets ≡ t.pieces + t.quiets + turns
