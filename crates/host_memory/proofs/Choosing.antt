@@ -1,9 +1,8 @@
 -- The image that the choices name, one call after another.
-use Rattle.std.proofs.Common.{◌≡◌, ◌≤◌, ◌<◌, ◌+◌, ◌∙◌, ℕ, zero, suc, List, [], ◌∷◌, length, take, inl, inr, Option, Some, None, refl, sym, ap, add-one, arith}
+use Rattle.std.proofs.Common.{◌≡◌, ◌≤◌, ◌+◌, ◌∙◌, ℕ, zero, suc, List, length, take, inl, inr, Option, Some, ap, add-one, arith}
 use Rattle.std.proofs.lemmas.Bool.{cases_lt}
 use Rattle.std.proofs.lemmas.Option.{slice_get_past}
 use Rattle.std.specs.Prelude.{slice_get}
-use Rattle.flume_host.specs.Folder.{Files}
 use Rattle.host_memory.specs.declared.parts.MemFile.{MemFile}
 use Rattle.host_memory.specs.declared.parts.MemCall.{MemCall}
 use Rattle.host_memory.specs.declared.stops.Stood.{Stood}

@@ -7,3 +7,5 @@ mod Paths
 mod Tearing
 mod Choosing
 pub mod Rolling
+mod Handing
+mod Reading

@@ -1,5 +1,5 @@
 -- The list of the calls that are to fail, searched by their numbers, and what reading calls answer by it.
-use Rattle.std.proofs.Common.{◌≡◌, ◌≢◌, ◌⊎◌, ◌↔◌, ◌∙◌, ◌<◌, ◌==◌, inl, inr, ℕ, List, length, take, get_or, suc, Option, Some, None, Result, Ok, Err, Bool, true, false, IsTrue, refl, sym, ap}
+use Rattle.std.proofs.Common.{◌≡◌, ◌≢◌, ◌⊎◌, ◌↔◌, ◌<◌, ◌==◌, inl, inr, ℕ, List, length, take, get_or, suc, Option, Some, None, Result, Ok, Err, Bool, true, false, IsTrue, refl}
 use Rattle.std.specs.Prelude.{IsErr}
 use Rattle.flume_host.specs.declared.names.Failed.{Failed}
 use Rattle.std.proofs.lemmas.Bool.{eqb-true, eq-eqb}

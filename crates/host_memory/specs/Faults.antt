@@ -10,7 +10,7 @@ use Rattle.host_memory.specs.declared.parts.Outcome.{Outcome}
 use Rattle.host_memory.specs.declared.parts.Outcome.TheVariants.{Whole, Partly, Nothing}
 use Rattle.host_memory.specs.Look.{look_up}
 use Rattle.host_memory.specs.Parts.{step_by}
-use Rattle.host_memory.specs.Words.{disk_calls, disk_script, record_in}
+use Rattle.host_memory.specs.Words.{disk_calls, disk_script}
 
 -- how much is done of a call that has done this before it fails
 abbrev pub cut_at : Part → Outcome

@@ -1,16 +1,31 @@
 -- What a host in memory tells.
-use Rattle.std.specs.Prelude.{ℕ, List, Option, Some, IsSome}
+use Rattle.std.specs.Prelude.{ℕ, List, Option, Some, IsSome, string_bytes}
 use Rattle.std.specs.declared.string.String.{String}
 use Rattle.std.specs.declared.alloc.Global.{Global}
 use Rattle.flume_host.specs.Told.{Told}
 use Rattle.flume_host.specs.Rolled.{Rolled}
 use Rattle.flume_host.specs.HostState.{HostState}
 use Rattle.host_memory.specs.declared.mem_host.MemHost.{MemHost}
+use Rattle.host_memory.specs.Ends.{handed_out}
+use Rattle.host_memory.specs.Listens.{ear_told, dials_told}
 use Rattle.host_memory.specs.Times.{moments_of, draws_of}
 use Rattle.host_memory.specs.Folders.{input_of, output_of, handed_of, place_in, folder_of, roll_of, file_of}
 
 abbrev pub state_in : MemHost → HostState
-state_in h = record { input = input_of h.input; output = output_of h.output; handed = handed_of h.output; files = file_of h.files.items; moments = Some (moments_of h.clock); draws = Some (draws_of h.random); faults = h.faults; disk_faults = h.disk_faults }
+state_in h = record {
+  input = input_of h.input;
+  output = output_of h.output;
+  handed = handed_of h.output;
+  files = file_of h.files.items;
+  moments = Some (moments_of h.clock);
+  draws = Some (draws_of h.random);
+  ears = Some (handed_out ear_told h.ears);
+  calls = Some (handed_out dials_told h.calls);
+  name = Some (string_bytes h.name);
+  address = Some (string_bytes h.address);
+  faults = h.faults;
+  disk_faults = h.disk_faults;
+}
 
 -- what the disk of a folder tells, by the folder's path
 abbrev pub folder_in : MemHost → List ℕ → Option Told

@@ -6,6 +6,9 @@ pub mod Stops
 pub mod Rolls
 pub mod Words
 pub mod Faults
+pub mod Links
+pub mod Listens
+pub mod Ends
 pub mod Times
 pub mod Folders
 pub mod HostWords

@@ -1,5 +1,5 @@
 -- One image of many: what a stop leaves, where each call's change is chosen to stand or not.
-use Rattle.std.specs.Prelude.{◌+◌, ◌%◌, ℕ, zero, suc, List, [], ◌∷◌, take, length, get_or, replicate, slice_get, Option, Some, None}
+use Rattle.std.specs.Prelude.{◌%◌, ℕ, zero, suc, List, [], ◌∷◌, take, length, get_or, replicate, slice_get, Option, Some, None}
 use Rattle.flume_host.specs.Folder.{Files, with_at}
 use Rattle.flume_host.specs.Told.{Change, Make, Write, Sync, Remove, Call, On, Settle, read_by, file_after}
 use Rattle.host_memory.specs.declared.parts.MemCall.{MemCall}

@@ -96,6 +96,7 @@ impl MemDisk {
     /// An empty disk that tells, no call of which is to fail.
     pub fn new(alloc: Global) -> Self
         ensures told { told_in result ≡ Some (start []) }
+        ensures script { (disk_script result ≡ []) × (disk_calls result ≡ 0) }
         ensures count { disk_faults result ≡ 0 }
     {
         MemDisk {
@@ -109,9 +110,10 @@ impl MemDisk {
         }
     }
 
-    /// A disk that holds these files, all of them stable, and tells. Where a name stands twice, its first file counts.
+    /// A disk that holds these files, all of them stable, and tells; no call of it is to fail. Where a name stands twice, its first file counts.
     pub fn with_files(alloc: Global, files: Vec<MemFile>) -> Result<Self, AllocError>
         ensures told { IfOk result (λ disk. told_in disk ≡ Some (start files.items)) }
+        ensures script { IfOk result (λ disk. (disk_script disk ≡ []) × (disk_calls disk ≡ 0)) }
         ensures count { IfOk result (λ disk. disk_faults disk ≡ 0) }
     {
         let mut disk = MemDisk::new(alloc);
@@ -136,11 +138,12 @@ impl MemDisk {
         self.store.syncs()
     }
 
-    /// A disk as a stop at a moment may have left this one, its files stable: moment m is within the recorded call
+    /// A disk as a stop at a moment may have left this one, its files stable, no call of which is to fail: moment m is within the recorded call
     /// number m, or after the last. Each recorded call has a choice of what stands of it, and the choices go round.
     pub fn stopped_at(&self, moment: u64, choices: &[Stood]) -> Result<Self, AllocError>
         ensures left { IfOk result (λ disk. (files : List MemFile) × (told_in disk ≡ Some (start files)) × IsLeftAt (record_in self.now) moment (files_of files)
             × (files_of files ≡ image_chosen (chosen choices.now) (files_first self.now) (calls_made self.now) moment)) }
+        ensures script { IfOk result (λ disk. (disk_script disk ≡ []) × (disk_calls disk ≡ 0)) }
         ensures count { IfOk result (λ disk. disk_faults disk ≡ 0) }
     {
         let alloc = self.store.alloc;
@@ -168,6 +171,7 @@ impl MemDisk {
     /// A disk that tells nothing.
     pub fn silent(mut self) -> Self
         ensures told { told_in result ≡ None }
+        ensures script { (disk_script result ≡ disk_script self) × (disk_calls result ≡ disk_calls self) }
         ensures count { disk_faults result ≡ disk_faults self }
     {
         self.tells = false;

@@ -1,13 +1,20 @@
 // A host in memory, with folders by their paths.
-ghost use Rattle.std.specs.Prelude.{◌≡◌, None, Some, MatchOption};
+ghost use Rattle.std.specs.Prelude.{◌≡◌, [], None, Some, MatchOption, string_bytes};
 ghost use Rattle.flume_host.specs.Causes.{Counts};
+ghost use Rattle.flume_host.specs.Listens.{no_links};
+ghost use Rattle.host_memory.specs.Ends.{handed_out, none_out};
+ghost use Rattle.host_memory.specs.Listens.{ear_told, dials_told};
 ghost use Rattle.host_memory.specs.Times.{moments_of, draws_of};
 ghost use Rattle.host_memory.specs.Folders.{file_of, folder_of, handed_of, input_of, output_of, place_in, roll_of};
 
+use crate::address::{Placed, take_at};
+use crate::ends::Ends;
 use crate::named::{add_room, give_back, place_of, take_out};
 use crate::script::Script;
-use crate::{MemClock, MemDisk, MemRandom, MemRoll, MemSink, MemSource, Named};
-use flume_host::{FileRefused, Host, NameRefused};
+use crate::{
+    MemClock, MemDialer, MemDisk, MemListener, MemRandom, MemRoll, MemSink, MemSource, Named,
+};
+use flume_host::{FileRefused, Host, NameRefused, NoMemory};
 use std::alloc::Global;
 
 // The most bytes of a file that is read whole.
@@ -23,6 +30,13 @@ pub struct MemHost {
     folders: Vec<Named<MemDisk>>,
     rolls: Vec<Named<MemRoll>>,
     files: Vec<Named<Vec<u8>>>,
+    // what listens and dials here, by its address, as long as it was not handed out
+    listeners: Vec<Placed<MemListener>>,
+    dialers: Vec<Placed<MemDialer>>,
+    ears: Ends<MemListener>,
+    calls: Ends<MemDialer>,
+    name: String,
+    address: String,
     clock: MemClock,
     random: MemRandom,
     said: Vec<String>,
@@ -37,14 +51,14 @@ impl MemHost {
     ghost use Rattle.host_memory.specs.HostWords.{state_in, folder_in, roll_in, open_calls, open_fails, said_in, HasFolder, HasRoll};
 
     /// A host with this input, this output and these folders with disks. Where a path stands twice, its first folder
-    /// counts. It has no files to be read and no rolled files, and its clocks stand at 0.
+    /// counts. It has no files to be read, no rolled files, no links and an empty name, and its clocks stand at 0.
     pub fn new(
         alloc: Global,
         input: MemSource,
         output: MemSink,
         folders: Vec<Named<MemDisk>>,
     ) -> Self
-        ensures state { state_in result ≡ record { input = left_in input; output = took_in output; handed = handed_in output; files = file_of []; moments = Some (moments_of (record { moment = 0; step = 0 })); draws = Some (draws_of (record { number = 0; step = 0 })); faults = 0; disk_faults = 0 } }
+        ensures state { state_in result ≡ record { input = left_in input; output = took_in output; handed = handed_in output; files = file_of []; moments = Some (moments_of (record { moment = 0; step = 0 })); draws = Some (draws_of (record { number = 0; step = 0 })); ears = Some none_out; calls = Some none_out; name = Some []; address = Some []; faults = 0; disk_faults = 0 } }
         ensures folders { (folder_in result ≡ folder_of folders.items) × (roll_in result ≡ roll_of []) }
     {
         MemHost {
@@ -54,6 +68,12 @@ impl MemHost {
             folders,
             rolls: Vec::new(alloc),
             files: Vec::new(alloc),
+            listeners: Vec::new(alloc),
+            dialers: Vec::new(alloc),
+            ears: Ends::new(alloc),
+            calls: Ends::new(alloc),
+            name: String::new(alloc),
+            address: String::new(alloc),
             clock: MemClock { moment: 0, step: 0 },
             random: MemRandom { number: 0, step: 0 },
             said: Vec::new(alloc),
@@ -94,7 +114,41 @@ impl MemHost {
         self
     }
 
-    /// The openings of disks and folders, and the readings of files, of these numbers fail. The first one has the number 0.
+    /// With these listeners, by their addresses. A call for an address gets its first one that was not handed out, and
+    /// behind them all one that only waits.
+    pub fn with_listeners(mut self, listeners: Vec<Placed<MemListener>>) -> Self
+        ensures state { state_in result ≡ state_in self }
+        ensures folders { (folder_in result ≡ folder_in self) × (roll_in result ≡ roll_in self) }
+        ensures script { (open_fails result ≡ open_fails self) × (open_calls result ≡ open_calls self) }
+    {
+        self.listeners = listeners;
+        self
+    }
+
+    /// With these dialers, by their addresses. A call for an address gets its first one that was not handed out, and
+    /// behind them all one whose dials fail.
+    pub fn with_dialers(mut self, dialers: Vec<Placed<MemDialer>>) -> Self
+        ensures state { state_in result ≡ state_in self }
+        ensures folders { (folder_in result ≡ folder_in self) × (roll_in result ≡ roll_in self) }
+        ensures script { (open_fails result ≡ open_fails self) × (open_calls result ≡ open_calls self) }
+    {
+        self.dialers = dialers;
+        self
+    }
+
+    /// With this name and this address.
+    pub fn named(mut self, name: String, address: String) -> Self
+        ensures state { state_in result ≡ record (state_in self) { name = Some (string_bytes name); address = Some (string_bytes address) } }
+        ensures folders { (folder_in result ≡ folder_in self) × (roll_in result ≡ roll_in self) }
+        ensures script { (open_fails result ≡ open_fails self) × (open_calls result ≡ open_calls self) }
+    {
+        self.name = name;
+        self.address = address;
+        self
+    }
+
+    /// The openings of disks, folders and listeners, the readings of files and the askings for the name, of these numbers
+    /// fail. The first one has the number 0.
     pub fn failing_opens(mut self, calls: Vec<u64>) -> Self
         ensures state { state_in result ≡ state_in self }
         ensures folders { (folder_in result ≡ folder_in self) × (roll_in result ≡ roll_in self) }
@@ -104,7 +158,7 @@ impl MemHost {
         self
     }
 
-    /// How many openings and readings there were.
+    /// How many openings, readings and askings there were.
     pub fn opens(&self) -> u64
         ensures { result ≡ open_calls self.now }
     {
@@ -148,6 +202,20 @@ impl MemHost {
         }
     }
 
+    /// The listeners that came back, in that order.
+    pub fn listeners(&self) -> &[Placed<MemListener>]
+        ensures { result.now ≡ self.now.ears.back.items }
+    {
+        self.ears.back()
+    }
+
+    /// The dialers that came back, in that order.
+    pub fn dialers(&self) -> &[Placed<MemDialer>]
+        ensures { result.now ≡ self.now.calls.back.items }
+    {
+        self.calls.back()
+    }
+
     // The bytes of the first file of a path.
     fn bytes_of(&self, path: &str) -> Option<&[u8]>
         ensures { MatchOption result (file_of self.now.files.items path.now ≡ None) (λ bytes. file_of self.now.files.items path.now ≡ Some bytes.now) }
@@ -171,6 +239,38 @@ fn count_after(before: u64, own: u64) -> u64
     }
 }
 
+// The first listener of an address, which is taken out, or one that only waits. Nothing was asked of it yet.
+fn listener_at(
+    alloc: Global,
+    listeners: &mut Vec<Placed<MemListener>>,
+    host: &str,
+    port: u16,
+) -> MemListener
+    ensures told { ear_told result ≡ Some no_links }
+    ensures counts { (result.faults ≡ 0) × (result.waits ≡ 0) }
+{
+    match take_at(listeners, host, port) {
+        Some(listener) => listener.fresh(),
+        None => MemListener::new(alloc, Vec::new(alloc)),
+    }
+}
+
+// The first dialer of an address, which is taken out, or one whose dials fail. Nothing was asked of it yet.
+fn dialer_at(
+    alloc: Global,
+    dialers: &mut Vec<Placed<MemDialer>>,
+    host: &str,
+    port: u16,
+) -> MemDialer
+    ensures told { dials_told result ≡ Some no_links }
+    ensures count { result.faults ≡ 0 }
+{
+    match take_at(dialers, host, port) {
+        Some(dialer) => dialer.fresh(),
+        None => MemDialer::new(alloc, Vec::new(alloc)),
+    }
+}
+
 impl Host for MemHost {
     ghost use Rattle.std.specs.Prelude.{IsSome};
 
@@ -182,11 +282,15 @@ impl Host for MemHost {
 
     type Roll = MemRoll;
 
+    type Listener = MemListener;
+
+    type Dialer = MemDialer;
+
     type Clock = MemClock;
 
     type Random = MemRandom;
 
-    ghost state = { λ h. record { input = input_of h.input; output = output_of h.output; handed = handed_of h.output; files = file_of h.files.items; moments = Some (moments_of h.clock); draws = Some (draws_of h.random); faults = h.faults; disk_faults = h.disk_faults } };
+    ghost state = { λ h. record { input = input_of h.input; output = output_of h.output; handed = handed_of h.output; files = file_of h.files.items; moments = Some (moments_of h.clock); draws = Some (draws_of h.random); ears = Some (handed_out ear_told h.ears); calls = Some (handed_out dials_told h.calls); name = Some (string_bytes h.name); address = Some (string_bytes h.address); faults = h.faults; disk_faults = h.disk_faults } };
 
     ghost folder = { λ h. folder_of h.folders.items };
 
@@ -308,6 +412,44 @@ impl Host for MemHost {
     fn keep_roll(&mut self, path: &str, roll: MemRoll) {
         let index = place_of(&self.rolls, path).unwrap();
         give_back(&mut self.rolls, index, roll);
+    }
+
+    fn listen(&mut self, bind: &str, port: u16) -> Result<MemListener, NameRefused> {
+        if self.opens.next_fails() {
+            self.faults = self.faults.saturating_add(1);
+            return Err(NameRefused::Failed);
+        }
+        match self.ears.hand_out(self.alloc, bind, port) {
+            Ok(()) => Ok(listener_at(self.alloc, &mut self.listeners, bind, port)),
+            Err(_) => Err(NameRefused::NoMemory),
+        }
+    }
+
+    fn keep_listener(&mut self, bind: &str, port: u16, listener: MemListener) {
+        self.ears.take_back(bind, port, listener);
+    }
+
+    fn dialer(&mut self, host: &str, port: u16) -> Result<MemDialer, NoMemory> {
+        match self.calls.hand_out(self.alloc, host, port) {
+            Ok(()) => Ok(dialer_at(self.alloc, &mut self.dialers, host, port)),
+            Err(_) => Err(NoMemory),
+        }
+    }
+
+    fn keep_dialer(&mut self, host: &str, port: u16, dialer: MemDialer) {
+        self.calls.take_back(host, port, dialer);
+    }
+
+    fn host_name(&mut self, use_ip: bool) -> Result<String, NameRefused> {
+        if self.opens.next_fails() {
+            self.faults = self.faults.saturating_add(1);
+            return Err(NameRefused::Failed);
+        }
+        let text = if use_ip { &self.address } else { &self.name };
+        match String::from_str(self.alloc, text.as_str()) {
+            Ok(text) => Ok(text),
+            Err(_) => Err(NameRefused::NoMemory),
+        }
     }
 
     fn clock(&mut self) -> MemClock {

@@ -3,6 +3,7 @@ ghost use Rattle.std.specs.Prelude.{◌≡◌, ◌++◌, ◌∷◌, [], Some, On
 ghost use Rattle.flume_host.specs.Rolled.{IsNewName, GrewBy};
 ghost use Rattle.host_memory.specs.Rolls.{files_by, rolled_by};
 
+use crate::Flag;
 use crate::script::{Script, counted, piece_at};
 use flume_host::{Failed, RollDir};
 use std::alloc::{AllocError, Global};
@@ -29,6 +30,8 @@ pub struct MemRoll {
     pub(crate) failed: bool,
     pieces: Vec<usize>,
     script: Script,
+    // is set at the first flush that went well
+    flag: Option<Flag>,
     tells: bool,
     pub(crate) faults: u64,
 }
@@ -41,6 +44,7 @@ impl MemRoll {
     /// there already.
     pub fn new(alloc: Global) -> Self
         ensures rolled { rolled_in result ≡ Some no_files }
+        ensures script { (roll_fails result ≡ []) × (roll_calls result ≡ 0) × (roll_pieces result ≡ []) }
         ensures count { roll_faults result ≡ 0 }
     {
         MemRoll {
@@ -51,9 +55,20 @@ impl MemRoll {
             failed: false,
             pieces: Vec::new(alloc),
             script: Script::new(alloc),
+            flag: None,
             tells: true,
             faults: 0,
         }
+    }
+
+    /// Sets this flag at its first flush that goes well.
+    pub fn setting(mut self, flag: Flag) -> Self
+        ensures rolled { rolled_in result ≡ rolled_in self }
+        ensures script { (roll_fails result ≡ roll_fails self) × (roll_calls result ≡ roll_calls self) × (roll_pieces result ≡ roll_pieces self) }
+        ensures count { roll_faults result ≡ roll_faults self }
+    {
+        self.flag = Some(flag);
+        self
     }
 
     /// A write that is call number n takes at most the n-th of these numbers. They go round, and a 0 counts as 1.
@@ -81,6 +96,7 @@ impl MemRoll {
     /// A folder that tells nothing.
     pub fn silent(mut self) -> Self
         ensures rolled { rolled_in result ≡ None }
+        ensures script { (roll_fails result ≡ roll_fails self) × (roll_calls result ≡ roll_calls self) × (roll_pieces result ≡ roll_pieces self) }
         ensures count { roll_faults result ≡ roll_faults self }
     {
         self.tells = false;
@@ -181,6 +197,9 @@ impl RollDir for MemRoll {
             return counted(&mut self.faults, Err(Failed));
         }
         self.flushed = true;
+        if let Some(flag) = &self.flag {
+            flag.set();
+        }
         Ok(())
     }
 

@@ -1,5 +1,5 @@
 // Which calls of an object are to fail.
-ghost use Rattle.std.specs.Prelude.{◌≡◌, ◌≤◌, ◌<◌, ◌+◌, ◌-◌, ◌*◌, ◌%◌, ◌^◌, ◌↔◌, ℕ, min, Contains, IsTrue, length};
+ghost use Rattle.std.specs.Prelude.{◌≡◌, ◌≤◌, ◌<◌, ◌+◌, ◌-◌, ◌*◌, ◌%◌, ◌^◌, ◌↔◌, [], ℕ, min, Contains, IsTrue, length};
 ghost use Rattle.flume_host.specs.Causes.{HasCause};
 ghost use Rattle.host_memory.specs.Stream.{piece_of};
 
@@ -16,7 +16,7 @@ pub struct Script {
 impl Script {
     /// No call is to fail.
     pub fn new(alloc: Global) -> Self
-        ensures { result.calls ≡ 0 }
+        ensures { (result.fails.items ≡ []) × (result.calls ≡ 0) }
     {
         Script {
             fails: Vec::new(alloc),

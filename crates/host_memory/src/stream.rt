@@ -2,6 +2,7 @@
 ghost use Rattle.std.specs.Prelude.{◌≡◌, ◌≤◌, ◌+◌, [], vec_len, take, Some, None, IfSome};
 ghost use Rattle.host_memory.specs.Stream.{left_of, took_by};
 
+use crate::flags::{Flag, Held, passes};
 use crate::script::{Script, counted, piece_at};
 use flume_host::{Failed, Sink, Source};
 use std::alloc::Global;
@@ -14,6 +15,8 @@ pub struct MemSource {
     at: usize,
     pieces: Vec<usize>,
     script: Script,
+    // the first read sets the one flag, and waits for the other
+    held: Option<Held>,
     tells: bool,
     pub(crate) faults: u64,
     ghost in_range: { at ≤ vec_len bytes },
@@ -25,6 +28,7 @@ impl MemSource {
     /// A source that tells, gives all that is asked for, and never fails.
     pub fn new(alloc: Global, bytes: Vec<u8>) -> Self
         ensures left { left_in result ≡ Some bytes.items }
+        ensures script { (source_fails result ≡ []) × (source_calls result ≡ 0) × (source_pieces result ≡ []) }
         ensures count { source_faults result ≡ 0 }
     {
         MemSource {
@@ -32,9 +36,21 @@ impl MemSource {
             at: 0,
             pieces: Vec::new(alloc),
             script: Script::new(alloc),
+            held: None,
             tells: true,
             faults: 0,
         }
+    }
+
+    /// Its first read sets the flag `begun`, and waits for the flag `until`; where that isn't set in 1,000,000,000 looks,
+    /// the read fails.
+    pub fn held(mut self, begun: Flag, until: Flag) -> Self
+        ensures left { left_in result ≡ left_in self }
+        ensures script { (source_fails result ≡ source_fails self) × (source_calls result ≡ source_calls self) × (source_pieces result ≡ source_pieces self) }
+        ensures count { source_faults result ≡ source_faults self }
+    {
+        self.held = Some(Held { begun, until });
+        self
     }
 
     /// Read number n gives at most the n-th of these numbers. They go round, and a 0 counts as 1.
@@ -62,6 +78,7 @@ impl MemSource {
     /// A source that tells nothing.
     pub fn silent(mut self) -> Self
         ensures left { left_in result ≡ None }
+        ensures script { (source_fails result ≡ source_fails self) × (source_calls result ≡ source_calls self) × (source_pieces result ≡ source_pieces self) }
         ensures count { source_faults result ≡ source_faults self }
     {
         self.tells = false;
@@ -83,7 +100,8 @@ impl Source for MemSource {
 
     fn read(&mut self, into: &mut [u8]) -> Result<usize, Failed> {
         let most = piece_at(&self.pieces, self.script.calls);
-        if self.script.next_fails() {
+        let first = self.script.calls == 0;
+        if self.script.next_fails() || first && !passes(&self.held) {
             return counted(&mut self.faults, Err(Failed));
         }
         let n = into.len().min(most).min(self.bytes.len() - self.at);
@@ -115,6 +133,7 @@ impl MemSink {
     /// An empty sink that tells, takes all that it is given, and fails only for want of memory.
     pub fn new(alloc: Global) -> Self
         ensures took { (took_in result ≡ Some []) × (handed_in result ≡ Some []) }
+        ensures script { (sink_fails result ≡ []) × (sink_calls result ≡ 0) × (sink_pieces result ≡ []) }
         ensures count { sink_faults result ≡ 0 }
     {
         MemSink {
@@ -152,6 +171,7 @@ impl MemSink {
     /// A sink that tells nothing.
     pub fn silent(mut self) -> Self
         ensures took { (took_in result ≡ None) × (handed_in result ≡ None) }
+        ensures script { (sink_fails result ≡ sink_fails self) × (sink_calls result ≡ sink_calls self) × (sink_pieces result ≡ sink_pieces self) }
         ensures count { sink_faults result ≡ sink_faults self }
     {
         self.tells = false;

@@ -1,4 +1,4 @@
-use Rattle.std.proofs.Common.{◌≡◌, ◌∙◌, sym, subst, add-one, arith, take, get_or, List, None}
+use Rattle.std.proofs.Common.{◌≡◌, ◌∙◌, sym, subst, add-one, arith, get_or, List, None}
 use Rattle.std.proofs.lemmas.Bool.{eq-eqb, ne_eqb}
 use Rattle.std.proofs.lemmas.List.{take_all}
 use Rattle.host_memory.specs.declared.mem_disk.DiskFault.{DiskFault}
