@@ -2,19 +2,24 @@
 ghost use Rattle.std.specs.Prelude.{◌≡◌, None};
 ghost use Rattle.flume_host.specs.Causes.{Counts};
 
+use crate::dialer::RealDialer;
 use crate::disk::RealDisk;
+use crate::ears::Ears;
+use crate::listener::RealListener;
 use crate::roll::RealRoll;
 use crate::stream::{RealSink, RealSource};
 use crate::times::{RealClock, RealRandom};
-use flume_host::{FileRefused, Host, NameRefused};
+use flume_host::{FileRefused, Host, NameRefused, NoMemory};
 use std::fs::File;
 use std::io;
 use std::io::{ErrorKind, Read};
+use std::net::ToSocketAddrs;
 
 /// The host that a program runs in. It tells nothing of contents.
 #[derive(Drop)]
 pub struct RealHost {
     rt: HostRuntime,
+    ears: Ears,
     faults: u64,
     disk_faults: u64,
 }
@@ -26,6 +31,7 @@ impl RealHost {
     {
         RealHost {
             rt,
+            ears: Ears::new(rt),
             faults: 0,
             disk_faults: 0,
         }
@@ -56,6 +62,45 @@ fn read_front(rt: &HostRuntime, path: &str, into: &mut [u8]) -> io::Result<u64> 
     Ok(file.metadata()?.len().max(filled as u64))
 }
 
+// The file in which Linux tells the host's name, with a newline behind it.
+const NAME_FILE: &str = "/proc/sys/kernel/hostname";
+
+// The most bytes of that file.
+const NAME_LIMIT: usize = 1_024;
+
+// The host's name.
+fn name_of(rt: &HostRuntime) -> Result<String, NameRefused> {
+    let mut bytes = [0u8; NAME_LIMIT];
+    let Ok(_) = read_front(rt, NAME_FILE, &mut bytes) else {
+        return Err(NameRefused::Failed);
+    };
+    let front = match bytes.iter().position(|b| *b == b'\n') {
+        Some(end) => &bytes[..end],
+        None => return Err(NameRefused::Failed),
+    };
+    let Ok(name) = str::from_utf8(front) else {
+        return Err(NameRefused::Failed);
+    };
+    match String::from_str(rt.alloc(), name) {
+        Ok(name) => Ok(name),
+        Err(_) => Err(NameRefused::NoMemory),
+    }
+}
+
+// The first address that looking a name up gives, as text.
+fn address_of(rt: &HostRuntime, name: &str) -> Result<String, NameRefused> {
+    let Ok(mut addresses) = (name, 0).to_socket_addrs(rt) else {
+        return Err(NameRefused::Failed);
+    };
+    let Some(address) = addresses.next() else {
+        return Err(NameRefused::Failed);
+    };
+    match format!(in rt.alloc(); "{}", address.ip()) {
+        Ok(text) => Ok(text),
+        Err(_) => Err(NameRefused::NoMemory),
+    }
+}
+
 // The count after an object with this count was given back.
 fn count_after(before: u64, own: u64) -> u64
     ensures { Counts before result own }
@@ -76,11 +121,15 @@ impl Host for RealHost {
 
     type Roll = RealRoll;
 
+    type Listener = RealListener;
+
+    type Dialer = RealDialer;
+
     type Clock = RealClock;
 
     type Random = RealRandom;
 
-    ghost state = { λ h. record { input = None; output = None; handed = None; files = λ _. None; moments = None; draws = None; faults = h.faults; disk_faults = h.disk_faults } };
+    ghost state = { λ h. record { input = None; output = None; handed = None; files = λ _. None; moments = None; draws = None; ears = None; calls = None; name = None; address = None; faults = h.faults; disk_faults = h.disk_faults } };
 
     ghost folder = { λ _ _. None };
 
@@ -159,6 +208,45 @@ impl Host for RealHost {
     }
 
     fn keep_roll(&mut self, _path: &str, _roll: RealRoll) {}
+
+    fn listen(&mut self, bind: &str, port: u16) -> Result<RealListener, NameRefused> {
+        match self.ears.listen(bind, port) {
+            Ok(listener) => Ok(listener),
+            Err(NameRefused::NoMemory) => Err(NameRefused::NoMemory),
+            Err(NameRefused::Failed) => {
+                self.faults = self.faults.saturating_add(1);
+                Err(NameRefused::Failed)
+            }
+        }
+    }
+
+    fn keep_listener(&mut self, bind: &str, port: u16, _listener: RealListener) {
+        self.ears.give_back(bind, port);
+    }
+
+    fn dialer(&mut self, host: &str, port: u16) -> Result<RealDialer, NoMemory> {
+        match String::from_str(self.rt.alloc(), host) {
+            Ok(host) => Ok(RealDialer::new(self.rt, host, port)),
+            Err(_) => Err(NoMemory),
+        }
+    }
+
+    fn keep_dialer(&mut self, _host: &str, _port: u16, _dialer: RealDialer) {}
+
+    fn host_name(&mut self, use_ip: bool) -> Result<String, NameRefused> {
+        let named = match name_of(&self.rt) {
+            Ok(name) if use_ip => address_of(&self.rt, &name),
+            named => named,
+        };
+        match named {
+            Ok(text) => Ok(text),
+            Err(NameRefused::NoMemory) => Err(NameRefused::NoMemory),
+            Err(NameRefused::Failed) => {
+                self.faults = self.faults.saturating_add(1);
+                Err(NameRefused::Failed)
+            }
+        }
+    }
 
     fn clock(&mut self) -> RealClock {
         RealClock { rt: self.rt }

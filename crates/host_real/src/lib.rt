@@ -1,15 +1,22 @@
-//! The host that a program runs in: the standard streams, folders of the file system as disks and as rolled files, the
-//! system's clock and its random numbers. What these really hold no contract can say; what is proved is how failures count.
+//! The host that a program runs in: the standard streams, folders of the file system as disks and as rolled files, TCP
+//! listeners, dialers and links, the system's clock and its random numbers. What these really hold no contract can say; what is proved is how failures count.
 #![tactic(auto)]
 
+mod dialer;
 mod disk;
+mod ears;
 mod host;
+mod link;
+mod listener;
 mod roll;
 mod stream;
 mod times;
 
+pub use dialer::RealDialer;
 pub use disk::RealDisk;
 pub use host::RealHost;
+pub use link::RealLink;
+pub use listener::RealListener;
 pub use roll::RealRoll;
 pub use stream::{RealSink, RealSource};
 pub use times::{RealClock, RealRandom};

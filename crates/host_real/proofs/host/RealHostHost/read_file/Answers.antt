@@ -1,5 +1,4 @@
-use Rattle.std.proofs.Common.{refl, arith, length, length-take}
-use Rattle.flume_host.specs.HostState.{WasRead, file_limit}
+use Rattle.std.proofs.Common.{refl, arith}
 use Rattle.host_real.proofs.host.RealHostHost.read_file.Goals as goal
 
 pub returns-clause-state : goal.returns-clause-state

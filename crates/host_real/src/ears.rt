@@ -1,0 +1,101 @@
+// The ports at which a host listens.
+ghost use Rattle.std.specs.Prelude.{◌≡◌, ◌<◌, IfOk, IfSome, length};
+
+use crate::listener::{RealListener, bind};
+use flume_host::NameRefused;
+use std::net::TcpListener;
+
+// An address and a port, its socket, and how many listeners of it are out.
+#[derive(Drop)]
+struct Ear {
+    bind: String,
+    port: u16,
+    socket: TcpListener,
+    out: u64,
+}
+
+/// The sockets of the ports of which a listener is out.
+#[derive(Drop)]
+pub struct Ears {
+    rt: HostRuntime,
+    ears: Vec<Ear>,
+}
+
+impl Ears {
+    /// None yet.
+    pub fn new(rt: HostRuntime) -> Ears {
+        Ears {
+            rt,
+            ears: Vec::new(rt.alloc()),
+        }
+    }
+
+    // Where the socket of an address and a port is.
+    fn place_of(&self, bind: &str, port: u16) -> Option<usize>
+        ensures { IfSome result (λ i. i < length self.now.ears.items) }
+    {
+        for i in 0..self.ears.len() {
+            if self.ears[i].port == port && self.ears[i].bind.as_str() == bind {
+                return Some(i);
+            }
+        }
+        None
+    }
+
+    // Begins to listen at an address and a port, where there is memory to note it.
+    fn open(&mut self, address: &str, port: u16) -> Result<RealListener, NameRefused>
+        ensures { IfOk result (λ listener. (listener.waits ≡ 0) × (listener.faults ≡ 0)) }
+    {
+        let Ok(own) = String::from_str(self.rt.alloc(), address) else {
+            return Err(NameRefused::NoMemory);
+        };
+        if self.ears.reserve(1).is_err() {
+            return Err(NameRefused::NoMemory);
+        }
+        let Ok(socket) = bind(&self.rt, address, port) else {
+            return Err(NameRefused::Failed);
+        };
+        let Ok(listener) = RealListener::of(self.rt, &socket) else {
+            return Err(NameRefused::Failed);
+        };
+        let ear = Ear {
+            bind: own,
+            port,
+            socket,
+            out: 1,
+        };
+        match self.ears.push(ear) {
+            Ok(()) => Ok(listener),
+            Err(_) => Err(NameRefused::NoMemory),
+        }
+    }
+
+    /// A listener of an address and a port: a further one, where one of them is out.
+    pub fn listen(&mut self, address: &str, port: u16) -> Result<RealListener, NameRefused>
+        ensures { IfOk result (λ listener. (listener.waits ≡ 0) × (listener.faults ≡ 0)) }
+    {
+        let Some(index) = self.place_of(address, port) else {
+            return self.open(address, port);
+        };
+        match RealListener::of(self.rt, &self.ears[index].socket) {
+            Ok(listener) => {
+                self.ears[index].out = self.ears[index].out.saturating_add(1);
+                Ok(listener)
+            }
+            Err(_) => Err(NameRefused::Failed),
+        }
+    }
+
+    /// One of an address and a port came back. With the last one its socket is closed.
+    pub fn give_back(&mut self, address: &str, port: u16) {
+        let Some(index) = self.place_of(address, port) else {
+            return;
+        };
+        let out = self.ears[index].out;
+        if out > 1 {
+            self.ears[index].out = out - 1;
+        } else {
+            let _ = self.ears.swap_remove(index);
+        }
+    }
+}
