@@ -1,5 +1,5 @@
 -- What a store of lines stands for once it is opened.
-use Rattle.std.proofs.Common.{◌≡◌, ◌≤◌, ◌+◌, ◌∷◌, [], ℕ, zero, suc, List, take, Option, Some, Bool, true, refl, sym, ◌∙◌, ap, subst, arith, length-append, append-nil}
+use Rattle.std.proofs.Common.{◌≡◌, ◌≤◌, ◌+◌, ◌∷◌, [], ℕ, zero, suc, List, take, Option, Some, refl, sym, ◌∙◌, ap, subst, arith, length-append, append-nil}
 use Rattle.std.proofs.lemmas.List.{get_or_past}
 use Rattle.std.proofs.lemmas.List.Elements.{All-nil}
 use Rattle.flume_host.specs.Causes.{Rose}
@@ -10,17 +10,16 @@ use Rattle.flume_host.proofs.Telling.{tells_more}
 use Rattle.event_core.specs.Journal.{Base, after_journal}
 use Rattle.event_core.specs.declared.journal.Entry.{Entry}
 use Rattle.channel_face.specs.History.{Opening, opening}
-use Rattle.channel_face.specs.Machine.{State, base_of, is_some_of}
+use Rattle.channel_face.specs.Machine.{Rules}
 use Rattle.channel_face.specs.declared.replies.Kind.TheVariants.{File as OnFile}
 use Rattle.channel_face.proofs.LawLemmas.{after_none}
 use Rattle.file_channel.specs.Folders.{OpensTo}
-use Rattle.txn_core.specs.Counted.{Counted}
 use Rattle.file_channel.specs.Folders.{IsAsBefore, Opens, OpensFrom}
-use Rattle.file_channel.specs.Stands.{MayFind, StandsOver}
+use Rattle.file_channel.specs.Stands.{IsSeenIn, MayFind, Shown, StandsOver}
 use Rattle.netcat_source.specs.declared.replies.LineVerdict.TheVariants.{InDoubt}
 use Rattle.agent_run.specs.Handled.{Handled, GoesOn}
 use Rattle.agent_run.specs.Stored.{GivesFront, GivesLines, Holds, behind, default_limits}
-use Rattle.agent_run.specs.Store.{Follows, IsIdle, Stands}
+use Rattle.agent_run.specs.Store.{Follows, IsIdle, IsReady, Stands}
 
 behind_none : (base : Base) → behind base [] ≡ base
 behind_none base = λ i. record { items = append-nil base.items i; first = first i }
@@ -35,20 +34,8 @@ none_taken : (k : ℕ) → take k no_entries ≡ no_entries
 none_taken zero = refl
 none_taken (suc k) = refl
 
--- the limits and the numbers of an opening with these
-abbrev pub began : State → ℕ → ℕ → Bool → Opening
-began s faults from tells = record { rules = record { kind = OnFile; limits = default_limits }; base = base_of s; txn = s.txn; faults = faults; from = from; tells = tells }
-
-pub idle_at_first : (s : State) → ((faults from : ℕ) (tells : Bool) → s ≡ opening (began s faults from tells)) → IsIdle s
-idle_at_first s opened =
-    let is = opened 0 0 true in
-    record {
-      kind = ap (λ (x : State). x.rules.kind) is;
-      limits = ap (λ (x : State). x.rules.limits) is;
-      opened = ap (λ (x : State). x.opened) is;
-      staged = ap (λ (x : State). x.staged) is;
-      whole = ap (λ (x : State). x.broken) is;
-    }
+idle_at_first : (o : Opening) → o.rules ≡ record { kind = OnFile; limits = default_limits } → IsIdle (opening o)
+idle_at_first o rules = record { kind = ap (λ (r : Rules). r.kind) rules; limits = ap (λ (r : Rules). r.limits) rules; opened = refl; staged = refl; whole = refl }
 
 -- what the calls of no line may leave is the base
 found_none : (start : Opening) (image : Files) → MayFind start [] image → GivesLines start.base [] image
@@ -59,44 +46,54 @@ found_none start image may =
 no_front : (base : Base) (image : Files) → GivesLines base [] image → GivesFront base [] [] image
 no_front base image gives = record { more = []; rest = []; first = refl; one = omega arith; gives = gives }
 
-begins : (t u : Told) (told : Option Told) (faults faults' : ℕ) (tells : Bool) (c : Counted) → Opens t.reads default_limits.capacity (base_of c.state) c.state.txn → told ≡ Some u → OpensFrom t u → StandsOver told faults' c (began c.state faults (clock t + 1) tells) [] → Follows [] [] c.state t u
-begins t u told faults faults' tells c opens is_u settled stands =
-    let since : EachMoment (clock t + 1) (λ m image. GivesFront (base_of c.state) [] [] image) u = λ m image low left. no_front (base_of c.state) image (found_none (began c.state faults (clock t + 1) tells) image (stands.images u is_u m image low left)) in
-    let later : clock t + 1 ≤ clock u = let rises = clock_rises (done Settle t) u (IsAsBefore t.reads) settled in let one = length-append t.past (under_way Settle t.now ∷ []) in omega (arith, rises, one) in
-    record {
-      holds = record {
-        base = base_of c.state;
-        txn = c.state.txn;
-        opens = opens;
-        acks = [];
-        refused = [];
-        split = refl;
-        since = since;
-        now = λ image left. since (clock u) image later (subst (λ (x : Folder). IsImage x image) (sym (get_or_past u.past (clock u) u.now (omega arith))) left);
-        room = λ n below. absurd (omega (arith, below));
-        ends = λ some. absurd (omega (arith, some));
-      };
-      base = sym (behind_none (base_of c.state));
-      txn = omega arith;
-      exact = λ _. omega arith;
-      moments = tt;
-    }
+-- the channel was opened as this, and made no call
+module _ (told' : Option Told) (faults' : ℕ) (c : Shown) (o : Opening) (stands : StandsOver told' faults' c o []) where
+  begins : (t u : Told) → told' ≡ Some u → o.from ≡ clock t + 1 → Opens t.reads default_limits.capacity o.base o.txn → OpensFrom t u → Follows [] [] (opening o) t u
+  begins t u is_u from opens settled =
+      let since : EachMoment (clock t + 1) (λ m image. GivesFront o.base [] [] image) u = λ m image low left. no_front o.base image (found_none o image (stands.images u is_u m image (omega (arith, from, low)) left)) in
+      let later : clock t + 1 ≤ clock u = let rises = clock_rises (done Settle t) u (IsAsBefore t.reads) settled in let one = length-append t.past (under_way Settle t.now ∷ []) in omega (arith, rises, one) in
+      record {
+        holds = record {
+          base = o.base;
+          txn = o.txn;
+          opens = opens;
+          acks = [];
+          refused = [];
+          split = refl;
+          since = since;
+          now = λ image left. since (clock u) image later (subst (λ (x : Folder). IsImage x image) (sym (get_or_past u.past (clock u) u.now (omega arith))) left);
+          room = λ n below. absurd (omega (arith, below));
+          ends = λ some. absurd (omega (arith, some));
+        };
+        base = sym (behind_none o.base);
+        txn = omega arith;
+        exact = λ _. omega arith;
+        moments = tt;
+      }
 
-pub stands_at_first : (told told' : Option Told) (faults faults' : ℕ) (c : Counted) → WhereTold told (λ t. Opens t.reads default_limits.capacity (base_of c.state) c.state.txn) → Tells told told' OpensFrom → faults' ≡ faults
-    → StandsOver told' faults' c (began c.state faults (moment_of told + 1) (is_some_of told')) [] → Stands (record { told = told; faults = faults }) told' faults' c.state []
-stands_at_first told told' faults faults' c opens settled well stands =
-    let follows : Tells told told' (Follows [] [] c.state) = tells_more told told' OpensFrom (Follows [] [] c.state)
-    (λ t u is_t is_u from. begins t u told' faults faults' (is_some_of told') c (opens t is_t) is_u from (subst (λ (o : Option Told). StandsOver told' faults' c (began c.state faults (moment_of o + 1) (is_some_of told')) []) is_t stands)) settled in
-    record {
-      first = [];
-      last = [];
-      split = refl;
-      going = All-nil GoesOn;
-      one = omega arith;
-      stops = All-nil (λ (h : Handled). GoesOn h.verdict → ⊥);
-      later = omega (arith, well);
-      cause = All-nil (λ (h : Handled). h.verdict ≡ InDoubt → Rose faults faults');
-      well = λ _. well;
-      holds = tells_more told told' (Follows [] [] c.state) (Holds [] []) (λ t u _ _ f. f.holds) follows;
-      goes_on = λ _. follows;
-    }
+  seen_first : IsSeenIn (StandsOver told' faults' c) (opening o)
+  seen_first = (o, [], stands, refl)
+
+  pub ready_at_first : o.rules ≡ record { kind = OnFile; limits = default_limits } → IsReady (StandsOver told' faults' c)
+  ready_at_first rules = (opening o, seen_first, idle_at_first o rules)
+
+  pub stands_at_first : (told : Option Told) (faults : ℕ) → o.from ≡ moment_of told + 1 → o.rules ≡ record { kind = OnFile; limits = default_limits } → WhereTold told (λ t. Opens t.reads default_limits.capacity o.base o.txn) → Tells told told' OpensFrom → faults' ≡ faults
+      → Stands (record { told = told; faults = faults }) (StandsOver told' faults' c) told' faults' []
+  stands_at_first told faults from rules opens settled well =
+      let follows : Tells told told' (Follows [] [] (opening o)) = tells_more told told' OpensFrom (Follows [] [] (opening o)) (λ t u is_t is_u set. begins t u is_u (from ∙ ap (λ (v : Option Told). moment_of v + 1) is_t) (opens t is_t) set) settled in
+      record {
+        first = [];
+        last = [];
+        split = refl;
+        going = All-nil GoesOn;
+        one = omega arith;
+        stops = All-nil (λ (h : Handled). GoesOn h.verdict → ⊥);
+        later = omega (arith, well);
+        cause = All-nil (λ (h : Handled). h.verdict ≡ InDoubt → Rose faults faults');
+        well = λ _. well;
+        holds = tells_more told told' (Follows [] [] (opening o)) (Holds [] []) (λ t u _ _ f. f.holds) follows;
+        state = opening o;
+        seen = λ _. seen_first;
+        idle = λ _. idle_at_first o rules;
+        goes_on = λ _. follows;
+      }

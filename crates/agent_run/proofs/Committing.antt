@@ -12,8 +12,8 @@ use Rattle.event_core.specs.Journal.{Base, after_journal, put_events}
 use Rattle.event_core.specs.declared.journal.Entry.{Entry}
 use Rattle.event_core.specs.declared.journal.Entry.TheVariants.{Puts}
 use Rattle.channel_face.specs.Token.{Token}
-use Rattle.channel_face.specs.History.{Moves}
-use Rattle.channel_face.specs.Machine.{State, is_some_of, BeginPut, Flush, Put, StagePut, RollbackPut, add_put, base_of, close, count, entries, entry_of, next_number, puts_of, AdmitsPut, Rules, put_refusal, settle, settle_if, size_refusal, stage, stage_put_refusal, without_entry, with_entry}
+use Rattle.channel_face.specs.History.{Moves, Opening, Shows, Step}
+use Rattle.channel_face.specs.Machine.{State, Admits, Call, is_some_of, BeginPut, Flush, Put, StagePut, RollbackPut, add_put, base_of, close, count, entries, entry_of, next_number, puts_of, AdmitsPut, Rules, put_refusal, settle, settle_if, size_refusal, stage, stage_put_refusal, without_entry, with_entry}
 use Rattle.channel_face.specs.declared.replies.Counter.TheVariants.{File, Number}
 use Rattle.channel_face.specs.declared.replies.Kind.{Kind}
 use Rattle.channel_face.specs.declared.replies.Kind.TheVariants.{File as OnFile, Memory as InMemory}
@@ -33,10 +33,18 @@ use Rattle.txn_core.proofs.Kept.{few_opened, put_allows}
 use Rattle.file_channel.specs.Folders.{OpensTo}
 use Rattle.file_channel.specs.Touches.{Flushed, IsSpentLog, Rests, flushes}
 use Rattle.file_channel.specs.Written.{MayRecover}
+use Rattle.file_channel.specs.Stands.{IsSeenIn}
 use Rattle.file_channel.proofs.Opening.{joined, only_more}
+use Rattle.file_channel.proofs.Standing.{shown}
 use Rattle.agent_run.specs.Stored.{default_limits}
+use Rattle.netcat_source.specs.declared.replies.LineVerdict.{LineVerdict as Verdict}
 use Rattle.netcat_source.specs.declared.replies.LineVerdict.TheVariants as LineVerdict
-use Rattle.agent_run.specs.Store.{HasSpentLog, IsFull, IsIdle, Keeps, MayGain, PutsOne, begin_verdict, one_put, put_verdict}
+use Rattle.agent_run.specs.Handled.{GoesOn}
+use Rattle.agent_run.specs.Store.{HasSpentLog, IsFull, IsIdle, Keeps, LeavesState, MayGain, PutsOne, begin_verdict, one_put, put_verdict}
+
+-- a move over any disk, of a call whose reply hangs on no disk
+pub exactly : (tells : Bool) (s : State) (call : Call) (s' : State) → Moves tells s call s' → (Admits tells s call → Admits true s call) → Moves true s call s'
+exactly tells s call s' moves same = record { admitted = same moves.admitted; state = moves.state }
 
 itself : (n : ℕ) → (n == n) ≡ true
 itself n = grind (arith, nat_tests)
@@ -471,3 +479,24 @@ module _ (told0 told1 told2 told3 : Option Told) (s s1 s2 s3 : State) (token : T
       is_in_doubt FlushNo.Broken moves flushed = absurd (let no = sym moves.admitted ∙ has3.whole in cc)
       is_in_doubt (FlushNo.Spent counter) moves flushed = absurd moves.admitted
       is_in_doubt FlushNo.DiskFault moves flushed = puts_doubt told0 told4 s s4 event (images4 (flushed refl)) has_log
+
+-- a line that stopped nothing leaves the channel idle
+pub still_idle : (verdict : Verdict) (event : Content) (s s' : State) → GoesOn verdict → LeavesState verdict event s s' → IsIdle s'
+still_idle LineVerdict.Accepted event s s' goes left = left.0
+still_idle LineVerdict.Refused event s s' goes left = left.0
+still_idle LineVerdict.InDoubt event s s' goes left = absurd goes
+still_idle LineVerdict.NoMemory event s s' goes left = absurd goes
+
+-- what the clauses of a call show of a state in which the channel is seen
+
+pub shown_rests : (stands : Opening → List Step → Type 0) (told : Option Told) (s : State) → IsSeenIn stands s → Shows stands (Rests told) → Rests told s
+shown_rests stands told s seen shows = shown stands s (Rests told) seen shows
+
+pub shown_spent : (stands : Opening → List Step → Type 0) (told : Option Told) (token : Token) (result : Result PutDone PutRefused) (s : State) → IsSeenIn stands s
+    → Shows stands (λ s. s.broken ≡ false → IsSome (puts_of s token) → WhereTold told (λ t. (result ≡ Err (PutNo.Spent File)) ↔ IsSpentLog t s.rules.limits.max_file))
+    → s.broken ≡ false → IsSome (puts_of s token) → WhereTold told (λ t. (result ≡ Err (PutNo.Spent File)) ↔ IsSpentLog t s.rules.limits.max_file)
+shown_spent stands told token result s seen shows =
+    shown stands s (λ s. s.broken ≡ false → IsSome (puts_of s token) → WhereTold told (λ t. (result ≡ Err (PutNo.Spent File)) ↔ IsSpentLog t s.rules.limits.max_file)) seen shows
+
+pub shown_flushed : (stands : Opening → List Step → Type 0) (told told' : Option Told) (call : Call) (s : State) → IsSeenIn stands s → Shows stands (λ s. flushes call ≡ true → Tells told told' (Flushed s)) → flushes call ≡ true → Tells told told' (λ t u. Flushed s t u)
+shown_flushed stands told told' call s seen shows = shown stands s (λ s. flushes call ≡ true → Tells told told' (Flushed s)) seen shows

@@ -9,7 +9,7 @@ use Rattle.flume_host.specs.Folder.{Files, IsImage}
 use Rattle.flume_host.specs.Told.{Told, Tells}
 use Rattle.flume_host.proofs.Moments.{started}
 use Rattle.flume_host.proofs.Telling.{tells_more, tells_same}
-use Rattle.channel_face.specs.Machine.{State}
+use Rattle.channel_face.specs.History.{Opening, Step}
 use Rattle.channel_face.specs.declared.replies.OpenCause.{OpenCause}
 use Rattle.channel_face.specs.declared.replies.OpenCause.TheVariants as causes
 use Rattle.file_channel.specs.Folders.{AreSame, IsAsBefore, IsRefused, OpensFrom, OpensOver, StaysAs}
@@ -137,22 +137,22 @@ stopped_as more rose s = record {
 }
 
 -- nothing stopped those that went on
-unstopped : (start : Start) (told : Option Told) (faults : ℕ) (state : State) (done : List Handled) → All GoesOn (verdicts_of done) → (s : Stands start told faults state done) → s.last ≡ []
-unstopped start told faults state done going s = none_stops s.first s.last (let P : List Handled → Type 0 = λ d. All GoesOn (verdicts_of d) in subst P s.split going) s.stops
+unstopped : (start : Start) (stands : Opening → List Step → Type 0) (told : Option Told) (faults : ℕ) (done : List Handled) → All GoesOn (verdicts_of done) → (s : Stands start stands told faults done) → s.last ≡ []
+unstopped start stands told faults done going s = none_stops s.first s.last (let P : List Handled → Type 0 = λ d. All GoesOn (verdicts_of d) in subst P s.split going) s.stops
 
-stored : (start : Start) (told : Option Told) (faults : ℕ) (state : State) (done : List Handled) → All GoesOn (verdicts_of done) → Stands start told faults state done → Stored start.told told done
-stored start told faults state done going s =
-    let none : s.last ≡ [] = unstopped start told faults state done going s in
+stored : (start : Start) (stands : Opening → List Step → Type 0) (told : Option Told) (faults : ℕ) (done : List Handled) → All GoesOn (verdicts_of done) → Stands start stands told faults done → Stored start.told told done
+stored start stands told faults done going s =
+    let none : s.last ≡ [] = unstopped start stands told faults done going s in
     let first : s.first ≡ done = sym (s.split ∙ ap (λ (l : List Handled). s.first ++ l) none ∙ append-nil s.first) in
     let doubt : doubted s.last ≡ [] = ap doubted none in
     subst (λ (d : List Handled). Tells start.told told (Holds d [])) first (subst (λ (l : List (List ℕ)). Tells start.told told (Holds s.first l)) doubt s.holds)
 
 -- a session that nothing stopped counted no fault of the disk
-pub uncounted : (start : Start) (told : Option Told) (faults : ℕ) (state : State) (done : List Handled) → All GoesOn (verdicts_of done) → Stands start told faults state done → faults ≡ start.faults
-uncounted start told faults state done going s = s.well (let Q : List Handled → Type 0 = λ l. All (λ h. h.verdict ≡ verdict.NoMemory) l in subst Q (sym (unstopped start told faults state done going s)) (All-nil (λ (h : Handled). h.verdict ≡ verdict.NoMemory)))
+pub uncounted : (start : Start) (stands : Opening → List Step → Type 0) (told : Option Told) (faults : ℕ) (done : List Handled) → All GoesOn (verdicts_of done) → Stands start stands told faults done → faults ≡ start.faults
+uncounted start stands told faults done going s = s.well (let Q : List Handled → Type 0 = λ l. All (λ h. h.verdict ≡ verdict.NoMemory) l in subst Q (sym (unstopped start stands told faults done going s)) (All-nil (λ (h : Handled). h.verdict ≡ verdict.NoMemory)))
 
-interrupted : (start : Start) (told : Option Told) (faults : ℕ) (state : State) (done : List Handled) → Stands start told faults state done → Interrupted start.told told start.faults faults done
-interrupted start told faults state done s = record { first = s.first; last = s.last; split = s.split; going = s.going; one = s.one; stops = s.stops; cause = s.cause; folder = inl s.holds }
+interrupted : (start : Start) (stands : Opening → List Step → Type 0) (told : Option Told) (faults : ℕ) (done : List Handled) → Stands start stands told faults done → Interrupted start.told told start.faults faults done
+interrupted start stands told faults done s = record { first = s.first; last = s.last; split = s.split; going = s.going; one = s.one; stops = s.stops; cause = s.cause; folder = inl s.holds }
 
 module _ (s0 s1 s2 s3 s4 : HostState) (left left' took took' handed' : Option (List ℕ)) (n m own_in own_out : ℕ)
     (e1 : left ≡ s0.input) (e2 : s1 ≡ record s0 { input = None }) (e3 : took ≡ s1.output) (e4 : s2 ≡ record s1 { output = None; handed = None })
@@ -187,9 +187,9 @@ module _ (s0 s1 s2 s3 s4 : HostState) (left left' took took' handed' : Option (L
   unread : own_in ≡ 0 → own_out ≡ 0 → s4.faults ≡ s0.faults
   unread none_in none_out = faults4 ∙ c6.clean none_out ∙ faults3 ∙ c5.clean none_in ∙ faults2
 
-  module _ (start : Start) (told : Option Told) (faults : ℕ) (state : State) (accepted : ℕ) (e : SessionEnd) (sink_before : ℕ) (clean : sink_before ≡ 0) where
+  module _ (start : Start) (stands : Opening → List Step → Type 0) (told : Option Told) (faults : ℕ) (accepted : ℕ) (e : SessionEnd) (sink_before : ℕ) (clean : sink_before ≡ 0) where
     abbrev pub Here : List Handled → Type 0
-    Here = Stands start told faults state
+    Here = Stands start stands told faults
 
     pub piped : (e ≡ End → IsAtEnd left')
         → (e ≡ End → Served 512 (λ size. size < 2 ^ 40) Rest left left' took took' accepted Here)
@@ -204,21 +204,21 @@ module _ (s0 s1 s2 s3 s4 : HostState) (left left' took took' handed' : Option (L
     piped at_end end long full stopped all well memory in_doubt read write status is = record {
       done = λ zero.
           let ended = is_end e (sym is ∙ zero) in
-          (let P : Option (List ℕ) → Type 0 = λ o. IsAtEnd o in subst P (sym input_is) (at_end ended), rw (← e1, input_is, ← took_is, output_is) (served_as (stored start told faults state) (end ended)));
-      full = λ six. rw (← e1, input_is, ← took_is, output_is) (served_as (stored start told faults state) (full (is_full e (sym is ∙ six))));
-      long = λ seven. rw (← e1, input_is, ← took_is, output_is) (served_as (stored start told faults state) (long (is_long e (sym is ∙ seven))));
+          (let P : Option (List ℕ) → Type 0 = λ o. IsAtEnd o in subst P (sym input_is) (at_end ended), rw (← e1, input_is, ← took_is, output_is) (served_as (stored start stands told faults) (end ended)));
+      full = λ six. rw (← e1, input_is, ← took_is, output_is) (served_as (stored start stands told faults) (full (is_full e (sym is ∙ six))));
+      long = λ seven. rw (← e1, input_is, ← took_is, output_is) (served_as (stored start stands told faults) (long (is_long e (sym is ∙ seven))));
       stopped = λ which.
           let kind : (end_status e ≡ 3) ⊎ (end_status e ≡ 5) = elim which [ inl three ↦ inl (sym is ∙ three) | inr five ↦ inr (sym is ∙ five) ] in
-          rw (← e1, input_is, ← took_is, output_is) (stopped_as (interrupted start told faults state) (λ rose. write_rose (rw clean at rose)) (stopped (is_stop e kind)));
+          rw (← e1, input_is, ← took_is, output_is) (stopped_as (interrupted start stands told faults) (λ rose. write_rose (rw clean at rose)) (stopped (is_stop e kind)));
       held = λ four. absurd (never_held e (sym is ∙ four));
       handed = λ which. handed_is ∙ all (is_well e (subst IsWellStatus is which)) ∙ sym output_is;
       well = λ which.
           let none = well (is_well e (subst IsWellStatus is which)) in
           let disk : faults ≡ start.faults = elim which [
-            | inl zero ↦ let s = end (is_end e (sym is ∙ zero)) in uncounted start told faults state s.done s.going s.stands
+            | inl zero ↦ let s = end (is_end e (sym is ∙ zero)) in uncounted start stands told faults s.done s.going s.stands
             | inr other ↦ elim other [
-              | inl six ↦ let s = full (is_full e (sym is ∙ six)) in uncounted start told faults state s.done s.going s.stands
-              | inr seven ↦ let s = long (is_long e (sym is ∙ seven)) in uncounted start told faults state s.done s.going s.stands
+              | inl six ↦ let s = full (is_full e (sym is ∙ six)) in uncounted start stands told faults s.done s.going s.stands
+              | inr seven ↦ let s = long (is_long e (sym is ∙ seven)) in uncounted start stands told faults s.done s.going s.stands
             ]
           ] in
           (unread none.0 (none.1 ∙ clean), disk);

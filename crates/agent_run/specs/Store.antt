@@ -8,6 +8,7 @@ use Rattle.event_core.specs.Content.{Content}
 use Rattle.event_core.specs.Journal.{Base, after_journal}
 use Rattle.event_core.specs.declared.journal.Entry.{Entry}
 use Rattle.event_core.specs.declared.journal.Entry.TheVariants.{Puts}
+use Rattle.channel_face.specs.History.{Opening, Step}
 use Rattle.channel_face.specs.Machine.{State, base_of}
 use Rattle.channel_face.specs.declared.replies.Kind.TheVariants.{File as OnFile}
 use Rattle.channel_face.specs.declared.replies.BeginRefused.{BeginRefused}
@@ -15,6 +16,7 @@ use Rattle.channel_face.specs.declared.replies.BeginRefused.TheVariants as Begin
 use Rattle.channel_face.specs.declared.replies.PutRefused.{PutRefused}
 use Rattle.channel_face.specs.declared.replies.PutRefused.TheVariants as PutNo
 use Rattle.file_channel.specs.Folders.{OpensTo}
+use Rattle.file_channel.specs.Stands.{IsSeenIn}
 use Rattle.file_channel.specs.Touches.{IsSpentLog}
 use Rattle.netcat_source.specs.declared.replies.LineVerdict.{LineVerdict}
 use Rattle.netcat_source.specs.declared.replies.LineVerdict.TheVariants.{Accepted, Refused, InDoubt, NoMemory}
@@ -99,7 +101,7 @@ pub record Follows (first : List Handled) (doubt : List (List ℕ)) (s : State) 
   pub moments : AllByRecursion (λ a. a.moment ≤ clock u) holds.acks
 
 -- From where a store was opened it stands for these lines, of which at most the last one stopped it.
-pub record Stands (start : Start) (told : Option Told) (faults : ℕ) (s : State) (done : List Handled) : Type 0 where
+pub record Stands (start : Start) (stands : Opening → List Step → Type 0) (told : Option Told) (faults : ℕ) (done : List Handled) : Type 0 where
   pub first : List Handled
   pub last : List Handled
   pub split : done ≡ first ++ last
@@ -111,5 +113,16 @@ pub record Stands (start : Start) (told : Option Told) (faults : ℕ) (s : State
   -- unless one is in doubt, no fault was counted
   pub well : All (λ h. h.verdict ≡ NoMemory) last → faults ≡ start.faults
   pub holds : Tells start.told told (Holds first (doubted last))
-  -- unless it is stopped, the channel has what the folder has
-  pub goes_on : last ≡ [] → Tells start.told told (Follows first [] s)
+  -- unless it is stopped, the channel stands for calls that led to an idle state, which has what the folder has
+  pub state : State
+  pub seen : last ≡ [] → IsSeenIn stands state
+  pub idle : last ≡ [] → IsIdle state
+  pub goes_on : last ≡ [] → Tells start.told told (Follows first [] state)
+
+-- calls for which a channel stands led to an idle state
+abbrev pub IsReady : (Opening → List Step → Type 0) → Type 0
+IsReady stands = (s : State) × IsSeenIn stands s × IsIdle s
+
+-- From each idle state in which a channel is seen, an event was put in a transaction of its own.
+abbrev pub PutsIdle : Content → LineVerdict → (Opening → List Step → Type 0) → (Opening → List Step → Type 0) → Option Told → Option Told → Type 0
+PutsIdle event verdict stands stands' told told' = (s : State) → IsSeenIn stands s → IsIdle s → (s' : State) × IsSeenIn stands' s' × PutsOne event verdict told told' s s'

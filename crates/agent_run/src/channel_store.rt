@@ -5,7 +5,8 @@ ghost use Rattle.flume_host.specs.Causes.{Rose};
 ghost use Rattle.channel_face.specs.declared.replies.OpenCause.{OpenCause};
 ghost use Rattle.flume_host.specs.Told.{Tells};
 ghost use Rattle.file_channel.specs.Folders.{IsRefused, OpensFrom};
-ghost use Rattle.agent_run.specs.Store.{IsIdle, PutsOne, Stands, begin_verdict, put_verdict};
+ghost use Rattle.file_channel.specs.Stands.{StandsOver};
+ghost use Rattle.agent_run.specs.Store.{IsReady, PutsIdle, Stands, begin_verdict, put_verdict};
 ghost use Rattle.agent_run.specs.Stored.{default_limits, event_of};
 
 use crate::LineStore;
@@ -74,9 +75,9 @@ fn put_verdict(refused: PutRefused) -> LineVerdict
 
 // Puts an event in a transaction of its own.
 fn put_one<D: Disk + Drop>(channel: &mut FileChannel<D>, event: &Event) -> LineVerdict
-    requires idle { IsIdle channel.old.1.state }
+    requires idle { IsReady (StandsOver (D.told channel.old.0) (D.faults channel.old.0) channel.old.1) }
     requires small { size event.now ≤ 1_048_576 }
-    ensures step { PutsOne event.now result (D.told channel.old.0) (D.told channel.new.0) channel.old.1.state channel.new.1.state }
+    ensures step { PutsIdle event.now result (StandsOver (D.told channel.old.0) (D.faults channel.old.0) channel.old.1) (StandsOver (D.told channel.new.0) (D.faults channel.new.0) channel.new.1) (D.told channel.old.0) (D.told channel.new.0) }
     ensures cause { result ≡ LineVerdict.InDoubt → Rose (D.faults channel.old.0) (D.faults channel.new.0) }
     ensures later { D.faults channel.old.0 ≤ D.faults channel.new.0 }
     ensures well { result ≢ LineVerdict.InDoubt → D.faults channel.new.0 ≡ D.faults channel.old.0 }
@@ -121,8 +122,8 @@ fn open_by<D: Disk + Drop, L: Ledger>(
     requires name { blank.name ≡ L.name }
     requires parts { blank.parts ≡ L.parts }
     requires some { 0 < L.parts }
-    ensures stands { IfOk result (λ store. Stands (record { told = D.told disk; faults = D.faults disk }) (D.told store.channel.0) (D.faults store.channel.0) store.channel.1.state []) }
-    ensures idle { IfOk result (λ store. IsIdle store.channel.1.state) }
+    ensures stands { IfOk result (λ store. Stands (record { told = D.told disk; faults = D.faults disk }) (StandsOver (D.told store.channel.0) (D.faults store.channel.0) store.channel.1) (D.told store.channel.0) (D.faults store.channel.0) []) }
+    ensures idle { IfOk result (λ store. IsReady (StandsOver (D.told store.channel.0) (D.faults store.channel.0) store.channel.1)) }
     ensures refused { IfErr result (λ refused. IsRefused (D.told disk) (D.told refused.disk) (D.faults disk) (D.faults refused.disk) default_limits.capacity refused.cause) }
     ensures settled { IfErr result (λ refused. (refused.cause ≡ OpenCause.DiskFault) ⊎ Tells (D.told disk) (D.told refused.disk) OpensFrom) }
 {
@@ -136,8 +137,8 @@ fn open_by<D: Disk + Drop, L: Ledger>(
 impl<D: Disk + Drop> ChannelStore<D> {
     /// Opens the channel of a folder.
     pub fn open(alloc: Global, disk: D) -> Result<ChannelStore<D>, OpenRefused<D>>
-        ensures stands { IfOk result (λ store. Stands (record { told = D.told disk; faults = D.faults disk }) (D.told store.channel.0) (D.faults store.channel.0) store.channel.1.state []) }
-        ensures idle { IfOk result (λ store. IsIdle store.channel.1.state) }
+        ensures stands { IfOk result (λ store. Stands (record { told = D.told disk; faults = D.faults disk }) (StandsOver (D.told store.channel.0) (D.faults store.channel.0) store.channel.1) (D.told store.channel.0) (D.faults store.channel.0) []) }
+        ensures idle { IfOk result (λ store. IsReady (StandsOver (D.told store.channel.0) (D.faults store.channel.0) store.channel.1)) }
         ensures refused { IfErr result (λ refused. IsRefused (D.told disk) (D.told refused.disk) (D.faults disk) (D.faults refused.disk) default_limits.capacity refused.cause) }
         ensures settled { IfErr result (λ refused. (refused.cause ≡ OpenCause.DiskFault) ⊎ Tells (D.told disk) (D.told refused.disk) OpensFrom) }
     {
@@ -154,11 +155,12 @@ impl<D: Disk + Drop> ChannelStore<D> {
 }
 
 impl<D: Disk + Drop> LineStore for ChannelStore<D> {
-    ghost use Rattle.agent_run.specs.Store.{IsIdle, Stands};
+    ghost use Rattle.file_channel.specs.Stands.{StandsOver};
+    ghost use Rattle.agent_run.specs.Store.{IsReady, Stands};
 
-    ghost stands = { λ s start done. Stands start (D.told s.channel.0) (D.faults s.channel.0) s.channel.1.state done };
+    ghost stands = { λ s start done. Stands start (StandsOver (D.told s.channel.0) (D.faults s.channel.0) s.channel.1) (D.told s.channel.0) (D.faults s.channel.0) done };
 
-    ghost ready = { λ s. IsIdle s.channel.1.state };
+    ghost ready = { λ s. IsReady (StandsOver (D.told s.channel.0) (D.faults s.channel.0) s.channel.1) };
 
     ghost faults = { λ s. D.faults s.channel.0 };
 

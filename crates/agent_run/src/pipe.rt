@@ -2,8 +2,9 @@
 ghost use Rattle.std.specs.Prelude.{◌≡◌, ◌≢◌, ◌⊎◌, ◌≤◌, [], List, ℕ, Option};
 ghost use Rattle.flume_host.specs.HostState.{KeepsNamed};
 ghost use Rattle.netcat_source.specs.Feed.{LineState};
+ghost use Rattle.file_channel.specs.Stands.{StandsOver};
 ghost use Rattle.agent_run.specs.Handled.{Start};
-ghost use Rattle.agent_run.specs.Store.{IsIdle, Stands};
+ghost use Rattle.agent_run.specs.Store.{IsReady, Stands};
 ghost use Rattle.agent_run.specs.Piped.{Piped, IsPipeStatus, cause_status, end_status, pipe_status};
 
 use crate::channel_store::ChannelStore;
@@ -54,8 +55,8 @@ fn run_session<H: Host>(
     mut store: ChannelStore<H::Disk>,
 ) -> (PipeRun, H::Disk)
     requires lines { lines ≡ record { max = 512; line = []; at = Cut.More } }
-    requires idle { IsIdle store.channel.1.state }
-    ensures piped { (start : Start) → Stands start (H.Disk.told store.channel.0) (H.Disk.faults store.channel.0) store.channel.1.state []
+    requires idle { IsReady (StandsOver (H.Disk.told store.channel.0) (H.Disk.faults store.channel.0) store.channel.1) }
+    ensures piped { (start : Start) → Stands start (StandsOver (H.Disk.told store.channel.0) (H.Disk.faults store.channel.0) store.channel.1) (H.Disk.told store.channel.0) (H.Disk.faults store.channel.0) []
         → Piped (H.state host.old) (H.state host.new) start.told (H.Disk.told result.1) start.faults (H.Disk.faults result.1) (pipe_status result.0.end) result.0.accepted }
     ensures status { IsPipeStatus (pipe_status result.0.end) }
     ensures named { KeepsNamed (H.folder host.old) (H.folder host.new) (H.room host.old) (H.room host.new) }

@@ -7,6 +7,7 @@ pub mod Opened
 pub mod Sound
 pub mod LawLemmas
 pub mod Going
+pub mod Doubt
 pub mod Spent
 pub mod Grammar
 pub mod Within

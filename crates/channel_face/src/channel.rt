@@ -1,8 +1,11 @@
 // What a channel is. It stands for an opening and the calls since, and each call adds itself to them.
-ghost use Rattle.std.specs.Prelude.{◌≡◌, ◌++◌, ℕ, List, Bool, length, IfErr};
+ghost use Rattle.std.specs.Prelude.{◌≡◌, ◌++◌, ℕ, List, Bool, length, IfErr, IsErrOf};
+ghost use Rattle.flume_host.specs.Causes.{Rose};
 ghost use Rattle.channel_face.specs.Calls.{IsCommit, cause_of};
 ghost use Rattle.channel_face.specs.Counters.{counts_of};
 ghost use Rattle.channel_face.specs.History.{Opening, Step, IsRun, opening, AddsOne, Made, Shows, reopen_reply};
+ghost use Rattle.channel_face.specs.declared.replies.CommitRefused.{CommitRefused};
+ghost use Rattle.channel_face.specs.declared.replies.FlushRefused.{FlushRefused};
 ghost use Rattle.channel_face.specs.Machine.{State, BeginPut, BeginTake, Put, Take, StagePut, StageTake, Flush, RollbackPut, RollbackTake, Checkpoint, Prune, Reopen, Reopened, settled};
 
 use crate::{
@@ -27,6 +30,9 @@ pub trait Channel {
 
     /// The clock of its disk, and 0 without one.
     ghost moment: { Self → ℕ };
+
+    /// How often its disk has failed, and 0 without one.
+    ghost faults: { Self → ℕ };
 
     /// Begins a transaction of puts. 1. `Broken`. 2. `TooManyOpen`, exactly where 1,024 transactions are open. 3. `Spent` of
     /// `Counter::Txn`, exactly where the next transaction's number is 2^64 - 1. 4. `NoMemory`.
@@ -57,16 +63,19 @@ pub trait Channel {
     /// transaction's count pass 2^64 - 1.
     fn stage_put(&mut self, txn: PutTxn) -> Result<Ticket, StageRefused<PutTxn>>
         ensures step { AddsOne (stands self.old) (stands self.new) (StagePut txn (cause_of result)) (moment self.new) }
-        ensures back { IfErr result (λ refused. refused.txn ≡ txn) };
+        ensures back { IfErr result (λ refused. refused.txn ≡ txn) }
+        ensures faults { faults self.new ≡ faults self.old };
 
     /// Stages a transaction of takes. 1. `Stale`. 2. `Broken`.
     fn stage_take(&mut self, txn: TakeTxn) -> Result<Ticket, StageRefused<TakeTxn>>
         ensures step { AddsOne (stands self.old) (stands self.new) (StageTake txn (cause_of result)) (moment self.new) }
-        ensures back { IfErr result (λ refused. refused.txn ≡ txn) };
+        ensures back { IfErr result (λ refused. refused.txn ≡ txn) }
+        ensures faults { faults self.new ≡ faults self.old };
 
-    /// Settles all that is staged. 1. `Broken`. 2. `DiskFault`, and the channel is broken.
+    /// Settles all that is staged. 1. `Broken`. 2. `DiskFault`, where the disk failed in this call, and the channel is broken.
     fn flush(&mut self) -> Result<(), FlushRefused>
-        ensures { AddsOne (stands self.old) (stands self.new) (Flush result) (moment self.new) };
+        ensures step { AddsOne (stands self.old) (stands self.new) (Flush result) (moment self.new) }
+        ensures fault { IsErrOf result FlushRefused.DiskFault → Rose (faults self.old) (faults self.new) };
 
     /// Gives a transaction up, and answers whether its token was not stale. It takes no memory and touches no device.
     fn rollback_put(&mut self, txn: PutTxn) -> bool
@@ -96,9 +105,11 @@ pub trait Channel {
     fn is_broken(&self) -> bool
         ensures { Shows (stands self.now) (λ s. result ≡ s.broken) };
 
-    /// Stages a transaction of puts, then flushes. A stage that was refused hands the token back.
+    /// Stages a transaction of puts, then flushes. A stage that was refused hands the token back. `InDoubt` comes only where
+    /// the disk failed in this call's flush.
     final fn commit_put(&mut self, txn: PutTxn) -> Result<Ticket, CommitRefused<PutTxn>>
-        ensures { Made (stands self.old) (stands self.new) (λ calls. IsCommit (StagePut txn) txn calls result) }
+        ensures calls { Made (stands self.old) (stands self.new) (λ calls. IsCommit (StagePut txn) txn calls result) }
+        ensures doubt { Shows (stands self.old) (λ _. IsErrOf result CommitRefused.InDoubt → Rose (faults self.old) (faults self.new)) }
     {
         match self.stage_put(txn) {
             Ok(ticket) => match self.flush() {
@@ -111,7 +122,8 @@ pub trait Channel {
 
     /// Stages a transaction of takes, then flushes, as [`Channel::commit_put`].
     final fn commit_take(&mut self, txn: TakeTxn) -> Result<Ticket, CommitRefused<TakeTxn>>
-        ensures { Made (stands self.old) (stands self.new) (λ calls. IsCommit (StageTake txn) txn calls result) }
+        ensures calls { Made (stands self.old) (stands self.new) (λ calls. IsCommit (StageTake txn) txn calls result) }
+        ensures doubt { Shows (stands self.old) (λ _. IsErrOf result CommitRefused.InDoubt → Rose (faults self.old) (faults self.new)) }
     {
         match self.stage_take(txn) {
             Ok(ticket) => match self.flush() {

@@ -12,7 +12,8 @@ use Rattle.flume_host.proofs.Images.{stable_only}
 use Rattle.flume_host.proofs.Telling.{tells_more, tells_same}
 use Rattle.event_core.specs.Journal.{is_among, taken_numbers}
 use Rattle.record_form.specs.declared.record.Rec.{Rec}
-use Rattle.channel_log.specs.Frames.{Holds, IsFrame, header, opened}
+use Rattle.channel_log.specs.Frames.{Holds, IsFrame, header, opened, record_bytes}
+use Rattle.record_form.specs.declared.record.Rec.TheVariants.{Put, Take, Rollback, CommitPut, CommitTake, End}
 use Rattle.channel_log.specs.Writer.{HasFrames, IsAtRest, IsPending, IsReady, LacksOrHas, Writer, file_of}
 use Rattle.event_core.specs.Journal.{after_journal}
 use Rattle.channel_face.specs.Machine.{State, base_of, next_number, settle}
@@ -273,3 +274,22 @@ writes_of told told' w s waits given none = from (some_or_none (length waits.rec
         tells_more told told' (Changes (Log w.file) (LacksOrHas 1 w.file ready.0 waits.records) 2) WritesLast
         (λ t u old new changes. record { file = w.file; was = file_of 1 w.file (waits.disk t old).frames; there = (waits.disk t old).rest.reads; last = (waits.disk t old).none; others = λ name other. (changes.others name other).1; syncs = changes.syncs })
         (given ready.0 ready.1 some)
+
+pub no_ok : {A : Type 0} → false ≡ true → A
+no_ok is = absurd (cc)
+
+-- where no bytes wait, no records do
+pub none_waits : (told : Option Told) (w : Writer) (s : State) → Waits told w s → length w.bytes ≡ 0 → w.count ≡ 0
+none_waits told w s waits none = from waits.records waits.pending
+  where
+    some : (rec : Rec) (records : List Rec) → 1 ≤ length (record_bytes (rec ∷ records))
+    some (Put txn event) records = omega arith
+    some (Take txn number) records = omega arith
+    some (Rollback txn) records = omega arith
+    some (CommitPut txn first count) records = omega arith
+    some (CommitTake txn count) records = omega arith
+    some (End count) records = omega arith
+
+    from : (records : List Rec) → IsPending w records → w.count ≡ 0
+    from [] pending = pending.counted
+    from (rec ∷ records) pending = absurd (let long = some rec records in let same = ap (λ (l : List ℕ). length l) pending.spelled in omega (arith, long, same, none))

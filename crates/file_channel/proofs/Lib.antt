@@ -8,6 +8,7 @@ pub mod Writes
 pub mod Flushing
 pub mod Whole
 pub mod Putting
+pub mod Rooms
 pub mod Freeing
 pub mod Standing
 pub mod Opening

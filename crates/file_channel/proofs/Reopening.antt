@@ -9,7 +9,8 @@ use Rattle.flume_host.proofs.Moments.{started}
 use Rattle.event_core.specs.Journal.{Base, IsBase, after_journal}
 use Rattle.event_core.specs.declared.journal.Entry.{Entry}
 use Rattle.channel_log.specs.Writer.{Writer}
-use Rattle.channel_face.specs.History.{Moves, Opening, opening}
+use Rattle.std.specs.Prelude.{OnOk}
+use Rattle.channel_face.specs.History.{Moves, Opening, opening, reopen_reply}
 use Rattle.channel_face.specs.Machine.{Admits, Front, Read, Reopen, Reopened, Rules, State, after_reopen, base_of, broken_state, is_some_of, kept_base}
 use Rattle.channel_face.specs.declared.replies.Counter.TheVariants.{Life}
 use Rattle.channel_face.specs.declared.replies.Kind.TheVariants.{File as OnFile}
@@ -143,3 +144,15 @@ rose_by (Err e) X told told' f f' capacity (inl spent) is = absurd (apart e spen
     apart : (e : OpenCause) → e ≡ causes.Spent Life → e ≡ causes.DiskFault → ⊥
     apart e a b = cc
 rose_by (Err e) X told told' f f' capacity (inr refused) is = refused.fault (same_cause e (Err e) (Err causes.DiskFault) refl refl is)
+
+-- the causes of a refusal, each with more known
+pub refused_as : (r : Result (Unit {0}) OpenCause) (A B : OpenCause → Type 0) (X Y Z : Type 0) → (X → Y) → (X → Z) → IfErr r (λ e. (A e × X) ⊎ B e) → IfErr r (λ e. (A e × Y × Z) ⊎ B e)
+refused_as (Ok done) A B X Y Z y z refused = refused
+refused_as (Err e) A B X Y Z y z (inl spent) = inl (spent.0, y spent.1, z spent.1)
+refused_as (Err e) A B X Y Z y z (inr other) = inr other
+
+-- a reopening keeps the rules
+pub renewed_opens : (r : Result (Unit {0}) OpenCause) (kept : Reopened) (told : Option Told) (s s' : State) → s' ≡ after_reopen s (reopen_reply r kept) → OnOk r (WhereTold told (λ t. Opens t.reads s.rules.limits.capacity (base_of s') s'.txn))
+    → OnOk r (WhereTold told (λ t. Opens t.reads s'.rules.limits.capacity (base_of s') s'.txn))
+renewed_opens (Ok done) kept told s s' is opens = subst (λ (n : ℕ). WhereTold told (λ t. Opens t.reads n (base_of s') s'.txn)) (sym (ap (λ (v : State). v.rules.limits.capacity) is)) opens
+renewed_opens (Err e) kept told s s' is opens = opens

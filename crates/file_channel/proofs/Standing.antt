@@ -3,6 +3,7 @@ use Rattle.std.proofs.Common.{Result, ◌⊎◌, inl, inr, ◌≡◌, ◌<◌, �
 use Rattle.std.proofs.lemmas.Bool.Decides.{nat_tests}
 use Rattle.std.proofs.lemmas.List.{append-nil}
 use Rattle.std.specs.List.{AllByRecursion}
+use Rattle.std.specs.Prelude.{IfErr, OnOk}
 use Rattle.flume_host.specs.Causes.{Rose}
 use Rattle.flume_host.specs.Folder.{Files}
 use Rattle.flume_host.specs.Told.{EachMoment, LeavesOnly, Settle, Tells, Told, WhereTold, clock, done, moment_of, under_way}
@@ -13,12 +14,13 @@ use Rattle.event_core.specs.declared.journal.Entry.{Entry}
 use Rattle.event_core.specs.declared.journal.Entry.TheVariants.{Puts, Takes}
 use Rattle.channel_face.specs.Token.{Token}
 use Rattle.channel_face.specs.Counters.{Tally, tally, counted}
-use Rattle.channel_face.specs.History.{AddsOne, IsRun, Moves, Opening, Step, journal, kept_by, opening, reopen_reply, state_after}
+use Rattle.channel_face.specs.History.{AddsOne, IsRun, Moves, Opening, Shows, Step, journal, kept_by, opening, reopen_reply, state_after}
 use Rattle.channel_face.specs.Laws.{KeepsFront, ReadsNone}
-use Rattle.channel_face.specs.Machine.{State, Call, BeginPut, BeginTake, Put, Take, StagePut, StageTake, Flush, RollbackPut, RollbackTake, Checkpoint, Prune, Reopen, Admits, AdmitsReopen, Kept, Front, Read, Reopened, add_put, add_take, after, base_of, entry_of, free, is_some_of, put_refusal, puts_of, settle, settle_if, stage, take_refusal, takes_of}
+use Rattle.channel_face.specs.Machine.{State, Rules, Call, BeginPut, BeginTake, Put, Take, StagePut, StageTake, Flush, RollbackPut, RollbackTake, Checkpoint, Prune, Reopen, Admits, AdmitsReopen, Kept, Front, Read, Reopened, add_put, add_take, after, base_of, entry_of, free, is_some_of, put_refusal, puts_of, settle, settle_if, stage, take_refusal, takes_of}
 use Rattle.channel_face.specs.declared.replies.Kind.TheVariants.{File as OnFile}
 use Rattle.channel_face.specs.declared.replies.OpenCause.{OpenCause}
 use Rattle.channel_face.specs.declared.replies.OpenCause.TheVariants as OpenNo
+use Rattle.channel_face.specs.declared.replies.Counter.TheVariants.{Life}
 use Rattle.channel_face.specs.declared.replies.Put.{Put as PutDone}
 use Rattle.channel_face.specs.declared.replies.Taken.{Taken}
 use Rattle.channel_face.specs.declared.replies.PutRefused.{PutRefused}
@@ -29,16 +31,16 @@ use Rattle.channel_face.specs.declared.replies.TakeRefused.TheVariants as TakeNo
 use Rattle.channel_face.specs.declared.replies.FlushRefused.TheVariants as FlushNo
 use Rattle.channel_face.specs.declared.replies.CheckRefused.TheVariants as CheckNo
 use Rattle.event_core.specs.Content.{Content}
-use Rattle.channel_face.proofs.Adding.{run-push, state-push}
+use Rattle.channel_face.proofs.Adding.{run-last, run-push, state-push}
 use Rattle.channel_face.proofs.Leaving.{journal-push, leaves_as_before}
 use Rattle.channel_face.proofs.LawLemmas.{after_none, sound_opening, stands_for}
 use Rattle.channel_face.proofs.Loose.{loose}
 use Rattle.channel_face.proofs.Tallies.{tally-push}
 use Rattle.file_channel.specs.Folders.{OpensTo}
 use Rattle.txn_core.specs.Counted.{Counted, Makes}
-use Rattle.file_channel.specs.Folders.{Opens, OpensFrom}
+use Rattle.file_channel.specs.Folders.{IsRefused, Opens, OpensFrom}
 use Rattle.file_channel.proofs.Opening.{as_before_opens}
-use Rattle.file_channel.specs.Stands.{MayFind, StandsOver, has_fault, is_fault, until}
+use Rattle.file_channel.specs.Stands.{IsSeenIn, MayFind, Shown, StandsOver, has_fault, is_fault, until}
 use Rattle.file_channel.specs.Touches.{Flushed, Rests, flushes}
 use Rattle.file_channel.specs.Written.{MayRecover, RecoversSettled}
 
@@ -78,6 +80,10 @@ either : (b c : Bool) → b || c ≡ true → (b ≡ true) ⊎ (c ≡ true)
 either true c is = inl refl
 either false c is = inr is
 
+neither : (b c : Bool) → b || c ≡ false → (b ≡ false) × (c ≡ false)
+neither true c is = absurd (cc)
+neither false c is = (refl, is)
+
 fault_in : (step : Step) (h : List Step) → (is_fault step.call ≡ true) ⊎ (has_fault h ≡ true) → has_fault (step ∷ h) ≡ true
 fault_in step h (inl here) = rw here refl
 fault_in step h (inr there) = from (is_fault step.call) there
@@ -101,6 +107,13 @@ fault-push (x ∷ h) step is = from (either (is_fault x.call) (has_fault (h ++ s
     from : (is_fault x.call ≡ true) ⊎ (has_fault (h ++ step ∷ []) ≡ true) → (has_fault (h ++ step ∷ []) ≡ true → (has_fault (x ∷ h) ≡ true) ⊎ (is_fault step.call ≡ true)) → (has_fault (x ∷ h) ≡ true) ⊎ (is_fault step.call ≡ true)
     from (inl here) go = inl (fault_in x h (inl here))
     from (inr there) go = go there
+
+no_fault-push : (h : List Step) (step : Step) → has_fault (h ++ step ∷ []) ≡ false → (has_fault h ≡ false) × (is_fault step.call ≡ false)
+no_fault-push [] step is = (refl, (neither (is_fault step.call) false is).0)
+no_fault-push (x ∷ h) step is =
+    let none = neither (is_fault x.call) (has_fault (h ++ step ∷ [])) is in
+    let rest = no_fault-push h step none.1 in
+    (rw (none.0, rest.0) refl, rest.1)
 
 -- over a disk that tells no reopen reads what it keeps
 
@@ -353,12 +366,12 @@ images_run t u start h step old new a run finds at rests =
     rises = clock_rises t u (MayRecover old) run
 
 -- a call of the machine adds itself, as its images may be
-adds_with : (told told' : Option Told) (f f' : ℕ) (old : Counted) (call : Call) (new : Counted) → Moves (is_some_of told) old.state call new.state → new.tally ≡ counted old.state call old.tally → f ≤ f' → (is_fault call ≡ true → Rose f f')
+adds_with : (told told' : Option Told) (f f' : ℕ) (old : Counted) (call : Call) (new : Counted) → Moves (is_some_of told) old.state call new.state → new.tally ≡ counted old.state call old.tally → f ≤ f' → (is_fault call ≡ true → Rose f f') → (is_fault call ≡ false → f' ≡ f)
     → is_some_of told' ≡ is_some_of told → moment_of told ≤ moment_of told'
     → ((start : Opening) (h : List Step) (step : Step) (t u : Told) → told ≡ Some t → told' ≡ Some u → step.moment ≡ clock u → Adds t start h step old.state new.state → step.call ≡ call → EachMoment start.from (λ m image. MayFind start (until m (h ++ step ∷ [])) image) u)
     → ((u : Told) → told' ≡ Some u → (t : Told) × (told ≡ Some t))
     → AddsOne (StandsOver told f old) (StandsOver told' f' new) call (moment_of told')
-adds_with told told' f f' old call new moves count up cause tells rises images before start h pass stands = record {
+adds_with told told' f f' old call new moves count up cause still tells rises images before start h pass stands = record {
   base = stands.base;
   tells = stands.tells ∙ sym tells;
   run = run-push (is_some_of told') (opening start) h step (run_of (is_some_of told') (is_some_of told) (opening start) h tells stands.run) (subst (λ (b : Bool). Admits b (state_after (opening start) h) call) (sym tells) may);
@@ -367,6 +380,7 @@ adds_with told told' f f' old call new moves count up cause tells rises images b
   moments = none_later (moment_of told') h step (no_later (moment_of told) (moment_of told') h rises stands.moments) (omega arith);
   later = omega (arith, stands.later, up);
   causes = λ is. by (fault-push h step is);
+  clean = λ is. let none = no_fault-push h step is in still none.1 ∙ stands.clean none.0;
   images = λ u is. let was = before u is in images start h step was.0 u was.1 is (ap moment_of is) (adds u was.0 was.1) refl;
 }
   where
@@ -395,10 +409,10 @@ adds_with told told' f f' old call new moves count up cause tells rises images b
     }
 
 -- a call of the machine adds itself
-pub adds_over : (told told' : Option Told) (f f' : ℕ) (old : Counted) (call : Call) (new : Counted) → Makes old call new → f ≤ f' → (is_fault call ≡ true → Rose f f') → Touched told told' old.state → Rests told' new.state
+pub adds_over : (told told' : Option Told) (f f' : ℕ) (old : Counted) (call : Call) (new : Counted) → Makes old call new → f ≤ f' → (is_fault call ≡ true → Rose f f') → (is_fault call ≡ false → f' ≡ f) → Touched told told' old.state → Rests told' new.state
     → AddsOne (StandsOver told f old) (StandsOver told' f' new) call (moment_of told')
-adds_over told told' f f' old call new makes up cause touched rests =
-    adds_with told told' f f' old call new (record { admitted = may_loosely (is_some_of told) old.state call makes.moves.admitted; state = makes.moves.state }) makes.tally up cause
+adds_over told told' f f' old call new makes up cause still touched rests =
+    adds_with told told' f f' old call new (record { admitted = may_loosely (is_some_of told) old.state call makes.moves.admitted; state = makes.moves.state }) makes.tally up cause still
     (told_same told told' old.state touched) (moment_rises told told' old.state touched) images (λ u is. let was = told_before told told' old.state touched u is in (was.0, was.1))
   where
     images : (start : Opening) (h : List Step) (step : Step) (t u : Told) → told ≡ Some t → told' ≡ Some u → step.moment ≡ clock u → Adds t start h step old.state new.state → step.call ≡ call → EachMoment start.from (λ m image. MayFind start (until m (h ++ step ∷ [])) image) u
@@ -450,11 +464,11 @@ reopen_before : (told told' : Option Told) (s : State) → Reopens told told' s 
 reopen_before told told' s (inl same) u is = (u, sym same ∙ is, inl refl)
 reopen_before told told' s (inr (life, tells)) u is = let old = back told told' (λ t v. LeavesOnly t v (MayRecover s)) tells u is in (old.0, old.1, inr (life, old.2))
 
-pub reopens_over : (told told' : Option Told) (f f' : ℕ) (old : Counted) (reply : Result Reopened OpenCause) (new : Counted) → Moves (is_some_of told) old.state (Reopen reply) new.state → new.tally ≡ counted old.state (Reopen reply) old.tally → f ≤ f' → (is_fault (Reopen reply) ≡ true → Rose f f')
+pub reopens_over : (told told' : Option Told) (f f' : ℕ) (old : Counted) (reply : Result Reopened OpenCause) (new : Counted) → Moves (is_some_of told) old.state (Reopen reply) new.state → new.tally ≡ counted old.state (Reopen reply) old.tally → f ≤ f' → (is_fault (Reopen reply) ≡ true → Rose f f') → (is_fault (Reopen reply) ≡ false → f' ≡ f)
     → Reopens told told' old.state → Rests told' new.state → AddsOne (StandsOver told f old) (StandsOver told' f' new) (Reopen reply) (moment_of told')
-reopens_over told told' f f' old reply new moves count up cause reopens rests =
+reopens_over told told' f f' old reply new moves count up cause still reopens rests =
     let tells = reopen_tells told told' old.state reopens in
-    adds_with told told' f f' old (Reopen reply) new moves count up cause tells.0 tells.1 images (λ u is. let was = reopen_before told told' old.state reopens u is in (was.0, was.1))
+    adds_with told told' f f' old (Reopen reply) new moves count up cause still tells.0 tells.1 images (λ u is. let was = reopen_before told told' old.state reopens u is in (was.0, was.1))
   where
     images : (start : Opening) (h : List Step) (step : Step) (t u : Told) → told ≡ Some t → told' ≡ Some u → step.moment ≡ clock u → Adds t start h step old.state new.state → step.call ≡ Reopen reply → EachMoment start.from (λ m image. MayFind start (until m (h ++ step ∷ [])) image) u
     images start h step t u was is at adds same_call = from (reopen_before told told' old.state reopens u is)
@@ -478,6 +492,7 @@ pub record Did (told told' : Option Told) (f f' : ℕ) (old : Counted) (call : C
   pub makes : Makes old call new
   pub up : f ≤ f'
   pub cause : is_fault call ≡ true → Rose f f'
+  pub still : is_fault call ≡ false → f' ≡ f
   pub quiet : flushes call ≡ false → told' ≡ told
   pub flushed : flushes call ≡ true → Tells told told' (λ t u. Flushed old.state t u)
   pub rests : Rests told' new.state
@@ -492,7 +507,7 @@ touched_by told told' s call quiet flushed = from (flushes call) refl
 pub adds_did : (told told' told0 : Option Told) (f f' f0 : ℕ) (old new old0 : Counted) (call : Call) → told ≡ told0 → f ≡ f0 → old ≡ old0 → Did told told' f f' old call new
     → AddsOne (StandsOver told0 f0 old0) (StandsOver told' f' new) call (moment_of told')
 adds_did told told' told0 f f' f0 old new old0 call told_is f_is old_is did =
-    rw (← told_is, ← f_is, ← old_is) (adds_over told told' f f' old call new did.makes did.up did.cause (touched_by told told' old.state call did.quiet did.flushed) did.rests)
+    rw (← told_is, ← f_is, ← old_is) (adds_over told told' f f' old call new did.makes did.up did.cause did.still (touched_by told told' old.state call did.quiet did.flushed) did.rests)
 
 -- a call that leaves the disk alone
 pub did_quietly : (told told' : Option Told) (f f' : ℕ) (old : Counted) (call : Call) (new : Counted) → Makes old call new → told' ≡ told → f' ≡ f → is_fault call ≡ false → flushes call ≡ false → Rests told' new.state → Did told told' f f' old call new
@@ -500,6 +515,7 @@ did_quietly told told' f f' old call new makes same count no_fault quiet rests =
   makes = makes;
   up = omega (arith, count);
   cause = λ is. differ (sym is ∙ no_fault);
+  still = λ _. count;
   quiet = λ _. same;
   flushed = λ is. differ (sym is ∙ quiet);
   rests = rests;
@@ -536,17 +552,18 @@ flush_fault (Err FlushNo.DiskFault) is = refl
 flush_fault (Err (FlushNo.Spent counter)) is = absurd (cc)
 
 -- A channel that was just opened stands for no calls: whatever a stop left since recovers to its base.
-pub stands_first : (told : Option Told) (faults : ℕ) (c : Counted) (start : Opening) → IsBase start.base → start.tells ≡ is_some_of told → c.state ≡ opening start → c.tally ≡ tally (opening start) [] → start.faults ≤ faults
+pub stands_first : (told : Option Told) (faults : ℕ) (c : Counted) (start : Opening) → IsBase start.base → start.tells ≡ is_some_of told → c.state ≡ opening start → c.tally ≡ tally (opening start) [] → faults ≡ start.faults
     → WhereTold told (EachMoment start.from (λ m image. (txn : ℕ) × OpensTo image start.base txn)) → StandsOver told faults c start []
-stands_first told faults c start base same state count later images = record {
+stands_first told faults c start base same state count well images = record {
   base = base;
   tells = same;
   run = tt;
   state = sym state;
   tally = sym count;
   moments = tt;
-  later = later;
+  later = omega (arith, well);
   causes = λ is. absurd (cc);
+  clean = λ _. well;
   images = λ t is m image since left. let found = images t is m image since left in (start.base, found.0, found.1, (0, sym (after_none start.base)));
 }
 
@@ -565,6 +582,7 @@ pub record DidReopen (told told' : Option Told) (f f' : ℕ) (old : Counted) (re
   pub tally : new.tally ≡ counted old.state (Reopen reply) old.tally
   pub up : f ≤ f'
   pub cause : is_fault (Reopen reply) ≡ true → Rose f f'
+  pub still : is_fault (Reopen reply) ≡ false → f' ≡ f
   pub spent : 2 ^ 64 - 1 ≤ old.state.life → told' ≡ told
   pub images : Tells told told' (λ t u. LeavesOnly t u (MayRecover old.state))
   pub rests : Rests told' new.state
@@ -582,15 +600,49 @@ reopens_of told told' s spent images = from (at_end s.life)
 pub adds_reopen : (told told' told0 : Option Told) (f f' f0 : ℕ) (old new old0 : Counted) (reply : Result Reopened OpenCause) → told ≡ told0 → f ≡ f0 → old ≡ old0 → DidReopen told told' f f' old reply new
     → AddsOne (StandsOver told0 f0 old0) (StandsOver told' f' new) (Reopen reply) (moment_of told')
 adds_reopen told told' told0 f f' f0 old new old0 reply told_is f_is old_is did =
-    rw (← told_is, ← f_is, ← old_is) (reopens_over told told' f f' old reply new did.moves did.tally did.up did.cause (reopens_of told told' old.state did.spent did.images) did.rests)
+    rw (← told_is, ← f_is, ← old_is) (reopens_over told told' f f' old reply new did.moves did.tally did.up did.cause did.still (reopens_of told told' old.state did.spent did.images) did.rests)
 
 -- A channel that was opened: since then a stop leaves what recovers to what it has.
-pub stands_opened : (told told' : Option Told) (faults : ℕ) (c : Counted) (start : Opening) (capacity : ℕ) → IsBase start.base → start.tells ≡ is_some_of told' → c.state ≡ opening start → c.tally ≡ tally (opening start) [] → start.faults ≤ faults → start.from ≡ moment_of told + 1
+pub stands_opened : (told told' : Option Told) (faults : ℕ) (c : Counted) (start : Opening) (capacity : ℕ) → IsBase start.base → start.tells ≡ is_some_of told' → c.state ≡ opening start → c.tally ≡ tally (opening start) [] → faults ≡ start.faults → start.from ≡ moment_of told + 1
     → WhereTold told (λ t. Opens t.reads capacity start.base start.txn) → Tells told told' OpensFrom → StandsOver told' faults c start []
-stands_opened told told' faults c start capacity base same state count later from opens tells = stands_first told' faults c start base same state count later images
+stands_opened told told' faults c start capacity base same state count well from opens tells = stands_first told' faults c start base same state count well images
   where
     images : (u : Told) → told' ≡ Some u → EachMoment start.from (λ m image. (txn : ℕ) × OpensTo image start.base txn) u
     images u is m image since left =
         let b = back told told' OpensFrom tells u is in
         let first : clock (done Settle b.0) ≤ m = omega (arith, since, from, ap moment_of b.1, length-append b.0.past (under_way Settle b.0.now ∷ [])) in
         (start.txn, as_before_opens b.0.reads image start.base start.txn (b.2.each m image first left) ((opens b.0 b.1).check, (opens b.0 b.1).recovers))
+
+-- what is true of a channel's state shows wherever it stands for an opening and calls
+pub shows_over : (told told0 : Option Told) (f f0 : ℕ) (c c0 : Counted) (P : State → Type 0) → told ≡ told0 → f ≡ f0 → c ≡ c0 → P c.state → Shows (StandsOver told0 f0 c0) P
+shows_over told told0 f f0 c c0 P told_is f_is c_is holds start h stands = subst P (ap (λ (v : Counted). v.state) c_is ∙ sym stands.state) holds
+
+-- a reopening that was not refused for a fault counted none
+pub still_by : (r : Result (Unit {0}) OpenCause) (kept : Reopened) (X : Type 0) (told told' : Option Told) (f f' capacity : ℕ) → OnOk r (f' ≡ f) → (X → f' ≡ f) → IfErr r (λ e. ((e ≡ OpenNo.Spent Life) × X) ⊎ IsRefused told told' f f' capacity e)
+    → is_fault (Reopen (reopen_reply r kept)) ≡ false → f' ≡ f
+still_by (Ok done) kept X told told' f f' capacity well same refused none = well
+still_by (Err e) kept X told told' f f' capacity well same (inl spent) none = same spent.1
+still_by (Err e) kept X told told' f f' capacity well same (inr refused) none = refused.well (λ is. differ (sym (ap (λ (v : OpenCause). is_fault (Reopen (Err v))) is) ∙ none))
+
+-- the opening as which a channel stands for no calls names the rules that it was opened with
+pub opened_state : (s : State) (r : Rules) (faults from : ℕ) (tells : Bool) → s ≡ opening (record { rules = r; base = base_of s; txn = s.txn; faults = faults; from = from; tells = tells })
+    → s ≡ opening (record { rules = s.rules; base = base_of s; txn = s.txn; faults = faults; from = from; tells = tells })
+opened_state s r faults from tells is =
+    let rules : s.rules ≡ r = ap (λ (v : State). v.rules) is in
+    is ∙ ap (λ (v : Rules). opening (record { rules = v; base = base_of s; txn = s.txn; faults = faults; from = from; tells = tells })) (sym rules)
+
+-- a channel that was seen in a state is seen behind its next call
+pub seen_on : (told told' : Option Told) (f f' : ℕ) (c c' : Shown) (s : State) (call : Call) (m : ℕ) → IsSeenIn (StandsOver told f c) s → AddsOne (StandsOver told f c) (StandsOver told' f' c') call m
+    → IsSeenIn (StandsOver told' f' c') (after s call) × Moves (is_some_of told') s call (after s call)
+seen_on told told' f f' c c' s call m seen adds =
+    let start : Opening = seen.0 in
+    let step : Step = record { pass = 0; call = call; moment = m } in
+    let longer : StandsOver told' f' c' start (seen.1 ++ step ∷ []) = adds start seen.1 0 seen.2 in
+    let may : Admits (is_some_of told') s call = subst (λ (v : State). Admits (is_some_of told') v call) seen.3 (run-last (is_some_of told') (opening start) seen.1 step longer.run) in (
+      (start, seen.1 ++ step ∷ [], longer, state-push (opening start) seen.1 step ∙ ap (λ (v : State). after v call) seen.3),
+      record { admitted = may; state = refl },
+    )
+
+-- what shows wherever a channel stands for an opening and calls is true of a state in which it is seen
+pub shown : (stands : Opening → List Step → Type 0) (s : State) (P : State → Type 0) → IsSeenIn stands s → Shows stands P → P s
+shown stands s P seen shows = subst P seen.3 (shows seen.0 seen.1 seen.2)

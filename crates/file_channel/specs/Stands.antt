@@ -1,5 +1,5 @@
 -- What a channel on a disk stands for.
-use Rattle.std.specs.Prelude.{◌≡◌, ◌≤◌, ℕ, List, [], ◌∷◌, Option, Err, Bool, true, false, ◌||◌, nat_le, if◌then◌else◌}
+use Rattle.std.specs.Prelude.{◌≡◌, ◌≤◌, ◌+◌, ℕ, List, [], ◌∷◌, Option, Err, Bool, true, false, ◌||◌, nat_le, if◌then◌else◌}
 use Rattle.std.specs.List.{AllByRecursion}
 use Rattle.flume_host.specs.Causes.{Rose}
 use Rattle.flume_host.specs.Folder.{Files}
@@ -7,7 +7,7 @@ use Rattle.flume_host.specs.Told.{EachMoment, Told, WhereTold, moment_of}
 use Rattle.event_core.specs.Journal.{Base, IsBase}
 use Rattle.channel_face.specs.Counters.{tally}
 use Rattle.channel_face.specs.History.{IsRun, MayLeave, Opening, Step, opening, state_after}
-use Rattle.channel_face.specs.Machine.{Call, Put, Take, Flush, Checkpoint, Prune, Reopen, is_some_of}
+use Rattle.channel_face.specs.Machine.{State, Call, Put, Take, Flush, Checkpoint, Prune, Reopen, base_of, is_some_of}
 use Rattle.channel_face.specs.declared.replies.PutRefused.TheVariants as PutNo
 use Rattle.channel_face.specs.declared.replies.TakeRefused.TheVariants as TakeNo
 use Rattle.channel_face.specs.declared.replies.FlushRefused.TheVariants as FlushNo
@@ -43,10 +43,14 @@ abbrev pub has_fault : List Step → Bool
 has_fault [] = false
 has_fault (step ∷ h) = is_fault step.call || has_fault h
 
+-- what a channel shows of itself beside its disk
+abbrev pub Shown : Type 0
+Shown = Counted
+
 -- The opening's numbers rise, and the disk tells as it did then. The calls are a run from there to this state, with these counts, and none ended later
--- than now. The disk's count of faults is no less than at the opening, and a call was refused for a fault of the disk only where it rose. Where the
--- disk tells, whatever a stop leaves at a moment since the opening opens to something that the calls up to that moment may leave.
-pub record StandsOver (told : Option Told) (faults : ℕ) (c : Counted) (start : Opening) (h : List Step) : Type 0 where
+-- than now. The disk's count of faults is no less than at the opening: it rose where a call was refused for a fault of the disk, and else it stayed. Where
+-- the disk tells, whatever a stop leaves at a moment since the opening opens to something that the calls up to that moment may leave.
+pub record StandsOver (told : Option Told) (faults : ℕ) (c : Shown) (start : Opening) (h : List Step) : Type 0 where
   pub base : IsBase start.base
   pub tells : start.tells ≡ is_some_of told
   pub run : IsRun (is_some_of told) (opening start) h
@@ -55,4 +59,20 @@ pub record StandsOver (told : Option Told) (faults : ℕ) (c : Counted) (start :
   pub moments : AllByRecursion (λ step. step.moment ≤ moment_of told) h
   pub later : start.faults ≤ faults
   pub causes : has_fault h ≡ true → Rose start.faults faults
+  pub clean : has_fault h ≡ false → faults ≡ start.faults
   pub images : WhereTold told (EachMoment start.from (λ m image. MayFind start (until m h) image))
+
+-- The opening of a channel that has made no call yet, over a disk that told and had counted this before, and tells this now.
+abbrev pub opened_as : Option Told → ℕ → Option Told → Shown → Opening
+opened_as before faults now c = record {
+  rules = c.state.rules;
+  base = base_of c.state;
+  txn = c.state.txn;
+  faults = faults;
+  from = moment_of before + 1;
+  tells = is_some_of now;
+}
+
+-- some opening and calls for which a channel stands led to this state
+abbrev pub IsSeenIn : (Opening → List Step → Type 0) → State → Type 0
+IsSeenIn stands s = (start : Opening) × (h : List Step) × stands start h × (state_after (opening start) h ≡ s)

@@ -40,6 +40,10 @@ pub record Flushed (s : State) (t u : Told) : Type 0 where
 abbrev pub room_of : State → ℕ → ℕ → ℕ
 room_of s size held = size + kept (busy s.opened) (held == 0)
 
+-- a frame in which so many bytes wait has no room of this size left, with its own end
+abbrev pub HasNoRoom : ℕ → ℕ → Type 0
+HasNoRoom waiting size = 2_097_152 < waiting + size + 6
+
 -- A log file gained a frame that had no room of this size left.
 pub record HadNoRoom (size : ℕ) (t u : Told) : Type 0 where
   pub file : ℕ

@@ -5,7 +5,7 @@ ghost use Rattle.flume_host.specs.Told.{LeavesOnly, Tells, WhereTold, moment_of}
 ghost use Rattle.event_core.specs.Content.{size};
 ghost use Rattle.channel_face.specs.Calls.{cause_of};
 ghost use Rattle.channel_face.specs.Counters.{counts_with};
-ghost use Rattle.channel_face.specs.History.{AddsOne, Moves, opening, reopen_reply};
+ghost use Rattle.channel_face.specs.History.{AddsOne, Shows, reopen_reply};
 ghost use Rattle.channel_face.specs.Machine as Face;
 ghost use Rattle.channel_face.specs.Machine.{BeginPut, BeginTake, Flush, Reopen, Reopened, RollbackPut, RollbackTake, StagePut, StageTake, base_of, is_some_of, puts_of, size_of_list, takes_of};
 ghost use Rattle.channel_face.specs.declared.replies.Counter.{Counter};
@@ -19,9 +19,8 @@ ghost use Rattle.channel_replay.specs.Recover.{WhereLogs, lines};
 ghost use Rattle.channel_replay.specs.Replay.{record_count};
 ghost use Rattle.file_channel.specs.Folders.{GainsLog, IsBegun, IsRefused, Opens, OpensFrom, OpensOver};
 ghost use Rattle.file_channel.specs.Written.{MayRecover};
-ghost use Rattle.file_channel.specs.Stands.{StandsOver, is_fault};
-ghost use Rattle.file_channel.specs.Touches.{Flushed, HadNoRoom, IsSpentLog, Rests, flushes, room_of};
-ghost use Rattle.txn_core.specs.Counted.{Makes};
+ghost use Rattle.file_channel.specs.Stands.{StandsOver, is_fault, opened_as};
+ghost use Rattle.file_channel.specs.Touches.{Flushed, HadNoRoom, HasNoRoom, IsSpentLog, Rests, flushes, room_of};
 ghost use Rattle.txn_core.specs.Noted.{noted};
 
 use crate::logged::LoggedLists;
@@ -51,12 +50,14 @@ pub struct FileChannel<D: Disk + Drop> {
 }
 
 impl<D: Disk + Drop> Model for FileChannel<D> {
+    ghost use Rattle.std.specs.Prelude.{ℕ};
     ghost use Rattle.txn_core.specs.Counted.{Counted, tally_of};
     ghost use Rattle.file_channel.specs.Touches.{Rests};
 
-    ghost Value = { D × Counted };
+    // The disk, what the channel stands for, and how many bytes of records wait in the frame.
+    ghost Value = { D × Counted × ℕ };
 
-    ghost view = { λ c. (c.logged.0, record { state = c.logged.1; tally = tally_of c.counts }) };
+    ghost view = { λ c. (c.logged.0, record { state = c.logged.1; tally = tally_of c.counts }, c.logged.2) };
 
     ghost invariant = { λ c. Rests (D.told c.logged.0) c.logged.1 };
 }
@@ -96,15 +97,14 @@ pub fn open_channel<D: Disk + Drop, L: Ledger>(
     limits: Limits,
     steps: &mut Steps<L>,
 ) -> Result<FileChannel<D>, OpenRefused<D>>
-    ensures state { IfOk result (λ c. (faults from : ℕ) (tells : Bool) → c.1.state ≡ opening (record { rules = record { kind = Kind.File; limits = limits }; base = base_of c.1.state; txn = c.1.state.txn; faults = faults; from = from; tells = tells })) }
-    ensures tally { IfOk result (λ c. c.1.tally ≡ record { put_attempts = 0; put_successes = 0; take_attempts = 0; take_successes = 0 }) }
-    ensures opens { IfOk result (λ c. WhereTold (D.told disk) (λ t. Opens t.reads limits.capacity (base_of c.1.state) c.1.state.txn)) }
+    // It stands for no calls: since the folder was settled, whatever a stop leaves recovers to what the folder opened to.
+    ensures stands { IfOk result (λ c. StandsOver (D.told c.0) (D.faults c.0) c.1 (opened_as (D.told disk) (D.faults disk) (D.told c.0) c.1) []) }
+    ensures rules { IfOk result (λ c. (opened_as (D.told disk) (D.faults disk) (D.told c.0) c.1).rules ≡ record { kind = Kind.File; limits = limits }) }
+    ensures opens { IfOk result (λ c. WhereTold (D.told disk) (λ t. Opens t.reads limits.capacity (opened_as (D.told disk) (D.faults disk) (D.told c.0) c.1).base (opened_as (D.told disk) (D.faults disk) (D.told c.0) c.1).txn)) }
     ensures gains { IfOk result (λ c. Tells (D.told disk) (D.told c.0) (λ t u. GainsLog t.reads IsBegun u.reads)) }
     ensures refused { IfErr result (λ refused. IsRefused (D.told disk) (D.told refused.disk) (D.faults disk) (D.faults refused.disk) limits.capacity refused.cause) }
     ensures well { IfOk result (λ c. D.faults c.0 ≡ D.faults disk) }
 
-    // It stands for no calls: since the folder was settled, whatever a stop leaves recovers to what the folder recovers to.
-    ensures stands { IfOk result (λ c. StandsOver (D.told c.0) (D.faults c.0) c.1 (record { rules = record { kind = Kind.File; limits = limits }; base = base_of c.1.state; txn = c.1.state.txn; faults = D.faults disk; from = moment_of (D.told disk) + 1; tells = is_some_of (D.told c.0) }) []) }
     ensures any_moment { IfOk result (λ c. Tells (D.told disk) (D.told c.0) OpensOver) }
     ensures settled { IfOk result (λ c. Tells (D.told disk) (D.told c.0) OpensFrom) }
     ensures settled_or { IfErr result (λ refused. (refused.cause ≡ OpenCause.DiskFault) ⊎ Tells (D.told disk) (D.told refused.disk) OpensFrom) }
@@ -135,15 +135,14 @@ impl<D: Disk + Drop> FileChannel<D> {
     /// all that was staged or nothing of that. After a refusal the channel is broken, and has what it had.
     pub fn reopen<L: Ledger>(&mut self, steps: &mut Steps<L>) -> Result<(), OpenCause>
         ensures step { (kept : Reopened) × AddsOne (StandsOver (D.told self.old.0) (D.faults self.old.0) self.old.1) (StandsOver (D.told self.new.0) (D.faults self.new.0) self.new.1) (Reopen (reopen_reply result kept)) (moment_of (D.told self.new.0)) }
-        ensures moves { (kept : Reopened) × Moves (is_some_of (D.told self.old.0)) self.old.1.state (Reopen (reopen_reply result kept)) self.new.1.state }
-        ensures tally { self.new.1.tally ≡ self.old.1.tally }
-        ensures opens { OnOk result (WhereTold (D.told self.old.0) (λ t. Opens t.reads self.old.1.state.rules.limits.capacity (base_of self.new.1.state) self.new.1.state.txn)) }
+        ensures opens { Shows (StandsOver (D.told self.new.0) (D.faults self.new.0) self.new.1) (λ s. OnOk result (WhereTold (D.told self.old.0) (λ t. Opens t.reads s.rules.limits.capacity (base_of s) s.txn))) }
         ensures gains { OnOk result (Tells (D.told self.old.0) (D.told self.new.0) (λ t u. GainsLog t.reads IsBegun u.reads)) }
-        ensures any_moment { Tells (D.told self.old.0) (D.told self.new.0) (λ t u. LeavesOnly t u (MayRecover self.old.1.state)) }
+        ensures any_moment { Shows (StandsOver (D.told self.old.0) (D.faults self.old.0) self.old.1) (λ s. Tells (D.told self.old.0) (D.told self.new.0) (λ t u. LeavesOnly t u (MayRecover s))) }
         ensures later { D.faults self.old.0 ≤ D.faults self.new.0 }
         ensures well { OnOk result (D.faults self.new.0 ≡ D.faults self.old.0) }
-        ensures spent { 2 ^ 64 - 1 ≤ self.old.1.state.life → (result ≡ Err (OpenCause.Spent Counter.Life)) × (self.new.0 ≡ self.old.0) }
-        ensures refused { IfErr result (λ cause. ((cause ≡ OpenCause.Spent Counter.Life) × (self.new.0 ≡ self.old.0)) ⊎ IsRefused (D.told self.old.0) (D.told self.new.0) (D.faults self.old.0) (D.faults self.new.0) self.old.1.state.rules.limits.capacity cause) }
+        ensures spent { Shows (StandsOver (D.told self.old.0) (D.faults self.old.0) self.old.1) (λ s. 2 ^ 64 - 1 ≤ s.life → (result ≡ Err (OpenCause.Spent Counter.Life)) × (D.told self.new.0 ≡ D.told self.old.0) × (D.faults self.new.0 ≡ D.faults self.old.0)) }
+        ensures refused { Shows (StandsOver (D.told self.old.0) (D.faults self.old.0) self.old.1) (λ s. IfErr result (λ cause. ((cause ≡ OpenCause.Spent Counter.Life) × (D.told self.new.0 ≡ D.told self.old.0) × (D.faults self.new.0 ≡ D.faults self.old.0))
+            ⊎ IsRefused (D.told self.old.0) (D.told self.new.0) (D.faults self.old.0) (D.faults self.new.0) s.rules.limits.capacity cause)) }
         ensures ticks { WhereTold (D.told self.old.0) (λ t. WhereLogs t.reads (λ logs. steps.new ≤ steps.old + record_count (lines logs))) }
     {
         let result = self.logged.reopen(steps);
@@ -154,7 +153,7 @@ impl<D: Disk + Drop> FileChannel<D> {
 
     /// Between two calls, whatever a stop leaves recovers to just what is settled, unless the channel is broken.
     pub fn rests(&self)
-        ensures { Rests (D.told self.now.0) self.now.1.state }
+        ensures { Shows (StandsOver (D.told self.now.0) (D.faults self.now.0) self.now.1) (Rests (D.told self.now.0)) }
     {
         let _ = &self.logged;
     }
@@ -162,7 +161,7 @@ impl<D: Disk + Drop> FileChannel<D> {
     /// Hands the disk back. It touches no device. Whatever a stop now leaves recovers to just what is settled, unless the channel was broken.
     pub fn close(self) -> D
         ensures disk { result ≡ self.0 }
-        ensures settled { Rests (D.told result) self.1.state }
+        ensures settled { Shows (StandsOver (D.told self.0) (D.faults self.0) self.1) (Rests (D.told result)) }
     {
         let FileChannel { logged, counts: _ } = self;
         logged.rests();
@@ -181,11 +180,13 @@ impl<D: Disk + Drop> Channel for FileChannel<D> {
 
     ghost moment = { λ c. moment_of (D.told c.0) };
 
+    ghost faults = { λ c. D.faults c.0 };
+
     /// It touches no device.
     fn begin_put(&mut self) -> Result<PutTxn, BeginRefused>
         ensures step { AddsOne (StandsOver (D.told self.old.0) (D.faults self.old.0) self.old.1) (StandsOver (D.told self.new.0) (D.faults self.new.0) self.new.1) (BeginPut result) (moment_of (D.told self.new.0)) }
-        ensures makes { Makes self.old.1 (BeginPut result) self.new.1 }
-        ensures disk { self.new.0 ≡ self.old.0 }
+        ensures told { D.told self.new.0 ≡ D.told self.old.0 }
+        ensures faults { D.faults self.new.0 ≡ D.faults self.old.0 }
     {
         let result = self.logged.begin_put();
         let reply = Reply::quiet(result.is_ok());
@@ -196,8 +197,8 @@ impl<D: Disk + Drop> Channel for FileChannel<D> {
     /// It touches no device.
     fn begin_take(&mut self) -> Result<TakeTxn, BeginRefused>
         ensures step { AddsOne (StandsOver (D.told self.old.0) (D.faults self.old.0) self.old.1) (StandsOver (D.told self.new.0) (D.faults self.new.0) self.new.1) (BeginTake result) (moment_of (D.told self.new.0)) }
-        ensures makes { Makes self.old.1 (BeginTake result) self.new.1 }
-        ensures disk { self.new.0 ≡ self.old.0 }
+        ensures told { D.told self.new.0 ≡ D.told self.old.0 }
+        ensures faults { D.faults self.new.0 ≡ D.faults self.old.0 }
     {
         let result = self.logged.begin_take();
         let reply = Reply::quiet(result.is_ok());
@@ -210,11 +211,11 @@ impl<D: Disk + Drop> Channel for FileChannel<D> {
     fn put(&mut self, txn: &mut PutTxn, event: &Event) -> Result<Put, PutRefused>
         ensures step { AddsOne (StandsOver (D.told self.old.0) (D.faults self.old.0) self.old.1) (StandsOver (D.told self.new.0) (D.faults self.new.0) self.new.1) (Face.Put txn.old event.now result) (moment_of (D.told self.new.0)) }
         ensures same { txn.new ≡ txn.old }
-        ensures makes { Makes self.old.1 (Face.Put txn.old event.now result) self.new.1 }
-        ensures spent { self.old.1.state.broken ≡ false → IsSome (puts_of self.old.1.state txn.old) → WhereTold (D.told self.old.0) (λ t. (result ≡ Err (PutRefused.Spent File)) ↔ IsSpentLog t self.old.1.state.rules.limits.max_file) }
-        ensures quiet { flushes (Face.Put txn.old event.now result) ≡ false → self.new.0 ≡ self.old.0 }
-        ensures any_moment { flushes (Face.Put txn.old event.now result) ≡ true → Tells (D.told self.old.0) (D.told self.new.0) (λ t u. Flushed self.old.1.state t u) }
-        ensures room { IfOk result (λ done. done.spilled ≡ true → Tells (D.told self.old.0) (D.told self.new.0) (HadNoRoom (room_of self.old.1.state (size event.now + 13) (size_of_list (puts_of self.old.1.state txn.old))))) }
+        ensures spent { Shows (StandsOver (D.told self.old.0) (D.faults self.old.0) self.old.1) (λ s. s.broken ≡ false → IsSome (puts_of s txn.old) → WhereTold (D.told self.old.0) (λ t. (result ≡ Err (PutRefused.Spent File)) ↔ IsSpentLog t s.rules.limits.max_file)) }
+        ensures quiet { flushes (Face.Put txn.old event.now result) ≡ false → D.told self.new.0 ≡ D.told self.old.0 }
+        ensures any_moment { Shows (StandsOver (D.told self.old.0) (D.faults self.old.0) self.old.1) (λ s. flushes (Face.Put txn.old event.now result) ≡ true → Tells (D.told self.old.0) (D.told self.new.0) (Flushed s)) }
+        ensures room { Shows (StandsOver (D.told self.old.0) (D.faults self.old.0) self.old.1) (λ s. IfOk result (λ done. (done.spilled ≡ true) ↔ HasNoRoom self.old.2 (room_of s (size event.now + 13) (size_of_list (puts_of s txn.old))))) }
+        ensures full { Shows (StandsOver (D.told self.old.0) (D.faults self.old.0) self.old.1) (λ s. IfOk result (λ done. done.spilled ≡ true → Tells (D.told self.old.0) (D.told self.new.0) (HadNoRoom (room_of s (size event.now + 13) (size_of_list (puts_of s txn.old)))))) }
         ensures later { D.faults self.old.0 ≤ D.faults self.new.0 }
         ensures well { is_fault (Face.Put txn.old event.now result) ≡ false → D.faults self.new.0 ≡ D.faults self.old.0 }
         ensures fault { IsErrOf result PutRefused.DiskFault → Rose (D.faults self.old.0) (D.faults self.new.0) }
@@ -234,14 +235,13 @@ impl<D: Disk + Drop> Channel for FileChannel<D> {
     fn take(&mut self, txn: &mut TakeTxn) -> Result<Taken, TakeRefused>
         ensures step { AddsOne (StandsOver (D.told self.old.0) (D.faults self.old.0) self.old.1) (StandsOver (D.told self.new.0) (D.faults self.new.0) self.new.1) (Face.Take txn.old result) (moment_of (D.told self.new.0)) }
         ensures same { txn.new ≡ txn.old }
-        ensures makes { Makes self.old.1 (Face.Take txn.old result) self.new.1 }
-        ensures spent { self.old.1.state.broken ≡ false → IsSome (takes_of self.old.1.state txn.old) → WhereTold (D.told self.old.0) (λ t. (result ≡ Err (TakeRefused.Spent File)) ↔ IsSpentLog t self.old.1.state.rules.limits.max_file) }
-        ensures quiet { flushes (Face.Take txn.old result) ≡ false → self.new.0 ≡ self.old.0 }
-        ensures any_moment { flushes (Face.Take txn.old result) ≡ true → Tells (D.told self.old.0) (D.told self.new.0) (λ t u. Flushed self.old.1.state t u) }
-        ensures room { IfOk result (λ taken. taken.spilled ≡ true → Tells (D.told self.old.0) (D.told self.new.0) (HadNoRoom (room_of self.old.1.state 17 (size_of_list (takes_of self.old.1.state txn.old))))) }
+        ensures spent { Shows (StandsOver (D.told self.old.0) (D.faults self.old.0) self.old.1) (λ s. s.broken ≡ false → IsSome (takes_of s txn.old) → WhereTold (D.told self.old.0) (λ t. (result ≡ Err (TakeRefused.Spent File)) ↔ IsSpentLog t s.rules.limits.max_file)) }
+        ensures quiet { flushes (Face.Take txn.old result) ≡ false → D.told self.new.0 ≡ D.told self.old.0 }
+        ensures any_moment { Shows (StandsOver (D.told self.old.0) (D.faults self.old.0) self.old.1) (λ s. flushes (Face.Take txn.old result) ≡ true → Tells (D.told self.old.0) (D.told self.new.0) (Flushed s)) }
+        ensures room { Shows (StandsOver (D.told self.old.0) (D.faults self.old.0) self.old.1) (λ s. IfOk result (λ taken. (taken.spilled ≡ true) ↔ IsSome taken.event × HasNoRoom self.old.2 (room_of s 17 (size_of_list (takes_of s txn.old))))) }
+        ensures full { Shows (StandsOver (D.told self.old.0) (D.faults self.old.0) self.old.1) (λ s. IfOk result (λ taken. taken.spilled ≡ true → Tells (D.told self.old.0) (D.told self.new.0) (HadNoRoom (room_of s 17 (size_of_list (takes_of s txn.old)))))) }
         ensures later { D.faults self.old.0 ≤ D.faults self.new.0 }
         ensures well { is_fault (Face.Take txn.old result) ≡ false → D.faults self.new.0 ≡ D.faults self.old.0 }
-        ensures reads { ¬ IsErrOf result TakeRefused.ReadFault }
         ensures fault { IsErrOf result TakeRefused.DiskFault → Rose (D.faults self.old.0) (D.faults self.new.0) }
     {
         let staged = self.logged.staged();
@@ -259,8 +259,8 @@ impl<D: Disk + Drop> Channel for FileChannel<D> {
     fn stage_put(&mut self, txn: PutTxn) -> Result<Ticket, StageRefused<PutTxn>>
         ensures step { AddsOne (StandsOver (D.told self.old.0) (D.faults self.old.0) self.old.1) (StandsOver (D.told self.new.0) (D.faults self.new.0) self.new.1) (StagePut txn (cause_of result)) (moment_of (D.told self.new.0)) }
         ensures back { IfErr result (λ refused. refused.txn ≡ txn) }
-        ensures makes { Makes self.old.1 (StagePut txn (cause_of result)) self.new.1 }
-        ensures disk { self.new.0 ≡ self.old.0 }
+        ensures told { D.told self.new.0 ≡ D.told self.old.0 }
+        ensures faults { D.faults self.new.0 ≡ D.faults self.old.0 }
     {
         let result = self.logged.stage_put(txn);
         let reply = Reply::quiet(result.is_ok());
@@ -272,8 +272,8 @@ impl<D: Disk + Drop> Channel for FileChannel<D> {
     fn stage_take(&mut self, txn: TakeTxn) -> Result<Ticket, StageRefused<TakeTxn>>
         ensures step { AddsOne (StandsOver (D.told self.old.0) (D.faults self.old.0) self.old.1) (StandsOver (D.told self.new.0) (D.faults self.new.0) self.new.1) (StageTake txn (cause_of result)) (moment_of (D.told self.new.0)) }
         ensures back { IfErr result (λ refused. refused.txn ≡ txn) }
-        ensures makes { Makes self.old.1 (StageTake txn (cause_of result)) self.new.1 }
-        ensures disk { self.new.0 ≡ self.old.0 }
+        ensures told { D.told self.new.0 ≡ D.told self.old.0 }
+        ensures faults { D.faults self.new.0 ≡ D.faults self.old.0 }
     {
         let result = self.logged.stage_take(txn);
         let reply = Reply::quiet(result.is_ok());
@@ -285,9 +285,9 @@ impl<D: Disk + Drop> Channel for FileChannel<D> {
     /// channel's flush touches no device.
     fn flush(&mut self) -> Result<(), FlushRefused>
         ensures step { AddsOne (StandsOver (D.told self.old.0) (D.faults self.old.0) self.old.1) (StandsOver (D.told self.new.0) (D.faults self.new.0) self.new.1) (Flush result) (moment_of (D.told self.new.0)) }
-        ensures makes { Makes self.old.1 (Flush result) self.new.1 }
-        ensures quiet { flushes (Flush result) ≡ false → self.new.0 ≡ self.old.0 }
-        ensures any_moment { flushes (Flush result) ≡ true → Tells (D.told self.old.0) (D.told self.new.0) (λ t u. Flushed self.old.1.state t u) }
+        ensures nothing { self.old.2 ≡ 0 → (D.told self.new.0 ≡ D.told self.old.0) × (D.faults self.new.0 ≡ D.faults self.old.0) }
+        ensures quiet { flushes (Flush result) ≡ false → D.told self.new.0 ≡ D.told self.old.0 }
+        ensures any_moment { Shows (StandsOver (D.told self.old.0) (D.faults self.old.0) self.old.1) (λ s. flushes (Flush result) ≡ true → Tells (D.told self.old.0) (D.told self.new.0) (Flushed s)) }
         ensures later { D.faults self.old.0 ≤ D.faults self.new.0 }
         ensures well { is_fault (Flush result) ≡ false → D.faults self.new.0 ≡ D.faults self.old.0 }
         ensures fault { IsErrOf result FlushRefused.DiskFault → Rose (D.faults self.old.0) (D.faults self.new.0) }
@@ -302,8 +302,8 @@ impl<D: Disk + Drop> Channel for FileChannel<D> {
     /// It touches no device.
     fn rollback_put(&mut self, txn: PutTxn) -> bool
         ensures step { AddsOne (StandsOver (D.told self.old.0) (D.faults self.old.0) self.old.1) (StandsOver (D.told self.new.0) (D.faults self.new.0) self.new.1) (RollbackPut txn result) (moment_of (D.told self.new.0)) }
-        ensures makes { Makes self.old.1 (RollbackPut txn result) self.new.1 }
-        ensures disk { self.new.0 ≡ self.old.0 }
+        ensures told { D.told self.new.0 ≡ D.told self.old.0 }
+        ensures faults { D.faults self.new.0 ≡ D.faults self.old.0 }
     {
         let ended = self.logged.rollback_put(txn);
         let reply = Reply::quiet(ended);
@@ -314,8 +314,8 @@ impl<D: Disk + Drop> Channel for FileChannel<D> {
     /// It touches no device.
     fn rollback_take(&mut self, txn: TakeTxn) -> bool
         ensures step { AddsOne (StandsOver (D.told self.old.0) (D.faults self.old.0) self.old.1) (StandsOver (D.told self.new.0) (D.faults self.new.0) self.new.1) (RollbackTake txn result) (moment_of (D.told self.new.0)) }
-        ensures makes { Makes self.old.1 (RollbackTake txn result) self.new.1 }
-        ensures disk { self.new.0 ≡ self.old.0 }
+        ensures told { D.told self.new.0 ≡ D.told self.old.0 }
+        ensures faults { D.faults self.new.0 ≡ D.faults self.old.0 }
     {
         let ended = self.logged.rollback_take(txn);
         let reply = Reply::quiet(ended);

@@ -16,7 +16,7 @@ ghost use Rattle.channel_face.specs.declared.replies.TakeRefused.{TakeRefused};
 ghost use Rattle.channel_face.specs.Machine.{BeginPut, BeginTake, Flush, RollbackPut, RollbackTake, StagePut, StageTake, puts_of, takes_of, size_of_list};
 ghost use Rattle.channel_face.specs.declared.replies.FlushRefused.{FlushRefused};
 ghost use Rattle.file_channel.specs.Stands.{is_fault};
-ghost use Rattle.file_channel.specs.Touches.{Flushed, HadNoRoom, IsSpentLog, Rests, flushes, room_of};
+ghost use Rattle.file_channel.specs.Touches.{Flushed, HadNoRoom, HasNoRoom, IsSpentLog, Rests, flushes, room_of};
 
 use crate::writing::Writing;
 use channel_face::{
@@ -43,12 +43,14 @@ pub(crate) struct LoggedLists<D: Disk + Drop> {
 }
 
 impl<D: Disk + Drop> Model for LoggedLists<D> {
+    ghost use Rattle.std.specs.Prelude.{ℕ, length};
     ghost use Rattle.channel_face.specs.Machine.{State};
     ghost use Rattle.file_channel.specs.Whole.{IsWhole};
 
-    ghost Value = { D × State };
+    // The disk, the state, and how many bytes of records wait in the frame.
+    ghost Value = { D × State × ℕ };
 
-    ghost view = { λ c. (c.writing.disk, c.lists) };
+    ghost view = { λ c. (c.writing.disk, c.lists, length c.writing.log.bytes) };
 
     ghost invariant = { λ c. IsWhole (D.told c.writing.disk) c.writing.log c.writing.busy c.lists };
 }
@@ -128,7 +130,8 @@ impl<D: Disk + Drop> LoggedLists<D> {
         ensures never { (counter : Counter) → result ≡ Err (PutRefused.Spent counter) → ⊥ }
         ensures quiet { flushes (Face.Put txn.old event.now result) ≡ false → self.new.0 ≡ self.old.0 }
         ensures any_moment { flushes (Face.Put txn.old event.now result) ≡ true → Tells (D.told self.old.0) (D.told self.new.0) (λ t u. Flushed self.old.1 t u) }
-        ensures room { IfOk result (λ done. done.spilled ≡ true → Tells (D.told self.old.0) (D.told self.new.0) (HadNoRoom (room_of self.old.1 (size event.now + 13) (size_of_list (puts_of self.old.1 txn.old))))) }
+        ensures room { IfOk result (λ done. (done.spilled ≡ true) ↔ HasNoRoom self.old.2 (room_of self.old.1 (size event.now + 13) (size_of_list (puts_of self.old.1 txn.old)))) }
+        ensures full { IfOk result (λ done. done.spilled ≡ true → Tells (D.told self.old.0) (D.told self.new.0) (HadNoRoom (room_of self.old.1 (size event.now + 13) (size_of_list (puts_of self.old.1 txn.old))))) }
         ensures later { D.faults self.old.0 ≤ D.faults self.new.0 }
         ensures well { is_fault (Face.Put txn.old event.now result) ≡ false → D.faults self.new.0 ≡ D.faults self.old.0 }
         ensures fault { IsErrOf result PutRefused.DiskFault → Rose (D.faults self.old.0) (D.faults self.new.0) }
@@ -167,7 +170,8 @@ impl<D: Disk + Drop> LoggedLists<D> {
         ensures never { (counter : Counter) → result ≡ Err (TakeRefused.Spent counter) → ⊥ }
         ensures quiet { flushes (Face.Take txn.old result) ≡ false → self.new.0 ≡ self.old.0 }
         ensures any_moment { flushes (Face.Take txn.old result) ≡ true → Tells (D.told self.old.0) (D.told self.new.0) (λ t u. Flushed self.old.1 t u) }
-        ensures room { IfOk result (λ taken. taken.spilled ≡ true → Tells (D.told self.old.0) (D.told self.new.0) (HadNoRoom (room_of self.old.1 17 (size_of_list (takes_of self.old.1 txn.old))))) }
+        ensures room { IfOk result (λ taken. (taken.spilled ≡ true) ↔ IsSome taken.event × HasNoRoom self.old.2 (room_of self.old.1 17 (size_of_list (takes_of self.old.1 txn.old)))) }
+        ensures full { IfOk result (λ taken. taken.spilled ≡ true → Tells (D.told self.old.0) (D.told self.new.0) (HadNoRoom (room_of self.old.1 17 (size_of_list (takes_of self.old.1 txn.old))))) }
         ensures later { D.faults self.old.0 ≤ D.faults self.new.0 }
         ensures well { is_fault (Face.Take txn.old result) ≡ false → D.faults self.new.0 ≡ D.faults self.old.0 }
         ensures reads { ¬ IsErrOf result TakeRefused.ReadFault }
@@ -218,7 +222,8 @@ impl<D: Disk + Drop> LoggedLists<D> {
         ensures spent { self.old.1.broken ≡ false → IsSome (puts_of self.old.1 txn.old) → WhereTold (D.told self.old.0) (λ t. (result ≡ Err (PutRefused.Spent File)) ↔ IsSpentLog t self.old.1.rules.limits.max_file) }
         ensures quiet { flushes (Face.Put txn.old event.now result) ≡ false → self.new.0 ≡ self.old.0 }
         ensures any_moment { flushes (Face.Put txn.old event.now result) ≡ true → Tells (D.told self.old.0) (D.told self.new.0) (λ t u. Flushed self.old.1 t u) }
-        ensures room { IfOk result (λ done. done.spilled ≡ true → Tells (D.told self.old.0) (D.told self.new.0) (HadNoRoom (room_of self.old.1 (size event.now + 13) (size_of_list (puts_of self.old.1 txn.old))))) }
+        ensures room { IfOk result (λ done. (done.spilled ≡ true) ↔ HasNoRoom self.old.2 (room_of self.old.1 (size event.now + 13) (size_of_list (puts_of self.old.1 txn.old)))) }
+        ensures full { IfOk result (λ done. done.spilled ≡ true → Tells (D.told self.old.0) (D.told self.new.0) (HadNoRoom (room_of self.old.1 (size event.now + 13) (size_of_list (puts_of self.old.1 txn.old))))) }
         ensures later { D.faults self.old.0 ≤ D.faults self.new.0 }
         ensures well { is_fault (Face.Put txn.old event.now result) ≡ false → D.faults self.new.0 ≡ D.faults self.old.0 }
         ensures fault { IsErrOf result PutRefused.DiskFault → Rose (D.faults self.old.0) (D.faults self.new.0) }
@@ -238,7 +243,8 @@ impl<D: Disk + Drop> LoggedLists<D> {
         ensures spent { self.old.1.broken ≡ false → IsSome (takes_of self.old.1 txn.old) → WhereTold (D.told self.old.0) (λ t. (result ≡ Err (TakeRefused.Spent File)) ↔ IsSpentLog t self.old.1.rules.limits.max_file) }
         ensures quiet { flushes (Face.Take txn.old result) ≡ false → self.new.0 ≡ self.old.0 }
         ensures any_moment { flushes (Face.Take txn.old result) ≡ true → Tells (D.told self.old.0) (D.told self.new.0) (λ t u. Flushed self.old.1 t u) }
-        ensures room { IfOk result (λ taken. taken.spilled ≡ true → Tells (D.told self.old.0) (D.told self.new.0) (HadNoRoom (room_of self.old.1 17 (size_of_list (takes_of self.old.1 txn.old))))) }
+        ensures room { IfOk result (λ taken. (taken.spilled ≡ true) ↔ IsSome taken.event × HasNoRoom self.old.2 (room_of self.old.1 17 (size_of_list (takes_of self.old.1 txn.old)))) }
+        ensures full { IfOk result (λ taken. taken.spilled ≡ true → Tells (D.told self.old.0) (D.told self.new.0) (HadNoRoom (room_of self.old.1 17 (size_of_list (takes_of self.old.1 txn.old))))) }
         ensures later { D.faults self.old.0 ≤ D.faults self.new.0 }
         ensures well { is_fault (Face.Take txn.old result) ≡ false → D.faults self.new.0 ≡ D.faults self.old.0 }
         ensures reads { ¬ IsErrOf result TakeRefused.ReadFault }
@@ -255,6 +261,7 @@ impl<D: Disk + Drop> LoggedLists<D> {
     /// Settles all that is staged. A stop at any moment of the call leaves what is settled, or that with what is staged.
     pub(crate) fn flush(&mut self) -> Result<(), FlushRefused>
         ensures step { Moves true self.old.1 (Flush result) self.new.1 }
+        ensures nothing { self.old.2 ≡ 0 → (D.told self.new.0 ≡ D.told self.old.0) × (D.faults self.new.0 ≡ D.faults self.old.0) }
         ensures quiet { flushes (Flush result) ≡ false → self.new.0 ≡ self.old.0 }
         ensures any_moment { flushes (Flush result) ≡ true → Tells (D.told self.old.0) (D.told self.new.0) (λ t u. Flushed self.old.1 t u) }
         ensures later { D.faults self.old.0 ≤ D.faults self.new.0 }

@@ -140,6 +140,7 @@ pub(crate) fn open_log<D: Disk, L: Ledger>(
     ensures opens { IfOk result (λ found. WhereTold (D.told disk.old) (λ t. Opens t.reads limits.capacity (base_of found.0) found.0.next.txn)) }
     ensures logged { IfOk result (λ found. (s : State) → IsFresh s (base_of found.0) found.0.next.txn → IsLogged (D.told disk.new) found.1 0 s) }
     ensures base { IfOk result (λ found. IsBase (base_of found.0)) }
+    ensures max { IfOk result (λ found. found.1.max_file ≡ limits.max_file) }
     ensures txn { IfOk result (λ found. 1 ≤ found.0.next.txn) }
     ensures within { IfOk result (λ found. vec_len found.0.items ≤ limits.capacity) }
     ensures gains { OnOk result (Tells (D.told disk.old) (D.told disk.new) (λ t u. GainsLog t.reads IsBegun u.reads)) }

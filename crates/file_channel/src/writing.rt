@@ -1,5 +1,5 @@
 // The log of a channel as it is written: each change of the channel's state has its record.
-ghost use Rattle.std.specs.Prelude.{◌≡◌, ◌<◌, ◌≤◌, ◌+◌, ◌-◌, ◌*◌, ◌^◌, ◌++◌, ◌∷◌, [], ◌↔◌, ◌==◌, ℕ, List, length, Some, None, OnOk, OnErr, IsTrue, if◌then◌else◌, false, true};
+ghost use Rattle.std.specs.Prelude.{◌≡◌, ◌<◌, ◌≤◌, ◌+◌, ◌-◌, ◌*◌, ◌^◌, ◌++◌, ◌∷◌, [], ◌↔◌, ◌==◌, ℕ, List, length, Some, None, OnOk, OnErr, IsOk, IsTrue, if◌then◌else◌, false, true};
 ghost use Rattle.flume_host.specs.Causes.{HasCause};
 ghost use Rattle.flume_host.specs.Told.{LeavesOnly, Tells};
 ghost use Rattle.event_core.specs.Content.{Content, size};
@@ -114,6 +114,7 @@ impl<D: Disk + Drop> Writing<D> {
             → IsLogged (D.told self.new.disk) self.new.log self.new.busy (settle s)) }
         ensures moved { OnOk result (1 ≤ self.old.log.count → self.new.log ≡ record self.old.log { gate = self.old.log.gate + length self.old.log.bytes + 6; started = true; bytes = []; count = 0 }) }
         ensures empty { OnOk result (self.new.log.bytes ≡ []) }
+        ensures nothing { length self.old.log.bytes ≡ 0 → IsOk result × (D.told self.new.disk ≡ D.told self.old.disk) }
         ensures busy { self.new.busy ≡ self.old.busy }
         ensures refused { OnErr result (self.new.log ≡ self.old.log) }
         ensures cause { HasCause (D.faults self.old.disk) (D.faults self.new.disk) result }

@@ -1,9 +1,11 @@
 // A channel in memory.
-ghost use Rattle.std.specs.Prelude.{◌≡◌, ℕ, [], IfOk, IfErr, IsOk, true};
+ghost use Rattle.std.specs.Prelude.{◌≡◌, ℕ, [], IfOk, IfErr, IsErrOf, IsOk, true};
+ghost use Rattle.flume_host.specs.Causes.{Rose};
 ghost use Rattle.channel_face.specs.Calls.{cause_of};
 ghost use Rattle.channel_face.specs.History.{AddsOne, opening};
 ghost use Rattle.channel_face.specs.Machine.{BeginPut, BeginTake, StagePut, StageTake, Flush};
 ghost use Rattle.channel_face.specs.Machine as Face;
+ghost use Rattle.channel_face.specs.declared.replies.FlushRefused.{FlushRefused};
 ghost use Rattle.channel_face.specs.declared.replies.Kind.{Kind};
 ghost use Rattle.memory_channel.specs.Memory.{MayRefuseBegin, MayRefusePut, MayRefuseTake, MayRefuseStage};
 ghost use Rattle.txn_core.specs.Counted.{StandsAs};
@@ -59,6 +61,8 @@ impl Channel for MemoryChannel {
 
     ghost moment = { λ _. 0 };
 
+    ghost faults = { λ _. 0 };
+
     /// It is never refused as `Broken`.
     fn begin_put(&mut self) -> Result<PutTxn, BeginRefused>
         ensures step { AddsOne (StandsAs self.old) (StandsAs self.new) (BeginPut result) 0 }
@@ -97,6 +101,7 @@ impl Channel for MemoryChannel {
     fn stage_put(&mut self, txn: PutTxn) -> Result<Ticket, StageRefused<PutTxn>>
         ensures step { AddsOne (StandsAs self.old) (StandsAs self.new) (StagePut txn (cause_of result)) 0 }
         ensures back { IfErr result (λ refused. refused.txn ≡ txn) }
+        ensures faults { ◌≡◌ {A = ℕ} 0 0 }
         ensures refused { IfErr result (λ refused. MayRefuseStage refused.cause) }
     {
         self.lists.stage_put(txn)
@@ -106,6 +111,7 @@ impl Channel for MemoryChannel {
     fn stage_take(&mut self, txn: TakeTxn) -> Result<Ticket, StageRefused<TakeTxn>>
         ensures step { AddsOne (StandsAs self.old) (StandsAs self.new) (StageTake txn (cause_of result)) 0 }
         ensures back { IfErr result (λ refused. refused.txn ≡ txn) }
+        ensures faults { ◌≡◌ {A = ℕ} 0 0 }
         ensures refused { IfErr result (λ refused. MayRefuseStage refused.cause) }
     {
         self.lists.stage_take(txn)
@@ -114,6 +120,7 @@ impl Channel for MemoryChannel {
     /// It always answers Ok.
     fn flush(&mut self) -> Result<(), FlushRefused>
         ensures step { AddsOne (StandsAs self.old) (StandsAs self.new) (Flush result) 0 }
+        ensures fault { IsErrOf result FlushRefused.DiskFault → Rose 0 0 }
         ensures always { IsOk result }
     {
         self.lists.flush()

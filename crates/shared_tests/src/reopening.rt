@@ -30,6 +30,8 @@ impl<'a, R: Abort, D: Disk + Drop> Channel for Reopening<'a, R, D> {
 
     ghost moment = { λ c. moment_of (D.told c.channel.0) };
 
+    ghost faults = { λ c. D.faults c.channel.0 };
+
     fn begin_put(&mut self) -> Result<PutTxn, BeginRefused> {
         self.channel.begin_put()
     }

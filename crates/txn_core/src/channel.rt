@@ -18,6 +18,8 @@ impl Channel for Machine {
 
     ghost moment = { λ _. 0 };
 
+    ghost faults = { λ _. 0 };
+
     fn begin_put(&mut self) -> Result<PutTxn, BeginRefused> {
         Machine::begin_put(self)
     }

@@ -1,6 +1,7 @@
 use Rattle.std.proofs.Common.{[], refl, ◌≡◌, ◌∙◌, ap, arith}
 use Rattle.std.proofs.lemmas.List.Elements.{All-nil}
 use Rattle.netcat_source.specs.Feed.{LineState}
+use Rattle.file_channel.specs.Stands.{StandsOver}
 use Rattle.agent_run.specs.Handled.{GoesOn}
 use Rattle.agent_run.specs.Piped.{end_status}
 use Rattle.agent_run.proofs.Outcomes.{piped, uncounted}
@@ -18,7 +19,7 @@ returns-clause-piped g c = λ start stands.
     rw c.close.ensures
     (piped _ _ _ _ _ _ _ _ _ _ _ _ _ _ c.take_input-source.ensures.left c.take_input-source.ensures.state c.take_output-sink.ensures.took c.take_output-sink.ensures.state
     c.keep_input.ensures.state.1 c.keep_input.ensures.state.2 c.keep_output.ensures.state.1 c.keep_output.ensures.state.2
-    start (g.H.Disk.Disk.told channel.0) (g.H.Disk.Disk.faults channel.0) channel.1.state c.serve-session.result.accepted c.serve-session.result.end _ c.take_output-sink.ensures.count
+    start (StandsOver (g.H.Disk.Disk.told channel.0) (g.H.Disk.Disk.faults channel.0) channel.1) (g.H.Disk.Disk.told channel.0) (g.H.Disk.Disk.faults channel.0) c.serve-session.result.accepted c.serve-session.result.end _ c.take_output-sink.ensures.count
     s.at_end (λ is. end is start stands) (λ is. long is start stands) (λ is. full is start stands) (λ is. stopped is start stands)
     s.handed
     (λ is. let none = s.well is in (none.0 ∙ c.take_input-source.ensures.count, none.1))

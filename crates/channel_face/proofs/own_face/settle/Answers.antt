@@ -10,7 +10,7 @@ pub returns-in-No-clause-goes : goal.returns-in-No-clause-goes
 returns-in-No-clause-goes g c =
     let a = g.C.Channel.stands c.args.channel.now in
     let b = g.C.Channel.stands c.flush.new.self in
-    settle_no (g.C.Channel.tells c.flush.new.self) a b c.args.ticket.now c.flush.result (g.C.Channel.moment c.flush.new.self) c.is_ok.result c.in-No.ensures c.flush.ensures (g.met.C.Channel.is_run c.flush.new.self) c.is_ok.ensures.value
+    settle_no (g.C.Channel.tells c.flush.new.self) a b c.args.ticket.now c.flush.result (g.C.Channel.moment c.flush.new.self) c.is_ok.result c.in-No.ensures c.flush.ensures.step (g.met.C.Channel.is_run c.flush.new.self) c.is_ok.ensures.value
 
 pub returns-in-InDoubt-clause-goes : goal.returns-in-InDoubt-clause-goes
 returns-in-InDoubt-clause-goes g c = settle_doubt (g.C.Channel.stands c.args.channel.now) c.args.ticket.now c.in-InDoubt.ensures
@@ -19,7 +19,7 @@ pub returns-in-Yes-clause-kept : goal.returns-in-Yes-clause-kept
 returns-in-Yes-clause-kept g c = continues_none (g.C.Channel.stands c.args.channel.now)
 
 pub returns-in-No-clause-kept : goal.returns-in-No-clause-kept
-returns-in-No-clause-kept g c = continues_one (g.C.Channel.stands c.args.channel.now) (g.C.Channel.stands c.flush.new.self) _ _ c.flush.ensures
+returns-in-No-clause-kept g c = continues_one (g.C.Channel.stands c.args.channel.now) (g.C.Channel.stands c.flush.new.self) _ _ c.flush.ensures.step
 
 pub returns-in-InDoubt-clause-kept : goal.returns-in-InDoubt-clause-kept
 returns-in-InDoubt-clause-kept g c = continues_none (g.C.Channel.stands c.args.channel.now)

@@ -1,16 +1,20 @@
-use Rattle.std.proofs.Common.{◌+◌, refl}
-use Rattle.flume_host.specs.Told.{moment_of}
+use Rattle.std.proofs.Common.{true, ap, refl}
 use Rattle.channel_face.specs.History.{Opening}
-use Rattle.channel_face.specs.Machine.{base_of, is_some_of}
+use Rattle.channel_face.specs.Machine.{State}
 use Rattle.channel_face.specs.declared.replies.Kind.TheVariants.{File as OnFile}
 use Rattle.txn_core.specs.Counted.{Counted}
-use Rattle.file_channel.proofs.Standing.{stands_opened}
+use Rattle.file_channel.specs.Stands.{opened_as}
+use Rattle.file_channel.proofs.Standing.{opened_state, stands_opened}
 use Rattle.file_channel.proofs.channel.open_channel.Goals as goal
 
 pub returns-in-Ok-clause-stands : goal.returns-in-Ok-clause-stands
 returns-in-Ok-clause-stands g c =
     let l = c.in-Ok.logged in
     let was = g.D.Disk.told c.args.disk in
-    let start : Opening = record { rules = record { kind = OnFile; limits = c.args.limits }; base = base_of l.1; txn = l.1.txn; faults = g.D.Disk.faults c.args.disk; from = moment_of was + 1; tells = is_some_of (g.D.Disk.told l.0) } in
     let counted : Counted = record { state = l.1; tally = record { put_attempts = 0; put_successes = 0; take_attempts = 0; take_successes = 0 } } in
-    stands_opened was (g.D.Disk.told l.0) (g.D.Disk.faults l.0) counted start c.args.limits.capacity c.in-Ok.ensures.base refl (c.in-Ok.ensures.state start.faults start.from start.tells) refl c.in-Ok.ensures.later refl c.in-Ok.ensures.opens c.in-Ok.ensures.settled
+    let start : Opening = opened_as was (g.D.Disk.faults c.args.disk) (g.D.Disk.told l.0) counted in
+    let state = opened_state l.1 (record { kind = OnFile; limits = c.args.limits }) start.faults start.from start.tells (c.in-Ok.ensures.state start.faults start.from start.tells) in
+    stands_opened was (g.D.Disk.told l.0) (g.D.Disk.faults l.0) counted start c.args.limits.capacity c.in-Ok.ensures.base refl state refl c.in-Ok.ensures.well refl c.in-Ok.ensures.opens c.in-Ok.ensures.settled
+
+pub returns-in-Ok-clause-rules : goal.returns-in-Ok-clause-rules
+returns-in-Ok-clause-rules g c = ap (λ (s : State). s.rules) (c.in-Ok.ensures.state 0 0 true)

@@ -1,7 +1,9 @@
-use Rattle.std.proofs.Common.{rules, ap}
-use Rattle.channel_face.specs.Machine.{Call, Flush}
+use Rattle.std.proofs.Common.{rules, ◌≡◌, true, ap}
+use Rattle.flume_host.specs.Told.{Tells}
+use Rattle.channel_face.specs.Machine.{Call, Flush, State}
+use Rattle.file_channel.specs.Touches.{Flushed, flushes}
 use Rattle.txn_core.specs.Counted.{Counted, Makes, tally_of}
-use Rattle.file_channel.proofs.Standing.{adds_did, flush_fault}
+use Rattle.file_channel.proofs.Standing.{adds_did, shows_over, flush_fault}
 use Rattle.file_channel.proofs.channel.FileChannelChannel.flush.Goals as goal
 
 pub returns-clause-step : goal.returns-clause-step
@@ -19,7 +21,18 @@ returns-clause-step g c =
       makes = makes;
       up = c.flush-result.ensures.later;
       cause = λ is. c.flush-result.ensures.fault (flush_fault c.flush-result.result is);
+      still = c.flush-result.ensures.well;
       quiet = λ is. ap told (c.flush-result.ensures.quiet is);
       flushed = c.flush-result.ensures.any_moment;
       rests = c.count.ensures.rests;
     })
+
+pub returns-clause-any_moment : goal.returns-clause-any_moment
+returns-clause-any_moment g c =
+    let m = c.self.inside in
+    let told = g.D.Disk.told in
+    let faults = g.D.Disk.faults in
+    let P : State → Type 0 = λ s. flushes (Flush c.flush-result.result) ≡ true → Tells (told c.args.self.now.0) (told c.flush-result.new.self.0) (Flushed s) in
+    shows_over (told m.logged.0) (told c.args.self.now.0) (faults m.logged.0) (faults c.args.self.now.0) (record { state = m.logged.1; tally = tally_of m.counts }) c.args.self.now.1 P
+    (ap (λ p. told p.0) c.self.view_is) (ap (λ p. faults p.0) c.self.view_is) (ap (λ p. p.1) c.self.view_is)
+    (rw (← c.self.view_is) c.flush-result.ensures.any_moment)

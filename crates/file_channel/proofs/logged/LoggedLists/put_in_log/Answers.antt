@@ -8,10 +8,12 @@ use Rattle.txn_core.specs.Places.{IsAt}
 use Rattle.flume_host.specs.Told.{LeavesOnly, Tells}
 use Rattle.channel_log.specs.Writer.{HasRoom}
 use Rattle.file_channel.specs.Mirrors.{busy}
-use Rattle.file_channel.specs.Touches.{HadNoRoom, room_of}
+use Rattle.std.specs.Prelude.{◌↔◌}
+use Rattle.file_channel.specs.Touches.{HadNoRoom, HasNoRoom, room_of}
 use Rattle.file_channel.specs.Written.{IsLogged, MayRecover, kept}
 use Rattle.file_channel.specs.Whole.{IsWhole}
 use Rattle.file_channel.proofs.Whole.{failed_whole, had_no_room, rests_over, staged_below}
+use Rattle.file_channel.proofs.Rooms.{has_enough, has_none}
 use Rattle.file_channel.proofs.Putting.{busy_few, put_may, put_in, put_whole, put_fails, room_enough, spilled_state}
 use Rattle.file_channel.proofs.logged.LoggedLists.put_in_log.Goals as goal
 
@@ -169,8 +171,44 @@ invariant_of-self-2 g c =
     let to : c.flush-settled.new.self ≡ put_in s true c.number-2.result events event = there ∙ (ap (λ (e : Content). put_in s true token.number events e) same ∙ ap (λ (n : ℕ). put_in s true n events event) (sym number)) in
     put_whole (g.D.Disk.told c.add_put-2.new.self.disk) c.add_put-2.new.self.log c.add_put-2.new.self.busy s c.flush-settled.new.self token c.number-2.result events event true c.self.invariant.sound list allowed c.self.invariant.kind number to logged
 
+pub returns-then-has_room-clause-room : goal.returns-then-has_room-clause-room
+returns-then-has_room-clause-room g c =
+    let m = c.self.inside in
+    let s : State = m.lists in
+    let told = g.D.Disk.told m.writing.disk in
+    let token = c.args.txn.now in
+    let event : Content = c.args.event.now in
+    let events : List Content = c.in-Some.ensures.found.0 in
+    let held : c.in-Some.held ≡ length events = search rules in
+    let list : puts_of s token ≡ Some events = search rules in
+    let allowed : put_refusal s (Some events) event ≡ None = sym (c.put_refusal.ensures events (sym held)) ∙ c.in_default-put_refusal.is in
+    let may = put_may s events event c.self.invariant.kind allowed in
+    let log = c.self.invariant.logged may.0 in
+    let needs : size event + 13 + kept m.writing.busy (c.in-Some.held == 0) ≡ room_of s (size event + 13) (size_of_list (puts_of s token)) =
+    ap (λ (n : ℕ). size event + 13 + kept n (c.in-Some.held == 0)) log.busy_is ∙ ap (λ (n : ℕ). size event + 13 + kept (busy s.opened) (n == 0)) (held ∙ sym (ap size_of_list list)) in
+    let fits : HasRoom m.writing.log (size event + 13 + kept m.writing.busy (c.in-Some.held == 0)) = (let has = c.has_room.ensures in search rules) in
+    rw (← c.self.view_is) (subst (λ (n : ℕ). (false ≡ true) ↔ HasNoRoom (length m.writing.log.bytes) n) needs (has_enough (length m.writing.log.bytes) _ fits))
+
 pub returns-clause-room : goal.returns-clause-room
-returns-clause-room g c = λ is.
+returns-clause-room g c =
+    let m = c.self.inside in
+    let s : State = m.lists in
+    let told = g.D.Disk.told m.writing.disk in
+    let token = c.args.txn.now in
+    let event : Content = c.args.event.now in
+    let events : List Content = c.in-Some.ensures.found.0 in
+    let held : c.in-Some.held ≡ length events = search rules in
+    let list : puts_of s token ≡ Some events = search rules in
+    let allowed : put_refusal s (Some events) event ≡ None = sym (c.put_refusal.ensures events (sym held)) ∙ c.in_default-put_refusal.is in
+    let may = put_may s events event c.self.invariant.kind allowed in
+    let log = c.self.invariant.logged may.0 in
+    let needs : size event + 13 + kept m.writing.busy (c.in-Some.held == 0) ≡ room_of s (size event + 13) (size_of_list (puts_of s token)) =
+    ap (λ (n : ℕ). size event + 13 + kept n (c.in-Some.held == 0)) log.busy_is ∙ ap (λ (n : ℕ). size event + 13 + kept (busy s.opened) (n == 0)) (held ∙ sym (ap size_of_list list)) in
+    let full : HasRoom m.writing.log (size event + 13 + kept m.writing.busy (c.in-Some.held == 0)) → ⊥ = (let lacks = c.has_room.ensures in search rules) in
+    rw (← c.self.view_is) (subst (λ (n : ℕ). (true ≡ true) ↔ HasNoRoom (length m.writing.log.bytes) n) needs (has_none (length m.writing.log.bytes) _ full))
+
+pub returns-clause-full : goal.returns-clause-full
+returns-clause-full g c = λ is.
     let m = c.self.inside in
     let s : State = m.lists in
     let told = g.D.Disk.told m.writing.disk in

@@ -9,11 +9,13 @@ use Rattle.txn_core.specs.Sound.{first_of}
 use Rattle.flume_host.specs.Told.{LeavesOnly, Tells}
 use Rattle.channel_log.specs.Writer.{HasRoom}
 use Rattle.file_channel.specs.Mirrors.{busy}
-use Rattle.file_channel.specs.Touches.{HadNoRoom, room_of}
+use Rattle.std.specs.Prelude.{◌↔◌, IsSome}
+use Rattle.file_channel.specs.Touches.{HadNoRoom, HasNoRoom, room_of}
 use Rattle.file_channel.specs.Written.{IsLogged, MayRecover, kept}
 use Rattle.file_channel.specs.Whole.{IsWhole}
 use Rattle.file_channel.proofs.Whole.{failed_whole, had_no_room, rests_over, staged_below}
 use Rattle.file_channel.proofs.Putting.{busy_few}
+use Rattle.file_channel.proofs.Rooms.{has_enough_for, has_none_for}
 use Rattle.file_channel.proofs.Freeing.{first_is, free_after, take_fails, take_in, take_room, take_still, take_whole, taken_state}
 use Rattle.file_channel.proofs.logged.LoggedLists.take_in_log.Goals as goal
 
@@ -169,8 +171,42 @@ invariant_of-self-2 g c =
     let to : c.flush-settled.new.self ≡ take_in s true c.number-2.result numbers item.0 = there ∙ ap (λ (n : ℕ). take_in s true n numbers item.0) (sym number) in
     take_whole (g.D.Disk.told c.add_take-2.new.self.disk) c.add_take-2.new.self.log c.add_take-2.new.self.busy s c.flush-settled.new.self token c.number-2.result numbers item first.0 true c.self.invariant.sound list allowed c.self.invariant.kind first.1 number to logged
 
+pub returns-then-has_room-clause-room : goal.returns-then-has_room-clause-room
+returns-then-has_room-clause-room g c =
+    let m = c.self.inside in
+    let s : State = m.lists in
+    let told = g.D.Disk.told m.writing.disk in
+    let token = c.args.txn.now in
+    let numbers : List ℕ = c.in-Some.ensures.found.0 in
+    let held : c.in-Some.held ≡ length numbers = search rules in
+    let list : takes_of s token ≡ Some numbers = search rules in
+    let allowed : take_refusal s (Some numbers) ≡ None = sym (c.take_refusal.ensures numbers (sym held)) ∙ c.in_default-take_refusal.is in
+    let still = take_still s numbers allowed in
+    let log = c.self.invariant.logged still in
+    let needs : 17 + kept m.writing.busy (c.in-Some.held == 0) ≡ room_of s 17 (size_of_list (takes_of s token)) =
+    ap (λ (n : ℕ). 17 + kept n (c.in-Some.held == 0)) log.busy_is ∙ ap (λ (n : ℕ). 17 + kept (busy s.opened) (n == 0)) (held ∙ sym (ap size_of_list list)) in
+    let fits : HasRoom m.writing.log (17 + kept m.writing.busy (c.in-Some.held == 0)) = (let has = c.has_room.ensures in search rules) in
+    rw (← c.self.view_is) (subst (λ (n : ℕ). (false ≡ true) ↔ IsSome (Some c.in-Some-item.event) × HasNoRoom (length m.writing.log.bytes) n) needs (has_enough_for (length m.writing.log.bytes) _ c.in-Some-item.event fits))
+
 pub returns-clause-room : goal.returns-clause-room
-returns-clause-room g c = λ is.
+returns-clause-room g c =
+    let m = c.self.inside in
+    let s : State = m.lists in
+    let told = g.D.Disk.told m.writing.disk in
+    let token = c.args.txn.now in
+    let numbers : List ℕ = c.in-Some.ensures.found.0 in
+    let held : c.in-Some.held ≡ length numbers = search rules in
+    let list : takes_of s token ≡ Some numbers = search rules in
+    let allowed : take_refusal s (Some numbers) ≡ None = sym (c.take_refusal.ensures numbers (sym held)) ∙ c.in_default-take_refusal.is in
+    let still = take_still s numbers allowed in
+    let log = c.self.invariant.logged still in
+    let needs : 17 + kept m.writing.busy (c.in-Some.held == 0) ≡ room_of s 17 (size_of_list (takes_of s token)) =
+    ap (λ (n : ℕ). 17 + kept n (c.in-Some.held == 0)) log.busy_is ∙ ap (λ (n : ℕ). 17 + kept (busy s.opened) (n == 0)) (held ∙ sym (ap size_of_list list)) in
+    let full : HasRoom m.writing.log (17 + kept m.writing.busy (c.in-Some.held == 0)) → ⊥ = (let lacks = c.has_room.ensures in search rules) in
+    rw (← c.self.view_is) (subst (λ (n : ℕ). (true ≡ true) ↔ IsSome (Some c.in-Some-item.event) × HasNoRoom (length m.writing.log.bytes) n) needs (has_none_for (length m.writing.log.bytes) _ c.in-Some-item.event full))
+
+pub returns-clause-full : goal.returns-clause-full
+returns-clause-full g c = λ is.
     let m = c.self.inside in
     let s : State = m.lists in
     let told = g.D.Disk.told m.writing.disk in

@@ -1,4 +1,5 @@
-use Rattle.file_channel.proofs.Flushing.{ready_frames, moments, logged_after, nothing_left, writes_of}
+use Rattle.std.proofs.Common.{is_ok, refl, sym, ◌∙◌, ap}
+use Rattle.file_channel.proofs.Flushing.{ready_frames, moments, logged_after, no_ok, none_waits, nothing_left, writes_of}
 use Rattle.file_channel.proofs.writing.Writing.flush.Goals as goal
 
 pub flush-requires : goal.flush-requires
@@ -44,3 +45,13 @@ returns-in-Err-clause-writes g c = λ s log whole.
     let waits = log.waits whole in
     writes_of (g.D.Disk.told c.args.self.now.disk) (g.D.Disk.told c.flush.new.disk) c.args.self.now.log s waits
     (λ frames ready some. c.flush.ensures.any_moment 1 frames waits.records ready waits.pending some) (λ none. (c.flush.ensures.empty none).2)
+
+pub returns-in-Ok-clause-nothing : goal.returns-in-Ok-clause-nothing
+returns-in-Ok-clause-nothing g c = λ none.
+    let empty = c.flush.ensures.empty (none_waits (g.D.Disk.told c.args.self.now.disk) c.args.self.now.log c.requires.0 (c.requires.1.waits c.requires.2) none) in
+    (refl, empty.2)
+
+pub returns-in-Err-clause-nothing : goal.returns-in-Err-clause-nothing
+returns-in-Err-clause-nothing g c = λ none.
+    let empty = c.flush.ensures.empty (none_waits (g.D.Disk.told c.args.self.now.disk) c.args.self.now.log c.requires.0 (c.requires.1.waits c.requires.2) none) in
+    no_ok (sym (ap (λ r. is_ok r) c.in-Err.is) ∙ empty.0)

@@ -2,5 +2,5 @@ use Rattle.channel_face.specs.Machine.{Flush}
 use Rattle.txn_core.proofs.Steps.{adds_journaled}
 use Rattle.txn_core.proofs.channel.MachineChannel.flush.Goals as goal
 
-pub returns : goal.returns
-returns c = adds_journaled c.args.self.now (Flush c.flush.result) c.flush.new.self c.flush.ensures.step
+pub returns-clause-step : goal.returns-clause-step
+returns-clause-step c = adds_journaled c.args.self.now (Flush c.flush.result) c.flush.new.self c.flush.ensures.step
