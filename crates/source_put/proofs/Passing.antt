@@ -10,48 +10,51 @@ use Rattle.source_put.specs.declared.chain.Passed.TheVariants.{Event, Dropped, T
 use Rattle.source_put.specs.declared.chain.Stopped.{Stopped}
 use Rattle.source_put.specs.declared.chain.Stopped.TheVariants as stop
 
-module _ {X : Type 0} {O : X → Type 0} (Means : Meaning X O) (moment : ℕ) (host : HostNames) where
+module _ {B : Type 0} (Means : Meaning B) (moment : ℕ) (host : HostNames) where
   -- whatever the links that are left make of the event, is what all make of it
-  pub record IsLeft (all : List (ChainLink X O)) (whole : Content) (done left : List (ChainLink X O)) (event : Content) : Type 0 where
-    pub goes : (passed : Passed) (after : List (ChainLink X O)) → Passes Means moment host left event passed after → Passes Means moment host all whole passed (done ++ after)
+  pub record IsLeft (all : List (ChainLink B)) (whole : Content) (done left : List (ChainLink B)) (event : Content) : Type 0 where
+    pub goes : (passed : Passed) (after : List (ChainLink B)) → Passes Means moment host left event passed after → Passes Means moment host all whole passed (done ++ after)
 
-  pub begins : (all : List (ChainLink X O)) (event : Content) → IsLeft all event [] all event
+  -- at the first link
+  pub begins : (all : List (ChainLink B)) (event : Content) → IsLeft all event [] all event
   begins all event = record { goes = λ passed after is. is }
 
-  module _ (all : List (ChainLink X O)) (whole : Content) (links : List (ChainLink X O)) (i : ℕ) (d : ChainLink X O) (event : Content) (below : i < length links) (left : IsLeft all whole (take i links) (drop i links) event) where
+  module _ (all : List (ChainLink B)) (whole : Content) (links : List (ChainLink B)) (i : ℕ) (d : ChainLink B) (event : Content) (below : i < length links) (left : IsLeft all whole (take i links) (drop i links) event) where
     -- one more link was passed
-    pub goes_on : (made : Content) (first : ChainLink X O) → Links Means moment host (get_or links i d) event (Event made) first
+    pub goes_on : (made : Content) (first : ChainLink B) → Links Means moment host (get_or links i d) event (Event made) first
         → IsLeft all whole (take (i + 1) (set links i first)) (drop (i + 1) (set links i first)) made
     goes_on made first link = record {
       goes = λ passed after is.
-          let rest : Passes Means moment host (drop (i + 1) links) made passed after = subst (λ (l : List (ChainLink X O)). Passes Means moment host l made passed after) (drop-set-lt (i + 1) links i first (omega arith)) is in
-          let whole_left : Passes Means moment host (drop i links) event passed (first ∷ after) = subst (λ (l : List (ChainLink X O)). Passes Means moment host l event passed (first ∷ after)) (sym (drop_more links i d below)) (Event made, first, after, link, refl, rest) in
-          let same : take i links ++ (first ∷ after) ≡ take (i + 1) (set links i first) ++ after = sym (append_assoc (take i links) (first ∷ []) after) ∙ ap (λ (l : List (ChainLink X O)). l ++ after) (sym (take_more_set links i first below)) in
-          subst (λ (l : List (ChainLink X O)). Passes Means moment host all whole passed l) same (left.goes passed (first ∷ after) whole_left);
+          let rest : Passes Means moment host (drop (i + 1) links) made passed after = subst (λ (l : List (ChainLink B)). Passes Means moment host l made passed after) (drop-set-lt (i + 1) links i first (omega arith)) is in
+          let whole_left : Passes Means moment host (drop i links) event passed (first ∷ after) = subst (λ (l : List (ChainLink B)). Passes Means moment host l event passed (first ∷ after)) (sym (drop_more links i d below)) (Event made, first, after, link, refl, rest) in
+          let same : take i links ++ (first ∷ after) ≡ take (i + 1) (set links i first) ++ after = sym (append_assoc (take i links) (first ∷ []) after) ∙ ap (λ (l : List (ChainLink B)). l ++ after) (sym (take_more_set links i first below)) in
+          subst (λ (l : List (ChainLink B)). Passes Means moment host all whole passed l) same (left.goes passed (first ∷ after) whole_left);
     }
 
-    stopped : (made : Passed) (first : ChainLink X O) → Passes Means moment host (get_or links i d ∷ drop (i + 1) links) event made (first ∷ drop (i + 1) links) → Passes Means moment host all whole made (set links i first)
+    stopped : (made : Passed) (first : ChainLink B) → Passes Means moment host (get_or links i d ∷ drop (i + 1) links) event made (first ∷ drop (i + 1) links) → Passes Means moment host all whole made (set links i first)
     stopped made first is =
-        let whole_left : Passes Means moment host (drop i links) event made (first ∷ drop (i + 1) links) = subst (λ (l : List (ChainLink X O)). Passes Means moment host l event made (first ∷ drop (i + 1) links)) (sym (drop_more links i d below)) is in
+        let whole_left : Passes Means moment host (drop i links) event made (first ∷ drop (i + 1) links) = subst (λ (l : List (ChainLink B)). Passes Means moment host l event made (first ∷ drop (i + 1) links)) (sym (drop_more links i d below)) is in
         let more : suc i ≡ i + 1 = omega arith in
         let same : take i links ++ (first ∷ drop (i + 1) links) ≡ set links i first = ap (λ (n : ℕ). take i links ++ (first ∷ drop n links)) (sym more) ∙ sym (set_split links i first below) in
-        subst (λ (l : List (ChainLink X O)). Passes Means moment host all whole made l) same (left.goes made (first ∷ drop (i + 1) links) whole_left)
+        subst (λ (l : List (ChainLink B)). Passes Means moment host all whole made l) same (left.goes made (first ∷ drop (i + 1) links) whole_left)
 
     -- one more link lets no event go on
-    pub drops : (first : ChainLink X O) → Links Means moment host (get_or links i d) event Dropped first → Passes Means moment host all whole Dropped (set links i first)
+    pub drops : (first : ChainLink B) → Links Means moment host (get_or links i d) event Dropped first → Passes Means moment host all whole Dropped (set links i first)
     drops first link = stopped Dropped first (Dropped, first, drop (i + 1) links, link, refl, (refl, refl))
 
-    pub too_large : (size : ℕ) (first : ChainLink X O) → Links Means moment host (get_or links i d) event (TooLarge size) first → Passes Means moment host all whole (TooLarge size) (set links i first)
+    -- it would make an event that is too large
+    pub too_large : (size : ℕ) (first : ChainLink B) → Links Means moment host (get_or links i d) event (TooLarge size) first → Passes Means moment host all whole (TooLarge size) (set links i first)
     too_large size first link = stopped (TooLarge size) first (TooLarge size, first, drop (i + 1) links, link, refl, (refl, refl))
 
-    pub no_memory : (first : ChainLink X O) → Links Means moment host (get_or links i d) event NoMemory first → Passes Means moment host all whole NoMemory (set links i first)
+    -- it has no memory
+    pub no_memory : (first : ChainLink B) → Links Means moment host (get_or links i d) event NoMemory first → Passes Means moment host all whole NoMemory (set links i first)
     no_memory first link = stopped NoMemory first (NoMemory, first, drop (i + 1) links, link, refl, (refl, refl))
 
   -- no link is left
-  pub ends : (all : List (ChainLink X O)) (whole : Content) (links : List (ChainLink X O)) (i : ℕ) (event : Content) → length links ≤ i → IsLeft all whole (take i links) (drop i links) event → Passes Means moment host all whole (Event event) links
+  pub ends : (all : List (ChainLink B)) (whole : Content) (links : List (ChainLink B)) (i : ℕ) (event : Content) → length links ≤ i → IsLeft all whole (take i links) (drop i links) event → Passes Means moment host all whole (Event event) links
   ends all whole links i event over left =
-      let none : Passes Means moment host (drop i links) event (Event event) [] = subst (λ (l : List (ChainLink X O)). Passes Means moment host l event (Event event) []) (sym (drop_all i links over)) (refl, refl) in
-      subst (λ (l : List (ChainLink X O)). Passes Means moment host all whole (Event event) l) (append-nil (take i links) ∙ take_all i links over) (left.goes (Event event) [] none)
+      let none : Passes Means moment host (drop i links) event (Event event) [] = subst (λ (l : List (ChainLink B)). Passes Means moment host l event (Event event) []) (sym (drop_all i links over)) (refl, refl) in
+      subst (λ (l : List (ChainLink B)). Passes Means moment host all whole (Event event) l) (append-nil (take i links) ∙ take_all i links over) (left.goes (Event event) [] none)
 
   -- the events that were kept come before those of the rest
   abbrev pub kept_before : List Content → Result (List Content) Stopped → Result (List Content) Stopped
@@ -71,41 +74,49 @@ module _ {X : Type 0} {O : X → Type 0} (Means : Meaning X O) (moment : ℕ) (h
   kept-err (e ∷ kept) why = ap (behind e) (kept-err kept why)
 
   -- whatever becomes of the events that are left, is what becomes of all
-  pub record AreLeft (all : List (ChainLink X O)) (batch kept : List Content) (links : List (ChainLink X O)) (left : List Content) : Type 0 where
-    pub goes : (result : Result (List Content) Stopped) (after : List (ChainLink X O)) → Intercepts Means moment host links left result after → Intercepts Means moment host all batch (kept_before kept result) after
+  pub record AreLeft (all : List (ChainLink B)) (batch kept : List Content) (links : List (ChainLink B)) (left : List Content) : Type 0 where
+    pub goes : (result : Result (List Content) Stopped) (after : List (ChainLink B)) → Intercepts Means moment host links left result after → Intercepts Means moment host all batch (kept_before kept result) after
 
-  pub all_left : (all : List (ChainLink X O)) (batch : List Content) → AreLeft all batch [] all batch
+  -- at the first event
+  pub all_left : (all : List (ChainLink B)) (batch : List Content) → AreLeft all batch [] all batch
   all_left all batch = record { goes = λ result after is. is }
 
-  module _ (all : List (ChainLink X O)) (batch kept : List Content) (links : List (ChainLink X O)) (event : Content) (rest : List Content) (are : AreLeft all batch kept links (event ∷ rest)) where
-    pub one_kept : (made : Content) (next : List (ChainLink X O)) → Passes Means moment host links event (Event made) next → AreLeft all batch (kept ++ made ∷ []) next rest
+  module _ (all : List (ChainLink B)) (batch kept : List Content) (links : List (ChainLink B)) (event : Content) (rest : List Content) (are : AreLeft all batch kept links (event ∷ rest)) where
+    -- one more event goes on
+    pub one_kept : (made : Content) (next : List (ChainLink B)) → Passes Means moment host links event (Event made) next → AreLeft all batch (kept ++ made ∷ []) next rest
     one_kept made next passes = record {
       goes = λ result after is. subst (λ (r : Result (List Content) Stopped). Intercepts Means moment host all batch r after) (sym (kept-append kept made result)) (are.goes (behind made result) after (Event made, next, passes, inl (result, is, refl)));
     }
 
-    pub one_dropped : (next : List (ChainLink X O)) → Passes Means moment host links event Dropped next → AreLeft all batch kept next rest
+    -- one more does not
+    pub one_dropped : (next : List (ChainLink B)) → Passes Means moment host links event Dropped next → AreLeft all batch kept next rest
     one_dropped next passes = record { goes = λ result after is. are.goes result after (Dropped, next, passes, is) }
 
-    ended : (why : Stopped) (after : List (ChainLink X O)) → Intercepts Means moment host links (event ∷ rest) (Err why) after → Intercepts Means moment host all batch (Err why) after
+    ended : (why : Stopped) (after : List (ChainLink B)) → Intercepts Means moment host links (event ∷ rest) (Err why) after → Intercepts Means moment host all batch (Err why) after
     ended why after is = subst (λ (r : Result (List Content) Stopped). Intercepts Means moment host all batch r after) (kept-err kept why) (are.goes (Err why) after is)
 
-    pub one_too_large : (size : ℕ) (next : List (ChainLink X O)) → Passes Means moment host links event (TooLarge size) next → Intercepts Means moment host all batch (Err (stop.TooLarge size)) next
+    -- one would be too large
+    pub one_too_large : (size : ℕ) (next : List (ChainLink B)) → Passes Means moment host links event (TooLarge size) next → Intercepts Means moment host all batch (Err (stop.TooLarge size)) next
     one_too_large size next passes = ended (stop.TooLarge size) next (TooLarge size, next, passes, (refl, refl))
 
-    pub one_without_memory : (next : List (ChainLink X O)) → Passes Means moment host links event NoMemory next → Intercepts Means moment host all batch (Err stop.NoMemory) next
+    -- for one there is no memory
+    pub one_without_memory : (next : List (ChainLink B)) → Passes Means moment host links event NoMemory next → Intercepts Means moment host all batch (Err stop.NoMemory) next
     one_without_memory next passes = ended stop.NoMemory next (NoMemory, next, passes, (refl, refl))
 
-    pub none_kept : (made : Content) (next : List (ChainLink X O)) → Passes Means moment host links event (Event made) next → Intercepts Means moment host all batch (Err stop.NoMemory) next
+    -- there is no memory to keep what one became
+    pub none_kept : (made : Content) (next : List (ChainLink B)) → Passes Means moment host links event (Event made) next → Intercepts Means moment host all batch (Err stop.NoMemory) next
     none_kept made next passes = ended stop.NoMemory next (Event made, next, passes, inr (refl, refl))
 
-  pub none_left : (all : List (ChainLink X O)) (batch kept : List Content) (links : List (ChainLink X O)) → AreLeft all batch kept links [] → Intercepts Means moment host all batch (Ok kept) links
+  -- no event is left
+  pub none_left : (all : List (ChainLink B)) (batch kept : List Content) (links : List (ChainLink B)) → AreLeft all batch kept links [] → Intercepts Means moment host all batch (Ok kept) links
   none_left all batch kept links are = subst (λ (r : Result (List Content) Stopped). Intercepts Means moment host all batch r links) (kept-ok kept) (are.goes (Ok []) links (refl, refl))
 
+  -- these events go on
   abbrev pub the_ok : List Content → Result (List Content) Stopped
   the_ok events = Ok events
 
   -- no more events go on than came
-  pub fewer : (links : List (ChainLink X O)) (batch : List Content) (events : List Content) (after : List (ChainLink X O)) → Intercepts Means moment host links batch (the_ok events) after → length events ≤ length batch
+  pub fewer : (links : List (ChainLink B)) (batch : List Content) (events : List Content) (after : List (ChainLink B)) → Intercepts Means moment host links batch (the_ok events) after → length events ≤ length batch
   fewer links [] events after is = let none : events ≡ [] = ok_is is.0 in let many : length events ≡ 0 = ap length none in omega (arith, many)
     where
       ok_is : {x y : List Content} → the_ok x ≡ the_ok y → x ≡ y
@@ -139,16 +150,17 @@ written_back n new old n_is same =
     ap (λ (l : List _). take n (new ++ l)) none ∙ (ap (take n) (append-nil new) ∙ take_all n new (omega (arith, n_is, same)))
 
 -- the links after an event passed a loan of them all
-pub record Lent {X : Type 0} {O : X → Type 0} (Means : Meaning X O) (moment : ℕ) (host : HostNames) (n : ℕ) (links new : List (ChainLink X O)) (event : Content) (made : Passed) : Type 0 where
+pub record Lent {B : Type 0} (Means : Meaning B) (moment : ℕ) (host : HostNames) (n : ℕ) (links new : List (ChainLink B)) (event : Content) (made : Passed) : Type 0 where
   pub passes : Passes Means moment host links event made new
   pub back : new ≡ take n (new ++ drop (length new) links)
 
-pub lent : {X : Type 0} {O : X → Type 0} (Means : Meaning X O) (moment : ℕ) (host : HostNames) (n : ℕ) (links slice new : List (ChainLink X O)) (event : Content) (made : Passed) → slice ≡ links → n ≡ length links → Passes Means moment host slice event made new → length new ≡ length slice → Lent Means moment host n links new event made
-lent {X} {O} Means moment host n links slice new event made same n_is passes len = record {
-  passes = subst (λ (l : List (ChainLink X O)). Passes Means moment host l event made new) same passes;
+pub lent : {B : Type 0} (Means : Meaning B) (moment : ℕ) (host : HostNames) (n : ℕ) (links slice new : List (ChainLink B)) (event : Content) (made : Passed) → slice ≡ links → n ≡ length links → Passes Means moment host slice event made new → length new ≡ length slice → Lent Means moment host n links new event made
+lent {B} Means moment host n links slice new event made same n_is passes len = record {
+  passes = subst (λ (l : List (ChainLink B)). Passes Means moment host l event made new) same passes;
   back = sym (written_back n new links n_is (len ∙ ap length same));
 }
 
+-- what holds of an answer that is no error
 pub on_ok : {A E P : Type 0} (r : Result A E) → OnOk r P → false ≡ is_err r → P
 on_ok (Ok a) p is = p
 on_ok (Err e) p is = cc

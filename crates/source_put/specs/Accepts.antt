@@ -1,5 +1,6 @@
 -- What becomes of a batch.
-use Rattle.std.specs.Prelude.{◌≡◌, ◌<◌, ◌≤◌, ◌⊎◌, ℕ, List, All, filter, Option, Some, None, Result, Ok, Err, Bool, true, false, if◌then◌else◌}
+use Rattle.std.specs.Prelude.{◌≡◌, ◌<◌, ◌≤◌, ◌⊎◌, ℕ, List, All, filter, Option, Some, None, Result, Ok, Err}
+use Rattle.std.specs.Prelude.{Bool, true, false, if◌then◌else◌}
 use Rattle.event_core.specs.Content.{Content, Header}
 use Rattle.event_core.specs.Journal.{is_among}
 use Rattle.channel_face.specs.declared.replies.BeginRefused.TheVariants as begin
@@ -9,21 +10,20 @@ use Rattle.channel_face.specs.declared.replies.FaceRefused.TheVariants.{Begin, P
 use Rattle.selectors.specs.Choices.{required, optional}
 use Rattle.selectors.specs.declared.selector.Selector.{Selector}
 use Rattle.selectors.specs.declared.selector.Selector.TheVariants.{Replicating, Multiplexing}
-use Rattle.source_put.specs.declared.chain.HostNames.{HostNames}
-use Rattle.source_put.specs.declared.chain.ChainLink.{ChainLink}
 use Rattle.source_put.specs.declared.chain.Stopped.{Stopped}
 use Rattle.source_put.specs.declared.chain.Stopped.TheVariants as stop
 use Rattle.source_put.specs.declared.put.Refusal.{Refusal}
 use Rattle.source_put.specs.declared.intake.Verdict.{Verdict}
 use Rattle.source_put.specs.declared.intake.Verdict.TheVariants.{Taken, Refused, TooLarge, NoMemory}
-use Rattle.source_put.specs.Chains.{Intercepts, Meaning}
-use Rattle.source_put.specs.Tries.{GivesBoth}
+use Rattle.source_put.specs.Tries.{GivesBoth, Giving}
 
 -- each channel that a selector names is one of so many
 abbrev pub NamesBelow : Selector → ℕ → Type 0
-NamesBelow (Replicating channels others) count = (channels ≤ count) × All (λ place. place < count) others.items
+NamesBelow (Replicating channels others) count =
+    (channels ≤ count) × All (λ place. place < count) others.items
 NamesBelow (Multiplexing header mapping default others) count =
-    All (λ pair. All (λ place. place < count) pair.1.items) mapping.items × All (λ place. place < count) default.items
+    All (λ pair. All (λ place. place < count) pair.1.items) mapping.items
+    × All (λ place. place < count) default.items
     × All (λ pair. All (λ place. place < count) pair.1.items) others.items
 
 -- the events of a channel: those whose choice has it
@@ -41,19 +41,20 @@ abbrev pub verdict_of : Option Refusal → Verdict
 verdict_of None = Taken
 verdict_of (Some refusal) = if is_want refusal.cause then NoMemory else Refused refusal.channel refusal.cause
 
-module _ {F : Type 0} (Given : F → F → List Content → Result ℕ FaceRefused → Type 0) (selector : Selector) where
+module _ {F : Type 0} (Given : Giving F) (selector : Selector) where
+  -- the events that a choice has for each channel
+  abbrev pub theirs : (Selector → List Header → List ℕ) → List Content → ℕ → List Content
+  theirs choice events = events_for (choice selector) events
+
   -- each channel is given the events whose choice has it
   abbrev pub Gives : List Content → List F → List F → Verdict → Type 0
   Gives events old new verdict =
-      (refusal : Option Refusal) × GivesBoth Given (events_for (required selector) events) (events_for (optional selector) events) old new refusal × (verdict ≡ verdict_of refusal)
+      (refusal : Option Refusal)
+      × GivesBoth Given (theirs required events) (theirs optional events) old new refusal
+      × (verdict ≡ verdict_of refusal)
 
   -- by what the chain made of the batch; want of memory may come before any channel is tried
   abbrev pub Judges : Result (List Content) Stopped → List F → List F → Verdict → Type 0
   Judges (Ok events) old new verdict = Gives events old new verdict ⊎ ((verdict ≡ NoMemory) × (new ≡ old))
   Judges (Err (stop.TooLarge size)) old new verdict = (verdict ≡ TooLarge size) × (new ≡ old)
   Judges (Err stop.NoMemory) old new verdict = (verdict ≡ NoMemory) × (new ≡ old)
-
-  module _ {X : Type 0} {O : X → Type 0} (Means : Meaning X O) where
-    -- The chain is applied to the batch, and each channel is given the events whose choice has it.
-    abbrev pub Accepts : ℕ → HostNames → List (ChainLink X O) → List Content → List F → Verdict → List (ChainLink X O) → List F → Type 0
-    Accepts moment host links batch old verdict after new = (made : Result (List Content) Stopped) × Intercepts Means moment host links batch made after × Judges made old new verdict

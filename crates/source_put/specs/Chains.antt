@@ -1,7 +1,6 @@
 -- What a chain of interceptors makes of events.
-use Rattle.std.specs.Prelude.{◌≡◌, ◌<◌, ◌≤◌, ◌⊎◌, ℕ, List, [], ◌∷◌, Option, Some, None, Result, Ok, Err, true, false, string_bytes}
-use Rattle.std.specs.declared.alloc.Global.{Global}
-use Rattle.std.specs.declared.dyn_box.DynBox.{DynBox}
+use Rattle.std.specs.Prelude.{◌≡◌, ◌<◌, ◌≤◌, ◌⊎◌, ℕ, List, [], ◌∷◌, Option, Some, None, Result, Ok, Err}
+use Rattle.std.specs.Prelude.{true, false, string_bytes}
 use Rattle.plug_in.specs.declared.step.Intercepted.{Intercepted}
 use Rattle.plug_in.specs.declared.step.Intercepted.TheVariants.{Keep}
 use Rattle.plug_in.specs.declared.step.Intercepted.TheVariants as answer
@@ -55,42 +54,55 @@ IfWent Dropped P Q = Q
 IfWent (TooLarge size) P Q = Q
 IfWent NoMemory P Q = Q
 
+-- the events that go on, or why none does
+abbrev pub Outcome : Type 0
+Outcome = Result (List Content) Stopped
+
 -- the events that go on behind this one
-abbrev pub behind : Content → Result (List Content) Stopped → Result (List Content) Stopped
+abbrev pub behind : Content → Outcome → Outcome
 behind event (Ok events) = Ok (event ∷ events)
 behind event (Err why) = Err why
 
 -- what objects that are handed in mean: what one answers to an event at a moment, and what it then is
-abbrev pub Meaning : (X : Type 0) → (X → Type 0) → Type 1
-Meaning X O = DynBox X Global O → Content → ℕ → Intercepted → DynBox X Global O → Type 0
+abbrev pub Meaning : Type 0 → Type 1
+Meaning B = B → Content → ℕ → Intercepted → B → Type 0
 
 -- an object answers by its meaning, and goes on as what it then is
-abbrev pub Answers : {X : Type 0} {O : X → Type 0} → Meaning X O → ℕ → DynBox X Global O → Content → Passed → DynBox X Global O → Type 0
-Answers Means moment old event passed new = (answer : Intercepted) × Means old event moment answer new × (passed ≡ passed_by answer)
+abbrev pub Answers : {B : Type 0} → Meaning B → ℕ → B → Content → Passed → B → Type 0
+Answers Means moment old event passed new =
+    (answer : Intercepted) × Means old event moment answer new × (passed ≡ passed_by answer)
 
-module _ {X : Type 0} {O : X → Type 0} (Means : Meaning X O) (moment : ℕ) (host : HostNames) where
+module _ {B : Type 0} (Means : Meaning B) (moment : ℕ) (host : HostNames) where
   -- what one interceptor makes of an event, and what it then is
-  abbrev pub Links : ChainLink X O → Content → Passed → ChainLink X O → Type 0
-  Links (Step step) event passed after = IsMade (applied step moment (host_text step host) event) passed × (after ≡ Step step)
-  Links (Regex built) event passed after = (next : RegexStep) × (after ≡ Regex next) × (step_of next ≡ step_of built) × IsMadeOrNot (ran (step_of built) event) passed
-  Links (Boxed box) event passed after = (next : DynBox X Global O) × (after ≡ Boxed next) × Answers Means moment box event passed next
+  abbrev pub Links : ChainLink B → Content → Passed → ChainLink B → Type 0
+  Links (Step step) event passed after =
+      IsMade (applied step moment (host_text step host) event) passed × (after ≡ Step step)
+  Links (Regex built) event passed after =
+      (next : RegexStep) × (after ≡ Regex next) × (step_of next ≡ step_of built)
+      × IsMadeOrNot (ran (step_of built) event) passed
+  Links (Boxed box) event passed after =
+      (next : B) × (after ≡ Boxed next) × Answers Means moment box event passed next
 
   -- An event passes the interceptors in order, up to the first that lets none go on.
-  abbrev pub Passes : List (ChainLink X O) → Content → Passed → List (ChainLink X O) → Type 0
+  abbrev pub Passes : List (ChainLink B) → Content → Passed → List (ChainLink B) → Type 0
   Passes [] event passed after = (passed ≡ Event event) × (after ≡ [])
   Passes (link ∷ links) event passed after =
-      (made : Passed) × (first : ChainLink X O) × (others : List (ChainLink X O)) × Links link event made first × (after ≡ first ∷ others)
+      (made : Passed) × (first : ChainLink B) × (others : List (ChainLink B))
+      × Links link event made first × (after ≡ first ∷ others)
       × IfWent made (λ next. Passes links next passed others) ((passed ≡ made) × (others ≡ links))
 
   -- by what became of the first event, and of the rest; want of memory may come at any time
-  abbrev pub GoesOn : Passed → List (ChainLink X O) → Result (List Content) Stopped → List (ChainLink X O) → (Result (List Content) Stopped → Type 0) → Type 0
-  GoesOn (Event made) next result after Rest = ((rest : Result (List Content) Stopped) × Rest rest × (result ≡ behind made rest)) ⊎ ((result ≡ Err stop.NoMemory) × (after ≡ next))
+  abbrev pub GoesOn : Passed → List (ChainLink B) → Outcome → List (ChainLink B) → (Outcome → Type 0) → Type 0
+  GoesOn (Event made) next result after Rest =
+      ((rest : Outcome) × Rest rest × (result ≡ behind made rest))
+      ⊎ ((result ≡ Err stop.NoMemory) × (after ≡ next))
   GoesOn Dropped next result after Rest = Rest result
   GoesOn (TooLarge size) next result after Rest = (result ≡ Err (stop.TooLarge size)) × (after ≡ next)
   GoesOn NoMemory next result after Rest = (result ≡ Err stop.NoMemory) × (after ≡ next)
 
   -- The events pass in order, up to the first that is too large, or for which memory is wanting.
-  abbrev pub Intercepts : List (ChainLink X O) → List Content → Result (List Content) Stopped → List (ChainLink X O) → Type 0
+  abbrev pub Intercepts : List (ChainLink B) → List Content → Outcome → List (ChainLink B) → Type 0
   Intercepts links [] result after = (result ≡ Ok []) × (after ≡ links)
   Intercepts links (event ∷ events) result after =
-      (passed : Passed) × (next : List (ChainLink X O)) × Passes links event passed next × GoesOn passed next result after (λ rest. Intercepts next events rest after)
+      (passed : Passed) × (next : List (ChainLink B)) × Passes links event passed next
+      × GoesOn passed next result after (λ rest. Intercepts next events rest after)

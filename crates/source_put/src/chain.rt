@@ -19,19 +19,19 @@ pub struct HostNames {
 
 /// One interceptor.
 #[derive(Drop)]
-pub enum ChainLink {
+pub enum ChainLink<B = Box<dyn Interceptor + Send>> {
     /// One that sets or removes headers.
     Step(Step),
     /// One that looks for a pattern in the body.
     Regex(RegexStep),
     /// One that was handed in.
-    Boxed(Box<dyn Interceptor + Send>),
+    Boxed(B),
 }
 
 /// Interceptors in their order (Flume User Guide, "Flume Interceptors").
 #[derive(Drop)]
-pub struct Chain {
-    pub links: Vec<ChainLink>,
+pub struct Chain<B = Box<dyn Interceptor + Send>> {
+    pub links: Vec<ChainLink<B>>,
 }
 
 /// What became of an event.
@@ -92,8 +92,8 @@ fn pass_regex(step: &mut RegexStep, event: Event) -> Passed
 }
 
 // An event passes an interceptor that was handed in.
-fn pass_boxed(step: &mut Box<dyn Interceptor + Send>, event: Event, moment: u64) -> Passed
-    ensures { Answers ⟦<Box<dyn Interceptor + Send> as Interceptor>⟧.intercepts moment step.old event result step.new }
+fn pass_boxed<B: Interceptor>(step: &mut B, event: Event, moment: u64) -> Passed
+    ensures { Answers B.intercepts moment step.old event result step.new }
 {
     match step.intercept(event, moment) {
         Intercepted::Keep(event) => Passed::Event(event),
@@ -103,8 +103,13 @@ fn pass_boxed(step: &mut Box<dyn Interceptor + Send>, event: Event, moment: u64)
 }
 
 // An event passes an interceptor.
-fn pass_link(link: &mut ChainLink, event: Event, moment: u64, host: &HostNames) -> Passed
-    ensures { Links ⟦<Box<dyn Interceptor + Send> as Interceptor>⟧.intercepts moment host.now link.old event result link.new }
+fn pass_link<B: Interceptor>(
+    link: &mut ChainLink<B>,
+    event: Event,
+    moment: u64,
+    host: &HostNames,
+) -> Passed
+    ensures { Links B.intercepts moment host.now link.old event result link.new }
 {
     match link {
         ChainLink::Step(step) => pass_step(step, event, moment, host),
@@ -114,8 +119,13 @@ fn pass_link(link: &mut ChainLink, event: Event, moment: u64, host: &HostNames) 
 }
 
 // An event passes interceptors.
-fn pass_event(links: &mut [ChainLink], event: Event, moment: u64, host: &HostNames) -> Passed
-    ensures passes { Passes ⟦<Box<dyn Interceptor + Send> as Interceptor>⟧.intercepts moment host.now links.old event result links.new }
+fn pass_event<B: Interceptor>(
+    links: &mut [ChainLink<B>],
+    event: Event,
+    moment: u64,
+    host: &HostNames,
+) -> Passed
+    ensures passes { Passes B.intercepts moment host.now links.old event result links.new }
     ensures len { length links.new ≡ length links.old }
 {
     let mut event = event;
@@ -130,7 +140,14 @@ fn pass_event(links: &mut [ChainLink], event: Event, moment: u64, host: &HostNam
     Passed::Event(event)
 }
 
-impl Chain {
+impl<B: Interceptor> Chain<B> {
+    // An event passes the interceptors.
+    fn pass_one(&mut self, event: Event, moment: u64, host: &HostNames) -> Passed
+        ensures { Passes B.intercepts moment host.now self.old.links.items event result self.new.links.items }
+    {
+        pass_event(self.links.as_mut_slice(), event, moment, host)
+    }
+
     /// The events of a batch pass the interceptors, in order.
     pub(crate) fn pass(
         &mut self,
@@ -139,12 +156,12 @@ impl Chain {
         moment: u64,
         host: &HostNames,
     ) -> Result<Batch, Stopped>
-        ensures { Intercepts ⟦<Box<dyn Interceptor + Send> as Interceptor>⟧.intercepts moment host.now self.old.links.items batch result self.new.links.items }
+        ensures { Intercepts B.intercepts moment host.now self.old.links.items batch result self.new.links.items }
     {
         let mut left = batch;
         let mut kept = Batch::new(alloc);
         while let Some(event) = left.take_first() {
-            match pass_event(self.links.as_mut_slice(), event, moment, host) {
+            match self.pass_one(event, moment, host) {
                 Passed::Event(event) => {
                     if kept.push(event).is_err() {
                         return Err(Stopped::NoMemory);

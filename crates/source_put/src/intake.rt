@@ -1,10 +1,13 @@
 // Where the batches of a source go.
-ghost use Rattle.std.specs.Prelude.{◌≡◌, ◌⊎◌, ◌<◌, ◌^◌, IfOk, Some, length, slice_get};
-ghost use Rattle.source_put.specs.Accepts.{Accepts, Gives, NamesBelow, is_want, verdict_of};
+ghost use Rattle.std.specs.Prelude.{◌≡◌, ◌⊎◌, ◌<◌, ◌^◌, IsOkAnd, Some, length, slice_get};
+ghost use Rattle.std.specs.Borrow.{sem};
+ghost use Rattle.source_put.specs.Accepts.{Gives, NamesBelow, is_want, verdict_of};
+ghost use Rattle.source_put.specs.Routes.{Accepts, LendsPort, route_of};
 ghost use Rattle.source_put.specs.Tries.{Puts};
 
 use crate::chain::{Chain, HostNames, Stopped};
 use crate::pick::pick;
+use crate::ports::Ports;
 use crate::put::{Refusal, give_all};
 use channel_face::{BeginRefused, FaceRefused, PutFace, PutRefused};
 use event_core::{Batch, NoMemory};
@@ -34,13 +37,12 @@ pub enum Verdict {
 
 /// Takes the batches of a source: the chain is applied to the events, and the selector names the channels of each.
 #[derive(Drop)]
-pub struct Intake<F> {
+pub struct Intake<F, B = Box<dyn Interceptor + Send>> {
     alloc: Global,
-    chain: Chain,
+    chain: Chain<B>,
     selector: Selector,
     host: HostNames,
-    ports: Vec<F>,
-    ghost few: { length ports.items < 2 ^ 32 },
+    ports: Ports<F>,
 }
 
 // Whether a channel refused for want of memory.
@@ -69,46 +71,47 @@ fn verdict_of(refusal: Option<Refusal>) -> Verdict
     }
 }
 
-impl<F: PutFace + Drop> Intake<F> {
+impl<F: PutFace + Drop, B: Interceptor> Intake<F, B> {
     /// Takes batches into these channels, which are in the order of the source's. The selector names them by their places.
+    /// It takes no memory, and so is never refused.
     pub fn new(
         alloc: Global,
-        chain: Chain,
+        chain: Chain<B>,
         selector: Selector,
         host: HostNames,
         ports: Vec<F>,
-    ) -> Result<Intake<F>, NoMemory>
+    ) -> Result<Intake<F, B>, NoMemory>
         requires few { length ports.items < 2 ^ 32 }
         requires named { NamesBelow selector (length ports.items) }
-        ensures { IfOk result (λ intake. (intake.chain ≡ chain) × (intake.selector ≡ selector) × (intake.host ≡ host) × (intake.ports ≡ ports)) }
+        ensures { IsOkAnd result (λ intake. (intake.chain ≡ chain) × (intake.selector ≡ selector) × (intake.host ≡ host) × (intake.ports ≡ ports.items)) }
     {
         Ok(Intake {
             alloc,
             chain,
             selector,
             host,
-            ports,
+            ports: Ports::new(ports),
         })
     }
 
     // The verdict on events that passed the chain.
     fn give(&mut self, batch: &Batch) -> Verdict
         requires { length batch.now < 2 ^ 32 }
-        ensures gives { Gives (Puts F.own F.saw F.seen F.kept) self.old.selector batch.now self.old.ports.items self.new.ports.items result ⊎ ((result ≡ Verdict.NoMemory) × (self.new.ports.items ≡ self.old.ports.items)) }
+        ensures gives { Gives (Puts F.own F.saw F.seen F.kept) self.old.selector batch.now self.old.ports self.new.ports result ⊎ ((result ≡ Verdict.NoMemory) × (self.new.ports ≡ self.old.ports)) }
         ensures same { (self.new.selector ≡ self.old.selector) × (self.new.host ≡ self.old.host) × (self.new.chain ≡ self.old.chain) }
     {
-        let ports = self.ports.as_mut_slice();
-        let Ok(picked) = pick(self.alloc, &self.selector, batch, ports.len() as u32) else {
+        let Ok(picked) = pick(self.alloc, &self.selector, batch, self.ports.count()) else {
             return Verdict::NoMemory;
         };
         let required = picked.required.as_slice();
-        verdict_of(give_all(ports, batch, required, picked.optional.as_slice()))
+        let optional = picked.optional.as_slice();
+        verdict_of(give_all(&mut self.ports, batch, required, optional))
     }
 
     /// Takes a batch at a moment, in milliseconds since 1970.
     pub fn accept(&mut self, batch: Batch, moment: u64) -> Verdict
         requires { length batch < 2 ^ 32 }
-        ensures accepts { Accepts (Puts F.own F.saw F.seen F.kept) self.old.selector ⟦<Box<dyn Interceptor + Send> as Interceptor>⟧.intercepts moment self.old.host self.old.chain.links.items batch self.old.ports.items result self.new.chain.links.items self.new.ports.items }
+        ensures accepts { Accepts (Puts F.own F.saw F.seen F.kept) self.old.selector B.intercepts moment self.old.host (route_of self.old) batch result (route_of self.new) }
         ensures same { (self.new.selector ≡ self.old.selector) × (self.new.host ≡ self.old.host) }
     {
         match self.chain.pass(self.alloc, batch, moment, &self.host) {
@@ -120,24 +123,25 @@ impl<F: PutFace + Drop> Intake<F> {
 
     /// How many channels there are. It takes no memory.
     pub fn port_count(&self) -> u32
-        ensures { result ≡ length self.now.ports.items }
+        ensures { result ≡ length self.now.ports }
     {
-        self.ports.len() as u32
+        self.ports.count()
     }
 
-    /// Lends one of the channels, by its place. It takes no memory. What is written through the loan stays in the intake, of which
-    /// no clause speaks: a chain of boxed objects has no name in such a clause.
+    /// Lends one of the channels, by its place. It takes no memory. What is left behind the loan is then in its place, and
+    /// nothing else changes.
     pub fn port(&mut self, place: u32) -> &mut F
-        requires { place < length self.old.ports.items }
-        ensures { slice_get self.old.ports.items place ≡ Some result.now }
+        requires { place < length self.old.ports }
+        ensures* writes_back { sem 𝓛 (LendsPort F.row B.row self.entry place result) }
+        ensures value { slice_get self.old.ports place ≡ Some result.now }
     {
-        &mut self.ports[place as usize]
+        self.ports.at(place)
     }
 
     /// Hands the channels back, in order. It takes no memory.
     pub fn close(self) -> Vec<F>
-        ensures { result ≡ self.ports }
+        ensures { result.items ≡ self.ports }
     {
-        self.ports
+        self.ports.into_list()
     }
 }

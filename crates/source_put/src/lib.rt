@@ -5,7 +5,9 @@
 mod chain;
 mod intake;
 mod pick;
+mod ports;
 mod put;
 
 pub use chain::{Chain, ChainLink, HostNames, Passed, Stopped};
 pub use intake::{Intake, Verdict};
+pub use put::Refusal;
