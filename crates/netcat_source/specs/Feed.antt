@@ -1,5 +1,5 @@
 -- What a piece does to the present line.
-use Rattle.std.specs.Prelude.{◌≡◌, ℕ, ◌≤◌, List, [], ◌∷◌, ◌++◌, length, take}
+use Rattle.std.specs.Prelude.{◌≡◌, ℕ, ◌+◌, ◌<◌, ◌≤◌, List, [], ◌∷◌, ◌++◌, length, take}
 use Rattle.netcat_source.specs.Lines.{IsLine, IsUnbroken}
 use Rattle.netcat_source.specs.declared.lines.Cut.{Cut}
 use Rattle.netcat_source.specs.declared.lines.Cut.TheVariants.{More, Line, TooLong}
@@ -33,3 +33,10 @@ pub record Feeds (old : LineState) (piece : List ℕ) (n : ℕ) (cut : Cut) (new
   pub at : new.at ≡ cut
   pub takes : Takes old.max (begun old.at old.line) piece n cut new.line
   pub holds : HoldsLine old.max new.line cut
+
+-- no line was begun before, and the piece begins with this one and its newline
+pub record StandsWhole (lines : LineState) (piece line : List ℕ) : Type 0 where
+  pub none : begun lines.at lines.line ≡ []
+  pub is : IsLine lines.max line
+  pub within : length line < length piece
+  pub front : take (length line + 1) piece ≡ line ++ 10 ∷ []

@@ -44,4 +44,5 @@ pub record IsCut (max : ℕ) (bytes : List ℕ) (lines : List (List ℕ)) (end :
 
 -- a text is cut in one way
 abbrev pub OneCut : Type 0
-OneCut = (max : ℕ) (bytes : List ℕ) (lines others : List (List ℕ)) (end other : LinesEnd) → IsCut max bytes lines end → IsCut max bytes others other → (lines ≡ others) × (end ≡ other)
+OneCut = (max : ℕ) (bytes : List ℕ) (lines others : List (List ℕ)) (end other : LinesEnd)
+    → IsCut max bytes lines end → IsCut max bytes others other → (lines ≡ others) × (end ≡ other)

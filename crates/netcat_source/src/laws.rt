@@ -1,7 +1,13 @@
 // Laws of the definitions.
 ghost use Rattle.netcat_source.specs.Lines.{OneCut};
+ghost use Rattle.netcat_source.specs.Pieces.{FeedingCuts};
 
 /// A text is cut into lines in one way.
 pub fn one_cut()
     ensures { OneCut }
+{}
+
+/// Whatever the pieces of a text, feeding them to a cutter brings the lines and the end of the whole.
+pub fn pieces_cut()
+    ensures { FeedingCuts }
 {}

@@ -1,10 +1,17 @@
-//! The netcat source's lines: how a text is cut into lines in whatever pieces it comes, and what is replied to each.
+//! The netcat source: how a text is cut into lines in whatever pieces it comes, what is replied to each, and sessions on a
+//! link, whose lines are put into the channels and answered.
 #![tactic(auto)]
 
 mod laws;
 mod lines;
 mod replies;
+mod session;
+mod take;
+mod worker;
+mod write;
 
-pub use laws::one_cut;
+pub use laws::{one_cut, pieces_cut};
 pub use lines::{Cut, Lines};
 pub use replies::{LineVerdict, TOO_LONG_REPLY, reply_to};
+pub use session::{LineRules, SessionEnd, serve_netcat};
+pub use worker::serve_link;

@@ -1,7 +1,7 @@
 // Cuts a text into lines, however it comes.
 ghost use Rattle.std.specs.Prelude.{◌≡◌, ◌<◌, ◌≤◌, ◌^◌, ◌+◌, ◌++◌, [], List, ℕ, length, take, IfOk, MatchOption, slice_index, vec_len, vec_capacity};
 ghost use Rattle.netcat_source.specs.Lines.{IsUnbroken};
-ghost use Rattle.netcat_source.specs.Feed.{LineState, begun, Takes, Feeds, HoldsLine};
+ghost use Rattle.netcat_source.specs.Feed.{LineState, StandsWhole, begun, Takes, Feeds, HoldsLine};
 
 use event_core::NoMemory;
 use std::alloc::Global;
@@ -112,6 +112,21 @@ impl Lines {
         let (n, cut) = take_piece(&mut self.line, self.max, piece);
         self.at = cut;
         (n, cut)
+    }
+
+    /// The line at the front of a piece, where the piece holds it whole with its newline and no line was begun before. It is
+    /// not taken: a caller that passes over it and its newline has no need to feed them, which saves a copy of the line.
+    pub fn whole<'a>(&self, piece: &'a [u8]) -> Option<&'a [u8]>
+        ensures { MatchOption result (Unit {0}) (λ line. StandsWhole self.now piece.now line.now) }
+    {
+        if self.at != Cut::Line && !self.line.is_empty() {
+            return None;
+        }
+        let window = &piece[..self.max.min(piece.len())];
+        match newline_in(window) {
+            Some(i) => Some(&window[..i]),
+            None => None,
+        }
     }
 
     /// The present line, without its newline.

@@ -1,4 +1,4 @@
-use Rattle.std.proofs.Common.{List, sym, subst}
+use Rattle.std.proofs.Common.{List, subst}
 use Rattle.source_put.specs.Chains.{Passes}
 use Rattle.source_put.specs.declared.chain.ChainLink.{ChainLink}
 use Rattle.source_put.proofs.Passing.{lent}

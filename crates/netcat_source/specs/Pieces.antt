@@ -1,0 +1,24 @@
+-- A text that comes in pieces.
+use Rattle.std.specs.Prelude.{◌≡◌, ℕ, List, [], ◌∷◌, ◌++◌, drop}
+use Rattle.netcat_source.specs.declared.lines.Cut.TheVariants as brings
+use Rattle.netcat_source.specs.Lines.{IsLine, IsCut, LinesEnd, Rest, TooLong}
+use Rattle.netcat_source.specs.Feed.{LineState, begun, Feeds}
+
+-- A text that is fed to a cutter: each call gets some front of what is left of the text, and what it took is
+-- gone. The lines that were brought, and what is behind them. Nothing is fed behind a line that is too long.
+pub data IsFed : LineState → List ℕ → List (List ℕ) → LinesEnd → Type 0 where
+  Done : (now : LineState) → IsFed now [] [] Rest
+  GoesOn : (before after : LineState) (piece rest : List ℕ) (n : ℕ) (lines : List (List ℕ)) (end : LinesEnd)
+      → Feeds before piece n brings.More after → IsFed after (drop n piece ++ rest) lines end
+      → IsFed before (piece ++ rest) lines end
+  Brings : (before after : LineState) (piece rest : List ℕ) (n : ℕ) (lines : List (List ℕ)) (end : LinesEnd)
+      → Feeds before piece n brings.Line after → IsFed after (drop n piece ++ rest) lines end
+      → IsFed before (piece ++ rest) (after.line ∷ lines) end
+  Stops : (before after : LineState) (piece rest : List ℕ) (n : ℕ)
+      → Feeds before piece n brings.TooLong after → IsFed before (piece ++ rest) [] TooLong
+
+-- Whatever the pieces, feeding a text from its start brings the lines and the end of the whole.
+abbrev pub FeedingCuts : Type 0
+FeedingCuts = (start : LineState) (text : List ℕ) (lines : List (List ℕ)) (end : LinesEnd)
+    → begun start.at start.line ≡ [] → IsLine start.max [] → IsFed start text lines end
+    → IsCut start.max text lines end
