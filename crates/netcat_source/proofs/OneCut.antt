@@ -49,5 +49,6 @@ same_cut max (l ∷ ls) (m ∷ ms) d e r s h p q u v =
     let b = c.0 in
     (cc, c.1)
 
+-- as what stands behind the lines is no line
 pub one_cut : (max : ℕ) (bytes : List ℕ) (ls ms : List (List ℕ)) (d e : LinesEnd) → IsCut max bytes ls d → IsCut max bytes ms e → (ls ≡ ms) × (d ≡ e)
 one_cut max bytes ls ms d e p q = same_cut max ls ms d e p.rest q.rest (sym p.whole ∙ q.whole) p.each q.each p.ends q.ends

@@ -5,7 +5,8 @@ use Rattle.std.proofs.lemmas.List.Elements.{All-nil, All-cons}
 use Rattle.netcat_source.specs.declared.lines.Cut.{Cut}
 use Rattle.netcat_source.specs.Lines.{IsLine, IsUnbroken, IsCut, LinesEnd, TooLong, joined}
 use Rattle.netcat_source.specs.Feed.{LineState, begun}
-use Rattle.netcat_source.specs.Pieces.{IsFed, Done, GoesOn, Brings, Stops, FeedingCuts}
+use Rattle.netcat_source.specs.Pieces.{IsFed, Done, GoesOn, Brings, Stops, FeedingCuts, AnyPieces}
+use Rattle.netcat_source.proofs.OneCut.{one_cut}
 
 -- a front of the piece, and the rest of it with all that follows
 around : (old piece rest : List ℕ) (n : ℕ) → old ++ (piece ++ rest) ≡ (old ++ take n piece) ++ (drop n piece ++ rest)
@@ -58,5 +59,10 @@ fed_cuts before text lines end (Brings old after piece rest n more last f fed) i
 fed_cuts before text lines end (Stops old after piece rest n f) is =
     long_cuts old.max (begun old.at old.line) piece rest n after.line [] TooLong f.takes.1 f.holds.0 f.holds.1
 
+-- from the start of a text
 pub feeding_cuts : FeedingCuts
 feeding_cuts start text lines end none is fed = rw none at (fed_cuts start text lines end fed (rw none is))
+
+-- as a text is cut in one way
+pub any_pieces : AnyPieces
+any_pieces start text lines others end other none is fed again = one_cut start.max text lines others end other (feeding_cuts start text lines end none is fed) (feeding_cuts start text others other none is again)

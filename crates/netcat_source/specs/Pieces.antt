@@ -22,3 +22,9 @@ abbrev pub FeedingCuts : Type 0
 FeedingCuts = (start : LineState) (text : List ℕ) (lines : List (List ℕ)) (end : LinesEnd)
     → begun start.at start.line ≡ [] → IsLine start.max [] → IsFed start text lines end
     → IsCut start.max text lines end
+
+-- The same text in any two rows of pieces brings the same lines and the same end.
+abbrev pub AnyPieces : Type 0
+AnyPieces = (start : LineState) (text : List ℕ) (lines others : List (List ℕ)) (end other : LinesEnd)
+    → begun start.at start.line ≡ [] → IsLine start.max []
+    → IsFed start text lines end → IsFed start text others other → (lines ≡ others) × (end ≡ other)

@@ -1,13 +1,15 @@
 // Laws of the definitions.
 ghost use Rattle.netcat_source.specs.Lines.{OneCut};
-ghost use Rattle.netcat_source.specs.Pieces.{FeedingCuts};
+ghost use Rattle.netcat_source.specs.Pieces.{AnyPieces, FeedingCuts};
 
 /// A text is cut into lines in one way.
 pub fn one_cut()
     ensures { OneCut }
 {}
 
-/// Whatever the pieces of a text, feeding them to a cutter brings the lines and the end of the whole.
+/// Whatever the pieces of a text, feeding them to a cutter brings the lines and the end of the whole, and so the same as
+/// any other pieces.
 pub fn pieces_cut()
-    ensures { FeedingCuts }
+    ensures whole { FeedingCuts }
+    ensures same { AnyPieces }
 {}
