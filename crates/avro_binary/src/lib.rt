@@ -19,6 +19,6 @@ pub use number::{read_int, read_long};
 pub use refused::ValueRefused;
 pub use value::{read_bool, read_bytes, read_fixed, read_text};
 pub use write::{
-    write_batch, write_bool, write_bytes, write_event, write_fixed, write_int, write_long,
-    write_text,
+    add_batch, write_batch, write_bool, write_bytes, write_event, write_fixed, write_int,
+    write_long, write_text,
 };

@@ -153,7 +153,8 @@ fn add_events(batch: &Batch, out: &mut Vec<u8>) -> Result<(), NoMemory>
     Ok(())
 }
 
-fn add_batch(batch: &Batch, out: &mut Vec<u8>) -> Result<(), NoMemory>
+/// Adds an array of events, in one block and without a copy. An `Err` may have added some of it.
+pub fn add_batch(batch: &Batch, out: &mut Vec<u8>) -> Result<(), NoMemory>
     ensures { OnOk result (out.new.items ≡ out.old.items ++ written_batch batch.now) }
 {
     if batch.len() == 0 {

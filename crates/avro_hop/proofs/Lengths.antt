@@ -36,10 +36,10 @@ pub hash_len : length own_hash ≡ 16
 unfolding md5
 hash_len = digest_len _ 4
 
-small_len : (n : ℕ) → n < 64 → length (written_number (pos n)) ≡ 1
+pub small_len : (n : ℕ) → n < 64 → length (written_number (pos n)) ≡ 1
 small_len n small = ap length (groups_last 9 (2 * n) (omega arith))
 
-counted_len : length (written_bytes own_text) ≤ 511
+pub counted_len : length (written_bytes own_text) ≤ 511
 counted_len =
     let few : length (written_number (pos 509)) ≤ 2 = few_groups 10 2 1018 (omega arith) (omega arith) in
     omega (arith, length-append (written_number (pos (length own_text))) own_text, text_len, ap (λ (n : ℕ). length (written_number (pos n))) text_len)

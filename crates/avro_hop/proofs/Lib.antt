@@ -10,3 +10,7 @@ pub mod Lengths
 pub mod Within
 pub mod Responses
 pub mod Connection
+pub mod Replying
+pub mod OneReply
+pub mod Asking
+pub mod Fitting

@@ -24,7 +24,7 @@ use Rattle.avro_hop.proofs.OneReading.{same_option, option_whole, same_head, hea
 at_index : {A : Type 0} (bytes front rest : List ℕ) (z : ℤ) (f : Fault) → IntFault bytes f → bytes ≡ front ++ rest → IsInt front z → A
 at_index bytes front rest z f h whole i = absurd (int_whole front rest z f i (subst (λ (t : List ℕ). IntFault t f) whole h))
 
-one_option : (Faults : List ℕ → Fault → Type 0) → HasOneFault Faults → HasOneFault (OptionFault Faults)
+pub one_option : (Faults : List ℕ → Fault → Type 0) → HasOneFault Faults → HasOneFault (OptionFault Faults)
 one_option Faults one bytes f g (InIndex h) (InIndex k) = one_int bytes f g h k
 one_option Faults one bytes f g (InIndex h) (OtherIndex front rest z whole i zero other e) = at_index bytes front rest z f h whole i
 one_option Faults one bytes f g (InIndex h) (InValue front rest inner whole i k e) = at_index bytes front rest (pos 1) f h whole i
@@ -52,7 +52,7 @@ one_request_fault bytes f g h k = one_of_pair IsFixed FixedFault (PairFault (IsO
 
 -- ---- calls
 
-one_whole : {V : Type 0} (Spells : List ℕ → V → Type 0) (Faults : List ℕ → Fault → Type 0) → IsPrefixFree Spells → ExcludesFaults Spells Faults → HasOneFault Faults → HasOneFault (WholeFault Spells Faults)
+pub one_whole : {V : Type 0} (Spells : List ℕ → V → Type 0) (Faults : List ℕ → Fault → Type 0) → IsPrefixFree Spells → ExcludesFaults Spells Faults → HasOneFault Faults → HasOneFault (WholeFault Spells Faults)
 one_whole Spells Faults free whole one bytes f g (inl h) (inl k) = one bytes f g h k
 one_whole Spells Faults free whole one bytes f g (inl h) (inr t) = absurd (whole t.front t.rest t.value f t.spelled (subst (λ (x : List ℕ). Faults x f) t.whole h))
 one_whole Spells Faults free whole one bytes f g (inr t) (inl k) = absurd (whole t.front t.rest t.value g t.spelled (subst (λ (x : List ℕ). Faults x g) t.whole k))

@@ -32,7 +32,7 @@ same_pair First Second free free' a b x y v v' w w' p q e =
     let r = free' p.back q.back x y w w' p.second q.second (rest_same p.front q.front (p.back ++ x) (q.back ++ y) s.0 f) in
     (whole_same p.front p.back q.front q.back a b p.whole q.whole s.0 r.0, s.1, r.1)
 
-pair_whole : {V W : Type 0} (First : List ℕ → V → Type 0) (Second : List ℕ → W → Type 0) (FirstFault SecondFault : List ℕ → Fault → Type 0) → IsPrefixFree First → ExcludesFaults First FirstFault → (a b front rest : List ℕ) (v : V) (f : Fault) → front ≡ a ++ b → First a v → ((g : Fault) → SecondFault (b ++ rest) g → ⊥) → PairFault First FirstFault SecondFault (front ++ rest) f → ⊥
+pub pair_whole : {V W : Type 0} (First : List ℕ → V → Type 0) (Second : List ℕ → W → Type 0) (FirstFault SecondFault : List ℕ → Fault → Type 0) → IsPrefixFree First → ExcludesFaults First FirstFault → (a b front rest : List ℕ) (v : V) (f : Fault) → front ≡ a ++ b → First a v → ((g : Fault) → SecondFault (b ++ rest) g → ⊥) → PairFault First FirstFault SecondFault (front ++ rest) f → ⊥
 pair_whole First Second FirstFault SecondFault free whole_first a b front rest v f e s none (inl h) = whole_first a (b ++ rest) v f s (subst (λ (t : List ℕ). FirstFault t f) (parts a b front rest e) h)
 pair_whole First Second FirstFault SecondFault free whole_first a b front rest v f e s none (inr h) =
     let g = sym (parts a b front rest e) ∙ h.whole in
@@ -122,7 +122,7 @@ some_batch : append_batch ≡ [] → ⊥
 some_batch e = cc
 
 -- the same bytes
-same_bytes : {V : Type 0} (Spells : List ℕ → V → Type 0) → IsPrefixFree Spells → (bytes : List ℕ) (v w : V) → Spells bytes v → Spells bytes w → v ≡ w
+pub same_bytes : {V : Type 0} (Spells : List ℕ → V → Type 0) → IsPrefixFree Spells → (bytes : List ℕ) (v w : V) → Spells bytes v → Spells bytes w → v ≡ w
 same_bytes Spells free bytes v w p q = (free bytes bytes [] [] v w p q refl).1
 
 same_one : (bytes : List ℕ) (es fs : List Content) → IsOne bytes es → IsOne bytes fs → es ≡ fs
@@ -155,7 +155,7 @@ one_call_lem bytes c d p q =
     same_asks q.name q.rest c d (subst (λ (t : List ℕ). Asks q.name t c) r a) q.asks
 
 -- a value that all of the bytes are has no fault
-all_whole : {V : Type 0} (Spells : List ℕ → V → Type 0) (Faults : List ℕ → Fault → Type 0) → IsPrefixFree Spells → ExcludesFaults Spells Faults → (bytes : List ℕ) (v : V) (f : Fault) → Spells bytes v → WholeFault Spells Faults bytes f → ⊥
+pub all_whole : {V : Type 0} (Spells : List ℕ → V → Type 0) (Faults : List ℕ → Fault → Type 0) → IsPrefixFree Spells → ExcludesFaults Spells Faults → (bytes : List ℕ) (v : V) (f : Fault) → Spells bytes v → WholeFault Spells Faults bytes f → ⊥
 all_whole Spells Faults free whole_value bytes v f p (inl h) = whole_value bytes [] v f p (subst (λ (t : List ℕ). Faults t f) (sym (append-nil bytes)) h)
 all_whole Spells Faults free whole_value bytes v f p (inr h) =
     let e : h.front ++ h.rest ≡ bytes ++ [] = sym h.whole ∙ sym (append-nil bytes) in

@@ -36,7 +36,7 @@ small_long n small =
     record { groups = rw e (omega arith, refl); short = rw e (omega arith); fits = omega arith }
 
 -- every byte is below 128
-abbrev are_ascii : List ℕ → Bool
+abbrev pub are_ascii : List ℕ → Bool
 are_ascii [] = true
 are_ascii (b ∷ bytes) = ltb b 128 && are_ascii bytes
 
@@ -49,17 +49,17 @@ each_ascii [] e i = omega arith
 each_ascii (b ∷ bytes) e zero = ltb-true b 128 (both (ltb b 128) (are_ascii bytes) e).0
 each_ascii (b ∷ bytes) e (suc i) = each_ascii bytes (both (ltb b 128) (are_ascii bytes) e).1 i
 
-ascii_text : (bytes : List ℕ) → are_ascii bytes ≡ true → IsUtf8 bytes
+pub ascii_text : (bytes : List ℕ) → are_ascii bytes ≡ true → IsUtf8 bytes
 ascii_text bytes e = IsUtf8-from_ascii bytes (each_ascii bytes e)
 
-own_utf8 : IsUtf8 own_text
+pub own_utf8 : IsUtf8 own_text
 unfolding own_text
 own_utf8 = ascii_text _ refl
 
-null_spelled : {V : Type 0} (Spells : List ℕ → V → Type 0) → IsOption Spells written_null None
+pub null_spelled : {V : Type 0} (Spells : List ℕ → V → Type 0) → IsOption Spells written_null None
 null_spelled Spells = small_int 0 (omega arith)
 
-some_spelled : {V : Type 0} (Spells : List ℕ → V → Type 0) (bytes : List ℕ) (v : V) → Spells bytes v → IsOption Spells (written_some bytes) (Some v)
+pub some_spelled : {V : Type 0} (Spells : List ℕ → V → Type 0) (bytes : List ℕ) (v : V) → Spells bytes v → IsOption Spells (written_some bytes) (Some v)
 some_spelled Spells bytes v s = record { front = written_number (pos 1); back = bytes; whole = refl; first = small_int 1 (omega arith); second = s }
 
 below_three : (found : Match) → match_index found < 64
@@ -97,7 +97,7 @@ greetings_are_spelled Both = record {
 greetings_are_spelled Client = own_told Client
 greetings_are_spelled Stranger = own_told Stranger
 
-no_meta : IsMeta (written_map []) []
+pub no_meta : IsMeta (written_map []) []
 no_meta = let e = groups_last 9 0 (omega arith) in Close (0 ∷ []) (Plain (subst (λ (t : List ℕ). IsLong t (pos 0)) e (small_long 0 (omega arith))))
 
 few : (s : Status) → status_index s < 64
@@ -149,7 +149,7 @@ unknown_is_spelled = (
 
 -- ---- none begins another
 
-same_match : (found other : Match) → pos (match_index found) ≡ pos (match_index other) → found ≡ other
+pub same_match : (found other : Match) → pos (match_index found) ≡ pos (match_index other) → found ≡ other
 same_match Both Both e = refl
 same_match Both Client e = absurd (omega (arith, same_natural 0 1 e))
 same_match Both Stranger e = absurd (omega (arith, same_natural 0 2 e))
@@ -179,7 +179,7 @@ one_greeting a b x y g h p q e =
     let behind = whole_same p.text_bytes (p.hash_bytes ++ p.meta_bytes) q.text_bytes (q.hash_bytes ++ q.meta_bytes) (p.text_bytes ++ (p.hash_bytes ++ p.meta_bytes)) (q.text_bytes ++ (q.hash_bytes ++ q.meta_bytes)) refl refl t.0 last in
     (whole_same p.index_bytes (p.text_bytes ++ (p.hash_bytes ++ p.meta_bytes)) q.index_bytes (q.text_bytes ++ (q.hash_bytes ++ q.meta_bytes)) a b p.whole q.whole i.0 behind, same_greeting g h (same_match g.found h.found i.1) t.1 k.1)
 
-same_status : (s t : Status) → pos (status_index s) ≡ pos (status_index t) → s ≡ t
+pub same_status : (s t : Status) → pos (status_index s) ≡ pos (status_index t) → s ≡ t
 same_status status.Ok status.Ok e = refl
 same_status status.Ok status.Failed e = absurd (omega (arith, same_natural 0 1 e))
 same_status status.Ok status.Unknown e = absurd (omega (arith, same_natural 0 2 e))

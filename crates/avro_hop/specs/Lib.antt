@@ -12,3 +12,5 @@ pub mod Bounds
 pub mod Laws
 pub mod Responses
 pub mod Connection
+pub mod Asking
+pub mod Replies

@@ -51,7 +51,7 @@ pub fn place_of(e: ValueRefused) -> u64
 }
 
 // The index of a union of null and a value: whether the value follows.
-fn index_at(bytes: &[u8], at: usize) -> Result<(bool, usize), ValueRefused>
+pub fn index_at(bytes: &[u8], at: usize) -> Result<(bool, usize), ValueRefused>
     requires { at ≤ length bytes.now }
     ensures { ReadsIndex bytes.now at result }
 {
@@ -66,7 +66,7 @@ fn index_at(bytes: &[u8], at: usize) -> Result<(bool, usize), ValueRefused>
 }
 
 // The 16 bytes themselves.
-fn fixed_at(bytes: &[u8], at: usize) -> Result<(&[u8], usize), ValueRefused>
+pub fn fixed_at(bytes: &[u8], at: usize) -> Result<(&[u8], usize), ValueRefused>
     requires { at ≤ length bytes.now }
     ensures { Reads (λ s. s.now) IsFixed FixedFault bytes.now at result }
 {
@@ -86,7 +86,7 @@ pub fn text_at(bytes: &[u8], at: usize) -> Result<(&str, usize), ValueRefused>
     }
 }
 
-fn text_option_at(bytes: &[u8], at: usize) -> Result<(Option<&str>, usize), ValueRefused>
+pub fn text_option_at(bytes: &[u8], at: usize) -> Result<(Option<&str>, usize), ValueRefused>
     requires { at ≤ length bytes.now }
     ensures { Reads (option_map (λ s. s.now)) (IsOption IsText) (OptionFault TextFault) bytes.now at result }
 {
@@ -98,7 +98,7 @@ fn text_option_at(bytes: &[u8], at: usize) -> Result<(Option<&str>, usize), Valu
     Ok((Some(text), end))
 }
 
-fn meta_option_at(bytes: &[u8], at: usize) -> Result<usize, ValueRefused>
+pub fn meta_option_at(bytes: &[u8], at: usize) -> Result<usize, ValueRefused>
     requires { at ≤ length bytes.now }
     ensures { ReadsOver (IsOption IsMeta) (OptionFault MetaFault) bytes.now at result }
 {
