@@ -3,3 +3,4 @@ pub mod Walk
 pub mod Laws
 pub mod OneFeed
 pub mod Stream
+mod Ending

@@ -27,6 +27,10 @@ joined buffers = flat_map (λ bytes. bytes) buffers
 abbrev pub pack : ℕ → List (List ℕ) → List ℕ
 pack serial buffers = head serial (length buffers) ++ flat_map buffer buffers
 
+-- what stands before the bytes of a pack of one buffer whose length is still to come
+abbrev pub begun : ℕ → List ℕ
+begun serial = head serial 1 ++ u32_bytes 0
+
 -- the bytes are a pack within the limits, with this serial and payload
 pub record IsPack (bytes : List ℕ) (serial : ℕ) (payload : List ℕ) : Type 0 where
   pub buffers : List (List ℕ)

@@ -7,4 +7,4 @@ mod write;
 
 pub use packs::{Message, PackRefused, Packs, no_pack_within, one_cut, one_feed, one_pack};
 pub use pending::{MAX_BUFFERS, MAX_BYTES};
-pub use write::write_pack;
+pub use write::{begin_pack, end_pack, write_pack};

@@ -1,6 +1,6 @@
 // Writes packs.
-ghost use Rattle.std.specs.Prelude.{◌≡◌, ◌∷◌, ◌++◌, [], ◌+◌, ◌≤◌, length, OnOk, OnErr, vec_len, vec_capacity};
-ghost use Rattle.avro_frame.specs.Pack.{pack, max_bytes, u32_bytes};
+ghost use Rattle.std.specs.Prelude.{◌≡◌, ◌∷◌, ◌++◌, [], ◌+◌, ◌≤◌, ℕ, List, length, take, drop, OnOk, OnErr, vec_len, vec_capacity};
+ghost use Rattle.avro_frame.specs.Pack.{pack, begun, max_bytes, u32_bytes};
 
 use crate::pending::put;
 use std::alloc::AllocError;
@@ -28,4 +28,30 @@ pub fn write_pack(serial: u32, payload: &[u8], into: &mut Vec<u8>) -> Result<(),
     put_u32(into, payload.len() as u32);
     put(into, payload);
     Ok(())
+}
+
+/// Begins a pack of one buffer. What is added behind it is the buffer, up to [`end_pack`], so that no byte of it is copied.
+/// An `Err` is want of memory, and then nothing was added.
+pub fn begin_pack(serial: u32, into: &mut Vec<u8>) -> Result<(), AllocError>
+    ensures ok { OnOk result (into.new.items ≡ into.old.items ++ begun serial) }
+    ensures err { OnErr result (into.new.items ≡ into.old.items) }
+{
+    into.reserve(12)?;
+    put_u32(into, serial);
+    put_u32(into, 1);
+    put_u32(into, 0);
+    Ok(())
+}
+
+/// Ends a pack that was begun at the first byte. It takes no memory.
+pub fn end_pack(bytes: &mut Vec<u8>)
+    requires some { 12 ≤ length bytes.old.items }
+    requires fits { length bytes.old.items ≤ 12 + max_bytes }
+    ensures { (serial : ℕ) (payload : List ℕ) → bytes.old.items ≡ begun serial ++ payload → bytes.new.items ≡ pack serial (payload ∷ []) }
+{
+    let [a, b, c, d] = ((bytes.len() - 12) as u32).to_be_bytes();
+    bytes[8] = a;
+    bytes[9] = b;
+    bytes[10] = c;
+    bytes[11] = d;
 }
