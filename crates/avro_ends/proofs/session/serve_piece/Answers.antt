@@ -1,0 +1,33 @@
+use Rattle.std.proofs.Common.{◌≡◌, ◌∙◌, ◌+◌, ◌++◌, [], take, drop, sym, refl, arith, take-append-drop}
+use Rattle.std.proofs.Math.Seq.{take-add}
+use Rattle.std.proofs.lemmas.List.{take_rest}
+use Rattle.avro_ends.proofs.Going.{breaks_behind, goes_behind, goes_none, stops_amid}
+use Rattle.avro_ends.proofs.session.serve_piece.Goals as goal
+
+pub loop-at-init : goal.loop-at-init
+loop-at-init g c = record { within = omega arith; opened = c.requires; well = refl; halts = omega arith; selector = refl; host = refl; goes = goes_none _ _ _ _ _ }
+
+pub returns-then-asked-clause-breaks : goal.returns-then-asked-clause-breaks
+returns-then-asked-clause-breaks g c = stops_amid _ c.loop-at.invariant.goes (drop c.loop-at.at c.args.piece.now) c.args.piece.now (take-append-drop c.loop-at.at c.args.piece.now)
+
+pub returns-in-Err-clause-breaks : goal.returns-in-Err-clause-breaks
+returns-in-Err-clause-breaks g c =
+    let i = c.loop-at.invariant in
+    let breaks = rw (i.selector, i.host, take_rest) at c.in-Err.ensures.breaks in
+    breaks_behind _ c.args.piece.now (take-append-drop c.loop-at.at c.args.piece.now) i.goes breaks
+
+pub loop-at-preserved : goal.loop-at-preserved
+loop-at-preserved g c =
+    let i = c.loop-at.invariant in
+    let n = c.in-Ok.n in
+    let xs = c.args.piece.now in
+    let goes = rw (i.selector, i.host, take_rest) at c.in-Ok.ensures.goes in
+    record {
+      within = omega (arith, c.in-Ok.ensures.n);
+      opened = c.in-Ok.ensures.open;
+      well = c.in-Ok.ensures.well ∙ i.well;
+      halts = omega (arith, i.halts, c.asked.ensures.later);
+      selector = c.serve_next.ensures.same.0 ∙ i.selector;
+      host = c.serve_next.ensures.same.1 ∙ i.host;
+      goes = goes_behind _ (take (c.loop-at.at + n) xs) (sym (take-add c.loop-at.at n xs)) i.goes goes;
+    }

@@ -1,0 +1,20 @@
+// Writes whole pieces to a link.
+ghost use Rattle.std.specs.Prelude.{◌≡◌, ◌≤◌, ℕ, [], take, length, OnOk};
+ghost use Rattle.flume_host.specs.Causes.{HasCause};
+ghost use Rattle.flume_host.specs.Told.{Tells};
+ghost use Rattle.flume_host.specs.Links.{Talks};
+
+use flume_host::{Failed, Link};
+
+// Writes all of the bytes. In any case a front of them was taken.
+pub fn write_all<L: Link>(link: &mut L, bytes: &[u8]) -> Result<(), Failed>
+    ensures ok { OnOk result (Tells (L.told link.old) (L.told link.new) (Talks [] bytes.now 0)) }
+    ensures front { (n : ℕ) × Tells (L.told link.old) (L.told link.new) (Talks [] (take n bytes.now) 0) }
+    ensures cause { HasCause (L.faults link.old) (L.faults link.new) result }
+{
+    let mut at = 0;
+    while at < bytes.len() {
+        at += link.write(&bytes[at..])?;
+    }
+    Ok(())
+}
