@@ -1,11 +1,13 @@
 use Rattle.std.proofs.Common.{[], drop, take, arith, refl}
 use Rattle.std.proofs.Math.Seq.{take-add}
 use Rattle.std.proofs.lemmas.List.{take_rest}
+use Rattle.std.proofs.lemmas.Result.{err_from_is_err_and}
 use Rattle.flume_host.proofs.Talking.{talks_none, talks_then, talks_broke, talks_still, talks_wrote}
+use Rattle.avro_ends.proofs.Listening.{waited_none, waited_then, waited_wrote, waited_broke, failed_behind, failed_broke}
 use Rattle.avro_ends.proofs.write.write_all.Goals as goal
 
 pub loop-at-init : goal.loop-at-init
-loop-at-init g c = record { within = omega arith; well = refl; talk = talks_none (g.L.Link.told c.args.link.now) }
+loop-at-init g c = record { within = omega arith; well = refl; waited = waited_none (g.L.Link.told c.args.link.now); talk = talks_none (g.L.Link.told c.args.link.now) }
 
 pub loop-at-preserved : goal.loop-at-preserved
 loop-at-preserved g c =
@@ -17,6 +19,7 @@ loop-at-preserved g c =
     record {
       within = omega (arith, c.in_ok-at.ensures.bound);
       well = omega (arith, c.in_ok-at.ensures.cause.well, c.loop-at.invariant.well);
+      waited = waited_then _ _ _ 0 0 c.loop-at.invariant.waited (waited_wrote _ _ _ _ (rw take_rest at c.in_ok-at.ensures.done));
       talk = rw (take-add c.loop-at.at n xs) both;
     }
 
@@ -25,3 +28,11 @@ returns-in_err-at-clause-front g c =
     let told = g.L.Link.told in
     let broke = talks_broke (told c.loop-at.link) (told c.write.new.self) c.in_err-at.ensures.done in
     (c.loop-at.at, talks_still (told c.args.link.now) (told c.loop-at.link) (told c.write.new.self) [] (take c.loop-at.at c.args.bytes.now) 0 c.loop-at.invariant.talk broke)
+
+pub returns-in_err-at-clause-waited : goal.returns-in_err-at-clause-waited
+returns-in_err-at-clause-waited g c = waited_then _ _ _ 0 0 c.loop-at.invariant.waited (waited_broke _ _ c.in_err-at.ensures.done)
+
+pub returns-in_err-at-clause-failed : goal.returns-in_err-at-clause-failed
+returns-in_err-at-clause-failed g c =
+    let p = err_from_is_err_and c.from_residual.result c.from_residual.ensures.1 in
+    rw p.1 (failed_behind _ _ _ 0 c.loop-at.invariant.waited (failed_broke _ _ c.in_err-at.ensures.done))

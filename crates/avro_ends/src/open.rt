@@ -1,0 +1,9 @@
+// The open link of a sink.
+
+// A link on which each request was answered OK, with no byte behind its reply.
+#[derive(Drop)]
+pub struct Open<L> {
+    pub link: L,
+    // that of the last request
+    pub serial: u32,
+}
