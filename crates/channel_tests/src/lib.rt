@@ -17,6 +17,8 @@ mod reading;
 #[cfg(test)]
 mod records;
 #[cfg(test)]
+mod ring;
+#[cfg(test)]
 mod spelled;
 #[cfg(test)]
 mod steps;
