@@ -11,6 +11,7 @@ pub mod Holding
 pub mod Naming
 pub mod Delivering
 pub mod Keeping
+pub mod Lasting
 pub mod Once
 pub mod Reaching
 pub mod Marking

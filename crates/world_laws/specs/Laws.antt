@@ -6,6 +6,7 @@ use Rattle.world_laws.specs.World.{World, Work, Channel}
 use Rattle.world_laws.specs.Steps.{Step, happens, next, run}
 use Rattle.world_laws.specs.Held.{IsAck, AtChannel, Held}
 use Rattle.world_laws.specs.New.{IsNew}
+use Rattle.world_laws.specs.Stays.{GoesOn}
 use Rattle.world_laws.specs.Kept.{EachStands, Anything, KeptWithin, ChannelsAreThere, LinksRise, NoneIsNamedTwice, IsStillLeft, WasTakenOnce}
 
 -- In a new world the accounting holds.
@@ -19,6 +20,10 @@ EachStepKeeps = (w : World) (step : Step) → Held w → Held (next w (happens w
 -- So it holds after every list of steps from a new world.
 abbrev pub EveryRunKeeps : Type 0
 EveryRunKeeps = (w : World) (steps : List Step) → IsNew w → Held (run w steps)
+
+-- Over every list of steps nothing is taken back: each acknowledgement, output place, settled entry and packet stays, and so do the settings.
+abbrev pub NothingIsTakenBack : Type 0
+NothingIsTakenBack = (w : World) (steps : List Step) → Held w → GoesOn w (run w steps)
 
 -- Where it holds, and selectors name channels that are there, each event that the chain made of an acknowledged batch is left in each channel that
 -- it has to reach, or went on from there.

@@ -4,6 +4,7 @@ pub mod Steps
 pub mod Held
 pub mod New
 pub mod Kept
+pub mod Stays
 pub mod Laws
 pub mod Marks
 pub mod Labels

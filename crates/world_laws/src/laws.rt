@@ -1,5 +1,5 @@
 // Laws of the delivery model. These functions do nothing: each states a law.
-ghost use Rattle.world_laws.specs.Laws.{NewIsHeld, EachStepKeeps, EveryRunKeeps, AcknowledgedIsKept, AcknowledgedIsKeptDown, NoDeliveryTwice, EachIsLeftOrTakenOnce};
+ghost use Rattle.world_laws.specs.Laws.{NewIsHeld, EachStepKeeps, EveryRunKeeps, AcknowledgedIsKept, AcknowledgedIsKeptDown, NothingIsTakenBack, NoDeliveryTwice, EachIsLeftOrTakenOnce};
 ghost use Rattle.world_laws.specs.Rows.{CallsAreItsSteps, ReplyIsLost};
 
 /// In a world of agents with new channels and nothing else, the accounting holds.
@@ -15,6 +15,12 @@ pub fn each_step_keeps_the_accounting()
 /// So it holds after every list of steps from a new world: over all losses, repeats, crashes and mends.
 pub fn every_run_keeps_the_accounting()
     ensures { EveryRunKeeps }
+{}
+
+/// Over every list of steps from a world in which the accounting holds nothing is taken back: what was acknowledged, settled in a
+/// channel, taken by a last sink or sent stays, and selectors and sinks are the same.
+pub fn nothing_is_taken_back()
+    ensures { NothingIsTakenBack }
 {}
 
 /// Where the accounting holds, and selectors name channels that are there, each event that the chain made of an acknowledged
