@@ -27,7 +27,7 @@ grow-append a b (file ∷ next ∷ files) =
     let some = grow_some a next files in
     grow_front file a b (next ∷ files) (grow-append a b (next ∷ files)) some.0 some.1 some.2
 
-grow_last : (front : List RollFile) (last : RollFile) (bytes : List ℕ) → grow bytes (front ++ last ∷ []) ≡ front ++ record last { bytes = last.bytes ++ bytes } ∷ []
+pub grow_last : (front : List RollFile) (last : RollFile) (bytes : List ℕ) → grow bytes (front ++ last ∷ []) ≡ front ++ record last { bytes = last.bytes ++ bytes } ∷ []
 grow_last [] last bytes = refl
 grow_last (file ∷ []) last bytes = refl
 grow_last (file ∷ next ∷ front) last bytes = ap (λ (l : List RollFile). file ∷ l) (grow_last (next ∷ front) last bytes)

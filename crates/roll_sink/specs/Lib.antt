@@ -1,3 +1,4 @@
 pub mod Rolls
 pub mod States
 pub mod Parts
+pub mod Runs
