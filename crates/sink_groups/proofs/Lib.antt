@@ -1,3 +1,4 @@
 mod Ranks
 mod Tries
 mod LawLemmas
+mod Taken
