@@ -1,11 +1,11 @@
 -- What an opening finds, and what it leaves of the folder.
-use Rattle.std.proofs.Common.{◌⊎◌, inl, inr, ◌≡◌, ◌<◌, ◌≤◌, ◌+◌, ◌-◌, ◌^◌, ◌++◌, ◌∷◌, [], ℕ, List, length, Option, Some, None, Result, Ok, true, false, refl, sym, ◌∙◌, ap, subst, arith, append_assoc}
+use Rattle.std.proofs.Common.{◌⊎◌, inl, inr, ◌≡◌, ◌<◌, ◌≤◌, ◌+◌, ◌-◌, ◌^◌, ◌++◌, ◌∷◌, [], ℕ, List, length, Option, Some, None, Result, Ok, Err, true, false, refl, sym, ◌∙◌, ap, subst, arith, append_assoc}
 use Rattle.std.specs.Prelude.{IsSome, IsSomeAnd}
 use Rattle.std.proofs.lemmas.Bool.{cases_lt}
 use Rattle.std.proofs.lemmas.Bool.Decides.{nat_tests}
 use Rattle.std.proofs.lemmas.List.{append-nil, get_or_past}
 use Rattle.flume_host.specs.Folder.{Files, Folder, IsAbove, IsImage, IsNext, name_below, settle_entry}
-use Rattle.flume_host.specs.Told.{Changes, IsLeftAt, Leads, LeavesOnly, OneFile, Settle, Tells, Told, WhereTold, clock, done}
+use Rattle.flume_host.specs.Told.{Changes, DidPart, IsLeftAt, Leads, LeavesOnly, OneFile, Settle, Tells, Told, WhereTold, clock, done}
 use Rattle.flume_host.specs.declared.names.Failed.{Failed}
 use Rattle.flume_host.specs.declared.names.FileName.TheVariants.{Check, Log}
 use Rattle.flume_host.proofs.Telling.{back, follows, forth, tells_more}
@@ -22,7 +22,7 @@ use Rattle.channel_replay.specs.declared.refused.ReplayRefused.TheVariants as re
 use Rattle.channel_replay.proofs.Earlier.{takes_earlier}
 use Rattle.channel_replay.proofs.Lines.{lines-append}
 use Rattle.channel_replay.proofs.OneList.{has_one_list, one_list}
-use Rattle.file_channel.specs.Folders.{AreSame, GainsLog, HasNoCheck, IsAsBefore, IsBegun, IsFirstCheck, IsNextFile, Opens, OpensFrom, OpensOver, OpensTo, Refuses, as_cause, last_file, log_name}
+use Rattle.file_channel.specs.Folders.{AreSame, FailsToSettle, GainsLog, HasNoCheck, IsAsBefore, IsBegun, IsFirstCheck, IsNextFile, Opens, OpensFrom, OpensOver, OpensTo, Refuses, as_cause, last_file, log_name}
 use Rattle.file_channel.specs.Logs.{begun}
 use Rattle.file_channel.specs.Mirrors.{Mirrors}
 use Rattle.file_channel.specs.Written.{IsFresh, IsLogged, OnDisk}
@@ -352,3 +352,7 @@ over_maps replays.DiskFault P Q maps is = tt
 over_maps (replays.BadLog file at) P Q maps is = tt
 over_maps (replays.OverCapacity count) P Q maps is = maps count is
 over_maps replays.NoMemory P Q maps is = tt
+
+-- what a settle that failed did
+pub unsettled : (told told' : Option Told) (e : Failed) → Tells told told' (Leads {T = Unit {0}} Settle (Err e)) → FailsToSettle told told'
+unsettled told told' e leads = tells_more told told' (Leads {T = Unit {0}} Settle (Err e)) (λ t u. (u ≡ t) ⊎ DidPart Settle t u) (λ t u _ _ l. l.err) leads

@@ -133,7 +133,7 @@ refused_moves tells s s' e life kind counter is = (record { kept = Front 0; txn 
 pub spent_moves : (tells : Bool) (s s' : State) → s.life ≡ 2 ^ 64 - 1 → s.rules.kind ≡ OnFile → s' ≡ broken_state s → (kept : Reopened) × Moves tells s (Reopen (Err (causes.Spent Life))) s'
 spent_moves tells s s' life kind is = (record { kept = Front 0; txn = 0 }, record { admitted = (inl (refl, life), kind); state = is })
 
-same_cause : (e : OpenCause) (x y : Result (Unit {0}) OpenCause) → x ≡ Err e → y ≡ Err causes.DiskFault → x ≡ y → e ≡ causes.DiskFault
+pub same_cause : {T : Type 0} (e : OpenCause) (x y : Result T OpenCause) → x ≡ Err e → y ≡ Err causes.DiskFault → x ≡ y → e ≡ causes.DiskFault
 same_cause e x y a b is = cc
 
 -- a fault of the disk is counted

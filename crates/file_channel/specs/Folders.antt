@@ -2,7 +2,7 @@
 use Rattle.std.specs.Prelude.{◌⊎◌, ◌≡◌, ◌<◌, ◌≤◌, ◌-◌, ◌^◌, ℕ, List, [], length, Option, Some, None, IsSome, false}
 use Rattle.flume_host.specs.Folder.{Files, IsImage, same_name}
 use Rattle.flume_host.specs.Causes.{Rose}
-use Rattle.flume_host.specs.Told.{LeavesOnly, Settle, Tells, Told, WhereTold, done}
+use Rattle.flume_host.specs.Told.{DidPart, LeavesOnly, Settle, Tells, Told, WhereTold, done}
 use Rattle.flume_host.specs.declared.names.FileName.{FileName}
 use Rattle.flume_host.specs.declared.names.FileName.TheVariants.{Check, Log}
 use Rattle.event_core.specs.Journal.{Base}
@@ -105,6 +105,10 @@ StaysAs causes.NoMemory files folder = AreSame files folder
 -- a stop during an opening leaves what it could before, or what reads gave, but for that log file
 abbrev pub OpensOver : Told → Told → Type 0
 OpensOver t u = LeavesOnly t u (λ image. IsImage t.now image ⊎ IsAsBefore t.reads image)
+
+-- the disk failed to settle, and nothing was done since
+abbrev pub FailsToSettle : Option Told → Option Told → Type 0
+FailsToSettle told told' = Tells told told' (λ t u. (u ≡ t) ⊎ DidPart Settle t u)
 
 -- and since the opening settled the disk only the latter
 abbrev pub OpensFrom : Told → Told → Type 0

@@ -47,9 +47,11 @@ has_fault (step ∷ h) = is_fault step.call || has_fault h
 abbrev pub Shown : Type 0
 Shown = Counted
 
--- The opening's numbers rise, and the disk tells as it did then. The calls are a run from there to this state, with these counts, and none ended later
--- than now. The disk's count of faults is no less than at the opening: it rose where a call was refused for a fault of the disk, and else it stayed. Where
--- the disk tells, whatever a stop leaves at a moment since the opening opens to something that the calls up to that moment may leave.
+-- The opening's numbers rise, and the disk tells as it did then. The calls are a run from there to this
+-- state, with these counts, and none ended later than now. The disk's count of faults is no less than at
+-- the opening: it rose where a call was refused for a fault of the disk, and else it stayed. Where the disk
+-- tells, whatever a stop leaves at a moment since the opening opens to something that the calls up to that
+-- moment may leave.
 pub record StandsOver (told : Option Told) (faults : ℕ) (c : Shown) (start : Opening) (h : List Step) : Type 0 where
   pub base : IsBase start.base
   pub tells : start.tells ≡ is_some_of told
@@ -62,7 +64,8 @@ pub record StandsOver (told : Option Told) (faults : ℕ) (c : Shown) (start : O
   pub clean : has_fault h ≡ false → faults ≡ start.faults
   pub images : WhereTold told (EachMoment start.from (λ m image. MayFind start (until m h) image))
 
--- The opening of a channel that has made no call yet, over a disk that told and had counted this before, and tells this now.
+-- The opening of a channel that has made no call yet, over a disk that told and had counted this before,
+-- and tells this now.
 abbrev pub opened_as : Option Told → ℕ → Option Told → Shown → Opening
 opened_as before faults now c = record {
   rules = c.state.rules;

@@ -17,7 +17,7 @@ ghost use Rattle.channel_face.specs.declared.replies.PutRefused.{PutRefused};
 ghost use Rattle.channel_face.specs.declared.replies.TakeRefused.{TakeRefused};
 ghost use Rattle.channel_replay.specs.Recover.{WhereLogs, lines};
 ghost use Rattle.channel_replay.specs.Replay.{record_count};
-ghost use Rattle.file_channel.specs.Folders.{GainsLog, IsBegun, IsRefused, Opens, OpensFrom, OpensOver};
+ghost use Rattle.file_channel.specs.Folders.{FailsToSettle, GainsLog, IsBegun, IsRefused, Opens, OpensFrom, OpensOver};
 ghost use Rattle.file_channel.specs.Written.{MayRecover};
 ghost use Rattle.file_channel.specs.Stands.{StandsOver, is_fault, opened_as};
 ghost use Rattle.file_channel.specs.Touches.{Flushed, HadNoRoom, HasNoRoom, IsSpentLog, Rests, flushes, room_of};
@@ -107,7 +107,7 @@ pub fn open_channel<D: Disk + Drop, L: Ledger>(
 
     ensures any_moment { IfOk result (λ c. Tells (D.told disk) (D.told c.0) OpensOver) }
     ensures settled { IfOk result (λ c. Tells (D.told disk) (D.told c.0) OpensFrom) }
-    ensures settled_or { IfErr result (λ refused. (refused.cause ≡ OpenCause.DiskFault) ⊎ Tells (D.told disk) (D.told refused.disk) OpensFrom) }
+    ensures settled_or { IfErr result (λ refused. ((refused.cause ≡ OpenCause.DiskFault) × FailsToSettle (D.told disk) (D.told refused.disk)) ⊎ Tells (D.told disk) (D.told refused.disk) OpensFrom) }
     ensures ticks { WhereTold (D.told disk) (λ t. WhereLogs t.reads (λ logs. steps.new ≤ steps.old + record_count (lines logs))) }
 {
     match LoggedLists::open(alloc, disk, limits, steps) {

@@ -12,7 +12,7 @@ ghost use Rattle.channel_face.specs.declared.replies.OpenCause.{OpenCause};
 ghost use Rattle.channel_replay.specs.Plain.{base_of};
 ghost use Rattle.channel_replay.specs.Recover.{WhereLogs, lines};
 ghost use Rattle.channel_replay.specs.Replay.{record_count};
-ghost use Rattle.file_channel.specs.Folders.{GainsLog, HasNoCheck, IsBegun, IsFirstCheck, IsLastLog, IsNextFile, IsOfFile, IsRefused, Opens, OpensFrom, OpensOver, Refuses, StaysAs, as_cause, log_name};
+ghost use Rattle.file_channel.specs.Folders.{FailsToSettle, GainsLog, HasNoCheck, IsBegun, IsFirstCheck, IsLastLog, IsNextFile, IsOfFile, IsRefused, Opens, OpensFrom, OpensOver, Refuses, StaysAs, as_cause, log_name};
 ghost use Rattle.file_channel.specs.Written.{IsFresh, IsLogged, MayRecover};
 
 use crate::channel::OpenRefused;
@@ -151,7 +151,7 @@ pub(crate) fn open_log<D: Disk, L: Ledger>(
     // A stop at any moment of the call leaves the folder as it was left before, or as reads gave it, but for that file; since
     // it is settled only the latter.
     ensures any_moment { Tells (D.told disk.old) (D.told disk.new) OpensOver }
-    ensures settled { (IsErrOf result OpenCause.DiskFault → ⊥) → Tells (D.told disk.old) (D.told disk.new) OpensFrom }
+    ensures settled { (IsErrOf result OpenCause.DiskFault × FailsToSettle (D.told disk.old) (D.told disk.new)) ⊎ Tells (D.told disk.old) (D.told disk.new) OpensFrom }
     ensures ticks { WhereTold (D.told disk.old) (λ t. WhereLogs t.reads (λ logs. steps.new ≤ steps.old + record_count (lines logs))) }
     ensures fault { IsErrOf result OpenCause.DiskFault → Rose (D.faults disk.old) (D.faults disk.new) }
     ensures later { D.faults disk.old ≤ D.faults disk.new }
@@ -219,7 +219,7 @@ impl<D: Disk + Drop> LoggedLists<D> {
         ensures later { IfOk result (λ c. D.faults disk ≤ D.faults c.0) }
         ensures well { IfOk result (λ c. D.faults c.0 ≡ D.faults disk) }
         ensures refused { IfErr result (λ refused. IsRefused (D.told disk) (D.told refused.disk) (D.faults disk) (D.faults refused.disk) limits.capacity refused.cause) }
-        ensures settled_or { IfErr result (λ refused. (refused.cause ≡ OpenCause.DiskFault) ⊎ Tells (D.told disk) (D.told refused.disk) OpensFrom) }
+        ensures settled_or { IfErr result (λ refused. ((refused.cause ≡ OpenCause.DiskFault) × FailsToSettle (D.told disk) (D.told refused.disk)) ⊎ Tells (D.told disk) (D.told refused.disk) OpensFrom) }
         ensures ticks { WhereTold (D.told disk) (λ t. WhereLogs t.reads (λ logs. steps.new ≤ steps.old + record_count (lines logs))) }
     {
         let mut disk = disk;

@@ -1,11 +1,11 @@
-use Rattle.std.proofs.Common.{◌≡◌, true, refl, sym, ap, subst}
+use Rattle.std.proofs.Common.{inl, inr, ◌≡◌, true, refl, sym, ap, subst}
 use Rattle.event_core.specs.Journal.{Base, IsBase}
 use Rattle.channel_face.specs.History.{Opening, opening}
 use Rattle.channel_face.specs.Machine as Face
 use Rattle.channel_face.specs.Machine.{State}
 use Rattle.channel_face.specs.declared.replies.Kind.TheVariants.{File as OnFile}
 use Rattle.channel_replay.specs.Plain.{base_of}
-use Rattle.file_channel.proofs.Reopening.{opened_as, opened_fresh, opened_opens, opened_whole}
+use Rattle.file_channel.proofs.Reopening.{same_cause, opened_as, opened_fresh, opened_opens, opened_whole}
 use Rattle.file_channel.proofs.logged.LoggedLists.open.Goals as goal
 
 pub invariant_of-result : goal.invariant_of-result
@@ -28,3 +28,9 @@ pub returns-in-Ok-clause-opens : goal.returns-in-Ok-clause-opens
 returns-in-Ok-clause-opens g c = λ t told.
     let same : Face.base_of c.begin-lists.result ≡ base_of c.in-Ok.replayed = ap Face.base_of (c.begin-lists.ensures 0 0) in
     opened_opens c.begin-lists.result t.reads c.args.limits.capacity (base_of c.in-Ok.replayed) c.in-Ok.replayed.next.txn same (ap (λ (v : State). v.txn) (c.begin-lists.ensures 0 0)) (c.in-Ok.ensures.opens t told)
+
+pub returns-in-Ok-clause-settled : goal.returns-in-Ok-clause-settled
+returns-in-Ok-clause-settled g c = elim c.in-Ok.ensures.settled [ inl failed ↦ absurd (let is = failed.0 in cc) | inr from ↦ from ]
+
+pub returns-in-Err-clause-settled_or : goal.returns-in-Err-clause-settled_or
+returns-in-Err-clause-settled_or g c = elim c.in-Err.ensures.settled [ inl failed ↦ inl (same_cause c.in-Err.cause _ _ refl refl failed.0, failed.1) | inr from ↦ inr from ]
