@@ -8,26 +8,36 @@ use std::thread;
 // How often a flag is looked at.
 const LOOKS: u32 = 1_000_000_000;
 
-// After so many looks another thread gets its turn.
-const LOOKS_A_TURN: u32 = 1_000;
+// Behind so many looks another thread may run.
+const LOOKS_A_TURN: u32 = 1_000_000;
 
 /// A flag that is not set, or is set once for all who have a handle of it. No clause speaks of it.
 #[derive(Drop)]
 pub struct Flag {
     set: Arc<AtomicBool>,
+    looks: u32,
 }
 
 impl Flag {
     /// A flag that isn't set.
     pub fn new(alloc: Global) -> Result<Flag, AllocError> {
         let set = Arc::new(alloc, AtomicBool::new(false))?;
-        Ok(Flag { set })
+        Ok(Flag { set, looks: LOOKS })
+    }
+
+    /// Who waits for it from now on looks at it so many times, and not 1,000,000,000.
+    pub fn looked_at(mut self, looks: u32) -> Flag {
+        self.looks = looks;
+        self
     }
 
     /// A further handle of the flag.
     pub fn handle(&self) -> Result<Flag, AllocError> {
         let set = Arc::clone(&self.set)?;
-        Ok(Flag { set })
+        Ok(Flag {
+            set,
+            looks: self.looks,
+        })
     }
 
     /// Sets it.
@@ -45,10 +55,11 @@ impl Flag {
         self.set.load(SeqCst)
     }
 
-    /// Waits until it is set: looks at it 1,000,000,000 times at most, and says whether it was.
+    /// Waits until it is set: looks at it 1,000,000,000 times at most, or as often as was said, and
+    /// tells whether it was.
     pub fn wait(&self) -> bool {
-        for look in 0..LOOKS {
-            if self.is_set() {
+        for look in 0..self.looks {
+            if self.set.load(SeqCst) {
                 return true;
             }
             if look % LOOKS_A_TURN == 0 {
