@@ -374,7 +374,8 @@ const TWICE: &[Deed] = &[Put(&[("CZ", "x")], TAKEN), Put(&[("CZ", "x")], TAKEN)]
 fn an_object_that_is_handed_in_goes_on_as_it_then_is(rt: HostRuntime) -> Result<(), Fail> {
     let alloc = rt.alloc();
     let mut links = Vec::new(alloc);
-    links.push(ChainLink::Boxed(Box::new(alloc, FirstOnly { seen: false })?))?;
+    let object: Box<dyn Interceptor + Send> = Box::new(alloc, FirstOnly { seen: false })?;
+    links.push(ChainLink::Boxed(object))?;
     let channels = plain(alloc, [10, 10, 10], 10)?;
     let mut intake = intake_over(alloc, links, selector_of(alloc, &ALL)?, channels)?;
     for deed in TWICE {
