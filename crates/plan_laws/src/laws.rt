@@ -1,5 +1,6 @@
 // Laws of a plan.
 ghost use Rattle.plan_laws.specs.Names.{GroupsNameWhatIsThere, SinksNameWhatIsThere, SourcesNameWhatIsThere};
+ghost use Rattle.plan_laws.specs.Limits.{NumbersAreLimited};
 
 /// In each plan that `plan_of` may answer, the channels of a source are channels of the plan, and those that its selector names are
 /// channels of the source. So an intake over as many ports as the source has channels may be made without a further test.
@@ -16,4 +17,10 @@ pub fn sinks_name_what_is_there()
 /// sink.
 pub fn groups_name_what_is_there()
     ensures { GroupsNameWhatIsThere }
+{}
+
+/// The numbers of a plan are within the limits that channels, sink runs and sessions ask: a sink takes 1 to 10,000 events at once, a
+/// channel holds 1 to 10,000,000, a transaction 1 to 100,000, and a longest line has 1 to 1,048,568 bytes.
+pub fn numbers_are_limited()
+    ensures { NumbersAreLimited }
 {}

@@ -3,4 +3,7 @@
 
 mod laws;
 
-pub use laws::{groups_name_what_is_there, sinks_name_what_is_there, sources_name_what_is_there};
+pub use laws::{
+    groups_name_what_is_there, numbers_are_limited, sinks_name_what_is_there,
+    sources_name_what_is_there,
+};
