@@ -1,0 +1,255 @@
+// Links in memory, and the host that hands out who gives them: each follows its script.
+ghost use Rattle.flume_host.specs.Listens.{IsSettled};
+ghost use Rattle.host_memory.specs.Listens.{dials_told, ear_told};
+
+use flume_host::{Dialer, Failed, Host, Link, LinkRead, Listener, NameRefused};
+use host_memory::{
+    Flag, LinkStep, MemDialer, MemHost, MemLink, MemListener, MemSink, MemSource, Offer, Placed,
+};
+use std::alloc::{AllocError, Global};
+use std::test::Fail;
+
+fn piece(alloc: Global, text: &[u8]) -> Result<LinkStep, AllocError> {
+    Ok(LinkStep::Piece(text.to_vec(alloc)?))
+}
+
+// A flag that is set, as a link is to wait for.
+fn set_flag(alloc: Global) -> Result<LinkStep, AllocError> {
+    let flag = Flag::new(alloc)?;
+    flag.set();
+    Ok(LinkStep::Hold(flag))
+}
+
+fn script(alloc: Global) -> Result<Vec<LinkStep>, AllocError> {
+    let mut steps = Vec::new(alloc);
+    steps.push(piece(alloc, b"abcd")?)?;
+    steps.push(LinkStep::Quiet)?;
+    steps.push(piece(alloc, b"")?)?;
+    steps.push(LinkStep::Fail)?;
+    steps.push(set_flag(alloc)?)?;
+    steps.push(piece(alloc, b"e")?)?;
+    Ok(steps)
+}
+
+// What reads of three bytes answer by that script.
+const READS: [Result<LinkRead, Failed>; 9] = [
+    Ok(LinkRead::Got(3)),
+    Ok(LinkRead::Got(1)),
+    Ok(LinkRead::Quiet),
+    Ok(LinkRead::Quiet),
+    Err(Failed),
+    Ok(LinkRead::Quiet),
+    Ok(LinkRead::Got(1)),
+    Ok(LinkRead::End),
+    Ok(LinkRead::End),
+];
+
+#[test]
+fn a_link_reads_by_its_script(rt: HostRuntime) -> Result<(), Fail> {
+    let mut link = MemLink::new(rt.alloc(), script(rt.alloc())?);
+    let mut into = [0u8; 3];
+    for (row, want) in READS.iter().enumerate() {
+        let want = *want;
+        assert!(rt; link.read(&mut into) == want, "row {row}");
+    }
+    assert!(rt; link.gave() == b"abcde".as_slice());
+    assert!(rt; (link.faults(), link.waits()) == (1, 3));
+    Ok(())
+}
+
+// Writes, and how many bytes each takes.
+const WRITES: [(&[u8], Result<usize, Failed>); 4] = [
+    (b"abc", Ok(2)),
+    (b"cde", Ok(3)),
+    (b"f", Err(Failed)),
+    (b"f", Ok(1)),
+];
+
+#[test]
+fn a_link_takes_pieces_and_fails_where_chosen(rt: HostRuntime) -> Result<(), Fail> {
+    let pieces = [2, 9].as_slice().to_vec(rt.alloc())?;
+    let fails = [2].as_slice().to_vec(rt.alloc())?;
+    let flag = Flag::new(rt.alloc())?;
+    let link = MemLink::new(rt.alloc(), Vec::new(rt.alloc())).setting(flag.handle()?);
+    let mut link = link.in_pieces(pieces).failing_at(fails);
+    assert!(rt; !flag.is_set());
+    for (row, case) in WRITES.iter().enumerate() {
+        let (bytes, want) = *case;
+        assert!(rt; link.write(bytes) == want, "row {row}");
+    }
+    assert!(rt; link.took() == b"abcdef".as_slice());
+    assert!(rt; (link.faults(), flag.is_set()) == (1, true));
+    Ok(())
+}
+
+// A link with this one piece.
+fn link_of(alloc: Global, text: &[u8]) -> Result<MemLink, AllocError> {
+    let mut steps = Vec::new(alloc);
+    steps.push(piece(alloc, text)?)?;
+    Ok(MemLink::new(alloc, steps))
+}
+
+// What an accept gave: the first byte of a link, which is given back, or none.
+fn accepted(listener: &mut MemListener) -> Result<Option<u8>, Failed>
+    requires { IsSettled (ear_told listener.old) }
+    ensures { IsSettled (ear_told listener.new) }
+{
+    let Some(mut link) = listener.accept()? else {
+        return Ok(None);
+    };
+    let mut into = [0u8; 1];
+    let read = link.read(&mut into);
+    let byte = into[0];
+    listener.keep(link);
+    read?;
+    Ok(Some(byte))
+}
+
+fn offers(alloc: Global) -> Result<Vec<Offer>, AllocError> {
+    let mut offers = Vec::new(alloc);
+    offers.push(Offer::Link(link_of(alloc, b"a")?))?;
+    offers.push(Offer::Quiet)?;
+    offers.push(Offer::Fail)?;
+    offers.push(Offer::Link(link_of(alloc, b"b")?))?;
+    Ok(offers)
+}
+
+// What the accepts of a listener with these offers give.
+const ACCEPTS: [Result<Option<u8>, Failed>; 5] = [
+    Ok(Some(b'a')),
+    Ok(None),
+    Err(Failed),
+    Ok(Some(b'b')),
+    Ok(None),
+];
+
+#[test]
+fn a_listener_gives_links_and_takes_them_back(rt: HostRuntime) -> Result<(), Fail> {
+    let mut listener = MemListener::new(rt.alloc(), offers(rt.alloc())?);
+    for (row, want) in ACCEPTS.iter().enumerate() {
+        let want = *want;
+        assert!(rt; accepted(&mut listener) == want, "row {row}");
+    }
+    assert!(rt; (listener.back().len(), listener.faults(), listener.waits()) == (2, 1, 2));
+    Ok(())
+}
+
+// What a dial gave: the first byte of a link, which is given back.
+fn dialled(dialer: &mut MemDialer) -> Result<u8, Failed>
+    requires { IsSettled (dials_told dialer.old) }
+    ensures { IsSettled (dials_told dialer.new) }
+{
+    let mut link = dialer.dial()?;
+    let mut into = [0u8; 1];
+    let read = link.read(&mut into);
+    let byte = into[0];
+    dialer.keep(link);
+    read?;
+    Ok(byte)
+}
+
+fn dials(alloc: Global) -> Result<Vec<Option<MemLink>>, AllocError> {
+    let mut links = Vec::new(alloc);
+    links.push(Some(link_of(alloc, b"a")?))?;
+    links.push(None)?;
+    links.push(Some(link_of(alloc, b"b")?))?;
+    Ok(links)
+}
+
+// What the dials of a dialer with these links give.
+const DIALS: [Result<u8, Failed>; 4] = [Ok(b'a'), Err(Failed), Ok(b'b'), Err(Failed)];
+
+#[test]
+fn a_dialer_gives_links_and_takes_them_back(rt: HostRuntime) -> Result<(), Fail> {
+    let mut dialer = MemDialer::new(rt.alloc(), dials(rt.alloc())?);
+    for (row, want) in DIALS.iter().enumerate() {
+        let want = *want;
+        assert!(rt; dialled(&mut dialer) == want, "row {row}");
+    }
+    assert!(rt; (dialer.back().len(), dialer.faults()) == (2, 2));
+    Ok(())
+}
+
+// Who waits on one thread waits in vain, and fails.
+#[test]
+fn a_held_read_fails_on_one_thread(rt: HostRuntime) -> Result<(), Fail> {
+    let mut steps = Vec::new(rt.alloc());
+    let flag = Flag::new(rt.alloc())?.looked_at(1_000);
+    steps.push(LinkStep::Hold(flag))?;
+    let mut link = MemLink::new(rt.alloc(), steps);
+    assert!(rt; link.read(&mut [0u8; 1]) == Err(Failed));
+    Ok(())
+}
+
+// A host with one listener and one dialer of the address `a` and port 1, whose opening number 2 fails.
+fn host(alloc: Global) -> Result<MemHost, AllocError> {
+    let mut listeners = Vec::new(alloc);
+    let listener = MemListener::new(alloc, offers(alloc)?);
+    listeners.push(Placed::new(String::from_str(alloc, "a")?, 1, listener))?;
+    let mut dialers = Vec::new(alloc);
+    let dialer = MemDialer::new(alloc, dials(alloc)?);
+    dialers.push(Placed::new(String::from_str(alloc, "a")?, 1, dialer))?;
+    let input = MemSource::new(alloc, Vec::new(alloc));
+    let host = MemHost::new(alloc, input, MemSink::new(alloc), Vec::new(alloc));
+    let name = String::from_str(alloc, "box")?;
+    let host = host.named(name, String::from_str(alloc, "10.0.0.1")?);
+    let host = host.with_listeners(listeners).with_dialers(dialers);
+    Ok(host.failing_opens([2].as_slice().to_vec(alloc)?))
+}
+
+// What the first accept of a listener gives that a host hands out, and takes back.
+fn heard(host: &mut MemHost, bind: &str, port: u16) -> Result<Option<u8>, NameRefused> {
+    let mut listener = host.listen(bind, port)?;
+    let found = accepted(&mut listener);
+    host.keep_listener(bind, port, listener);
+    match found {
+        Ok(byte) => Ok(byte),
+        Err(_) => Ok(Some(b'!')),
+    }
+}
+
+// What the first dial of a dialer gives that a host hands out, and takes back; 0 where it fails.
+fn called(host: &mut MemHost, address: &str, port: u16) -> Option<u8> {
+    let Ok(mut dialer) = host.dialer(address, port) else {
+        return None;
+    };
+    let found = dialled(&mut dialer);
+    host.keep_dialer(address, port, dialer);
+    match found {
+        Ok(byte) => Some(byte),
+        Err(_) => Some(0),
+    }
+}
+
+// Addresses at which a host listens one after the other, and what comes first.
+const HEARD: [(&str, u16, Result<Option<u8>, NameRefused>); 4] = [
+    ("b", 1, Ok(None)),
+    ("a", 1, Ok(Some(b'a'))),
+    ("a", 1, Err(NameRefused::Failed)),
+    ("a", 1, Ok(None)),
+];
+
+#[test]
+fn a_host_hands_listeners_out(rt: HostRuntime) -> Result<(), Fail> {
+    let mut host = host(rt.alloc())?;
+    for (row, case) in HEARD.iter().enumerate() {
+        let (bind, port, want) = *case;
+        assert!(rt; heard(&mut host, bind, port) == want, "row {row}");
+    }
+    assert!(rt; (host.listeners().len(), host.faults(), host.opens()) == (3, 1, 4));
+    Ok(())
+}
+
+#[test]
+fn a_host_hands_dialers_and_names_out(rt: HostRuntime) -> Result<(), Fail> {
+    let mut host = host(rt.alloc())?;
+    for case in [("b", 0), ("a", b'a'), ("a", 0)] {
+        assert!(rt; called(&mut host, case.0, 1) == Some(case.1));
+    }
+    for case in [(false, "box"), (true, "10.0.0.1")] {
+        assert!(rt; host.host_name(case.0)?.as_str() == case.1);
+    }
+    assert!(rt; matches!(host.host_name(false), Err(NameRefused::Failed)));
+    assert!(rt; (host.dialers().len(), host.faults()) == (3, 1));
+    Ok(())
+}
