@@ -16,6 +16,7 @@ use Rattle.avro_hop.specs.Calls.{status_index}
 use Rattle.avro_ends.specs.declared.refused.DeliverRefused.{DeliverRefused}
 use Rattle.avro_ends.specs.declared.refused.DeliverRefused.TheVariants.{LinkFault, Ended, Silent, Refused, WrongSerial, BadReply, Turns, NoMemory}
 use Rattle.avro_ends.specs.Hearing.{Waited, FailedLast, IsUnheard, HeardFor, HearsReply}
+use Rattle.avro_ends.specs.Writes.{BreaksOff}
 use Rattle.avro_ends.specs.Deliveries.{Judges, IsJudged, AnswersBy, Ends, LastsFor, Answered, Exchanged, IsOut}
 use Rattle.avro_ends.proofs.Listening.{waited_then, failed_behind, unheard_behind}
 
@@ -125,14 +126,14 @@ exchanged_by first want request result a b c talk waited is =
       ends = ends_of first want request result is.given a b c waited is.ends;
     }
 
-pub exchange_failed : (first : Bool) (want : ℕ) (request : List ℕ) (n : ℕ) (a b : Option LinkTold) → Tells a b (Talks [] (take n request) 0) → Tells a b (Waited 0) → FailedLast a b → Exchanged request first want (Err LinkFault) a b
-exchange_failed first want request n a b talk waited failed = record {
-  sent = take n request;
+pub exchange_failed : (first : Bool) (want : ℕ) (request : List ℕ) (a b : Option LinkTold) → BreaksOff request a b → Tells a b (Waited 0) → Exchanged request first want (Err LinkFault) a b
+exchange_failed first want request a b off waited = record {
+  sent = take off.count request;
   given = [];
   turns = 0;
   quiets = 0;
-  talk = talk;
+  talk = off.talk;
   waited = waited;
   count = (omega arith, omega arith);
-  ends = ((n, refl), InHead (omega arith), failed);
+  ends = ((off.count, refl), InHead (omega arith), off.failed);
 }

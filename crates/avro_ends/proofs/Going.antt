@@ -1,7 +1,5 @@
 -- Parts of a session, one after another.
-use Rattle.std.proofs.Common.{◌≡◌, ◌∙◌, ◌⊎◌, ℕ, ◌+◌, ◌≤◌, ◌<◌, Bool, true, false, List, [], ◌∷◌, ◌++◌, length, take, flat_map, Option, Err, refl, sym, ap, subst, arith, append_assoc, append-nil}
-use Rattle.std.proofs.Math.Seq.{take-append-add}
-use Rattle.std.proofs.lemmas.List.{take_all}
+use Rattle.std.proofs.Common.{◌≡◌, ◌∙◌, ◌⊎◌, inl, inr, ℕ, ◌+◌, ◌≤◌, ◌<◌, Bool, true, false, List, [], ◌∷◌, ◌++◌, length, take, flat_map, Option, Err, refl, sym, ap, subst, arith, append_assoc, append-nil}
 use Rattle.std.proofs.lemmas.List.Concat.{flat_map-append}
 use Rattle.event_core.specs.Content.{Content}
 use Rattle.flume_host.specs.Told.{Tells}
@@ -11,7 +9,7 @@ use Rattle.flume_host.proofs.Talking.{talks_none, talks_then}
 use Rattle.source_put.specs.declared.intake.Verdict.{Verdict}
 use Rattle.avro_frame.specs.Pack.{IsPart, pack}
 use Rattle.avro_ends.specs.Exchanges.{Exchange, Exchanges, ArePacks, texts}
-use Rattle.avro_ends.specs.Sessions.{Goes, Breaks, Served, EndsBy, EndsAfter, IsOfTurn, IsTurnsOf, most_turns}
+use Rattle.avro_ends.specs.Sessions.{Goes, Breaks, Served, EndsBy, EndsAfter, FailsInReply, LeavesLink, IsOfTurn, IsTurnsOf, most_turns}
 use Rattle.avro_ends.specs.declared.session.AvroEnd.{AvroEnd}
 use Rattle.avro_ends.specs.declared.session.AvroEnd.TheVariants.{End, Stopped, LinkFault, Turns, TooMany, TooLarge, BadHandshake, OtherProtocol, NoMemory}
 
@@ -25,6 +23,31 @@ packs_then front front' (x ∷ xs) ys (first, rest, split, is, more) packs = (fi
 cuts_then : (held bytes mid bytes' left front front' : List ℕ) → held ++ bytes ≡ front ++ mid → mid ++ bytes' ≡ front' ++ left → held ++ (bytes ++ bytes') ≡ (front ++ front') ++ left
 cuts_then held bytes mid bytes' left front front' first second =
     sym (append_assoc held bytes bytes') ∙ ap (λ (l : List ℕ). l ++ bytes') first ∙ append_assoc front mid bytes' ∙ ap (λ (l : List ℕ). front ++ l) second ∙ sym (append_assoc front front' left)
+
+-- a reply that failed, behind more messages
+fails_then : (xs ys : List Exchange) (sent : List ℕ) → FailsInReply ys sent → FailsInReply (xs ++ ys) (texts xs ++ sent)
+fails_then xs ys sent p =
+    let reply = take p.count (pack p.last.serial (p.last.reply ∷ [])) in
+    record {
+      first = xs ++ p.first;
+      last = p.last;
+      split = ap (λ (l : List Exchange). xs ++ l) p.split ∙ sym (append_assoc xs p.first (p.last ∷ []));
+      count = p.count;
+      short = p.short;
+      part = ap (λ (l : List ℕ). texts xs ++ l) p.part ∙ sym (append_assoc (texts xs) (texts p.first) reply) ∙ ap (λ (l : List ℕ). l ++ reply) (sym (texts-append xs p.first));
+    }
+
+-- what a link tells at the end, it tells also from before
+leaves_then : (x y z : Option LinkTold) (given taken : List ℕ) (n : ℕ) (end : AvroEnd) → Tells x y (Talks given taken n) → LeavesLink end y z → LeavesLink end x z
+leaves_then x y z given taken n End first found = follows x y z (Talks given taken n) (λ t u. u.ended ≡ true) (λ t u. u.ended ≡ true) (λ t u v _ _ _ _ is. is) first found
+leaves_then x y z given taken n LinkFault first failed = follows x y z (Talks given taken n) (λ t u. u.failed ≡ true) (λ t u. u.failed ≡ true) (λ t u v _ _ _ _ is. is) first failed
+leaves_then x y z given taken n Stopped first leaves = tt
+leaves_then x y z given taken n Turns first leaves = tt
+leaves_then x y z given taken n (TooMany m) first leaves = tt
+leaves_then x y z given taken n (TooLarge m) first leaves = tt
+leaves_then x y z given taken n (BadHandshake at) first leaves = tt
+leaves_then x y z given taken n OtherProtocol first leaves = tt
+leaves_then x y z given taken n NoMemory first leaves = tt
 
 module _ {S : Type 0} (Takes : S → List Content → Verdict → S → Type 0) where
   exchanges_then : (g a c : Bool) (s t u : S) (xs ys : List Exchange) → Exchanges Takes g s xs a t → Exchanges Takes a t ys c u → Exchanges Takes g s (xs ++ ys) c u
@@ -42,8 +65,8 @@ module _ {S : Type 0} (Takes : S → List Content → Verdict → S → Type 0) 
   ends_then End greeted old new xs ys rest sent p = (p.0, sent_then xs ys sent p.1, p.2)
   ends_then Turns greeted old new xs ys rest sent p = (p.0, sent_then xs ys sent p.1, p.2)
   ends_then Stopped greeted old new xs ys rest sent p = (p.0, sent_then xs ys sent p.1)
-  ends_then LinkFault greeted old new xs ys rest sent (same, (count, front)) =
-      (same, (length (texts xs) + count, ap (λ (l : List ℕ). texts xs ++ l) front ∙ sym (ap (λ (l : List ℕ). take (length (texts xs) + count) l) (texts-append xs ys) ∙ take-append-add (texts xs) (texts ys) count)))
+  ends_then LinkFault greeted old new xs ys rest sent (same, inl p) = (same, inl (sent_then xs ys sent p.0, p.1))
+  ends_then LinkFault greeted old new xs ys rest sent (same, inr p) = (same, inr (fails_then xs ys sent p))
   ends_then (TooMany n) greeted old new xs ys rest sent p = (p.0, sent_then xs ys sent p.1, p.2)
   ends_then (TooLarge n) greeted old new xs ys rest sent p = (p.0, sent_then xs ys sent p.1, p.2)
   ends_then (BadHandshake at) greeted old new xs ys rest sent p = (p.0, sent_then xs ys sent p.1, p.2)
@@ -75,6 +98,7 @@ module _ {S : Type 0} (Takes : S → List Content → Verdict → S → Type 0) 
     sent = texts p.done ++ q.sent;
     talk = talks_then x y z given (texts p.done) given' q.sent n m p.talk q.talk;
     ends = ends_then end q.after q.between c p.done q.done q.rest q.sent q.ends;
+    leaves = leaves_then x y z given (texts p.done) n end p.talk q.leaves;
   }
 
   -- nothing was done, but perhaps a read
@@ -99,7 +123,7 @@ module _ {S : Type 0} (Takes : S → List Content → Verdict → S → Type 0) 
   between_ends : (end : AvroEnd) (greeted : Bool) (state : S) (done : List Exchange) (rest : List ℕ) → EndsBetween end → IsPart rest → EndsBy Takes end greeted state state done rest (texts done)
   between_ends End greeted state done rest may part = (refl, refl, part)
   between_ends Stopped greeted state done rest may part = (refl, refl)
-  between_ends LinkFault greeted state done rest may part = (refl, (length (texts done), sym (take_all (length (texts done)) (texts done) (omega arith))))
+  between_ends LinkFault greeted state done rest may part = (refl, inl (refl, part))
   between_ends Turns greeted state done rest may part = (refl, refl, part)
   between_ends (TooMany n) greeted state done rest may part = absurd may
   between_ends (TooLarge n) greeted state done rest may part = absurd may
@@ -107,8 +131,8 @@ module _ {S : Type 0} (Takes : S → List Content → Verdict → S → Type 0) 
   between_ends OtherProtocol greeted state done rest may part = absurd may
   between_ends NoMemory greeted state done rest may part = absurd may
 
-  pub ends_between : {a c : S} {x z : Option LinkTold} {g h : Bool} {held bytes left given : List ℕ} {n : ℕ} → Goes Takes a c x z g h held bytes left given n → IsPart left → (end : AvroEnd) → EndsBetween end → Breaks Takes a c x z g held bytes given n end
-  ends_between {c = c} {h = h} {left = left} p part end may = record {
+  pub ends_between : {a c : S} {x z : Option LinkTold} {g h : Bool} {held bytes left given : List ℕ} {n : ℕ} → Goes Takes a c x z g h held bytes left given n → IsPart left → (end : AvroEnd) → EndsBetween end → LeavesLink end x z → Breaks Takes a c x z g held bytes given n end
+  ends_between {c = c} {h = h} {left = left} p part end may leaves = record {
     done = p.done;
     after = h;
     between = c;
@@ -120,6 +144,7 @@ module _ {S : Type 0} (Takes : S → List Content → Verdict → S → Type 0) 
     sent = texts p.done;
     talk = p.talk;
     ends = between_ends end h c p.done left may part;
+    leaves = leaves;
   }
 
   -- a session that was asked to stop leaves the rest of what was read
@@ -136,6 +161,7 @@ module _ {S : Type 0} (Takes : S → List Content → Verdict → S → Type 0) 
     sent = texts p.done;
     talk = p.talk;
     ends = (refl, refl);
+    leaves = tt;
   }
 
   pub breaks_behind : {a b c : S} {x y z : Option LinkTold} {g h : Bool} {held bytes mid bytes' : List ℕ} {end : AvroEnd} → (all : List ℕ) → bytes ++ bytes' ≡ all → Goes Takes a b x y g h held bytes mid [] 0 → Breaks Takes b c y z h mid bytes' [] 0 end → Breaks Takes a c x z g held all [] 0 end
@@ -164,12 +190,9 @@ module _ {S : Type 0} (Takes : S → List Content → Verdict → S → Type 0) 
     turns = n;
     talk = let P : List ℕ → Type 0 = λ l. Tells x z (Talks l p.sent n) in subst P p.cut p.talk;
     ends = p.ends;
+    leaves = p.leaves;
     count = count;
   }
-
--- the end was found, also from before
-pub found_then : (x y z : Option LinkTold) (given taken : List ℕ) (n : ℕ) → Tells x y (Talks given taken n) → Tells y z (λ t u. u.ended ≡ true) → Tells x z (λ t u. u.ended ≡ true)
-found_then x y z given taken n = follows x y z (Talks given taken n) (λ t u. u.ended ≡ true) (λ t u. u.ended ≡ true) (λ t u v _ _ _ _ is. is)
 
 -- a read that gave bytes is one turn
 pub one_turn : (end : AvroEnd) → IsOfTurn end → (end ≡ End → ⊥) → IsTurnsOf end 1

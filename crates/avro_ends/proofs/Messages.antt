@@ -15,13 +15,18 @@ use Rattle.avro_hop.specs.Calls.{response}
 use Rattle.avro_hop.specs.Dialogue.{Answers}
 use Rattle.avro_ends.specs.Exchanges.{Exchange, Exchanged, Exchanges, ArePacks, texts}
 use Rattle.avro_ends.specs.Messages.{IsTaken, ServesEvents, ServesMessage}
-use Rattle.avro_ends.specs.Sessions.{Goes, Breaks, EndsBy, IsNext}
+use Rattle.avro_ends.specs.Sessions.{Goes, Breaks, EndsBy, FailsInReply, LeavesLink, IsNext}
+use Rattle.avro_ends.specs.Writes.{BreaksOff}
 use Rattle.avro_ends.specs.declared.session.AvroEnd.{AvroEnd}
 use Rattle.avro_ends.specs.declared.session.AvroEnd.TheVariants.{End, Stopped, LinkFault, Turns, TooMany, TooLarge, BadHandshake, OtherProtocol, NoMemory}
 
 -- the same bytes were sent
 pub sent_as : (told now : Option LinkTold) (a b : List ℕ) → a ≡ b → Tells told now (Talks [] a 0) → Tells told now (Talks [] b 0)
 sent_as told now a b same talk = let P : List ℕ → Type 0 = λ l. Tells told now (Talks [] l 0) in subst P same talk
+
+-- a write of the same bytes failed
+pub breaks_as : (told now : Option LinkTold) (a b : List ℕ) → a ≡ b → BreaksOff a told now → BreaksOff b told now
+breaks_as told now a b same off = let P : List ℕ → Type 0 = λ l. BreaksOff l told now in subst P same off
 
 pub still : (told now : Option LinkTold) → now ≡ told → Tells told now (Talks [] [] 0)
 still told now same = let P : Option LinkTold → Type 0 = λ o. Tells told o (Talks [] [] 0) in subst P (sym same) (talks_none told)
@@ -38,7 +43,7 @@ module _ {S : Type 0} (Takes : S → List Content → Verdict → S → Type 0) 
   pub events_serve : (old new : S) (told now : Option LinkTold) (greeted after : Bool) (serial : ℕ) (payload : List ℕ) (front : Vec ℕ Global) (batch : List Content) (result : Result (Unit {0}) AvroEnd) → Answers greeted payload (Ok (Events front batch)) after
       → ServesEvents Takes old new told now serial front.items batch result → ServesMessage Takes old new told now greeted after serial payload result
   events_serve old new told now greeted after serial payload front batch (Ok done) answers (verdict, status, taken, talk) = (Some verdict, front.items ++ response status, took old new greeted after serial payload front batch verdict status answers taken, talk)
-  events_serve old new told now greeted after serial payload front batch (Err LinkFault) answers (verdict, status, count, taken, talk) = (Some verdict, front.items ++ response status, count, took old new greeted after serial payload front batch verdict status answers taken, talk)
+  events_serve old new told now greeted after serial payload front batch (Err LinkFault) answers (verdict, status, taken, off) = (Some verdict, front.items ++ response status, took old new greeted after serial payload front batch verdict status answers taken, off)
   events_serve old new told now greeted after serial payload front batch (Err NoMemory) answers (same, tried) = (same, elim tried [ inl none ↦ inl none | inr takes ↦ inr (front, batch, answers, takes) ])
   events_serve old new told now greeted after serial payload front batch (Err End) answers bad = absurd bad
   events_serve old new told now greeted after serial payload front batch (Err Stopped) answers bad = absurd bad
@@ -73,21 +78,21 @@ module _ {S : Type 0} (Takes : S → List Content → Verdict → S → Type 0) 
   part_goes old told greeted held bytes left cut = record { done = []; exchanged = (refl, refl); front = []; packs = refl; cut = cut; talk = talks_none told }
 
   -- nothing more was done
-  none_breaks : (old new : S) (told now : Option LinkTold) (greeted : Bool) (held all rest : List ℕ) (end : AvroEnd) → held ++ all ≡ rest → now ≡ told → EndsBy Takes end greeted old new [] rest [] → Breaks Takes old new told now greeted held all [] 0 end
-  none_breaks old new told now greeted held all rest end cut same ends = record { done = []; after = greeted; between = old; exchanged = (refl, refl); front = []; packs = refl; rest = rest; cut = cut; sent = []; talk = still told now same; ends = ends }
+  none_breaks : (old new : S) (told now : Option LinkTold) (greeted : Bool) (held all rest : List ℕ) (end : AvroEnd) → held ++ all ≡ rest → now ≡ told → EndsBy Takes end greeted old new [] rest [] → LeavesLink end told now → Breaks Takes old new told now greeted held all [] 0 end
+  none_breaks old new told now greeted held all rest end cut same ends leaves = record { done = []; after = greeted; between = old; exchanged = (refl, refl); front = []; packs = refl; rest = rest; cut = cut; sent = []; talk = still told now same; ends = ends; leaves = leaves }
 
   pub count_breaks : (old : S) (told : Option LinkTold) (greeted : Bool) (held all : List ℕ) (n : ℕ) → PassesCount (held ++ all) n → Breaks Takes old old told told greeted held all [] 0 (TooMany n)
-  count_breaks old told greeted held all n passes = none_breaks old old told told greeted held all (held ++ all) (TooMany n) refl refl (refl, refl, passes)
+  count_breaks old told greeted held all n passes = none_breaks old old told told greeted held all (held ++ all) (TooMany n) refl refl (refl, refl, passes) tt
 
   pub size_breaks : (old : S) (told : Option LinkTold) (greeted : Bool) (held all : List ℕ) (n : ℕ) → PassesSize (held ++ all) n → Breaks Takes old old told told greeted held all [] 0 (TooLarge n)
-  size_breaks old told greeted held all n passes = none_breaks old old told told greeted held all (held ++ all) (TooLarge n) refl refl (refl, refl, passes)
+  size_breaks old told greeted held all n passes = none_breaks old old told told greeted held all (held ++ all) (TooLarge n) refl refl (refl, refl, passes) tt
 
   pub memory_breaks : (old : S) (told : Option LinkTold) (greeted : Bool) (held all : List ℕ) → Breaks Takes old old told told greeted held all [] 0 NoMemory
-  memory_breaks old told greeted held all = none_breaks old old told told greeted held all (held ++ all) NoMemory refl refl (refl, inl refl)
+  memory_breaks old told greeted held all = none_breaks old old told told greeted held all (held ++ all) NoMemory refl refl (refl, inl refl) tt
 
   -- the message of a whole pack ended the session
   pub message_breaks : (old new : S) (told now : Option LinkTold) (greeted after : Bool) (held bytes rest all : List ℕ) (serial : ℕ) (payload : List ℕ) → bytes ++ rest ≡ all → IsPack (held ++ bytes) serial payload → (end : AvroEnd) → ServesMessage Takes old new told now greeted after serial payload (Err end) → Breaks Takes old new told now greeted held all [] 0 end
-  message_breaks old new told now greeted after held bytes rest all serial payload whole is LinkFault (verdict, reply, count, exchanged, talk) = record {
+  message_breaks old new told now greeted after held bytes rest all serial payload whole is LinkFault (verdict, reply, exchanged, off) = record {
     done = record { serial = serial; payload = payload; verdict = verdict; reply = reply } ∷ [];
     after = after;
     between = new;
@@ -96,20 +101,21 @@ module _ {S : Type 0} (Takes : S → List Content → Verdict → S → Type 0) 
     packs = one_pack (held ++ bytes) (record { serial = serial; payload = payload; verdict = verdict; reply = reply }) is;
     rest = rest;
     cut = behind held bytes rest all whole;
-    sent = take count (pack serial (reply ∷ []));
-    talk = talk;
-    ends = (refl, (count, ap (λ (l : List ℕ). take count l) (sym (append-nil (pack serial (reply ∷ []))))));
+    sent = take off.count (pack serial (reply ∷ []));
+    talk = off.talk;
+    ends = (refl, inr (record { first = []; last = record { serial = serial; payload = payload; verdict = verdict; reply = reply }; split = refl; count = off.count; short = off.short; part = refl }));
+    leaves = off.failed;
   }
     where
       behind : (held bytes rest all : List ℕ) → bytes ++ rest ≡ all → held ++ all ≡ (held ++ bytes) ++ rest
       behind held bytes rest all whole = ap (λ (l : List ℕ). held ++ l) (sym whole) ∙ sym (append_assoc held bytes rest)
   message_breaks old new told now greeted after held bytes rest all serial payload whole is NoMemory (same, tried) =
       none_breaks old new told now greeted held all ((held ++ bytes) ++ rest) NoMemory (ap (λ (l : List ℕ). held ++ l) (sym whole) ∙ sym (append_assoc held bytes rest)) same
-      (refl, elim tried [ inl none ↦ inl none | inr takes ↦ inr (held ++ bytes, rest, serial, payload, refl, is, (after, takes.0, takes.1, takes.2, takes.3)) ])
+      (refl, elim tried [ inl none ↦ inl none | inr takes ↦ inr (held ++ bytes, rest, serial, payload, refl, is, (after, takes.0, takes.1, takes.2, takes.3)) ]) tt
   message_breaks old new told now greeted after held bytes rest all serial payload whole is (BadHandshake at) (same, none, answers) =
-      none_breaks old new told now greeted held all ((held ++ bytes) ++ rest) (BadHandshake at) (ap (λ (l : List ℕ). held ++ l) (sym whole) ∙ sym (append_assoc held bytes rest)) same (none, refl, (held ++ bytes, rest, serial, payload, refl, is, (after, answers)))
+      none_breaks old new told now greeted held all ((held ++ bytes) ++ rest) (BadHandshake at) (ap (λ (l : List ℕ). held ++ l) (sym whole) ∙ sym (append_assoc held bytes rest)) same (none, refl, (held ++ bytes, rest, serial, payload, refl, is, (after, answers))) tt
   message_breaks old new told now greeted after held bytes rest all serial payload whole is OtherProtocol (same, none, answers) =
-      none_breaks old new told now greeted held all ((held ++ bytes) ++ rest) OtherProtocol (ap (λ (l : List ℕ). held ++ l) (sym whole) ∙ sym (append_assoc held bytes rest)) same (none, refl, (held ++ bytes, rest, serial, payload, refl, is, (after, answers)))
+      none_breaks old new told now greeted held all ((held ++ bytes) ++ rest) OtherProtocol (ap (λ (l : List ℕ). held ++ l) (sym whole) ∙ sym (append_assoc held bytes rest)) same (none, refl, (held ++ bytes, rest, serial, payload, refl, is, (after, answers))) tt
   message_breaks old new told now greeted after held bytes rest all serial payload whole is End bad = absurd bad
   message_breaks old new told now greeted after held bytes rest all serial payload whole is Stopped bad = absurd bad
   message_breaks old new told now greeted after held bytes rest all serial payload whole is Turns bad = absurd bad

@@ -1,5 +1,5 @@
 -- What a session of Avro messages on a link has done, and how it ended.
-use Rattle.std.specs.Prelude.{◌≡◌, ◌⊎◌, ◌<◌, ◌≤◌, ◌^◌, ℕ, Bool, true, false, List, [], ◌∷◌, ◌++◌, take, Option, Ok, Err}
+use Rattle.std.specs.Prelude.{◌≡◌, ◌⊎◌, ◌<◌, ◌≤◌, ◌^◌, ℕ, Bool, true, false, List, [], ◌∷◌, ◌++◌, length, take, Option, Ok, Err}
 use Rattle.std.specs.declared.vec.Vec.{Vec}
 use Rattle.std.specs.declared.alloc.Global.{Global}
 use Rattle.event_core.specs.Content.{Content}
@@ -7,7 +7,7 @@ use Rattle.flume_host.specs.Told.{Tells}
 use Rattle.flume_host.specs.Links.{LinkTold, Talks}
 use Rattle.source_put.specs.declared.intake.Verdict.{Verdict}
 use Rattle.source_put.specs.declared.intake.Verdict.TheVariants as verdicts
-use Rattle.avro_frame.specs.Pack.{IsPack, IsPart, PassesCount, PassesSize}
+use Rattle.avro_frame.specs.Pack.{IsPack, IsPart, pack, PassesCount, PassesSize}
 use Rattle.avro_frame.specs.Feed.{Packing, Holds, Failed}
 use Rattle.avro_hop.specs.declared.hop.Asked.TheVariants.{Events}
 use Rattle.avro_hop.specs.declared.hop.HopRefused.{HopRefused}
@@ -33,6 +33,21 @@ IsOpen (Failed e) = ⊥
 -- the next message has P
 abbrev pub IsNext : List ℕ → (List ℕ → Type 0) → Type 0
 IsNext rest P = (first behind : List ℕ) × (serial : ℕ) × (payload : List ℕ) × (rest ≡ first ++ behind) × IsPack first serial payload × P payload
+
+-- the link failed in the reply to the last message; all others were answered
+pub record FailsInReply (done : List Exchange) (sent : List ℕ) : Type 0 where
+  pub first : List Exchange
+  pub last : Exchange
+  pub split : done ≡ first ++ last ∷ []
+  pub count : ℕ
+  pub short : count < length (pack last.serial (last.reply ∷ []))
+  pub part : sent ≡ texts first ++ take count (pack last.serial (last.reply ∷ []))
+
+-- what the link tells at this end: its end was found, or its last call failed
+abbrev pub LeavesLink : AvroEnd → Option LinkTold → Option LinkTold → Type 0
+LeavesLink End told now = Tells told now (λ t u. u.ended ≡ true)
+LeavesLink LinkFault told now = Tells told now (λ t u. u.failed ≡ true)
+LeavesLink other told now = Unit {0}
 
 -- how many turns there were: reads that gave bytes or waited in vain
 abbrev pub EndsAfter : AvroEnd → ℕ → Type 0
@@ -61,7 +76,9 @@ module _ {S : Type 0} (Takes : S → List Content → Verdict → S → Type 0) 
   EndsBy End greeted old new done rest sent = (new ≡ old) × (sent ≡ texts done) × IsPart rest
   EndsBy Turns greeted old new done rest sent = (new ≡ old) × (sent ≡ texts done) × IsPart rest
   EndsBy Stopped greeted old new done rest sent = (new ≡ old) × (sent ≡ texts done)
-  EndsBy LinkFault greeted old new done rest sent = (new ≡ old) × ((count : ℕ) × (sent ≡ take count (texts done)))
+  -- the link failed at a read, or in a reply
+  EndsBy LinkFault greeted old new done rest sent =
+      (new ≡ old) × (((sent ≡ texts done) × IsPart rest) ⊎ FailsInReply done sent)
   EndsBy (TooMany n) greeted old new done rest sent = (new ≡ old) × (sent ≡ texts done) × PassesCount rest n
   EndsBy (TooLarge n) greeted old new done rest sent = (new ≡ old) × (sent ≡ texts done) × PassesSize rest n
   EndsBy (BadHandshake at) greeted old new done rest sent = (new ≡ old) × (sent ≡ texts done) × IsNext rest (λ payload. (after : Bool) × Answers greeted payload (Err (hops.BadHandshake at)) after)
@@ -83,6 +100,7 @@ module _ {S : Type 0} (Takes : S → List Content → Verdict → S → Type 0) 
     pub sent : List ℕ
     pub talk : Tells told now (Talks given sent turns)
     pub ends : EndsBy end after between new done rest sent
+    pub leaves : LeavesLink end told now
 
   -- A whole session of a new connection: what the link gave is the packs of the messages that were answered and the rest behind them, and what it took is their replies, as the end says.
   pub record Served (old new : S) (told now : Option LinkTold) (end : AvroEnd) : Type 0 where
@@ -97,6 +115,7 @@ module _ {S : Type 0} (Takes : S → List Content → Verdict → S → Type 0) 
     pub turns : ℕ
     pub talk : Tells told now (Talks (front ++ rest) sent turns)
     pub ends : EndsBy end after between new done rest sent
+    pub leaves : LeavesLink end told now
     pub count : EndsAfter end turns
 
 -- what ends a turn

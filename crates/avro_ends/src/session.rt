@@ -240,7 +240,6 @@ fn serve_turn<L: Link, F: PutFace + Drop, B: Interceptor, C: Clock, H: Halt>(
         (into intake.old (C.moments clock.old)) (into intake.new (C.moments clock.new))
         (L.told link.old) (L.told link.new) hop.old (held_in packs.old) bytes bytes turns end) }
     ensures kind { IfErr result IsOfTurn }
-    ensures found { IsErrOf result AvroEnd.End → Tells (L.told link.old) (L.told link.new) (λ t u. u.ended ≡ true) }
     ensures fault { IsErrOf result AvroEnd.LinkFault → Rose (L.faults link.old) (L.faults link.new) }
     ensures stop { IsErrOf result AvroEnd.Stopped → Rose (H.yes halt.old) (H.yes halt.new) }
     ensures later { L.faults link.old ≤ L.faults link.new }
@@ -283,7 +282,6 @@ fn serve_until<L: Link, F: PutFace + Drop, B: Interceptor, C: Clock, H: Halt>(
     ensures served { Served (TakesBatch (Puts F.own F.saw F.seen F.kept) intake.old.selector B.intercepts intake.old.host)
         (into intake.old (C.moments clock.old)) (into intake.new (C.moments clock.new))
         (L.told link.old) (L.told link.new) result }
-    ensures found { result ≡ AvroEnd.End → Tells (L.told link.old) (L.told link.new) (λ t u. u.ended ≡ true) }
     ensures fault { result ≡ AvroEnd.LinkFault → Rose (L.faults link.old) (L.faults link.new) }
     ensures stop { result ≡ AvroEnd.Stopped → Rose (H.yes halt.old) (H.yes halt.new) }
     ensures later { L.faults link.old ≤ L.faults link.new }
@@ -314,7 +312,6 @@ pub fn serve_avro<L: Link, F: PutFace + Drop, B: Interceptor, C: Clock, H: Halt>
         (into intake.old (C.moments clock.old)) (into intake.new (C.moments clock.new))
         (L.told link.old) (L.told link.new) result
         ⊎ ((result ≡ AvroEnd.NoMemory) × (L.told link.new ≡ L.told link.old) × (intake.new ≡ intake.old) × (C.moments clock.new ≡ C.moments clock.old)) }
-    ensures found { result ≡ AvroEnd.End → Tells (L.told link.old) (L.told link.new) (λ t u. u.ended ≡ true) }
     ensures fault { result ≡ AvroEnd.LinkFault → Rose (L.faults link.old) (L.faults link.new) }
     ensures stop { result ≡ AvroEnd.Stopped → Rose (H.yes halt.old) (H.yes halt.new) }
     ensures later { L.faults link.old ≤ L.faults link.new }

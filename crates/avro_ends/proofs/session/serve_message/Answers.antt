@@ -1,6 +1,6 @@
-use Rattle.std.proofs.Common.{◌≡◌, ◌∙◌, ◌∷◌, [], None, Ok, Err, ap, List, ℕ, take}
+use Rattle.std.proofs.Common.{◌≡◌, ◌∙◌, ◌∷◌, [], None, Ok, Err, ap, List, ℕ}
 use Rattle.avro_frame.specs.Pack.{pack}
-use Rattle.avro_ends.proofs.Messages.{events_serve, events_serve_by, replied, sent_as}
+use Rattle.avro_ends.proofs.Messages.{breaks_as, events_serve, events_serve_by, replied, sent_as}
 use Rattle.avro_ends.proofs.session.serve_message.Goals as goal
 
 pub returns-in-Ok-write_all-clause-serves : goal.returns-in-Ok-write_all-clause-serves
@@ -13,8 +13,7 @@ pub returns-in-Ok-Reply-clause-serves : goal.returns-in-Ok-Reply-clause-serves
 returns-in-Ok-Reply-clause-serves g c =
     let answers = rw (c.as_slice.ensures.value, c.in-Ok-Reply.field-0-is) at c.in-Ok-Reply.ensures.answers in
     let bytes : c.as_slice-in-Ok-Reply-2.result.now ≡ pack c.args.message.serial (c.in-Ok-Reply.payload.items ∷ []) = c.as_slice-in-Ok-Reply-2.ensures.value ∙ c.in-Ok.ensures ∙ ap (λ (l : List ℕ). pack c.args.message.serial (l ∷ [])) c.as_slice-in-Ok-Reply.ensures.value in
-    let n = c.in-Err.ensures.front.0 in
-    (None, c.in-Ok-Reply.payload.items, n, replied _ _ _ _ c.args.message.serial _ c.in-Ok-Reply.payload answers, sent_as _ _ _ _ (ap (λ (l : List ℕ). take n l) bytes) c.in-Err.ensures.front.1)
+    (None, c.in-Ok-Reply.payload.items, replied _ _ _ _ c.args.message.serial _ c.in-Ok-Reply.payload answers, breaks_as _ _ _ _ bytes c.in-Err.ensures.part)
 
 pub returns-in-Ok-serve_events-clause-serves : goal.returns-in-Ok-serve_events-clause-serves
 returns-in-Ok-serve_events-clause-serves g c =

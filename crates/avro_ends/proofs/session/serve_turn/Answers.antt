@@ -6,6 +6,7 @@ use Rattle.flume_host.proofs.Talking.{talks_got, talks_quiet, talks_end, talks_b
 use Rattle.avro_ends.specs.declared.session.AvroEnd.{AvroEnd}
 use Rattle.avro_ends.specs.declared.session.AvroEnd.TheVariants.{End, LinkFault}
 use Rattle.avro_ends.proofs.Going.{ends_between, goes_none, one_turn, read_goes, stops_amid, turn_breaks, turn_goes}
+use Rattle.avro_ends.proofs.Listening.{failed_broke}
 use Rattle.avro_ends.proofs.session.serve_turn.Goals as goal
 
 part : (p : Packing) → IsOpen p → IsPart (held_in p)
@@ -23,16 +24,11 @@ returns-in-Ok-Quiet-clause-goes g c =
 pub returns-in-Ok-End-clause-breaks : goal.returns-in-Ok-End-clause-breaks
 returns-in-Ok-End-clause-breaks g c =
     let done = rw c.in-Ok-End.field-0-is at c.in-Ok-End.ensures.done in
-    ([], 0, refl, ends_between _ (read_goes _ _ _ _ _ _ [] 0 (talks_end c.read.new.into _ _ done)) (part c.args.packs.now c.requires) End tt)
-
-pub returns-in-Ok-End-clause-found : goal.returns-in-Ok-End-clause-found
-returns-in-Ok-End-clause-found g c = λ _.
-    let done = rw c.in-Ok-End.field-0-is at c.in-Ok-End.ensures.done in
-    found_end c.read.new.into _ _ done
+    ([], 0, refl, ends_between _ (read_goes _ _ _ _ _ _ [] 0 (talks_end c.read.new.into _ _ done)) (part c.args.packs.now c.requires) End tt (found_end c.read.new.into _ _ done))
 
 pub returns-in-Err-clause-breaks : goal.returns-in-Err-clause-breaks
 returns-in-Err-clause-breaks g c =
-    ([], 0, omega arith, ends_between _ (read_goes _ _ _ _ _ _ [] 0 (talks_broke _ _ c.in-Err.ensures.done)) (part c.args.packs.now c.requires) LinkFault tt)
+    ([], 0, omega arith, ends_between _ (read_goes _ _ _ _ _ _ [] 0 (talks_broke _ _ c.in-Err.ensures.done)) (part c.args.packs.now c.requires) LinkFault tt (failed_broke _ _ c.in-Err.ensures.done))
 
 pub returns-in-Ok-clause-goes : goal.returns-in-Ok-clause-goes
 returns-in-Ok-clause-goes g c =

@@ -1,10 +1,9 @@
-use Rattle.std.proofs.Common.{◌≡◌, ◌∙◌, ◌+◌, ◌++◌, [], refl, sym, subst, ap, Err, arith}
+use Rattle.std.proofs.Common.{◌≡◌, ◌∙◌, ◌+◌, ◌++◌, [], refl, sym, subst, arith}
 use Rattle.avro_frame.specs.Pack.{IsPart, InHead}
 use Rattle.avro_frame.specs.Feed.{Packing, Holds, Failed}
 use Rattle.avro_ends.specs.Sessions.{IsOpen, held_in}
-use Rattle.avro_ends.specs.declared.session.AvroEnd.{AvroEnd}
 use Rattle.avro_ends.specs.declared.session.AvroEnd.TheVariants.{Turns}
-use Rattle.avro_ends.proofs.Going.{after_turn, breaks_then, ends_between, found_then, goes_none, goes_then, served_by}
+use Rattle.avro_ends.proofs.Going.{after_turn, breaks_then, ends_between, goes_none, goes_then, served_by}
 use Rattle.avro_ends.proofs.session.serve_until.Goals as goal
 
 part : (p : Packing) → IsOpen p → IsPart (held_in p)
@@ -46,11 +45,8 @@ returns-in-Err-clause-served g c =
     let both = rw (c.requires.packs, c.requires.hop) at (breaks_then _ i.goes.1 breaks.3) in
     served_by _ both (after_turn c.in-Err.end c.loop-turns.turns breaks.1 c.in-Err.ensures.kind breaks.2 c.loop-turns-test.true)
 
-pub returns-in-Err-clause-found : goal.returns-in-Err-clause-found
-returns-in-Err-clause-found g c = λ is. found_then _ _ _ _ _ _ c.loop-turns.invariant.goes.1.talk (c.in-Err.ensures.found (ap (λ (e : AvroEnd). Err e) is))
-
 pub returns-clause-served : goal.returns-clause-served
 returns-clause-served g c =
     let i = c.loop-turns.invariant in
     let goes = rw (c.requires.packs, c.requires.hop) at i.goes.1 in
-    served_by _ (ends_between _ goes (part c.loop-turns.packs i.opened) Turns tt) (omega (arith, i.few, c.loop-turns-test.false))
+    served_by _ (ends_between _ goes (part c.loop-turns.packs i.opened) Turns tt tt) (omega (arith, i.few, c.loop-turns-test.false))

@@ -23,16 +23,17 @@ loop-at-preserved g c =
       talk = rw (take-add c.loop-at.at n xs) both;
     }
 
-pub returns-in_err-at-clause-front : goal.returns-in_err-at-clause-front
-returns-in_err-at-clause-front g c =
+pub returns-in_err-at-clause-part : goal.returns-in_err-at-clause-part
+returns-in_err-at-clause-part g c =
     let told = g.L.Link.told in
     let broke = talks_broke (told c.loop-at.link) (told c.write.new.self) c.in_err-at.ensures.done in
-    (c.loop-at.at, talks_still (told c.args.link.now) (told c.loop-at.link) (told c.write.new.self) [] (take c.loop-at.at c.args.bytes.now) 0 c.loop-at.invariant.talk broke)
+    let p = err_from_is_err_and c.from_residual.result c.from_residual.ensures.1 in
+    rw p.1 (record {
+      count = c.loop-at.at;
+      short = c.loop-at-test.true;
+      talk = talks_still (told c.args.link.now) (told c.loop-at.link) (told c.write.new.self) [] (take c.loop-at.at c.args.bytes.now) 0 c.loop-at.invariant.talk broke;
+      failed = failed_behind _ _ _ 0 c.loop-at.invariant.waited (failed_broke _ _ c.in_err-at.ensures.done);
+    })
 
 pub returns-in_err-at-clause-waited : goal.returns-in_err-at-clause-waited
 returns-in_err-at-clause-waited g c = waited_then _ _ _ 0 0 c.loop-at.invariant.waited (waited_broke _ _ c.in_err-at.ensures.done)
-
-pub returns-in_err-at-clause-failed : goal.returns-in_err-at-clause-failed
-returns-in_err-at-clause-failed g c =
-    let p = err_from_is_err_and c.from_residual.result c.from_residual.ensures.1 in
-    rw p.1 (failed_behind _ _ _ 0 c.loop-at.invariant.waited (failed_broke _ _ c.in_err-at.ensures.done))
