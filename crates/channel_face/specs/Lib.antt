@@ -4,5 +4,6 @@ pub mod History
 pub mod Counters
 pub mod Calls
 pub mod Faces
+pub mod Keeps
 pub mod OwnCalls
 pub mod Laws

@@ -3,6 +3,7 @@
 
 mod channel;
 mod face;
+mod keep_face;
 mod laws;
 mod own_face;
 mod replies;
@@ -10,6 +11,7 @@ mod tokens;
 
 pub use channel::{Channel, Durable};
 pub use face::{PutFace, TakeFace};
+pub use keep_face::{KeepFace, mend};
 pub use laws::{
     commits_are_well_formed, count_stays_within, counts_one_call, numbers_rise, stands_for_journal,
     takes_least,

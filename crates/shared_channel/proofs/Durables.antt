@@ -15,7 +15,8 @@ use Rattle.turn_passes.specs.Calls.{has}
 use Rattle.turn_passes.specs.Views.{View, with_call}
 use Rattle.turn_passes.specs.Turns.{Making}
 use Rattle.shared_channel.specs.Calls.{step, made_if, state_seen, Bounds, IsIn, Makes, Left}
-use Rattle.shared_channel.specs.Durables.{is_spent_check, is_spent_prune, is_spent_open, calls_of, WasBroken, IsReopen, MakesReopen, MakesMended, Reopens, Mends}
+use Rattle.channel_face.specs.Keeps.{is_spent_check, is_spent_prune, is_spent_open}
+use Rattle.shared_channel.specs.Durables.{calls_of, WasBroken, IsReopen, MakesReopen, MakesMended, Reopens, Mends}
 use Rattle.shared_channel.proofs.Turning.{makes_kept, answers}
 
 -- the machine refuses none of them because no more calls are counted

@@ -1,5 +1,6 @@
 mod Rooms
 mod Keeping
 mod Turning
-mod Porting
+pub mod Porting
+mod Mending
 mod Durables

@@ -27,7 +27,8 @@ use Rattle.shared_channel.specs.Passes.{Known}
 use Rattle.channel_face.specs.declared.replies.OpenCause.{OpenCause}
 use Rattle.channel_face.specs.History.{reopen_reply}
 use Rattle.channel_face.specs.Machine.{Reopen}
-use Rattle.shared_channel.specs.Durables.{Mends, is_spent_open}
+use Rattle.channel_face.specs.Keeps.{is_spent_open}
+use Rattle.shared_channel.specs.Durables.{Mends}
 use Rattle.shared_channel.specs.Calls.{step, state_seen, made_if, Bounds, IsIn, Answers, RolledBack}
 use Rattle.atomic_table.specs.Table.{Me}
 use Rattle.shared_channel.specs.Ports.{SettledBy, MakesSettled, own_if, own_calls, owned, AreOwned, AreUnder, Saw, Went, WentBy, Later, Settles, SawAll, under_then}
@@ -36,14 +37,14 @@ own_if-append : (b : Bool) (o : Own) (x y : List Own) → own_if b o (x ++ y) �
 own_if-append true o x y = refl
 own_if-append false o x y = refl
 
-own-append : (ns : List ℕ) (s : State) (a b : List Step) → own_calls ns s (a ++ b) ≡ own_calls ns s a ++ own_calls ns (state_after s a) b
+pub own-append : (ns : List ℕ) (s : State) (a b : List Step) → own_calls ns s (a ++ b) ≡ own_calls ns s a ++ own_calls ns (state_after s a) b
 own-append ns s [] b = refl
 own-append ns s (x ∷ a) b =
     let o : Own = record { call = x.call; before = s; moment = x.moment } in
     ap (own_if (has ns x.pass) o) (own-append ns (after s x.call) a b) ∙ own_if-append (has ns x.pass) o (own_calls ns (after s x.call) a) (own_calls ns (state_after (after s x.call) a) b)
 
 -- none of these calls is one's own
-own-none : (ns : List ℕ) (s : State) (h : List Step) → calls_by ns h ≡ [] → own_calls ns s h ≡ []
+pub own-none : (ns : List ℕ) (s : State) (h : List Step) → calls_by ns h ≡ [] → own_calls ns s h ≡ []
 own-none ns s [] none = refl
 own-none ns s (x ∷ h) none = by_own (has ns x.pass) none (own-none ns (after s x.call) h)
   where
@@ -137,7 +138,7 @@ gains by v w P f start earlier own is = (f.0, (is.0 ∙ sym f.1.base, is.1, ap (
 pub later : (p q : Known) (P : List Own → List Own → Type 0) → (q.table_id ≡ p.table_id) × (q.number ≡ p.number) → WentBy p.number p.view q.view P → Later p q
 later p q P same f = record { table = same.0; number = same.1; base = f.1.base; passes = f.1.passes; numbers = f.1.numbers; begins = f.1.begins; under = f.1.under }
 
-own_one : (ns : List ℕ) (x : Step) → calls_by ns (x ∷ []) ≡ x ∷ [] → has ns x.pass ≡ true
+pub own_one : (ns : List ℕ) (x : Step) → calls_by ns (x ∷ []) ≡ x ∷ [] → has ns x.pass ≡ true
 own_one ns x is = by_own (has ns x.pass) is
   where
     by_own : (b : Bool) → keep b x [] ≡ x ∷ [] → b ≡ true

@@ -1,37 +1,13 @@
 -- What a call of a channel on a disk did through a pass.
 use Rattle.std.specs.Prelude.{◌≡◌, ◌-◌, ◌^◌, ℕ, List, [], ◌∷◌, ◌++◌, length, Bool, true, false, not, Option, Result, Ok, Err}
 use Rattle.atomic_table.specs.Table.{Me}
+use Rattle.channel_face.specs.Keeps.{is_spent_open, mended}
 use Rattle.channel_face.specs.Machine.{Reopen, Reopened}
 use Rattle.channel_face.specs.History.{Opening, Step, opening, state_after, reopen_reply}
-use Rattle.channel_face.specs.declared.replies.Counter.TheVariants.{Calls as CallsCount}
-use Rattle.channel_face.specs.declared.replies.CheckRefused.{CheckRefused}
-use Rattle.channel_face.specs.declared.replies.CheckRefused.TheVariants as CheckNo
-use Rattle.channel_face.specs.declared.replies.PruneRefused.{PruneRefused}
-use Rattle.channel_face.specs.declared.replies.PruneRefused.TheVariants as PruneNo
 use Rattle.channel_face.specs.declared.replies.OpenCause.{OpenCause}
-use Rattle.channel_face.specs.declared.replies.OpenCause.TheVariants as OpenNo
 use Rattle.turn_passes.specs.Views.{View}
 use Rattle.shared_channel.specs.Counting.{Keeps}
 use Rattle.shared_channel.specs.Calls.{step, made_if, state_seen, Bounds, Makes, Answers, Looks}
-
--- the replies of a call that was not made because no more calls are counted
-
-abbrev pub is_spent_check : Result (Unit {0}) CheckRefused → Bool
-is_spent_check (Err (CheckNo.Spent CallsCount)) = true
-is_spent_check reply = false
-
-abbrev pub is_spent_prune : Result ℕ PruneRefused → Bool
-is_spent_prune (Err (PruneNo.Spent CallsCount)) = true
-is_spent_prune reply = false
-
-abbrev pub is_spent_open : Result (Unit {0}) OpenCause → Bool
-is_spent_open (Err (OpenNo.Spent CallsCount)) = true
-is_spent_open reply = false
-
--- what a mend answers of its reopen
-abbrev pub mended : Result (Unit {0}) OpenCause → Result Bool OpenCause
-mended (Ok done) = Ok true
-mended (Err cause) = Err cause
 
 -- how many calls a reply stands for
 abbrev pub calls_of : Bool → ℕ

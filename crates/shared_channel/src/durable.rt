@@ -3,7 +3,8 @@ ghost use Rattle.std.specs.Prelude.{◌≡◌, ◌^◌, ◌-◌, length, true, n
 ghost use Rattle.channel_face.specs.Machine.{Checkpoint, Prune};
 ghost use Rattle.turn_passes.specs.Calls.{has};
 ghost use Rattle.shared_channel.specs.Calls.{IsIn, Makes, Bounds, Answers, made_if, step};
-ghost use Rattle.shared_channel.specs.Durables.{MakesReopen, MakesMended, Reopens, Mends, is_spent_check, is_spent_prune, is_spent_open};
+ghost use Rattle.channel_face.specs.Keeps.{is_spent_check, is_spent_prune, is_spent_open};
+ghost use Rattle.shared_channel.specs.Durables.{MakesReopen, MakesMended, Reopens, Mends};
 
 use crate::home::Home;
 use crate::making::MOST;

@@ -4,6 +4,7 @@
 mod durable;
 mod group;
 mod home;
+mod keeper;
 mod looks;
 mod making;
 mod pass;

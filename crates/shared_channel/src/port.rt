@@ -14,10 +14,11 @@ use std::sync::ledger::Ledger;
 
 /// What a source or a sink has of a shared channel. A call of a transaction takes a turn of its own, and a staged transaction
 /// is settled in a further turn, where a flush of another caller may have settled it already; no clause counts the turns.
+#[derive(Drop)]
 pub struct Port<'a, R, C: Channel> {
-    rt: &'a R,
-    shared: &'a Shared<C>,
-    pass: Pass,
+    pub(crate) rt: &'a R,
+    pub(crate) shared: &'a Shared<C>,
+    pub(crate) pass: Pass,
     ghost same: { pass.table_id ≡ shared.now.turn.table.shared.table_id },
 }
 

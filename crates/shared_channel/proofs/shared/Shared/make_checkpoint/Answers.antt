@@ -1,6 +1,6 @@
 use Rattle.std.proofs.Common.{rules, refl, sym, ap, subst, not, Bool, length, ◌^◌, ◌-◌}
 use Rattle.channel_face.specs.Machine.{Checkpoint}
-use Rattle.shared_channel.specs.Durables.{is_spent_check}
+use Rattle.channel_face.specs.Keeps.{is_spent_check}
 use Rattle.shared_channel.specs.Calls.{state_seen, Bounds}
 use Rattle.shared_channel.proofs.Keeping.{answered_by}
 use Rattle.shared_channel.proofs.Turning.{makes_none, makes_one}

@@ -2,7 +2,7 @@ use Rattle.std.proofs.Common.{rules, ◌≡◌, [], ◌∷◌, subst, true}
 use Rattle.channel_face.specs.Machine.{Prune}
 use Rattle.turn_passes.specs.Calls.{has}
 use Rattle.shared_channel.specs.Calls.{Answers}
-use Rattle.shared_channel.specs.Durables.{is_spent_prune}
+use Rattle.channel_face.specs.Keeps.{is_spent_prune}
 use Rattle.shared_channel.specs.Passes.{Known, view_of}
 use Rattle.shared_channel.proofs.Turning.{answers, pass_after, of_views}
 use Rattle.shared_channel.proofs.shared.Shared.prune.Goals as goal

@@ -1,0 +1,67 @@
+// A port as those see it who keep the channel in order.
+ghost use Rattle.std.specs.Prelude.{◌≡◌, ◌≤◌, length};
+ghost use Rattle.channel_face.specs.Faces.{Gains};
+ghost use Rattle.channel_face.specs.Keeps.{IsCheck, IsLook, IsMend, IsPrune};
+ghost use Rattle.shared_channel.specs.Ports.{AreOwned, Later, Saw};
+
+use crate::port::Port;
+use channel_face::{CheckRefused, Durable, KeepFace, OpenCause, PruneRefused};
+use flume_host::Steps;
+use std::sync::Wait;
+use std::sync::ledger::Ledger;
+
+impl<'a, R: Wait, C: Durable> KeepFace for Port<'a, R, C> {
+    ghost use Rattle.std.specs.Prelude.{length};
+    ghost use Rattle.shared_channel.specs.Ports.{AreOwned, Later, Saw, later_none, later_then};
+
+    ghost own = { λ p. AreOwned p.pass.view };
+
+    ghost saw = { λ p. Saw C.stands p.pass.view };
+
+    ghost seen = { λ p. length p.pass.view.seen };
+
+    ghost kept = { λ p q. Later p.pass q.pass };
+
+    ghost on_disk = { λ p. Unit {0} };
+
+    ghost kept_none = { λ p. later_none p.pass };
+
+    ghost kept_then = { λ p q r. later_then p.pass q.pass r.pass };
+
+    fn mend<L: Ledger>(&mut self, steps: &mut Steps<L>) -> Result<bool, OpenCause>
+        ensures seen { length self.old.pass.view.seen ≤ length self.new.pass.view.seen }
+        ensures calls { Gains (AreOwned self.old.pass.view) (AreOwned self.new.pass.view)
+            (IsMend (Unit {0}) (Saw C.stands self.new.pass.view)
+            (length self.new.pass.view.seen) result) }
+        ensures kept { Later self.old.pass self.new.pass }
+    {
+        self.shared.mend(self.rt, &mut self.pass, steps)
+    }
+
+    fn checkpoint(&mut self) -> Result<(), CheckRefused>
+        ensures seen { length self.old.pass.view.seen ≤ length self.new.pass.view.seen }
+        ensures calls { Gains (AreOwned self.old.pass.view) (AreOwned self.new.pass.view)
+            (λ earlier. IsCheck (length self.new.pass.view.seen) result) }
+        ensures kept { Later self.old.pass self.new.pass }
+    {
+        self.shared.checkpoint(self.rt, &mut self.pass)
+    }
+
+    fn prune(&mut self) -> Result<u64, PruneRefused>
+        ensures seen { length self.old.pass.view.seen ≤ length self.new.pass.view.seen }
+        ensures calls { Gains (AreOwned self.old.pass.view) (AreOwned self.new.pass.view)
+            (λ earlier. IsPrune (length self.new.pass.view.seen) result) }
+        ensures kept { Later self.old.pass self.new.pass }
+    {
+        self.shared.prune(self.rt, &mut self.pass)
+    }
+
+    fn size(&mut self) -> u64
+        ensures seen { length self.old.pass.view.seen ≤ length self.new.pass.view.seen }
+        ensures calls { Gains (AreOwned self.old.pass.view) (AreOwned self.new.pass.view)
+            (IsLook (Saw C.stands self.new.pass.view) (λ s. result ≡ length s.items)) }
+        ensures kept { Later self.old.pass self.new.pass }
+    {
+        self.shared.size(self.rt, &mut self.pass)
+    }
+}
