@@ -1,0 +1,48 @@
+// One round of a sink's worker.
+ghost use Rattle.std.specs.Prelude.{◌≡◌};
+ghost use Rattle.sink_worker.specs.Rounds.{Round, TurnsOnce, MendsOnce};
+ghost use Rattle.sink_worker.specs.Workers.{taking};
+
+use crate::answers::needs_mend;
+use crate::worker::SinkWorker;
+use channel_face::{KeepFace, TakeFace, mend};
+use flume_host::Clock;
+use plug_in::EventSink;
+use sink_runner::{Turn, drain_turn};
+
+impl<F: TakeFace + KeepFace, S: EventSink, C: Clock> SinkWorker<F, S, C> {
+    // One run of the sink at the next moment.
+    fn run_once(&mut self) -> Turn
+        ensures turns { TurnsOnce ⟦<F as TakeFace>⟧.own ⟦<F as TakeFace>⟧.saw ⟦<F as TakeFace>⟧.seen
+            ⟦<F as TakeFace>⟧.kept S.delivers self.old.batch
+            (taking C.moments self.old) result (taking C.moments self.new) }
+        ensures same { (self.new.place ≡ self.old.place) × (self.new.batch ≡ self.old.batch) }
+    {
+        let moment = self.clock.now();
+        drain_turn(
+            self.alloc,
+            &mut self.port,
+            &mut self.sink,
+            self.batch,
+            moment,
+        )
+    }
+
+    /// One run of the sink, and a mend of its channel where the run met a broken one or left its
+    /// commit in doubt.
+    pub(crate) fn round(&mut self) -> Turn
+        ensures round { Round
+            (TurnsOnce ⟦<F as TakeFace>⟧.own ⟦<F as TakeFace>⟧.saw ⟦<F as TakeFace>⟧.seen ⟦<F as TakeFace>⟧.kept
+            S.delivers self.old.batch)
+            (MendsOnce ⟦<F as KeepFace>⟧.own ⟦<F as KeepFace>⟧.saw ⟦<F as KeepFace>⟧.seen ⟦<F as KeepFace>⟧.kept
+            ⟦<F as KeepFace>⟧.on_disk)
+            (taking C.moments self.old) result (taking C.moments self.new) }
+        ensures same { (self.new.place ≡ self.old.place) × (self.new.batch ≡ self.old.batch) }
+    {
+        let turn = self.run_once();
+        if needs_mend(&turn) {
+            let _mended = mend(&mut self.port);
+        }
+        turn
+    }
+}
