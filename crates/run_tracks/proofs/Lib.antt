@@ -1,0 +1,4 @@
+pub mod Moving
+pub mod Homing
+pub mod Tracking
+pub mod Telling

@@ -1,0 +1,15 @@
+use Rattle.std.proofs.Common.{◌≡◌, ℕ, List, ◌++◌, length}
+use Rattle.run_tracks.specs.Homes.{AreHomes, EachTook}
+use Rattle.run_tracks.specs.Places.{AreAt, TookEach}
+use Rattle.run_tracks.proofs.bring.end_ports.Given as goal
+
+abbrev pub invariant-loop-port : goal.invariant-loop-port
+invariant-loop-port g l = record {
+  homes : AreHomes (λ s. s.turn.table.shared.table_id) l.shares l.homes;
+  kept : EachTook l.fn.homes l.homes;
+  at : AreAt (λ s. s.turn.table.shared.table_id) l.shares g.F.Carries.pass l.places.items l.left.items;
+  rest : (cs : List ℕ) × (ps : List g.row.F.Denot) × (l.fn.channels.items ≡ l.places.items ++ cs) × (l.fn.ports.items ≡ l.left.items ++ ps) × TookEach l.homes g.F.Carries.pass cs ps;
+}
+
+abbrev pub decreases-loop-port : goal.decreases-loop-port
+decreases-loop-port g l = length l.left.items

@@ -1,0 +1,71 @@
+-- What is known of a worker once all passes are joined.
+use Rattle.std.specs.Prelude.{◌≡◌, ℕ, List, [], ◌∷◌, length, Result}
+use mathlib.Core.List.{IsPrefix}
+use Rattle.event_core.specs.Content.{Content}
+use Rattle.channel_face.specs.Faces.{Own}
+use Rattle.channel_face.specs.History.{Opening, Step}
+use Rattle.channel_face.specs.Machine.{State}
+use Rattle.plug_in.specs.declared.sink.SinkRefused.{SinkRefused}
+use Rattle.selectors.specs.declared.selector.Selector.{Selector}
+use Rattle.shared_channel.specs.Calls.{state_seen}
+use Rattle.shared_channel.specs.Passes.{Known}
+use Rattle.shared_channel.specs.Ports.{AreOwned, Later, Saw, owned}
+use Rattle.sink_runner.specs.declared.turn.Turn.{Turn}
+use Rattle.sink_worker.specs.Rounds.{MendsOnce, Rounds, Taking, TurnsOnce}
+use Rattle.source_put.specs.Chains.{Meaning}
+use Rattle.source_put.specs.Routes.{Accepts, Route}
+use Rattle.source_put.specs.Tries.{Puts}
+use Rattle.source_put.specs.declared.chain.HostNames.{HostNames}
+use Rattle.source_put.specs.declared.intake.Verdict.{Verdict}
+use Rattle.run_tracks.specs.Homes.{Took}
+use Rattle.run_tracks.specs.Places.{Zips}
+use Rattle.run_tracks.specs.Tracks.{Gave, Mended, Track, Turned, ended, track_of}
+
+-- what a face saw is of its pass, and after some calls it has the same pass, later
+pub record IsFace {F : Type 0} (pass : F → Known) (saw : F → List Own → State → Type 0) (kept : F → F → Type 0) : Type 0 where
+  pub saws : (q : F) (own : List Own) (s : State) → saw q own s → (owned (pass q).view ≡ own) × (state_seen (pass q).view ≡ s)
+  pub laters : (p q : F) → kept p q → Later (pass p) (pass q)
+
+-- a pass is where a track is
+pub record Matches (q : Known) (t : Track) : Type 0 where
+  pub numbers : q.view.numbers ≡ t.number ∷ []
+  pub start : q.view.base ≡ t.start
+  pub own : owned q.view ≡ t.own
+  pub within : IsPrefix q.view.seen t.whole
+
+-- a pass with one number that has made no call
+abbrev pub IsNew : Known → Type 0
+IsNew pass = (pass.view.numbers ≡ pass.number ∷ []) × (owned pass.view ≡ [])
+
+-- a track that differs in its own calls alone
+abbrev pub IsBehind : Track → Track → Type 0
+IsBehind u t = u ≡ record t { own = u.own }
+
+module _ {F : Type 0} (pass : F → Known) {C : Type 0} (stands : C → Opening → List Step → Type 0) where
+  -- the rounds of a sink whose port has this pass
+  abbrev pub PortRounds : {S : Type 0} → (S → List Content → ℕ → Result (Unit {0}) SinkRefused → S → Type 0) → ℕ → Type 0 → List Turn → Taking F S → Taking F S → Type 0
+  PortRounds delivers batch OnDisk =
+      Rounds
+      (TurnsOnce (λ p. AreOwned (pass p).view) (λ p. Saw stands (pass p).view) (λ p. length (pass p).view.seen) (λ p q. Later (pass p) (pass q)) delivers batch)
+      (MendsOnce (λ p. AreOwned (pass p).view) (λ p. Saw stands (pass p).view) (λ p. length (pass p).view.seen) (λ p q. Later (pass p) (pass q)) (λ p. OnDisk))
+
+  -- Rounds that a sink made through a port are, once its pass is at home, all calls with its number in the whole history, in
+  -- order and no others.
+  abbrev pub RoundsAreInTrack : {S : Type 0} → (S → List Content → ℕ → Result (Unit {0}) SinkRefused → S → Type 0) → Type 0 → Type 0
+  RoundsAreInTrack {S} delivers OnDisk =
+      (batch : ℕ) (turns : List Turn) (old new : Taking F S) (home : Known)
+      → IsNew (pass old.from) → Took home (pass new.from) → PortRounds delivers batch OnDisk turns old new
+      → let track = track_of home (pass old.from).number in
+      Rounds (Turned delivers batch) (Mended OnDisk) turns
+      (record { from = track; sink = old.sink; moments = old.moments })
+      (record { from = ended track; sink = new.sink; moments = new.moments })
+
+  -- A batch that a source put through its ports is in their tracks: where these stand at the tracks after it, there are tracks
+  -- before it that differ in their own calls alone, and the batch was accepted from the ones to the others.
+  abbrev pub BatchIsInTracks : {B : Type 0} → Meaning B → Type 0
+  BatchIsInTracks {B} Means =
+      (selector : Selector) (host : HostNames) (moment : ℕ) (old new : Route F B) (batch : List Content) (verdict : Verdict) (after : List Track)
+      → Zips (λ port t. Matches (pass port) t) new.ports after
+      → Accepts (Puts (λ p. AreOwned (pass p).view) (λ p. Saw stands (pass p).view) (λ p. length (pass p).view.seen) (λ p q. Later (pass p) (pass q))) selector Means moment host old batch verdict new
+      → (before : List Track) × Zips (λ port t. Matches (pass port) t) old.ports before × Zips IsBehind before after
+      × Accepts Gave selector Means moment host (record { links = old.links; ports = before }) batch verdict (record { links = new.links; ports = after })
