@@ -2,9 +2,9 @@
 ghost use Rattle.run_tracks.specs.Dealt.{EveryNumberIsHome};
 ghost use Rattle.run_tracks.specs.Told.{BatchIsInTracks, RoundsAreInTrack};
 
-use crate::bring::Carries;
 use channel_face::Channel;
 use plug_in::{EventSink, Interceptor};
+use shared_channel::Carries;
 
 /// What a sink's worker did through its port is, once its pass is at home, all calls with its number in the whole history of
 /// the channel: its rounds, in order and no others. It is so of a channel on a disk, and of one that is not.

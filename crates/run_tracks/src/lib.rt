@@ -5,6 +5,6 @@ mod bring;
 mod close;
 mod laws;
 
-pub use bring::{Carries, bring_home, end_ports};
+pub use bring::{bring_home, end_ports};
 pub use close::close_all;
 pub use laws::{batch_is_in_tracks, every_number_is_home, rounds_are_in_track};

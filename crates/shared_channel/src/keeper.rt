@@ -5,10 +5,22 @@ ghost use Rattle.channel_face.specs.Keeps.{IsCheck, IsLook, IsMend, IsPrune};
 ghost use Rattle.shared_channel.specs.Ports.{AreOwned, Later, Saw};
 
 use crate::port::Port;
-use channel_face::{CheckRefused, Durable, KeepFace, OpenCause, PruneRefused};
+use channel_face::{Channel, CheckRefused, Durable, KeepFace, OpenCause, PruneRefused};
 use flume_host::Steps;
 use std::sync::Wait;
 use std::sync::ledger::Ledger;
+
+impl<'a, R: Wait, C: Channel> Port<'a, R, C> {
+    /// How many events are left. It is no call.
+    pub fn events_left(&mut self) -> u64
+        ensures seen { length self.old.pass.view.seen ≤ length self.new.pass.view.seen }
+        ensures calls { Gains (AreOwned self.old.pass.view) (AreOwned self.new.pass.view)
+            (IsLook (Saw C.stands self.new.pass.view) (λ s. result ≡ length s.items)) }
+        ensures kept { Later self.old.pass self.new.pass }
+    {
+        self.shared.size(self.rt, &mut self.pass)
+    }
+}
 
 impl<'a, R: Wait, C: Durable> KeepFace for Port<'a, R, C> {
     ghost use Rattle.std.specs.Prelude.{length};
@@ -62,6 +74,6 @@ impl<'a, R: Wait, C: Durable> KeepFace for Port<'a, R, C> {
             (IsLook (Saw C.stands self.new.pass.view) (λ s. result ≡ length s.items)) }
         ensures kept { Later self.old.pass self.new.pass }
     {
-        self.shared.size(self.rt, &mut self.pass)
+        self.events_left()
     }
 }

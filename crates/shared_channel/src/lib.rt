@@ -1,6 +1,7 @@
 //! A channel that threads share: any channel behind one turn, many callers, one legal history.
 #![tactic(auto)]
 
+mod carries;
 mod durable;
 mod group;
 mod home;
@@ -13,6 +14,7 @@ mod puts;
 mod shared;
 mod takes;
 
+pub use carries::{Carries, Joins};
 pub use looks::Look;
 pub use pass::{Closed, Pass, Unshared};
 pub use port::Port;

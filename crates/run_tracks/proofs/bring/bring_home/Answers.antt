@@ -10,7 +10,7 @@ join_pass-requires g c =
     let share = c.index-shares-place in
     let below : c.args.place < length c.args.homes.now = let e = c.requires.homes.as_many in let l = c.requires.pass.below in omega arith in
     let at = c.requires.homes.each c.args.place c.index-homes-place.result below in
-    (at.here share.result ∙ ap (λ s. s.turn.table.shared.table_id) (sym share.is), c.requires.pass.here share.result ∙ ap (λ s. s.turn.table.shared.table_id) (sym share.is))
+    (at.here share.result ∙ ap g.S.Joins.table (sym share.is), c.requires.pass.here share.result ∙ ap g.S.Joins.table (sym share.is))
 
 pub returns : goal.returns
 returns g c =

@@ -1,7 +1,6 @@
 use Rattle.std.proofs.Common.{◌≡◌, ◌∙◌, ℕ, List, [], ◌∷◌, ◌++◌, sym, ap, subst, append_assoc, rules}
 use Rattle.std.proofs.lemmas.List.{append-nil}
 use Rattle.shared_channel.specs.Passes.{Known}
-use Rattle.shared_channel.specs.declared.shared.Shared.{Shared}
 use Rattle.run_tracks.specs.Homes.{IsAt, TookAt}
 use Rattle.run_tracks.specs.Places.{Zips, TookEach}
 use Rattle.run_tracks.proofs.Homing.{each_took_self, each_took_then, took_each_later, zips-append, zips_none}
@@ -17,10 +16,10 @@ loop-port-init g c = record {
 
 pub bring_home-requires-clause-pass : goal.bring_home-requires-clause-pass
 bring_home-requires-clause-pass g c =
-    let R = λ (place : ℕ) (port : g.row.F.Denot). IsAt (λ (s : Shared g.row.C.Denot). s.turn.table.shared.table_id) c.args.shares.now place (g.F.Carries.pass port) in
+    let R = λ (place : ℕ) (port : g.row.F.Denot). IsAt g.S.Joins.table c.args.shares.now place (g.F.Carries.pass port) in
     let z = zips-append R c.pop-in-Some.new.self.items c.pop.new.self.items c.in-Some-pop.place c.in-Some.port
     (subst (λ (x : List ℕ × List g.row.F.Denot). Zips R x.0 x.1) (λ i. (c.in-Some-pop.ensures.items i, c.in-Some.ensures.items i)) c.loop-port.invariant.at) in
-    subst (λ (p : Known). IsAt (λ (s : Shared g.row.C.Denot). s.turn.table.shared.table_id) c.args.shares.now c.in-Some-pop.place p) (sym c.into_pass.ensures) z.1
+    subst (λ (p : Known). IsAt g.S.Joins.table c.args.shares.now c.in-Some-pop.place p) (sym c.into_pass.ensures) z.1
 
 pub loop-port-preserved : goal.loop-port-preserved
 loop-port-preserved g c =
@@ -32,7 +31,7 @@ loop-port-preserved g c =
     let cs = inv.rest.0 in
     let ps = inv.rest.1 in
     let new = c.bring_home.new.homes in
-    let R = λ (place : ℕ) (port : g.row.F.Denot). IsAt (λ (s : Shared g.row.C.Denot). s.turn.table.shared.table_id) c.args.shares.now place (g.F.Carries.pass port) in
+    let R = λ (place : ℕ) (port : g.row.F.Denot). IsAt g.S.Joins.table c.args.shares.now place (g.F.Carries.pass port) in
     let z = zips-append R places left place port (subst (λ (x : List ℕ × List g.row.F.Denot). Zips R x.0 x.1) (λ i. (c.in-Some-pop.ensures.items i, c.in-Some.ensures.items i)) inv.at) in
     record {
       homes = c.bring_home.ensures.homes;
@@ -51,6 +50,6 @@ pub returns-clause-took : goal.returns-clause-took
 returns-clause-took g c =
     let inv = c.loop-port.invariant in
     let none : c.loop-port.left.items ≡ [] = search rules in
-    let nowhere : c.loop-port.places.items ≡ [] = zips_none (λ (place : ℕ) (port : g.row.F.Denot). IsAt (λ (s : Shared g.row.C.Denot). s.turn.table.shared.table_id) c.args.shares.now place (g.F.Carries.pass port)) c.loop-port.places.items c.loop-port.left.items inv.at none in
+    let nowhere : c.loop-port.places.items ≡ [] = zips_none (λ (place : ℕ) (port : g.row.F.Denot). IsAt g.S.Joins.table c.args.shares.now place (g.F.Carries.pass port)) c.loop-port.places.items c.loop-port.left.items inv.at none in
     subst (λ (x : List ℕ × List g.row.F.Denot). TookEach c.loop-port.homes g.F.Carries.pass x.0 x.1)
     (λ i. (sym (inv.rest.2 ∙ ap (λ (l : List ℕ). l ++ inv.rest.0) nowhere) i, sym (inv.rest.3 ∙ ap (λ (l : List g.row.F.Denot). l ++ inv.rest.1) none) i)) inv.rest.4

@@ -5,9 +5,9 @@ use Rattle.run_tracks.proofs.bring.end_ports.Given as goal
 
 abbrev pub invariant-loop-port : goal.invariant-loop-port
 invariant-loop-port g l = record {
-  homes : AreHomes (λ s. s.turn.table.shared.table_id) l.shares l.homes;
+  homes : AreHomes g.S.Joins.table l.shares l.homes;
   kept : EachTook l.fn.homes l.homes;
-  at : AreAt (λ s. s.turn.table.shared.table_id) l.shares g.F.Carries.pass l.places.items l.left.items;
+  at : AreAt g.S.Joins.table l.shares g.F.Carries.pass l.places.items l.left.items;
   rest : (cs : List ℕ) × (ps : List g.row.F.Denot) × (l.fn.channels.items ≡ l.places.items ++ cs) × (l.fn.ports.items ≡ l.left.items ++ ps) × TookEach l.homes g.F.Carries.pass cs ps;
 }
 

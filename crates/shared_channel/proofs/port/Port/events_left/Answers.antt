@@ -4,7 +4,7 @@ use Rattle.channel_face.specs.Faces.{Own}
 use Rattle.shared_channel.specs.Ports.{Saw, WentBy}
 use Rattle.shared_channel.proofs.Porting.{gains, goes_grows, later}
 use Rattle.shared_channel.proofs.Mending.{looked}
-use Rattle.shared_channel.proofs.keeper.PortKeepFace.size.Goals as goal
+use Rattle.shared_channel.proofs.port.Port.events_left.Goals as goal
 
 pub returns-clause-seen : goal.returns-clause-seen
 returns-clause-seen g c =
