@@ -108,11 +108,11 @@ module _ (saw saw' : List Own → State → Type 0) (seen seen' : ℕ) (more : s
   reopened : (result : Result Bool OpenCause) (e e' own : List Own) → Goes e e' → IsReopened saw seen result e own → IsReopened saw' seen' result e' own
   reopened result e e' own go (reply, kept, s, at, broken, m, is) = (reply, kept, s, found e e' own s go at, broken, made (is_spent_open reply) (Reopen (reopen_reply reply kept)) s own m, is)
 
-  -- a mend
-  pub mend : (OnDisk : Type 0) (result : Result Bool OpenCause) (e e' own : List Own) → Goes e e' → IsMend OnDisk saw seen result e own → IsMend OnDisk saw' seen' result e' own
-  mend OnDisk (Ok false) e e' own go (none, look_at) = (none, λ on. look (λ s. s.broken ≡ false) e e' own go (look_at on))
-  mend OnDisk (Ok true) e e' own go (on, did) = (on, reopened (Ok true) e e' own go did)
-  mend OnDisk (Err cause) e e' own go (on, did) = (on, reopened (Err cause) e e' own go did)
+  -- a mend, of a channel that is on a disk in both words
+  pub mend : (X D : Type 0) → (X → D) → (D → X) → (result : Result Bool OpenCause) (e e' own : List Own) → Goes e e' → IsMend X saw seen result e own → IsMend D saw' seen' result e' own
+  mend X D to back (Ok false) e e' own go (none, look_at) = (none, λ on. look (λ s. s.broken ≡ false) e e' own go (look_at (back on)))
+  mend X D to back (Ok true) e e' own go (on, did) = (to on, reopened (Ok true) e e' own go did)
+  mend X D to back (Err cause) e e' own go (on, did) = (to on, reopened (Err cause) e e' own go did)
 
   module _ {S : Type 0} (delivers : S → List Content → ℕ → Result (Unit {0}) SinkRefused → S → Type 0) where
     delivery : (token : Token) (events : List Content) (answer : Result (Unit {0}) SinkRefused) (turn : Turn) (e e' own : List Own) → Goes e e' → EndsDelivery saw seen token events answer turn e own → EndsDelivery saw' seen' token events answer turn e' own

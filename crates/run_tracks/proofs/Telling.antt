@@ -1,35 +1,63 @@
 -- What is known of workers once all passes are joined.
-use Rattle.std.proofs.Common.{◌∙◌, ◌<◌, ◌⊎◌, inl, inr, ℕ, List, length, get_or, Result, subst, arith}
+use Rattle.std.proofs.Common.{◌≡◌, ◌∙◌, ◌<◌, ◌⊎◌, inl, inr, ℕ, List, length, get_or, Result, subst, arith}
 use Rattle.event_core.specs.Content.{Content}
 use Rattle.channel_face.specs.Faces.{Own}
 use Rattle.channel_face.specs.History.{Opening, Step}
 use Rattle.plug_in.specs.declared.sink.SinkRefused.{SinkRefused}
 use Rattle.shared_channel.specs.Passes.{Known}
-use Rattle.shared_channel.specs.Ports.{Later, Saw}
+use Rattle.channel_face.specs.Machine.{State}
+use Rattle.shared_channel.specs.Calls.{state_seen}
+use Rattle.shared_channel.specs.Ports.{Later, Saw, owned}
+use Rattle.two_channels.specs.Ports.{IsOnDisk, LaterPort, SawIn, pass_of}
+use Rattle.two_channels.specs.declared.port.EitherPort.{EitherPort}
+use Rattle.two_channels.specs.declared.port.EitherPort.TheVariants.{Disk, Memory}
 use Rattle.source_put.specs.Chains.{Meaning}
 use Rattle.sink_worker.specs.Rounds.{Rounds}
 use Rattle.run_tracks.specs.Dealt.{EveryNumberIsHome, HasNumber, Owner}
-use Rattle.run_tracks.specs.Told.{BatchIsInTracks, IsFace, Matches, RoundsAreInTrack}
+use Rattle.run_tracks.specs.Told.{BatchIsInTracks, IsFace, IsSteady, Matches, RoundsAreInTrack}
 use Rattle.run_tracks.specs.Tracks.{Mended, Turned, ended, track_of}
 use Rattle.run_tracks.proofs.Tracking.{accepts, matches_home, rounds, rounds_later}
 
-module _ {F : Type 0} (pass : F → Known) {C : Type 0} (stands : C → Opening → List Step → Type 0) where
-  port_face : IsFace pass (λ p. Saw stands (pass p).view) (λ p q. Later (pass p) (pass q))
-  port_face = record { saws = λ q own s saw. (saw.own_all, saw.state); laters = λ p q l. l }
-
-  pub rounds_in_track : {S : Type 0} (delivers : S → List Content → ℕ → Result (Unit {0}) SinkRefused → S → Type 0) (OnDisk : Type 0) → RoundsAreInTrack pass stands delivers OnDisk
-  rounds_in_track delivers OnDisk batch turns old new home fresh took ran =
+module _ {F : Type 0} (pass : F → Known) (saw : F → List Own → State → Type 0) (kept : F → F → Type 0) (face : IsFace pass saw kept) where
+  pub rounds_in_track : (on_disk : F → Type 0) → IsSteady kept on_disk → {S : Type 0} (delivers : S → List Content → ℕ → Result (Unit {0}) SinkRefused → S → Type 0) → RoundsAreInTrack pass saw kept on_disk delivers
+  rounds_in_track on_disk steady delivers batch turns old new home fresh took ran =
       let n = (pass old.from).number in
       let t = ended (track_of home n) in
-      let later = rounds_later pass (λ p. Saw stands (pass p).view) (λ p q. Later (pass p) (pass q)) port_face delivers batch OnDisk turns old new ran in
+      let D = on_disk old.from in
+      let later = rounds_later pass saw kept face delivers batch on_disk steady D turns old new ran in
       let m : Matches (pass new.from) t = matches_home home (pass new.from) n (later.numbers ∙ fresh.0) took in
-      let got = rounds pass (λ p. Saw stands (pass p).view) (λ p q. Later (pass p) (pass q)) port_face delivers batch OnDisk turns old new t m ran in
-      subst (λ (l : List Own). Rounds (Turned delivers batch) (Mended OnDisk) turns (record { from = record t { own = l }; sink = old.sink; moments = old.moments }) (record { from = t; sink = new.sink; moments = new.moments })) fresh.1 got.1
+      let got = rounds pass saw kept face delivers batch on_disk steady D turns old new t m (λ x. x, λ x. x) ran in
+      subst (λ (l : List Own). Rounds (Turned delivers batch) (Mended D) turns (record { from = record t { own = l }; sink = old.sink; moments = old.moments }) (record { from = t; sink = new.sink; moments = new.moments })) fresh.1 got.1
 
-  pub batch_in_tracks : {B : Type 0} (Means : Meaning B) → BatchIsInTracks pass stands Means
+  pub batch_in_tracks : {B : Type 0} (Means : Meaning B) → BatchIsInTracks pass saw kept Means
   batch_in_tracks Means selector host moment old new batch verdict after m accepted =
-      let before = accepts pass (λ p. Saw stands (pass p).view) (λ p q. Later (pass p) (pass q)) port_face Means selector host moment old new batch verdict after m accepted in
+      let before = accepts pass saw kept face Means selector host moment old new batch verdict after m accepted in
       (before.us, before.all, before.behind, before.holds)
+
+-- a port's words
+pub port_face : {F : Type 0} (pass : F → Known) {C : Type 0} (stands : C → Opening → List Step → Type 0) → IsFace pass (λ p. Saw stands (pass p).view) (λ p q. Later (pass p) (pass q))
+port_face pass stands = record { saws = λ q own s saw. (saw.own_all, saw.state); laters = λ p q l. l }
+
+-- those of a port of either kind
+
+either_saws : {R A B : Type 0} (disk : A → Opening → List Step → Type 0) (memory : B → Opening → List Step → Type 0) (q : EitherPort R A B) (own : List Own) (s : State) → SawIn disk memory q own s → (owned (pass_of q).view ≡ own) × (state_seen (pass_of q).view ≡ s)
+either_saws disk memory (Disk q) own s saw = (saw.own_all, saw.state)
+either_saws disk memory (Memory q) own s saw = (saw.own_all, saw.state)
+
+either_laters : {R A B : Type 0} (p q : EitherPort R A B) → LaterPort p q → Later (pass_of p) (pass_of q)
+either_laters (Disk p) (Disk q) l = l
+either_laters (Disk p) (Memory q) l = absurd l
+either_laters (Memory p) (Disk q) l = absurd l
+either_laters (Memory p) (Memory q) l = l
+
+pub either_face : {R A B : Type 0} (disk : A → Opening → List Step → Type 0) (memory : B → Opening → List Step → Type 0) → IsFace {F = EitherPort R A B} pass_of (SawIn disk memory) LaterPort
+either_face disk memory = record { saws = either_saws disk memory; laters = either_laters }
+
+pub either_steady : {R A B : Type 0} → IsSteady {F = EitherPort R A B} LaterPort IsOnDisk
+either_steady (Disk p) (Disk q) l = (λ x. x, λ x. x)
+either_steady (Disk p) (Memory q) l = absurd l
+either_steady (Memory p) (Disk q) l = absurd l
+either_steady (Memory p) (Memory q) l = (λ x. x, λ x. x)
 
 -- once all passes are joined, those at home have each number
 pub number_home : EveryNumberIsHome

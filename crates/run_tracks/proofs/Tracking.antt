@@ -18,7 +18,7 @@ use Rattle.selectors.specs.Choices.{required, optional}
 use Rattle.selectors.specs.declared.selector.Selector.{Selector}
 use Rattle.source_put.specs.Accepts.{Gives, Judges, events_for}
 use Rattle.source_put.specs.Chains.{Meaning}
-use Rattle.source_put.specs.Tries.{Puts, Tries, Follows, Requires, Offers, Ends}
+use Rattle.source_put.specs.Tries.{Tries, Follows, Requires, Offers, Ends}
 use Rattle.source_put.specs.declared.chain.HostNames.{HostNames}
 use Rattle.source_put.specs.declared.chain.Stopped.{Stopped}
 use Rattle.source_put.specs.declared.chain.Stopped.TheVariants as stop
@@ -30,7 +30,7 @@ use Rattle.sink_worker.specs.Answers.{needs_mend}
 use Rattle.sink_worker.specs.Rounds.{MendsIf, MendsOnce, Round, Rounds, Taking, TurnsOnce}
 use Rattle.run_tracks.specs.Homes.{Took}
 use Rattle.run_tracks.specs.Places.{Zips}
-use Rattle.run_tracks.specs.Told.{IsBehind, IsFace, Matches}
+use Rattle.run_tracks.specs.Told.{IsBehind, IsFace, IsSteady, Matches, PortPuts}
 use Rattle.run_tracks.specs.Tracks.{Track, track_of, ended, Stood, Gave, Turned, Mended}
 use Rattle.run_tracks.proofs.Homing.{prefix_then}
 use Rattle.run_tracks.proofs.Moving.{batch, mend, turned}
@@ -90,10 +90,7 @@ module _ {F : Type 0} (pass : F → Known) (saw : F → List Own → State → T
   abbrev pub port_seen : F → ℕ
   port_seen p = length (pass p).view.seen
 
-  abbrev pub PortPuts : F → F → List Content → Result ℕ FaceRefused → Type 0
-  PortPuts = Puts port_own saw port_seen kept
-
-  gave : (p q : F) (t : Track) (events : List Content) (result : Result ℕ FaceRefused) → Matches (pass q) t → PortPuts p q events result → Gave (back (pass p) t) t events result
+  gave : (p q : F) (t : Track) (events : List Content) (result : Result ℕ FaceRefused) → Matches (pass q) t → (PortPuts pass saw kept) p q events result → Gave (back (pass p) t) t events result
   gave p q t events result m put =
       let at = put.calls (pass p).view.base [] (owned (pass p).view) (refl, refl, refl) in
       let all : owned (pass p).view ++ at.0 ≡ t.own = at.1.2 ∙ m.own in
@@ -121,11 +118,11 @@ module _ {F : Type 0} (pass : F → Known) (saw : F → List Own → State → T
   before_none : (ps : List F) (ts : List Track) (P : List Track → Type 0) → AllMatch ps ts → P ts → Before ps ts P
   before_none ps ts P m holds = record { us = ts; all = m; behind = behind_self ts; holds = holds }
 
-  tries : (events : List Content) (p q : F) (t : Track) (reply : Result (Unit {0}) FaceRefused) → Matches (pass q) t → Tries PortPuts events p q reply → (u : Track) × Matches (pass p) u × IsBehind u t × Tries Gave events u t reply
+  tries : (events : List Content) (p q : F) (t : Track) (reply : Result (Unit {0}) FaceRefused) → Matches (pass q) t → Tries (PortPuts pass saw kept) events p q reply → (u : Track) × Matches (pass p) u × IsBehind u t × Tries Gave events u t reply
   tries [] p q t reply m (is, same) = (t, subst (λ (x : F). Matches (pass x) t) same m, refl, (is, refl))
   tries (event ∷ events) p q t reply m (result, put, is) = (back (pass p) t, matches_back (pass p) (pass q) t (face.laters p q put.same) m, refl, (result, gave p q t (event ∷ events) result m put, is))
 
-  requires : (events : ℕ → List Content) (place : ℕ) (olds : List F) (refusal : Option Refusal) (news : List F) (ts : List Track) → AllMatch news ts → Requires PortPuts events place olds refusal news → Before olds ts (λ us. Requires Gave events place us refusal ts)
+  requires : (events : ℕ → List Content) (place : ℕ) (olds : List F) (refusal : Option Refusal) (news : List F) (ts : List Track) → AllMatch news ts → Requires (PortPuts pass saw kept) events place olds refusal news → Before olds ts (λ us. Requires Gave events place us refusal ts)
   requires events place [] refusal news [] m (is, none) = before_none [] [] (λ us. Requires Gave events place us refusal []) tt (is, refl)
   requires events place [] refusal news (t ∷ ts) m (is, none) = absurd (subst (λ (l : List F). AllMatch l (t ∷ ts)) none m)
   requires events place (old ∷ olds) refusal news [] m (new, others, reply, split, tried, follows) = absurd (subst (λ (l : List F). AllMatch l []) split m)
@@ -135,12 +132,12 @@ module _ {F : Type 0} (pass : F → Known) (saw : F → List Own → State → T
       let rest = follow here.1 (λ more. requires events (suc place) olds refusal others ts here.1 more) reply follows in
       record { us = first.0 ∷ rest.us; all = (first.1, rest.all); behind = (first.2, rest.behind); holds = (t, ts, reply, refl, first.3, rest.holds) }
     where
-      follow : AllMatch others ts → (Requires PortPuts events (suc place) olds refusal others → Before olds ts (λ us. Requires Gave events (suc place) us refusal ts)) → (reply : Result (Unit {0}) FaceRefused)
-          → Follows PortPuts reply place refusal olds others (Requires PortPuts events (suc place) olds refusal others) → Before olds ts (λ us. Follows Gave reply place refusal us ts (Requires Gave events (suc place) us refusal ts))
+      follow : AllMatch others ts → (Requires (PortPuts pass saw kept) events (suc place) olds refusal others → Before olds ts (λ us. Requires Gave events (suc place) us refusal ts)) → (reply : Result (Unit {0}) FaceRefused)
+          → Follows (PortPuts pass saw kept) reply place refusal olds others (Requires (PortPuts pass saw kept) events (suc place) olds refusal others) → Before olds ts (λ us. Follows Gave reply place refusal us ts (Requires Gave events (suc place) us refusal ts))
       follow m go (Ok done) more = go more
       follow m go (Err cause) (is, same) = before_none olds ts (λ us. Follows Gave (Err cause) place refusal us ts (Requires Gave events (suc place) us refusal ts)) (subst (λ (l : List F). AllMatch l ts) same m) (is, refl)
 
-  offers : (events : ℕ → List Content) (place : ℕ) (olds news : List F) (ts : List Track) → AllMatch news ts → Offers PortPuts events place olds news → Before olds ts (λ us. Offers Gave events place us ts)
+  offers : (events : ℕ → List Content) (place : ℕ) (olds news : List F) (ts : List Track) → AllMatch news ts → Offers (PortPuts pass saw kept) events place olds news → Before olds ts (λ us. Offers Gave events place us ts)
   offers events place [] news [] m none = before_none [] [] (λ us. Offers Gave events place us []) tt refl
   offers events place [] news (t ∷ ts) m none = absurd (subst (λ (l : List F). AllMatch l (t ∷ ts)) none m)
   offers events place (old ∷ olds) news [] m (new, others, reply, split, tried, follows) = absurd (subst (λ (l : List F). AllMatch l []) split m)
@@ -150,17 +147,17 @@ module _ {F : Type 0} (pass : F → Known) (saw : F → List Own → State → T
       let rest = offers events (suc place) olds others ts here.1 follows in
       record { us = first.0 ∷ rest.us; all = (first.1, rest.all); behind = (first.2, rest.behind); holds = (t, ts, reply, refl, first.3, rest.holds) }
 
-  ends : (refusal : Option Refusal) (optional : ℕ → List Content) (old new : List F) (ts : List Track) → AllMatch new ts → Ends PortPuts refusal optional old new → Before old ts (λ us. Ends Gave refusal optional us ts)
+  ends : (refusal : Option Refusal) (optional : ℕ → List Content) (old new : List F) (ts : List Track) → AllMatch new ts → Ends (PortPuts pass saw kept) refusal optional old new → Before old ts (λ us. Ends Gave refusal optional us ts)
   ends None optional old new ts m offered = offers optional 0 old new ts m offered
   ends (Some refusal) optional old new ts m same = before_none old ts (λ us. ts ≡ us) (subst (λ (l : List F). AllMatch l ts) same m) refl
 
-  gives : (selector : Selector) (events : List Content) (old new : List F) (verdict : Verdict) (ts : List Track) → AllMatch new ts → Gives PortPuts selector events old new verdict → Before old ts (λ us. Gives Gave selector events us ts verdict)
+  gives : (selector : Selector) (events : List Content) (old new : List F) (verdict : Verdict) (ts : List Track) → AllMatch new ts → Gives (PortPuts pass saw kept) selector events old new verdict → Before old ts (λ us. Gives Gave selector events us ts verdict)
   gives selector events old new verdict ts m (refusal, (between, first, last), is) =
       let end = ends refusal (events_for (optional selector) events) between new ts m last in
       let begin = requires (events_for (required selector) events) 0 old refusal between end.us end.all first in
       record { us = begin.us; all = begin.all; behind = behind_then begin.us end.us ts begin.behind end.behind; holds = (refusal, (end.us, begin.holds, end.holds), is) }
 
-  judges : (selector : Selector) (made : Result (List Content) Stopped) (old new : List F) (verdict : Verdict) (ts : List Track) → AllMatch new ts → Judges PortPuts selector made old new verdict → Before old ts (λ us. Judges Gave selector made us ts verdict)
+  judges : (selector : Selector) (made : Result (List Content) Stopped) (old new : List F) (verdict : Verdict) (ts : List Track) → AllMatch new ts → Judges (PortPuts pass saw kept) selector made old new verdict → Before old ts (λ us. Judges Gave selector made us ts verdict)
   judges selector (Ok events) old new verdict ts m (inl given) = let g = gives selector events old new verdict ts m given in record { us = g.us; all = g.all; behind = g.behind; holds = inl g.holds }
   judges selector (Ok events) old new verdict ts m (inr (is, same)) = before_none old ts (λ us. Judges Gave selector (Ok events) us ts verdict) (subst (λ (l : List F). AllMatch l ts) same m) (inr (is, refl))
   judges selector (Err (stop.TooLarge size)) old new verdict ts m (is, same) = before_none old ts (λ us. Judges Gave selector (Err (stop.TooLarge size)) us ts verdict) (subst (λ (l : List F). AllMatch l ts) same m) (is, refl)
@@ -185,29 +182,29 @@ module _ {F : Type 0} (pass : F → Known) (saw : F → List Own → State → T
   all_later_then (p ∷ ps) (q ∷ qs) [] f g = absurd g
   all_later_then (p ∷ ps) (q ∷ qs) (r ∷ rs) f g = (later_then (pass p) (pass q) (pass r) f.0 g.0, all_later_then ps qs rs f.1 g.1)
 
-  tries_later : (events : List Content) (p q : F) (reply : Result (Unit {0}) FaceRefused) → Tries PortPuts events p q reply → Later (pass p) (pass q)
+  tries_later : (events : List Content) (p q : F) (reply : Result (Unit {0}) FaceRefused) → Tries (PortPuts pass saw kept) events p q reply → Later (pass p) (pass q)
   tries_later [] p q reply (is, same) = subst (λ (x : F). Later (pass p) (pass x)) (sym same) (later_none (pass p))
   tries_later (event ∷ events) p q reply (result, put, is) = face.laters p q put.same
 
-  requires_later : (events : ℕ → List Content) (place : ℕ) (olds : List F) (refusal : Option Refusal) (news : List F) → Requires PortPuts events place olds refusal news → AllLater olds news
+  requires_later : (events : ℕ → List Content) (place : ℕ) (olds : List F) (refusal : Option Refusal) (news : List F) → Requires (PortPuts pass saw kept) events place olds refusal news → AllLater olds news
   requires_later events place [] refusal news (is, none) = all_later_same [] news none
   requires_later events place (old ∷ olds) refusal news (new, others, reply, split, tried, follows) =
       subst (λ (l : List F). AllLater (old ∷ olds) l) (sym split) (tries_later (events place) old new reply tried, follow (λ more. requires_later events (suc place) olds refusal others more) reply follows)
     where
-      follow : (Requires PortPuts events (suc place) olds refusal others → AllLater olds others) → (reply : Result (Unit {0}) FaceRefused) → Follows PortPuts reply place refusal olds others (Requires PortPuts events (suc place) olds refusal others) → AllLater olds others
+      follow : (Requires (PortPuts pass saw kept) events (suc place) olds refusal others → AllLater olds others) → (reply : Result (Unit {0}) FaceRefused) → Follows (PortPuts pass saw kept) reply place refusal olds others (Requires (PortPuts pass saw kept) events (suc place) olds refusal others) → AllLater olds others
       follow go (Ok done) more = go more
       follow go (Err cause) (is, same) = all_later_same olds others same
 
-  offers_later : (events : ℕ → List Content) (place : ℕ) (olds news : List F) → Offers PortPuts events place olds news → AllLater olds news
+  offers_later : (events : ℕ → List Content) (place : ℕ) (olds news : List F) → Offers (PortPuts pass saw kept) events place olds news → AllLater olds news
   offers_later events place [] news none = all_later_same [] news none
   offers_later events place (old ∷ olds) news (new, others, reply, split, tried, follows) =
       subst (λ (l : List F). AllLater (old ∷ olds) l) (sym split) (tries_later (events place) old new reply tried, offers_later events (suc place) olds others follows)
 
-  ends_later : (refusal : Option Refusal) (optional : ℕ → List Content) (old new : List F) → Ends PortPuts refusal optional old new → AllLater old new
+  ends_later : (refusal : Option Refusal) (optional : ℕ → List Content) (old new : List F) → Ends (PortPuts pass saw kept) refusal optional old new → AllLater old new
   ends_later None optional old new offered = offers_later optional 0 old new offered
   ends_later (Some refusal) optional old new same = all_later_same old new same
 
-  judges_later : (selector : Selector) (made : Result (List Content) Stopped) (old new : List F) (verdict : Verdict) → Judges PortPuts selector made old new verdict → AllLater old new
+  judges_later : (selector : Selector) (made : Result (List Content) Stopped) (old new : List F) (verdict : Verdict) → Judges (PortPuts pass saw kept) selector made old new verdict → AllLater old new
   judges_later selector (Ok events) old new verdict (inl (refusal, (between, first, last), is)) =
       all_later_then old between new (requires_later (events_for (required selector) events) 0 old refusal between first) (ends_later refusal (events_for (optional selector) events) between new last)
   judges_later selector (Ok events) old new verdict (inr (is, same)) = all_later_same old new same
@@ -216,26 +213,33 @@ module _ {F : Type 0} (pass : F → Known) (saw : F → List Own → State → T
 
   module _ {B : Type 0} (Means : Meaning B) (selector : Selector) (host : HostNames) (moment : ℕ) where
     -- a batch that went through ports is in their tracks
-    pub accepts : (a b : Route F B) (batch : List Content) (verdict : Verdict) (ts : List Track) → AllMatch b.ports ts → Accepts PortPuts selector Means moment host a batch verdict b
+    pub accepts : (a b : Route F B) (batch : List Content) (verdict : Verdict) (ts : List Track) → AllMatch b.ports ts → Accepts (PortPuts pass saw kept) selector Means moment host a batch verdict b
         → Before a.ports ts (λ us. Accepts Gave selector Means moment host (record { links = a.links; ports = us }) batch verdict (record { links = b.links; ports = ts }))
     accepts a b batch verdict ts m (made, passed, judged) =
         let j = judges selector made a.ports b.ports verdict ts m judged in
         record { us = j.us; all = j.all; behind = j.behind; holds = (made, passed, j.holds) }
 
     -- the ports are the same after it
-    pub accepts_later : (a b : Route F B) (batch : List Content) (verdict : Verdict) → Accepts PortPuts selector Means moment host a batch verdict b → AllLater a.ports b.ports
+    pub accepts_later : (a b : Route F B) (batch : List Content) (verdict : Verdict) → Accepts (PortPuts pass saw kept) selector Means moment host a batch verdict b → AllLater a.ports b.ports
     accepts_later a b batch verdict (made, passed, judged) = judges_later selector made a.ports b.ports verdict judged
 
-  module _ {S : Type 0} (delivers : S → List Content → ℕ → Result (Unit {0}) SinkRefused → S → Type 0) (most : ℕ) (OnDisk : Type 0) where
+  module _ {S : Type 0} (delivers : S → List Content → ℕ → Result (Unit {0}) SinkRefused → S → Type 0) (most : ℕ) (on_disk : F → Type 0) (steady : IsSteady kept on_disk) (D : Type 0) where
     abbrev pub PortTurns : Taking F S → Turn → Taking F S → Type 0
     PortTurns = TurnsOnce port_own saw port_seen kept delivers most
 
     abbrev pub PortMends : Taking F S → Result Bool OpenCause → Taking F S → Type 0
-    PortMends = MendsOnce port_own saw port_seen kept (λ p. OnDisk)
+    PortMends = MendsOnce port_own saw port_seen kept on_disk
 
     -- with a track for its port
     abbrev pub on : Track → Taking F S → Taking Track S
     on t a = record { from = t; sink = a.sink; moments = a.moments }
+
+    -- it is on a disk exactly where D says so
+    abbrev pub SameDisk : Taking F S → Type 0
+    SameDisk a = (on_disk a.from → D) × (D → on_disk a.from)
+
+    same_after : (a b : Taking F S) → kept a.from b.from → SameDisk a → SameDisk b
+    same_after a b k same = let s = steady a.from b.from k in (λ x. same.0 (s.1 x), λ d. s.0 (same.1 d))
 
     turned_once : (a b : Taking F S) (turn : Turn) (t : Track) → Matches (pass b.from) t → PortTurns a turn b → Matches (pass a.from) (back (pass a.from) t) × Turned delivers most (on (back (pass a.from) t) a) turn (on t b)
     turned_once a b turn t m once =
@@ -254,8 +258,8 @@ module _ {F : Type 0} (pass : F → Known) (saw : F → List Own → State → T
           ),
         )
 
-    mended_once : (a b : Taking F S) (result : Result Bool OpenCause) (t : Track) → Matches (pass b.from) t → PortMends a result b → Matches (pass a.from) (back (pass a.from) t) × Mended OnDisk (on (back (pass a.from) t) a) result (on t b)
-    mended_once a b result t m once =
+    mended_once : (a b : Taking F S) (result : Result Bool OpenCause) (t : Track) → Matches (pass b.from) t → SameDisk a → PortMends a result b → Matches (pass a.from) (back (pass a.from) t) × Mended D (on (back (pass a.from) t) a) result (on t b)
+    mended_once a b result t m same once =
         let p = pass a.from in
         let own = owned p.view in
         let at = once.calls p.view.base [] own (refl, refl, refl) in
@@ -265,42 +269,46 @@ module _ {F : Type 0} (pass : F → Known) (saw : F → List Own → State → T
             at.0,
             λ i. record { from = t; sink = once.sink i; moments = once.moments i },
             ap (λ (l : List Own). record t { own = l }) (sym all),
-            mend (saw b.from) (Stood (back p t)) (length (pass b.from).view.seen) (length t.whole) (prefix_short (pass b.from).view.seen t.whole m.within) OnDisk result own own at.0
+            mend (saw b.from) (Stood (back p t)) (length (pass b.from).view.seen) (length t.whole) (prefix_short (pass b.from).view.seen t.whole m.within) (on_disk a.from) D same.0 same.1 result own own at.0
                 (λ x s seen. stood b.from t m (own ++ x) s seen) at.2,
           ),
         )
 
-    mended_if : (due : Bool) (a b : Taking F S) (t : Track) → Matches (pass b.from) t → MendsIf PortMends due a b → Matches (pass a.from) (back (pass a.from) t) × MendsIf (Mended OnDisk) due (on (back (pass a.from) t) a) (on t b)
-    mended_if true a b t m once = let got = mended_once a b once.0 t m once.1 in (got.0, (once.0, got.1))
-    mended_if false a b t m same =
-        let here : Matches (pass a.from) t = subst (λ (x : Taking F S). Matches (pass x.from) t) same m in
+    mended_if : (due : Bool) (a b : Taking F S) (t : Track) → Matches (pass b.from) t → SameDisk a → MendsIf PortMends due a b → Matches (pass a.from) (back (pass a.from) t) × MendsIf (Mended D) due (on (back (pass a.from) t) a) (on t b)
+    mended_if true a b t m same once = let got = mended_once a b once.0 t m same once.1 in (got.0, (once.0, got.1))
+    mended_if false a b t m same none =
+        let here : Matches (pass a.from) t = subst (λ (x : Taking F S). Matches (pass x.from) t) none m in
         let is = back_same a.from t here in
-        (subst (λ (u : Track). Matches (pass a.from) u) (sym is) here, λ i. on (sym is i) (same i))
+        (subst (λ (u : Track). Matches (pass a.from) u) (sym is) here, λ i. on (sym is i) (none i))
 
-    round : (a b : Taking F S) (turn : Turn) (t : Track) → Matches (pass b.from) t → Round PortTurns PortMends a turn b → Matches (pass a.from) (back (pass a.from) t) × Round (Turned delivers most) (Mended OnDisk) (on (back (pass a.from) t) a) turn (on t b)
-    round a b turn t m (between, one, due) =
-        let later = mended_if (needs_mend turn) between b t m due in
+    round : (a b : Taking F S) (turn : Turn) (t : Track) → Matches (pass b.from) t → SameDisk a → Round PortTurns PortMends a turn b → Matches (pass a.from) (back (pass a.from) t) × Round (Turned delivers most) (Mended D) (on (back (pass a.from) t) a) turn (on t b)
+    round a b turn t m same (between, one, due) =
+        let later = mended_if (needs_mend turn) between b t m (same_after a between one.same same) due in
         let first = turned_once a between turn (back (pass between.from) t) later.0 one in
         (first.0, (on (back (pass between.from) t) between, first.1, later.1))
 
+    same_mended : (due : Bool) (a b : Taking F S) → MendsIf PortMends due a b → SameDisk a → SameDisk b
+    same_mended true a b once same = same_after a b once.1.same same
+    same_mended false a b none same = subst SameDisk (sym none) same
+
     -- rounds that were made through a port are in its track
-    pub rounds : (turns : List Turn) (a b : Taking F S) (t : Track) → Matches (pass b.from) t → Rounds PortTurns PortMends turns a b → Matches (pass a.from) (back (pass a.from) t) × Rounds (Turned delivers most) (Mended OnDisk) turns (on (back (pass a.from) t) a) (on t b)
-    rounds [] a b t m same =
-        let here : Matches (pass a.from) t = subst (λ (x : Taking F S). Matches (pass x.from) t) same m in
+    pub rounds : (turns : List Turn) (a b : Taking F S) (t : Track) → Matches (pass b.from) t → SameDisk a → Rounds PortTurns PortMends turns a b → Matches (pass a.from) (back (pass a.from) t) × Rounds (Turned delivers most) (Mended D) turns (on (back (pass a.from) t) a) (on t b)
+    rounds [] a b t m same none =
+        let here : Matches (pass a.from) t = subst (λ (x : Taking F S). Matches (pass x.from) t) none m in
         let is = back_same a.from t here in
-        (subst (λ (u : Track). Matches (pass a.from) u) (sym is) here, λ i. on (sym is i) (same i))
-    rounds (turn ∷ turns) a b t m (next, one, others) =
-        let later = rounds turns next b t m others in
-        let first = round a next turn (back (pass next.from) t) later.0 one in
+        (subst (λ (u : Track). Matches (pass a.from) u) (sym is) here, λ i. on (sym is i) (none i))
+    rounds (turn ∷ turns) a b t m same (next, one, others) =
+        let later = rounds turns next b t m (same_mended (needs_mend turn) one.0 next one.2 (same_after a one.0 one.1.same same)) others in
+        let first = round a next turn (back (pass next.from) t) later.0 same one in
         (first.0, (on (back (pass next.from) t) next, first.1, later.1))
 
     mended_later : (due : Bool) (a b : Taking F S) → MendsIf PortMends due a b → Later (pass a.from) (pass b.from)
     mended_later true a b once = face.laters a.from b.from once.1.same
-    mended_later false a b same = subst (λ (x : Taking F S). Later (pass a.from) (pass x.from)) (sym same) (later_none (pass a.from))
+    mended_later false a b none = subst (λ (x : Taking F S). Later (pass a.from) (pass x.from)) (sym none) (later_none (pass a.from))
 
     -- the port is the same after some rounds
     pub rounds_later : (turns : List Turn) (a b : Taking F S) → Rounds PortTurns PortMends turns a b → Later (pass a.from) (pass b.from)
-    rounds_later [] a b same = subst (λ (x : Taking F S). Later (pass a.from) (pass x.from)) (sym same) (later_none (pass a.from))
+    rounds_later [] a b none = subst (λ (x : Taking F S). Later (pass a.from) (pass x.from)) (sym none) (later_none (pass a.from))
     rounds_later (turn ∷ turns) a b (next, (between, one, due), others) =
         later_then (pass a.from) (pass next.from) (pass b.from)
         (later_then (pass a.from) (pass between.from) (pass next.from) (face.laters a.from between.from one.same) (mended_later (needs_mend turn) between next due)) (rounds_later turns next b others)

@@ -3,18 +3,17 @@ use Rattle.std.specs.Prelude.{◌≡◌, ℕ, List, [], ◌∷◌, length, Resul
 use mathlib.Core.List.{IsPrefix}
 use Rattle.event_core.specs.Content.{Content}
 use Rattle.channel_face.specs.Faces.{Own}
-use Rattle.channel_face.specs.History.{Opening, Step}
 use Rattle.channel_face.specs.Machine.{State}
 use Rattle.plug_in.specs.declared.sink.SinkRefused.{SinkRefused}
 use Rattle.selectors.specs.declared.selector.Selector.{Selector}
 use Rattle.shared_channel.specs.Calls.{state_seen}
 use Rattle.shared_channel.specs.Passes.{Known}
-use Rattle.shared_channel.specs.Ports.{AreOwned, Later, Saw, owned}
+use Rattle.shared_channel.specs.Ports.{AreOwned, Later, owned}
 use Rattle.sink_runner.specs.declared.turn.Turn.{Turn}
 use Rattle.sink_worker.specs.Rounds.{MendsOnce, Rounds, Taking, TurnsOnce}
 use Rattle.source_put.specs.Chains.{Meaning}
 use Rattle.source_put.specs.Routes.{Accepts, Route}
-use Rattle.source_put.specs.Tries.{Puts}
+use Rattle.source_put.specs.Tries.{Giving, Puts}
 use Rattle.source_put.specs.declared.chain.HostNames.{HostNames}
 use Rattle.source_put.specs.declared.intake.Verdict.{Verdict}
 use Rattle.run_tracks.specs.Homes.{Took}
@@ -41,22 +40,29 @@ IsNew pass = (pass.view.numbers ≡ pass.number ∷ []) × (owned pass.view ≡ 
 abbrev pub IsBehind : Track → Track → Type 0
 IsBehind u t = u ≡ record t { own = u.own }
 
-module _ {F : Type 0} (pass : F → Known) {C : Type 0} (stands : C → Opening → List Step → Type 0) where
+-- after some calls it is on a disk exactly where it was
+abbrev pub IsSteady : {F : Type 0} → (F → F → Type 0) → (F → Type 0) → Type 0
+IsSteady {F} kept on_disk = (p q : F) → kept p q → (on_disk p → on_disk q) × (on_disk q → on_disk p)
+
+module _ {F : Type 0} (pass : F → Known) (saw : F → List Own → State → Type 0) (kept : F → F → Type 0) where
+  -- a put through a port with this pass
+  abbrev pub PortPuts : Giving F
+  PortPuts = Puts (λ p. AreOwned (pass p).view) saw (λ p. length (pass p).view.seen) kept
+
   -- the rounds of a sink whose port has this pass
-  abbrev pub PortRounds : {S : Type 0} → (S → List Content → ℕ → Result (Unit {0}) SinkRefused → S → Type 0) → ℕ → Type 0 → List Turn → Taking F S → Taking F S → Type 0
-  PortRounds delivers batch OnDisk =
-      Rounds
-      (TurnsOnce (λ p. AreOwned (pass p).view) (λ p. Saw stands (pass p).view) (λ p. length (pass p).view.seen) (λ p q. Later (pass p) (pass q)) delivers batch)
-      (MendsOnce (λ p. AreOwned (pass p).view) (λ p. Saw stands (pass p).view) (λ p. length (pass p).view.seen) (λ p q. Later (pass p) (pass q)) (λ p. OnDisk))
+  abbrev pub PortRounds : (F → Type 0) → {S : Type 0} → (S → List Content → ℕ → Result (Unit {0}) SinkRefused → S → Type 0) → ℕ → List Turn → Taking F S → Taking F S → Type 0
+  PortRounds on_disk delivers batch =
+      Rounds (TurnsOnce (λ p. AreOwned (pass p).view) saw (λ p. length (pass p).view.seen) kept delivers batch)
+      (MendsOnce (λ p. AreOwned (pass p).view) saw (λ p. length (pass p).view.seen) kept on_disk)
 
   -- Rounds that a sink made through a port are, once its pass is at home, all calls with its number in the whole history, in
   -- order and no others.
-  abbrev pub RoundsAreInTrack : {S : Type 0} → (S → List Content → ℕ → Result (Unit {0}) SinkRefused → S → Type 0) → Type 0 → Type 0
-  RoundsAreInTrack {S} delivers OnDisk =
+  abbrev pub RoundsAreInTrack : (F → Type 0) → {S : Type 0} → (S → List Content → ℕ → Result (Unit {0}) SinkRefused → S → Type 0) → Type 0
+  RoundsAreInTrack on_disk {S} delivers =
       (batch : ℕ) (turns : List Turn) (old new : Taking F S) (home : Known)
-      → IsNew (pass old.from) → Took home (pass new.from) → PortRounds delivers batch OnDisk turns old new
+      → IsNew (pass old.from) → Took home (pass new.from) → PortRounds on_disk delivers batch turns old new
       → let track = track_of home (pass old.from).number in
-      Rounds (Turned delivers batch) (Mended OnDisk) turns
+      Rounds (Turned delivers batch) (Mended (on_disk old.from)) turns
       (record { from = track; sink = old.sink; moments = old.moments })
       (record { from = ended track; sink = new.sink; moments = new.moments })
 
@@ -66,6 +72,6 @@ module _ {F : Type 0} (pass : F → Known) {C : Type 0} (stands : C → Opening 
   BatchIsInTracks {B} Means =
       (selector : Selector) (host : HostNames) (moment : ℕ) (old new : Route F B) (batch : List Content) (verdict : Verdict) (after : List Track)
       → Zips (λ port t. Matches (pass port) t) new.ports after
-      → Accepts (Puts (λ p. AreOwned (pass p).view) (λ p. Saw stands (pass p).view) (λ p. length (pass p).view.seen) (λ p q. Later (pass p) (pass q))) selector Means moment host old batch verdict new
+      → Accepts PortPuts selector Means moment host old batch verdict new
       → (before : List Track) × Zips (λ port t. Matches (pass port) t) old.ports before × Zips IsBehind before after
       × Accepts Gave selector Means moment host (record { links = old.links; ports = before }) batch verdict (record { links = new.links; ports = after })

@@ -1,22 +1,32 @@
 // Laws of workers' calls in whole histories.
+ghost use Rattle.shared_channel.specs.Ports.{Later, Saw};
+ghost use Rattle.two_channels.specs.Ports.{IsOnDisk, LaterPort, SawIn};
 ghost use Rattle.run_tracks.specs.Dealt.{EveryNumberIsHome};
 ghost use Rattle.run_tracks.specs.Told.{BatchIsInTracks, RoundsAreInTrack};
 
 use channel_face::Channel;
 use plug_in::{EventSink, Interceptor};
-use shared_channel::Carries;
+use shared_channel::{Carries, Port};
+use std::sync::Wait;
+use two_channels::EitherPort;
 
 /// What a sink's worker did through its port is, once its pass is at home, all calls with its number in the whole history of
-/// the channel: its rounds, in order and no others. It is so of a channel on a disk, and of one that is not.
-pub fn rounds_are_in_track<F: Carries, C: Channel, S: EventSink>()
-    ensures disk { RoundsAreInTrack F.pass C.stands S.delivers (Unit {0}) }
-    ensures memory { RoundsAreInTrack F.pass C.stands S.delivers ⊥ }
+/// the channel: its rounds, in order and no others. It is so of a port of a channel on a disk, and of one that may be of either
+/// kind.
+pub fn rounds_are_in_track<'a, R: Wait + 'a, A: Channel + 'a, B: Channel + 'a, S: EventSink>()
+    ensures port { RoundsAreInTrack ⟦<Port<'a, R, A> as Carries>⟧.pass
+        (λ p. Saw A.stands p.pass.view) (λ p q. Later p.pass q.pass) (λ p. Unit {0}) S.delivers }
+    ensures either { RoundsAreInTrack ⟦<EitherPort<'a, R, A, B> as Carries>⟧.pass
+        (SawIn A.stands B.stands) LaterPort IsOnDisk S.delivers }
 {}
 
 /// What became of a batch at the ports of its channels is, read backwards from the end, what the worker called in their whole
 /// histories, and it called no other.
-pub fn batch_is_in_tracks<F: Carries, C: Channel, B: Interceptor>()
-    ensures { BatchIsInTracks F.pass C.stands B.intercepts }
+pub fn batch_is_in_tracks<'a, R: Wait + 'a, A: Channel + 'a, B: Channel + 'a, I: Interceptor>()
+    ensures port { BatchIsInTracks ⟦<Port<'a, R, A> as Carries>⟧.pass
+        (λ p. Saw A.stands p.pass.view) (λ p q. Later p.pass q.pass) I.intercepts }
+    ensures either { BatchIsInTracks ⟦<EitherPort<'a, R, A, B> as Carries>⟧.pass
+        (SawIn A.stands B.stands) LaterPort I.intercepts }
 {}
 
 /// Where each number of a channel was with the pass at home or with a worker, and each worker's number is at home, the passes

@@ -1,8 +1,8 @@
-use Rattle.run_tracks.proofs.Telling.{rounds_in_track}
+use Rattle.run_tracks.proofs.Telling.{either_face, either_steady, port_face, rounds_in_track}
 use Rattle.run_tracks.proofs.laws.rounds_are_in_track.Goals as goal
 
-pub returns-clause-disk : goal.returns-clause-disk
-returns-clause-disk g c = rounds_in_track g.F.Carries.pass g.C.Channel.stands g.S.EventSink.delivers (Unit {0})
+pub returns-clause-port : goal.returns-clause-port
+returns-clause-port g c = rounds_in_track _ _ _ (port_face _ g.A.Channel.stands) (λ p. Unit {0}) (λ p q l. (λ x. x, λ x. x)) g.S.EventSink.delivers
 
-pub returns-clause-memory : goal.returns-clause-memory
-returns-clause-memory g c = rounds_in_track g.F.Carries.pass g.C.Channel.stands g.S.EventSink.delivers ⊥
+pub returns-clause-either : goal.returns-clause-either
+returns-clause-either g c = rounds_in_track _ _ _ (either_face g.A.Channel.stands g.B.Channel.stands) _ either_steady g.S.EventSink.delivers

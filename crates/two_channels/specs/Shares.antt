@@ -1,0 +1,33 @@
+-- A shared channel of either kind.
+use Rattle.std.specs.Prelude.{Bool, List}
+use Rattle.atomic_table.specs.Seated.{TableId}
+use Rattle.channel_face.specs.History.{Opening, Step}
+use Rattle.shared_channel.specs.Calls.{Looks}
+use Rattle.shared_channel.specs.Counting.{StandsAgreeing}
+use Rattle.shared_channel.specs.Passes.{Known}
+use Rattle.turn_passes.specs.Views.{View}
+use Rattle.two_channels.specs.declared.shared.EitherShared.{EitherShared}
+use Rattle.two_channels.specs.declared.shared.EitherShared.TheVariants as share
+use Rattle.two_channels.specs.declared.shared.EitherClosed.{EitherClosed}
+use Rattle.two_channels.specs.declared.shared.EitherClosed.TheVariants as closed
+
+module _ {A B : Type 0} where
+  abbrev pub table_of : EitherShared A B → TableId
+  table_of (share.Disk s) = s.turn.table.shared.table_id
+  table_of (share.Memory s) = s.turn.table.shared.table_id
+
+  -- the pass that came back
+  abbrev pub pass_of : EitherClosed A B → Known
+  pass_of (closed.Disk c) = c.pass
+  pass_of (closed.Memory c) = c.pass
+
+  -- it is of the same kind, and its channel stands for these calls
+  abbrev pub StandsClosed : (A → Opening → List Step → Type 0) → (B → Opening → List Step → Type 0) → EitherShared A B → Opening → List Step → EitherClosed A B → Type 0
+  StandsClosed disk memory (share.Disk s) start calls (closed.Disk c) = StandsAgreeing disk c.channel start calls
+  StandsClosed disk memory (share.Memory s) start calls (closed.Memory c) = StandsAgreeing memory c.channel start calls
+  StandsClosed disk memory s start calls c = ⊥
+
+  -- it was looked at: nothing was called, and a channel of its kind stands for all that is seen
+  abbrev pub LooksIn : (A → Opening → List Step → Type 0) → (A → Bool) → (B → Opening → List Step → Type 0) → (B → Bool) → EitherShared A B → View → View → Type 0
+  LooksIn disk tells memory tells' (share.Disk s) v w = Looks disk tells v w
+  LooksIn disk tells memory tells' (share.Memory s) v w = Looks memory tells' v w

@@ -1,0 +1,52 @@
+// Keeping a channel of either kind in order.
+use crate::port::EitherPort;
+use channel_face::{Channel, CheckRefused, Durable, KeepFace, OpenCause, PruneRefused};
+use flume_host::Steps;
+use std::sync::Wait;
+use std::sync::ledger::Ledger;
+
+impl<'a, R: Wait, A: Durable, B: Channel> KeepFace for EitherPort<'a, R, A, B> {
+    ghost use Rattle.two_channels.specs.Ports.{IsOnDisk, LaterPort, SawIn, later_port_none, later_port_then, own_of, seen_of};
+
+    ghost own = { λ p. own_of p };
+
+    ghost saw = { λ p. SawIn A.stands B.stands p };
+
+    ghost seen = { λ p. seen_of p };
+
+    ghost kept = { λ p q. LaterPort p q };
+
+    ghost on_disk = { λ p. IsOnDisk p };
+
+    ghost kept_none = { λ p. later_port_none p };
+
+    ghost kept_then = { λ p q r. later_port_then p q r };
+
+    fn mend<L: Ledger>(&mut self, steps: &mut Steps<L>) -> Result<bool, OpenCause> {
+        match self {
+            EitherPort::Disk(port) => KeepFace::mend(port, steps),
+            EitherPort::Memory(_) => Ok(false),
+        }
+    }
+
+    fn checkpoint(&mut self) -> Result<(), CheckRefused> {
+        match self {
+            EitherPort::Disk(port) => port.checkpoint(),
+            EitherPort::Memory(_) => unreachable!(),
+        }
+    }
+
+    fn prune(&mut self) -> Result<u64, PruneRefused> {
+        match self {
+            EitherPort::Disk(port) => port.prune(),
+            EitherPort::Memory(_) => unreachable!(),
+        }
+    }
+
+    fn size(&mut self) -> u64 {
+        match self {
+            EitherPort::Disk(port) => port.events_left(),
+            EitherPort::Memory(port) => port.events_left(),
+        }
+    }
+}

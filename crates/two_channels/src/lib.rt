@@ -1,0 +1,12 @@
+//! Shared channels of two kinds as one type: one port for sources, sinks and those who keep a channel, whether the channel is
+//! on a disk or not.
+#![tactic(auto)]
+
+mod keeping;
+mod port;
+mod putting;
+mod shared;
+mod taking;
+
+pub use port::EitherPort;
+pub use shared::{EitherClosed, EitherShared};
