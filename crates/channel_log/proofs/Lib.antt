@@ -7,7 +7,10 @@ pub mod LowBytes
 pub mod Every
 pub mod Entering
 pub mod Given
+pub mod Keeping
 mod Opening
 mod Pending
+pub mod Pointed
+pub mod Pointing
 pub mod ReadOn
 pub mod Remaining

@@ -1,15 +1,16 @@
 -- A log file that is being written.
-use Rattle.std.specs.Prelude.{◌≡◌, ◌⊎◌, ◌<◌, ◌≤◌, ◌+◌, ◌^◌, ℕ, Bool, List, [], ◌∷◌, ◌++◌, length, Option, Some, None, IsSomeAnd, IfSome}
+use Rattle.std.specs.Prelude.{◌≡◌, ◌⊎◌, ◌<◌, ◌≤◌, ◌+◌, ◌^◌, ℕ, Bool, true, List, [], ◌∷◌, ◌++◌, length, Option, Some, None, IsSomeAnd, IfSome}
 use Rattle.std.specs.List.{AllByRecursion}
 use Rattle.flume_host.specs.declared.names.FileName.TheVariants.{Log}
 use Rattle.flume_host.specs.Folder.{Gone, There, stable}
 use Rattle.flume_host.specs.Told.{Told, WhereTold}
 use Rattle.record_form.specs.declared.record.Rec.{Rec}
 use Rattle.record_form.specs.Record.{spelling}
+use Rattle.channel_log.specs.Window.{Kept}
 use Rattle.channel_log.specs.Frames.{IsFramed, IsFrame, Commits, header, opened, record_bytes}
 
--- The writer of a file: its number, the offset of its closed commit byte, whether it has a frame, and the bytes and the
--- number of the records that wait for a flush.
+-- The writer of a file: its number, the offset of its closed commit byte, whether it has a frame, the bytes and the
+-- number of the records that wait for a flush, and what it keeps of what it last read.
 pub record Writer : Type 0 where
   pub file : ℕ
   pub gate : ℕ
@@ -17,6 +18,7 @@ pub record Writer : Type 0 where
   pub started : Bool
   pub bytes : List ℕ
   pub count : ℕ
+  pub kept : Kept
 
 -- these records wait for a flush
 pub record IsPending (w : Writer) (records : List Rec) : Type 0 where
@@ -27,6 +29,10 @@ pub record IsPending (w : Writer) (records : List Rec) : Type 0 where
 -- a record of this length can be appended: END and a commit byte still fit behind it
 abbrev pub HasRoom : Writer → ℕ → Type 0
 HasRoom w size = length w.bytes + size + 6 ≤ 2_097_152
+
+-- records wait that the file, which has a frame, can't take without passing its greatest length, and a file may follow it
+abbrev pub MustRoll : Writer → Type 0
+MustRoll w = (1 ≤ w.count) × (w.started ≡ true) × (w.max_file < w.gate + 7 + length w.bytes) × (w.file < 4_294_967_295)
 
 -- a record more waits
 pub record Appends (old new : Writer) (rec : Rec) : Type 0 where

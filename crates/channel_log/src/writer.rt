@@ -1,5 +1,5 @@
-// Writes the frames of a log file.
-ghost use Rattle.std.specs.Prelude.{◌≡◌, ◌<◌, ◌≤◌, ◌+◌, ◌^◌, ◌++◌, [], ◌∷◌, ◌↔◌, ℕ, List, length, false, true, OnOk, OnErr, IfOk, IsErrOf, IsOk, IsTrue, vec_len, vec_capacity};
+// Writes the frames of a log file, and reads at pointers.
+ghost use Rattle.std.specs.Prelude.{◌≡◌, ◌<◌, ◌≤◌, ◌+◌, ◌^◌, ◌++◌, [], ◌∷◌, ◌↔◌, ℕ, List, length, false, true, OnOk, OnErr, IfOk, IsErrOf, IsOk, IsTrue, IsSome, vec_len, vec_capacity};
 ghost use Rattle.flume_host.specs.Causes.{HasCause, Rose};
 ghost use Rattle.flume_host.specs.Told.{WhereTold, Tells, Changes};
 ghost use Rattle.flume_host.specs.declared.names.FileName.TheVariants.{Log};
@@ -8,11 +8,15 @@ ghost use Rattle.record_form.specs.Record.{IsWithinLimits, record_length, spelli
 ghost use Rattle.record_form.specs.declared.record.Rec.{Rec};
 ghost use Rattle.record_form.specs.declared.record.Rec.TheVariants.{End, Put};
 ghost use Rattle.channel_log.specs.Frames.{IsFrame, IsNoEnd, frame_bytes, header};
-ghost use Rattle.channel_log.specs.Writer.{Appends, HasRoom, IsBlank, IsPending, IsReady, IsUnused, LacksOrHas};
+ghost use Rattle.channel_log.specs.Pointers.{FoundAt, IsDamageOf, IsWaiting, end_of, in_frame};
+ghost use Rattle.channel_log.specs.Window.{IsBelow, IsPieceOf, nothing_kept};
+ghost use Rattle.channel_log.specs.Writer.{Appends, HasRoom, IsBlank, IsPending, IsReady, IsUnused, LacksOrHas, MustRoll};
 
-use event_core::Event;
+use crate::pointers::{ReadRefused, event_in, put_length};
+use crate::window::Window;
+use event_core::{Event, NoMemory};
 use flume_host::{Disk, Failed, FileName};
-use record_form::{MAX_PUT_SIZE, Rec, write_put, write_record};
+use record_form::{MAX_PUT_SIZE, Pointer, Rec, write_put, write_record};
 use std::alloc::Global;
 use std::marker::Model;
 
@@ -23,6 +27,15 @@ pub enum LogBeginRefused {
     DiskFault,
     /// Want of memory.
     NoMemory,
+}
+
+/// Why the next file could not be begun.
+#[derive(Clone, Copy, Debug, PartialEq, Eq)]
+pub enum LogRollRefused {
+    /// A fault of the disk.
+    DiskFault,
+    /// The file has the last number that there is.
+    Spent,
 }
 
 /// Why a frame could not be flushed.
@@ -85,6 +98,15 @@ fn write_frame<D: Disk>(disk: &mut D, number: u32, gate: u64, piece: &[u8]) -> R
     Ok(())
 }
 
+// The last number of a log file.
+const LAST_FILE: u32 = u32::MAX;
+
+// The birth of a file that follows a full one.
+const ROLLED: u16 = 2;
+
+// The offset of a file's first commit byte.
+const FIRST_GATE: u64 = 16;
+
 // The room of a frame: its records, END and a commit byte.
 const FRAME_ROOM: usize = 2_097_152;
 
@@ -99,6 +121,7 @@ pub struct LogWriter {
     started: bool,
     frame: Vec<u8>,
     count: u32,
+    window: Window,
 }
 
 impl Model for LogWriter {
@@ -107,7 +130,7 @@ impl Model for LogWriter {
 
     ghost Value = { Writer };
 
-    ghost view = { λ w. record { file = w.number; gate = w.gate; max_file = w.max_file; started = w.started; bytes = w.frame.items; count = w.count } };
+    ghost view = { λ w. record { file = w.number; gate = w.gate; max_file = w.max_file; started = w.started; bytes = w.frame.items; count = w.count; kept = w.window } };
 
     ghost invariant = { λ w. IsWithin w.gate w.count w.frame.items (vec_capacity w.frame) };
 }
@@ -125,6 +148,15 @@ fn seal(frame: &mut Vec<u8>, count: u32)
     }
 }
 
+// The room of a frame, and that of a window.
+fn buffers(alloc: Global) -> Result<(Vec<u8>, Window), NoMemory>
+    ensures { IfOk result (λ pair. (pair.0.items ≡ []) × (2_097_152 ≤ vec_capacity pair.0) × (pair.1 ≡ nothing_kept)) }
+{
+    let frame = Vec::with_capacity(alloc, FRAME_ROOM)?;
+    let window = Window::make(alloc)?;
+    Ok((frame, window))
+}
+
 impl LogWriter {
     /// Makes a log file of this number and birth, and its writer. The disk must have no log file of this number or of a
     /// greater one.
@@ -136,7 +168,7 @@ impl LogWriter {
         max_file: u64,
     ) -> Result<LogWriter, LogBeginRefused>
         requires { IsUnused (D.told disk.old) number }
-        ensures writer { IfOk result (λ w. w ≡ record { file = number; gate = 16; max_file = max_file; started = false; bytes = []; count = 0 }) }
+        ensures writer { IfOk result (λ w. w ≡ record { file = number; gate = 16; max_file = max_file; started = false; bytes = []; count = 0; kept = nothing_kept }) }
         ensures any_moment { Tells (D.told disk.old) (D.told disk.new) (Changes (Log number) IsBlank 1) }
         ensures begun { OnOk result (IsReady (D.told disk.new) birth number 16 []) }
         ensures no_memory { IsErrOf result LogBeginRefused.NoMemory → D.told disk.new ≡ D.told disk.old }
@@ -144,7 +176,7 @@ impl LogWriter {
         ensures later { D.faults disk.old ≤ D.faults disk.new }
         ensures well { (IsErrOf result LogBeginRefused.DiskFault → ⊥) → D.faults disk.new ≡ D.faults disk.old }
     {
-        let Ok(frame) = Vec::with_capacity(alloc, FRAME_ROOM) else {
+        let Ok((frame, window)) = buffers(alloc) else {
             return Err(LogBeginRefused::NoMemory);
         };
         match make_file(disk, number, &header_of(birth, number)) {
@@ -155,6 +187,7 @@ impl LogWriter {
                 started: false,
                 frame,
                 count: 0,
+                window,
             }),
             Err(_) => Err(LogBeginRefused::DiskFault),
         }
@@ -218,6 +251,128 @@ impl LogWriter {
                 Err(LogFlushRefused::DiskFault)
             }
         }
+    }
+
+    /// Whether a flush of the waiting records begins a file first: there are some, this file has a frame, with theirs it would
+    /// pass its greatest length, and its number isn't the last.
+    pub fn must_roll(&self) -> bool
+        ensures { IsTrue result ↔ MustRoll self.now }
+    {
+        self.count > 0
+            && self.started
+            && self.gate + 7 + self.frame.len() as u64 > self.max_file
+            && self.number < LAST_FILE
+    }
+
+    /// Begins the next file, of birth 2, in which the waiting records go on. It takes no memory. The disk must have no log file
+    /// of the next number or of a greater one.
+    pub fn roll<D: Disk>(&mut self, disk: &mut D) -> Result<(), LogRollRefused>
+        requires { self.old.file < 4_294_967_295 → IsUnused (D.told disk.old) (self.old.file + 1) }
+        ensures spent { IsErrOf result LogRollRefused.Spent ↔ (self.old.file ≡ 4_294_967_295) }
+        ensures quiet { IsErrOf result LogRollRefused.Spent → D.told disk.new ≡ D.told disk.old }
+
+        // A crash at any moment of the call leaves no next file, or one that counts as empty.
+        ensures any_moment { self.old.file < 4_294_967_295 → Tells (D.told disk.old) (D.told disk.new) (Changes (Log (self.old.file + 1)) IsBlank 1) }
+        ensures begun { OnOk result (IsReady (D.told disk.new) 2 self.new.file 16 []) }
+        ensures writer { OnOk result (self.new ≡ record self.old { file = self.old.file + 1; gate = 16; started = false }) }
+        ensures refused { OnErr result (self.new ≡ self.old) }
+        ensures fault { IsErrOf result LogRollRefused.DiskFault → Rose (D.faults disk.old) (D.faults disk.new) }
+        ensures later { D.faults disk.old ≤ D.faults disk.new }
+        ensures well { (IsErrOf result LogRollRefused.DiskFault → ⊥) → D.faults disk.new ≡ D.faults disk.old }
+    {
+        if self.number == LAST_FILE {
+            return Err(LogRollRefused::Spent);
+        }
+        let next = self.number + 1;
+        match make_file(disk, next, &header_of(ROLLED, next)) {
+            Ok(()) => {
+                self.number = next;
+                self.gate = FIRST_GATE;
+                self.started = false;
+                Ok(())
+            }
+            Err(_) => Err(LogRollRefused::DiskFault),
+        }
+    }
+
+    // Whether the pointer's place is in the frame that waits.
+    fn waits_at(&self, p: &Pointer) -> bool
+        ensures { IsTrue result ↔ IsWaiting self.now p.now }
+    {
+        p.file == self.number && p.at > self.gate
+    }
+
+    // Where the part of a file ends that no later call changes.
+    fn end_for(&self, file: u32) -> u64
+        ensures { result ≡ end_of self.now file }
+    {
+        if file == self.number {
+            self.gate
+        } else {
+            u64::MAX
+        }
+    }
+
+    // The event of the record that waits at a pointer.
+    fn waiting(&self, alloc: Global, p: &Pointer) -> Result<Event, ReadRefused>
+        requires { IsWaiting self.now p.now }
+        ensures found { FoundAt self.now.bytes (in_frame self.now p.now) result }
+        ensures damage { IsDamageOf p.now.length result }
+        ensures read { IsErrOf result ReadRefused.ReadFault → ⊥ }
+    {
+        let place = p.at - (self.gate + 1);
+        if place > self.frame.len() as u64 {
+            return Err(ReadRefused::Damaged {
+                kept: p.length,
+                found: None,
+            });
+        }
+        event_in(alloc, &self.frame[place as usize..], p.length)
+    }
+
+    /// The event at a pointer, read through what is kept of the last reading. A record that still waits is read from its
+    /// frame. The pointer's file must be there.
+    pub fn read_at<D: Disk>(
+        &mut self,
+        alloc: Global,
+        disk: &mut D,
+        p: &Pointer,
+    ) -> Result<Event, ReadRefused>
+        requires there { WhereTold (D.told disk.old) (λ t. IsSome (t.reads (Log p.now.file))) }
+        ensures waiting { IsWaiting self.old p.now → FoundAt self.old.bytes (in_frame self.old p.now) result }
+
+        // `part` is what each file has that no later call changes: what is kept is of that.
+        ensures found { WhereTold (D.told disk.old) (λ t. (part : ℕ → List ℕ) → IsPieceOf self.old.kept part
+            → IsBelow t p.now.file (end_of self.old p.now.file) (part p.now.file)
+            → (IsWaiting self.old p.now → ⊥) → FoundAt (part p.now.file) p.now result) }
+        ensures kept { WhereTold (D.told disk.old) (λ t. (part : ℕ → List ℕ) → IsPieceOf self.old.kept part
+            → IsBelow t p.now.file (end_of self.old p.now.file) (part p.now.file) → IsPieceOf self.new.kept part) }
+        ensures damage { IsDamageOf p.now.length result }
+        ensures writer { self.new ≡ record self.old { kept = self.new.kept } }
+        ensures same { D.told disk.new ≡ D.told disk.old }
+        ensures fault { IsErrOf result ReadRefused.ReadFault → Rose (D.faults disk.old) (D.faults disk.new) }
+        ensures later { D.faults disk.old ≤ D.faults disk.new }
+        ensures well { (IsErrOf result ReadRefused.ReadFault → ⊥) → D.faults disk.new ≡ D.faults disk.old }
+    {
+        if self.waits_at(p) {
+            return self.waiting(alloc, p);
+        }
+        let end = self.end_for(p.file);
+        let Ok(place) = self
+            .window
+            .find(disk, p.file, p.at, put_length(p.length), end)
+        else {
+            return Err(ReadRefused::ReadFault);
+        };
+        event_in(alloc, self.window.bytes_from(place), p.length)
+    }
+
+    /// Keeps nothing any longer of what was read.
+    pub fn forget(&mut self)
+        ensures writer { self.new ≡ record self.old { kept = self.new.kept } }
+        ensures nothing { self.new.kept.bytes ≡ [] }
+    {
+        self.window.forget();
     }
 
     /// The number of the file.

@@ -49,5 +49,5 @@ pub returns-in-Ok-clause-writer : goal.returns-in-Ok-clause-writer
 returns-in-Ok-clause-writer g c = λ some.
     let size : c.len.result ≡ length c.self.inside.frame.items + 6 = omega (arith, c.len.ensures, length-sealed c.self.inside.frame.items c.seal.new.frame.items c.self.inside.count c.seal.ensures.items) in
     let offset : c.self.inside.gate + c.len.result ≡ c.self.inside.gate + length c.self.inside.frame.items + 6 = omega (arith, size) in
-    let after : ℕ → List ℕ → Writer = λ (n : ℕ) (b : List ℕ). record { file = c.self.inside.number; gate = n; max_file = c.self.inside.max_file; started = true; bytes = b; count = 0 } in
+    let after : ℕ → List ℕ → Writer = λ (n : ℕ) (b : List ℕ). record { file = c.self.inside.number; gate = n; max_file = c.self.inside.max_file; started = true; bytes = b; count = 0; kept = c.self.inside.window } in
     rw (← c.self.view_is) (ap (λ (n : ℕ). after n c.clear.new.self.items) offset ∙ ap (λ (b : List ℕ). after (c.self.inside.gate + length c.self.inside.frame.items + 6) b) c.clear.ensures.items)

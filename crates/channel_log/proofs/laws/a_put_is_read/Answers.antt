@@ -1,0 +1,5 @@
+use Rattle.channel_log.proofs.Pointing.{put_read}
+use Rattle.channel_log.proofs.laws.a_put_is_read.Goals as goal
+
+pub returns : goal.returns
+returns c = put_read

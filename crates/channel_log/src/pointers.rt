@@ -1,0 +1,97 @@
+// The event at a pointer into a log file.
+ghost use Rattle.std.specs.Prelude.{◌≡◌, ◌≤◌, ◌+◌, [], ℕ, List, length, min, Err, IfOk, IsErrOf, Some, IsSome};
+ghost use Rattle.flume_host.specs.Causes.{Rose};
+ghost use Rattle.flume_host.specs.Told.{WhereTold};
+ghost use Rattle.flume_host.specs.declared.names.FileName.TheVariants.{Log};
+ghost use Rattle.record_form.specs.declared.record.Pointer as pointers;
+ghost use Rattle.channel_log.specs.Pointers.{FoundAt, IsDamageOf, IsEventOf};
+
+use event_core::{Event, NoMemory};
+use flume_host::{Disk, FileName};
+use record_form::{MAX_PUT_SIZE, Pointer, Read, Rec, read_record, rec_of};
+use std::alloc::Global;
+
+/// Why an event could not be read.
+#[derive(Clone, Copy, Debug, PartialEq, Eq)]
+pub enum ReadRefused {
+    /// The disk failed.
+    ReadFault,
+    /// No PUT of an event of the pointer's length stands there.
+    Damaged {
+        /// The length that the pointer has.
+        kept: u32,
+        /// The length of the event of the PUT that stands there, if one does.
+        found: Option<u32>,
+    },
+    /// Out of memory.
+    NoMemory,
+}
+
+// How many bytes a PUT of an event of this length has, or the greatest one.
+pub(crate) fn put_length(length: u32) -> usize
+    ensures { result ≡ min length 1_048_576 + 13 }
+{
+    length.min(MAX_PUT_SIZE) as usize + 13
+}
+
+// The event of a PUT, if it has this length.
+fn event_of(rec: Rec, length: u32) -> Result<Event, ReadRefused>
+    ensures { IsEventOf rec length result }
+{
+    let found = match rec {
+        Rec::Put { event, .. } if event.size() == length as u64 => return Ok(event),
+        Rec::Put { event, .. } => Some(event.size() as u32),
+        _ => None,
+    };
+    Err(ReadRefused::Damaged {
+        kept: length,
+        found,
+    })
+}
+
+// The event of the PUT that a front of the bytes spells, if it has this length.
+pub(crate) fn event_in(alloc: Global, bytes: &[u8], length: u32) -> Result<Event, ReadRefused>
+    ensures found { (p : pointers.Pointer) → p.at ≡ 0 → p.length ≡ length → FoundAt bytes.now p result }
+    ensures damage { IsDamageOf length result }
+    ensures read { IsErrOf result ReadRefused.ReadFault → ⊥ }
+{
+    let Read::Whole { .. } = read_record(bytes) else {
+        return Err(ReadRefused::Damaged {
+            kept: length,
+            found: None,
+        });
+    };
+    match rec_of(alloc, bytes) {
+        Ok(rec) => event_of(rec, length),
+        Err(_) => Err(ReadRefused::NoMemory),
+    }
+}
+
+// Room for the PUT of an event of this length, or for the greatest one.
+fn block_for(alloc: Global, size: u32) -> Result<Vec<u8>, NoMemory>
+    ensures { IfOk result (λ block. length block.items ≡ min size 1_048_576 + 13) }
+{
+    let mut block = Vec::new(alloc);
+    block.resize(put_length(size), 0)?;
+    Ok(block)
+}
+
+/// The event at a pointer, read from the files alone. The pointer's file must be there.
+pub fn read_put<D: Disk>(alloc: Global, disk: &mut D, p: &Pointer) -> Result<Event, ReadRefused>
+    requires there { WhereTold (D.told disk.old) (λ t. IsSome (t.reads (Log p.now.file))) }
+    ensures found { WhereTold (D.told disk.old) (λ t. (bytes : List ℕ)
+        → t.reads (Log p.now.file) ≡ Some bytes → FoundAt bytes p.now result) }
+    ensures damage { IsDamageOf p.now.length result }
+    ensures same { D.told disk.new ≡ D.told disk.old }
+    ensures fault { IsErrOf result ReadRefused.ReadFault → Rose (D.faults disk.old) (D.faults disk.new) }
+    ensures later { D.faults disk.old ≤ D.faults disk.new }
+    ensures well { (IsErrOf result ReadRefused.ReadFault → ⊥) → D.faults disk.new ≡ D.faults disk.old }
+{
+    let Ok(mut block) = block_for(alloc, p.length) else {
+        return Err(ReadRefused::NoMemory);
+    };
+    let Ok(filled) = disk.read(FileName::Log(p.file), p.at, &mut block) else {
+        return Err(ReadRefused::ReadFault);
+    };
+    event_in(alloc, &block[..filled], p.length)
+}
