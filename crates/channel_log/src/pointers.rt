@@ -20,7 +20,7 @@ pub enum ReadRefused {
     Damaged {
         /// The length that the pointer has.
         kept: u32,
-        /// The length of the event of the PUT that stands there, if one does.
+        /// The length of the event of the PUT that was read there, if one was.
         found: Option<u32>,
     },
     /// Out of memory.

@@ -1,7 +1,9 @@
 -- Two records that wait for a flush.
-use Rattle.std.proofs.Common.{◌≡◌, ◌≤◌, ◌+◌, ◌++◌, ◌∷◌, [], ◌∙◌, ℕ, List, length, Option, ap, sym, subst, arith}
+use Rattle.std.proofs.Common.{refl, ◌≡◌, ◌≤◌, ◌+◌, ◌++◌, ◌∷◌, [], ◌∙◌, ℕ, List, length, Option, ap, sym, subst, arith}
 use Rattle.std.proofs.lemmas.List.{append-nil}
-use Rattle.flume_host.specs.Told.{Told}
+use Rattle.std.specs.Prelude.{IsSome}
+use Rattle.flume_host.specs.declared.names.FileName.TheVariants.{Log}
+use Rattle.flume_host.specs.Told.{Told, WhereTold}
 use Rattle.record_form.specs.declared.record.Rec.{Rec}
 use Rattle.record_form.specs.Record.{record_length, spelling}
 use Rattle.record_form.proofs.Again.{length-spelling}
@@ -25,3 +27,6 @@ still_ready told w0 w1 w2 a b birth file gate file_is gate_is one two ready =
     let same_file : file ≡ w2.file = sym (ap (λ (w : Writer). w.file) two.is ∙ ap (λ (w : Writer). w.file) one.is ∙ file_is) in
     let same_gate : gate ≡ w2.gate = sym (ap (λ (w : Writer). w.gate) two.is ∙ ap (λ (w : Writer). w.gate) one.is ∙ gate_is) in
     subst (λ (n : ℕ). IsReady told birth w2.file n []) same_gate (subst (λ (n : ℕ). IsReady told birth n gate []) same_file ready)
+
+pub is_there : (told : Option Told) (birth number gate : ℕ) (frames : List (List Rec)) → IsReady told birth number gate frames → WhereTold told (λ t. IsSome (t.reads (Log number)))
+is_there told birth number gate frames ready = λ t is. subst (λ (file : Option (List ℕ)). IsSome file) (sym (ready t is).reads) refl

@@ -13,6 +13,8 @@ mod frames;
 #[cfg(test)]
 mod open_transactions;
 #[cfg(test)]
+mod pointers;
+#[cfg(test)]
 mod reading;
 #[cfg(test)]
 mod records;
