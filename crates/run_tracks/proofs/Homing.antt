@@ -1,5 +1,5 @@
 -- Passes that took others in.
-use Rattle.std.proofs.Common.{◌≡◌, ◌∙◌, ◌<◌, ℕ, suc, List, [], ◌∷◌, ◌++◌, true, length, set, get_or, refl, sym, ap, subst, append_assoc, arith, rules, length-set}
+use Rattle.std.proofs.Common.{◌≡◌, ◌∙◌, ◌<◌, ℕ, suc, List, [], ◌∷◌, ◌++◌, true, length, set, take, get_or, refl, sym, ap, subst, append_assoc, arith, rules, length-set}
 use Rattle.std.proofs.lemmas.List.{get_or-set_same, get_or-set_other, get_or_append_left, get_or_push, length-append}
 use mathlib.Core.Logic.{dite}
 use native.Mathlib.Decide.{ℕ_discrete}
@@ -135,3 +135,10 @@ are_homes_pop table shares homes s p are =
 pub zips_none : {A B : Type 0} (R : A → B → Type 0) (xs : List A) (ys : List B) → Zips R xs ys → ys ≡ [] → xs ≡ []
 zips_none R [] ys z none = refl
 zips_none R (a ∷ xs) ys z none = absurd (subst (λ (l : List _). Zips R (a ∷ xs) l) none z)
+
+-- what stands beside the last of a list, and what stands beside those before it
+pub zips_last : {A B : Type 0} (R : A → B → Type 0) (xs : List A) (ys : List B) (b : B) (d : A) → Zips R xs (ys ++ b ∷ []) → (length ys < length xs) × (Zips R (take (length ys) xs) ys × R (get_or xs (length ys) d) b)
+zips_last R [] [] b d z = absurd z
+zips_last R [] (y ∷ ys) b d z = absurd z
+zips_last R (a ∷ xs) [] b d z = (omega arith, (tt, z.0))
+zips_last R (a ∷ xs) (y ∷ ys) b d z = let r = zips_last R xs ys b d z.1 in (let l = r.0 in omega arith, ((z.0, r.1.0), r.1.1))

@@ -4,7 +4,9 @@
 mod bring;
 mod close;
 mod laws;
+mod open;
 
 pub use bring::{bring_home, end_ports};
 pub use close::close_all;
 pub use laws::{batch_is_in_tracks, every_number_is_home, rounds_are_in_track};
+pub use open::open_ports;
