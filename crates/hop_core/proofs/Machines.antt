@@ -4,11 +4,12 @@ use Rattle.std.proofs.lemmas.List.{append-nil}
 use Rattle.std.specs.List.{slice_get}
 use Rattle.event_core.specs.Content.{Content}
 use Rattle.channel_face.specs.Token.{Token}
-use Rattle.channel_face.specs.Machine.{State, Put, puts_of, put_refusal, take_refusal, begin_refusal, after_put, add_put, settle_if, AdmitsPut, AdmitsTake, AdmitsBegin}
+use Rattle.channel_face.specs.Machine.{State, Put, Take, puts_of, put_refusal, take_refusal, begin_refusal, after_put, add_put, add_take, free, settle_if, takes_of, AdmitsPut, AdmitsTake, AdmitsBegin}
 use Rattle.channel_face.specs.History.{Moves}
 use Rattle.channel_face.specs.declared.replies.Put.{Put as PutDone}
 use Rattle.channel_face.specs.declared.replies.PutRefused.{PutRefused}
 use Rattle.channel_face.specs.declared.replies.PutRefused.TheVariants as PutNo
+use Rattle.channel_face.specs.declared.replies.Taken.{Taken}
 use Rattle.channel_face.specs.declared.replies.TakeRefused.{TakeRefused}
 use Rattle.channel_face.specs.declared.replies.TakeRefused.TheVariants as TakeNo
 use Rattle.channel_face.specs.declared.replies.BeginRefused.{BeginRefused}
@@ -68,6 +69,15 @@ added_rules s number (Some events) e = refl
 
 pub put_rules : (s s' : State) (token : Token) (e : Content) (done : PutDone) → Moves true s (Put token e (Ok done)) s' → s'.rules ≡ s.rules
 put_rules s s' token e done moves = ap (λ (t : State). t.rules) moves.state ∙ (added_rules (settle_if done.spilled s) token.number (puts_of s token) e ∙ settled_rules done.spilled s)
+
+more_rules : (s : State) (number : ℕ) (takes : Option (List ℕ)) (items : List (ℕ × Content)) → (add_take s number takes items).rules ≡ s.rules
+more_rules s number None items = refl
+more_rules s number (Some numbers) [] = refl
+more_rules s number (Some numbers) (item ∷ items) = refl
+
+-- a take leaves the rules as they are
+pub take_rules : (s s' : State) (token : Token) (done : Taken) → Moves true s (Take token (Ok done)) s' → s'.rules ≡ s.rules
+take_rules s s' token done moves = ap (λ (t : State). t.rules) moves.state ∙ (more_rules (settle_if done.spilled s) token.number (takes_of s token) (free s) ∙ settled_rules done.spilled s)
 
 -- at its place in a list
 pub here : {A : Type 0} (es : List A) (place : ℕ) (e : A) → slice_get es place ≡ Some e → drop place es ≡ e ∷ drop (place + 1) es

@@ -1,7 +1,8 @@
 // A channel of a node.
-ghost use Rattle.std.specs.Prelude.{◌≡◌, ◌<◌, ◌≤◌, ◌^◌, length, Some, None, Ok, IfOk};
+ghost use Rattle.std.specs.Prelude.{◌≡◌, ◌<◌, ◌≤◌, ◌^◌, ◌++◌, ◌∷◌, [], length, Some, None, Ok, IfOk, if◌then◌else◌};
 ghost use Rattle.world_laws.specs.World.{commits};
-ghost use Rattle.world_laws.specs.Channels.{stored, flushed, failed, given_up, taken, committed, reopened};
+ghost use Rattle.channel_face.specs.declared.replies.Kind.{Kind};
+ghost use Rattle.world_laws.specs.Channels.{is_empty, stored, flushed, failed, given_up, taken, committed, reopened};
 ghost use Rattle.hop_core.specs.Did.{Did, IsTakeBegun};
 ghost use Rattle.hop_core.specs.Start.{new_channel};
 
@@ -106,14 +107,44 @@ impl NodeChannel {
         self.last
     }
 
-    // The same channel once more.
-    fn copy(&self) -> Result<NodeChannel, NoMemory>
-        ensures { IfOk result (λ copy. copy ≡ self.now) }
+    // What its commits name, once more.
+    fn names(&self) -> Result<Vec<Option<Delivery>>, NoMemory>
+        ensures { IfOk result (λ names. names.items ≡ self.now.named) }
     {
+        Ok(Vec::from_slice(self.alloc, &self.named)?)
+    }
+
+    // What its commits name, and this delivery, where there are some events.
+    fn names_and(
+        &self,
+        delivery: Delivery,
+        events: &Batch,
+    ) -> Result<Vec<Option<Delivery>>, NoMemory>
+        ensures { IfOk result (λ names. names.items
+            ≡ (if is_empty events.now then self.now.named else self.now.named ++ Some delivery ∷ [])) }
+    {
+        let mut names = self.names()?;
+        if events.is_empty() {
+            return Ok(names);
+        }
+        names.push(Some(delivery))?;
+        Ok(names)
+    }
+
+    // This channel with another machine, and with other names beside its commits.
+    fn with(&self, machine: Machine, named: Vec<Option<Delivery>>) -> Result<NodeChannel, NoMemory>
+        requires { machine.counted.state.rules.kind ≡ Kind.File }
+        ensures { IfOk result (λ new. new ≡ record self.now {
+          state = machine.counted.state;
+          journal = machine.journal;
+          named = named.items;
+        }) }
+    {
+        let later = Vec::from_slice(self.alloc, &self.later)?;
         Ok(NodeChannel {
-            machine: self.machine.copy()?,
-            named: Vec::from_slice(self.alloc, &self.named)?,
-            later: Vec::from_slice(self.alloc, &self.later)?,
+            machine,
+            named,
+            later,
             last: self.last,
             alloc: self.alloc,
         })
@@ -123,12 +154,13 @@ impl NodeChannel {
     pub(crate) fn stored(&self, events: &Batch) -> Result<Option<NodeChannel>, NoMemory>
         ensures { IfOk result (λ new. new ≡ stored events.now self.now) }
     {
-        let mut copy = self.copy()?;
-        if !put_transaction(&mut copy.machine, events)? {
+        let mut machine = self.machine.copy()?;
+        if !put_transaction(&mut machine, events)? {
             return Ok(None);
         }
-        copy.named.push(None)?;
-        Ok(Some(copy))
+        let mut named = self.names()?;
+        named.push(None)?;
+        Ok(Some(self.with(machine, named)?))
     }
 
     /// Settles what is staged, or breaks where the device fails.
@@ -157,11 +189,12 @@ impl NodeChannel {
     pub(crate) fn take_begun(&self) -> Result<Option<(NodeChannel, u64, u64)>, NoMemory>
         ensures { IfOk result (IsTakeBegun self.now) }
     {
-        let mut copy = self.copy()?;
-        match copy.machine.begin_take() {
+        let mut machine = self.machine.copy()?;
+        match machine.begin_take() {
             Ok(txn) => {
                 let (life, number) = txn.into_numbers();
-                Ok(Some((copy, life, number)))
+                let new = self.with(machine, self.names()?)?;
+                Ok(Some((new, life, number)))
             }
             Err(refused) => {
                 if is_begin_refusal(refused) {
@@ -182,13 +215,16 @@ impl NodeChannel {
         ensures { IfOk result (λ got.
             got ≡ taken (record { life = life; number = number }) self.now) }
     {
-        let mut copy = self.copy()?;
+        let mut machine = self.machine.copy()?;
         let mut txn = TakeTxn::new(life, number);
-        let reply = copy.machine.take(&mut txn);
+        let reply = machine.take(&mut txn);
         let _gone = txn.into_numbers();
         match reply {
             Ok(Taken { event, spilled: _ }) => match event {
-                Some(event) => Ok(Some((copy, event))),
+                Some(event) => {
+                    let new = self.with(machine, self.names()?)?;
+                    Ok(Some((new, event)))
+                }
                 None => Ok(None),
             },
             Err(refused) => {
@@ -213,13 +249,11 @@ impl NodeChannel {
         ensures { IfOk result (λ new.
             new ≡ committed (record { life = life; number = number }) delivery events.now self.now) }
     {
-        let mut copy = self.copy()?;
-        match copy.machine.stage_take(TakeTxn::new(life, number)) {
+        let mut machine = self.machine.copy()?;
+        match machine.stage_take(TakeTxn::new(life, number)) {
             Ok(_) => {
-                if !events.is_empty() {
-                    copy.named.push(Some(delivery))?;
-                }
-                Ok(Some(copy))
+                let named = self.names_and(delivery, events)?;
+                Ok(Some(self.with(machine, named)?))
             }
             Err(StageRefused { txn, cause: _ }) => {
                 let _gone = txn.into_numbers();
@@ -244,9 +278,10 @@ impl NodeChannel {
         if kept as usize > staged || self.machine.life() == u64::MAX {
             return Ok(None);
         }
-        let mut copy = self.copy()?;
-        copy.machine.restart(kept)?;
-        copy.named.truncate(settled + kept as usize);
-        Ok(Some(copy))
+        let mut machine = self.machine.copy()?;
+        machine.restart(kept)?;
+        let mut named = self.names()?;
+        named.truncate(settled + kept as usize);
+        Ok(Some(self.with(machine, named)?))
     }
 }
