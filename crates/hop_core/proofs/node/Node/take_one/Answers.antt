@@ -1,13 +1,25 @@
-use Rattle.std.proofs.Common.{rules, ◌≡◌, ◌∙◌, ◌<◌, ◌++◌, ◌∷◌, [], length, drop, refl, Some, None}
+use Rattle.std.proofs.Common.{rules, ◌≡◌, ◌∙◌, ◌<◌, ◌++◌, ◌∷◌, [], List, length, drop, refl, ap, Option, Some, None}
 use Rattle.std.specs.Vec.{with_items}
 use Rattle.std.specs.List.{slice_get, slice_set}
 use Rattle.std.proofs.lemmas.Option.{slice_get_read}
-use Rattle.world_laws.specs.World.{live}
+use Rattle.std.proofs.lemmas.Result.{err_from_is_err_and}
+use Rattle.world_laws.specs.World.{Attempt, Node, live}
 use Rattle.hop_core.specs.contracts.node.Node.{the_view}
 use Rattle.hop_core.specs.contracts.work.OpenAttempt.{the_view as attempt_view}
 use Rattle.world_laws.specs.Channels.{taken}
 use Rattle.hop_core.proofs.Nodes.{written_back, take_one_done}
 use Rattle.hop_core.proofs.node.Node.take_one.Goals as goal
+
+pub returns-in_err-add_event : goal.returns-in_err-add_event
+returns-in_err-add_event c =
+    let node : Node = the_view c.self.inside in
+    let value : c.deref_mut.result.now ≡ node.attempts = search rules in
+    let same : c.add_event.new.attempts ≡ node.attempts = c.in_err-add_event.ensures.err ∙ value in
+    let back_size : length c.add_event.new.attempts ≡ c.self.inside.attempts.len = search rules in
+    let back : (with_items c.self.inside.attempts c.add_event.new.attempts).items ≡ c.add_event.new.attempts = written_back c.self.inside.attempts.len c.add_event.new.attempts (drop (length c.add_event.new.attempts) c.self.inside.attempts.items) back_size in
+    let told = err_from_is_err_and c.from_residual-in_err-add_event.result c.from_residual-in_err-add_event.ensures.1 in
+    let kept : record node { attempts = (with_items c.self.inside.attempts c.add_event.new.attempts).items } ≡ node = ap (λ (all : List (Option Attempt)). record node { attempts = all }) (back ∙ same) in
+    rw (told.1) (kept ∙ c.self.view_is)
 
 pub returns : goal.returns
 returns c =
