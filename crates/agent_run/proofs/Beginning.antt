@@ -15,7 +15,7 @@ use Rattle.channel_face.specs.declared.replies.Kind.TheVariants.{File as OnFile}
 use Rattle.channel_face.proofs.LawLemmas.{after_none}
 use Rattle.file_channel.specs.Folders.{OpensTo}
 use Rattle.file_channel.specs.Folders.{IsAsBefore, Opens, OpensFrom}
-use Rattle.file_channel.specs.Stands.{IsSeenIn, MayFind, Shown, StandsOver}
+use Rattle.file_channel.specs.Stands.{FileState, IsSeenIn, MayFind, StandsOver}
 use Rattle.netcat_source.specs.declared.replies.LineVerdict.TheVariants.{InDoubt}
 use Rattle.agent_run.specs.Handled.{Handled, GoesOn}
 use Rattle.agent_run.specs.Stored.{GivesFront, GivesLines, Holds, behind, default_limits}
@@ -47,7 +47,7 @@ no_front : (base : Base) (image : Files) → GivesLines base [] image → GivesF
 no_front base image gives = record { more = []; rest = []; first = refl; one = omega arith; gives = gives }
 
 -- the channel was opened as this, and made no call
-module _ (told' : Option Told) (faults' : ℕ) (c : Shown) (o : Opening) (stands : StandsOver told' faults' c o []) where
+module _ (told' : Option Told) (faults' : ℕ) (c : FileState) (o : Opening) (stands : StandsOver told' faults' c o []) where
   begins : (t u : Told) → told' ≡ Some u → o.from ≡ clock t + 1 → Opens t.reads default_limits.capacity o.base o.txn → OpensFrom t u → Follows [] [] (opening o) t u
   begins t u is_u from opens settled =
       let since : EachMoment (clock t + 1) (λ m image. GivesFront o.base [] [] image) u = λ m image low left. no_front o.base image (found_none o image (stands.images u is_u m image (omega (arith, from, low)) left)) in

@@ -11,3 +11,4 @@ pub mod Doubt
 pub mod Spent
 pub mod Grammar
 pub mod Within
+pub mod Fronts

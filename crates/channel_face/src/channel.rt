@@ -5,7 +5,12 @@ ghost use Rattle.channel_face.specs.Calls.{IsCommit, cause_of};
 ghost use Rattle.channel_face.specs.Counters.{counts_of};
 ghost use Rattle.channel_face.specs.History.{Opening, Step, IsRun, opening, AddsOne, Made, Shows, reopen_reply};
 ghost use Rattle.channel_face.specs.declared.replies.CommitRefused.{CommitRefused};
+ghost use Rattle.channel_face.specs.declared.replies.CheckRefused.{CheckRefused};
 ghost use Rattle.channel_face.specs.declared.replies.FlushRefused.{FlushRefused};
+ghost use Rattle.channel_face.specs.declared.replies.OpenCause.{OpenCause};
+ghost use Rattle.channel_face.specs.declared.replies.PruneRefused.{PruneRefused};
+ghost use Rattle.channel_face.specs.declared.replies.PutRefused.{PutRefused};
+ghost use Rattle.channel_face.specs.declared.replies.TakeRefused.{TakeRefused};
 ghost use Rattle.channel_face.specs.Machine.{State, BeginPut, BeginTake, Put, Take, StagePut, StageTake, Flush, RollbackPut, RollbackTake, Checkpoint, Prune, Reopen, Reopened, settled};
 
 use crate::{
@@ -45,17 +50,21 @@ pub trait Channel {
 
     /// Puts an event. 1. `Stale`. 2. `Broken`. 3. `Spent` of `Counter::File`. 4. `TxnFull`, exactly where the transaction has
     /// as many puts as the limits allow. 5. `TooLarge`, exactly where the event's size passes 1,048,576 bytes. 6. `Full`,
-    /// exactly where left, open and staged events together are the capacity. 7. `DiskFault`. A memory channel answers only
-    /// the first, the fourth and `NoMemory`.
+    /// exactly where left, open and staged events together are the capacity. 7. `DiskFault`, where the disk failed in this
+    /// call. A memory channel answers only the first, the fourth and `NoMemory`.
     fn put(&mut self, txn: &mut PutTxn, event: &Event) -> Result<crate::Put, PutRefused>
         ensures step { AddsOne (stands self.old) (stands self.new) (Put txn.old event.now result) (moment self.new) }
-        ensures same { txn.new ≡ txn.old };
+        ensures same { txn.new ≡ txn.old }
+        ensures fault { IsErrOf result PutRefused.DiskFault → Rose (faults self.old) (faults self.new) };
 
     /// Takes the event of the least number that no transaction holds, or none. 1. `Stale`. 2. `Broken`. 3. `Spent` of
-    /// `Counter::File`. 4. `TxnFull`. 5. `ReadFault`. 6. `Damaged`. 7. `NoMemory`. 8. `DiskFault`.
+    /// `Counter::File`. 4. `TxnFull`. 5. `ReadFault`, where the disk failed to read in this call. 6. `Damaged`, only over a
+    /// disk that does not tell. 7. `NoMemory`. 8. `DiskFault`, where the disk failed in this call.
     fn take(&mut self, txn: &mut TakeTxn) -> Result<Taken, TakeRefused>
         ensures step { AddsOne (stands self.old) (stands self.new) (Take txn.old result) (moment self.new) }
-        ensures same { txn.new ≡ txn.old };
+        ensures same { txn.new ≡ txn.old }
+        ensures read { IsErrOf result TakeRefused.ReadFault → Rose (faults self.old) (faults self.new) }
+        ensures fault { IsErrOf result TakeRefused.DiskFault → Rose (faults self.old) (faults self.new) };
 
     /// Stages a transaction of puts. Its events have numbers from then on, in order. It takes no memory and touches no
     /// device. 1. `Stale`. 2. `Broken`. 3. `Full`, of a memory channel alone, exactly where left and staged events and the
@@ -146,16 +155,20 @@ pub trait Durable: Channel {
     /// Flushes, then lays a checkpoint. 1. `Broken`. 2. `Spent` of `Counter::Check`. 3. `DiskFault`, where the flush failed.
     /// 4. `CheckFault`, where the checkpoint's own file failed: what was staged is settled. It takes no memory.
     fn checkpoint(&mut self) -> Result<(), CheckRefused>
-        ensures { AddsOne (Self.stands self.old) (Self.stands self.new) (Checkpoint result) (Self.moment self.new) };
+        ensures step { AddsOne (Self.stands self.old) (Self.stands self.new) (Checkpoint result) (Self.moment self.new) }
+        ensures fault { IsErrOf result CheckRefused.DiskFault → Rose (Self.faults self.old) (Self.faults self.new) }
+        ensures check { IsErrOf result CheckRefused.CheckFault → Rose (Self.faults self.old) (Self.faults self.new) };
 
     /// Removes the files that no reopening needs, and answers how many. 1. `Broken`. 2. `DiskFault`, and the channel is not
     /// broken. It takes no memory.
     fn prune(&mut self) -> Result<u64, PruneRefused>
-        ensures { AddsOne (Self.stands self.old) (Self.stands self.new) (Prune result) (Self.moment self.new) };
+        ensures step { AddsOne (Self.stands self.old) (Self.stands self.new) (Prune result) (Self.moment self.new) }
+        ensures fault { IsErrOf result PruneRefused.DiskFault → Rose (Self.faults self.old) (Self.faults self.new) };
 
     /// Opens the channel's folder anew. On Ok the life is one more, earlier tokens are stale, and what was staged is kept up
     /// to some place. After a refusal the channel is broken, and `Spent` of `Counter::Life` comes exactly where the life is
     /// 2^64 - 1. `steps` counts the records that it reads.
     fn reopen<L: Ledger>(&mut self, steps: &mut Steps<L>) -> Result<(), OpenCause>
-        ensures { (kept : Reopened) × AddsOne (Self.stands self.old) (Self.stands self.new) (Reopen (reopen_reply result kept)) (Self.moment self.new) };
+        ensures step { (kept : Reopened) × AddsOne (Self.stands self.old) (Self.stands self.new) (Reopen (reopen_reply result kept)) (Self.moment self.new) }
+        ensures fault { IsErrOf result OpenCause.DiskFault → Rose (Self.faults self.old) (Self.faults self.new) };
 }

@@ -229,6 +229,7 @@ logged_after told told' w w' b s log whole earlier given flushed writer none = f
           busy_is = log.busy_is;
           few = log.few;
           room = log.room;
+          limit = log.limit;
           waits = λ _. record {
             records = [];
             pending = subst (λ (l : List Rec). IsPending w l) empty waits.pending;
@@ -244,6 +245,7 @@ logged_after told told' w w' b s log whole earlier given flushed writer none = f
           busy_is = log.busy_is;
           few = log.few;
           room = omega (arith, log.room, ap (λ (l : List ℕ). length l) bytes);
+          limit = ap (λ (v : Writer). v.max_file) is ∙ log.limit;
           waits = λ _. record {
             records = [];
             pending = record { spelled = bytes; counted = count; each = tt };

@@ -322,14 +322,15 @@ begun_disk told told' later w s base txn number fresh recovers most some is next
     let a = back told told' SettledAs is b.0 b.1 in
     begun_on_disk a.0 v w s base txn number fresh (recovers a.0 a.1) most some (next_at told told' number is next a.0 a.1) (changes_of a.0 b.0 v number a.2 b.2) (ready v new) file gate
 
-pub begun_logged : (told told' later : Option Told) (w : Writer) (s : State) (base : Base) (txn number most_bytes : ℕ) → IsFresh s base txn → WhereTold told (λ t. OpensTo t.reads base txn) → txn ≤ 2 ^ 64 - 1 → 1 ≤ txn → Tells told told' SettledAs
+pub begun_logged : (told told' later : Option Told) (w : Writer) (s : State) (base : Base) (txn number most_bytes : ℕ) → IsFresh s base txn → s.rules.limits.max_file ≡ most_bytes → WhereTold told (λ t. OpensTo t.reads base txn) → txn ≤ 2 ^ 64 - 1 → 1 ≤ txn → Tells told told' SettledAs
     → WhereTold told' (λ t. IsNextFile t.reads number) → Tells told' later (BeginsFile number) → IsReady later 1 number 16 [] → w ≡ record { file = number; gate = 16; max_file = most_bytes; started = false; bytes = []; count = 0 } → IsLogged later w 0 s
-begun_logged told told' later w s base txn number most_bytes fresh recovers most some is next begins ready writer =
+begun_logged told told' later w s base txn number most_bytes fresh limit recovers most some is next begins ready writer =
     let bytes : w.bytes ≡ [] = ap (λ (x : Writer). x.bytes) writer in
     record {
       busy_is = rw fresh.opened refl;
       few = omega (arith, ap (λ (l : List _). length l) fresh.opened);
       room = omega (arith, ap (λ (l : List ℕ). length l) bytes);
+      limit = ap (λ (x : Writer). x.max_file) writer ∙ sym limit;
       waits = λ _. record {
         records = [];
         pending = record { spelled = bytes; counted = ap (λ (x : Writer). x.count) writer; each = tt };

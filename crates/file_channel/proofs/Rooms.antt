@@ -1,12 +1,18 @@
--- Whether a frame has room for a record.
-use Rattle.std.proofs.Common.{◌≡◌, ◌⊎◌, inl, inr, ◌<◌, ◌≤◌, ◌+◌, ℕ, Option, Some, None, Bool, true, false, refl, arith}
-use Rattle.std.specs.Prelude.{◌↔◌, IsSome}
+-- Whether a frame has room for a record, and how many bytes then wait in it.
+use Rattle.std.proofs.Common.{◌≡◌, ◌⊎◌, inl, inr, ◌<◌, ◌≤◌, ◌+◌, ◌==◌, ℕ, Option, Some, None, Result, Ok, Err, Bool, true, false, cond, refl, sym, ◌∙◌, ap, arith}
+use Rattle.std.proofs.lemmas.Bool.Decides.{nat_tests}
+use Rattle.std.specs.Prelude.{◌↔◌, IsSome, OnErr, OnOk}
+use Rattle.channel_face.specs.History.{reopen_reply}
+use Rattle.channel_face.specs.Machine.{Reopen, Reopened, State}
+use Rattle.channel_face.specs.declared.replies.OpenCause.{OpenCause}
 use Rattle.file_channel.specs.Touches.{HasNoRoom}
+use Rattle.file_channel.specs.Waiting.{rollback_length, waiting_after}
 
 differ : {A : Type 0} → false ≡ true → A
 differ is = absurd (cc)
 
-lacks : (waiting size : ℕ) → (waiting + size + 6 ≤ 2_097_152 → ⊥) → HasNoRoom waiting size
+-- what has no room lacks it
+pub lacks : (waiting size : ℕ) → (waiting + size + 6 ≤ 2_097_152 → ⊥) → HasNoRoom waiting size
 lacks waiting size full = from (side (waiting + size + 6))
   where
     side : (n : ℕ) → (2_097_152 < n) ⊎ (n ≤ 2_097_152)
@@ -34,3 +40,55 @@ has_none_for waiting size event full = (λ is. (refl, lacks waiting size full), 
 -- one that found no event did not spill
 pub none_for : (A : Type 0) (waiting size : ℕ) → (false ≡ true) ↔ IsSome {T = A} None × HasNoRoom waiting size
 none_for A waiting size = (λ is. differ is, λ more. differ more.0)
+
+-- the bytes that wait after a call
+
+not_zero : (n : ℕ) → 0 < n → (n == 0) ≡ false
+not_zero n some = grind (arith, nat_tests)
+
+is_zero : (n : ℕ) → n ≤ 0 → (n == 0) ≡ true
+is_zero n none = grind (arith, nat_tests)
+
+-- what is not nothing is positive
+pub positive : (n : ℕ) → (n ≡ 0 → ⊥) → 0 < n
+positive n not = from (side n)
+  where
+    side : (n : ℕ) → (0 < n) ⊎ (n ≡ 0)
+    side n = grind arith
+
+    from : (0 < n) ⊎ (n ≡ 0) → 0 < n
+    from (inl some) = some
+    from (inr nothing) = absurd (not nothing)
+
+-- a transaction that did something is staged with a record of this length
+pub staged_some : (count waiting size : ℕ) → 0 < count → waiting + size ≡ waiting + cond (count == 0) 0 size
+staged_some count waiting size some = rw (not_zero count some) refl
+
+-- one that did nothing is staged without a record
+pub staged_none : (count waiting size : ℕ) → count ≡ 0 → waiting ≡ waiting + cond (count == 0) 0 size
+staged_none count waiting size none = rw (is_zero count (omega (arith, none))) (omega arith)
+
+-- what is not positive is nothing
+pub none : (n : ℕ) → (0 < n → ⊥) → n ≤ 0
+none n not = from (side n)
+  where
+    side : (n : ℕ) → (0 < n) ⊎ (n ≤ 0)
+    side n = grind arith
+
+    from : (0 < n) ⊎ (n ≤ 0) → n ≤ 0
+    from (inl some) = absurd (not some)
+    from (inr low) = low
+
+-- a transaction that did something is given up with a record, unless the channel is broken
+pub rolled_some : (broken : Bool) (held waiting : ℕ) → (0 < held) × (broken ≡ false) → waiting + 9 ≡ waiting + rollback_length broken held
+rolled_some broken held waiting both = rw (both.1, not_zero held both.0) refl
+
+-- and else without one
+pub rolled_none : (broken : Bool) (held waiting : ℕ) → ((0 < held) × (broken ≡ false) → ⊥) → waiting ≡ waiting + rollback_length broken held
+rolled_none true held waiting not = omega arith
+rolled_none false held waiting not = rw (is_zero held (none held (λ some. not (some, refl)))) (omega arith)
+
+-- a reopening begins with an empty frame, and one that was refused leaves the frame
+pub reopened_waits : (s : State) (r : Result (Unit {0}) OpenCause) (kept : Reopened) (old new : ℕ) → OnOk r (new ≡ 0) → OnErr r (new ≡ old) → new ≡ waiting_after s (Reopen (reopen_reply r kept)) old
+reopened_waits s (Ok done) kept old new empty same = empty
+reopened_waits s (Err e) kept old new empty same = same

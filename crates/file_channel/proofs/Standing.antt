@@ -38,9 +38,10 @@ use Rattle.channel_face.proofs.Loose.{loose}
 use Rattle.channel_face.proofs.Tallies.{tally-push}
 use Rattle.file_channel.specs.Folders.{OpensTo}
 use Rattle.txn_core.specs.Counted.{Counted, Makes}
+use Rattle.file_channel.specs.Waiting.{waiting, waiting_after}
 use Rattle.file_channel.specs.Folders.{IsRefused, Opens, OpensFrom}
 use Rattle.file_channel.proofs.Opening.{as_before_opens}
-use Rattle.file_channel.specs.Stands.{IsSeenIn, MayFind, Shown, StandsOver, has_fault, is_fault, until}
+use Rattle.file_channel.specs.Stands.{FileState, IsSeenIn, IsStanding, MayFind, StandsOver, has_fault, is_fault, until}
 use Rattle.file_channel.specs.Touches.{Flushed, Rests, flushes}
 use Rattle.file_channel.specs.Written.{MayRecover, RecoversSettled}
 
@@ -365,18 +366,28 @@ images_run t u start h step old new a run finds at rests =
     rises : clock t ≤ clock u
     rises = clock_rises t u (MayRecover old) run
 
+-- what a file channel counts, beside its waiting bytes
+abbrev pub counted_of : FileState → Counted
+counted_of c = record { state = c.state; tally = c.tally }
+
+-- the bytes that wait after one more call
+waiting-push : (s : State) (n : ℕ) (h : List Step) (step : Step) → waiting s n (h ++ step ∷ []) ≡ waiting_after (state_after s h) step.call (waiting s n h)
+waiting-push s n [] step = refl
+waiting-push s n (x ∷ h) step = waiting-push (after s x.call) (waiting_after s x.call n) h step
+
 -- a call of the machine adds itself, as its images may be
-adds_with : (told told' : Option Told) (f f' : ℕ) (old : Counted) (call : Call) (new : Counted) → Moves (is_some_of told) old.state call new.state → new.tally ≡ counted old.state call old.tally → f ≤ f' → (is_fault call ≡ true → Rose f f') → (is_fault call ≡ false → f' ≡ f)
+adds_with : (told told' : Option Told) (f f' : ℕ) (old : FileState) (call : Call) (new : FileState) → Moves (is_some_of told) old.state call new.state → new.tally ≡ counted old.state call old.tally → new.waiting ≡ waiting_after old.state call old.waiting → f ≤ f' → (is_fault call ≡ true → Rose f f') → (is_fault call ≡ false → f' ≡ f)
     → is_some_of told' ≡ is_some_of told → moment_of told ≤ moment_of told'
     → ((start : Opening) (h : List Step) (step : Step) (t u : Told) → told ≡ Some t → told' ≡ Some u → step.moment ≡ clock u → Adds t start h step old.state new.state → step.call ≡ call → EachMoment start.from (λ m image. MayFind start (until m (h ++ step ∷ [])) image) u)
     → ((u : Told) → told' ≡ Some u → (t : Told) × (told ≡ Some t))
     → AddsOne (StandsOver told f old) (StandsOver told' f' new) call (moment_of told')
-adds_with told told' f f' old call new moves count up cause still tells rises images before start h pass stands = record {
+adds_with told told' f f' old call new moves count waits up cause still tells rises images before start h pass stands = record {
   base = stands.base;
   tells = stands.tells ∙ sym tells;
   run = run-push (is_some_of told') (opening start) h step (run_of (is_some_of told') (is_some_of told) (opening start) h tells stands.run) (subst (λ (b : Bool). Admits b (state_after (opening start) h) call) (sym tells) may);
   state = state-push (opening start) h step ∙ (ap (λ (s : State). after s call) stands.state ∙ sym moves.state);
   tally = tally-push (opening start) h step ∙ (same_count ∙ sym count);
+  waiting = waiting-push (opening start) 0 h step ∙ (same_waiting ∙ sym waits);
   moments = none_later (moment_of told') h step (no_later (moment_of told) (moment_of told') h rises stands.moments) (omega arith);
   later = omega (arith, stands.later, up);
   causes = λ is. by (fault-push h step is);
@@ -389,6 +400,9 @@ adds_with told told' f f' old call new moves count up cause still tells rises im
 
     may : Admits (is_some_of told) (state_after (opening start) h) call
     may = subst (λ (s : State). Admits (is_some_of told) s call) (sym stands.state) moves.admitted
+
+    same_waiting : waiting_after (state_after (opening start) h) call (waiting (opening start) 0 h) ≡ waiting_after old.state call old.waiting
+    same_waiting = ap (λ (s : State). waiting_after s call (waiting (opening start) 0 h)) stands.state ∙ ap (λ (n : ℕ). waiting_after old.state call n) stands.waiting
 
     same_count : counted (state_after (opening start) h) call (tally (opening start) h) ≡ counted old.state call old.tally
     same_count = ap (λ (s : State). counted s call (tally (opening start) h)) stands.state ∙ ap (λ (t : Tally). counted old.state call t) stands.tally
@@ -409,10 +423,10 @@ adds_with told told' f f' old call new moves count up cause still tells rises im
     }
 
 -- a call of the machine adds itself
-pub adds_over : (told told' : Option Told) (f f' : ℕ) (old : Counted) (call : Call) (new : Counted) → Makes old call new → f ≤ f' → (is_fault call ≡ true → Rose f f') → (is_fault call ≡ false → f' ≡ f) → Touched told told' old.state → Rests told' new.state
+pub adds_over : (told told' : Option Told) (f f' : ℕ) (old : FileState) (call : Call) (new : FileState) → Makes (counted_of old) call (counted_of new) → new.waiting ≡ waiting_after old.state call old.waiting → f ≤ f' → (is_fault call ≡ true → Rose f f') → (is_fault call ≡ false → f' ≡ f) → Touched told told' old.state → Rests told' new.state
     → AddsOne (StandsOver told f old) (StandsOver told' f' new) call (moment_of told')
-adds_over told told' f f' old call new makes up cause still touched rests =
-    adds_with told told' f f' old call new (record { admitted = may_loosely (is_some_of told) old.state call makes.moves.admitted; state = makes.moves.state }) makes.tally up cause still
+adds_over told told' f f' old call new makes waits up cause still touched rests =
+    adds_with told told' f f' old call new (record { admitted = may_loosely (is_some_of told) old.state call makes.moves.admitted; state = makes.moves.state }) makes.tally waits up cause still
     (told_same told told' old.state touched) (moment_rises told told' old.state touched) images (λ u is. let was = told_before told told' old.state touched u is in (was.0, was.1))
   where
     images : (start : Opening) (h : List Step) (step : Step) (t u : Told) → told ≡ Some t → told' ≡ Some u → step.moment ≡ clock u → Adds t start h step old.state new.state → step.call ≡ call → EachMoment start.from (λ m image. MayFind start (until m (h ++ step ∷ [])) image) u
@@ -464,11 +478,11 @@ reopen_before : (told told' : Option Told) (s : State) → Reopens told told' s 
 reopen_before told told' s (inl same) u is = (u, sym same ∙ is, inl refl)
 reopen_before told told' s (inr (life, tells)) u is = let old = back told told' (λ t v. LeavesOnly t v (MayRecover s)) tells u is in (old.0, old.1, inr (life, old.2))
 
-pub reopens_over : (told told' : Option Told) (f f' : ℕ) (old : Counted) (reply : Result Reopened OpenCause) (new : Counted) → Moves (is_some_of told) old.state (Reopen reply) new.state → new.tally ≡ counted old.state (Reopen reply) old.tally → f ≤ f' → (is_fault (Reopen reply) ≡ true → Rose f f') → (is_fault (Reopen reply) ≡ false → f' ≡ f)
+pub reopens_over : (told told' : Option Told) (f f' : ℕ) (old : FileState) (reply : Result Reopened OpenCause) (new : FileState) → Moves (is_some_of told) old.state (Reopen reply) new.state → new.tally ≡ counted old.state (Reopen reply) old.tally → new.waiting ≡ waiting_after old.state (Reopen reply) old.waiting → f ≤ f' → (is_fault (Reopen reply) ≡ true → Rose f f') → (is_fault (Reopen reply) ≡ false → f' ≡ f)
     → Reopens told told' old.state → Rests told' new.state → AddsOne (StandsOver told f old) (StandsOver told' f' new) (Reopen reply) (moment_of told')
-reopens_over told told' f f' old reply new moves count up cause still reopens rests =
+reopens_over told told' f f' old reply new moves count waits up cause still reopens rests =
     let tells = reopen_tells told told' old.state reopens in
-    adds_with told told' f f' old (Reopen reply) new moves count up cause still tells.0 tells.1 images (λ u is. let was = reopen_before told told' old.state reopens u is in (was.0, was.1))
+    adds_with told told' f f' old (Reopen reply) new moves count waits up cause still tells.0 tells.1 images (λ u is. let was = reopen_before told told' old.state reopens u is in (was.0, was.1))
   where
     images : (start : Opening) (h : List Step) (step : Step) (t u : Told) → told ≡ Some t → told' ≡ Some u → step.moment ≡ clock u → Adds t start h step old.state new.state → step.call ≡ Reopen reply → EachMoment start.from (λ m image. MayFind start (until m (h ++ step ∷ [])) image) u
     images start h step t u was is at adds same_call = from (reopen_before told told' old.state reopens u is)
@@ -488,8 +502,9 @@ reopens_over told told' f f' old reply new moves count up cause still reopens re
 -- the same as a method has it: what was before is named by its value
 
 -- What a method of the channel did, and what the disk told and counted.
-pub record Did (told told' : Option Told) (f f' : ℕ) (old : Counted) (call : Call) (new : Counted) : Type 0 where
-  pub makes : Makes old call new
+pub record Did (told told' : Option Told) (f f' : ℕ) (old : FileState) (call : Call) (new : FileState) : Type 0 where
+  pub makes : Makes (counted_of old) call (counted_of new)
+  pub waits : new.waiting ≡ waiting_after old.state call old.waiting
   pub up : f ≤ f'
   pub cause : is_fault call ≡ true → Rose f f'
   pub still : is_fault call ≡ false → f' ≡ f
@@ -504,15 +519,16 @@ touched_by told told' s call quiet flushed = from (flushes call) refl
     from true is = inr (flushed is)
     from false is = inl (quiet is)
 
-pub adds_did : (told told' told0 : Option Told) (f f' f0 : ℕ) (old new old0 : Counted) (call : Call) → told ≡ told0 → f ≡ f0 → old ≡ old0 → Did told told' f f' old call new
+pub adds_did : (told told' told0 : Option Told) (f f' f0 : ℕ) (old new old0 : FileState) (call : Call) → told ≡ told0 → f ≡ f0 → old ≡ old0 → Did told told' f f' old call new
     → AddsOne (StandsOver told0 f0 old0) (StandsOver told' f' new) call (moment_of told')
 adds_did told told' told0 f f' f0 old new old0 call told_is f_is old_is did =
-    rw (← told_is, ← f_is, ← old_is) (adds_over told told' f f' old call new did.makes did.up did.cause did.still (touched_by told told' old.state call did.quiet did.flushed) did.rests)
+    rw (← told_is, ← f_is, ← old_is) (adds_over told told' f f' old call new did.makes did.waits did.up did.cause did.still (touched_by told told' old.state call did.quiet did.flushed) did.rests)
 
 -- a call that leaves the disk alone
-pub did_quietly : (told told' : Option Told) (f f' : ℕ) (old : Counted) (call : Call) (new : Counted) → Makes old call new → told' ≡ told → f' ≡ f → is_fault call ≡ false → flushes call ≡ false → Rests told' new.state → Did told told' f f' old call new
-did_quietly told told' f f' old call new makes same count no_fault quiet rests = record {
+pub did_quietly : (told told' : Option Told) (f f' : ℕ) (old : FileState) (call : Call) (new : FileState) → Makes (counted_of old) call (counted_of new) → new.waiting ≡ waiting_after old.state call old.waiting → told' ≡ told → f' ≡ f → is_fault call ≡ false → flushes call ≡ false → Rests told' new.state → Did told told' f f' old call new
+did_quietly told told' f f' old call new makes waits same count no_fault quiet rests = record {
   makes = makes;
+  waits = waits;
   up = omega (arith, count);
   cause = λ is. differ (sym is ∙ no_fault);
   still = λ _. count;
@@ -552,14 +568,15 @@ flush_fault (Err FlushNo.DiskFault) is = refl
 flush_fault (Err (FlushNo.Spent counter)) is = absurd (cc)
 
 -- A channel that was just opened stands for no calls: whatever a stop left since recovers to its base.
-pub stands_first : (told : Option Told) (faults : ℕ) (c : Counted) (start : Opening) → IsBase start.base → start.tells ≡ is_some_of told → c.state ≡ opening start → c.tally ≡ tally (opening start) [] → faults ≡ start.faults
+pub stands_first : (told : Option Told) (faults : ℕ) (c : FileState) (start : Opening) → IsBase start.base → start.tells ≡ is_some_of told → c.state ≡ opening start → c.tally ≡ tally (opening start) [] → c.waiting ≡ 0 → faults ≡ start.faults
     → WhereTold told (EachMoment start.from (λ m image. (txn : ℕ) × OpensTo image start.base txn)) → StandsOver told faults c start []
-stands_first told faults c start base same state count well images = record {
+stands_first told faults c start base same state count none well images = record {
   base = base;
   tells = same;
   run = tt;
   state = sym state;
   tally = sym count;
+  waiting = sym none;
   moments = tt;
   later = omega (arith, well);
   causes = λ is. absurd (cc);
@@ -577,9 +594,10 @@ reopen_fault (Err (OpenNo.Spent counter)) kept is = absurd (cc)
 reopen_fault (Err OpenNo.NoMemory) kept is = absurd (cc)
 
 -- What a reopening of the channel did.
-pub record DidReopen (told told' : Option Told) (f f' : ℕ) (old : Counted) (reply : Result Reopened OpenCause) (new : Counted) : Type 0 where
+pub record DidReopen (told told' : Option Told) (f f' : ℕ) (old : FileState) (reply : Result Reopened OpenCause) (new : FileState) : Type 0 where
   pub moves : Moves (is_some_of told) old.state (Reopen reply) new.state
   pub tally : new.tally ≡ counted old.state (Reopen reply) old.tally
+  pub waits : new.waiting ≡ waiting_after old.state (Reopen reply) old.waiting
   pub up : f ≤ f'
   pub cause : is_fault (Reopen reply) ≡ true → Rose f f'
   pub still : is_fault (Reopen reply) ≡ false → f' ≡ f
@@ -597,15 +615,15 @@ reopens_of told told' s spent images = from (at_end s.life)
     from (inl life) = inr (life, images)
     from (inr end) = inl (spent end)
 
-pub adds_reopen : (told told' told0 : Option Told) (f f' f0 : ℕ) (old new old0 : Counted) (reply : Result Reopened OpenCause) → told ≡ told0 → f ≡ f0 → old ≡ old0 → DidReopen told told' f f' old reply new
+pub adds_reopen : (told told' told0 : Option Told) (f f' f0 : ℕ) (old new old0 : FileState) (reply : Result Reopened OpenCause) → told ≡ told0 → f ≡ f0 → old ≡ old0 → DidReopen told told' f f' old reply new
     → AddsOne (StandsOver told0 f0 old0) (StandsOver told' f' new) (Reopen reply) (moment_of told')
 adds_reopen told told' told0 f f' f0 old new old0 reply told_is f_is old_is did =
-    rw (← told_is, ← f_is, ← old_is) (reopens_over told told' f f' old reply new did.moves did.tally did.up did.cause did.still (reopens_of told told' old.state did.spent did.images) did.rests)
+    rw (← told_is, ← f_is, ← old_is) (reopens_over told told' f f' old reply new did.moves did.tally did.waits did.up did.cause did.still (reopens_of told told' old.state did.spent did.images) did.rests)
 
 -- A channel that was opened: since then a stop leaves what recovers to what it has.
-pub stands_opened : (told told' : Option Told) (faults : ℕ) (c : Counted) (start : Opening) (capacity : ℕ) → IsBase start.base → start.tells ≡ is_some_of told' → c.state ≡ opening start → c.tally ≡ tally (opening start) [] → faults ≡ start.faults → start.from ≡ moment_of told + 1
+pub stands_opened : (told told' : Option Told) (faults : ℕ) (c : FileState) (start : Opening) (capacity : ℕ) → IsBase start.base → start.tells ≡ is_some_of told' → c.state ≡ opening start → c.tally ≡ tally (opening start) [] → c.waiting ≡ 0 → faults ≡ start.faults → start.from ≡ moment_of told + 1
     → WhereTold told (λ t. Opens t.reads capacity start.base start.txn) → Tells told told' OpensFrom → StandsOver told' faults c start []
-stands_opened told told' faults c start capacity base same state count well from opens tells = stands_first told' faults c start base same state count well images
+stands_opened told told' faults c start capacity base same state count none well from opens tells = stands_first told' faults c start base same state count none well images
   where
     images : (u : Told) → told' ≡ Some u → EachMoment start.from (λ m image. (txn : ℕ) × OpensTo image start.base txn) u
     images u is m image since left =
@@ -614,8 +632,8 @@ stands_opened told told' faults c start capacity base same state count well from
         (start.txn, as_before_opens b.0.reads image start.base start.txn (b.2.each m image first left) ((opens b.0 b.1).check, (opens b.0 b.1).recovers))
 
 -- what is true of a channel's state shows wherever it stands for an opening and calls
-pub shows_over : (told told0 : Option Told) (f f0 : ℕ) (c c0 : Counted) (P : State → Type 0) → told ≡ told0 → f ≡ f0 → c ≡ c0 → P c.state → Shows (StandsOver told0 f0 c0) P
-shows_over told told0 f f0 c c0 P told_is f_is c_is holds start h stands = subst P (ap (λ (v : Counted). v.state) c_is ∙ sym stands.state) holds
+pub shows_over : (told told0 : Option Told) (f f0 : ℕ) (c c0 : FileState) (P : State → Type 0) → told ≡ told0 → f ≡ f0 → c ≡ c0 → P c.state → Shows (StandsOver told0 f0 c0) P
+shows_over told told0 f f0 c c0 P told_is f_is c_is holds start h stands = subst P (ap (λ (v : FileState). v.state) c_is ∙ sym stands.state) holds
 
 -- a reopening that was not refused for a fault counted none
 pub still_by : (r : Result (Unit {0}) OpenCause) (kept : Reopened) (X : Type 0) (told told' : Option Told) (f f' capacity : ℕ) → OnOk r (f' ≡ f) → (X → f' ≡ f) → IfErr r (λ e. ((e ≡ OpenNo.Spent Life) × X) ⊎ IsRefused told told' f f' capacity e)
@@ -632,7 +650,7 @@ opened_state s r faults from tells is =
     is ∙ ap (λ (v : Rules). opening (record { rules = v; base = base_of s; txn = s.txn; faults = faults; from = from; tells = tells })) (sym rules)
 
 -- a channel that was seen in a state is seen behind its next call
-pub seen_on : (told told' : Option Told) (f f' : ℕ) (c c' : Shown) (s : State) (call : Call) (m : ℕ) → IsSeenIn (StandsOver told f c) s → AddsOne (StandsOver told f c) (StandsOver told' f' c') call m
+pub seen_on : (told told' : Option Told) (f f' : ℕ) (c c' : FileState) (s : State) (call : Call) (m : ℕ) → IsSeenIn (StandsOver told f c) s → AddsOne (StandsOver told f c) (StandsOver told' f' c') call m
     → IsSeenIn (StandsOver told' f' c') (after s call) × Moves (is_some_of told') s call (after s call)
 seen_on told told' f f' c c' s call m seen adds =
     let start : Opening = seen.0 in
@@ -646,3 +664,7 @@ seen_on told told' f f' c c' s call m seen adds =
 -- what shows wherever a channel stands for an opening and calls is true of a state in which it is seen
 pub shown : (stands : Opening → List Step → Type 0) (s : State) (P : State → Type 0) → IsSeenIn stands s → Shows stands P → P s
 shown stands s P seen shows = subst P seen.3 (shows seen.0 seen.1 seen.2)
+
+-- a channel that stands for calls stands for one more after its next call
+pub standing_on : (told told' : Option Told) (f f' : ℕ) (c c' : FileState) (call : Call) (m : ℕ) → IsStanding told f c → AddsOne (StandsOver told f c) (StandsOver told' f' c') call m → IsStanding told' f' c'
+standing_on told told' f f' c c' call m stands adds = (stands.0, stands.1 ++ record { pass = 0; call = call; moment = m } ∷ [], adds stands.0 stands.1 0 stands.2)

@@ -64,6 +64,13 @@ waits_more told w w' s s' rec waits adds step =
 longer_by : (w w' : Writer) (rec : Rec) → Appends w w' rec → length w'.bytes ≡ length w.bytes + length (spelling rec)
 longer_by w w' rec adds = ap (λ (v : Writer). length v.bytes) adds.is ∙ length-append w.bytes (spelling rec)
 
+-- and so many bytes more
+pub longer : (w w' : Writer) (rec : Rec) → Appends w w' rec → length w'.bytes ≡ length w.bytes + record_length rec
+longer w w' rec adds = omega (arith, longer_by w w' rec adds, length-spelling rec)
+
+same_limit : (w w' : Writer) (rec : Rec) → Appends w w' rec → w'.max_file ≡ w.max_file
+same_limit w w' rec adds = ap (λ (v : Writer). v.max_file) adds.is
+
 not_zero : (n : ℕ) → (suc n == 0) ≡ false
 not_zero n = grind (arith, nat_tests)
 
@@ -95,6 +102,7 @@ put_logged told w w' b b' s txn events event first log is is_first adds more roo
       busy_is = omega (arith, log.busy_is, more, busy_with s.opened txn (Puts events) new is, first_done events first is_first, last_done events event);
       few = omega (arith, log.few, length_with s.opened txn new);
       room = room_after w w' (Put txn event) b b' first adds more room;
+      limit = same_limit w w' (Put txn event) adds ∙ log.limit;
       waits = λ whole. waits_more told w w' s (record s { opened = with_entry txn new s.opened }) (Put txn event) (log.waits whole) adds (λ settled records m. put_mirrored s settled records txn events event m is);
     }
 
@@ -106,6 +114,7 @@ take_logged told w w' b b' s txn numbers item rest first log is free_is is_first
       busy_is = omega (arith, log.busy_is, more, busy_with s.opened txn (Takes numbers) new is, first_taken numbers first is_first, last_taken numbers item.0);
       few = omega (arith, log.few, length_with s.opened txn new);
       room = room_after w w' (Take txn item.0) b b' first adds more room;
+      limit = same_limit w w' (Take txn item.0) adds ∙ log.limit;
       waits = λ whole. waits_more told w w' s (record s { opened = with_entry txn new s.opened }) (Take txn item.0) (log.waits whole) adds (λ settled records m. take_mirrored s settled records txn numbers item rest m is free_is);
     }
 
@@ -129,6 +138,7 @@ rollback_logged told w w' b b' s txn entry log is busy_one adds fewer =
       busy_is = omega (arith, log.busy_is, fewer, busy_without s.opened txn entry is, ap one_if_done busy_one);
       few = omega (arith, log.few, length_without s.opened txn);
       room = omega (arith, log.room, fewer, longer_by w w' (Rollback txn) adds, rollback_length txn);
+      limit = same_limit w w' (Rollback txn) adds ∙ log.limit;
       waits = λ whole. waits_more told w w' s (close txn s) (Rollback txn) (log.waits whole) adds (λ settled records m. rollback_mirrored s settled records txn entry m is busy_one);
     }
 
@@ -144,14 +154,15 @@ takes_done (n ∷ numbers) some = refl
 record IsStaged (s s' : State) (txn : ℕ) : Type 0 where
   opened : s'.opened ≡ without_entry txn s.opened
   broken : s'.broken ≡ s.broken
+  limit : s'.rules.limits.max_file ≡ s.rules.limits.max_file
 
 staged_puts : (s : State) (txn : ℕ) (events : List Content) → 1 ≤ length events → IsStaged s (stage txn (Some (Puts events)) s) txn
 staged_puts s txn [] some = absurd (omega (arith, some))
-staged_puts s txn (e ∷ events) some = record { opened = refl; broken = refl }
+staged_puts s txn (e ∷ events) some = record { opened = refl; broken = refl; limit = refl }
 
 staged_takes : (s : State) (txn : ℕ) (numbers : List ℕ) → 1 ≤ length numbers → IsStaged s (stage txn (Some (Takes numbers)) s) txn
 staged_takes s txn [] some = absurd (omega (arith, some))
-staged_takes s txn (n ∷ numbers) some = record { opened = refl; broken = refl }
+staged_takes s txn (n ∷ numbers) some = record { opened = refl; broken = refl; limit = refl }
 
 pub commit_put_logged : (told : Option Told) (w w' : Writer) (b b' : ℕ) (s : State) (txn first count : ℕ) (events : List Content) → IsLogged told w b s → entry_of txn s.opened ≡ Some (Puts events) → 1 ≤ count → count ≡ length events → first ≡ next_number s → next_number s + length events ≤ 2 ^ 64 - 1
     → Appends w w' (CommitPut txn first count) → b' + 1 ≡ b → IsLogged told w' b' (stage txn (Some (Puts events)) s)
@@ -165,6 +176,7 @@ commit_put_logged told w w' b b' s txn first count events log is some counted fi
       busy_is = omega (arith, log.busy_is, fewer, busy_without s.opened txn (Puts events) is, ap one_if_done (puts_done events many), ap busy to.opened);
       few = omega (arith, log.few, length_without s.opened txn, ap (λ (l : List (ℕ × Entry)). length l) to.opened);
       room = omega (arith, log.room, fewer, longer_by w w' rec adds', commit_put_length txn (next_number s) (length events));
+      limit = same_limit w w' rec adds' ∙ (log.limit ∙ sym to.limit);
       waits = λ whole. waits_more told w w' s (stage txn (Some (Puts events)) s) rec (log.waits (sym to.broken ∙ whole)) adds' (λ settled records m. stage_put_mirrored s settled records txn events m is many fits);
     }
 
@@ -179,5 +191,6 @@ commit_take_logged told w w' b b' s txn count numbers log is some counted adds f
       busy_is = omega (arith, log.busy_is, fewer, busy_without s.opened txn (Takes numbers) is, ap one_if_done (takes_done numbers many), ap busy to.opened);
       few = omega (arith, log.few, length_without s.opened txn, ap (λ (l : List (ℕ × Entry)). length l) to.opened);
       room = omega (arith, log.room, fewer, longer_by w w' rec adds', commit_take_length txn (length numbers));
+      limit = same_limit w w' rec adds' ∙ (log.limit ∙ sym to.limit);
       waits = λ whole. waits_more told w w' s (stage txn (Some (Takes numbers)) s) rec (log.waits (sym to.broken ∙ whole)) adds' (λ settled records m. stage_take_mirrored s settled records txn numbers m is many);
     }

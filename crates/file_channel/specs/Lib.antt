@@ -5,4 +5,5 @@ pub mod Written
 pub mod Whole
 pub mod Folders
 pub mod Touches
+pub mod Waiting
 pub mod Stands

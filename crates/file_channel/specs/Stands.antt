@@ -5,7 +5,7 @@ use Rattle.flume_host.specs.Causes.{Rose}
 use Rattle.flume_host.specs.Folder.{Files}
 use Rattle.flume_host.specs.Told.{EachMoment, Told, WhereTold, moment_of}
 use Rattle.event_core.specs.Journal.{Base, IsBase}
-use Rattle.channel_face.specs.Counters.{tally}
+use Rattle.channel_face.specs.Counters.{Tally, tally}
 use Rattle.channel_face.specs.History.{IsRun, MayLeave, Opening, Step, opening, state_after}
 use Rattle.channel_face.specs.Machine.{State, Call, Put, Take, Flush, Checkpoint, Prune, Reopen, base_of, is_some_of}
 use Rattle.channel_face.specs.declared.replies.PutRefused.TheVariants as PutNo
@@ -15,7 +15,7 @@ use Rattle.channel_face.specs.declared.replies.CheckRefused.TheVariants as Check
 use Rattle.channel_face.specs.declared.replies.PruneRefused.TheVariants as PruneNo
 use Rattle.channel_face.specs.declared.replies.OpenCause.TheVariants as OpenNo
 use Rattle.file_channel.specs.Folders.{OpensTo}
-use Rattle.txn_core.specs.Counted.{Counted}
+use Rattle.file_channel.specs.Waiting.{waiting}
 
 -- the calls that had ended by this moment
 abbrev pub until : ℕ → List Step → List Step
@@ -43,21 +43,24 @@ abbrev pub has_fault : List Step → Bool
 has_fault [] = false
 has_fault (step ∷ h) = is_fault step.call || has_fault h
 
--- what a channel shows of itself beside its disk
-abbrev pub Shown : Type 0
-Shown = Counted
+-- What a channel has beside its disk: its state, what is counted, and how many bytes of records wait in its frame.
+pub record FileState : Type 0 where
+  pub state : State
+  pub tally : Tally
+  pub waiting : ℕ
 
 -- The opening's numbers rise, and the disk tells as it did then. The calls are a run from there to this
--- state, with these counts, and none ended later than now. The disk's count of faults is no less than at
+-- state, with these counts and so many waiting bytes, and none ended later than now. The disk's count of faults is no less than at
 -- the opening: it rose where a call was refused for a fault of the disk, and else it stayed. Where the disk
 -- tells, whatever a stop leaves at a moment since the opening opens to something that the calls up to that
 -- moment may leave.
-pub record StandsOver (told : Option Told) (faults : ℕ) (c : Shown) (start : Opening) (h : List Step) : Type 0 where
+pub record StandsOver (told : Option Told) (faults : ℕ) (c : FileState) (start : Opening) (h : List Step) : Type 0 where
   pub base : IsBase start.base
   pub tells : start.tells ≡ is_some_of told
   pub run : IsRun (is_some_of told) (opening start) h
   pub state : state_after (opening start) h ≡ c.state
   pub tally : tally (opening start) h ≡ c.tally
+  pub waiting : waiting (opening start) 0 h ≡ c.waiting
   pub moments : AllByRecursion (λ step. step.moment ≤ moment_of told) h
   pub later : start.faults ≤ faults
   pub causes : has_fault h ≡ true → Rose start.faults faults
@@ -66,7 +69,7 @@ pub record StandsOver (told : Option Told) (faults : ℕ) (c : Shown) (start : O
 
 -- The opening of a channel that has made no call yet, over a disk that told and had counted this before,
 -- and tells this now.
-abbrev pub opened_as : Option Told → ℕ → Option Told → Shown → Opening
+abbrev pub opened_as : Option Told → ℕ → Option Told → FileState → Opening
 opened_as before faults now c = record {
   rules = c.state.rules;
   base = base_of c.state;
@@ -79,3 +82,7 @@ opened_as before faults now c = record {
 -- some opening and calls for which a channel stands led to this state
 abbrev pub IsSeenIn : (Opening → List Step → Type 0) → State → Type 0
 IsSeenIn stands s = (start : Opening) × (h : List Step) × stands start h × (state_after (opening start) h ≡ s)
+
+-- There are an opening and calls for which a channel stands.
+abbrev pub IsStanding : Option Told → ℕ → FileState → Type 0
+IsStanding told faults c = (start : Opening) × (h : List Step) × StandsOver told faults c start h

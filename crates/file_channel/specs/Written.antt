@@ -40,10 +40,12 @@ pub record Waits (told : Option Told) (w : Writer) (s : State) : Type 0 where
   pub disk : WhereTold told (λ t. OnDisk t w s records)
 
 -- The log has this state, unless the channel is broken. So many open transactions have records in it, for each of which room is kept.
+-- The writer leaves a file at the length that the limits name.
 pub record IsLogged (told : Option Told) (w : Writer) (busy_ones : ℕ) (s : State) : Type 0 where
   pub busy_is : busy_ones ≡ busy s.opened
   pub few : length s.opened ≤ 1024
   pub room : length w.bytes + 21 * busy_ones + 6 ≤ 2_097_152
+  pub limit : w.max_file ≡ s.rules.limits.max_file
   pub waits : s.broken ≡ false → Waits told w s
 
 -- an image opens to what is settled, or to that with what is staged

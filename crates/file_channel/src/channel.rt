@@ -19,7 +19,7 @@ ghost use Rattle.channel_replay.specs.Recover.{WhereLogs, lines};
 ghost use Rattle.channel_replay.specs.Replay.{record_count};
 ghost use Rattle.file_channel.specs.Folders.{FailsToSettle, GainsLog, IsBegun, IsRefused, Opens, OpensFrom, OpensOver};
 ghost use Rattle.file_channel.specs.Written.{MayRecover};
-ghost use Rattle.file_channel.specs.Stands.{StandsOver, is_fault, opened_as};
+ghost use Rattle.file_channel.specs.Stands.{IsStanding, StandsOver, is_fault, opened_as};
 ghost use Rattle.file_channel.specs.Touches.{Flushed, HadNoRoom, HasNoRoom, IsSpentLog, Rests, flushes, room_of};
 ghost use Rattle.txn_core.specs.Noted.{noted};
 
@@ -50,16 +50,16 @@ pub struct FileChannel<D: Disk + Drop> {
 }
 
 impl<D: Disk + Drop> Model for FileChannel<D> {
-    ghost use Rattle.std.specs.Prelude.{ℕ};
-    ghost use Rattle.txn_core.specs.Counted.{Counted, tally_of};
+    ghost use Rattle.txn_core.specs.Counted.{tally_of};
+    ghost use Rattle.file_channel.specs.Stands.{FileState, IsStanding};
     ghost use Rattle.file_channel.specs.Touches.{Rests};
 
-    // The disk, what the channel stands for, and how many bytes of records wait in the frame.
-    ghost Value = { D × Counted × ℕ };
+    // The disk, and what the channel has beside it.
+    ghost Value = { D × FileState };
 
-    ghost view = { λ c. (c.logged.0, record { state = c.logged.1; tally = tally_of c.counts }, c.logged.2) };
+    ghost view = { λ c. (c.logged.0, record { state = c.logged.1; tally = tally_of c.counts; waiting = c.logged.2 }) };
 
-    ghost invariant = { λ c. Rests (D.told c.logged.0) c.logged.1 };
+    ghost invariant = { λ c. Rests (D.told c.logged.0) c.logged.1 × IsStanding (D.told c.logged.0) (D.faults c.logged.0) (record { state = c.logged.1; tally = tally_of c.counts; waiting = c.logged.2 }) };
 }
 
 // Counts a call that was made.
@@ -98,17 +98,32 @@ pub fn open_channel<D: Disk + Drop, L: Ledger>(
     steps: &mut Steps<L>,
 ) -> Result<FileChannel<D>, OpenRefused<D>>
     // It stands for no calls: since the folder was settled, whatever a stop leaves recovers to what the folder opened to.
-    ensures stands { IfOk result (λ c. StandsOver (D.told c.0) (D.faults c.0) c.1 (opened_as (D.told disk) (D.faults disk) (D.told c.0) c.1) []) }
-    ensures rules { IfOk result (λ c. (opened_as (D.told disk) (D.faults disk) (D.told c.0) c.1).rules ≡ record { kind = Kind.File; limits = limits }) }
-    ensures opens { IfOk result (λ c. WhereTold (D.told disk) (λ t. Opens t.reads limits.capacity (opened_as (D.told disk) (D.faults disk) (D.told c.0) c.1).base (opened_as (D.told disk) (D.faults disk) (D.told c.0) c.1).txn)) }
-    ensures gains { IfOk result (λ c. Tells (D.told disk) (D.told c.0) (λ t u. GainsLog t.reads IsBegun u.reads)) }
-    ensures refused { IfErr result (λ refused. IsRefused (D.told disk) (D.told refused.disk) (D.faults disk) (D.faults refused.disk) limits.capacity refused.cause) }
+    ensures stands { IfOk result
+        (λ c. StandsOver (D.told c.0) (D.faults c.0) c.1
+        (opened_as (D.told disk) (D.faults disk) (D.told c.0) c.1) []) }
+    ensures rules { IfOk result
+        (λ c. (opened_as (D.told disk) (D.faults disk)
+        (D.told c.0) c.1).rules ≡ record { kind = Kind.File; limits = limits }) }
+    ensures opens { IfOk result
+        (λ c. WhereTold (D.told disk)
+        (λ t. Opens t.reads limits.capacity
+        (opened_as (D.told disk) (D.faults disk) (D.told c.0) c.1).base
+        (opened_as (D.told disk) (D.faults disk) (D.told c.0) c.1).txn)) }
+    ensures gains { IfOk result
+        (λ c. Tells (D.told disk) (D.told c.0) (λ t u. GainsLog t.reads IsBegun u.reads)) }
+    ensures refused { IfErr result
+        (λ refused. IsRefused (D.told disk) (D.told refused.disk) (D.faults disk)
+        (D.faults refused.disk) limits.capacity refused.cause) }
     ensures well { IfOk result (λ c. D.faults c.0 ≡ D.faults disk) }
 
     ensures any_moment { IfOk result (λ c. Tells (D.told disk) (D.told c.0) OpensOver) }
     ensures settled { IfOk result (λ c. Tells (D.told disk) (D.told c.0) OpensFrom) }
-    ensures settled_or { IfErr result (λ refused. ((refused.cause ≡ OpenCause.DiskFault) × FailsToSettle (D.told disk) (D.told refused.disk)) ⊎ Tells (D.told disk) (D.told refused.disk) OpensFrom) }
-    ensures ticks { WhereTold (D.told disk) (λ t. WhereLogs t.reads (λ logs. steps.new ≤ steps.old + record_count (lines logs))) }
+    ensures settled_or { IfErr result
+        (λ refused. ((refused.cause ≡ OpenCause.DiskFault)
+        × FailsToSettle (D.told disk) (D.told refused.disk))
+        ⊎ Tells (D.told disk) (D.told refused.disk) OpensFrom) }
+    ensures ticks { WhereTold (D.told disk)
+        (λ t. WhereLogs t.reads (λ logs. steps.new ≤ steps.old + record_count (lines logs))) }
 {
     match LoggedLists::open(alloc, disk, limits, steps) {
         Ok(logged) => {
@@ -134,16 +149,34 @@ impl<D: Disk + Drop> FileChannel<D> {
     /// the life is 2^64 - 1. On Ok the life is one more and earlier tokens are stale. What was settled is left, and with it
     /// all that was staged or nothing of that. After a refusal the channel is broken, and has what it had.
     pub fn reopen<L: Ledger>(&mut self, steps: &mut Steps<L>) -> Result<(), OpenCause>
-        ensures step { (kept : Reopened) × AddsOne (StandsOver (D.told self.old.0) (D.faults self.old.0) self.old.1) (StandsOver (D.told self.new.0) (D.faults self.new.0) self.new.1) (Reopen (reopen_reply result kept)) (moment_of (D.told self.new.0)) }
-        ensures opens { Shows (StandsOver (D.told self.new.0) (D.faults self.new.0) self.new.1) (λ s. OnOk result (WhereTold (D.told self.old.0) (λ t. Opens t.reads s.rules.limits.capacity (base_of s) s.txn))) }
-        ensures gains { OnOk result (Tells (D.told self.old.0) (D.told self.new.0) (λ t u. GainsLog t.reads IsBegun u.reads)) }
-        ensures any_moment { Shows (StandsOver (D.told self.old.0) (D.faults self.old.0) self.old.1) (λ s. Tells (D.told self.old.0) (D.told self.new.0) (λ t u. LeavesOnly t u (MayRecover s))) }
+        ensures step { (kept : Reopened)
+            × AddsOne (StandsOver (D.told self.old.0) (D.faults self.old.0) self.old.1)
+            (StandsOver (D.told self.new.0) (D.faults self.new.0) self.new.1)
+            (Reopen (reopen_reply result kept)) (moment_of (D.told self.new.0)) }
+        ensures opens { Shows (StandsOver (D.told self.new.0) (D.faults self.new.0) self.new.1)
+            (λ s. OnOk result (WhereTold (D.told self.old.0)
+            (λ t. Opens t.reads s.rules.limits.capacity (base_of s) s.txn))) }
+        ensures gains { OnOk result
+            (Tells (D.told self.old.0) (D.told self.new.0)
+            (λ t u. GainsLog t.reads IsBegun u.reads)) }
+        ensures any_moment { Shows (StandsOver (D.told self.old.0) (D.faults self.old.0) self.old.1)
+            (λ s. Tells (D.told self.old.0) (D.told self.new.0)
+            (λ t u. LeavesOnly t u (MayRecover s))) }
+        ensures fault { IsErrOf result OpenCause.DiskFault
+            → Rose (D.faults self.old.0) (D.faults self.new.0) }
         ensures later { D.faults self.old.0 ≤ D.faults self.new.0 }
         ensures well { OnOk result (D.faults self.new.0 ≡ D.faults self.old.0) }
-        ensures spent { Shows (StandsOver (D.told self.old.0) (D.faults self.old.0) self.old.1) (λ s. 2 ^ 64 - 1 ≤ s.life → (result ≡ Err (OpenCause.Spent Counter.Life)) × (D.told self.new.0 ≡ D.told self.old.0) × (D.faults self.new.0 ≡ D.faults self.old.0)) }
-        ensures refused { Shows (StandsOver (D.told self.old.0) (D.faults self.old.0) self.old.1) (λ s. IfErr result (λ cause. ((cause ≡ OpenCause.Spent Counter.Life) × (D.told self.new.0 ≡ D.told self.old.0) × (D.faults self.new.0 ≡ D.faults self.old.0))
-            ⊎ IsRefused (D.told self.old.0) (D.told self.new.0) (D.faults self.old.0) (D.faults self.new.0) s.rules.limits.capacity cause)) }
-        ensures ticks { WhereTold (D.told self.old.0) (λ t. WhereLogs t.reads (λ logs. steps.new ≤ steps.old + record_count (lines logs))) }
+        ensures spent { Shows (StandsOver (D.told self.old.0) (D.faults self.old.0) self.old.1)
+            (λ s. 2 ^ 64 - 1 ≤ s.life → (result ≡ Err (OpenCause.Spent Counter.Life))
+            × (D.told self.new.0 ≡ D.told self.old.0)
+            × (D.faults self.new.0 ≡ D.faults self.old.0)) }
+        ensures refused { Shows (StandsOver (D.told self.old.0) (D.faults self.old.0) self.old.1)
+            (λ s. IfErr result (λ cause. ((cause ≡ OpenCause.Spent Counter.Life)
+            × (D.told self.new.0 ≡ D.told self.old.0) × (D.faults self.new.0 ≡ D.faults self.old.0))
+            ⊎ IsRefused (D.told self.old.0) (D.told self.new.0) (D.faults self.old.0)
+            (D.faults self.new.0) s.rules.limits.capacity cause)) }
+        ensures ticks { WhereTold (D.told self.old.0)
+            (λ t. WhereLogs t.reads (λ logs. steps.new ≤ steps.old + record_count (lines logs))) }
     {
         let result = self.logged.reopen(steps);
         let reply = Reply::quiet(result.is_ok());
@@ -151,9 +184,18 @@ impl<D: Disk + Drop> FileChannel<D> {
         result
     }
 
-    /// Between two calls, whatever a stop leaves recovers to just what is settled, unless the channel is broken.
+    /// Between two calls, whatever a crash leaves recovers to just what is settled, unless the channel is broken.
     pub fn rests(&self)
-        ensures { Shows (StandsOver (D.told self.now.0) (D.faults self.now.0) self.now.1) (Rests (D.told self.now.0)) }
+        ensures { Shows (StandsOver (D.told self.now.0) (D.faults self.now.0) self.now.1)
+            (Rests (D.told self.now.0)) }
+    {
+        let _ = &self.logged;
+    }
+
+    /// There are an opening and calls for which the channel stands. So what a clause says of each of them is said of some, also
+    /// of a channel that is lent without its history.
+    pub fn stands(&self)
+        ensures { IsStanding (D.told self.now.0) (D.faults self.now.0) self.now.1 }
     {
         let _ = &self.logged;
     }
@@ -161,7 +203,8 @@ impl<D: Disk + Drop> FileChannel<D> {
     /// Hands the disk back. It touches no device. Whatever a stop now leaves recovers to just what is settled, unless the channel was broken.
     pub fn close(self) -> D
         ensures disk { result ≡ self.0 }
-        ensures settled { Shows (StandsOver (D.told self.0) (D.faults self.0) self.1) (Rests (D.told result)) }
+        ensures settled { Shows (StandsOver (D.told self.0) (D.faults self.0) self.1)
+            (Rests (D.told result)) }
     {
         let FileChannel { logged, counts: _ } = self;
         logged.rests();
@@ -184,7 +227,9 @@ impl<D: Disk + Drop> Channel for FileChannel<D> {
 
     /// It touches no device.
     fn begin_put(&mut self) -> Result<PutTxn, BeginRefused>
-        ensures step { AddsOne (StandsOver (D.told self.old.0) (D.faults self.old.0) self.old.1) (StandsOver (D.told self.new.0) (D.faults self.new.0) self.new.1) (BeginPut result) (moment_of (D.told self.new.0)) }
+        ensures step { AddsOne (StandsOver (D.told self.old.0) (D.faults self.old.0) self.old.1)
+            (StandsOver (D.told self.new.0) (D.faults self.new.0) self.new.1) (BeginPut result)
+            (moment_of (D.told self.new.0)) }
         ensures told { D.told self.new.0 ≡ D.told self.old.0 }
         ensures faults { D.faults self.new.0 ≡ D.faults self.old.0 }
     {
@@ -196,7 +241,9 @@ impl<D: Disk + Drop> Channel for FileChannel<D> {
 
     /// It touches no device.
     fn begin_take(&mut self) -> Result<TakeTxn, BeginRefused>
-        ensures step { AddsOne (StandsOver (D.told self.old.0) (D.faults self.old.0) self.old.1) (StandsOver (D.told self.new.0) (D.faults self.new.0) self.new.1) (BeginTake result) (moment_of (D.told self.new.0)) }
+        ensures step { AddsOne (StandsOver (D.told self.old.0) (D.faults self.old.0) self.old.1)
+            (StandsOver (D.told self.new.0) (D.faults self.new.0) self.new.1) (BeginTake result)
+            (moment_of (D.told self.new.0)) }
         ensures told { D.told self.new.0 ≡ D.told self.old.0 }
         ensures faults { D.faults self.new.0 ≡ D.faults self.old.0 }
     {
@@ -209,16 +256,36 @@ impl<D: Disk + Drop> Channel for FileChannel<D> {
     /// Where the frame has no room for the event's record, it flushes first, with at most two syncs. A stop at any moment of
     /// the call leaves what is settled, or that with what is staged.
     fn put(&mut self, txn: &mut PutTxn, event: &Event) -> Result<Put, PutRefused>
-        ensures step { AddsOne (StandsOver (D.told self.old.0) (D.faults self.old.0) self.old.1) (StandsOver (D.told self.new.0) (D.faults self.new.0) self.new.1) (Face.Put txn.old event.now result) (moment_of (D.told self.new.0)) }
+        ensures step { AddsOne (StandsOver (D.told self.old.0) (D.faults self.old.0) self.old.1)
+            (StandsOver (D.told self.new.0) (D.faults self.new.0) self.new.1)
+            (Face.Put txn.old event.now result) (moment_of (D.told self.new.0)) }
         ensures same { txn.new ≡ txn.old }
-        ensures spent { Shows (StandsOver (D.told self.old.0) (D.faults self.old.0) self.old.1) (λ s. s.broken ≡ false → IsSome (puts_of s txn.old) → WhereTold (D.told self.old.0) (λ t. (result ≡ Err (PutRefused.Spent File)) ↔ IsSpentLog t s.rules.limits.max_file)) }
-        ensures quiet { flushes (Face.Put txn.old event.now result) ≡ false → D.told self.new.0 ≡ D.told self.old.0 }
-        ensures any_moment { Shows (StandsOver (D.told self.old.0) (D.faults self.old.0) self.old.1) (λ s. flushes (Face.Put txn.old event.now result) ≡ true → Tells (D.told self.old.0) (D.told self.new.0) (Flushed s)) }
-        ensures room { Shows (StandsOver (D.told self.old.0) (D.faults self.old.0) self.old.1) (λ s. IfOk result (λ done. (done.spilled ≡ true) ↔ HasNoRoom self.old.2 (room_of s (size event.now + 13) (size_of_list (puts_of s txn.old))))) }
-        ensures full { Shows (StandsOver (D.told self.old.0) (D.faults self.old.0) self.old.1) (λ s. IfOk result (λ done. done.spilled ≡ true → Tells (D.told self.old.0) (D.told self.new.0) (HadNoRoom (room_of s (size event.now + 13) (size_of_list (puts_of s txn.old)))))) }
+        ensures spent { Shows (StandsOver (D.told self.old.0) (D.faults self.old.0) self.old.1)
+            (λ s. s.broken ≡ false → IsSome (puts_of s txn.old)
+            → WhereTold (D.told self.old.0) (λ t. (result ≡ Err (PutRefused.Spent File))
+            ↔ IsSpentLog t s.rules.limits.max_file)) }
+        ensures quiet { flushes (Face.Put txn.old event.now result) ≡ false
+            → D.told self.new.0 ≡ D.told self.old.0 }
+        ensures any_moment { Shows (StandsOver (D.told self.old.0) (D.faults self.old.0) self.old.1)
+            (λ s. flushes (Face.Put txn.old event.now result) ≡ true
+            → Tells (D.told self.old.0) (D.told self.new.0) (Flushed s)) }
+        ensures room { Shows (StandsOver (D.told self.old.0) (D.faults self.old.0) self.old.1)
+            (λ s. IfOk result (λ done. (done.spilled ≡ true)
+            ↔ HasNoRoom self.old.1.waiting
+            (room_of s (size event.now + 13) (size_of_list (puts_of s txn.old))))) }
+        ensures full { Shows (StandsOver (D.told self.old.0) (D.faults self.old.0) self.old.1)
+            (λ s. IfOk result (λ done. done.spilled ≡ true
+            → Tells (D.told self.old.0) (D.told self.new.0)
+            (HadNoRoom (room_of s (size event.now + 13) (size_of_list (puts_of s txn.old)))))) }
         ensures later { D.faults self.old.0 ≤ D.faults self.new.0 }
-        ensures well { is_fault (Face.Put txn.old event.now result) ≡ false → D.faults self.new.0 ≡ D.faults self.old.0 }
-        ensures fault { IsErrOf result PutRefused.DiskFault → Rose (D.faults self.old.0) (D.faults self.new.0) }
+        ensures well { is_fault (Face.Put txn.old event.now result) ≡ false
+            → D.faults self.new.0 ≡ D.faults self.old.0 }
+        ensures fault { IsErrOf result PutRefused.DiskFault
+            → Rose (D.faults self.old.0) (D.faults self.new.0) }
+        ensures no_room { Shows (StandsOver (D.told self.old.0) (D.faults self.old.0) self.old.1)
+            (λ s. IsErrOf result PutRefused.DiskFault
+            → HasNoRoom self.old.1.waiting
+            (room_of s (size event.now + 13) (size_of_list (puts_of s txn.old)))) }
     {
         let staged = self.logged.staged();
         let result = self.logged.put(txn, event);
@@ -233,16 +300,36 @@ impl<D: Disk + Drop> Channel for FileChannel<D> {
 
     /// Where the frame has no room for the record, it flushes first, as a put does.
     fn take(&mut self, txn: &mut TakeTxn) -> Result<Taken, TakeRefused>
-        ensures step { AddsOne (StandsOver (D.told self.old.0) (D.faults self.old.0) self.old.1) (StandsOver (D.told self.new.0) (D.faults self.new.0) self.new.1) (Face.Take txn.old result) (moment_of (D.told self.new.0)) }
+        ensures step { AddsOne (StandsOver (D.told self.old.0) (D.faults self.old.0) self.old.1)
+            (StandsOver (D.told self.new.0) (D.faults self.new.0) self.new.1)
+            (Face.Take txn.old result) (moment_of (D.told self.new.0)) }
         ensures same { txn.new ≡ txn.old }
-        ensures spent { Shows (StandsOver (D.told self.old.0) (D.faults self.old.0) self.old.1) (λ s. s.broken ≡ false → IsSome (takes_of s txn.old) → WhereTold (D.told self.old.0) (λ t. (result ≡ Err (TakeRefused.Spent File)) ↔ IsSpentLog t s.rules.limits.max_file)) }
-        ensures quiet { flushes (Face.Take txn.old result) ≡ false → D.told self.new.0 ≡ D.told self.old.0 }
-        ensures any_moment { Shows (StandsOver (D.told self.old.0) (D.faults self.old.0) self.old.1) (λ s. flushes (Face.Take txn.old result) ≡ true → Tells (D.told self.old.0) (D.told self.new.0) (Flushed s)) }
-        ensures room { Shows (StandsOver (D.told self.old.0) (D.faults self.old.0) self.old.1) (λ s. IfOk result (λ taken. (taken.spilled ≡ true) ↔ IsSome taken.event × HasNoRoom self.old.2 (room_of s 17 (size_of_list (takes_of s txn.old))))) }
-        ensures full { Shows (StandsOver (D.told self.old.0) (D.faults self.old.0) self.old.1) (λ s. IfOk result (λ taken. taken.spilled ≡ true → Tells (D.told self.old.0) (D.told self.new.0) (HadNoRoom (room_of s 17 (size_of_list (takes_of s txn.old)))))) }
+        ensures spent { Shows (StandsOver (D.told self.old.0) (D.faults self.old.0) self.old.1)
+            (λ s. s.broken ≡ false → IsSome (takes_of s txn.old)
+            → WhereTold (D.told self.old.0) (λ t. (result ≡ Err (TakeRefused.Spent File))
+            ↔ IsSpentLog t s.rules.limits.max_file)) }
+        ensures quiet { flushes (Face.Take txn.old result) ≡ false
+            → D.told self.new.0 ≡ D.told self.old.0 }
+        ensures any_moment { Shows (StandsOver (D.told self.old.0) (D.faults self.old.0) self.old.1)
+            (λ s. flushes (Face.Take txn.old result) ≡ true
+            → Tells (D.told self.old.0) (D.told self.new.0) (Flushed s)) }
+        ensures room { Shows (StandsOver (D.told self.old.0) (D.faults self.old.0) self.old.1)
+            (λ s. IfOk result (λ taken. (taken.spilled ≡ true) ↔ IsSome taken.event
+            × HasNoRoom self.old.1.waiting (room_of s 17 (size_of_list (takes_of s txn.old))))) }
+        ensures full { Shows (StandsOver (D.told self.old.0) (D.faults self.old.0) self.old.1)
+            (λ s. IfOk result (λ taken. taken.spilled ≡ true
+            → Tells (D.told self.old.0) (D.told self.new.0)
+            (HadNoRoom (room_of s 17 (size_of_list (takes_of s txn.old)))))) }
         ensures later { D.faults self.old.0 ≤ D.faults self.new.0 }
-        ensures well { is_fault (Face.Take txn.old result) ≡ false → D.faults self.new.0 ≡ D.faults self.old.0 }
-        ensures fault { IsErrOf result TakeRefused.DiskFault → Rose (D.faults self.old.0) (D.faults self.new.0) }
+        ensures well { is_fault (Face.Take txn.old result) ≡ false
+            → D.faults self.new.0 ≡ D.faults self.old.0 }
+        ensures read { IsErrOf result TakeRefused.ReadFault
+            → Rose (D.faults self.old.0) (D.faults self.new.0) }
+        ensures fault { IsErrOf result TakeRefused.DiskFault
+            → Rose (D.faults self.old.0) (D.faults self.new.0) }
+        ensures no_room { Shows (StandsOver (D.told self.old.0) (D.faults self.old.0) self.old.1)
+            (λ s. IsErrOf result TakeRefused.DiskFault
+            → HasNoRoom self.old.1.waiting (room_of s 17 (size_of_list (takes_of s txn.old)))) }
     {
         let staged = self.logged.staged();
         let result = self.logged.take(txn);
@@ -257,7 +344,9 @@ impl<D: Disk + Drop> Channel for FileChannel<D> {
 
     /// It touches no device.
     fn stage_put(&mut self, txn: PutTxn) -> Result<Ticket, StageRefused<PutTxn>>
-        ensures step { AddsOne (StandsOver (D.told self.old.0) (D.faults self.old.0) self.old.1) (StandsOver (D.told self.new.0) (D.faults self.new.0) self.new.1) (StagePut txn (cause_of result)) (moment_of (D.told self.new.0)) }
+        ensures step { AddsOne (StandsOver (D.told self.old.0) (D.faults self.old.0) self.old.1)
+            (StandsOver (D.told self.new.0) (D.faults self.new.0) self.new.1)
+            (StagePut txn (cause_of result)) (moment_of (D.told self.new.0)) }
         ensures back { IfErr result (λ refused. refused.txn ≡ txn) }
         ensures told { D.told self.new.0 ≡ D.told self.old.0 }
         ensures faults { D.faults self.new.0 ≡ D.faults self.old.0 }
@@ -270,7 +359,9 @@ impl<D: Disk + Drop> Channel for FileChannel<D> {
 
     /// It touches no device.
     fn stage_take(&mut self, txn: TakeTxn) -> Result<Ticket, StageRefused<TakeTxn>>
-        ensures step { AddsOne (StandsOver (D.told self.old.0) (D.faults self.old.0) self.old.1) (StandsOver (D.told self.new.0) (D.faults self.new.0) self.new.1) (StageTake txn (cause_of result)) (moment_of (D.told self.new.0)) }
+        ensures step { AddsOne (StandsOver (D.told self.old.0) (D.faults self.old.0) self.old.1)
+            (StandsOver (D.told self.new.0) (D.faults self.new.0) self.new.1)
+            (StageTake txn (cause_of result)) (moment_of (D.told self.new.0)) }
         ensures back { IfErr result (λ refused. refused.txn ≡ txn) }
         ensures told { D.told self.new.0 ≡ D.told self.old.0 }
         ensures faults { D.faults self.new.0 ≡ D.faults self.old.0 }
@@ -284,13 +375,19 @@ impl<D: Disk + Drop> Channel for FileChannel<D> {
     /// At most two syncs. A stop at any moment of the call leaves what is settled, or that with what is staged. A broken
     /// channel's flush touches no device.
     fn flush(&mut self) -> Result<(), FlushRefused>
-        ensures step { AddsOne (StandsOver (D.told self.old.0) (D.faults self.old.0) self.old.1) (StandsOver (D.told self.new.0) (D.faults self.new.0) self.new.1) (Flush result) (moment_of (D.told self.new.0)) }
-        ensures nothing { self.old.2 ≡ 0 → (D.told self.new.0 ≡ D.told self.old.0) × (D.faults self.new.0 ≡ D.faults self.old.0) }
+        ensures step { AddsOne (StandsOver (D.told self.old.0) (D.faults self.old.0) self.old.1)
+            (StandsOver (D.told self.new.0) (D.faults self.new.0) self.new.1) (Flush result)
+            (moment_of (D.told self.new.0)) }
+        ensures nothing { self.old.1.waiting ≡ 0 → (D.told self.new.0 ≡ D.told self.old.0)
+            × (D.faults self.new.0 ≡ D.faults self.old.0) }
         ensures quiet { flushes (Flush result) ≡ false → D.told self.new.0 ≡ D.told self.old.0 }
-        ensures any_moment { Shows (StandsOver (D.told self.old.0) (D.faults self.old.0) self.old.1) (λ s. flushes (Flush result) ≡ true → Tells (D.told self.old.0) (D.told self.new.0) (Flushed s)) }
+        ensures any_moment { Shows (StandsOver (D.told self.old.0) (D.faults self.old.0) self.old.1)
+            (λ s. flushes (Flush result) ≡ true
+            → Tells (D.told self.old.0) (D.told self.new.0) (Flushed s)) }
         ensures later { D.faults self.old.0 ≤ D.faults self.new.0 }
         ensures well { is_fault (Flush result) ≡ false → D.faults self.new.0 ≡ D.faults self.old.0 }
-        ensures fault { IsErrOf result FlushRefused.DiskFault → Rose (D.faults self.old.0) (D.faults self.new.0) }
+        ensures fault { IsErrOf result FlushRefused.DiskFault
+            → Rose (D.faults self.old.0) (D.faults self.new.0) }
     {
         let staged = self.logged.staged();
         let result = self.logged.flush();
@@ -301,7 +398,9 @@ impl<D: Disk + Drop> Channel for FileChannel<D> {
 
     /// It touches no device.
     fn rollback_put(&mut self, txn: PutTxn) -> bool
-        ensures step { AddsOne (StandsOver (D.told self.old.0) (D.faults self.old.0) self.old.1) (StandsOver (D.told self.new.0) (D.faults self.new.0) self.new.1) (RollbackPut txn result) (moment_of (D.told self.new.0)) }
+        ensures step { AddsOne (StandsOver (D.told self.old.0) (D.faults self.old.0) self.old.1)
+            (StandsOver (D.told self.new.0) (D.faults self.new.0) self.new.1)
+            (RollbackPut txn result) (moment_of (D.told self.new.0)) }
         ensures told { D.told self.new.0 ≡ D.told self.old.0 }
         ensures faults { D.faults self.new.0 ≡ D.faults self.old.0 }
     {
@@ -313,7 +412,9 @@ impl<D: Disk + Drop> Channel for FileChannel<D> {
 
     /// It touches no device.
     fn rollback_take(&mut self, txn: TakeTxn) -> bool
-        ensures step { AddsOne (StandsOver (D.told self.old.0) (D.faults self.old.0) self.old.1) (StandsOver (D.told self.new.0) (D.faults self.new.0) self.new.1) (RollbackTake txn result) (moment_of (D.told self.new.0)) }
+        ensures step { AddsOne (StandsOver (D.told self.old.0) (D.faults self.old.0) self.old.1)
+            (StandsOver (D.told self.new.0) (D.faults self.new.0) self.new.1)
+            (RollbackTake txn result) (moment_of (D.told self.new.0)) }
         ensures told { D.told self.new.0 ≡ D.told self.old.0 }
         ensures faults { D.faults self.new.0 ≡ D.faults self.old.0 }
     {

@@ -1,5 +1,5 @@
 // The lists of a channel on a disk, with the log that has their changes.
-ghost use Rattle.std.specs.Prelude.{◌+◌, Err, IsSome, IsTrue, ◌↔◌, ◌≡◌, ◌≤◌, ℕ, length, IfOk, IfErr, IsErrOf, true, false};
+ghost use Rattle.std.specs.Prelude.{◌<◌, ◌+◌, Err, IsSome, IsTrue, ◌↔◌, ◌≡◌, ◌≤◌, ℕ, length, IfOk, IfErr, IsErrOf, true, false};
 ghost use Rattle.flume_host.specs.Causes.{Rose};
 ghost use Rattle.flume_host.specs.Told.{Tells, WhereTold};
 ghost use Rattle.event_core.specs.Content.{size};
@@ -16,6 +16,7 @@ ghost use Rattle.channel_face.specs.declared.replies.TakeRefused.{TakeRefused};
 ghost use Rattle.channel_face.specs.Machine.{BeginPut, BeginTake, Flush, RollbackPut, RollbackTake, StagePut, StageTake, puts_of, takes_of, size_of_list};
 ghost use Rattle.channel_face.specs.declared.replies.FlushRefused.{FlushRefused};
 ghost use Rattle.file_channel.specs.Stands.{is_fault};
+ghost use Rattle.file_channel.specs.Waiting.{waiting_after};
 ghost use Rattle.file_channel.specs.Touches.{Flushed, HadNoRoom, HasNoRoom, IsSpentLog, Rests, flushes, room_of};
 
 use crate::writing::Writing;
@@ -57,7 +58,8 @@ impl<D: Disk + Drop> Model for LoggedLists<D> {
 
 // Whether the log's file is the last that there can be, and has reached the length at which a file is left.
 fn at_last_end(lists: &ChannelLists, log: &LogWriter) -> bool
-    ensures { IsTrue result ↔ (log.now.file ≡ 4_294_967_295) × (lists.now.rules.limits.max_file ≤ log.now.gate + 1) }
+    ensures { IsTrue result ↔ (log.now.file ≡ 4_294_967_295)
+        × (lists.now.rules.limits.max_file ≤ log.now.gate + 1) }
 {
     let max_file = lists.limits().max_file;
     log.file() == LAST_FILE && log.gate_at() >= max_file.saturating_sub(1)
@@ -83,11 +85,21 @@ fn held_takes(lists: &ChannelLists, txn: &TakeTxn) -> usize
     }
 }
 
+// Whether a transaction that did so much is given up with a record. A broken channel writes none.
+fn is_recorded(lists: &ChannelLists, held: usize) -> bool
+    ensures { IsTrue result ↔ (0 < held) × (lists.now.broken ≡ false) }
+{
+    held > 0 && !lists.is_broken()
+}
+
 impl<D: Disk + Drop> LoggedLists<D> {
     // Whether a put or a take finds no log file left: the last one has reached the length at which a file is left.
     fn is_spent(&self) -> bool
-        ensures whole { IsTrue result → (self.now.1.broken ≡ false) × (self.now.1.rules.kind ≡ Kind.File) }
-        ensures told { self.now.1.broken ≡ false → WhereTold (D.told self.now.0) (λ t. IsTrue result ↔ IsSpentLog t self.now.1.rules.limits.max_file) }
+        ensures whole { IsTrue result → (self.now.1.broken ≡ false)
+            × (self.now.1.rules.kind ≡ Kind.File) }
+        ensures told { self.now.1.broken ≡ false
+            → WhereTold (D.told self.now.0) (λ t. IsTrue result
+            ↔ IsSpentLog t self.now.1.rules.limits.max_file) }
     {
         !self.lists.is_broken() && at_last_end(&self.lists, &self.writing.log)
     }
@@ -109,6 +121,7 @@ impl<D: Disk + Drop> LoggedLists<D> {
     /// Begins a transaction of puts.
     pub(crate) fn begin_put(&mut self) -> Result<PutTxn, BeginRefused>
         ensures step { Moves true self.old.1 (BeginPut result) self.new.1 }
+        ensures waits { self.new.2 ≡ self.old.2 }
         ensures disk { self.new.0 ≡ self.old.0 }
     {
         self.lists.begin_put()
@@ -117,6 +130,7 @@ impl<D: Disk + Drop> LoggedLists<D> {
     /// Begins a transaction of takes.
     pub(crate) fn begin_take(&mut self) -> Result<TakeTxn, BeginRefused>
         ensures step { Moves true self.old.1 (BeginTake result) self.new.1 }
+        ensures waits { self.new.2 ≡ self.old.2 }
         ensures disk { self.new.0 ≡ self.old.0 }
     {
         self.lists.begin_take()
@@ -126,15 +140,30 @@ impl<D: Disk + Drop> LoggedLists<D> {
     /// is settled, or that with what is staged.
     fn put_in_log(&mut self, txn: &mut PutTxn, event: &Event) -> Result<Put, PutRefused>
         ensures step { Moves true self.old.1 (Face.Put txn.old event.now result) self.new.1 }
+        ensures waits { self.new.2 ≡ waiting_after self.old.1
+            (Face.Put txn.old event.now result) self.old.2 }
         ensures same { txn.new ≡ txn.old }
         ensures never { (counter : Counter) → result ≡ Err (PutRefused.Spent counter) → ⊥ }
-        ensures quiet { flushes (Face.Put txn.old event.now result) ≡ false → self.new.0 ≡ self.old.0 }
-        ensures any_moment { flushes (Face.Put txn.old event.now result) ≡ true → Tells (D.told self.old.0) (D.told self.new.0) (λ t u. Flushed self.old.1 t u) }
-        ensures room { IfOk result (λ done. (done.spilled ≡ true) ↔ HasNoRoom self.old.2 (room_of self.old.1 (size event.now + 13) (size_of_list (puts_of self.old.1 txn.old)))) }
-        ensures full { IfOk result (λ done. done.spilled ≡ true → Tells (D.told self.old.0) (D.told self.new.0) (HadNoRoom (room_of self.old.1 (size event.now + 13) (size_of_list (puts_of self.old.1 txn.old))))) }
+        ensures quiet { flushes (Face.Put txn.old event.now result) ≡ false
+            → self.new.0 ≡ self.old.0 }
+        ensures any_moment { flushes (Face.Put txn.old event.now result) ≡ true
+            → Tells (D.told self.old.0) (D.told self.new.0) (λ t u. Flushed self.old.1 t u) }
+        ensures room { IfOk result (λ done. (done.spilled ≡ true)
+            ↔ HasNoRoom self.old.2
+            (room_of self.old.1 (size event.now + 13)
+            (size_of_list (puts_of self.old.1 txn.old)))) }
+        ensures full { IfOk result (λ done. done.spilled ≡ true
+            → Tells (D.told self.old.0) (D.told self.new.0)
+            (HadNoRoom (room_of self.old.1 (size event.now + 13)
+            (size_of_list (puts_of self.old.1 txn.old))))) }
         ensures later { D.faults self.old.0 ≤ D.faults self.new.0 }
-        ensures well { is_fault (Face.Put txn.old event.now result) ≡ false → D.faults self.new.0 ≡ D.faults self.old.0 }
-        ensures fault { IsErrOf result PutRefused.DiskFault → Rose (D.faults self.old.0) (D.faults self.new.0) }
+        ensures well { is_fault (Face.Put txn.old event.now result) ≡ false
+            → D.faults self.new.0 ≡ D.faults self.old.0 }
+        ensures fault { IsErrOf result PutRefused.DiskFault
+            → Rose (D.faults self.old.0) (D.faults self.new.0) }
+        ensures no_room { IsErrOf result PutRefused.DiskFault
+            → HasNoRoom self.old.2
+            (room_of self.old.1 (size event.now + 13) (size_of_list (puts_of self.old.1 txn.old))) }
     {
         let Some((place, held)) = self.lists.find_puts(txn) else {
             return Err(PutRefused::Stale);
@@ -166,16 +195,28 @@ impl<D: Disk + Drop> LoggedLists<D> {
     /// [`LoggedLists::put_in_log`].
     fn take_in_log(&mut self, txn: &mut TakeTxn) -> Result<Taken, TakeRefused>
         ensures step { Moves true self.old.1 (Face.Take txn.old result) self.new.1 }
+        ensures waits { self.new.2 ≡ waiting_after self.old.1
+            (Face.Take txn.old result) self.old.2 }
         ensures same { txn.new ≡ txn.old }
         ensures never { (counter : Counter) → result ≡ Err (TakeRefused.Spent counter) → ⊥ }
         ensures quiet { flushes (Face.Take txn.old result) ≡ false → self.new.0 ≡ self.old.0 }
-        ensures any_moment { flushes (Face.Take txn.old result) ≡ true → Tells (D.told self.old.0) (D.told self.new.0) (λ t u. Flushed self.old.1 t u) }
-        ensures room { IfOk result (λ taken. (taken.spilled ≡ true) ↔ IsSome taken.event × HasNoRoom self.old.2 (room_of self.old.1 17 (size_of_list (takes_of self.old.1 txn.old)))) }
-        ensures full { IfOk result (λ taken. taken.spilled ≡ true → Tells (D.told self.old.0) (D.told self.new.0) (HadNoRoom (room_of self.old.1 17 (size_of_list (takes_of self.old.1 txn.old))))) }
+        ensures any_moment { flushes (Face.Take txn.old result) ≡ true
+            → Tells (D.told self.old.0) (D.told self.new.0) (λ t u. Flushed self.old.1 t u) }
+        ensures room { IfOk result (λ taken. (taken.spilled ≡ true) ↔ IsSome taken.event
+            × HasNoRoom self.old.2
+            (room_of self.old.1 17 (size_of_list (takes_of self.old.1 txn.old)))) }
+        ensures full { IfOk result (λ taken. taken.spilled ≡ true
+            → Tells (D.told self.old.0) (D.told self.new.0)
+            (HadNoRoom (room_of self.old.1 17 (size_of_list (takes_of self.old.1 txn.old))))) }
         ensures later { D.faults self.old.0 ≤ D.faults self.new.0 }
-        ensures well { is_fault (Face.Take txn.old result) ≡ false → D.faults self.new.0 ≡ D.faults self.old.0 }
+        ensures well { is_fault (Face.Take txn.old result) ≡ false
+            → D.faults self.new.0 ≡ D.faults self.old.0 }
         ensures reads { ¬ IsErrOf result TakeRefused.ReadFault }
-        ensures fault { IsErrOf result TakeRefused.DiskFault → Rose (D.faults self.old.0) (D.faults self.new.0) }
+        ensures fault { IsErrOf result TakeRefused.DiskFault
+            → Rose (D.faults self.old.0) (D.faults self.new.0) }
+        ensures no_room { IsErrOf result TakeRefused.DiskFault
+            → HasNoRoom self.old.2
+            (room_of self.old.1 17 (size_of_list (takes_of self.old.1 txn.old))) }
     {
         let Some((place, held)) = self.lists.find_takes(txn) else {
             return Err(TakeRefused::Stale);
@@ -218,15 +259,32 @@ impl<D: Disk + Drop> LoggedLists<D> {
     /// Puts an event, as [`LoggedLists::put_in_log`], unless no log file is left.
     pub(crate) fn put(&mut self, txn: &mut PutTxn, event: &Event) -> Result<Put, PutRefused>
         ensures step { Moves true self.old.1 (Face.Put txn.old event.now result) self.new.1 }
+        ensures waits { self.new.2 ≡ waiting_after self.old.1
+            (Face.Put txn.old event.now result) self.old.2 }
         ensures same { txn.new ≡ txn.old }
-        ensures spent { self.old.1.broken ≡ false → IsSome (puts_of self.old.1 txn.old) → WhereTold (D.told self.old.0) (λ t. (result ≡ Err (PutRefused.Spent File)) ↔ IsSpentLog t self.old.1.rules.limits.max_file) }
-        ensures quiet { flushes (Face.Put txn.old event.now result) ≡ false → self.new.0 ≡ self.old.0 }
-        ensures any_moment { flushes (Face.Put txn.old event.now result) ≡ true → Tells (D.told self.old.0) (D.told self.new.0) (λ t u. Flushed self.old.1 t u) }
-        ensures room { IfOk result (λ done. (done.spilled ≡ true) ↔ HasNoRoom self.old.2 (room_of self.old.1 (size event.now + 13) (size_of_list (puts_of self.old.1 txn.old)))) }
-        ensures full { IfOk result (λ done. done.spilled ≡ true → Tells (D.told self.old.0) (D.told self.new.0) (HadNoRoom (room_of self.old.1 (size event.now + 13) (size_of_list (puts_of self.old.1 txn.old))))) }
+        ensures spent { self.old.1.broken ≡ false → IsSome (puts_of self.old.1 txn.old)
+            → WhereTold (D.told self.old.0) (λ t. (result ≡ Err (PutRefused.Spent File))
+            ↔ IsSpentLog t self.old.1.rules.limits.max_file) }
+        ensures quiet { flushes (Face.Put txn.old event.now result) ≡ false
+            → self.new.0 ≡ self.old.0 }
+        ensures any_moment { flushes (Face.Put txn.old event.now result) ≡ true
+            → Tells (D.told self.old.0) (D.told self.new.0) (λ t u. Flushed self.old.1 t u) }
+        ensures room { IfOk result (λ done. (done.spilled ≡ true)
+            ↔ HasNoRoom self.old.2
+            (room_of self.old.1 (size event.now + 13)
+            (size_of_list (puts_of self.old.1 txn.old)))) }
+        ensures full { IfOk result (λ done. done.spilled ≡ true
+            → Tells (D.told self.old.0) (D.told self.new.0)
+            (HadNoRoom (room_of self.old.1 (size event.now + 13)
+            (size_of_list (puts_of self.old.1 txn.old))))) }
         ensures later { D.faults self.old.0 ≤ D.faults self.new.0 }
-        ensures well { is_fault (Face.Put txn.old event.now result) ≡ false → D.faults self.new.0 ≡ D.faults self.old.0 }
-        ensures fault { IsErrOf result PutRefused.DiskFault → Rose (D.faults self.old.0) (D.faults self.new.0) }
+        ensures well { is_fault (Face.Put txn.old event.now result) ≡ false
+            → D.faults self.new.0 ≡ D.faults self.old.0 }
+        ensures fault { IsErrOf result PutRefused.DiskFault
+            → Rose (D.faults self.old.0) (D.faults self.new.0) }
+        ensures no_room { IsErrOf result PutRefused.DiskFault
+            → HasNoRoom self.old.2
+            (room_of self.old.1 (size event.now + 13) (size_of_list (puts_of self.old.1 txn.old))) }
     {
         if self.has_puts(txn) && self.is_spent() {
             return Err(PutRefused::Spent {
@@ -239,16 +297,30 @@ impl<D: Disk + Drop> LoggedLists<D> {
     /// Takes an event, as [`LoggedLists::take_in_log`], unless no log file is left.
     pub(crate) fn take(&mut self, txn: &mut TakeTxn) -> Result<Taken, TakeRefused>
         ensures step { Moves true self.old.1 (Face.Take txn.old result) self.new.1 }
+        ensures waits { self.new.2 ≡ waiting_after self.old.1
+            (Face.Take txn.old result) self.old.2 }
         ensures same { txn.new ≡ txn.old }
-        ensures spent { self.old.1.broken ≡ false → IsSome (takes_of self.old.1 txn.old) → WhereTold (D.told self.old.0) (λ t. (result ≡ Err (TakeRefused.Spent File)) ↔ IsSpentLog t self.old.1.rules.limits.max_file) }
+        ensures spent { self.old.1.broken ≡ false → IsSome (takes_of self.old.1 txn.old)
+            → WhereTold (D.told self.old.0) (λ t. (result ≡ Err (TakeRefused.Spent File))
+            ↔ IsSpentLog t self.old.1.rules.limits.max_file) }
         ensures quiet { flushes (Face.Take txn.old result) ≡ false → self.new.0 ≡ self.old.0 }
-        ensures any_moment { flushes (Face.Take txn.old result) ≡ true → Tells (D.told self.old.0) (D.told self.new.0) (λ t u. Flushed self.old.1 t u) }
-        ensures room { IfOk result (λ taken. (taken.spilled ≡ true) ↔ IsSome taken.event × HasNoRoom self.old.2 (room_of self.old.1 17 (size_of_list (takes_of self.old.1 txn.old)))) }
-        ensures full { IfOk result (λ taken. taken.spilled ≡ true → Tells (D.told self.old.0) (D.told self.new.0) (HadNoRoom (room_of self.old.1 17 (size_of_list (takes_of self.old.1 txn.old))))) }
+        ensures any_moment { flushes (Face.Take txn.old result) ≡ true
+            → Tells (D.told self.old.0) (D.told self.new.0) (λ t u. Flushed self.old.1 t u) }
+        ensures room { IfOk result (λ taken. (taken.spilled ≡ true) ↔ IsSome taken.event
+            × HasNoRoom self.old.2
+            (room_of self.old.1 17 (size_of_list (takes_of self.old.1 txn.old)))) }
+        ensures full { IfOk result (λ taken. taken.spilled ≡ true
+            → Tells (D.told self.old.0) (D.told self.new.0)
+            (HadNoRoom (room_of self.old.1 17 (size_of_list (takes_of self.old.1 txn.old))))) }
         ensures later { D.faults self.old.0 ≤ D.faults self.new.0 }
-        ensures well { is_fault (Face.Take txn.old result) ≡ false → D.faults self.new.0 ≡ D.faults self.old.0 }
+        ensures well { is_fault (Face.Take txn.old result) ≡ false
+            → D.faults self.new.0 ≡ D.faults self.old.0 }
         ensures reads { ¬ IsErrOf result TakeRefused.ReadFault }
-        ensures fault { IsErrOf result TakeRefused.DiskFault → Rose (D.faults self.old.0) (D.faults self.new.0) }
+        ensures fault { IsErrOf result TakeRefused.DiskFault
+            → Rose (D.faults self.old.0) (D.faults self.new.0) }
+        ensures no_room { IsErrOf result TakeRefused.DiskFault
+            → HasNoRoom self.old.2
+            (room_of self.old.1 17 (size_of_list (takes_of self.old.1 txn.old))) }
     {
         if self.has_takes(txn) && self.is_spent() {
             return Err(TakeRefused::Spent {
@@ -261,12 +333,16 @@ impl<D: Disk + Drop> LoggedLists<D> {
     /// Settles all that is staged. A stop at any moment of the call leaves what is settled, or that with what is staged.
     pub(crate) fn flush(&mut self) -> Result<(), FlushRefused>
         ensures step { Moves true self.old.1 (Flush result) self.new.1 }
-        ensures nothing { self.old.2 ≡ 0 → (D.told self.new.0 ≡ D.told self.old.0) × (D.faults self.new.0 ≡ D.faults self.old.0) }
+        ensures waits { self.new.2 ≡ waiting_after self.old.1 (Flush result) self.old.2 }
+        ensures nothing { self.old.2 ≡ 0 → (D.told self.new.0 ≡ D.told self.old.0)
+            × (D.faults self.new.0 ≡ D.faults self.old.0) }
         ensures quiet { flushes (Flush result) ≡ false → self.new.0 ≡ self.old.0 }
-        ensures any_moment { flushes (Flush result) ≡ true → Tells (D.told self.old.0) (D.told self.new.0) (λ t u. Flushed self.old.1 t u) }
+        ensures any_moment { flushes (Flush result) ≡ true
+            → Tells (D.told self.old.0) (D.told self.new.0) (λ t u. Flushed self.old.1 t u) }
         ensures later { D.faults self.old.0 ≤ D.faults self.new.0 }
         ensures well { is_fault (Flush result) ≡ false → D.faults self.new.0 ≡ D.faults self.old.0 }
-        ensures fault { IsErrOf result FlushRefused.DiskFault → Rose (D.faults self.old.0) (D.faults self.new.0) }
+        ensures fault { IsErrOf result FlushRefused.DiskFault
+            → Rose (D.faults self.old.0) (D.faults self.new.0) }
     {
         if self.lists.is_broken() {
             return Err(FlushRefused::Broken);
@@ -283,12 +359,13 @@ impl<D: Disk + Drop> LoggedLists<D> {
     /// Gives a transaction of puts up.
     pub(crate) fn rollback_put(&mut self, txn: PutTxn) -> bool
         ensures step { Moves true self.old.1 (RollbackPut txn result) self.new.1 }
+        ensures waits { self.new.2 ≡ waiting_after self.old.1 (RollbackPut txn result) self.old.2 }
         ensures disk { self.new.0 ≡ self.old.0 }
     {
         let number = txn.number();
         let held = held_puts(&self.lists, &txn);
         let ended = self.lists.rollback_put(txn);
-        if held > 0 && !self.lists.is_broken() {
+        if is_recorded(&self.lists, held) {
             self.writing.add_rollback(number);
         }
         ended
@@ -297,12 +374,13 @@ impl<D: Disk + Drop> LoggedLists<D> {
     /// Gives a transaction of takes up.
     pub(crate) fn rollback_take(&mut self, txn: TakeTxn) -> bool
         ensures step { Moves true self.old.1 (RollbackTake txn result) self.new.1 }
+        ensures waits { self.new.2 ≡ waiting_after self.old.1 (RollbackTake txn result) self.old.2 }
         ensures disk { self.new.0 ≡ self.old.0 }
     {
         let number = txn.number();
         let held = held_takes(&self.lists, &txn);
         let ended = self.lists.rollback_take(txn);
-        if held > 0 && !self.lists.is_broken() {
+        if is_recorded(&self.lists, held) {
             self.writing.add_rollback(number);
         }
         ended
@@ -311,16 +389,19 @@ impl<D: Disk + Drop> LoggedLists<D> {
     /// Stages a transaction of puts.
     pub(crate) fn stage_put(&mut self, txn: PutTxn) -> Result<Ticket, StageRefused<PutTxn>>
         ensures step { Moves true self.old.1 (StagePut txn (cause_of result)) self.new.1 }
+        ensures waits { self.new.2 ≡ waiting_after self.old.1
+            (StagePut txn (cause_of result)) self.old.2 }
         ensures back { IfErr result (λ refused. refused.txn ≡ txn) }
         ensures disk { self.new.0 ≡ self.old.0 }
     {
         let number = txn.number();
         match self.lists.stage_put(txn) {
             Ok(ticket) => {
-                if ticket.count > 0 {
-                    self.writing
-                        .add_commit_put(number, ticket.first, ticket.count);
+                if ticket.count == 0 {
+                    return Ok(ticket);
                 }
+                self.writing
+                    .add_commit_put(number, ticket.first, ticket.count);
                 Ok(ticket)
             }
             Err(refused) => Err(refused),
@@ -330,15 +411,18 @@ impl<D: Disk + Drop> LoggedLists<D> {
     /// Stages a transaction of takes.
     pub(crate) fn stage_take(&mut self, txn: TakeTxn) -> Result<Ticket, StageRefused<TakeTxn>>
         ensures step { Moves true self.old.1 (StageTake txn (cause_of result)) self.new.1 }
+        ensures waits { self.new.2 ≡ waiting_after self.old.1
+            (StageTake txn (cause_of result)) self.old.2 }
         ensures back { IfErr result (λ refused. refused.txn ≡ txn) }
         ensures disk { self.new.0 ≡ self.old.0 }
     {
         let number = txn.number();
         match self.lists.stage_take(txn) {
             Ok(ticket) => {
-                if ticket.count > 0 {
-                    self.writing.add_commit_take(number, ticket.count);
+                if ticket.count == 0 {
+                    return Ok(ticket);
                 }
+                self.writing.add_commit_take(number, ticket.count);
                 Ok(ticket)
             }
             Err(refused) => Err(refused),

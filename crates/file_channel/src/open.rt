@@ -1,5 +1,5 @@
 // A folder is opened: it is settled and replayed, and a log file is begun behind those that are there.
-ghost use Rattle.std.specs.Prelude.{◌⊎◌, ◌≡◌, ◌<◌, ◌≤◌, ◌+◌, ◌-◌, ◌^◌, ℕ, Bool, Some, None, Err, IfOk, IfErr, IfSome, IfNone, OnOk, IsErrOf, vec_len};
+ghost use Rattle.std.specs.Prelude.{◌⊎◌, ◌≡◌, ◌<◌, ◌≤◌, ◌+◌, ◌-◌, ◌^◌, ℕ, Bool, Some, None, Err, IfOk, IfErr, IfSome, IfNone, OnErr, OnOk, IsErrOf, length, vec_len};
 ghost use Rattle.flume_host.specs.Causes.{HasCause, Rose};
 ghost use Rattle.flume_host.specs.Told.{LeavesOnly, Tells, WhereTold};
 ghost use Rattle.event_core.specs.Journal.{IsBase};
@@ -34,8 +34,11 @@ const BEGUN: u16 = 1;
 
 // The least number of a checkpoint, if there is one.
 fn first_check<D: Disk>(disk: &mut D) -> Result<Option<u32>, Failed>
-    ensures some { IfOk result (λ check. IfSome check (λ number. WhereTold (D.told disk.old) (λ t. IsFirstCheck t.reads number))) }
-    ensures none { IfOk result (λ check. IfNone check (WhereTold (D.told disk.old) (λ t. HasNoCheck t.reads))) }
+    ensures some { IfOk result
+        (λ check. IfSome check
+        (λ number. WhereTold (D.told disk.old) (λ t. IsFirstCheck t.reads number))) }
+    ensures none { IfOk result
+        (λ check. IfNone check (WhereTold (D.told disk.old) (λ t. HasNoCheck t.reads))) }
     ensures same { D.told disk.new ≡ D.told disk.old }
     ensures cause { HasCause (D.faults disk.old) (D.faults disk.new) result }
 {
@@ -93,18 +96,25 @@ fn read_folder<D: Disk, L: Ledger>(
     capacity: u32,
     steps: &mut Steps<L>,
 ) -> Result<(Replayed, u32), OpenCause>
-    ensures opens { IfOk result (λ found. WhereTold (D.told disk.old) (λ t. Opens t.reads capacity (base_of found.0) found.0.next.txn)) }
-    ensures next { IfOk result (λ found. WhereTold (D.told disk.old) (λ t. IsNextFile t.reads found.1)) }
+    ensures opens { IfOk result
+        (λ found. WhereTold (D.told disk.old)
+        (λ t. Opens t.reads capacity (base_of found.0) found.0.next.txn)) }
+    ensures next { IfOk result
+        (λ found. WhereTold (D.told disk.old) (λ t. IsNextFile t.reads found.1)) }
     ensures base { IfOk result (λ found. IsBase (base_of found.0)) }
     ensures txn { IfOk result (λ found. 1 ≤ found.0.next.txn) }
     ensures within { IfOk result (λ found. vec_len found.0.items ≤ capacity) }
-    ensures refused { IfErr result (λ cause. WhereTold (D.told disk.old) (λ t. Refuses t.reads capacity cause)) }
+    ensures refused { IfErr result
+        (λ cause. WhereTold (D.told disk.old) (λ t. Refuses t.reads capacity cause)) }
     ensures counter { IfErr result IsOfFile }
-    ensures ticks { WhereTold (D.told disk.old) (λ t. WhereLogs t.reads (λ logs. steps.new ≤ steps.old + record_count (lines logs))) }
+    ensures ticks { WhereTold (D.told disk.old)
+        (λ t. WhereLogs t.reads (λ logs. steps.new ≤ steps.old + record_count (lines logs))) }
     ensures same { D.told disk.new ≡ D.told disk.old }
-    ensures fault { IsErrOf result OpenCause.DiskFault → Rose (D.faults disk.old) (D.faults disk.new) }
+    ensures fault { IsErrOf result OpenCause.DiskFault
+        → Rose (D.faults disk.old) (D.faults disk.new) }
     ensures later { D.faults disk.old ≤ D.faults disk.new }
-    ensures well { (IsErrOf result OpenCause.DiskFault → ⊥) → D.faults disk.new ≡ D.faults disk.old }
+    ensures well { (IsErrOf result OpenCause.DiskFault → ⊥)
+        → D.faults disk.new ≡ D.faults disk.old }
 {
     match first_check(disk) {
         Ok(None) => {}
@@ -137,25 +147,38 @@ pub(crate) fn open_log<D: Disk, L: Ledger>(
     limits: Limits,
     steps: &mut Steps<L>,
 ) -> Result<(Replayed, LogWriter), OpenCause>
-    ensures opens { IfOk result (λ found. WhereTold (D.told disk.old) (λ t. Opens t.reads limits.capacity (base_of found.0) found.0.next.txn)) }
-    ensures logged { IfOk result (λ found. (s : State) → IsFresh s (base_of found.0) found.0.next.txn → IsLogged (D.told disk.new) found.1 0 s) }
+    ensures opens { IfOk result
+        (λ found. WhereTold (D.told disk.old)
+        (λ t. Opens t.reads limits.capacity (base_of found.0) found.0.next.txn)) }
+    ensures logged { IfOk result (λ found. (s : State)
+        → IsFresh s (base_of found.0) found.0.next.txn → s.rules.limits.max_file ≡ limits.max_file
+        → IsLogged (D.told disk.new) found.1 0 s) }
+    ensures waits { IfOk result (λ found. length found.1.bytes ≡ 0) }
     ensures base { IfOk result (λ found. IsBase (base_of found.0)) }
-    ensures max { IfOk result (λ found. found.1.max_file ≡ limits.max_file) }
     ensures txn { IfOk result (λ found. 1 ≤ found.0.next.txn) }
     ensures within { IfOk result (λ found. vec_len found.0.items ≤ limits.capacity) }
-    ensures gains { OnOk result (Tells (D.told disk.old) (D.told disk.new) (λ t u. GainsLog t.reads IsBegun u.reads)) }
-    ensures refused { IfErr result (λ cause. WhereTold (D.told disk.old) (λ t. Refuses t.reads limits.capacity cause)) }
+    ensures gains { OnOk result
+        (Tells (D.told disk.old) (D.told disk.new) (λ t u. GainsLog t.reads IsBegun u.reads)) }
+    ensures refused { IfErr result
+        (λ cause. WhereTold (D.told disk.old) (λ t. Refuses t.reads limits.capacity cause)) }
     ensures counter { IfErr result IsOfFile }
-    ensures stays { IfErr result (λ cause. Tells (D.told disk.old) (D.told disk.new) (λ t u. StaysAs cause t.reads u.reads)) }
+    ensures stays { IfErr result
+        (λ cause. Tells (D.told disk.old) (D.told disk.new)
+        (λ t u. StaysAs cause t.reads u.reads)) }
 
     // A stop at any moment of the call leaves the folder as it was left before, or as reads gave it, but for that file; since
     // it is settled only the latter.
     ensures any_moment { Tells (D.told disk.old) (D.told disk.new) OpensOver }
-    ensures settled { (IsErrOf result OpenCause.DiskFault × FailsToSettle (D.told disk.old) (D.told disk.new)) ⊎ Tells (D.told disk.old) (D.told disk.new) OpensFrom }
-    ensures ticks { WhereTold (D.told disk.old) (λ t. WhereLogs t.reads (λ logs. steps.new ≤ steps.old + record_count (lines logs))) }
-    ensures fault { IsErrOf result OpenCause.DiskFault → Rose (D.faults disk.old) (D.faults disk.new) }
+    ensures settled { (IsErrOf result OpenCause.DiskFault
+        × FailsToSettle (D.told disk.old) (D.told disk.new))
+        ⊎ Tells (D.told disk.old) (D.told disk.new) OpensFrom }
+    ensures ticks { WhereTold (D.told disk.old)
+        (λ t. WhereLogs t.reads (λ logs. steps.new ≤ steps.old + record_count (lines logs))) }
+    ensures fault { IsErrOf result OpenCause.DiskFault
+        → Rose (D.faults disk.old) (D.faults disk.new) }
     ensures later { D.faults disk.old ≤ D.faults disk.new }
-    ensures well { (IsErrOf result OpenCause.DiskFault → ⊥) → D.faults disk.new ≡ D.faults disk.old }
+    ensures well { (IsErrOf result OpenCause.DiskFault → ⊥)
+        → D.faults disk.new ≡ D.faults disk.old }
 {
     match disk.settle() {
         Ok(()) => {}
@@ -179,15 +202,26 @@ impl<D: Disk + Drop> Writing<D> {
         limits: Limits,
         steps: &mut Steps<L>,
     ) -> Result<Replayed, OpenCause>
-        ensures opens { IfOk result (λ found. WhereTold (D.told self.old.disk) (λ t. Opens t.reads limits.capacity (base_of found) found.next.txn)) }
-        ensures logged { IfOk result (λ found. (s : State) → IsFresh s (base_of found) found.next.txn → IsLogged (D.told self.new.disk) self.new.log self.new.busy s) }
+        ensures opens { IfOk result
+            (λ found. WhereTold (D.told self.old.disk)
+            (λ t. Opens t.reads limits.capacity (base_of found) found.next.txn)) }
+        ensures logged { IfOk result (λ found. (s : State)
+            → IsFresh s (base_of found) found.next.txn → s.rules.limits.max_file ≡ limits.max_file
+            → IsLogged (D.told self.new.disk) self.new.log self.new.busy s) }
+        ensures waits { OnOk result (length self.new.log.bytes ≡ 0) }
+        ensures kept { OnErr result (self.new.log ≡ self.old.log) }
         ensures base { IfOk result (λ found. IsBase (base_of found)) }
         ensures txn { IfOk result (λ found. 1 ≤ found.next.txn) }
         ensures within { IfOk result (λ found. vec_len found.items ≤ limits.capacity) }
-        ensures gains { OnOk result (Tells (D.told self.old.disk) (D.told self.new.disk) (λ t u. GainsLog t.reads IsBegun u.reads)) }
-        ensures refused { IfErr result (IsRefused (D.told self.old.disk) (D.told self.new.disk) (D.faults self.old.disk) (D.faults self.new.disk) limits.capacity) }
+        ensures gains { OnOk result
+            (Tells (D.told self.old.disk) (D.told self.new.disk)
+            (λ t u. GainsLog t.reads IsBegun u.reads)) }
+        ensures refused { IfErr result
+            (IsRefused (D.told self.old.disk) (D.told self.new.disk) (D.faults self.old.disk)
+            (D.faults self.new.disk) limits.capacity) }
         ensures any_moment { Tells (D.told self.old.disk) (D.told self.new.disk) OpensOver }
-        ensures ticks { WhereTold (D.told self.old.disk) (λ t. WhereLogs t.reads (λ logs. steps.new ≤ steps.old + record_count (lines logs))) }
+        ensures ticks { WhereTold (D.told self.old.disk)
+            (λ t. WhereLogs t.reads (λ logs. steps.new ≤ steps.old + record_count (lines logs))) }
         ensures later { D.faults self.old.disk ≤ D.faults self.new.disk }
         ensures well { OnOk result (D.faults self.new.disk ≡ D.faults self.old.disk) }
     {
@@ -210,17 +244,36 @@ impl<D: Disk + Drop> LoggedLists<D> {
         limits: Limits,
         steps: &mut Steps<L>,
     ) -> Result<LoggedLists<D>, OpenRefused<D>>
-        ensures state { IfOk result (λ c. (faults from : ℕ) (tells : Bool) → c.1 ≡ opening (record { rules = record { kind = Kind.File; limits = limits }; base = Face.base_of c.1; txn = c.1.txn; faults = faults; from = from; tells = tells })) }
+        ensures state { IfOk result (λ c. (faults from : ℕ) (tells : Bool)
+            → c.1 ≡ opening (record {
+              rules = record { kind = Kind.File; limits = limits };
+              base = Face.base_of c.1;
+              txn =
+                  c.1.txn;
+              faults = faults;
+              from = from;
+              tells = tells;
+            })) }
+        ensures waits { IfOk result (λ c. c.2 ≡ 0) }
         ensures base { IfOk result (λ c. IsBase (Face.base_of c.1)) }
-        ensures opens { IfOk result (λ c. WhereTold (D.told disk) (λ t. Opens t.reads limits.capacity (Face.base_of c.1) c.1.txn)) }
-        ensures gains { IfOk result (λ c. Tells (D.told disk) (D.told c.0) (λ t u. GainsLog t.reads IsBegun u.reads)) }
+        ensures opens { IfOk result
+            (λ c. WhereTold (D.told disk)
+            (λ t. Opens t.reads limits.capacity (Face.base_of c.1) c.1.txn)) }
+        ensures gains { IfOk result
+            (λ c. Tells (D.told disk) (D.told c.0) (λ t u. GainsLog t.reads IsBegun u.reads)) }
         ensures any_moment { IfOk result (λ c. Tells (D.told disk) (D.told c.0) OpensOver) }
         ensures settled { IfOk result (λ c. Tells (D.told disk) (D.told c.0) OpensFrom) }
         ensures later { IfOk result (λ c. D.faults disk ≤ D.faults c.0) }
         ensures well { IfOk result (λ c. D.faults c.0 ≡ D.faults disk) }
-        ensures refused { IfErr result (λ refused. IsRefused (D.told disk) (D.told refused.disk) (D.faults disk) (D.faults refused.disk) limits.capacity refused.cause) }
-        ensures settled_or { IfErr result (λ refused. ((refused.cause ≡ OpenCause.DiskFault) × FailsToSettle (D.told disk) (D.told refused.disk)) ⊎ Tells (D.told disk) (D.told refused.disk) OpensFrom) }
-        ensures ticks { WhereTold (D.told disk) (λ t. WhereLogs t.reads (λ logs. steps.new ≤ steps.old + record_count (lines logs))) }
+        ensures refused { IfErr result
+            (λ refused. IsRefused (D.told disk) (D.told refused.disk) (D.faults disk)
+            (D.faults refused.disk) limits.capacity refused.cause) }
+        ensures settled_or { IfErr result
+            (λ refused. ((refused.cause ≡ OpenCause.DiskFault)
+            × FailsToSettle (D.told disk) (D.told refused.disk))
+            ⊎ Tells (D.told disk) (D.told refused.disk) OpensFrom) }
+        ensures ticks { WhereTold (D.told disk)
+            (λ t. WhereLogs t.reads (λ logs. steps.new ≤ steps.old + record_count (lines logs))) }
     {
         let mut disk = disk;
         match open_log(alloc, &mut disk, limits, steps) {
@@ -251,15 +304,32 @@ impl<D: Disk + Drop> LoggedLists<D> {
     /// Opens the folder anew, as [`open_log`] does. What was settled is left, and with it what was staged or nothing of that.
     /// After a refusal the channel is broken and has what it had.
     pub(crate) fn reopen<L: Ledger>(&mut self, steps: &mut Steps<L>) -> Result<(), OpenCause>
-        ensures step { (kept : Reopened) × Moves (is_some_of (D.told self.old.0)) self.old.1 (Reopen (reopen_reply result kept)) self.new.1 }
-        ensures spent { 2 ^ 64 - 1 ≤ self.old.1.life → (result ≡ Err (OpenCause.Spent Counter.Life)) × (self.new.0 ≡ self.old.0) }
-        ensures opens { OnOk result (WhereTold (D.told self.old.0) (λ t. Opens t.reads self.old.1.rules.limits.capacity (Face.base_of self.new.1) self.new.1.txn)) }
-        ensures gains { OnOk result (Tells (D.told self.old.0) (D.told self.new.0) (λ t u. GainsLog t.reads IsBegun u.reads)) }
-        ensures any_moment { Tells (D.told self.old.0) (D.told self.new.0) (λ t u. LeavesOnly t u (MayRecover self.old.1)) }
+        ensures step { (kept : Reopened)
+            × Moves (is_some_of (D.told self.old.0)) self.old.1
+            (Reopen (reopen_reply result kept)) self.new.1 }
+        ensures waits { OnOk result (self.new.2 ≡ 0) }
+        ensures kept { OnErr result (self.new.2 ≡ self.old.2) }
+        ensures spent { 2 ^ 64 - 1 ≤ self.old.1.life → (result ≡ Err (OpenCause.Spent Counter.Life))
+            × (self.new.0 ≡ self.old.0) }
+        ensures opens { OnOk result
+            (WhereTold (D.told self.old.0)
+            (λ t. Opens t.reads self.old.1.rules.limits.capacity
+            (Face.base_of self.new.1) self.new.1.txn)) }
+        ensures gains { OnOk result
+            (Tells (D.told self.old.0) (D.told self.new.0)
+            (λ t u. GainsLog t.reads IsBegun u.reads)) }
+        ensures any_moment { Tells (D.told self.old.0) (D.told self.new.0)
+            (λ t u. LeavesOnly t u (MayRecover self.old.1)) }
+        ensures fault { IsErrOf result OpenCause.DiskFault
+            → Rose (D.faults self.old.0) (D.faults self.new.0) }
         ensures later { D.faults self.old.0 ≤ D.faults self.new.0 }
         ensures well { OnOk result (D.faults self.new.0 ≡ D.faults self.old.0) }
-        ensures refused { IfErr result (λ cause. ((cause ≡ OpenCause.Spent Counter.Life) × (self.new.0 ≡ self.old.0)) ⊎ IsRefused (D.told self.old.0) (D.told self.new.0) (D.faults self.old.0) (D.faults self.new.0) self.old.1.rules.limits.capacity cause) }
-        ensures ticks { WhereTold (D.told self.old.0) (λ t. WhereLogs t.reads (λ logs. steps.new ≤ steps.old + record_count (lines logs))) }
+        ensures refused { IfErr result
+            (λ cause. ((cause ≡ OpenCause.Spent Counter.Life) × (self.new.0 ≡ self.old.0))
+            ⊎ IsRefused (D.told self.old.0) (D.told self.new.0) (D.faults self.old.0)
+            (D.faults self.new.0) self.old.1.rules.limits.capacity cause) }
+        ensures ticks { WhereTold (D.told self.old.0)
+            (λ t. WhereLogs t.reads (λ logs. steps.new ≤ steps.old + record_count (lines logs))) }
     {
         if self.lists.life() == u64::MAX {
             self.lists.fail();

@@ -45,8 +45,16 @@ impl<D: Disk + Drop> Writing<D> {
         requires limit { size event.now ≤ MAX_PUT_SIZE }
         requires room { HasRoom self.old.log (size event.now + 13 + kept self.old.busy first) }
         requires few { self.old.busy ≤ 1024 }
-        ensures logged { (s : State) (events : List Content) → IsLogged (D.told self.old.disk) self.old.log self.old.busy s → entry_of txn s.opened ≡ Some (Entry.Puts events) → first ≡ (length events == 0)
-            → IsLogged (D.told self.new.disk) self.new.log self.new.busy (record s { opened = with_entry txn (Entry.Puts (events ++ event.now ∷ [])) s.opened }) }
+        ensures logged { (s : State) (events : List Content)
+            → IsLogged (D.told self.old.disk) self.old.log self.old.busy s
+            → entry_of txn s.opened ≡ Some (Entry.Puts events) → first ≡ (length events == 0)
+            → IsLogged (D.told self.new.disk) self.new.log self.new.busy
+            (record s {
+              opened = with_entry txn
+                  (Entry.Puts (events ++ event.now ∷ [])) s.opened;
+            }) }
+        ensures waits { length self.new.log.bytes
+            ≡ length self.old.log.bytes + (size event.now + 13) }
         ensures disk { self.new.disk ≡ self.old.disk }
     {
         self.log.append_put(txn, event);
@@ -59,8 +67,14 @@ impl<D: Disk + Drop> Writing<D> {
     pub(crate) fn add_take(&mut self, txn: u64, number: u64, first: bool)
         requires room { HasRoom self.old.log (17 + kept self.old.busy first) }
         requires few { self.old.busy ≤ 1024 }
-        ensures logged { (s : State) (numbers : List ℕ) (event : Content) (rest : List (ℕ × Content)) → IsLogged (D.told self.old.disk) self.old.log self.old.busy s → entry_of txn s.opened ≡ Some (Entry.Takes numbers) → free s ≡ (number, event) ∷ rest → first ≡ (length numbers == 0)
-            → IsLogged (D.told self.new.disk) self.new.log self.new.busy (record s { opened = with_entry txn (Entry.Takes (numbers ++ number ∷ [])) s.opened }) }
+        ensures logged { (s : State) (numbers : List ℕ) (event : Content)
+            (rest : List (ℕ × Content))
+            → IsLogged (D.told self.old.disk) self.old.log self.old.busy s
+            → entry_of txn s.opened ≡ Some (Entry.Takes numbers) → free s ≡ (number, event) ∷ rest
+            → first ≡ (length numbers == 0)
+            → IsLogged (D.told self.new.disk) self.new.log self.new.busy
+            (record s { opened = with_entry txn (Entry.Takes (numbers ++ number ∷ [])) s.opened }) }
+        ensures waits { length self.new.log.bytes ≡ length self.old.log.bytes + 17 }
         ensures disk { self.new.disk ≡ self.old.disk }
     {
         self.log.append(&Rec::Take { txn, number });
@@ -71,9 +85,14 @@ impl<D: Disk + Drop> Writing<D> {
 
     /// Adds the record of a transaction that is given up, which did something.
     pub(crate) fn add_rollback(&mut self, txn: u64)
-        requires { (s : State) × (entry : Entry) × IsLogged (D.told self.old.disk) self.old.log self.old.busy s × (entry_of txn s.opened ≡ Some entry) × (done_of (Some entry) ≡ Some entry) }
-        ensures logged { (s : State) (entry : Entry) → IsLogged (D.told self.old.disk) self.old.log self.old.busy s → entry_of txn s.opened ≡ Some entry → done_of (Some entry) ≡ Some entry
+        requires { (s : State) × (entry : Entry)
+            × IsLogged (D.told self.old.disk) self.old.log self.old.busy s
+            × (entry_of txn s.opened ≡ Some entry) × (done_of (Some entry) ≡ Some entry) }
+        ensures logged { (s : State) (entry : Entry)
+            → IsLogged (D.told self.old.disk) self.old.log self.old.busy s
+            → entry_of txn s.opened ≡ Some entry → done_of (Some entry) ≡ Some entry
             → IsLogged (D.told self.new.disk) self.new.log self.new.busy (close txn s) }
+        ensures waits { length self.new.log.bytes ≡ length self.old.log.bytes + 9 }
         ensures disk { self.new.disk ≡ self.old.disk }
     {
         self.log.append(&Rec::Rollback { txn });
@@ -83,9 +102,16 @@ impl<D: Disk + Drop> Writing<D> {
     /// Adds the record of puts that are staged.
     pub(crate) fn add_commit_put(&mut self, txn: u64, first: u64, count: u32)
         requires some { 1 ≤ count }
-        requires logged { (s : State) × (events : List Content) × IsLogged (D.told self.old.disk) self.old.log self.old.busy s × (entry_of txn s.opened ≡ Some (Entry.Puts events)) × (count ≡ length events) }
-        ensures logged { (s : State) (events : List Content) → IsLogged (D.told self.old.disk) self.old.log self.old.busy s → entry_of txn s.opened ≡ Some (Entry.Puts events) → count ≡ length events → first ≡ next_number s → next_number s + length events ≤ 2 ^ 64 - 1
-            → IsLogged (D.told self.new.disk) self.new.log self.new.busy (stage txn (Some (Entry.Puts events)) s) }
+        requires logged { (s : State) × (events : List Content)
+            × IsLogged (D.told self.old.disk) self.old.log self.old.busy s
+            × (entry_of txn s.opened ≡ Some (Entry.Puts events)) × (count ≡ length events) }
+        ensures logged { (s : State) (events : List Content)
+            → IsLogged (D.told self.old.disk) self.old.log self.old.busy s
+            → entry_of txn s.opened ≡ Some (Entry.Puts events) → count ≡ length events
+            → first ≡ next_number s → next_number s + length events ≤ 2 ^ 64 - 1
+            → IsLogged (D.told self.new.disk) self.new.log self.new.busy
+            (stage txn (Some (Entry.Puts events)) s) }
+        ensures waits { length self.new.log.bytes ≡ length self.old.log.bytes + 21 }
         ensures disk { self.new.disk ≡ self.old.disk }
     {
         self.log.append(&Rec::CommitPut { txn, first, count });
@@ -95,9 +121,15 @@ impl<D: Disk + Drop> Writing<D> {
     /// Adds the record of takes that are staged.
     pub(crate) fn add_commit_take(&mut self, txn: u64, count: u32)
         requires some { 1 ≤ count }
-        requires logged { (s : State) × (numbers : List ℕ) × IsLogged (D.told self.old.disk) self.old.log self.old.busy s × (entry_of txn s.opened ≡ Some (Entry.Takes numbers)) × (count ≡ length numbers) }
-        ensures logged { (s : State) (numbers : List ℕ) → IsLogged (D.told self.old.disk) self.old.log self.old.busy s → entry_of txn s.opened ≡ Some (Entry.Takes numbers) → count ≡ length numbers
-            → IsLogged (D.told self.new.disk) self.new.log self.new.busy (stage txn (Some (Entry.Takes numbers)) s) }
+        requires logged { (s : State) × (numbers : List ℕ)
+            × IsLogged (D.told self.old.disk) self.old.log self.old.busy s
+            × (entry_of txn s.opened ≡ Some (Entry.Takes numbers)) × (count ≡ length numbers) }
+        ensures logged { (s : State) (numbers : List ℕ)
+            → IsLogged (D.told self.old.disk) self.old.log self.old.busy s
+            → entry_of txn s.opened ≡ Some (Entry.Takes numbers) → count ≡ length numbers
+            → IsLogged (D.told self.new.disk) self.new.log self.new.busy
+            (stage txn (Some (Entry.Takes numbers)) s) }
+        ensures waits { length self.new.log.bytes ≡ length self.old.log.bytes + 13 }
         ensures disk { self.new.disk ≡ self.old.disk }
     {
         self.log.append(&Rec::CommitTake { txn, count });
@@ -107,14 +139,28 @@ impl<D: Disk + Drop> Writing<D> {
     /// Writes the waiting records as a frame. A stop at any moment of the call leaves what is settled, or that with what is
     /// staged.
     pub(crate) fn flush(&mut self) -> Result<(), Failed>
-        requires { (s : State) × IsLogged (D.told self.old.disk) self.old.log self.old.busy s × (s.broken ≡ false) }
-        ensures any_moment { (s : State) → IsLogged (D.told self.old.disk) self.old.log self.old.busy s → s.broken ≡ false → Tells (D.told self.old.disk) (D.told self.new.disk) (λ t u. LeavesOnly t u (MayRecover s)) }
-        ensures writes { (s : State) → IsLogged (D.told self.old.disk) self.old.log self.old.busy s → s.broken ≡ false → Tells (D.told self.old.disk) (D.told self.new.disk) WritesLast }
-        ensures logged { OnOk result ((s : State) → IsLogged (D.told self.old.disk) self.old.log self.old.busy s → s.broken ≡ false → ((n : ℕ) → next_number s ≤ n → is_among (taken_numbers s.staged) n ≡ false)
+        requires { (s : State) × IsLogged (D.told self.old.disk) self.old.log self.old.busy s
+            × (s.broken ≡ false) }
+        ensures any_moment { (s : State)
+            → IsLogged (D.told self.old.disk) self.old.log self.old.busy s → s.broken ≡ false
+            → Tells (D.told self.old.disk) (D.told self.new.disk)
+            (λ t u. LeavesOnly t u (MayRecover s)) }
+        ensures writes { (s : State) → IsLogged (D.told self.old.disk) self.old.log self.old.busy s
+            → s.broken ≡ false → Tells (D.told self.old.disk) (D.told self.new.disk) WritesLast }
+        ensures logged { OnOk result ((s : State)
+            → IsLogged (D.told self.old.disk) self.old.log self.old.busy s → s.broken ≡ false
+            → ((n : ℕ) → next_number s ≤ n → is_among (taken_numbers s.staged) n ≡ false)
             → IsLogged (D.told self.new.disk) self.new.log self.new.busy (settle s)) }
-        ensures moved { OnOk result (1 ≤ self.old.log.count → self.new.log ≡ record self.old.log { gate = self.old.log.gate + length self.old.log.bytes + 6; started = true; bytes = []; count = 0 }) }
+        ensures moved { OnOk result (1 ≤ self.old.log.count
+            → self.new.log ≡ record self.old.log {
+              gate = self.old.log.gate + length self.old.log.bytes + 6;
+              started = true;
+              bytes = [];
+              count = 0;
+            }) }
         ensures empty { OnOk result (self.new.log.bytes ≡ []) }
-        ensures nothing { length self.old.log.bytes ≡ 0 → IsOk result × (D.told self.new.disk ≡ D.told self.old.disk) }
+        ensures nothing { length self.old.log.bytes ≡ 0 → IsOk result
+            × (D.told self.new.disk ≡ D.told self.old.disk) }
         ensures busy { self.new.busy ≡ self.old.busy }
         ensures refused { OnErr result (self.new.log ≡ self.old.log) }
         ensures cause { HasCause (D.faults self.old.disk) (D.faults self.new.disk) result }

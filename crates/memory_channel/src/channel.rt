@@ -7,6 +7,8 @@ ghost use Rattle.channel_face.specs.Machine.{BeginPut, BeginTake, StagePut, Stag
 ghost use Rattle.channel_face.specs.Machine as Face;
 ghost use Rattle.channel_face.specs.declared.replies.FlushRefused.{FlushRefused};
 ghost use Rattle.channel_face.specs.declared.replies.Kind.{Kind};
+ghost use Rattle.channel_face.specs.declared.replies.PutRefused.{PutRefused};
+ghost use Rattle.channel_face.specs.declared.replies.TakeRefused.{TakeRefused};
 ghost use Rattle.memory_channel.specs.Memory.{MayRefuseBegin, MayRefusePut, MayRefuseTake, MayRefuseStage};
 ghost use Rattle.txn_core.specs.Counted.{StandsAs};
 
@@ -40,8 +42,13 @@ impl Model for MemoryChannel {
 impl MemoryChannel {
     /// An empty channel. It does not read the limit of a file.
     pub fn new(alloc: Global, limits: Limits) -> Result<MemoryChannel, NoMemory>
-        ensures state { IfOk result (λ c. (faults from : ℕ) → c.state ≡ opening (record { rules = record { kind = Kind.Memory; limits = limits }; base = record { items = []; first = 0 }; txn = 1; faults = faults; from = from; tells = true })) }
-        ensures tally { IfOk result (λ c. c.tally ≡ record { put_attempts = 0; put_successes = 0; take_attempts = 0; take_successes = 0 }) }
+        ensures state { IfOk result (λ c. (faults from : ℕ)
+            → c.state ≡ opening (record
+            { rules = record { kind = Kind.Memory; limits = limits }; base = record
+            { items = []; first = 0 }; txn = 1; faults = faults; from = from; tells = true; })) }
+        ensures tally { IfOk result
+            (λ c. c.tally ≡ record
+            { put_attempts = 0; put_successes = 0; take_attempts = 0; take_successes = 0; }) }
     {
         let mut items = Vec::new(alloc);
         items.reserve(1)?;
@@ -81,8 +88,10 @@ impl Channel for MemoryChannel {
 
     /// 1. `Stale`. 2. `TxnFull`. 3. `NoMemory`. The event is copied.
     fn put(&mut self, txn: &mut PutTxn, event: &Event) -> Result<Put, PutRefused>
-        ensures step { AddsOne (StandsAs self.old) (StandsAs self.new) (Face.Put txn.old event.now result) 0 }
+        ensures step { AddsOne (StandsAs self.old) (StandsAs self.new)
+            (Face.Put txn.old event.now result) 0 }
         ensures same { txn.new ≡ txn.old }
+        ensures fault { IsErrOf result PutRefused.DiskFault → Rose 0 0 }
         ensures refused { IfErr result MayRefusePut }
     {
         self.lists.put(txn, event)
@@ -90,8 +99,11 @@ impl Channel for MemoryChannel {
 
     /// 1. `Stale`. 2. `TxnFull`. 3. `NoMemory`, where the event's copy finds none.
     fn take(&mut self, txn: &mut TakeTxn) -> Result<Taken, TakeRefused>
-        ensures step { AddsOne (StandsAs self.old) (StandsAs self.new) (Face.Take txn.old result) 0 }
+        ensures step { AddsOne (StandsAs self.old) (StandsAs self.new)
+            (Face.Take txn.old result) 0 }
         ensures same { txn.new ≡ txn.old }
+        ensures read { IsErrOf result TakeRefused.ReadFault → Rose 0 0 }
+        ensures fault { IsErrOf result TakeRefused.DiskFault → Rose 0 0 }
         ensures refused { IfErr result MayRefuseTake }
     {
         self.lists.take(txn)
@@ -99,7 +111,8 @@ impl Channel for MemoryChannel {
 
     /// 1. `Stale`. 2. `Full`. 3. `Spent` of `Counter::Number`.
     fn stage_put(&mut self, txn: PutTxn) -> Result<Ticket, StageRefused<PutTxn>>
-        ensures step { AddsOne (StandsAs self.old) (StandsAs self.new) (StagePut txn (cause_of result)) 0 }
+        ensures step { AddsOne (StandsAs self.old) (StandsAs self.new)
+            (StagePut txn (cause_of result)) 0 }
         ensures back { IfErr result (λ refused. refused.txn ≡ txn) }
         ensures faults { ◌≡◌ {A = ℕ} 0 0 }
         ensures refused { IfErr result (λ refused. MayRefuseStage refused.cause) }
@@ -109,7 +122,8 @@ impl Channel for MemoryChannel {
 
     /// `Stale` alone.
     fn stage_take(&mut self, txn: TakeTxn) -> Result<Ticket, StageRefused<TakeTxn>>
-        ensures step { AddsOne (StandsAs self.old) (StandsAs self.new) (StageTake txn (cause_of result)) 0 }
+        ensures step { AddsOne (StandsAs self.old) (StandsAs self.new)
+            (StageTake txn (cause_of result)) 0 }
         ensures back { IfErr result (λ refused. refused.txn ≡ txn) }
         ensures faults { ◌≡◌ {A = ℕ} 0 0 }
         ensures refused { IfErr result (λ refused. MayRefuseStage refused.cause) }

@@ -138,7 +138,8 @@ same_journal s (x ∷ h) = by_count (is_counted x.call) refl (same_journal (afte
     by_count true is more = ap (λ (l : List _). kept_by s x.call ++ l) more
     by_count false is more = ap (λ (t : State). journal t (counted_calls h)) (sym (stays s x.call is)) ∙ more ∙ ap (λ (l : List _). l ++ journal (after s x.call) h) (sym (keeps_none s x.call is))
 
-agrees : (start : Opening) (all h : List Step) → counted_calls all ≡ h → Agree start all h
+-- calls and those of them that are counted lead to one state, with one journal
+pub agrees : (start : Opening) (all h : List Step) → counted_calls all ≡ h → Agree start all h
 agrees start all h is = record {
   state = sym (counted_state (opening start) all) ∙ ap (λ (l : List Step). state_after (opening start) l) is;
   counts = sym (same_counts start all) ∙ ap (counts_of start) is;

@@ -1,6 +1,7 @@
 mod Rooms
-mod Keeping
+pub mod Keeping
 mod Turning
 pub mod Porting
 mod Mending
 mod Durables
+pub mod Fronts

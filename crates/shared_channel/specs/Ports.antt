@@ -6,7 +6,7 @@ use mathlib.Core.List.{IsPrefix}
 use Rattle.atomic_table.specs.Table.{Me}
 use Rattle.channel_face.specs.Faces.{Own, Ends, is_spent_flush}
 use Rattle.channel_face.specs.Machine.{State, Flush, after, settled}
-use Rattle.channel_face.specs.History.{Opening, Step, opening}
+use Rattle.channel_face.specs.History.{Opening, Step, opening, state_after}
 use Rattle.channel_face.specs.declared.replies.FlushRefused.{FlushRefused}
 use Rattle.channel_face.specs.declared.replies.Settled.{Settled}
 use Rattle.channel_face.specs.declared.replies.Settled.TheVariants.{Yes, No, InDoubt}
@@ -41,6 +41,10 @@ pub record Saw {C : Type 0} (stands : C → Opening → List Step → Type 0) (v
   pub calls : StandsCounting stands channel v.base v.seen
   pub own_all : owned v ≡ own
   pub state : state_seen v ≡ s
+
+-- At a front of this history the calls with these numbers were these, and they and the others had led to this state.
+abbrev pub Stood : Opening → List Step → List ℕ → List Own → State → Type 0
+Stood o h numbers own s = (front : List Step) × IsPrefix front h × (own_calls numbers (opening o) front ≡ own) × (state_after (opening o) front ≡ s)
 
 -- each of these calls carries this number
 abbrev pub AreUnder : ℕ → List Step → Type 0

@@ -32,7 +32,9 @@ impl<C: Durable> Shared<C> {
         requires own { has seat.old.me.0.numbers by ≡ true }
         requires calls { calls ≡ length seat.old.me.0.seen }
         ensures same { seat.new.table_id ≡ seat.old.table_id }
-        ensures makes { Makes C.stands by (made_if (not (is_spent_check result)) (step by (Checkpoint result) (C.moment home.new.channel))) seat.old.me home.new.channel seat.new.me }
+        ensures makes { Makes C.stands by (made_if (not (is_spent_check result))
+            (step by (Checkpoint result) (C.moment home.new.channel))) seat.old.me home.new.channel
+            seat.new.me }
         ensures bound { Bounds (is_spent_check result) (2 ^ 64 - 1025) (length seat.old.me.0.seen) }
     {
         if calls >= MOST {
@@ -58,7 +60,9 @@ impl<C: Durable> Shared<C> {
         requires own { has seat.old.me.0.numbers by ≡ true }
         requires calls { calls ≡ length seat.old.me.0.seen }
         ensures same { seat.new.table_id ≡ seat.old.table_id }
-        ensures makes { Makes C.stands by (made_if (not (is_spent_prune result)) (step by (Prune result) (C.moment home.new.channel))) seat.old.me home.new.channel seat.new.me }
+        ensures makes { Makes C.stands by (made_if (not (is_spent_prune result))
+            (step by (Prune result) (C.moment home.new.channel))) seat.old.me home.new.channel
+            seat.new.me }
         ensures bound { Bounds (is_spent_prune result) (2 ^ 64 - 1025) (length seat.old.me.0.seen) }
     {
         if calls >= MOST {
@@ -86,7 +90,8 @@ impl<C: Durable> Shared<C> {
         requires own { has seat.old.me.0.numbers by ≡ true }
         requires calls { calls ≡ length seat.old.me.0.seen }
         ensures same { seat.new.table_id ≡ seat.old.table_id }
-        ensures makes { MakesReopen C.stands by (C.moment home.new.channel) result seat.old.me home.new.channel seat.new.me }
+        ensures makes { MakesReopen C.stands by (C.moment home.new.channel) result seat.old.me
+            home.new.channel seat.new.me }
         ensures bound { Bounds (is_spent_open result) (2 ^ 64 - 1025) (length seat.old.me.0.seen) }
     {
         if calls >= MOST {
@@ -114,7 +119,8 @@ impl<C: Durable> Shared<C> {
         requires own { has seat.old.me.0.numbers by ≡ true }
         requires calls { calls ≡ length seat.old.me.0.seen }
         ensures same { seat.new.table_id ≡ seat.old.table_id }
-        ensures makes { MakesMended C.stands by (C.moment home.new.channel) result seat.old.me home.new.channel seat.new.me }
+        ensures makes { MakesMended C.stands by (C.moment home.new.channel) result seat.old.me
+            home.new.channel seat.new.me }
     {
         let broken = home.channel.is_broken();
         if !broken {
@@ -129,8 +135,11 @@ impl<C: Durable> Shared<C> {
     /// Flushes, then lays a checkpoint, as [`Durable::checkpoint`], or is refused as `Spent` of `Counter::Calls`.
     pub fn checkpoint<R: Wait>(&self, rt: &R, pass: &mut Pass) -> Result<(), CheckRefused>
         requires { pass.old.table_id ≡ self.now.turn.table.shared.table_id }
-        ensures same { (pass.new.table_id ≡ pass.old.table_id) × (pass.new.number ≡ pass.old.number) }
-        ensures call { Answers C.stands C.tells C.moment (is_spent_check result) pass.old.view pass.old.number (Checkpoint result) pass.new.view }
+        ensures same { (pass.new.table_id ≡ pass.old.table_id) ×
+            (pass.new.number ≡ pass.old.number) }
+        ensures call { Answers C.stands C.tells C.moment
+            (is_spent_check result) pass.old.view pass.old.number
+            (Checkpoint result) pass.new.view }
     {
         let badge = mem::replace(&mut pass.badge, Badge::blank());
         let mut seat = badge.into_seat();
@@ -144,8 +153,10 @@ impl<C: Durable> Shared<C> {
     /// Removes the files that no reopening needs, as [`Durable::prune`], or is refused as `Spent` of `Counter::Calls`.
     pub fn prune<R: Wait>(&self, rt: &R, pass: &mut Pass) -> Result<u64, PruneRefused>
         requires { pass.old.table_id ≡ self.now.turn.table.shared.table_id }
-        ensures same { (pass.new.table_id ≡ pass.old.table_id) × (pass.new.number ≡ pass.old.number) }
-        ensures call { Answers C.stands C.tells C.moment (is_spent_prune result) pass.old.view pass.old.number (Prune result) pass.new.view }
+        ensures same { (pass.new.table_id ≡ pass.old.table_id) ×
+            (pass.new.number ≡ pass.old.number) }
+        ensures call { Answers C.stands C.tells C.moment
+            (is_spent_prune result) pass.old.view pass.old.number (Prune result) pass.new.view }
     {
         let badge = mem::replace(&mut pass.badge, Badge::blank());
         let mut seat = badge.into_seat();
@@ -165,8 +176,10 @@ impl<C: Durable> Shared<C> {
         steps: &mut Steps<L>,
     ) -> Result<(), OpenCause>
         requires { pass.old.table_id ≡ self.now.turn.table.shared.table_id }
-        ensures same { (pass.new.table_id ≡ pass.old.table_id) × (pass.new.number ≡ pass.old.number) }
-        ensures call { Reopens C.stands C.tells C.moment pass.old.view pass.old.number result pass.new.view }
+        ensures same { (pass.new.table_id ≡ pass.old.table_id) ×
+            (pass.new.number ≡ pass.old.number) }
+        ensures call { Reopens C.stands C.tells C.moment pass.old.view pass.old.number result
+            pass.new.view }
     {
         let badge = mem::replace(&mut pass.badge, Badge::blank());
         let mut seat = badge.into_seat();
@@ -186,8 +199,10 @@ impl<C: Durable> Shared<C> {
         steps: &mut Steps<L>,
     ) -> Result<bool, OpenCause>
         requires { pass.old.table_id ≡ self.now.turn.table.shared.table_id }
-        ensures same { (pass.new.table_id ≡ pass.old.table_id) × (pass.new.number ≡ pass.old.number) }
-        ensures call { Mends C.stands C.tells C.moment pass.old.view pass.old.number result pass.new.view }
+        ensures same { (pass.new.table_id ≡ pass.old.table_id) ×
+            (pass.new.number ≡ pass.old.number) }
+        ensures call { Mends C.stands C.tells C.moment pass.old.view pass.old.number result
+            pass.new.view }
     {
         let badge = mem::replace(&mut pass.badge, Badge::blank());
         let mut seat = badge.into_seat();

@@ -25,8 +25,10 @@ impl<C: Channel> Shared<C> {
     // and lets others in first, so that they may have staged by then; the others sleep until it has flushed.
     fn settle<R: Wait>(&self, rt: &R, pass: &mut Pass, ticket: &Ticket) -> bool
         requires table { pass.old.table_id ≡ self.now.turn.table.shared.table_id }
-        ensures same { (pass.new.table_id ≡ pass.old.table_id) × (pass.new.number ≡ pass.old.number) }
-        ensures settles { Settles C.stands pass.old.number pass.old.view pass.new.view ticket.now result }
+        ensures same { (pass.new.table_id ≡ pass.old.table_id) ×
+            (pass.new.number ≡ pass.old.number) }
+        ensures settles { Settles C.stands pass.old.number pass.old.view pass.new.view ticket.now
+            result }
         ensures all { SawAll C.stands C.tells pass.new.view }
     {
         let mark = mark_of(ticket);
@@ -50,8 +52,10 @@ impl<C: Channel> Shared<C> {
     // Stages the puts and settles them.
     fn finish_puts<R: Wait>(&self, rt: &R, pass: &mut Pass, txn: PutTxn) -> Result<u64, FaceRefused>
         requires table { pass.old.table_id ≡ self.now.turn.table.shared.table_id }
-        ensures same { (pass.new.table_id ≡ pass.old.table_id) × (pass.new.number ≡ pass.old.number) }
-        ensures calls { WentBy pass.old.number pass.old.view pass.new.view (IsPutStage (Saw C.stands pass.new.view) (length pass.new.view.seen) txn result) }
+        ensures same { (pass.new.table_id ≡ pass.old.table_id) ×
+            (pass.new.number ≡ pass.old.number) }
+        ensures calls { WentBy pass.old.number pass.old.view pass.new.view
+            (IsPutStage (Saw C.stands pass.new.view) (length pass.new.view.seen) txn result) }
         ensures all { SawAll C.stands C.tells pass.new.view }
     {
         match self.stage_put(rt, pass, txn) {
@@ -81,8 +85,11 @@ impl<C: Channel> Shared<C> {
     ) -> Result<(), PutRefused>
         requires table { pass.old.table_id ≡ self.now.turn.table.shared.table_id }
         requires places { All (λ place. place < length batch.now) picked.now }
-        ensures same { (pass.new.table_id ≡ pass.old.table_id) × (pass.new.number ≡ pass.old.number) }
-        ensures puts { WentBy pass.old.number pass.old.view pass.new.view (λ earlier. ArePutUpTo (length pass.new.view.seen) txn.old (picked_events batch.now picked.now) result) }
+        ensures same { (pass.new.table_id ≡ pass.old.table_id) ×
+            (pass.new.number ≡ pass.old.number) }
+        ensures puts { WentBy pass.old.number pass.old.view pass.new.view
+            (λ earlier. ArePutUpTo (length pass.new.view.seen) txn.old
+            (picked_events batch.now picked.now) result) }
         ensures token { txn.new ≡ txn.old }
     {
         for place in picked {
@@ -103,8 +110,11 @@ impl<C: Channel> Shared<C> {
     ) -> Result<u64, FaceRefused>
         requires table { pass.old.table_id ≡ self.now.turn.table.shared.table_id }
         requires places { All (λ place. place < length batch.now) picked.now }
-        ensures same { (pass.new.table_id ≡ pass.old.table_id) × (pass.new.number ≡ pass.old.number) }
-        ensures calls { WentBy pass.old.number pass.old.view pass.new.view (IsPutBatch (Saw C.stands pass.new.view) (length pass.new.view.seen) (picked_events batch.now picked.now) result) }
+        ensures same { (pass.new.table_id ≡ pass.old.table_id) ×
+            (pass.new.number ≡ pass.old.number) }
+        ensures calls { WentBy pass.old.number pass.old.view pass.new.view
+            (IsPutBatch (Saw C.stands pass.new.view) (length pass.new.view.seen)
+            (picked_events batch.now picked.now) result) }
         ensures all { SawAll C.stands C.tells pass.new.view }
     {
         let mut txn = match self.begin_put(rt, pass) {
@@ -128,8 +138,10 @@ impl<C: Channel> Shared<C> {
         txn: TakeTxn,
     ) -> Result<(), FaceRefused>
         requires table { pass.old.table_id ≡ self.now.turn.table.shared.table_id }
-        ensures same { (pass.new.table_id ≡ pass.old.table_id) × (pass.new.number ≡ pass.old.number) }
-        ensures calls { WentBy pass.old.number pass.old.view pass.new.view (IsTakeCommit (Saw C.stands pass.new.view) (length pass.new.view.seen) txn result) }
+        ensures same { (pass.new.table_id ≡ pass.old.table_id) ×
+            (pass.new.number ≡ pass.old.number) }
+        ensures calls { WentBy pass.old.number pass.old.view pass.new.view
+            (IsTakeCommit (Saw C.stands pass.new.view) (length pass.new.view.seen) txn result) }
         ensures all { SawAll C.stands C.tells pass.new.view }
     {
         match self.stage_take(rt, pass, txn) {

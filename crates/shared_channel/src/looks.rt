@@ -23,7 +23,8 @@ impl<C: Channel> Shared<C> {
     /// Whether what the ticket stands for is settled, as [`Channel::settled`].
     pub fn settled<R: Wait>(&self, rt: &R, pass: &mut Pass, ticket: &Ticket) -> Settled
         requires { pass.old.table_id ≡ self.now.turn.table.shared.table_id }
-        ensures same { (pass.new.table_id ≡ pass.old.table_id) × (pass.new.number ≡ pass.old.number) }
+        ensures same { (pass.new.table_id ≡ pass.old.table_id) ×
+            (pass.new.number ≡ pass.old.number) }
         ensures look { Looks C.stands C.tells pass.old.view pass.new.view }
         ensures answer { result ≡ settled (state_seen pass.new.view) ticket.now }
     {
@@ -39,7 +40,8 @@ impl<C: Channel> Shared<C> {
     /// How many events are left.
     pub fn size<R: Wait>(&self, rt: &R, pass: &mut Pass) -> u64
         requires { pass.old.table_id ≡ self.now.turn.table.shared.table_id }
-        ensures same { (pass.new.table_id ≡ pass.old.table_id) × (pass.new.number ≡ pass.old.number) }
+        ensures same { (pass.new.table_id ≡ pass.old.table_id) ×
+            (pass.new.number ≡ pass.old.number) }
         ensures look { Looks C.stands C.tells pass.old.view pass.new.view }
         ensures answer { result ≡ length (state_seen pass.new.view).items }
     {
@@ -55,7 +57,8 @@ impl<C: Channel> Shared<C> {
     /// The most events.
     pub fn capacity<R: Wait>(&self, rt: &R, pass: &mut Pass) -> u64
         requires { pass.old.table_id ≡ self.now.turn.table.shared.table_id }
-        ensures same { (pass.new.table_id ≡ pass.old.table_id) × (pass.new.number ≡ pass.old.number) }
+        ensures same { (pass.new.table_id ≡ pass.old.table_id) ×
+            (pass.new.number ≡ pass.old.number) }
         ensures look { Looks C.stands C.tells pass.old.view pass.new.view }
         ensures answer { result ≡ (state_seen pass.new.view).rules.limits.capacity }
     {
@@ -71,7 +74,8 @@ impl<C: Channel> Shared<C> {
     /// Whether the channel is broken until it is reopened.
     pub fn is_broken<R: Wait>(&self, rt: &R, pass: &mut Pass) -> bool
         requires { pass.old.table_id ≡ self.now.turn.table.shared.table_id }
-        ensures same { (pass.new.table_id ≡ pass.old.table_id) × (pass.new.number ≡ pass.old.number) }
+        ensures same { (pass.new.table_id ≡ pass.old.table_id) ×
+            (pass.new.number ≡ pass.old.number) }
         ensures look { Looks C.stands C.tells pass.old.view pass.new.view }
         ensures answer { result ≡ (state_seen pass.new.view).broken }
     {
@@ -87,7 +91,8 @@ impl<C: Channel> Shared<C> {
     /// What is counted since the channel was opened or made.
     pub fn counts<R: Wait>(&self, rt: &R, pass: &mut Pass) -> Counts
         requires { pass.old.table_id ≡ self.now.turn.table.shared.table_id }
-        ensures same { (pass.new.table_id ≡ pass.old.table_id) × (pass.new.number ≡ pass.old.number) }
+        ensures same { (pass.new.table_id ≡ pass.old.table_id) ×
+            (pass.new.number ≡ pass.old.number) }
         ensures look { Looks C.stands C.tells pass.old.view pass.new.view }
         ensures answer { result ≡ counts_of pass.new.view.base pass.new.view.seen }
     {
@@ -104,7 +109,8 @@ impl<C: Channel> Shared<C> {
     /// seen.
     pub fn look<R: Wait>(&self, rt: &R, pass: &mut Pass) -> Look
         requires { pass.old.table_id ≡ self.now.turn.table.shared.table_id }
-        ensures same { (pass.new.table_id ≡ pass.old.table_id) × (pass.new.number ≡ pass.old.number) }
+        ensures same { (pass.new.table_id ≡ pass.old.table_id) ×
+            (pass.new.number ≡ pass.old.number) }
         ensures look { Looks C.stands C.tells pass.old.view pass.new.view }
         ensures whole { HasAll pass.old.view → pass.new.view.seen ≡ pass.old.view.seen }
         ensures counts { result.counts ≡ counts_of pass.new.view.base pass.new.view.seen }

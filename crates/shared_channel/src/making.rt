@@ -33,7 +33,9 @@ impl<C: Channel> Shared<C> {
         requires own { has seat.old.me.0.numbers by ≡ true }
         requires calls { calls ≡ length seat.old.me.0.seen }
         ensures same { seat.new.table_id ≡ seat.old.table_id }
-        ensures makes { Makes C.stands by (made_if (not (is_spent_begin result)) (step by (BeginPut result) (C.moment home.new.channel))) seat.old.me home.new.channel seat.new.me }
+        ensures makes { Makes C.stands by (made_if (not (is_spent_begin result))
+            (step by (BeginPut result) (C.moment home.new.channel))) seat.old.me home.new.channel
+            seat.new.me }
         ensures bound { Bounds (is_spent_begin result) (2 ^ 64 - 1025) (length seat.old.me.0.seen) }
     {
         if calls >= MOST {
@@ -59,7 +61,9 @@ impl<C: Channel> Shared<C> {
         requires own { has seat.old.me.0.numbers by ≡ true }
         requires calls { calls ≡ length seat.old.me.0.seen }
         ensures same { seat.new.table_id ≡ seat.old.table_id }
-        ensures makes { Makes C.stands by (made_if (not (is_spent_begin result)) (step by (BeginTake result) (C.moment home.new.channel))) seat.old.me home.new.channel seat.new.me }
+        ensures makes { Makes C.stands by (made_if (not (is_spent_begin result))
+            (step by (BeginTake result) (C.moment home.new.channel))) seat.old.me home.new.channel
+            seat.new.me }
         ensures bound { Bounds (is_spent_begin result) (2 ^ 64 - 1025) (length seat.old.me.0.seen) }
     {
         if calls >= MOST {
@@ -91,7 +95,9 @@ impl<C: Channel> Shared<C> {
         requires own { has seat.old.me.0.numbers by ≡ true }
         requires calls { calls ≡ length seat.old.me.0.seen }
         ensures same { seat.new.table_id ≡ seat.old.table_id }
-        ensures makes { Makes C.stands by (made_if (not (is_spent_put result)) (step by (Put txn.old event.now result) (C.moment home.new.channel))) seat.old.me home.new.channel seat.new.me }
+        ensures makes { Makes C.stands by (made_if (not (is_spent_put result))
+            (step by (Put txn.old event.now result) (C.moment home.new.channel))) seat.old.me
+            home.new.channel seat.new.me }
         ensures bound { Bounds (is_spent_put result) (2 ^ 64 - 1025) (length seat.old.me.0.seen) }
         ensures token { txn.new ≡ txn.old }
     {
@@ -127,7 +133,9 @@ impl<C: Channel> Shared<C> {
         requires own { has seat.old.me.0.numbers by ≡ true }
         requires calls { calls ≡ length seat.old.me.0.seen }
         ensures same { seat.new.table_id ≡ seat.old.table_id }
-        ensures makes { Makes C.stands by (made_if (not (is_spent_take result)) (step by (Take txn.old result) (C.moment home.new.channel))) seat.old.me home.new.channel seat.new.me }
+        ensures makes { Makes C.stands by (made_if (not (is_spent_take result))
+            (step by (Take txn.old result) (C.moment home.new.channel))) seat.old.me
+            home.new.channel seat.new.me }
         ensures bound { Bounds (is_spent_take result) (2 ^ 64 - 1025) (length seat.old.me.0.seen) }
         ensures token { txn.new ≡ txn.old }
     {
@@ -159,8 +167,11 @@ impl<C: Channel> Shared<C> {
         requires own { has seat.old.me.0.numbers by ≡ true }
         requires calls { calls ≡ length seat.old.me.0.seen }
         ensures same { seat.new.table_id ≡ seat.old.table_id }
-        ensures makes { Makes C.stands by (made_if (not (is_spent_stage (cause_of result))) (step by (StagePut txn (cause_of result)) (C.moment home.new.channel))) seat.old.me home.new.channel seat.new.me }
-        ensures bound { Bounds (is_spent_stage (cause_of result)) (2 ^ 64 - 1025) (length seat.old.me.0.seen) }
+        ensures makes { Makes C.stands by (made_if (not (is_spent_stage (cause_of result)))
+            (step by (StagePut txn (cause_of result)) (C.moment home.new.channel))) seat.old.me
+            home.new.channel seat.new.me }
+        ensures bound { Bounds (is_spent_stage (cause_of result)) (2 ^ 64 - 1025)
+            (length seat.old.me.0.seen) }
         ensures back { IfErr result (λ refused. refused.txn ≡ txn) }
     {
         if calls >= MOST {
@@ -195,8 +206,11 @@ impl<C: Channel> Shared<C> {
         requires own { has seat.old.me.0.numbers by ≡ true }
         requires calls { calls ≡ length seat.old.me.0.seen }
         ensures same { seat.new.table_id ≡ seat.old.table_id }
-        ensures makes { Makes C.stands by (made_if (not (is_spent_stage (cause_of result))) (step by (StageTake txn (cause_of result)) (C.moment home.new.channel))) seat.old.me home.new.channel seat.new.me }
-        ensures bound { Bounds (is_spent_stage (cause_of result)) (2 ^ 64 - 1025) (length seat.old.me.0.seen) }
+        ensures makes { Makes C.stands by (made_if (not (is_spent_stage (cause_of result)))
+            (step by (StageTake txn (cause_of result)) (C.moment home.new.channel))) seat.old.me
+            home.new.channel seat.new.me }
+        ensures bound { Bounds (is_spent_stage (cause_of result)) (2 ^ 64 - 1025)
+            (length seat.old.me.0.seen) }
         ensures back { IfErr result (λ refused. refused.txn ≡ txn) }
     {
         if calls >= MOST {
@@ -230,7 +244,9 @@ impl<C: Channel> Shared<C> {
         requires own { has seat.old.me.0.numbers by ≡ true }
         requires calls { calls ≡ length seat.old.me.0.seen }
         ensures same { seat.new.table_id ≡ seat.old.table_id }
-        ensures makes { Makes C.stands by (made_if (not (is_spent_flush result)) (step by (Flush result) (C.moment home.new.channel))) seat.old.me home.new.channel seat.new.me }
+        ensures makes { Makes C.stands by (made_if (not (is_spent_flush result))
+            (step by (Flush result) (C.moment home.new.channel))) seat.old.me home.new.channel
+            seat.new.me }
         ensures bound { Bounds (is_spent_flush result) (2 ^ 64 - 1025) (length seat.old.me.0.seen) }
     {
         if calls >= MOST {
@@ -256,7 +272,9 @@ impl<C: Channel> Shared<C> {
         requires within { IsIn C.stands seat.old.me home.old.channel }
         requires own { has seat.old.me.0.numbers by ≡ true }
         ensures same { seat.new.table_id ≡ seat.old.table_id }
-        ensures makes { Makes C.stands by (made_if result (step by (RollbackPut txn true) (C.moment home.new.channel))) seat.old.me home.new.channel seat.new.me }
+        ensures makes { Makes C.stands by (made_if result
+            (step by (RollbackPut txn true) (C.moment home.new.channel))) seat.old.me
+            home.new.channel seat.new.me }
         ensures stale { result ≡ false → puts_of (state_seen seat.new.me.0) txn ≡ None }
     {
         let (life, number) = (txn.life(), txn.number());
@@ -281,7 +299,9 @@ impl<C: Channel> Shared<C> {
         requires within { IsIn C.stands seat.old.me home.old.channel }
         requires own { has seat.old.me.0.numbers by ≡ true }
         ensures same { seat.new.table_id ≡ seat.old.table_id }
-        ensures makes { Makes C.stands by (made_if result (step by (RollbackTake txn true) (C.moment home.new.channel))) seat.old.me home.new.channel seat.new.me }
+        ensures makes { Makes C.stands by (made_if result
+            (step by (RollbackTake txn true) (C.moment home.new.channel))) seat.old.me
+            home.new.channel seat.new.me }
         ensures stale { result ≡ false → takes_of (state_seen seat.new.me.0) txn ≡ None }
     {
         let (life, number) = (txn.life(), txn.number());
@@ -308,7 +328,8 @@ impl<C: Channel> Shared<C> {
         requires own { has seat.old.me.0.numbers by ≡ true }
         requires calls { calls ≡ length seat.old.me.0.seen }
         ensures same { seat.new.table_id ≡ seat.old.table_id }
-        ensures commit { MakesCommit C.stands (is_spent_commit result) by (StagePut txn) txn result seat.old.me home.new.channel seat.new.me }
+        ensures commit { MakesCommit C.stands (is_spent_commit result) by
+            (StagePut txn) txn result seat.old.me home.new.channel seat.new.me }
     {
         if calls >= MOST - 1 {
             return Err(CommitRefused::Stage(StageRefused {
@@ -341,7 +362,8 @@ impl<C: Channel> Shared<C> {
         requires own { has seat.old.me.0.numbers by ≡ true }
         requires calls { calls ≡ length seat.old.me.0.seen }
         ensures same { seat.new.table_id ≡ seat.old.table_id }
-        ensures commit { MakesCommit C.stands (is_spent_commit result) by (StageTake txn) txn result seat.old.me home.new.channel seat.new.me }
+        ensures commit { MakesCommit C.stands (is_spent_commit result) by
+            (StageTake txn) txn result seat.old.me home.new.channel seat.new.me }
     {
         if calls >= MOST - 1 {
             return Err(CommitRefused::Stage(StageRefused {
@@ -374,7 +396,8 @@ impl<C: Channel> Shared<C> {
         requires own { has seat.old.me.0.numbers by ≡ true }
         requires calls { calls ≡ length seat.old.me.0.seen }
         ensures same { seat.new.table_id ≡ seat.old.table_id }
-        ensures makes { MakesSettled C.stands by (C.moment home.new.channel) ticket.now result seat.old.me home.new.channel seat.new.me }
+        ensures makes { MakesSettled C.stands by (C.moment home.new.channel) ticket.now result
+            seat.old.me home.new.channel seat.new.me }
     {
         match home.channel.settled(ticket) {
             Settled::Yes => true,

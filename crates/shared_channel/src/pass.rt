@@ -106,7 +106,8 @@ fn blanks(alloc: Global, passes: u32) -> Result<Vec<Vec<bool>>, AllocError>
 
 // Marks what either marks.
 fn add_marks(into: &mut Vec<bool>, from: &Vec<bool>)
-    ensures each { (n : ℕ) → n < length into.old.items → get_or into.new.items n false ≡ (get_or into.old.items n false || get_or from.now.items n false) }
+    ensures each { (n : ℕ) → n < length into.old.items → get_or into.new.items n false ≡
+        (get_or into.old.items n false || get_or from.now.items n false) }
     ensures same { length into.new.items ≡ length into.old.items }
 {
     for (i, mark) in from.iter().enumerate() {
@@ -127,8 +128,10 @@ impl<C: Channel> Shared<C> {
     ) -> Result<(Shared<C>, Vec<Pass>), Unshared<C>>
         ghost start: { Opening }
         requires { C.stands channel start [] }
-        ensures shared { IfOk result (λ r. r.1.items ≡ new_passes r.0.turn.table.shared.table_id start passes passes) }
-        ensures table { IfOk result (λ r. All (λ p. p.table_id ≡ r.0.turn.table.shared.table_id) r.1.items) }
+        ensures shared { IfOk result
+            (λ r. r.1.items ≡ new_passes r.0.turn.table.shared.table_id start passes passes) }
+        ensures table { IfOk result
+            (λ r. All (λ p. p.table_id ≡ r.0.turn.table.shared.table_id) r.1.items) }
         ensures back { IfErr result (λ u. u.channel ≡ channel) }
     {
         let Ok(marks) = blanks(alloc, passes) else {
@@ -166,8 +169,10 @@ impl<C: Channel> Shared<C> {
         requires table { dealer.table_id ≡ self.now.turn.table.shared.table_id }
         requires dealer { dealer.me ≡ (dealer_of start passes 0, []) }
         requires list { (list.items ≡ []) × (passes ≤ vec_capacity list) }
-        requires marks { All (λ m. IsBlank passes m.items) marks.items × (length marks.items ≡ passes) }
-        ensures passes { result.items ≡ new_passes self.now.turn.table.shared.table_id start passes passes }
+        requires marks { All (λ m. IsBlank passes m.items) marks.items ×
+            (length marks.items ≡ passes) }
+        ensures passes { result.items ≡ new_passes self.now.turn.table.shared.table_id start passes
+            passes }
         ensures table { All (λ p. p.table_id ≡ self.now.turn.table.shared.table_id) result.items }
     {
         let mut i = 0;
@@ -191,7 +196,8 @@ impl<C: Channel> Shared<C> {
         requires dealer { dealer.old.me ≡ (dealer_of start (length marks.items) number, []) }
         requires room { number < length marks.items }
         requires marks { IsBlank (length marks.items) marks.items }
-        ensures dealer { (dealer.new.table_id ≡ dealer.old.table_id) × (dealer.new.me ≡ (dealing dealer.old.me.0, [])) }
+        ensures dealer { (dealer.new.table_id ≡ dealer.old.table_id) ×
+            (dealer.new.me ≡ (dealing dealer.old.me.0, [])) }
         ensures pass { result ≡ new_pass dealer.old.table_id start (length marks.items) number }
     {
         let seat = self.turn.deal(dealer);
@@ -207,11 +213,15 @@ impl<C: Channel> Shared<C> {
     /// Takes in another pass. What either has seen is seen, and the numbers and the calls of both are its own. Both are of one
     /// history and of as many passes, and no number was with both.
     pub fn join_pass(&self, into: &mut Pass, from: Pass)
-        requires { (into.old.table_id ≡ self.now.turn.table.shared.table_id) × (from.table_id ≡ self.now.turn.table.shared.table_id) }
-        ensures same { (into.new.table_id ≡ into.old.table_id) × (into.new.number ≡ into.old.number) }
+        requires { (into.old.table_id ≡ self.now.turn.table.shared.table_id) ×
+            (from.table_id ≡ self.now.turn.table.shared.table_id) }
+        ensures same { (into.new.table_id ≡ into.old.table_id) ×
+            (into.new.number ≡ into.old.number) }
         ensures view { into.new.view ≡ joined (both into.old.view from.view) }
-        ensures seen { Has into.new.view.seen (part into.old.view) × Has into.new.view.seen (part from.view) }
-        ensures one { (from.view.base ≡ into.old.view.base) × (from.view.passes ≡ into.old.view.passes) }
+        ensures seen { Has into.new.view.seen (part into.old.view) × Has into.new.view.seen
+            (part from.view) }
+        ensures one { (from.view.base ≡ into.old.view.base) ×
+            (from.view.passes ≡ into.old.view.passes) }
         ensures apart { AreApart into.old.view.numbers from.view.numbers }
     {
         let badge = mem::replace(&mut into.badge, Badge::blank());
@@ -237,8 +247,10 @@ impl<C: Channel> Shared<C> {
         requires { pass.table_id ≡ self.turn.table.shared.table_id }
         ensures same { (result.pass.table_id ≡ pass.table_id) × (result.pass.number ≡ pass.number) }
         ensures left { Left C.stands C.tells pass.view [] result.pass.view result.channel }
-        ensures channel { StandsAgreeing C.stands result.channel pass.view.base result.pass.view.seen }
-        ensures all { HasAll pass.view → calls_by pass.view.numbers result.pass.view.seen ≡ result.pass.view.seen }
+        ensures channel { StandsAgreeing C.stands result.channel pass.view.base
+            result.pass.view.seen }
+        ensures all { HasAll pass.view → calls_by pass.view.numbers result.pass.view.seen ≡
+            result.pass.view.seen }
         ensures whole { HasAll pass.view → result.pass.view.seen ≡ pass.view.seen }
     {
         let Pass {

@@ -47,8 +47,10 @@ impl<'a, R: Wait, C: Channel> Port<'a, R, C> {
 impl<'a, R: Wait, C: Durable> Port<'a, R, C> {
     /// Reopens the channel exactly where it is broken, as [`Shared::mend`].
     pub fn mend<L: Ledger>(&mut self, steps: &mut Steps<L>) -> Result<bool, OpenCause>
-        ensures same { (self.new.pass.table_id ≡ self.old.pass.table_id) × (self.new.pass.number ≡ self.old.pass.number) }
-        ensures call { Mends C.stands C.tells C.moment self.old.pass.view self.old.pass.number result self.new.pass.view }
+        ensures same { (self.new.pass.table_id ≡ self.old.pass.table_id) ×
+            (self.new.pass.number ≡ self.old.pass.number) }
+        ensures call { Mends C.stands C.tells C.moment self.old.pass.view self.old.pass.number
+            result self.new.pass.view }
         ensures kept { Later self.old.pass self.new.pass }
         ensures all { SawAll C.stands C.tells self.new.pass.view }
     {
@@ -75,7 +77,9 @@ impl<'a, R: Wait, C: Channel> PutFace for Port<'a, R, C> {
     fn put_batch(&mut self, batch: &Batch, picked: &[u32]) -> Result<u64, FaceRefused>
         requires { All (λ place. place < length batch.now) picked.now }
         ensures seen { length self.old.pass.view.seen ≤ length self.new.pass.view.seen }
-        ensures calls { Gains (AreOwned self.old.pass.view) (AreOwned self.new.pass.view) (IsPutBatch (Saw C.stands self.new.pass.view) (length self.new.pass.view.seen) (picked_events batch.now picked.now) result) }
+        ensures calls { Gains (AreOwned self.old.pass.view) (AreOwned self.new.pass.view)
+            (IsPutBatch (Saw C.stands self.new.pass.view) (length self.new.pass.view.seen)
+            (picked_events batch.now picked.now) result) }
         ensures kept { Later self.old.pass self.new.pass }
         ensures all { SawAll C.stands C.tells self.new.pass.view }
     {
@@ -102,7 +106,8 @@ impl<'a, R: Wait, C: Channel> TakeFace for Port<'a, R, C> {
 
     fn begin(&mut self) -> Result<TakeTxn, FaceRefused>
         ensures seen { length self.old.pass.view.seen ≤ length self.new.pass.view.seen }
-        ensures calls { Gains (AreOwned self.old.pass.view) (AreOwned self.new.pass.view) (λ earlier. IsTakeBegun (length self.new.pass.view.seen) result) }
+        ensures calls { Gains (AreOwned self.old.pass.view) (AreOwned self.new.pass.view)
+            (λ earlier. IsTakeBegun (length self.new.pass.view.seen) result) }
         ensures kept { Later self.old.pass self.new.pass }
         ensures all { SawAll C.stands C.tells self.new.pass.view }
     {
@@ -114,7 +119,8 @@ impl<'a, R: Wait, C: Channel> TakeFace for Port<'a, R, C> {
 
     fn take(&mut self, txn: &mut TakeTxn) -> Result<Option<Event>, FaceRefused>
         ensures seen { length self.old.pass.view.seen ≤ length self.new.pass.view.seen }
-        ensures calls { Gains (AreOwned self.old.pass.view) (AreOwned self.new.pass.view) (λ earlier. IsTake (length self.new.pass.view.seen) txn.old result) }
+        ensures calls { Gains (AreOwned self.old.pass.view) (AreOwned self.new.pass.view)
+            (λ earlier. IsTake (length self.new.pass.view.seen) txn.old result) }
         ensures token { txn.new ≡ txn.old }
         ensures kept { Later self.old.pass self.new.pass }
         ensures all { SawAll C.stands C.tells self.new.pass.view }
@@ -127,7 +133,9 @@ impl<'a, R: Wait, C: Channel> TakeFace for Port<'a, R, C> {
 
     fn commit(&mut self, txn: TakeTxn) -> Result<(), FaceRefused>
         ensures seen { length self.old.pass.view.seen ≤ length self.new.pass.view.seen }
-        ensures calls { Gains (AreOwned self.old.pass.view) (AreOwned self.new.pass.view) (IsTakeCommit (Saw C.stands self.new.pass.view) (length self.new.pass.view.seen) txn result) }
+        ensures calls { Gains (AreOwned self.old.pass.view) (AreOwned self.new.pass.view)
+            (IsTakeCommit (Saw C.stands self.new.pass.view)
+            (length self.new.pass.view.seen) txn result) }
         ensures kept { Later self.old.pass self.new.pass }
         ensures all { SawAll C.stands C.tells self.new.pass.view }
     {
@@ -136,7 +144,8 @@ impl<'a, R: Wait, C: Channel> TakeFace for Port<'a, R, C> {
 
     fn rollback(&mut self, txn: TakeTxn)
         ensures seen { length self.old.pass.view.seen ≤ length self.new.pass.view.seen }
-        ensures calls { Gains (AreOwned self.old.pass.view) (AreOwned self.new.pass.view) (IsTakeRolledBack (Saw C.stands self.new.pass.view) txn) }
+        ensures calls { Gains (AreOwned self.old.pass.view) (AreOwned self.new.pass.view)
+            (IsTakeRolledBack (Saw C.stands self.new.pass.view) txn) }
         ensures kept { Later self.old.pass self.new.pass }
         ensures all { SawAll C.stands C.tells self.new.pass.view }
     {

@@ -19,8 +19,10 @@ impl<C: Channel> Shared<C> {
     /// Begins a transaction of puts, as [`Channel::begin_put`], or is refused as `Spent` of `Counter::Calls`.
     pub fn begin_put<R: Wait>(&self, rt: &R, pass: &mut Pass) -> Result<PutTxn, BeginRefused>
         requires { pass.old.table_id ≡ self.now.turn.table.shared.table_id }
-        ensures same { (pass.new.table_id ≡ pass.old.table_id) × (pass.new.number ≡ pass.old.number) }
-        ensures call { Answers C.stands C.tells C.moment (is_spent_begin result) pass.old.view pass.old.number (BeginPut result) pass.new.view }
+        ensures same { (pass.new.table_id ≡ pass.old.table_id) ×
+            (pass.new.number ≡ pass.old.number) }
+        ensures call { Answers C.stands C.tells C.moment
+            (is_spent_begin result) pass.old.view pass.old.number (BeginPut result) pass.new.view }
     {
         let badge = mem::replace(&mut pass.badge, Badge::blank());
         let mut seat = badge.into_seat();
@@ -40,8 +42,11 @@ impl<C: Channel> Shared<C> {
         event: &Event,
     ) -> Result<channel_face::Put, PutRefused>
         requires { pass.old.table_id ≡ self.now.turn.table.shared.table_id }
-        ensures same { (pass.new.table_id ≡ pass.old.table_id) × (pass.new.number ≡ pass.old.number) }
-        ensures call { Answers C.stands C.tells C.moment (is_spent_put result) pass.old.view pass.old.number (Put txn.old event.now result) pass.new.view }
+        ensures same { (pass.new.table_id ≡ pass.old.table_id) ×
+            (pass.new.number ≡ pass.old.number) }
+        ensures call { Answers C.stands C.tells C.moment
+            (is_spent_put result) pass.old.view pass.old.number
+            (Put txn.old event.now result) pass.new.view }
         ensures token { txn.new ≡ txn.old }
     {
         let badge = mem::replace(&mut pass.badge, Badge::blank());
@@ -61,8 +66,11 @@ impl<C: Channel> Shared<C> {
         txn: PutTxn,
     ) -> Result<Ticket, StageRefused<PutTxn>>
         requires { pass.old.table_id ≡ self.now.turn.table.shared.table_id }
-        ensures same { (pass.new.table_id ≡ pass.old.table_id) × (pass.new.number ≡ pass.old.number) }
-        ensures call { Answers C.stands C.tells C.moment (is_spent_stage (cause_of result)) pass.old.view pass.old.number (StagePut txn (cause_of result)) pass.new.view }
+        ensures same { (pass.new.table_id ≡ pass.old.table_id) ×
+            (pass.new.number ≡ pass.old.number) }
+        ensures call { Answers C.stands C.tells C.moment
+            (is_spent_stage (cause_of result)) pass.old.view pass.old.number
+            (StagePut txn (cause_of result)) pass.new.view }
         ensures back { IfErr result (λ refused. refused.txn ≡ txn) }
     {
         let badge = mem::replace(&mut pass.badge, Badge::blank());
@@ -77,8 +85,10 @@ impl<C: Channel> Shared<C> {
     /// Settles all that is staged, as [`Channel::flush`], or is refused as `Spent` of `Counter::Calls`.
     pub fn flush<R: Wait>(&self, rt: &R, pass: &mut Pass) -> Result<(), FlushRefused>
         requires { pass.old.table_id ≡ self.now.turn.table.shared.table_id }
-        ensures same { (pass.new.table_id ≡ pass.old.table_id) × (pass.new.number ≡ pass.old.number) }
-        ensures call { Answers C.stands C.tells C.moment (is_spent_flush result) pass.old.view pass.old.number (Flush result) pass.new.view }
+        ensures same { (pass.new.table_id ≡ pass.old.table_id) ×
+            (pass.new.number ≡ pass.old.number) }
+        ensures call { Answers C.stands C.tells C.moment
+            (is_spent_flush result) pass.old.view pass.old.number (Flush result) pass.new.view }
     {
         let badge = mem::replace(&mut pass.badge, Badge::blank());
         let mut seat = badge.into_seat();
@@ -98,8 +108,10 @@ impl<C: Channel> Shared<C> {
         txn: PutTxn,
     ) -> Result<Ticket, CommitRefused<PutTxn>>
         requires { pass.old.table_id ≡ self.now.turn.table.shared.table_id }
-        ensures same { (pass.new.table_id ≡ pass.old.table_id) × (pass.new.number ≡ pass.old.number) }
-        ensures call { Commits C.stands C.tells (is_spent_commit result) pass.old.view pass.old.number (StagePut txn) txn result pass.new.view }
+        ensures same { (pass.new.table_id ≡ pass.old.table_id) ×
+            (pass.new.number ≡ pass.old.number) }
+        ensures call { Commits C.stands C.tells (is_spent_commit result) pass.old.view
+            pass.old.number (StagePut txn) txn result pass.new.view }
     {
         let badge = mem::replace(&mut pass.badge, Badge::blank());
         let mut seat = badge.into_seat();
@@ -114,8 +126,10 @@ impl<C: Channel> Shared<C> {
     /// counted.
     pub fn rollback_put<R: Wait>(&self, rt: &R, pass: &mut Pass, txn: PutTxn) -> bool
         requires { pass.old.table_id ≡ self.now.turn.table.shared.table_id }
-        ensures same { (pass.new.table_id ≡ pass.old.table_id) × (pass.new.number ≡ pass.old.number) }
-        ensures call { RolledBack C.stands C.tells C.moment result pass.old.view pass.old.number (RollbackPut txn true) (λ s. puts_of s txn ≡ None) pass.new.view }
+        ensures same { (pass.new.table_id ≡ pass.old.table_id) ×
+            (pass.new.number ≡ pass.old.number) }
+        ensures call { RolledBack C.stands C.tells C.moment result pass.old.view pass.old.number
+            (RollbackPut txn true) (λ s. puts_of s txn ≡ None) pass.new.view }
     {
         let badge = mem::replace(&mut pass.badge, Badge::blank());
         let mut seat = badge.into_seat();

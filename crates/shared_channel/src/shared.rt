@@ -39,8 +39,10 @@ impl<C: Channel> Shared<C> {
         requires within { IsIn C.stands seat.old.me home.channel }
         ensures same { seat.new.table_id ≡ seat.old.table_id }
         ensures out { IsOut seat.new.me }
-        ensures left { (v : View) (calls : List Step) → Making v calls seat.old.me.0 → Left C.stands C.tells v calls seat.new.me.0 home.channel }
-        ensures saw { (v : View) (calls : List Step) → Making v calls seat.old.me.0 → seat.new.me.0 ≡ saw v seat.new.me.0.seen }
+        ensures left { (v : View) (calls : List Step) → Making v calls seat.old.me.0
+            → Left C.stands C.tells v calls seat.new.me.0 home.channel }
+        ensures saw { (v : View) (calls : List Step) → Making v calls seat.old.me.0
+            → seat.new.me.0 ≡ saw v seat.new.me.0.seen }
         ensures seen { seat.new.me.0.seen ≡ seat.old.me.0.seen }
         ensures calls { result ≡ length seat.new.me.0.seen }
     {

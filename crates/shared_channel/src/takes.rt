@@ -18,8 +18,10 @@ impl<C: Channel> Shared<C> {
     /// Begins a transaction of takes, as [`Channel::begin_take`], or is refused as `Spent` of `Counter::Calls`.
     pub fn begin_take<R: Wait>(&self, rt: &R, pass: &mut Pass) -> Result<TakeTxn, BeginRefused>
         requires { pass.old.table_id ≡ self.now.turn.table.shared.table_id }
-        ensures same { (pass.new.table_id ≡ pass.old.table_id) × (pass.new.number ≡ pass.old.number) }
-        ensures call { Answers C.stands C.tells C.moment (is_spent_begin result) pass.old.view pass.old.number (BeginTake result) pass.new.view }
+        ensures same { (pass.new.table_id ≡ pass.old.table_id) ×
+            (pass.new.number ≡ pass.old.number) }
+        ensures call { Answers C.stands C.tells C.moment
+            (is_spent_begin result) pass.old.view pass.old.number (BeginTake result) pass.new.view }
     {
         let badge = mem::replace(&mut pass.badge, Badge::blank());
         let mut seat = badge.into_seat();
@@ -38,8 +40,11 @@ impl<C: Channel> Shared<C> {
         txn: &mut TakeTxn,
     ) -> Result<Taken, TakeRefused>
         requires { pass.old.table_id ≡ self.now.turn.table.shared.table_id }
-        ensures same { (pass.new.table_id ≡ pass.old.table_id) × (pass.new.number ≡ pass.old.number) }
-        ensures call { Answers C.stands C.tells C.moment (is_spent_take result) pass.old.view pass.old.number (Take txn.old result) pass.new.view }
+        ensures same { (pass.new.table_id ≡ pass.old.table_id) ×
+            (pass.new.number ≡ pass.old.number) }
+        ensures call { Answers C.stands C.tells C.moment
+            (is_spent_take result) pass.old.view pass.old.number
+            (Take txn.old result) pass.new.view }
         ensures token { txn.new ≡ txn.old }
     {
         let badge = mem::replace(&mut pass.badge, Badge::blank());
@@ -59,8 +64,11 @@ impl<C: Channel> Shared<C> {
         txn: TakeTxn,
     ) -> Result<Ticket, StageRefused<TakeTxn>>
         requires { pass.old.table_id ≡ self.now.turn.table.shared.table_id }
-        ensures same { (pass.new.table_id ≡ pass.old.table_id) × (pass.new.number ≡ pass.old.number) }
-        ensures call { Answers C.stands C.tells C.moment (is_spent_stage (cause_of result)) pass.old.view pass.old.number (StageTake txn (cause_of result)) pass.new.view }
+        ensures same { (pass.new.table_id ≡ pass.old.table_id) ×
+            (pass.new.number ≡ pass.old.number) }
+        ensures call { Answers C.stands C.tells C.moment
+            (is_spent_stage (cause_of result)) pass.old.view pass.old.number
+            (StageTake txn (cause_of result)) pass.new.view }
         ensures back { IfErr result (λ refused. refused.txn ≡ txn) }
     {
         let badge = mem::replace(&mut pass.badge, Badge::blank());
@@ -81,8 +89,10 @@ impl<C: Channel> Shared<C> {
         txn: TakeTxn,
     ) -> Result<Ticket, CommitRefused<TakeTxn>>
         requires { pass.old.table_id ≡ self.now.turn.table.shared.table_id }
-        ensures same { (pass.new.table_id ≡ pass.old.table_id) × (pass.new.number ≡ pass.old.number) }
-        ensures call { Commits C.stands C.tells (is_spent_commit result) pass.old.view pass.old.number (StageTake txn) txn result pass.new.view }
+        ensures same { (pass.new.table_id ≡ pass.old.table_id) ×
+            (pass.new.number ≡ pass.old.number) }
+        ensures call { Commits C.stands C.tells (is_spent_commit result) pass.old.view
+            pass.old.number (StageTake txn) txn result pass.new.view }
     {
         let badge = mem::replace(&mut pass.badge, Badge::blank());
         let mut seat = badge.into_seat();
@@ -97,8 +107,10 @@ impl<C: Channel> Shared<C> {
     /// counted.
     pub fn rollback_take<R: Wait>(&self, rt: &R, pass: &mut Pass, txn: TakeTxn) -> bool
         requires { pass.old.table_id ≡ self.now.turn.table.shared.table_id }
-        ensures same { (pass.new.table_id ≡ pass.old.table_id) × (pass.new.number ≡ pass.old.number) }
-        ensures call { RolledBack C.stands C.tells C.moment result pass.old.view pass.old.number (RollbackTake txn true) (λ s. takes_of s txn ≡ None) pass.new.view }
+        ensures same { (pass.new.table_id ≡ pass.old.table_id) ×
+            (pass.new.number ≡ pass.old.number) }
+        ensures call { RolledBack C.stands C.tells C.moment result pass.old.view pass.old.number
+            (RollbackTake txn true) (λ s. takes_of s txn ≡ None) pass.new.view }
     {
         let badge = mem::replace(&mut pass.badge, Badge::blank());
         let mut seat = badge.into_seat();

@@ -1,5 +1,5 @@
 // The lists of a channel, with what is counted of its calls.
-ghost use Rattle.std.specs.Prelude.{◌≡◌, ◌<◌, ◌≤◌, ◌-◌, ◌^◌, ◌++◌, ◌∷◌, [], ℕ, List, length, Ok, Err, OnOk, OnErr, IfErr, IfOk, true, false};
+ghost use Rattle.std.specs.Prelude.{◌≡◌, ◌<◌, ◌≤◌, ◌-◌, ◌^◌, ◌++◌, ◌∷◌, [], ℕ, List, length, Ok, Err, OnOk, OnErr, IfErr, IfOk, IsErrOf, true, false};
 ghost use Rattle.event_core.specs.Content.{Content};
 ghost use Rattle.event_core.specs.declared.journal.Entry.{Entry};
 ghost use Rattle.channel_face.specs.Calls.{cause_of};
@@ -10,7 +10,9 @@ ghost use Rattle.channel_face.specs.Token.{Token};
 ghost use Rattle.channel_face.specs.declared.replies.FlushRefused.TheVariants as FlushNo;
 ghost use Rattle.channel_face.specs.declared.replies.Kind.{Kind};
 ghost use Rattle.channel_face.specs.declared.replies.OpenCause.{OpenCause};
+ghost use Rattle.channel_face.specs.declared.replies.PutRefused.{PutRefused};
 ghost use Rattle.channel_face.specs.declared.replies.PutRefused.TheVariants as PutNo;
+ghost use Rattle.channel_face.specs.declared.replies.TakeRefused.{TakeRefused};
 ghost use Rattle.txn_core.specs.Counted.{Counted, Makes};
 ghost use Rattle.txn_core.specs.Places.{IsAt};
 ghost use Rattle.txn_core.specs.Sound.{first_number};
@@ -110,6 +112,7 @@ impl CountedLists {
     pub fn put(&mut self, txn: &mut PutTxn, event: &Event) -> Result<channel_face::Put, PutRefused>
         ensures step { Makes self.old (Put txn.old event.now result) self.new }
         ensures spills { IfOk result (λ done. done.spilled ≡ false) }
+        ensures fault { ¬ IsErrOf result PutRefused.DiskFault }
         ensures same { txn.new ≡ txn.old }
     {
         let result = self.lists.put(txn, event);
@@ -121,6 +124,8 @@ impl CountedLists {
     pub fn take(&mut self, txn: &mut TakeTxn) -> Result<Taken, TakeRefused>
         ensures step { Makes self.old (Take txn.old result) self.new }
         ensures spills { IfOk result (λ taken. taken.spilled ≡ false) }
+        ensures read { ¬ IsErrOf result TakeRefused.ReadFault }
+        ensures fault { ¬ IsErrOf result TakeRefused.DiskFault }
         ensures same { txn.new ≡ txn.old }
     {
         let result = self.lists.take(txn);

@@ -1,5 +1,5 @@
 // The lists of a channel, and each of its calls on them.
-ghost use Rattle.std.specs.Prelude.{◌≡◌, ◌<◌, ◌≤◌, ◌+◌, ◌-◌, ◌^◌, ◌++◌, ◌∷◌, [], Ok, Err, ℕ, List, length, slice_set, Option, Some, None, IfSome, IfNone, IfOk, IfErr, OnOk, OnErr, true, false};
+ghost use Rattle.std.specs.Prelude.{◌≡◌, ◌<◌, ◌≤◌, ◌+◌, ◌-◌, ◌^◌, ◌++◌, ◌∷◌, [], Ok, Err, ℕ, List, length, slice_set, Option, Some, None, IfSome, IfNone, IfOk, IfErr, IsErrOf, OnOk, OnErr, true, false};
 ghost use Rattle.event_core.specs.Content.{Content};
 ghost use Rattle.event_core.specs.Journal.{put_events, taken_numbers};
 ghost use Rattle.event_core.specs.declared.journal.Entry.{Entry};
@@ -11,6 +11,8 @@ ghost use Rattle.channel_face.specs.Machine.{State, BeginPut, BeginTake, StagePu
 ghost use Rattle.channel_face.specs.declared.replies.FlushRefused.{FlushRefused};
 ghost use Rattle.channel_face.specs.declared.replies.Kind.{Kind};
 ghost use Rattle.channel_face.specs.declared.replies.OpenCause.{OpenCause};
+ghost use Rattle.channel_face.specs.declared.replies.PutRefused.{PutRefused};
+ghost use Rattle.channel_face.specs.declared.replies.TakeRefused.{TakeRefused};
 ghost use Rattle.txn_core.specs.Places.{IsAt};
 ghost use Rattle.txn_core.specs.Sound.{MayStage, first_number, first_of, size_of_entry};
 
@@ -366,6 +368,7 @@ impl ChannelLists {
     pub fn put(&mut self, txn: &mut PutTxn, event: &Event) -> Result<Put, PutRefused>
         ensures step { Moves true self.old (Face.Put txn.old event.now result) self.new }
         ensures spills { IfOk result (λ done. done.spilled ≡ false) }
+        ensures fault { ¬ IsErrOf result PutRefused.DiskFault }
         ensures same { txn.new ≡ txn.old }
     {
         let Some((place, held)) = self.find_puts(txn) else {
@@ -387,6 +390,8 @@ impl ChannelLists {
     pub fn take(&mut self, txn: &mut TakeTxn) -> Result<Taken, TakeRefused>
         ensures step { Moves true self.old (Face.Take txn.old result) self.new }
         ensures spills { IfOk result (λ taken. taken.spilled ≡ false) }
+        ensures read { ¬ IsErrOf result TakeRefused.ReadFault }
+        ensures fault { ¬ IsErrOf result TakeRefused.DiskFault }
         ensures same { txn.new ≡ txn.old }
     {
         let Some((place, held)) = self.find_takes(txn) else {

@@ -1,5 +1,5 @@
 // The plain channel over lists, with the journal of what it settled.
-ghost use Rattle.std.specs.Prelude.{◌≡◌, ◌<◌, ◌≤◌, ◌-◌, ◌^◌, ◌++◌, ℕ, List, length, [], Ok, Err, OnOk, OnErr, IfErr, IfOk, false, true};
+ghost use Rattle.std.specs.Prelude.{◌≡◌, ◌<◌, ◌≤◌, ◌-◌, ◌^◌, ◌++◌, ℕ, List, length, [], Ok, Err, OnOk, OnErr, IfErr, IfOk, IsErrOf, false, true};
 ghost use Rattle.channel_face.specs.Calls.{cause_of};
 ghost use Rattle.channel_face.specs.Counters.{counts_with};
 ghost use Rattle.channel_face.specs.History.{opening};
@@ -7,6 +7,8 @@ ghost use Rattle.channel_face.specs.Machine.{BeginPut, BeginTake, Put, Take, Sta
 ghost use Rattle.channel_face.specs.declared.replies.FlushRefused.TheVariants as FlushNo;
 ghost use Rattle.channel_face.specs.declared.replies.Kind.{Kind};
 ghost use Rattle.channel_face.specs.declared.replies.OpenCause.{OpenCause};
+ghost use Rattle.channel_face.specs.declared.replies.PutRefused.{PutRefused};
+ghost use Rattle.channel_face.specs.declared.replies.TakeRefused.{TakeRefused};
 ghost use Rattle.txn_core.specs.Shadow.{Journaled, Journals};
 
 use crate::calls::Call;
@@ -131,6 +133,7 @@ impl Machine {
     pub fn put(&mut self, txn: &mut PutTxn, event: &Event) -> Result<channel_face::Put, PutRefused>
         ensures step { Journals self.old (Put txn.old event.now result) self.new }
         ensures spills { IfOk result (λ done. done.spilled ≡ false) }
+        ensures fault { ¬ IsErrOf result PutRefused.DiskFault }
         ensures same { txn.new ≡ txn.old }
     {
         let Ok(copy) = event.copy() else {
@@ -156,6 +159,8 @@ impl Machine {
     pub fn take(&mut self, txn: &mut TakeTxn) -> Result<Taken, TakeRefused>
         ensures step { Journals self.old (Take txn.old result) self.new }
         ensures spills { IfOk result (λ taken. taken.spilled ≡ false) }
+        ensures read { ¬ IsErrOf result TakeRefused.ReadFault }
+        ensures fault { ¬ IsErrOf result TakeRefused.DiskFault }
         ensures same { txn.new ≡ txn.old }
     {
         let number = self.lists.free_number();

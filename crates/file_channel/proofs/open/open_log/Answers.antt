@@ -22,13 +22,13 @@ begin-requires g c =
     is_unused was read c.in-Ok-read_folder.found.1 (has_settled was (g.D.Disk.told c.settle.new.self) read c.in-Ok.ensures.done c.in-Ok-read_folder.ensures.same) (rw (← c.in-Ok-read_folder.ensures.same) at c.in-Ok-read_folder.ensures.next)
 
 pub returns-in-Ok-begin-clause-logged : goal.returns-in-Ok-begin-clause-logged
-returns-in-Ok-begin-clause-logged g c = λ s fresh.
+returns-in-Ok-begin-clause-logged g c = λ s fresh limit.
     let was = g.D.Disk.told c.args.disk.now in
     let read = g.D.Disk.told c.read_folder.new.disk in
     let settled : Tells was read SettledAs = has_settled was (g.D.Disk.told c.settle.new.self) read c.in-Ok.ensures.done c.in-Ok-read_folder.ensures.same in
     let found = c.in-Ok-read_folder.found in
     let fits : found.0.next.txn ≤ 2 ^ 64 - 1 = search rules in
-    begun_logged was read (g.D.Disk.told c.begin.new.disk) c.in-Ok-begin.log s (base_of found.0) found.0.next.txn found.1 c.args.limits.max_file fresh
+    begun_logged was read (g.D.Disk.told c.begin.new.disk) c.in-Ok-begin.log s (base_of found.0) found.0.next.txn found.1 c.args.limits.max_file fresh limit
     (λ t told. opens_to t.reads c.args.limits.capacity (base_of found.0) found.0.next.txn ((as_settled was (g.D.Disk.told c.settle.new.self) (λ files. Opens files c.args.limits.capacity (base_of found.0) found.0.next.txn) (has_settled was (g.D.Disk.told c.settle.new.self) (g.D.Disk.told c.settle.new.self) c.in-Ok.ensures.done refl) c.in-Ok-read_folder.ensures.opens) t told))
     fits c.in-Ok-read_folder.ensures.txn settled (rw (← c.in-Ok-read_folder.ensures.same) at c.in-Ok-read_folder.ensures.next) c.in-Ok-begin.ensures.any_moment c.in-Ok-begin.ensures.begun c.in-Ok-begin.ensures.writer
 

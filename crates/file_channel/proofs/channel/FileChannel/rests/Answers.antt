@@ -9,6 +9,6 @@ returns g c =
     let m = c.self.inside in
     let told = g.D.Disk.told in
     let faults = g.D.Disk.faults in
-    shows_over (told m.logged.0) (told c.args.self.now.0) (faults m.logged.0) (faults c.args.self.now.0) (record { state = m.logged.1; tally = tally_of m.counts }) c.args.self.now.1 (Rests (told c.args.self.now.0))
+    shows_over (told m.logged.0) (told c.args.self.now.0) (faults m.logged.0) (faults c.args.self.now.0) (record { state = m.logged.1; tally = tally_of m.counts; waiting = m.logged.2 }) c.args.self.now.1 (Rests (told c.args.self.now.0))
     (ap (λ p. told p.0) c.self.view_is) (ap (λ p. faults p.0) c.self.view_is) (ap (λ p. p.1) c.self.view_is)
-    (rw (← c.self.view_is) c.self.invariant)
+    (rw (← c.self.view_is) c.self.invariant.0)

@@ -14,7 +14,7 @@ invariant_of-result g c =
     let o : Opening = record { rules = record { kind = OnFile; limits = c.args.limits }; base = base; txn = c.in-Ok.replayed.next.txn; faults = 0; from = 0; tells = true } in
     let s : State = c.begin-lists.result in
     let is : s ≡ opening o = c.begin-lists.ensures 0 0 in
-    opened_whole (g.D.Disk.told c.open_log.new.disk) c.in-Ok.log 0 s o is refl c.in-Ok.ensures.base (c.in-Ok.ensures.logged s (opened_fresh s o is))
+    opened_whole (g.D.Disk.told c.open_log.new.disk) c.in-Ok.log 0 s o is refl c.in-Ok.ensures.base (c.in-Ok.ensures.logged s (opened_fresh s o is) (ap (λ (v : State). v.rules.limits.max_file) is))
 
 pub returns-in-Ok-clause-state : goal.returns-in-Ok-clause-state
 returns-in-Ok-clause-state g c = opened_as c.begin-lists.result (record { kind = OnFile; limits = c.args.limits }) (base_of c.in-Ok.replayed) c.in-Ok.replayed.next.txn (λ faults from tells. c.begin-lists.ensures faults from)

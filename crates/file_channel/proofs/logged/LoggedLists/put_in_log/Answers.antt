@@ -1,4 +1,4 @@
-use Rattle.std.proofs.Common.{rules, ◌≡◌, ◌∙◌, ◌≤◌, ◌+◌, [], ◌==◌, ℕ, List, length, Err, Some, None, true, false, sym, ap, subst}
+use Rattle.std.proofs.Common.{rules, ◌≡◌, ◌∙◌, ◌≤◌, ◌+◌, [], ◌==◌, ℕ, List, length, Err, Some, None, true, false, sym, ap, subst, arith}
 use Rattle.event_core.specs.Content.{Content, size}
 use Rattle.event_core.specs.declared.journal.Entry.TheVariants.{Puts}
 use Rattle.channel_face.specs.Machine.{State, Put, broken_state, entry_of, puts_of, put_refusal, settle, size_of_list}
@@ -13,7 +13,7 @@ use Rattle.file_channel.specs.Touches.{HadNoRoom, HasNoRoom, room_of}
 use Rattle.file_channel.specs.Written.{IsLogged, MayRecover, kept}
 use Rattle.file_channel.specs.Whole.{IsWhole}
 use Rattle.file_channel.proofs.Whole.{failed_whole, had_no_room, rests_over, staged_below}
-use Rattle.file_channel.proofs.Rooms.{has_enough, has_none}
+use Rattle.file_channel.proofs.Rooms.{has_enough, has_none, lacks}
 use Rattle.file_channel.proofs.Putting.{busy_few, put_may, put_in, put_whole, put_fails, room_enough, spilled_state}
 use Rattle.file_channel.proofs.logged.LoggedLists.put_in_log.Goals as goal
 
@@ -207,6 +207,24 @@ returns-clause-room g c =
     let full : HasRoom m.writing.log (size event + 13 + kept m.writing.busy (c.in-Some.held == 0)) → ⊥ = (let lacks = c.has_room.ensures in search rules) in
     rw (← c.self.view_is) (subst (λ (n : ℕ). (true ≡ true) ↔ HasNoRoom (length m.writing.log.bytes) n) needs (has_none (length m.writing.log.bytes) _ full))
 
+pub returns-then-is_err-2-clause-no_room : goal.returns-then-is_err-2-clause-no_room
+returns-then-is_err-2-clause-no_room g c = λ is.
+    let m = c.self.inside in
+    let s : State = m.lists in
+    let told = g.D.Disk.told m.writing.disk in
+    let token = c.args.txn.now in
+    let event : Content = c.args.event.now in
+    let events : List Content = c.in-Some.ensures.found.0 in
+    let held : c.in-Some.held ≡ length events = search rules in
+    let list : puts_of s token ≡ Some events = search rules in
+    let allowed : put_refusal s (Some events) event ≡ None = sym (c.put_refusal.ensures events (sym held)) ∙ c.in_default-put_refusal.is in
+    let may = put_may s events event c.self.invariant.kind allowed in
+    let log = c.self.invariant.logged may.0 in
+    let needs : size event + 13 + kept m.writing.busy (c.in-Some.held == 0) ≡ room_of s (size event + 13) (size_of_list (puts_of s token)) =
+    ap (λ (n : ℕ). size event + 13 + kept n (c.in-Some.held == 0)) log.busy_is ∙ ap (λ (n : ℕ). size event + 13 + kept (busy s.opened) (n == 0)) (held ∙ sym (ap size_of_list list)) in
+    let full : HasRoom m.writing.log (size event + 13 + kept m.writing.busy (c.in-Some.held == 0)) → ⊥ = (let lacks = c.has_room.ensures in search rules) in
+    rw (← c.self.view_is) (subst (λ (n : ℕ). HasNoRoom (length m.writing.log.bytes) n) needs (lacks (length m.writing.log.bytes) _ full))
+
 pub returns-clause-full : goal.returns-clause-full
 returns-clause-full g c = λ is.
     let m = c.self.inside in
@@ -230,3 +248,11 @@ returns-clause-full g c = λ is.
     let needs : size event + 13 + kept m.writing.busy (c.in-Some.held == 0) ≡ room_of s (size event + 13) (size_of_list (puts_of s token)) =
     ap (λ (n : ℕ). size event + 13 + kept n (c.in-Some.held == 0)) log.busy_is ∙ ap (λ (n : ℕ). size event + 13 + kept (busy s.opened) (n == 0)) (held ∙ sym (ap size_of_list list)) in
     rw c.add_put-2.ensures.disk (rw (← c.self.view_is) (subst (λ (n : ℕ). Tells told told' (HadNoRoom n)) needs left))
+
+pub returns-then-has_room-clause-waits : goal.returns-then-has_room-clause-waits
+returns-then-has_room-clause-waits g c = rw (← c.self.view_is) c.add_put-then-has_room.ensures.waits
+
+pub returns-clause-waits : goal.returns-clause-waits
+returns-clause-waits g c =
+    let empty : c.flush.new.self.log.bytes ≡ [] = search rules in
+    omega (arith, c.add_put-2.ensures.waits, ap (λ (l : List ℕ). length l) empty)

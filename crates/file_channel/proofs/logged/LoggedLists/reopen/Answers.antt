@@ -1,4 +1,4 @@
-use Rattle.std.proofs.Common.{rules, ◌<◌, ◌-◌, ◌^◌, Option, sym, ◌∙◌}
+use Rattle.std.proofs.Common.{rules, ◌<◌, ◌-◌, ◌^◌, Option, sym, ◌∙◌, ap}
 use Rattle.flume_host.specs.Told.{LeavesOnly, Tells, Told, WhereTold}
 use Rattle.channel_face.specs.Machine.{State}
 use Rattle.channel_replay.specs.Plain.{base_of}
@@ -46,7 +46,7 @@ invariant_of-self-in-Ok-open g c =
     let found = c.in-Ok-open.replayed in
     let s : State = c.renew.new.self in
     renewed_whole (g.D.Disk.told c.open.new.self.disk) c.open.new.self.log c.open.new.self.busy m.lists s (base_of found) found.next.txn c.renew.ensures c.self.invariant.kind c.in-Ok-open.ensures.base
-    (c.in-Ok-open.ensures.logged s (renewed_fresh m.lists s (base_of found) found.next.txn c.renew.ensures))
+    (c.in-Ok-open.ensures.logged s (renewed_fresh m.lists s (base_of found) found.next.txn c.renew.ensures) (ap (λ (v : State). v.rules.limits.max_file) c.renew.ensures ∙ ap (λ l. l.max_file) (sym c.limits.ensures)))
 
 pub invariant_of-self-in-Err-open : goal.invariant_of-self-in-Err-open
 invariant_of-self-in-Err-open g c =

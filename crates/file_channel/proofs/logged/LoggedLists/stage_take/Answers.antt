@@ -2,6 +2,7 @@ use Rattle.std.proofs.Common.{◌≡◌, ◌∙◌, ℕ, length, Ok, Some, ap, s
 use Rattle.event_core.specs.declared.journal.Entry.TheVariants.{Takes}
 use Rattle.channel_face.specs.Machine.{State, StageTake, entry_of, stage}
 use Rattle.file_channel.specs.Written.{IsLogged}
+use Rattle.file_channel.proofs.Rooms.{positive, staged_none, staged_some}
 use Rattle.file_channel.proofs.Whole.{sound_then, stage_whole, staged_takes, stage_takes_idle}
 use Rattle.file_channel.proofs.logged.LoggedLists.stage_take.Goals as goal
 
@@ -13,10 +14,10 @@ add_commit_take-requires g c =
     let token = c.args.txn in
     let staged = staged_takes s c.stage_take.new.self token c.in-Ok.ticket c.in-Ok.ensures.step in
     let entry : entry_of c.number-number.result s.opened ≡ Some (Takes staged.numbers) = ap (λ (n : ℕ). entry_of n s.opened) c.number-number.ensures ∙ staged.entry in
-    record { some = c.if-ticket-gt0.true; logged = (s, staged.numbers, c.self.invariant.logged staged.still, entry, staged.count) }
+    record { some = positive c.in-Ok.ticket.count c.if-ticket-eq0.false; logged = (s, staged.numbers, c.self.invariant.logged staged.still, entry, staged.count) }
 
-pub invariant_of-self : goal.invariant_of-self
-invariant_of-self g c =
+pub invariant_of-self-in-Ok : goal.invariant_of-self-in-Ok
+invariant_of-self-in-Ok g c =
     let m = c.self.inside in
     let s : State = m.lists in
     let told = g.D.Disk.told m.writing.disk in
@@ -28,12 +29,18 @@ invariant_of-self g c =
     let log : IsLogged told' c.add_commit_take.new.self.log c.add_commit_take.new.self.busy (stage token.number (Some (Takes staged.numbers)) s) = subst (λ (n : ℕ). IsLogged told' c.add_commit_take.new.self.log c.add_commit_take.new.self.busy (stage n (Some (Takes staged.numbers)) s)) c.number-number.ensures log' in
     stage_whole told' c.add_commit_take.new.self.log c.add_commit_take.new.self.busy s c.stage_take.new.self token.number (Takes staged.numbers) staged.still c.self.invariant.kind (sound_then s (StageTake token (Ok c.in-Ok.ticket)) c.stage_take.new.self c.in-Ok.ensures.step c.self.invariant.sound) c.in-Ok.ensures.step.state staged.entry log
 
-pub invariant_of-self-else-ticket-gt0 : goal.invariant_of-self-else-ticket-gt0
-invariant_of-self-else-ticket-gt0 g c =
+pub invariant_of-self : goal.invariant_of-self
+invariant_of-self g c =
     let m = c.self.inside in
     let s : State = m.lists in
     let told = g.D.Disk.told m.writing.disk in
     let token = c.args.txn in
     let staged = staged_takes s c.stage_take.new.self token c.in-Ok.ticket c.in-Ok.ensures.step in
-    let none : length staged.numbers ≡ 0 = omega (arith, c.if-ticket-gt0.false, staged.count) in
+    let none : length staged.numbers ≡ 0 = omega (arith, c.if-ticket-eq0.true, staged.count) in
     stage_whole told m.writing.log m.writing.busy s c.stage_take.new.self token.number (Takes staged.numbers) staged.still c.self.invariant.kind (sound_then s (StageTake token (Ok c.in-Ok.ticket)) c.stage_take.new.self c.in-Ok.ensures.step c.self.invariant.sound) c.in-Ok.ensures.step.state staged.entry (stage_takes_idle told m.writing.log m.writing.busy s token.number staged.numbers (c.self.invariant.logged staged.still) staged.entry none)
+
+pub returns-then-ticket-eq0-clause-waits : goal.returns-then-ticket-eq0-clause-waits
+returns-then-ticket-eq0-clause-waits g c = rw (← c.self.view_is) (staged_none c.in-Ok.ticket.count (length c.self.inside.writing.log.bytes) 13 c.if-ticket-eq0.true)
+
+pub returns-else-ticket-eq0-clause-waits : goal.returns-else-ticket-eq0-clause-waits
+returns-else-ticket-eq0-clause-waits g c = rw (← c.self.view_is) (c.add_commit_take.ensures.waits ∙ staged_some c.in-Ok.ticket.count (length c.self.inside.writing.log.bytes) 13 (positive c.in-Ok.ticket.count c.if-ticket-eq0.false))

@@ -1,4 +1,4 @@
-use Rattle.std.proofs.Common.{rules, ◌≡◌, ◌∙◌, ◌≤◌, ◌+◌, [], ◌==◌, ℕ, List, length, Err, Some, None, true, false, sym, ap, subst}
+use Rattle.std.proofs.Common.{rules, ◌≡◌, ◌∙◌, ◌≤◌, ◌+◌, [], ◌==◌, ℕ, List, length, Err, Some, None, true, false, sym, ap, subst, arith}
 use Rattle.event_core.specs.Content.{Content}
 use Rattle.event_core.specs.declared.journal.Entry.TheVariants.{Takes}
 use Rattle.channel_face.specs.Machine.{State, Take, broken_state, entry_of, free, takes_of, take_refusal, settle, size_of_list}
@@ -15,7 +15,7 @@ use Rattle.file_channel.specs.Written.{IsLogged, MayRecover, kept}
 use Rattle.file_channel.specs.Whole.{IsWhole}
 use Rattle.file_channel.proofs.Whole.{failed_whole, had_no_room, rests_over, staged_below}
 use Rattle.file_channel.proofs.Putting.{busy_few}
-use Rattle.file_channel.proofs.Rooms.{has_enough_for, has_none_for}
+use Rattle.file_channel.proofs.Rooms.{has_enough_for, has_none_for, lacks}
 use Rattle.file_channel.proofs.Freeing.{first_is, free_after, take_fails, take_in, take_room, take_still, take_whole, taken_state}
 use Rattle.file_channel.proofs.logged.LoggedLists.take_in_log.Goals as goal
 
@@ -205,6 +205,23 @@ returns-clause-room g c =
     let full : HasRoom m.writing.log (17 + kept m.writing.busy (c.in-Some.held == 0)) → ⊥ = (let lacks = c.has_room.ensures in search rules) in
     rw (← c.self.view_is) (subst (λ (n : ℕ). (true ≡ true) ↔ IsSome (Some c.in-Some-item.event) × HasNoRoom (length m.writing.log.bytes) n) needs (has_none_for (length m.writing.log.bytes) _ c.in-Some-item.event full))
 
+pub returns-then-is_err-2-clause-no_room : goal.returns-then-is_err-2-clause-no_room
+returns-then-is_err-2-clause-no_room g c = λ is.
+    let m = c.self.inside in
+    let s : State = m.lists in
+    let told = g.D.Disk.told m.writing.disk in
+    let token = c.args.txn.now in
+    let numbers : List ℕ = c.in-Some.ensures.found.0 in
+    let held : c.in-Some.held ≡ length numbers = search rules in
+    let list : takes_of s token ≡ Some numbers = search rules in
+    let allowed : take_refusal s (Some numbers) ≡ None = sym (c.take_refusal.ensures numbers (sym held)) ∙ c.in_default-take_refusal.is in
+    let still = take_still s numbers allowed in
+    let log = c.self.invariant.logged still in
+    let needs : 17 + kept m.writing.busy (c.in-Some.held == 0) ≡ room_of s 17 (size_of_list (takes_of s token)) =
+    ap (λ (n : ℕ). 17 + kept n (c.in-Some.held == 0)) log.busy_is ∙ ap (λ (n : ℕ). 17 + kept (busy s.opened) (n == 0)) (held ∙ sym (ap size_of_list list)) in
+    let full : HasRoom m.writing.log (17 + kept m.writing.busy (c.in-Some.held == 0)) → ⊥ = (let lacks = c.has_room.ensures in search rules) in
+    rw (← c.self.view_is) (subst (λ (n : ℕ). HasNoRoom (length m.writing.log.bytes) n) needs (lacks (length m.writing.log.bytes) _ full))
+
 pub returns-clause-full : goal.returns-clause-full
 returns-clause-full g c = λ is.
     let m = c.self.inside in
@@ -227,3 +244,11 @@ returns-clause-full g c = λ is.
     let needs : 17 + kept m.writing.busy (c.in-Some.held == 0) ≡ room_of s 17 (size_of_list (takes_of s token)) =
     ap (λ (n : ℕ). 17 + kept n (c.in-Some.held == 0)) log.busy_is ∙ ap (λ (n : ℕ). 17 + kept (busy s.opened) (n == 0)) (held ∙ sym (ap size_of_list list)) in
     rw c.add_take-2.ensures.disk (rw (← c.self.view_is) (subst (λ (n : ℕ). Tells told told' (HadNoRoom n)) needs left))
+
+pub returns-then-has_room-clause-waits : goal.returns-then-has_room-clause-waits
+returns-then-has_room-clause-waits g c = rw (← c.self.view_is) c.add_take-then-has_room.ensures.waits
+
+pub returns-clause-waits : goal.returns-clause-waits
+returns-clause-waits g c =
+    let empty : c.flush.new.self.log.bytes ≡ [] = search rules in
+    omega (arith, c.add_take-2.ensures.waits, ap (λ (l : List ℕ). length l) empty)

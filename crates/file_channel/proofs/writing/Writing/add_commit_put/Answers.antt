@@ -1,6 +1,7 @@
 use Rattle.std.proofs.Common.{◌≤◌, ◌-◌, length, arith}
 use Rattle.event_core.specs.declared.journal.Entry.TheVariants.{Puts}
-use Rattle.file_channel.proofs.Writes.{is_busy, puts_done, commit_put_logged}
+use Rattle.record_form.specs.declared.record.Rec.TheVariants.{CommitPut}
+use Rattle.file_channel.proofs.Writes.{is_busy, longer, puts_done, commit_put_logged}
 use Rattle.file_channel.proofs.writing.Writing.add_commit_put.Goals as goal
 
 pub append-requires-clause-room : goal.append-requires-clause-room
@@ -24,3 +25,6 @@ returns-clause-logged g c = λ s events log is counted first fits.
     let many : 1 ≤ length events = omega (arith, c.requires.some, counted) in
     let some : 1 ≤ c.args.self.now.busy = is_busy told c.args.self.now.log c.args.self.now.busy s c.args.txn (Puts events) log is (puts_done events many) in
     commit_put_logged told c.args.self.now.log c.append.new.self c.args.self.now.busy (c.args.self.now.busy - 1) s c.args.txn c.args.first c.args.count events log is c.requires.some counted first fits c.append.ensures (omega (arith, some))
+
+pub returns-clause-waits : goal.returns-clause-waits
+returns-clause-waits g c = longer c.args.self.now.log c.append.new.self (CommitPut c.args.txn c.args.first c.args.count) c.append.ensures

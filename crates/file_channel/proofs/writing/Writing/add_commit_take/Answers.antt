@@ -1,6 +1,7 @@
 use Rattle.std.proofs.Common.{◌≤◌, ◌-◌, length, arith}
 use Rattle.event_core.specs.declared.journal.Entry.TheVariants.{Takes}
-use Rattle.file_channel.proofs.Writes.{is_busy, takes_done, commit_take_logged}
+use Rattle.record_form.specs.declared.record.Rec.TheVariants.{CommitTake}
+use Rattle.file_channel.proofs.Writes.{is_busy, longer, takes_done, commit_take_logged}
 use Rattle.file_channel.proofs.writing.Writing.add_commit_take.Goals as goal
 
 pub append-requires-clause-room : goal.append-requires-clause-room
@@ -24,3 +25,6 @@ returns-clause-logged g c = λ s numbers log is counted.
     let many : 1 ≤ length numbers = omega (arith, c.requires.some, counted) in
     let some : 1 ≤ c.args.self.now.busy = is_busy told c.args.self.now.log c.args.self.now.busy s c.args.txn (Takes numbers) log is (takes_done numbers many) in
     commit_take_logged told c.args.self.now.log c.append.new.self c.args.self.now.busy (c.args.self.now.busy - 1) s c.args.txn c.args.count numbers log is c.requires.some counted c.append.ensures (omega (arith, some))
+
+pub returns-clause-waits : goal.returns-clause-waits
+returns-clause-waits g c = longer c.args.self.now.log c.append.new.self (CommitTake c.args.txn c.args.count) c.append.ensures

@@ -1,5 +1,6 @@
 use Rattle.std.proofs.Common.{◌≤◌, ◌-◌, arith}
-use Rattle.file_channel.proofs.Writes.{is_busy, rollback_logged}
+use Rattle.record_form.specs.declared.record.Rec.TheVariants.{Rollback}
+use Rattle.file_channel.proofs.Writes.{is_busy, longer, rollback_logged}
 use Rattle.file_channel.proofs.writing.Writing.add_rollback.Goals as goal
 
 pub append-requires-clause-room : goal.append-requires-clause-room
@@ -16,3 +17,6 @@ returns-clause-logged g c = λ s entry log is busy_one.
     let told = g.D.Disk.told c.args.self.now.disk in
     let some : 1 ≤ c.args.self.now.busy = is_busy told c.args.self.now.log c.args.self.now.busy s c.args.txn entry log is busy_one in
     rollback_logged told c.args.self.now.log c.append.new.self c.args.self.now.busy (c.args.self.now.busy - 1) s c.args.txn entry log is busy_one c.append.ensures (omega (arith, some))
+
+pub returns-clause-waits : goal.returns-clause-waits
+returns-clause-waits g c = longer c.args.self.now.log c.append.new.self (Rollback c.args.txn) c.append.ensures

@@ -18,7 +18,7 @@ returns-clause-makes g c =
     let L = g.met.C.Channel.is_run in
     let d = c.prune-reply.new.self in
     let reply = c.prune-reply.result in
-    let unspent = prune_spares (state_seen k) reply (answered_by S T L c.args.home.now.channel d k.base k.seen _ _ c.prune-reply.ensures c.requires.within.3).0 in
+    let unspent = prune_spares (state_seen k) reply (answered_by S T L c.args.home.now.channel d k.base k.seen _ _ c.prune-reply.ensures.step c.requires.within.3).0 in
     makes_one S T L c.args.by (Prune reply) (g.C.Channel.moment d) c.args.seat.now.me c.count.new.seat.me c.args.home.now.channel d c.requires.within (search rules) refl (search rules) c.count.ensures.call c.count.ensures.making (not (is_spent_prune reply)) (ap not unspent)
 
 pub returns-clause-bound : goal.returns-clause-bound
@@ -29,5 +29,5 @@ returns-clause-bound g c =
     let L = g.met.C.Channel.is_run in
     let d = c.prune-reply.new.self in
     let reply = c.prune-reply.result in
-    let unspent = prune_spares (state_seen k) reply (answered_by S T L c.args.home.now.channel d k.base k.seen _ _ c.prune-reply.ensures c.requires.within.3).0 in
+    let unspent = prune_spares (state_seen k) reply (answered_by S T L c.args.home.now.channel d k.base k.seen _ _ c.prune-reply.ensures.step c.requires.within.3).0 in
     subst (λ (b : Bool). Bounds b (2 ^ 64 - 1025) (length k.seen)) (sym unspent) (search rules)

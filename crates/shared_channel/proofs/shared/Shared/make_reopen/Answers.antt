@@ -16,12 +16,12 @@ count_one-requires g c =
     let S = g.C.Channel.stands in
     let d = c.reopen-reply.new.self in
     let reply = c.reopen-reply.result in
-    let kept = c.reopen-reply.ensures.0 in
+    let kept = c.reopen-reply.ensures.step.0 in
     let m = g.C.Channel.moment d in
     record {
       table = c.requires.table;
       turn = (c.requires.within.0, search rules, c.requires.within.1);
-      some = (step c.args.by (Reopen (reopen_reply reply kept)) m, (kept, refl, keeps_more S g.C.Channel.tells g.met.C.Channel.is_run c.args.home.now.channel d k.base k.seen c.args.by (Reopen (reopen_reply reply kept)) m c.reopen-reply.ensures.1 refl (search rules) c.requires.within.3), c.requires.own);
+      some = (step c.args.by (Reopen (reopen_reply reply kept)) m, (kept, refl, keeps_more S g.C.Channel.tells g.met.C.Channel.is_run c.args.home.now.channel d k.base k.seen c.args.by (Reopen (reopen_reply reply kept)) m c.reopen-reply.ensures.step.1 refl (search rules) c.requires.within.3), c.requires.own);
     }
 
 pub returns-clause-makes : goal.returns-clause-makes
@@ -31,8 +31,8 @@ returns-clause-makes g c =
     let T = g.C.Channel.tells in
     let d = c.reopen-reply.new.self in
     let reply = c.reopen-reply.result in
-    let kept = c.reopen-reply.ensures.0 in
-    let unspent = open_spares (T d) (state_seen k) kept reply (answered_by S T g.met.C.Channel.is_run c.args.home.now.channel d k.base k.seen _ _ c.reopen-reply.ensures.1 c.requires.within.3).0 in
+    let kept = c.reopen-reply.ensures.step.0 in
+    let unspent = open_spares (T d) (state_seen k) kept reply (answered_by S T g.met.C.Channel.is_run c.args.home.now.channel d k.base k.seen _ _ c.reopen-reply.ensures.step.1 c.requires.within.3).0 in
     reopen_made S T c.args.by (g.C.Channel.moment d) reply c.args.seat.now.me c.count_one.new.seat.me c.args.home.now.channel d c.requires.within c.count_one.ensures.call unspent
 
 pub returns-clause-bound : goal.returns-clause-bound
@@ -42,6 +42,6 @@ returns-clause-bound g c =
     let T = g.C.Channel.tells in
     let d = c.reopen-reply.new.self in
     let reply = c.reopen-reply.result in
-    let kept = c.reopen-reply.ensures.0 in
-    let unspent = open_spares (T d) (state_seen k) kept reply (answered_by S T g.met.C.Channel.is_run c.args.home.now.channel d k.base k.seen _ _ c.reopen-reply.ensures.1 c.requires.within.3).0 in
+    let kept = c.reopen-reply.ensures.step.0 in
+    let unspent = open_spares (T d) (state_seen k) kept reply (answered_by S T g.met.C.Channel.is_run c.args.home.now.channel d k.base k.seen _ _ c.reopen-reply.ensures.step.1 c.requires.within.3).0 in
     subst (λ (b : Bool). Bounds b (2 ^ 64 - 1025) (length k.seen)) (sym unspent) (search rules)
