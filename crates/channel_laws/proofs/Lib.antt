@@ -6,4 +6,6 @@ pub mod Numbering
 pub mod Transactions
 pub mod Meeting
 pub mod Worked
+pub mod Later
+pub mod Until
 pub mod Owned

@@ -1,5 +1,6 @@
 -- What a port's answers to whole transactions say of the journal.
 use Rattle.std.specs.Prelude.{◌≡◌, ℕ, List, [], ◌∷◌, ◌++◌, Ok, Bool, false}
+use mathlib.Core.List.{IsPrefix}
 use Rattle.event_core.specs.Content.{Content}
 use Rattle.channel_face.specs.Token.{Token}
 use Rattle.channel_face.specs.Machine.{State, after, puts_of}
@@ -15,17 +16,17 @@ abbrev pub OthersKeep : {V : Type 0} → List ℕ → (State → V) → State �
 OthersKeep numbers look s [] = Unit {0}
 OthersKeep numbers look s (step ∷ h) = (has numbers step.pass ≡ false → look (after s step.call) ≡ look s) × OthersKeep numbers look (after s step.call) h
 
--- A batch that a port answered Ok is in the journal of what its pass has seen, where no call with a number that is not the pass's changed its puts.
+-- A batch that a port answered Ok is in the journal of each history that begins with what its pass has seen, where no call that the pass has seen, with a number that is not its own, changed its puts.
 abbrev pub PortAnsweredIsInJournal : {C : Type 0} → (C → Opening → List Step → Type 0) → (C → Bool) → Type 0
 PortAnsweredIsInJournal stands tells =
     (v : View) (count number : ℕ) (events : List Content) (earlier more : List Own)
     → SawAll stands tells v → owned v ≡ earlier ++ more → IsPutBatch (Saw stands v) count events (Ok number) earlier more
     → ((token : Token) → BeginsWith more token → OthersKeep v.numbers (λ s. puts_of s token) (opening v.base) v.seen)
-    → ArePutInJournal v.base v.seen more events number
+    → (h : List Step) → IsPrefix v.seen h → ArePutInJournal v.base h more events number
 
 -- and what a transaction had taken that a port committed with Ok
 abbrev pub PortCommittedIsInJournal : {C : Type 0} → (C → Opening → List Step → Type 0) → (C → Bool) → Type 0
 PortCommittedIsInJournal stands tells =
     (v : View) (count : ℕ) (token : Token) (earlier more : List Own)
     → SawAll stands tells v → owned v ≡ earlier ++ more → IsTakeCommit (Saw stands v) count token (Ok tt) earlier more
-    → AreTakenInJournal v.base v.seen token
+    → (h : List Step) → IsPrefix v.seen h → AreTakenInJournal v.base h token

@@ -2,10 +2,17 @@
 //! nothing: each states a law.
 #![tactic(auto)]
 
+mod fronts;
+mod images;
 mod ports;
 mod rows;
 mod tickets;
 
+pub use fronts::{
+    batch_is_of_the_end, commit_is_of_the_end, put_stays_in_journal, rollback_is_of_the_end,
+    taken_stays_in_journal,
+};
+pub use images::{close_channel, counted_calls_leave};
 pub use ports::{port_answered_is_in_journal, port_committed_is_in_journal};
 pub use rows::{one_is_taken, two_batches_and_one_flush, two_ports_and_one_flush};
 pub use tickets::{
