@@ -1,5 +1,5 @@
 -- How many bytes of records wait in the frame for a flush.
-use Rattle.std.specs.Prelude.{◌≡◌, ◌+◌, ◌==◌, ◌||◌, ℕ, List, [], ◌∷◌, Ok, Err, Option, Some, None, Bool, true, false, if◌then◌else◌}
+use Rattle.std.specs.Prelude.{◌+◌, ◌==◌, ◌||◌, ℕ, List, [], ◌∷◌, Ok, Option, Some, None, Bool, if◌then◌else◌}
 use Rattle.event_core.specs.Content.{Content, size}
 use Rattle.channel_face.specs.History.{Step}
 use Rattle.channel_face.specs.Machine.{State, Call, Put, Take, StagePut, StageTake, Flush, RollbackPut, RollbackTake, Reopen, after, puts_of, size_of_list, takes_of}

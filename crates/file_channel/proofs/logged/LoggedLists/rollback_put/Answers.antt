@@ -1,4 +1,4 @@
-use Rattle.std.proofs.Common.{rules, ◌≡◌, ◌∙◌, ◌<◌, ℕ, Some, true, false, sym, ap, subst, arith, length, ◌≤◌, refl, Bool}
+use Rattle.std.proofs.Common.{rules, ◌≡◌, ◌∙◌, ◌<◌, ℕ, Some, true, false, sym, ap, subst, arith, length, refl, Bool}
 use Rattle.event_core.specs.declared.journal.Entry.TheVariants.{Puts}
 use Rattle.channel_face.specs.Machine.{State, close, entry_of, puts_of, size_of_list}
 use Rattle.file_channel.specs.Whole.{IsWhole}
