@@ -12,6 +12,7 @@ use Rattle.flume_host.proofs.Telling.{back, follows, forth, tells_more}
 use Rattle.flume_host.proofs.Moments.{clock_rises, earlier, goes_on, started}
 use Rattle.event_core.specs.Journal.{Base, after_journal}
 use Rattle.channel_log.specs.Frames.{Blank, Holds}
+use Rattle.channel_log.specs.Window.{nothing_kept}
 use Rattle.channel_log.specs.Writer.{IsAtRest, IsBlank, IsReady, IsUnused, Writer}
 use Rattle.channel_face.specs.Machine.{State}
 use Rattle.channel_replay.specs.Marks.{journal, next_txn}
@@ -323,7 +324,7 @@ begun_disk told told' later w s base txn number fresh recovers most some is next
     begun_on_disk a.0 v w s base txn number fresh (recovers a.0 a.1) most some (next_at told told' number is next a.0 a.1) (changes_of a.0 b.0 v number a.2 b.2) (ready v new) file gate
 
 pub begun_logged : (told told' later : Option Told) (w : Writer) (s : State) (base : Base) (txn number most_bytes : ℕ) → IsFresh s base txn → s.rules.limits.max_file ≡ most_bytes → WhereTold told (λ t. OpensTo t.reads base txn) → txn ≤ 2 ^ 64 - 1 → 1 ≤ txn → Tells told told' SettledAs
-    → WhereTold told' (λ t. IsNextFile t.reads number) → Tells told' later (BeginsFile number) → IsReady later 1 number 16 [] → w ≡ record { file = number; gate = 16; max_file = most_bytes; started = false; bytes = []; count = 0 } → IsLogged later w 0 s
+    → WhereTold told' (λ t. IsNextFile t.reads number) → Tells told' later (BeginsFile number) → IsReady later 1 number 16 [] → w ≡ record { file = number; gate = 16; max_file = most_bytes; started = false; bytes = []; count = 0; kept = nothing_kept } → IsLogged later w 0 s
 begun_logged told told' later w s base txn number most_bytes fresh limit recovers most some is next begins ready writer =
     let bytes : w.bytes ≡ [] = ap (λ (x : Writer). x.bytes) writer in
     record {
