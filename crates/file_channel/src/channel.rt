@@ -57,9 +57,15 @@ impl<D: Disk + Drop> Model for FileChannel<D> {
     // The disk, and what the channel has beside it.
     ghost Value = { D × FileState };
 
-    ghost view = { λ c. (c.logged.0, record { state = c.logged.1; tally = tally_of c.counts; waiting = c.logged.2 }) };
+    ghost view = { λ c. (
+      c.logged.0,
+      record { state = c.logged.1; tally = tally_of c.counts; waiting = c.logged.2 },
+    ) };
 
-    ghost invariant = { λ c. Rests (D.told c.logged.0) c.logged.1 × IsStanding (D.told c.logged.0) (D.faults c.logged.0) (record { state = c.logged.1; tally = tally_of c.counts; waiting = c.logged.2 }) };
+    // Whatever a crash now leaves opens to just what is settled, unless it is broken; and it stands for an opening and calls.
+    ghost invariant = { λ c. Rests (D.told c.logged.0) c.logged.1
+        × IsStanding (D.told c.logged.0) (D.faults c.logged.0)
+        (record { state = c.logged.1; tally = tally_of c.counts; waiting = c.logged.2 }) };
 }
 
 // Counts a call that was made.
