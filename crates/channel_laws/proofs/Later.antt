@@ -1,15 +1,14 @@
 -- Whole transactions, and what the journal has of them, in later histories.
-use Rattle.std.proofs.Common.{◌≡◌, ◌∷◌, ℕ, List, ◌++◌, length, None, Result, Bool, sym, ◌∙◌, ap, subst, append_assoc}
+use Rattle.std.proofs.Common.{◌≡◌, ◌∷◌, ℕ, List, ◌++◌, length, None, sym, ◌∙◌, ap, subst, append_assoc}
 use mathlib.Core.List.{IsPrefix}
 use Rattle.event_core.specs.Content.{Content}
 use Rattle.event_core.specs.declared.journal.Entry.{Entry}
 use Rattle.event_core.specs.declared.journal.Entry.TheVariants.{Puts, Takes}
 use Rattle.channel_face.specs.Token.{Token}
-use Rattle.channel_face.specs.Machine.{State, RollbackTake, takes_of}
+use Rattle.channel_face.specs.Machine.{RollbackTake, takes_of}
 use Rattle.channel_face.specs.History.{Opening, Step, commits, journal, opening, state_after}
-use Rattle.channel_face.specs.Faces.{Own, IsPutBatch}
+use Rattle.channel_face.specs.Faces.{Own}
 use Rattle.channel_face.proofs.Fronts.{batch_on, commit_on, rolled_on}
-use Rattle.turn_passes.specs.Views.{View}
 use Rattle.shared_channel.specs.Ports.{Saw, Stood}
 use Rattle.shared_channel.proofs.Fronts.{front_few, stood}
 use Rattle.channel_laws.specs.Tickets.{HasBehind}

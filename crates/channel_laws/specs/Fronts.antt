@@ -1,9 +1,8 @@
 -- What a port's transactions are in each history that begins with what its pass had seen.
-use Rattle.std.specs.Prelude.{◌≡◌, ℕ, List, ◌++◌, length, None, Result, Bool}
+use Rattle.std.specs.Prelude.{ℕ, List, ◌++◌, length, Result}
 use mathlib.Core.List.{IsPrefix}
 use Rattle.event_core.specs.Content.{Content}
 use Rattle.channel_face.specs.Token.{Token}
-use Rattle.channel_face.specs.Machine.{State}
 use Rattle.channel_face.specs.History.{Opening, Step}
 use Rattle.channel_face.specs.Faces.{Own, IsPutBatch, IsTakeCommit, IsTakeRolledBack}
 use Rattle.channel_face.specs.declared.replies.FaceRefused.{FaceRefused}
