@@ -152,12 +152,16 @@ fn draw_attempt(
     Ok(())
 }
 
-fn draw_node(alloc: Global, all: &mut Picture, at: u32, node: &Node) -> Result<(), NoMemory> {
+fn draw_channels(alloc: Global, all: &mut Picture, at: u32, node: &Node) -> Result<(), NoMemory> {
     let mut place: u32 = 0;
     for channel in &node.channels {
         draw_channel(alloc, all, node, (at, place), channel)?;
         place = place.saturating_add(1);
     }
+    Ok(())
+}
+
+fn draw_works(alloc: Global, all: &mut Picture, at: u32, node: &Node) -> Result<(), NoMemory> {
     for (number, ack) in node.acks.iter().enumerate() {
         all.works
             .push(work_row(alloc, at, number as u64, true, ack)?)?;
@@ -168,11 +172,19 @@ fn draw_node(alloc: Global, all: &mut Picture, at: u32, node: &Node) -> Result<(
                 .push(work_row(alloc, at, number as u64, false, work)?)?;
         }
     }
+    Ok(())
+}
+
+fn draw_attempts(alloc: Global, all: &mut Picture, at: u32, node: &Node) -> Result<(), NoMemory> {
     for (number, attempt) in node.attempts.iter().enumerate() {
         if let Some(attempt) = attempt {
             draw_attempt(alloc, all, node, (at, number as u64), attempt)?;
         }
     }
+    Ok(())
+}
+
+fn draw_outputs(alloc: Global, all: &mut Picture, at: u32, node: &Node) -> Result<(), NoMemory> {
     for (place, output) in node.outputs.iter().enumerate() {
         all.outputs.push(OutputRow {
             node: at,
@@ -181,6 +193,13 @@ fn draw_node(alloc: Global, all: &mut Picture, at: u32, node: &Node) -> Result<(
         })?;
     }
     Ok(())
+}
+
+fn draw_node(alloc: Global, all: &mut Picture, at: u32, node: &Node) -> Result<(), NoMemory> {
+    draw_channels(alloc, all, at, node)?;
+    draw_works(alloc, all, at, node)?;
+    draw_attempts(alloc, all, at, node)?;
+    draw_outputs(alloc, all, at, node)
 }
 
 fn draw_packet(
