@@ -6,8 +6,9 @@ use Rattle.plug_in.specs.declared.sink.SinkRefused.TheVariants as sink
 use Rattle.sink_groups.specs.declared.rules.GroupRefused.{GroupRefused}
 use Rattle.sink_groups.specs.declared.rules.GroupRefused.TheVariants.{AllFailed, NoMemory}
 use Rattle.sink_groups.specs.Scheduler.{Group, started}
-use Rattle.sink_groups.specs.Deliveries.{AreRefused, Reaches, Delivers}
-use Rattle.sink_groups.specs.Runs.{Handing, Offer, AreHanded, AllDeliver, taken_by, taken, named_by, named}
+use Rattle.sink_groups.specs.Deliveries.{AreRefused, Reaches, Delivers, SinkDelivers}
+use Rattle.sink_groups.specs.Runs.{Handing, Offer, SinkOffer, AreHanded, AllDeliver, AllSinkDeliver, taken_by, taken, named_by, named, ok_by, answered_ok, batches}
+use Rattle.std.proofs.lemmas.List.{map-append}
 
 taken-append : (a b : List Handing) → taken (a ++ b) ≡ taken a ++ taken b
 taken-append [] b = refl
@@ -62,4 +63,31 @@ module _ {S : Type 0} (delivers : S → List Content → ℕ → Result (Unit {0
         one.0 ++ rest.0,
         handed_on one.0 rest.0 old all.1 new one.1 rest.1,
         taken-append one.0 rest.0 ∙ (ap (λ (l : List (ℕ × List Content)). l ++ taken rest.0) one.2 ∙ ap (λ (l : List (ℕ × List Content)). named_by o.answer o.batch ++ l) rest.2),
+      )
+
+  -- What was handed, and the batches of it that were taken.
+  abbrev Batches : List S → List S → List (List Content) → Type 0
+  Batches old new got = (hs : List Handing) × AreHanded delivers hs old new × (batches (taken hs) ≡ got)
+
+  -- one delivery of a group that is a sink
+  sink_delivery : (batch : List Content) (moment draw : ℕ) (g : Group) (old : List S) (failed : ℕ) (answer : Result (Unit {0}) SinkRefused) (after : Group) (new : List S) (more : ℕ)
+      → SinkDelivers delivers batch moment draw g old failed answer after new more → Batches old new (ok_by answer batch)
+  sink_delivery batch moment draw g old failed (Ok done) after new more d =
+      let one = reached batch moment (started g moment draw).due d.0 (Ok tt) d.1.0 d.1.1 old new d.1.2 in (one.0, one.1, ap batches one.2)
+  sink_delivery batch moment draw g old failed (Err sink.NoMemory) after new more d =
+      let one = reached batch moment (started g moment draw).due d.0.0 (Err sink.NoMemory) d.0.1 d.0.2 old new d.0.3 in (one.0, one.1, ap batches one.2)
+  sink_delivery batch moment draw g old failed (Err sink.Refused) after new more d =
+      let one = refusals batch moment (started g moment draw).due old new d.0.0 in (one.0, one.1, ap batches one.2)
+
+  -- A list of them.
+  pub sink_deliveries : (offers : List SinkOffer) (g after : Group) (old new : List S) (failed more : ℕ) → AllSinkDeliver delivers offers g old failed after new more → Batches old new (answered_ok offers)
+  sink_deliveries [] g after old new failed more all = ([], all.1, refl)
+  sink_deliveries (o ∷ offers) g after old new failed more all =
+      let one = sink_delivery o.batch o.moment o.draw g old failed o.answer all.0 all.1 all.2 all.3 in
+      let rest = sink_deliveries offers all.0 after all.1 new all.2 more all.4 in (
+        one.0 ++ rest.0,
+        handed_on one.0 rest.0 old all.1 new one.1 rest.1,
+        ap batches (taken-append one.0 rest.0)
+            ∙ (map-append (λ (t : ℕ × List Content). t.1) (taken one.0) (taken rest.0)
+            ∙ (ap (λ (l : List (List Content)). l ++ batches (taken rest.0)) one.2 ∙ ap (λ (l : List (List Content)). ok_by o.answer o.batch ++ l) rest.2)),
       )

@@ -1,8 +1,10 @@
 // What follows for the scheduler, and over many deliveries. These functions do nothing: each states a law.
 ghost use Rattle.sink_groups.specs.Laws.{TriesAllThatAreDue, LeavesAloneAfterAFailure};
-ghost use Rattle.sink_groups.specs.Runs.{TakenOnce};
+ghost use Rattle.sink_groups.specs.Runs.{SinkTakenOnce, TakenOnce};
 
 use crate::run::GroupRun;
+use crate::sink::GroupSink;
+use flume_host::Random;
 use plug_in::EventSink;
 
 /// A delivery tries each member that is not left alone, and each once.
@@ -19,4 +21,9 @@ pub fn leaves_alone_after_a_failure()
 /// group answered Ok: each batch once, by the member that was named, in order. So no batch that was refused was taken.
 pub fn each_batch_is_taken_once<S: EventSink>(group: &GroupRun<S>)
     ensures { TakenOnce S.delivers }
+{}
+
+/// The same of a group that is a sink: what its members took is just what it answered Ok, each batch once and in order.
+pub fn each_batch_of_a_sink_is_taken_once<S: EventSink, N: Random + Drop>(group: &GroupSink<S, N>)
+    ensures { SinkTakenOnce S.delivers }
 {}
