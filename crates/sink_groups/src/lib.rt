@@ -9,7 +9,10 @@ mod schedule;
 mod sink;
 mod standing;
 
-pub use laws::{each_batch_is_taken_once, each_batch_of_a_sink_is_taken_once, leaves_alone_after_a_failure, tries_all_that_are_due};
+pub use laws::{
+    each_batch_is_taken_once, each_batch_of_a_sink_is_taken_once, leaves_alone_after_a_failure,
+    tries_all_that_are_due,
+};
 pub use rules::{GroupKind, GroupRefused, GroupRules};
 pub use run::GroupRun;
 pub use sink::GroupSink;
