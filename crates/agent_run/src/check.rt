@@ -2,7 +2,6 @@
 ghost use Rattle.std.specs.Prelude.{◌≡◌, IfOk, OnOk, None, flat_map, fold, string_bytes};
 ghost use Rattle.std.specs.Io.KnownBytes.{Appends};
 ghost use Rattle.flume_host.specs.Causes.{HasCause};
-ghost use Rattle.flume_host.specs.HostState.{KeepsNamed};
 ghost use Rattle.agent_run.specs.Session.{Fronts};
 ghost use Rattle.agent_run.specs.Checked.{first_plugin, is_plugin, nearer, sink_lines, source_lines, step_lines, Checked, IsBeside, IsCheckStatus, Judges, PlansWhole, end_of, plan_line};
 
@@ -121,8 +120,7 @@ fn print<H: Host>(host: &mut H, text: &str) -> Result<(), Failed>
     ensures cause { HasCause (H.state host.old).faults (H.state host.new).faults result }
     ensures handed { OnOk result ((H.state host.new).handed ≡ (H.state host.new).output) }
     ensures rest { IsBeside (H.state host.old) (H.state host.new) }
-    ensures named { KeepsNamed (H.folder host.old) (H.folder host.new) (H.room host.old) (H.room host.new) }
-    ensures rolls { KeepsNamed (H.rolled host.old) (H.rolled host.new) (H.roll_room host.old) (H.roll_room host.new) }
+    ensures folders { H.folders host.new ≡ H.folders host.old }
 {
     let mut sink = host.take_output();
     let done = match write_all(&mut sink, text.as_bytes()) {
@@ -137,8 +135,7 @@ fn print<H: Host>(host: &mut H, text: &str) -> Result<(), Failed>
 pub fn check<H: Host>(alloc: Global, agent: &str, file: &str, host: &mut H) -> Result<(), RunError>
     ensures checked { Checked ((H.state host.old).files file.now) agent.now (H.state host.old) (H.state host.new) (end_of result) }
     ensures status { IsCheckStatus (end_of result) }
-    ensures named { KeepsNamed (H.folder host.old) (H.folder host.new) (H.room host.old) (H.room host.new) }
-    ensures rolls { KeepsNamed (H.rolled host.old) (H.rolled host.new) (H.roll_room host.old) (H.roll_room host.new) }
+    ensures folders { H.folders host.new ≡ H.folders host.old }
 {
     let bytes = match host.read_file(file) {
         Ok(bytes) => bytes,

@@ -1,6 +1,6 @@
 // `pipe DIR`: standard input is one session into the file channel of a folder.
-ghost use Rattle.std.specs.Prelude.{◌≡◌, ◌≢◌, ◌⊎◌, ◌≤◌, [], List, ℕ, Option};
-ghost use Rattle.flume_host.specs.HostState.{KeepsNamed};
+ghost use Rattle.std.specs.Prelude.{◌≡◌, ◌⊎◌, ◌≤◌, [], ℕ};
+ghost use Rattle.flume_host.specs.HostState.{ButDisk};
 ghost use Rattle.netcat_source.specs.Feed.{LineState};
 ghost use Rattle.file_channel.specs.Stands.{StandsOver};
 ghost use Rattle.agent_run.specs.Handled.{Start};
@@ -59,8 +59,7 @@ fn run_session<H: Host>(
     ensures piped { (start : Start) → Stands start (StandsOver (H.Disk.told store.channel.0) (H.Disk.faults store.channel.0) store.channel.1) (H.Disk.told store.channel.0) (H.Disk.faults store.channel.0) []
         → Piped (H.state host.old) (H.state host.new) start.told (H.Disk.told result.1) start.faults (H.Disk.faults result.1) (pipe_status result.0.end) result.0.accepted }
     ensures status { IsPipeStatus (pipe_status result.0.end) }
-    ensures named { KeepsNamed (H.folder host.old) (H.folder host.new) (H.room host.old) (H.room host.new) }
-    ensures rolls { KeepsNamed (H.rolled host.old) (H.rolled host.new) (H.roll_room host.old) (H.roll_room host.new) }
+    ensures folders { H.folders host.new ≡ H.folders host.old }
     ensures disks { (H.state host.new).disk_faults ≡ (H.state host.old).disk_faults }
     ensures later { (H.state host.old).faults ≤ (H.state host.new).faults }
     ensures disk_later { H.Disk.faults store.channel.0 ≤ H.Disk.faults result.1 }
@@ -81,8 +80,7 @@ fn run_session<H: Host>(
 fn pipe_on<H: Host>(alloc: Global, host: &mut H, disk: H::Disk) -> (PipeRun, H::Disk)
     ensures piped { Piped (H.state host.old) (H.state host.new) (H.Disk.told disk) (H.Disk.told result.1) (H.Disk.faults disk) (H.Disk.faults result.1) (pipe_status result.0.end) result.0.accepted }
     ensures status { IsPipeStatus (pipe_status result.0.end) }
-    ensures named { KeepsNamed (H.folder host.old) (H.folder host.new) (H.room host.old) (H.room host.new) }
-    ensures rolls { KeepsNamed (H.rolled host.old) (H.rolled host.new) (H.roll_room host.old) (H.roll_room host.new) }
+    ensures folders { H.folders host.new ≡ H.folders host.old }
     ensures disks { (H.state host.new).disk_faults ≡ (H.state host.old).disk_faults }
     ensures later { (H.state host.old).faults ≤ (H.state host.new).faults }
     ensures disk_later { H.Disk.faults disk ≤ H.Disk.faults result.1 }
@@ -98,11 +96,9 @@ fn pipe_on<H: Host>(alloc: Global, host: &mut H, disk: H::Disk) -> (PipeRun, H::
 
 /// `pipe DIR`: the lines of standard input go into the file channel of the folder, one transaction each.
 pub fn pipe<H: Host>(alloc: Global, dir: &str, host: &mut H) -> PipeRun
-    ensures piped { Piped (H.state host.old) (H.state host.new) (H.folder host.old dir.now) (H.folder host.new dir.now) (H.state host.old).disk_faults (H.state host.new).disk_faults (pipe_status result.end) result.accepted }
+    ensures piped { Piped (H.state host.old) (H.state host.new) ((H.folders host.old).disks dir.now) ((H.folders host.new).disks dir.now) (H.state host.old).disk_faults (H.state host.new).disk_faults (pipe_status result.end) result.accepted }
     ensures status { IsPipeStatus (pipe_status result.end) }
-    ensures others { (path : List ℕ) → path ≢ dir.now → H.folder host.new path ≡ H.folder host.old path }
-    ensures no_more { (path : List ℕ) → path ≢ dir.now → H.room host.new path → H.room host.old path }
-    ensures rolls { KeepsNamed (H.rolled host.old) (H.rolled host.new) (H.roll_room host.old) (H.roll_room host.new) }
+    ensures others { ButDisk dir.now (H.folders host.old) (H.folders host.new) }
 {
     match host.open_disk(dir) {
         Ok(disk) => {

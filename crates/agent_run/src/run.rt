@@ -1,6 +1,6 @@
 // The top call.
-ghost use Rattle.std.specs.Prelude.{◌≡◌, ◌≢◌, ◌⊎◌, List, ℕ, IfOk, MatchOption};
-ghost use Rattle.flume_host.specs.HostState.{KeepsNamed};
+ghost use Rattle.std.specs.Prelude.{◌≡◌, ◌⊎◌, List, ℕ, IfOk, MatchOption};
+ghost use Rattle.flume_host.specs.HostState.{ButDisk};
 ghost use Rattle.agent_words.specs.Commands.{IsPipe, IsCheck};
 ghost use Rattle.agent_words.specs.Statuses.{status_of};
 ghost use Rattle.agent_words.specs.Words.{texts};
@@ -41,8 +41,7 @@ impl Outcome {
 // Says why a run ended.
 fn say_error<H: Host>(alloc: Global, host: &mut H, error: &RunError)
     ensures state { H.state host.new ≡ H.state host.old }
-    ensures named { KeepsNamed (H.folder host.old) (H.folder host.new) (H.room host.old) (H.room host.new) }
-    ensures rolls { KeepsNamed (H.rolled host.old) (H.rolled host.new) (H.roll_room host.old) (H.roll_room host.new) }
+    ensures folders { H.folders host.new ≡ H.folders host.old }
 {
     match format!(in alloc; "{error}") {
         Ok(line) => host.say(line.as_str()),
@@ -103,8 +102,7 @@ fn pipe_status(end: PipeEnd) -> u8
 // Says why a run of `pipe` ended.
 fn say_end<H: Host>(alloc: Global, dir: &str, host: &mut H, end: PipeEnd)
     ensures state { H.state host.new ≡ H.state host.old }
-    ensures named { KeepsNamed (H.folder host.old) (H.folder host.new) (H.room host.old) (H.room host.new) }
-    ensures rolls { KeepsNamed (H.rolled host.old) (H.rolled host.new) (H.roll_room host.old) (H.roll_room host.new) }
+    ensures folders { H.folders host.new ≡ H.folders host.old }
 {
     match pipe_error(alloc, dir, end) {
         Ok(None) => {}
@@ -115,11 +113,9 @@ fn say_end<H: Host>(alloc: Global, dir: &str, host: &mut H, end: PipeEnd)
 
 // `pipe DIR`, and what is said of its end.
 fn run_pipe<H: Host>(alloc: Global, dir: &str, host: &mut H) -> Outcome
-    ensures piped { Piped (H.state host.old) (H.state host.new) (H.folder host.old dir.now) (H.folder host.new dir.now) (H.state host.old).disk_faults (H.state host.new).disk_faults result.status result.accepted }
+    ensures piped { Piped (H.state host.old) (H.state host.new) ((H.folders host.old).disks dir.now) ((H.folders host.new).disks dir.now) (H.state host.old).disk_faults (H.state host.new).disk_faults result.status result.accepted }
     ensures status { IsPipeStatus result.status }
-    ensures others { (path : List ℕ) → path ≢ dir.now → H.folder host.new path ≡ H.folder host.old path }
-    ensures no_more { (path : List ℕ) → path ≢ dir.now → H.room host.new path → H.room host.old path }
-    ensures rolls { KeepsNamed (H.rolled host.old) (H.rolled host.new) (H.roll_room host.old) (H.roll_room host.new) }
+    ensures others { ButDisk dir.now (H.folders host.old) (H.folders host.new) }
 {
     let run = pipe(alloc, dir, host);
     say_end(alloc, dir, host, run.end);
@@ -133,8 +129,7 @@ fn run_pipe<H: Host>(alloc: Global, dir: &str, host: &mut H) -> Outcome
 fn run_check<H: Host>(alloc: Global, agent: &str, file: &str, host: &mut H) -> Outcome
     ensures checked { Checked ((H.state host.old).files file.now) agent.now (H.state host.old) (H.state host.new) result.status }
     ensures status { IsCheckStatus result.status }
-    ensures named { KeepsNamed (H.folder host.old) (H.folder host.new) (H.room host.old) (H.room host.new) }
-    ensures rolls { KeepsNamed (H.rolled host.old) (H.rolled host.new) (H.roll_room host.old) (H.roll_room host.new) }
+    ensures folders { H.folders host.new ≡ H.folders host.old }
     ensures none { result.accepted ≡ 0 }
 {
     match check(alloc, agent, file, host) {
@@ -150,8 +145,7 @@ fn run_check<H: Host>(alloc: Global, agent: &str, file: &str, host: &mut H) -> O
 fn refuse<H: Host>(alloc: Global, host: &mut H, error: &RunError) -> Outcome
     ensures status { result.status ≡ status_of error.now }
     ensures state { H.state host.new ≡ H.state host.old }
-    ensures named { KeepsNamed (H.folder host.old) (H.folder host.new) (H.room host.old) (H.room host.new) }
-    ensures rolls { KeepsNamed (H.rolled host.old) (H.rolled host.new) (H.roll_room host.old) (H.roll_room host.new) }
+    ensures folders { H.folders host.new ≡ H.folders host.old }
     ensures none { result.accepted ≡ 0 }
 {
     say_error(alloc, host, error);
@@ -168,24 +162,23 @@ pub fn run_agent<H: Host>(alloc: Global, words: &[String], host: &mut H) -> Outc
     ensures usage { result.status ≡ 1 → IsNoCommand (texts words.now) }
     ensures no_command { IsNoCommand (texts words.now) → (result.status ≡ 1) ⊎ (result.status ≡ 5) }
     ensures nothing { IsNoCommand (texts words.now) → (H.state host.new ≡ H.state host.old) × (result.accepted ≡ 0) }
-    ensures nothing_opened { IsNoCommand (texts words.now) → KeepsNamed (H.folder host.old) (H.folder host.new) (H.room host.old) (H.room host.new) }
+    ensures nothing_opened { IsNoCommand (texts words.now) → H.folders host.new ≡ H.folders host.old }
 
     // What `pipe` read, wrote and stored, and when each status comes.
     ensures piped { (dir : List ℕ) → IsPipe (texts words.now) dir
-        → Piped (H.state host.old) (H.state host.new) (H.folder host.old dir) (H.folder host.new dir) (H.state host.old).disk_faults (H.state host.new).disk_faults result.status result.accepted }
+        → Piped (H.state host.old) (H.state host.new) ((H.folders host.old).disks dir) ((H.folders host.new).disks dir) (H.state host.old).disk_faults (H.state host.new).disk_faults result.status result.accepted }
     ensures pipe_statuses { (dir : List ℕ) → IsPipe (texts words.now) dir → IsPipeStatus result.status }
-    ensures others { (dir : List ℕ) → IsPipe (texts words.now) dir → (path : List ℕ) → path ≢ dir → H.folder host.new path ≡ H.folder host.old path }
-    ensures no_more { (dir : List ℕ) → IsPipe (texts words.now) dir → (path : List ℕ) → path ≢ dir → H.room host.new path → H.room host.old path }
+    ensures others { (dir : List ℕ) → IsPipe (texts words.now) dir → ButDisk dir (H.folders host.old) (H.folders host.new) }
 
     // What `check` found in the file and wrote, and when each status comes.
     ensures checked { (agent file : List ℕ) → IsCheck (texts words.now) agent file
         → Checked ((H.state host.old).files file) agent (H.state host.old) (H.state host.new) result.status }
     ensures check_statuses { (agent file : List ℕ) → IsCheck (texts words.now) agent file → IsCheckStatus result.status }
     ensures none { (agent file : List ℕ) → IsCheck (texts words.now) agent file → result.accepted ≡ 0 }
-    ensures unopened { (agent file : List ℕ) → IsCheck (texts words.now) agent file → KeepsNamed (H.folder host.old) (H.folder host.new) (H.room host.old) (H.room host.new) }
+    ensures unopened { (agent file : List ℕ) → IsCheck (texts words.now) agent file → H.folders host.new ≡ H.folders host.old }
 
     // No folder of rolled files was opened, and each is as before.
-    ensures rolls { KeepsNamed (H.rolled host.old) (H.rolled host.new) (H.roll_room host.old) (H.roll_room host.new) }
+    ensures rolls { ((H.folders host.new).rolls ≡ (H.folders host.old).rolls) × ((H.folders host.new).roll_opened ≡ (H.folders host.old).roll_opened) }
 {
     match read_words(alloc, words) {
         Ok(Some(Command::Pipe { dir })) => run_pipe(alloc, dir.as_str(), host),

@@ -1,30 +1,24 @@
 -- A request, its reply, and its link.
-use Rattle.std.proofs.Common.{◌≡◌, ◌∙◌, ◌⊎◌, ℕ, ◌+◌, ◌≤◌, ◌<◌, Bool, true, false, List, [], ◌∷◌, ◌++◌, length, length-append, take, Option, Some, None, Result, Ok, Err, refl, sym, ap, subst, arith, inl, inr, append-nil}
+use Rattle.std.proofs.Common.{◌≡◌, ℕ, ◌+◌, Bool, true, false, List, [], ◌∷◌, length, length-append, take, Option, Some, None, Result, Ok, Err, refl, sym, subst, arith, inl, inr, append-nil}
 use Rattle.std.specs.Prelude.{if◌then◌else◌, ◌&&◌, ◌==◌}
 use Rattle.std.proofs.lemmas.List.{take_all}
 use Rattle.flume_host.specs.Told.{Tells}
-use Rattle.flume_host.specs.Links.{LinkTold, Talks}
-use Rattle.flume_host.specs.Listens.{LinksTold, IsOwed, IsSettled, gave_one, refused_link, kept_in}
-use Rattle.flume_host.proofs.Talking.{talks_then}
+use Rattle.flume_host.specs.Links.{BreaksOff, LinkTold, Talks, TalksTo, Waited}
+use Rattle.flume_host.specs.Listens.{LinksTold, IsSettled, gave_one, refused_link, kept_in}
+use Rattle.flume_host.proofs.Talking.{failed_behind, talks_to, waited_then}
 use Rattle.avro_ends.specs.declared.attempt.Decision.{Decision}
 use Rattle.avro_ends.specs.declared.attempt.Decision.TheVariants.{Commit, Rollback}
 use Rattle.avro_frame.specs.declared.packs.Message.{Message}
-use Rattle.avro_frame.specs.Pack.{IsPart, InHead}
+use Rattle.avro_frame.specs.Pack.{InHead}
 use Rattle.avro_hop.specs.declared.respond.Status.{Status}
 use Rattle.avro_hop.specs.declared.respond.Status.TheVariants as says
 use Rattle.avro_hop.specs.Calls.{status_index}
 use Rattle.avro_ends.specs.declared.refused.DeliverRefused.{DeliverRefused}
 use Rattle.avro_ends.specs.declared.refused.DeliverRefused.TheVariants.{LinkFault, Ended, Silent, Refused, WrongSerial, BadReply, Turns, NoMemory}
-use Rattle.avro_ends.specs.Hearing.{Waited, FailedLast, IsUnheard, HeardFor, HearsReply}
-use Rattle.avro_ends.specs.Writes.{BreaksOff}
-use Rattle.avro_ends.specs.Deliveries.{Judges, IsJudged, AnswersBy, Ends, LastsFor, Answered, Exchanged, IsOut}
-use Rattle.avro_ends.proofs.Listening.{waited_then, failed_behind, unheard_behind}
+use Rattle.avro_ends.specs.Hearing.{Heard, HeardFor, HearsReply, finds}
+use Rattle.avro_ends.specs.Deliveries.{Judges, AnswersBy, Ends, Answered, Exchanged, IsOut, found_by}
 
 -- ---- the dialer's links
-
-pub owed_out : (told : Option LinksTold) → IsOut told → IsOwed told
-owed_out None out = tt
-owed_out (Some l) out = omega (arith, out)
 
 pub settled_back : (told : Option LinksTold) (now : Option LinkTold) → IsOut told → IsSettled (kept_in told now)
 settled_back None now out = tt
@@ -68,6 +62,16 @@ judged_lasts first want serial payload Silent turns quiets j l = absurd j
 judged_lasts first want serial payload Turns turns quiets j l = absurd j
 judged_lasts first want serial payload NoMemory turns quiets j l = l
 
+judged_finds : (first : Bool) (want serial : ℕ) (payload : List ℕ) (e : DeliverRefused) → Judges first want serial payload (Err e) → 0 ≡ finds e
+judged_finds first want serial payload (WrongSerial got asked) j = refl
+judged_finds first want serial payload (BadReply at) j = refl
+judged_finds first want serial payload (Refused status) j = refl
+judged_finds first want serial payload LinkFault j = refl
+judged_finds first want serial payload Ended j = absurd j
+judged_finds first want serial payload Silent j = refl
+judged_finds first want serial payload Turns j = refl
+judged_finds first want serial payload NoMemory j = refl
+
 pub answered_ok : (first : Bool) (want : ℕ) (message : Message) (more : Bool) (a b : Option LinkTold) → HearsReply (Ok (message, more)) a b → Judges first want message.serial message.payload.items (Ok tt) → Answered first want (Ok more) a b
 answered_ok first want message more a b (given, turns, quiets, heard, few, less, cut) judged = record {
   given = given;
@@ -83,7 +87,7 @@ answered_err first want message more e a b (given, turns, quiets, heard, few, le
   given = given;
   turns = turns;
   quiets = quiets;
-  heard = heard;
+  heard = subst (λ (found : ℕ). Heard found given turns quiets a b) (judged_finds first want message.serial message.payload.items e judged) heard;
   count = judged_lasts first want message.serial message.payload.items e turns quiets judged (few, less);
   ends = inl (more, record { serial = message.serial; payload = message.payload.items; cut = cut; judged = judged });
 }
@@ -96,14 +100,14 @@ unanswered first want e a b (given, turns, quiets, heard, lasts, unheard) = reco
 whole : (bytes : List ℕ) → bytes ≡ take (length bytes) bytes
 whole bytes = sym (take_all (length bytes) bytes (omega arith))
 
-ends_of : (first : Bool) (want : ℕ) (request : List ℕ) (result : Result Bool DeliverRefused) (given : List ℕ) (a b c : Option LinkTold) → Tells a b (Waited 0) → AnswersBy first want result given b c → Ends first want request result request given a c
+ends_of : (first : Bool) (want : ℕ) (request : List ℕ) (result : Result Bool DeliverRefused) (given : List ℕ) (a b c : Option LinkTold) → Tells a b (Talks [] request 0) → AnswersBy first want result given b c → Ends first want request result request given a c
 ends_of first want request (Ok more) given a b c waited is = (refl, is)
 ends_of first want request (Err LinkFault) given a b c waited is =
     elim is [
       | inl j ↦ absurd j.1.judged
-      | inr u ↦ ((length request, whole request), u.0, failed_behind a b c 0 waited u.1)
+      | inr u ↦ ((length request, whole request), u.0, failed_behind a b c [] request 0 waited u.1)
     ]
-ends_of first want request (Err Ended) given a b c waited is = (refl, elim is [ inl j ↦ inl j | inr u ↦ inr (unheard_behind Ended given a b c 0 waited u) ])
+ends_of first want request (Err Ended) given a b c waited is = (refl, elim is [ inl j ↦ inl j | inr u ↦ inr (u) ])
 ends_of first want request (Err Silent) given a b c waited is = (refl, elim is [ inl j ↦ inl j | inr u ↦ inr u ])
 ends_of first want request (Err Turns) given a b c waited is = (refl, elim is [ inl j ↦ inl j | inr u ↦ inr u ])
 ends_of first want request (Err NoMemory) given a b c waited is = (refl, elim is [ inl j ↦ inl j | inr u ↦ inr u ])
@@ -120,10 +124,10 @@ exchanged_by first want request result a b c talk waited is =
       given = is.given;
       turns = is.turns;
       quiets = is.quiets;
-      talk = subst (λ (n : ℕ). Tells a c (Talks is.given request n)) turns (subst (λ (t : List ℕ). Tells a c (Talks is.given t (0 + is.turns))) (append-nil request) (talks_then a b c [] request is.given [] 0 is.turns talk is.heard.talk));
+      talk = subst (λ (n : ℕ). Tells a c (TalksTo (found_by result) is.given request n)) turns (subst (λ (t : List ℕ). Tells a c (TalksTo (found_by result) is.given t (0 + is.turns))) (append-nil request) (talks_to (found_by result) a b c [] request is.given [] 0 is.turns talk is.heard.talk));
       waited = subst (λ (n : ℕ). Tells a c (Waited n)) quiets (waited_then a b c 0 is.quiets waited is.heard.waited);
       count = is.count;
-      ends = ends_of first want request result is.given a b c waited is.ends;
+      ends = ends_of first want request result is.given a b c talk is.ends;
     }
 
 pub exchange_failed : (first : Bool) (want : ℕ) (request : List ℕ) (a b : Option LinkTold) → BreaksOff request a b → Tells a b (Waited 0) → Exchanged request first want (Err LinkFault) a b

@@ -1,15 +1,14 @@
 -- A session is one dialogue, and its bytes are cut in one way.
-use Rattle.std.proofs.Common.{◌≡◌, ◌∙◌, ℕ, Bool, List, [], ◌∷◌, ◌++◌, Option, Some, None, flat_map, refl, sym, ap, subst, append_assoc}
+use Rattle.std.proofs.Common.{◌≡◌, ◌∙◌, ℕ, Bool, List, [], ◌∷◌, ◌++◌, Option, refl, sym, ap, subst, append_assoc}
 use Rattle.event_core.specs.Content.{Content}
 use Rattle.source_put.specs.declared.intake.Verdict.{Verdict}
-use Rattle.avro_frame.specs.Pack.{IsPart, pack}
+use Rattle.avro_frame.specs.Pack.{pack}
 use Rattle.avro_frame.specs.Feed.{Holds}
 use Rattle.avro_frame.specs.Stream.{IsCut, InPack, Pack}
 use Rattle.avro_hop.specs.declared.hop.Asked.{Asked}
 use Rattle.avro_hop.specs.declared.hop.Asked.TheVariants.{Reply, Events}
-use Rattle.avro_hop.specs.declared.respond.Status.{Status}
 use Rattle.avro_hop.specs.Connection.{IsDialogue, Silent, Answered, Waits, Sends}
-use Rattle.avro_ends.specs.Exchanges.{Exchange, Exchanges, ArePacks, Replies, texts, status_of}
+use Rattle.avro_ends.specs.Exchanges.{Exchange, Exchanges, Replies}
 use Rattle.avro_ends.specs.Laws.{messages_of, replies_of, statuses_of, told_of, one_of, SendsReplies, CutsIntoMessages}
 
 module _ {S : Type 0} (Takes : S → List Content → Verdict → S → Type 0) where

@@ -1,5 +1,5 @@
 -- What a piece brings to the present pack.
-use Rattle.std.proofs.Common.{◌≡◌, ◌∙◌, ℕ, suc, zero, ◌≤◌, List, [], ◌++◌, length, take, Some, None, Ok, Err, refl, sym, ap, subst, arith, append-nil}
+use Rattle.std.proofs.Common.{◌≡◌, ℕ, suc, zero, ◌≤◌, List, [], ◌++◌, length, take, Some, None, Ok, Err, sym, ap, subst, arith, append-nil}
 use Rattle.avro_frame.specs.declared.packs.Message.{Message}
 use Rattle.avro_frame.specs.declared.packs.PackRefused.TheVariants as refused
 use Rattle.avro_frame.specs.Pack.{IsPack, IsPart, PassesCount, PassesSize, NoPackInPart}

@@ -1,15 +1,14 @@
 -- Parts of a session, one after another.
-use Rattle.std.proofs.Common.{◌≡◌, ◌∙◌, ◌⊎◌, inl, inr, ℕ, ◌+◌, ◌≤◌, ◌<◌, Bool, true, false, List, [], ◌∷◌, ◌++◌, length, take, flat_map, Option, Err, refl, sym, ap, subst, arith, append_assoc, append-nil}
+use Rattle.std.proofs.Common.{◌≡◌, ◌∙◌, inl, inr, ℕ, ◌+◌, ◌<◌, Bool, false, List, [], ◌∷◌, ◌++◌, take, Option, refl, sym, ap, subst, arith, append_assoc, append-nil}
 use Rattle.std.proofs.lemmas.List.Concat.{flat_map-append}
 use Rattle.event_core.specs.Content.{Content}
 use Rattle.flume_host.specs.Told.{Tells}
-use Rattle.flume_host.proofs.Telling.{follows}
-use Rattle.flume_host.specs.Links.{LinkTold, Talks}
-use Rattle.flume_host.proofs.Talking.{talks_none, talks_then}
+use Rattle.flume_host.specs.Links.{LinkTold, Talks, TalksTo, most_turns}
+use Rattle.flume_host.proofs.Talking.{failed_behind, talks_none, talks_then, talks_to}
 use Rattle.source_put.specs.declared.intake.Verdict.{Verdict}
 use Rattle.avro_frame.specs.Pack.{IsPart, pack}
 use Rattle.avro_ends.specs.Exchanges.{Exchange, Exchanges, ArePacks, texts}
-use Rattle.avro_ends.specs.Sessions.{Goes, Breaks, Served, EndsBy, EndsAfter, FailsInReply, LeavesLink, IsOfTurn, IsTurnsOf, most_turns}
+use Rattle.avro_ends.specs.Sessions.{Goes, Breaks, Served, EndsBy, EndsAfter, FailsInReply, LeavesLink, IsTurnsOf, finds}
 use Rattle.avro_ends.specs.declared.session.AvroEnd.{AvroEnd}
 use Rattle.avro_ends.specs.declared.session.AvroEnd.TheVariants.{End, Stopped, LinkFault, Turns, TooMany, TooLarge, BadHandshake, OtherProtocol, NoMemory}
 
@@ -39,8 +38,8 @@ fails_then xs ys sent p =
 
 -- what a link tells at the end, it tells also from before
 leaves_then : (x y z : Option LinkTold) (given taken : List ℕ) (n : ℕ) (end : AvroEnd) → Tells x y (Talks given taken n) → LeavesLink end y z → LeavesLink end x z
-leaves_then x y z given taken n End first found = follows x y z (Talks given taken n) (λ t u. u.ended ≡ true) (λ t u. u.ended ≡ true) (λ t u v _ _ _ _ is. is) first found
-leaves_then x y z given taken n LinkFault first failed = follows x y z (Talks given taken n) (λ t u. u.failed ≡ true) (λ t u. u.failed ≡ true) (λ t u v _ _ _ _ is. is) first failed
+leaves_then x y z given taken n End first leaves = tt
+leaves_then x y z given taken n LinkFault first failed = failed_behind x y z given taken n first failed
 leaves_then x y z given taken n Stopped first leaves = tt
 leaves_then x y z given taken n Turns first leaves = tt
 leaves_then x y z given taken n (TooMany m) first leaves = tt
@@ -96,7 +95,7 @@ module _ {S : Type 0} (Takes : S → List Content → Verdict → S → Type 0) 
     rest = q.rest;
     cut = cuts_then held bytes mid bytes' q.rest p.front q.front p.cut q.cut;
     sent = texts p.done ++ q.sent;
-    talk = talks_then x y z given (texts p.done) given' q.sent n m p.talk q.talk;
+    talk = talks_to (finds end) x y z given (texts p.done) given' q.sent n m p.talk q.talk;
     ends = ends_then end q.after q.between c p.done q.done q.rest q.sent q.ends;
     leaves = leaves_then x y z given (texts p.done) n end p.talk q.leaves;
   }
@@ -110,7 +109,7 @@ module _ {S : Type 0} (Takes : S → List Content → Verdict → S → Type 0) 
 
   -- between two turns a session may end
   abbrev EndsBetween : AvroEnd → Type 0
-  EndsBetween End = Unit {0}
+  EndsBetween End = ⊥
   EndsBetween Stopped = Unit {0}
   EndsBetween LinkFault = Unit {0}
   EndsBetween Turns = Unit {0}
@@ -121,7 +120,7 @@ module _ {S : Type 0} (Takes : S → List Content → Verdict → S → Type 0) 
   EndsBetween NoMemory = ⊥
 
   between_ends : (end : AvroEnd) (greeted : Bool) (state : S) (done : List Exchange) (rest : List ℕ) → EndsBetween end → IsPart rest → EndsBy Takes end greeted state state done rest (texts done)
-  between_ends End greeted state done rest may part = (refl, refl, part)
+  between_ends End greeted state done rest may part = absurd may
   between_ends Stopped greeted state done rest may part = (refl, refl)
   between_ends LinkFault greeted state done rest may part = (refl, inl (refl, part))
   between_ends Turns greeted state done rest may part = (refl, refl, part)
@@ -132,7 +131,7 @@ module _ {S : Type 0} (Takes : S → List Content → Verdict → S → Type 0) 
   between_ends NoMemory greeted state done rest may part = absurd may
 
   pub ends_between : {a c : S} {x z : Option LinkTold} {g h : Bool} {held bytes left given : List ℕ} {n : ℕ} → Goes Takes a c x z g h held bytes left given n → IsPart left → (end : AvroEnd) → EndsBetween end → LeavesLink end x z → Breaks Takes a c x z g held bytes given n end
-  ends_between {c = c} {h = h} {left = left} p part end may leaves = record {
+  ends_between {c = c} {x = x} {z = z} {h = h} {left = left} {given = given} {n = n} p part end may leaves = record {
     done = p.done;
     after = h;
     between = c;
@@ -142,9 +141,37 @@ module _ {S : Type 0} (Takes : S → List Content → Verdict → S → Type 0) 
     rest = left;
     cut = p.cut;
     sent = texts p.done;
-    talk = p.talk;
+    talk = talk_by end may;
     ends = between_ends end h c p.done left may part;
     leaves = leaves;
+  }
+    where
+      talk_by : (end : AvroEnd) → EndsBetween end → Tells x z (TalksTo (finds end) given (texts p.done) n)
+      talk_by End b = absurd b
+      talk_by Stopped b = p.talk
+      talk_by LinkFault b = p.talk
+      talk_by Turns b = p.talk
+      talk_by (TooMany m) b = absurd b
+      talk_by (TooLarge m) b = absurd b
+      talk_by (BadHandshake at) b = absurd b
+      talk_by OtherProtocol b = absurd b
+      talk_by NoMemory b = absurd b
+
+  -- a read found the end of the link, behind a part of a pack
+  pub found_breaks : (a : S) (x y : Option LinkTold) (g : Bool) (held : List ℕ) → IsPart held → Tells x y (TalksTo 1 [] [] 0) → Breaks Takes a a x y g held [] [] 0 End
+  found_breaks a x y g held part talk = record {
+    done = [];
+    after = g;
+    between = a;
+    exchanged = (refl, refl);
+    front = [];
+    packs = refl;
+    rest = held;
+    cut = append-nil held;
+    sent = [];
+    talk = talk;
+    ends = (refl, refl, part);
+    leaves = tt;
   }
 
   -- a session that was asked to stop leaves the rest of what was read
@@ -188,18 +215,18 @@ module _ {S : Type 0} (Takes : S → List Content → Verdict → S → Type 0) 
     rest = p.rest;
     sent = p.sent;
     turns = n;
-    talk = let P : List ℕ → Type 0 = λ l. Tells x z (Talks l p.sent n) in subst P p.cut p.talk;
+    talk = let P : List ℕ → Type 0 = λ l. Tells x z (TalksTo (finds end) l p.sent n) in subst P p.cut p.talk;
     ends = p.ends;
     leaves = p.leaves;
     count = count;
   }
 
 -- a read that gave bytes is one turn
-pub one_turn : (end : AvroEnd) → IsOfTurn end → (end ≡ End → ⊥) → IsTurnsOf end 1
+pub one_turn : (end : AvroEnd) → (end ≡ Turns → ⊥) → (end ≡ End → ⊥) → IsTurnsOf end 1
 one_turn End of other = absurd (other refl)
 one_turn Stopped of other = omega arith
 one_turn LinkFault of other = omega arith
-one_turn Turns of other = absurd of
+one_turn Turns of other = absurd (of refl)
 one_turn (TooMany n) of other = omega arith
 one_turn (TooLarge n) of other = omega arith
 one_turn (BadHandshake at) of other = omega arith
@@ -207,11 +234,11 @@ one_turn OtherProtocol of other = omega arith
 one_turn NoMemory of other = omega arith
 
 -- behind some turns one more ended the session
-pub after_turn : (end : AvroEnd) (n m : ℕ) → IsOfTurn end → IsTurnsOf end m → n < most_turns → EndsAfter end (n + m)
+pub after_turn : (end : AvroEnd) (n m : ℕ) → (end ≡ Turns → ⊥) → IsTurnsOf end m → n < most_turns → EndsAfter end (n + m)
 after_turn End n m of one few = omega (arith, one, few)
 after_turn Stopped n m of one few = omega (arith, one, few)
 after_turn LinkFault n m of one few = omega (arith, one, few)
-after_turn Turns n m of one few = absurd of
+after_turn Turns n m of one few = absurd (of refl)
 after_turn (TooMany n') n m of one few = omega (arith, one, few)
 after_turn (TooLarge n') n m of one few = omega (arith, one, few)
 after_turn (BadHandshake at) n m of one few = omega (arith, one, few)

@@ -1,22 +1,20 @@
 -- What one message does to a session.
-use Rattle.std.proofs.Common.{◌≡◌, ◌∙◌, ◌⊎◌, inl, inr, ℕ, Bool, List, [], ◌∷◌, ◌++◌, take, drop, Option, Some, None, Result, Ok, Err, refl, sym, ap, subst, append_assoc, append-nil, take-append-drop}
+use Rattle.std.proofs.Common.{◌≡◌, ◌∙◌, inl, inr, ℕ, Bool, List, [], ◌∷◌, ◌++◌, take, Option, Some, None, Result, Ok, Err, refl, sym, ap, subst, append_assoc, append-nil}
 use Rattle.std.specs.declared.vec.Vec.{Vec}
 use Rattle.std.specs.declared.alloc.Global.{Global}
 use Rattle.event_core.specs.Content.{Content}
 use Rattle.flume_host.specs.Told.{Tells}
-use Rattle.flume_host.specs.Links.{LinkTold, Talks}
+use Rattle.flume_host.specs.Links.{BreaksOff, LinkTold, Talks, TalksTo}
 use Rattle.flume_host.proofs.Talking.{talks_none}
 use Rattle.source_put.specs.declared.intake.Verdict.{Verdict}
-use Rattle.avro_frame.specs.Pack.{IsPack, IsPart, PassesCount, PassesSize, pack}
-use Rattle.avro_hop.specs.declared.hop.Asked.{Asked}
+use Rattle.avro_frame.specs.Pack.{IsPack, PassesCount, PassesSize, pack}
 use Rattle.avro_hop.specs.declared.hop.Asked.TheVariants.{Reply, Events}
 use Rattle.avro_hop.specs.declared.respond.Status.{Status}
 use Rattle.avro_hop.specs.Calls.{response}
 use Rattle.avro_hop.specs.Dialogue.{Answers}
-use Rattle.avro_ends.specs.Exchanges.{Exchange, Exchanged, Exchanges, ArePacks, texts}
+use Rattle.avro_ends.specs.Exchanges.{Exchange, Exchanged, ArePacks}
 use Rattle.avro_ends.specs.Messages.{IsTaken, ServesEvents, ServesMessage}
-use Rattle.avro_ends.specs.Sessions.{Goes, Breaks, EndsBy, FailsInReply, LeavesLink, IsNext}
-use Rattle.avro_ends.specs.Writes.{BreaksOff}
+use Rattle.avro_ends.specs.Sessions.{Goes, Breaks, EndsBy, LeavesLink, finds}
 use Rattle.avro_ends.specs.declared.session.AvroEnd.{AvroEnd}
 use Rattle.avro_ends.specs.declared.session.AvroEnd.TheVariants.{End, Stopped, LinkFault, Turns, TooMany, TooLarge, BadHandshake, OtherProtocol, NoMemory}
 
@@ -78,17 +76,17 @@ module _ {S : Type 0} (Takes : S → List Content → Verdict → S → Type 0) 
   part_goes old told greeted held bytes left cut = record { done = []; exchanged = (refl, refl); front = []; packs = refl; cut = cut; talk = talks_none told }
 
   -- nothing more was done
-  none_breaks : (old new : S) (told now : Option LinkTold) (greeted : Bool) (held all rest : List ℕ) (end : AvroEnd) → held ++ all ≡ rest → now ≡ told → EndsBy Takes end greeted old new [] rest [] → LeavesLink end told now → Breaks Takes old new told now greeted held all [] 0 end
-  none_breaks old new told now greeted held all rest end cut same ends leaves = record { done = []; after = greeted; between = old; exchanged = (refl, refl); front = []; packs = refl; rest = rest; cut = cut; sent = []; talk = still told now same; ends = ends; leaves = leaves }
+  none_breaks : (old new : S) (told now : Option LinkTold) (greeted : Bool) (held all rest : List ℕ) (end : AvroEnd) → 0 ≡ finds end → held ++ all ≡ rest → now ≡ told → EndsBy Takes end greeted old new [] rest [] → LeavesLink end told now → Breaks Takes old new told now greeted held all [] 0 end
+  none_breaks old new told now greeted held all rest end none cut same ends leaves = record { done = []; after = greeted; between = old; exchanged = (refl, refl); front = []; packs = refl; rest = rest; cut = cut; sent = []; talk = subst (λ (found : ℕ). Tells told now (TalksTo found [] [] 0)) none (still told now same); ends = ends; leaves = leaves }
 
   pub count_breaks : (old : S) (told : Option LinkTold) (greeted : Bool) (held all : List ℕ) (n : ℕ) → PassesCount (held ++ all) n → Breaks Takes old old told told greeted held all [] 0 (TooMany n)
-  count_breaks old told greeted held all n passes = none_breaks old old told told greeted held all (held ++ all) (TooMany n) refl refl (refl, refl, passes) tt
+  count_breaks old told greeted held all n passes = none_breaks old old told told greeted held all (held ++ all) (TooMany n) refl refl refl (refl, refl, passes) tt
 
   pub size_breaks : (old : S) (told : Option LinkTold) (greeted : Bool) (held all : List ℕ) (n : ℕ) → PassesSize (held ++ all) n → Breaks Takes old old told told greeted held all [] 0 (TooLarge n)
-  size_breaks old told greeted held all n passes = none_breaks old old told told greeted held all (held ++ all) (TooLarge n) refl refl (refl, refl, passes) tt
+  size_breaks old told greeted held all n passes = none_breaks old old told told greeted held all (held ++ all) (TooLarge n) refl refl refl (refl, refl, passes) tt
 
   pub memory_breaks : (old : S) (told : Option LinkTold) (greeted : Bool) (held all : List ℕ) → Breaks Takes old old told told greeted held all [] 0 NoMemory
-  memory_breaks old told greeted held all = none_breaks old old told told greeted held all (held ++ all) NoMemory refl refl (refl, inl refl) tt
+  memory_breaks old told greeted held all = none_breaks old old told told greeted held all (held ++ all) NoMemory refl refl refl (refl, inl refl) tt
 
   -- the message of a whole pack ended the session
   pub message_breaks : (old new : S) (told now : Option LinkTold) (greeted after : Bool) (held bytes rest all : List ℕ) (serial : ℕ) (payload : List ℕ) → bytes ++ rest ≡ all → IsPack (held ++ bytes) serial payload → (end : AvroEnd) → ServesMessage Takes old new told now greeted after serial payload (Err end) → Breaks Takes old new told now greeted held all [] 0 end
@@ -110,12 +108,12 @@ module _ {S : Type 0} (Takes : S → List Content → Verdict → S → Type 0) 
       behind : (held bytes rest all : List ℕ) → bytes ++ rest ≡ all → held ++ all ≡ (held ++ bytes) ++ rest
       behind held bytes rest all whole = ap (λ (l : List ℕ). held ++ l) (sym whole) ∙ sym (append_assoc held bytes rest)
   message_breaks old new told now greeted after held bytes rest all serial payload whole is NoMemory (same, tried) =
-      none_breaks old new told now greeted held all ((held ++ bytes) ++ rest) NoMemory (ap (λ (l : List ℕ). held ++ l) (sym whole) ∙ sym (append_assoc held bytes rest)) same
+      none_breaks old new told now greeted held all ((held ++ bytes) ++ rest) NoMemory refl (ap (λ (l : List ℕ). held ++ l) (sym whole) ∙ sym (append_assoc held bytes rest)) same
       (refl, elim tried [ inl none ↦ inl none | inr takes ↦ inr (held ++ bytes, rest, serial, payload, refl, is, (after, takes.0, takes.1, takes.2, takes.3)) ]) tt
   message_breaks old new told now greeted after held bytes rest all serial payload whole is (BadHandshake at) (same, none, answers) =
-      none_breaks old new told now greeted held all ((held ++ bytes) ++ rest) (BadHandshake at) (ap (λ (l : List ℕ). held ++ l) (sym whole) ∙ sym (append_assoc held bytes rest)) same (none, refl, (held ++ bytes, rest, serial, payload, refl, is, (after, answers))) tt
+      none_breaks old new told now greeted held all ((held ++ bytes) ++ rest) (BadHandshake at) refl (ap (λ (l : List ℕ). held ++ l) (sym whole) ∙ sym (append_assoc held bytes rest)) same (none, refl, (held ++ bytes, rest, serial, payload, refl, is, (after, answers))) tt
   message_breaks old new told now greeted after held bytes rest all serial payload whole is OtherProtocol (same, none, answers) =
-      none_breaks old new told now greeted held all ((held ++ bytes) ++ rest) OtherProtocol (ap (λ (l : List ℕ). held ++ l) (sym whole) ∙ sym (append_assoc held bytes rest)) same (none, refl, (held ++ bytes, rest, serial, payload, refl, is, (after, answers))) tt
+      none_breaks old new told now greeted held all ((held ++ bytes) ++ rest) OtherProtocol refl (ap (λ (l : List ℕ). held ++ l) (sym whole) ∙ sym (append_assoc held bytes rest)) same (none, refl, (held ++ bytes, rest, serial, payload, refl, is, (after, answers))) tt
   message_breaks old new told now greeted after held bytes rest all serial payload whole is End bad = absurd bad
   message_breaks old new told now greeted after held bytes rest all serial payload whole is Stopped bad = absurd bad
   message_breaks old new told now greeted after held bytes rest all serial payload whole is Turns bad = absurd bad

@@ -5,11 +5,11 @@ use Rattle.flume_host.specs.Series.{Gives}
 use Rattle.channel_face.specs.declared.replies.FaceRefused.{FaceRefused}
 use Rattle.selectors.specs.declared.selector.Selector.{Selector}
 use Rattle.source_put.specs.declared.chain.HostNames.{HostNames}
-use Rattle.source_put.specs.declared.intake.Intake.{Intake}
+use Rattle.source_put.specs.Into.{Into}
 use Rattle.source_put.specs.declared.intake.Verdict.{Verdict}
 use Rattle.source_put.specs.declared.intake.Verdict.TheVariants.{Taken, Refused, TooLarge, NoMemory}
 use Rattle.source_put.specs.Chains.{Meaning}
-use Rattle.source_put.specs.Routes.{Route, route_of, Accepts}
+use Rattle.source_put.specs.Routes.{Accepts}
 use Rattle.avro_frame.specs.Pack.{IsPack, pack}
 use Rattle.avro_hop.specs.declared.hop.Asked.{Asked}
 use Rattle.avro_hop.specs.declared.hop.Asked.TheVariants.{Reply, Events}
@@ -18,19 +18,13 @@ use Rattle.avro_hop.specs.declared.respond.Status.TheVariants as says
 use Rattle.avro_hop.specs.Calls.{response}
 use Rattle.avro_hop.specs.Dialogue.{Answers}
 
--- the interceptors and the channels of a source, and the moments that are to come, where they are told
-pub record Into (F B : Type 0) : Type 0 where
-  pub route : Route F B
-  pub moments : Option (ℕ → ℕ)
-
-abbrev pub into : {F B : Type 0} → Intake F B → Option (ℕ → ℕ) → Into F B
-into intake moments = record { route = route_of intake; moments = moments }
-
-module _ {F B : Type 0} (Given : F → F → List Content → Result ℕ FaceRefused → Type 0) (selector : Selector) (Means : Meaning B) (host : HostNames) where
+module _ {F B : Type 0} (Given : F → F → List Content → Result ℕ FaceRefused → Type 0)
+    (selector : Selector) (Means : Meaning B) (host : HostNames) where
   -- a batch is accepted, or refused, at the next moment
   abbrev pub TakesBatch : Into F B → List Content → Verdict → Into F B → Type 0
   TakesBatch old batch verdict new =
-      (moment : ℕ) × Gives moment old.moments new.moments × Accepts Given selector Means moment host old.route batch verdict new.route
+      (moment : ℕ) × Gives moment old.moments new.moments
+      × Accepts Given selector Means moment host old.route batch verdict new.route
 
 -- what a verdict is answered
 abbrev pub status_of : Verdict → Option Status
@@ -53,18 +47,24 @@ texts done = flat_map (λ (x : Exchange). pack x.serial (x.reply ∷ [])) done
 -- the bytes are the packs of these messages
 abbrev pub ArePacks : List ℕ → List Exchange → Type 0
 ArePacks bytes [] = bytes ≡ []
-ArePacks bytes (x ∷ done) = (first rest : List ℕ) × (bytes ≡ first ++ rest) × IsPack first x.serial x.payload × ArePacks rest done
+ArePacks bytes (x ∷ done) = (first rest : List ℕ) × (bytes ≡ first ++ rest)
+    × IsPack first x.serial x.payload × ArePacks rest done
 
 module _ {S : Type 0} (Takes : S → List Content → Verdict → S → Type 0) where
   -- a reply is that of the hop; or the events are taken, and the verdict is answered
   abbrev pub Replies : Asked → S → Option Verdict → List ℕ → S → Type 0
-  Replies (Reply bytes) old verdict reply new = (verdict ≡ None) × (reply ≡ bytes.items) × (new ≡ old)
-  Replies (Events front batch) old verdict reply new = (v : Verdict) × (status : Status) × (verdict ≡ Some v) × Takes old batch v new × (status_of v ≡ Some status) × (reply ≡ front.items ++ response status)
+  Replies (Reply bytes) old verdict reply new = (verdict ≡ None) × (reply ≡ bytes.items)
+      × (new ≡ old)
+  Replies (Events front batch) old verdict reply new = (v : Verdict) × (status : Status)
+      × (verdict ≡ Some v) × Takes old batch v new × (status_of v ≡ Some status)
+      × (reply ≡ front.items ++ response status)
 
   abbrev pub Exchanged : Bool → S → Exchange → Bool → S → Type 0
-  Exchanged greeted old x after new = (asked : Asked) × Answers greeted x.payload (Ok asked) after × Replies asked old x.verdict x.reply new
+  Exchanged greeted old x after new = (asked : Asked) × Answers greeted x.payload (Ok asked) after
+      × Replies asked old x.verdict x.reply new
 
   -- one message after another
   abbrev pub Exchanges : Bool → S → List Exchange → Bool → S → Type 0
   Exchanges greeted old [] after new = (after ≡ greeted) × (new ≡ old)
-  Exchanges greeted old (x ∷ done) after new = (next : Bool) × (state : S) × Exchanged greeted old x next state × Exchanges next state done after new
+  Exchanges greeted old (x ∷ done) after new = (next : Bool) × (state : S)
+      × Exchanged greeted old x next state × Exchanges next state done after new

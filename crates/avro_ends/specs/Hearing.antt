@@ -1,11 +1,10 @@
 -- What a sink hears of the reply to its request.
-use Rattle.std.specs.Prelude.{◌≡◌, ◌⊎◌, ◌<◌, ◌≤◌, ◌+◌, ◌^◌, ℕ, List, [], ◌++◌, length, Bool, true, false, Option, Result, Ok, Err}
+use Rattle.std.specs.Prelude.{◌≡◌, ◌⊎◌, ◌<◌, ◌≤◌, ℕ, List, [], ◌++◌, length, Bool, true, false, Option, Result, Ok, Err}
 use Rattle.flume_host.specs.Told.{Tells}
-use Rattle.flume_host.specs.Links.{LinkTold, Talks}
+use Rattle.flume_host.specs.Links.{FailedLast, LinkTold, TalksTo, Waited, most_turns}
 use Rattle.avro_frame.specs.declared.packs.Message.{Message}
 use Rattle.avro_frame.specs.Pack.{IsPack, IsPart, PassesCount, PassesSize}
 use Rattle.avro_frame.specs.Feed.{Packing, Holds}
-use Rattle.avro_ends.specs.Sessions.{most_turns}
 use Rattle.avro_ends.specs.declared.hear.Piece.{Piece}
 use Rattle.avro_ends.specs.declared.hear.Piece.TheVariants.{Whole, Part, Quiet}
 use Rattle.avro_ends.specs.declared.refused.DeliverRefused.{DeliverRefused}
@@ -15,13 +14,11 @@ use Rattle.avro_ends.specs.declared.refused.DeliverRefused.TheVariants.{LinkFaul
 abbrev pub most_quiets : ℕ
 most_quiets = 100
 
--- so many more reads waited in vain
-abbrev pub Waited : ℕ → LinkTold → LinkTold → Type 0
-Waited quiets t u = u.quiets ≡ t.quiets + quiets
-
--- the link gave these bytes in so many turns, so many of them quiet
-pub record Heard (given : List ℕ) (turns quiets : ℕ) (told now : Option LinkTold) : Type 0 where
-  pub talk : Tells told now (Talks given [] turns)
+-- the link gave these bytes in so many turns, so many of them quiet, and so many reads found its
+-- end
+pub record Heard (found : ℕ) (given : List ℕ) (turns quiets : ℕ)
+    (told now : Option LinkTold) : Type 0 where
+  pub talk : Tells told now (TalksTo found given [] turns)
   pub waited : Tells told now (Waited quiets)
 
 -- bytes stand behind the reply, or none do
@@ -33,21 +30,19 @@ IsRest false behind = behind ≡ []
 abbrev pub Passes : List ℕ → Type 0
 Passes bytes = (n : ℕ) × (PassesCount bytes n ⊎ PassesSize bytes n)
 
--- the link found its end, or failed last, as far as it tells
-abbrev pub FoundEnd : Option LinkTold → Option LinkTold → Type 0
-FoundEnd told now = Tells told now (λ t u. u.ended ≡ true)
-
-abbrev pub FailedLast : Option LinkTold → Option LinkTold → Type 0
-FailedLast told now = Tells told now (λ t u. u.failed ≡ true)
+-- how many reads of a delivery that is refused so found the link's end
+abbrev pub finds : DeliverRefused → ℕ
+finds Ended = 1
+finds other = 0
 
 -- why no whole pack came: all that the link gave, and what it tells before and after
 abbrev pub IsUnheard : DeliverRefused → List ℕ → Option LinkTold → Option LinkTold → Type 0
 IsUnheard LinkFault given told now = IsPart given × FailedLast told now
-IsUnheard Ended given told now = IsPart given × FoundEnd told now
+IsUnheard Ended given told now = IsPart given
 IsUnheard Silent given told now = IsPart given
 IsUnheard Turns given told now = IsPart given
 IsUnheard (BadReply at) given told now = (at ≡ 0) × Passes given
-IsUnheard NoMemory given told now = Unit {0}
+IsUnheard NoMemory given told now = IsPart given
 IsUnheard (Refused status) given told now = ⊥
 IsUnheard (WrongSerial got want) given told now = ⊥
 
@@ -73,29 +68,36 @@ pub record Cuts (bytes : List ℕ) (serial : ℕ) (payload : List ℕ) (more : B
 
 -- what a piece does to what came of the reply before
 abbrev pub CutsPiece : List ℕ → Result Piece DeliverRefused → Packing → Type 0
-CutsPiece bytes (Ok (Whole message more)) after = Cuts bytes message.serial message.payload.items more
+CutsPiece bytes (Ok (Whole message more)) after =
+    Cuts bytes message.serial message.payload.items more
 CutsPiece bytes (Ok Part) after = IsPart bytes × (after ≡ Holds bytes)
 CutsPiece bytes (Ok Quiet) after = ⊥
 CutsPiece bytes (Err (BadReply at)) after = (at ≡ 0) × Passes bytes
-CutsPiece bytes (Err NoMemory) after = Unit {0}
 CutsPiece bytes (Err other) after = ⊥
 
 -- one read, behind what came before
-abbrev pub HearsTurn : List ℕ → Result Piece DeliverRefused → Packing → Option LinkTold → Option LinkTold → Type 0
+abbrev pub HearsTurn : List ℕ → Result Piece DeliverRefused → Packing → Option LinkTold
+    → Option LinkTold → Type 0
 HearsTurn held (Ok (Whole message more)) after told now =
-    (given : List ℕ) × Heard given 1 0 told now × Cuts (held ++ given) message.serial message.payload.items more
+    (given : List ℕ) × Heard 0 given 1 0 told now
+    × Cuts (held ++ given) message.serial message.payload.items more
 HearsTurn held (Ok Part) after told now =
-    (given : List ℕ) × Heard given 1 0 told now × IsPart (held ++ given) × (after ≡ Holds (held ++ given))
-HearsTurn held (Ok Quiet) after told now = Heard [] 1 1 told now × (after ≡ Holds held)
+    (given : List ℕ) × Heard 0 given 1 0 told now × IsPart (held ++ given)
+    × (after ≡ Holds (held ++ given))
+HearsTurn held (Ok Quiet) after told now = Heard 0 [] 1 1 told now × (after ≡ Holds held)
 HearsTurn held (Err e) after told now =
-    (given : List ℕ) × (turns : ℕ) × (turns ≤ 1) × Heard given turns 0 told now × IsUnheard e (held ++ given) told now
+    (given : List ℕ) × (turns : ℕ) × (turns ≤ 1) × Heard (finds e) given turns 0 told now
+    × IsUnheard e (held ++ given) told now
     × IsOfRead e
 
 -- all reads up to a whole pack, or up to what ended them
-abbrev pub HearsReply : Result (Message × Bool) DeliverRefused → Option LinkTold → Option LinkTold → Type 0
+abbrev pub HearsReply : Result (Message × Bool) DeliverRefused → Option LinkTold → Option LinkTold
+    → Type 0
 HearsReply (Ok found) told now =
-    (given : List ℕ) × (turns : ℕ) × (quiets : ℕ) × Heard given turns quiets told now
-    × (turns ≤ most_turns) × (quiets < most_quiets) × Cuts given found.0.serial found.0.payload.items found.1
+    (given : List ℕ) × (turns : ℕ) × (quiets : ℕ) × Heard 0 given turns quiets told now
+    × (turns ≤ most_turns) × (quiets < most_quiets)
+    × Cuts given found.0.serial found.0.payload.items found.1
 HearsReply (Err e) told now =
-    (given : List ℕ) × (turns : ℕ) × (quiets : ℕ) × Heard given turns quiets told now × HeardFor e turns quiets
+    (given : List ℕ) × (turns : ℕ) × (quiets : ℕ) × Heard (finds e) given turns quiets told now
+    × HeardFor e turns quiets
     × IsUnheard e given told now

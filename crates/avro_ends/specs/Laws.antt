@@ -29,12 +29,16 @@ statuses_of (x ∷ done) = told_of x.verdict ++ statuses_of done
 
 -- The messages that were answered and their verdicts have this dialogue.
 abbrev pub IsOneDialogue : {S : Type 0} → (S → List Content → Verdict → S → Type 0) → Type 0
-IsOneDialogue {S} Takes = (greeted after : Bool) (old new : S) (done : List Exchange) → Exchanges Takes greeted old done after new → IsDialogue greeted (messages_of done) (statuses_of done) (replies_of done) (Waits after)
+IsOneDialogue {S} Takes = (greeted after : Bool) (old new : S) (done : List Exchange)
+    → Exchanges Takes greeted old done after new → IsDialogue greeted (messages_of done)
+    (statuses_of done) (replies_of done) (Waits after)
 
 -- What a link gave is cut into these messages.
 abbrev pub CutsIntoMessages : Type 0
-CutsIntoMessages = (front rest : List ℕ) (done : List Exchange) → ArePacks front done → IsPart rest → IsCut (front ++ rest) (messages_of done) (Holds rest)
+CutsIntoMessages = (front rest : List ℕ) (done : List Exchange) → ArePacks front done → IsPart rest
+    → IsCut (front ++ rest) (messages_of done) (Holds rest)
 
 -- What it took are the packs of the dialogue's replies.
 abbrev pub SendsReplies : Type 0
-SendsReplies = (done : List Exchange) → texts done ≡ flat_map (λ (r : ℕ × List ℕ). pack r.0 (r.1 ∷ [])) (replies_of done)
+SendsReplies = (done : List Exchange) → texts done ≡ flat_map
+    (λ (r : ℕ × List ℕ). pack r.0 (r.1 ∷ [])) (replies_of done)

@@ -7,11 +7,10 @@ ghost use Rattle.avro_ends.specs.Deliveries.{Answered, Exchanged, Judges, reques
 use crate::attempt::{Attempt, Decision};
 use crate::hear::hear;
 use crate::refused::DeliverRefused;
-use crate::write::write_all;
 use avro_frame::{MAX_BYTES, begin_pack, end_pack};
 use avro_hop::{Status, add_asking, read_reply};
 use event_core::{Batch, NoMemory};
-use flume_host::Link;
+use flume_host::{Link, write_all};
 use std::alloc::Global;
 
 // The pack of a request, with no copy of its payload. One that fits no pack is want of memory.
@@ -65,7 +64,8 @@ fn answer_to<L: Link>(
     serial: u32,
 ) -> Result<bool, DeliverRefused>
     ensures answered { Answered first serial result (L.told link.old) (L.told link.new) }
-    ensures fault { IsErrOf result DeliverRefused.LinkFault → Rose (L.faults link.old) (L.faults link.new) }
+    ensures fault { IsErrOf result DeliverRefused.LinkFault → Rose (L.faults link.old)
+        (L.faults link.new) }
 {
     let (message, more) = match hear(alloc, link) {
         Ok(heard) => heard,
@@ -85,8 +85,10 @@ pub fn exchange<L: Link>(
     first: bool,
     serial: u32,
 ) -> Result<bool, DeliverRefused>
-    ensures exchanged { Exchanged request.now first serial result (L.told link.old) (L.told link.new) }
-    ensures fault { IsErrOf result DeliverRefused.LinkFault → Rose (L.faults link.old) (L.faults link.new) }
+    ensures exchanged { Exchanged request.now first serial result (L.told link.old)
+        (L.told link.new) }
+    ensures fault { IsErrOf result DeliverRefused.LinkFault → Rose (L.faults link.old)
+        (L.faults link.new) }
 {
     match write_all(link, request) {
         Ok(()) => match answer_to(alloc, link, first, serial) {

@@ -22,10 +22,12 @@ pub enum Piece {
 }
 
 // Puts what was read behind what came of the reply before.
+#[tactic(auto, using(crate::proofs::Listening::opened_is))]
 fn cut_piece(packs: &mut Packs, piece: &[u8]) -> Result<Piece, DeliverRefused>
     requires some { 0 < length piece.now }
-    requires opened { IsOpen packs.old }
-    ensures { CutsPiece (held_in packs.old ++ piece.now) result packs.new }
+    requires opened { IsOpen packs.old.packing }
+    requires room { length piece.now ≤ packs.old.room }
+    ensures { CutsPiece (held_in packs.old.packing ++ piece.now) result packs.new.packing }
 {
     no_pack_within();
     match packs.feed(piece) {
@@ -36,20 +38,26 @@ fn cut_piece(packs: &mut Packs, piece: &[u8]) -> Result<Piece, DeliverRefused>
         Ok((_, None)) => Ok(Piece::Part),
         Err(PackRefused::TooMany { .. }) => Err(DeliverRefused::BadReply { at: 0 }),
         Err(PackRefused::TooLarge { .. }) => Err(DeliverRefused::BadReply { at: 0 }),
-        Err(PackRefused::NoMemory) => Err(DeliverRefused::NoMemory),
+        // room was made for the piece
+        Err(PackRefused::NoMemory) => unreachable!(),
     }
 }
 
 // How many bytes are read at once.
 const PIECE: usize = 4096;
 
-// Reads once.
+// Reads once. Room for what comes is made before, so that no reply is heard for which there is no memory.
 fn hear_turn<L: Link>(link: &mut L, packs: &mut Packs) -> Result<Piece, DeliverRefused>
-    requires { IsOpen packs.old }
-    ensures hears { HearsTurn (held_in packs.old) result packs.new (L.told link.old) (L.told link.new) }
-    ensures fault { IsErrOf result DeliverRefused.LinkFault → Rose (L.faults link.old) (L.faults link.new) }
+    requires { IsOpen packs.old.packing }
+    ensures hears { HearsTurn (held_in packs.old.packing) result packs.new.packing
+        (L.told link.old) (L.told link.new) }
+    ensures fault { IsErrOf result DeliverRefused.LinkFault → Rose (L.faults link.old)
+        (L.faults link.new) }
     ensures well { OnOk result (L.faults link.new ≡ L.faults link.old) }
 {
+    let Ok(()) = packs.make_room(PIECE) else {
+        return Err(DeliverRefused::NoMemory);
+    };
     let mut buf = [0u8; PIECE];
     match link.read(&mut buf) {
         Ok(LinkRead::Got(n)) => match cut_piece(packs, &buf[..n]) {
@@ -62,16 +70,17 @@ fn hear_turn<L: Link>(link: &mut L, packs: &mut Packs) -> Result<Piece, DeliverR
     }
 }
 
-/// The most turns of a delivery.
-pub const TURNS: u64 = 1 << 40;
+// The most turns of a delivery.
+const TURNS: u64 = 1 << 40;
 
-/// The most quiet reads of a delivery.
-pub const QUIETS: u32 = 100;
+// The most quiet reads of a delivery.
+const QUIETS: u32 = 100;
 
 // Reads a whole pack, and tells whether bytes stand behind it.
 pub fn hear<L: Link>(alloc: Global, link: &mut L) -> Result<(Message, bool), DeliverRefused>
     ensures hears { HearsReply result (L.told link.old) (L.told link.new) }
-    ensures fault { IsErrOf result DeliverRefused.LinkFault → Rose (L.faults link.old) (L.faults link.new) }
+    ensures fault { IsErrOf result DeliverRefused.LinkFault → Rose (L.faults link.old)
+        (L.faults link.new) }
 {
     let mut packs = Packs::new(alloc);
     let mut turns = 0;

@@ -9,7 +9,9 @@ use source_put::Intake;
 
 /// A session's messages, verdicts and replies are one dialogue of a connection.
 pub fn one_session<F: PutFace + Drop, B: Interceptor>(intake: &Intake<F, B>)
-    ensures dialogue { IsOneDialogue (TakesBatch (Puts F.own F.saw F.seen F.kept) intake.now.selector B.intercepts intake.now.host) }
+    ensures dialogue { IsOneDialogue
+        (TakesBatch (Puts F.own F.saw F.seen F.kept) intake.now.selector B.intercepts
+        intake.now.host) }
 {}
 
 /// The bytes of a session are cut into its messages, and its replies are packs.

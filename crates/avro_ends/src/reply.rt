@@ -30,7 +30,8 @@ pub fn answered(
     status: Status,
 ) -> Result<Vec<u8>, NoMemory>
     requires { length front.now ≤ 531 }
-    ensures { IfOk result (λ bytes. bytes.items ≡ pack serial ((front.now ++ response status) ∷ [])) }
+    ensures { IfOk result
+        (λ bytes. bytes.items ≡ pack serial ((front.now ++ response status) ∷ [])) }
 {
     let Ok(mut payload) = front.to_vec(alloc) else {
         return Err(NoMemory);

@@ -1,23 +1,23 @@
 // One session of Avro messages on a link.
 ghost use Rattle.std.specs.Prelude.{◌≡◌, ◌<◌, ◌≤◌, ◌*◌, ◌^◌, ◌++◌, ◌∷◌, [], List, ℕ, Bool, Option, None, Some, length, take, IfOk, OnOk, OnErr, IfErr, IsErrOf, Err, Ok, true, false, ◌⊎◌};
-ghost use Rattle.flume_host.specs.Causes.{Rose};
+ghost use Rattle.flume_host.specs.Causes.{RisesWhere};
 ghost use Rattle.flume_host.specs.Told.{Tells};
 ghost use Rattle.flume_host.specs.Links.{Talks};
 ghost use Rattle.source_put.specs.Tries.{Puts};
 ghost use Rattle.avro_frame.specs.Pack.{IsPack, IsPart, max_bytes};
 ghost use Rattle.avro_frame.specs.Feed.{Holds};
 ghost use Rattle.avro_hop.specs.Dialogue.{Answers};
-ghost use Rattle.avro_ends.specs.Exchanges.{TakesBatch, into, status_of};
+ghost use Rattle.avro_ends.specs.Exchanges.{TakesBatch, status_of};
+ghost use Rattle.source_put.specs.Into.{into_of};
 ghost use Rattle.avro_ends.specs.Messages.{ServesEvents, ServesMessage};
-ghost use Rattle.avro_ends.specs.Sessions.{Breaks, Goes, Served, IsOfTurn, IsOpen, IsTurnsOf, held_in};
+ghost use Rattle.avro_ends.specs.Sessions.{Breaks, Goes, Served, IsOpen, IsTurnsOf, held_in};
 
 use crate::reply::{answered, packed, status_of};
-use crate::write::write_all;
 use avro_frame::{Message, PackRefused, Packs, no_pack_within};
 use avro_hop::{Asked, Hop, HopRefused, Status};
 use channel_face::PutFace;
 use event_core::Batch;
-use flume_host::{Clock, Halt, Link, LinkRead};
+use flume_host::{Clock, Halt, Link, LinkRead, write_all};
 use plug_in::Interceptor;
 use source_put::Intake;
 use std::alloc::Global;
@@ -57,15 +57,18 @@ fn serve_events<L: Link, F: PutFace + Drop, B: Interceptor, C: Clock>(
 ) -> Result<(), AvroEnd>
     requires few { length batch < 2 ^ 32 }
     requires front { length front.now ≤ 531 }
-    ensures kind { IfErr result IsOfTurn }
+    ensures turn { ¬ IsErrOf result AvroEnd.Turns }
     ensures end { ¬ IsErrOf result AvroEnd.End }
     ensures stop { ¬ IsErrOf result AvroEnd.Stopped }
-    ensures serves { ServesEvents (TakesBatch (Puts F.own F.saw F.seen F.kept) intake.old.selector B.intercepts intake.old.host)
-        (into intake.old (C.moments clock.old)) (into intake.new (C.moments clock.new)) (L.told link.old) (L.told link.new) serial front.now batch result }
-    ensures fault { IsErrOf result AvroEnd.LinkFault → Rose (L.faults link.old) (L.faults link.new) }
-    ensures later { L.faults link.old ≤ L.faults link.new }
-    ensures well { OnOk result (L.faults link.new ≡ L.faults link.old) }
-    ensures same { (intake.new.selector ≡ intake.old.selector) × (intake.new.host ≡ intake.old.host) }
+    ensures serves { ServesEvents
+        (TakesBatch (Puts F.own F.saw F.seen F.kept) intake.old.selector B.intercepts
+        intake.old.host)
+        (into_of intake.old (C.moments clock.old)) (into_of intake.new (C.moments clock.new))
+        (L.told link.old) (L.told link.new) serial front.now batch result }
+    ensures fault { RisesWhere (IsErrOf result AvroEnd.LinkFault) (L.faults link.old)
+        (L.faults link.new) }
+    ensures same { (intake.new.selector ≡ intake.old.selector)
+        × (intake.new.host ≡ intake.old.host) }
 {
     let Ok(taken) = answered(alloc, serial, front, Status::Ok) else {
         return Err(AvroEnd::NoMemory);
@@ -96,15 +99,19 @@ fn serve_message<L: Link, F: PutFace + Drop, B: Interceptor, C: Clock>(
     message: Message,
 ) -> Result<(), AvroEnd>
     requires { length message.payload.items ≤ max_bytes }
-    ensures kind { IfErr result IsOfTurn }
+    ensures turn { ¬ IsErrOf result AvroEnd.Turns }
     ensures end { ¬ IsErrOf result AvroEnd.End }
     ensures stop { ¬ IsErrOf result AvroEnd.Stopped }
-    ensures serves { ServesMessage (TakesBatch (Puts F.own F.saw F.seen F.kept) intake.old.selector B.intercepts intake.old.host)
-        (into intake.old (C.moments clock.old)) (into intake.new (C.moments clock.new)) (L.told link.old) (L.told link.new) hop.old hop.new message.serial message.payload.items result }
-    ensures fault { IsErrOf result AvroEnd.LinkFault → Rose (L.faults link.old) (L.faults link.new) }
-    ensures later { L.faults link.old ≤ L.faults link.new }
-    ensures well { OnOk result (L.faults link.new ≡ L.faults link.old) }
-    ensures same { (intake.new.selector ≡ intake.old.selector) × (intake.new.host ≡ intake.old.host) }
+    ensures serves { ServesMessage
+        (TakesBatch (Puts F.own F.saw F.seen F.kept) intake.old.selector B.intercepts
+        intake.old.host)
+        (into_of intake.old (C.moments clock.old)) (into_of intake.new (C.moments clock.new))
+        (L.told link.old) (L.told link.new) hop.old hop.new message.serial message.payload.items
+        result }
+    ensures fault { RisesWhere (IsErrOf result AvroEnd.LinkFault) (L.faults link.old)
+        (L.faults link.new) }
+    ensures same { (intake.new.selector ≡ intake.old.selector)
+        × (intake.new.host ≡ intake.old.host) }
 {
     match hop.answer(message.payload.as_slice()) {
         Ok(Asked::Reply(payload)) => {
@@ -147,20 +154,27 @@ fn serve_next<L: Link, F: PutFace + Drop, B: Interceptor, C: Clock>(
     rest: &[u8],
 ) -> Result<usize, AvroEnd>
     requires some { 0 < length rest.now }
-    requires open { IsOpen packs.old }
+    requires open { IsOpen packs.old.packing }
     ensures n { IfOk result (λ n. (1 ≤ n) × (n ≤ length rest.now)) }
-    ensures open { OnOk result (IsOpen packs.new) }
-    ensures goes { IfOk result (λ n. Goes (TakesBatch (Puts F.own F.saw F.seen F.kept) intake.old.selector B.intercepts intake.old.host)
-        (into intake.old (C.moments clock.old)) (into intake.new (C.moments clock.new)) (L.told link.old) (L.told link.new) hop.old hop.new (held_in packs.old) (take n rest.now) (held_in packs.new) [] 0) }
-    ensures breaks { IfErr result (Breaks (TakesBatch (Puts F.own F.saw F.seen F.kept) intake.old.selector B.intercepts intake.old.host)
-        (into intake.old (C.moments clock.old)) (into intake.new (C.moments clock.new)) (L.told link.old) (L.told link.new) hop.old (held_in packs.old) rest.now [] 0) }
-    ensures kind { IfErr result IsOfTurn }
+    ensures open { OnOk result (IsOpen packs.new.packing) }
+    ensures goes { IfOk result
+        (λ n. Goes (TakesBatch (Puts F.own F.saw F.seen F.kept) intake.old.selector B.intercepts
+        intake.old.host)
+        (into_of intake.old (C.moments clock.old)) (into_of intake.new (C.moments clock.new))
+        (L.told link.old) (L.told link.new) hop.old hop.new (held_in packs.old.packing)
+        (take n rest.now) (held_in packs.new.packing) [] 0) }
+    ensures breaks { IfErr result
+        (Breaks (TakesBatch (Puts F.own F.saw F.seen F.kept) intake.old.selector B.intercepts
+        intake.old.host)
+        (into_of intake.old (C.moments clock.old)) (into_of intake.new (C.moments clock.new))
+        (L.told link.old) (L.told link.new) hop.old (held_in packs.old.packing) rest.now [] 0) }
+    ensures turn { ¬ IsErrOf result AvroEnd.Turns }
     ensures end { ¬ IsErrOf result AvroEnd.End }
     ensures stop { ¬ IsErrOf result AvroEnd.Stopped }
-    ensures fault { IsErrOf result AvroEnd.LinkFault → Rose (L.faults link.old) (L.faults link.new) }
-    ensures later { L.faults link.old ≤ L.faults link.new }
-    ensures well { OnOk result (L.faults link.new ≡ L.faults link.old) }
-    ensures same { (intake.new.selector ≡ intake.old.selector) × (intake.new.host ≡ intake.old.host) }
+    ensures fault { RisesWhere (IsErrOf result AvroEnd.LinkFault) (L.faults link.old)
+        (L.faults link.new) }
+    ensures same { (intake.new.selector ≡ intake.old.selector)
+        × (intake.new.host ≡ intake.old.host) }
 {
     no_pack_within();
     match packs.feed(rest) {
@@ -188,22 +202,26 @@ fn serve_piece<L: Link, F: PutFace + Drop, B: Interceptor, C: Clock, H: Halt>(
     hop: &mut Hop,
     piece: &[u8],
 ) -> Result<(), AvroEnd>
-    requires { IsOpen packs.old }
-    ensures open { OnOk result (IsOpen packs.new) }
-    ensures goes { OnOk result (Goes (TakesBatch (Puts F.own F.saw F.seen F.kept) intake.old.selector B.intercepts intake.old.host)
-        (into intake.old (C.moments clock.old)) (into intake.new (C.moments clock.new))
-        (L.told link.old) (L.told link.new) hop.old hop.new (held_in packs.old) piece.now (held_in packs.new) [] 0) }
-    ensures breaks { IfErr result (Breaks (TakesBatch (Puts F.own F.saw F.seen F.kept) intake.old.selector B.intercepts intake.old.host)
-        (into intake.old (C.moments clock.old)) (into intake.new (C.moments clock.new))
-        (L.told link.old) (L.told link.new) hop.old (held_in packs.old) piece.now [] 0) }
-    ensures kind { IfErr result IsOfTurn }
+    requires { IsOpen packs.old.packing }
+    ensures open { OnOk result (IsOpen packs.new.packing) }
+    ensures goes { OnOk result
+        (Goes (TakesBatch (Puts F.own F.saw F.seen F.kept) intake.old.selector B.intercepts
+        intake.old.host)
+        (into_of intake.old (C.moments clock.old)) (into_of intake.new (C.moments clock.new))
+        (L.told link.old) (L.told link.new) hop.old hop.new (held_in packs.old.packing) piece.now
+        (held_in packs.new.packing) [] 0) }
+    ensures breaks { IfErr result
+        (Breaks (TakesBatch (Puts F.own F.saw F.seen F.kept) intake.old.selector B.intercepts
+        intake.old.host)
+        (into_of intake.old (C.moments clock.old)) (into_of intake.new (C.moments clock.new))
+        (L.told link.old) (L.told link.new) hop.old (held_in packs.old.packing) piece.now [] 0) }
+    ensures turn { ¬ IsErrOf result AvroEnd.Turns }
     ensures end { ¬ IsErrOf result AvroEnd.End }
-    ensures fault { IsErrOf result AvroEnd.LinkFault → Rose (L.faults link.old) (L.faults link.new) }
-    ensures stop { IsErrOf result AvroEnd.Stopped → Rose (H.yes halt.old) (H.yes halt.new) }
-    ensures later { L.faults link.old ≤ L.faults link.new }
-    ensures halts { H.yes halt.old ≤ H.yes halt.new }
-    ensures well { OnOk result (L.faults link.new ≡ L.faults link.old) }
-    ensures same { (intake.new.selector ≡ intake.old.selector) × (intake.new.host ≡ intake.old.host) }
+    ensures fault { RisesWhere (IsErrOf result AvroEnd.LinkFault) (L.faults link.old)
+        (L.faults link.new) }
+    ensures stop { RisesWhere (IsErrOf result AvroEnd.Stopped) (H.yes halt.old) (H.yes halt.new) }
+    ensures same { (intake.new.selector ≡ intake.old.selector)
+        × (intake.new.host ≡ intake.old.host) }
 {
     let mut at = 0;
     while at < piece.len() {
@@ -231,21 +249,28 @@ fn serve_turn<L: Link, F: PutFace + Drop, B: Interceptor, C: Clock, H: Halt>(
     packs: &mut Packs,
     hop: &mut Hop,
 ) -> Result<(), AvroEnd>
-    requires { IsOpen packs.old }
-    ensures open { OnOk result (IsOpen packs.new) }
-    ensures goes { OnOk result ((bytes : List ℕ) × Goes (TakesBatch (Puts F.own F.saw F.seen F.kept) intake.old.selector B.intercepts intake.old.host)
-        (into intake.old (C.moments clock.old)) (into intake.new (C.moments clock.new))
-        (L.told link.old) (L.told link.new) hop.old hop.new (held_in packs.old) bytes (held_in packs.new) bytes 1) }
-    ensures breaks { IfErr result (λ end. (bytes : List ℕ) × (turns : ℕ) × IsTurnsOf end turns × Breaks (TakesBatch (Puts F.own F.saw F.seen F.kept) intake.old.selector B.intercepts intake.old.host)
-        (into intake.old (C.moments clock.old)) (into intake.new (C.moments clock.new))
-        (L.told link.old) (L.told link.new) hop.old (held_in packs.old) bytes bytes turns end) }
-    ensures kind { IfErr result IsOfTurn }
-    ensures fault { IsErrOf result AvroEnd.LinkFault → Rose (L.faults link.old) (L.faults link.new) }
-    ensures stop { IsErrOf result AvroEnd.Stopped → Rose (H.yes halt.old) (H.yes halt.new) }
-    ensures later { L.faults link.old ≤ L.faults link.new }
-    ensures halts { H.yes halt.old ≤ H.yes halt.new }
-    ensures well { OnOk result (L.faults link.new ≡ L.faults link.old) }
-    ensures same { (intake.new.selector ≡ intake.old.selector) × (intake.new.host ≡ intake.old.host) }
+    requires { IsOpen packs.old.packing }
+    ensures open { OnOk result (IsOpen packs.new.packing) }
+    ensures goes { OnOk result
+        ((bytes : List ℕ) × Goes
+        (TakesBatch (Puts F.own F.saw F.seen F.kept) intake.old.selector B.intercepts
+        intake.old.host)
+        (into_of intake.old (C.moments clock.old)) (into_of intake.new (C.moments clock.new))
+        (L.told link.old) (L.told link.new) hop.old hop.new (held_in packs.old.packing) bytes
+        (held_in packs.new.packing) bytes 1) }
+    ensures breaks { IfErr result
+        (λ end. (bytes : List ℕ) × (turns : ℕ) × IsTurnsOf end turns
+        × Breaks (TakesBatch (Puts F.own F.saw F.seen F.kept) intake.old.selector B.intercepts
+        intake.old.host)
+        (into_of intake.old (C.moments clock.old)) (into_of intake.new (C.moments clock.new))
+        (L.told link.old) (L.told link.new) hop.old (held_in packs.old.packing) bytes bytes turns
+        end) }
+    ensures turn { ¬ IsErrOf result AvroEnd.Turns }
+    ensures fault { RisesWhere (IsErrOf result AvroEnd.LinkFault) (L.faults link.old)
+        (L.faults link.new) }
+    ensures stop { RisesWhere (IsErrOf result AvroEnd.Stopped) (H.yes halt.old) (H.yes halt.new) }
+    ensures same { (intake.new.selector ≡ intake.old.selector)
+        × (intake.new.host ≡ intake.old.host) }
 {
     if halt.asked() {
         return Err(AvroEnd::Stopped);
@@ -264,8 +289,8 @@ fn serve_turn<L: Link, F: PutFace + Drop, B: Interceptor, C: Clock, H: Halt>(
     }
 }
 
-/// The most turns of a session.
-pub const TURNS: u64 = 1 << 40;
+// The most turns of a session.
+const TURNS: u64 = 1 << 40;
 
 // Serves a new connection until the link ends or something ends the session.
 fn serve_until<L: Link, F: PutFace + Drop, B: Interceptor, C: Clock, H: Halt>(
@@ -277,16 +302,18 @@ fn serve_until<L: Link, F: PutFace + Drop, B: Interceptor, C: Clock, H: Halt>(
     packs: &mut Packs,
     hop: &mut Hop,
 ) -> AvroEnd
-    requires packs { packs.old ≡ Holds [] }
+    requires packs { packs.old.packing ≡ Holds [] }
     requires hop { hop.old ≡ false }
-    ensures served { Served (TakesBatch (Puts F.own F.saw F.seen F.kept) intake.old.selector B.intercepts intake.old.host)
-        (into intake.old (C.moments clock.old)) (into intake.new (C.moments clock.new))
+    ensures served { Served
+        (TakesBatch (Puts F.own F.saw F.seen F.kept) intake.old.selector B.intercepts
+        intake.old.host)
+        (into_of intake.old (C.moments clock.old)) (into_of intake.new (C.moments clock.new))
         (L.told link.old) (L.told link.new) result }
-    ensures fault { result ≡ AvroEnd.LinkFault → Rose (L.faults link.old) (L.faults link.new) }
-    ensures stop { result ≡ AvroEnd.Stopped → Rose (H.yes halt.old) (H.yes halt.new) }
-    ensures later { L.faults link.old ≤ L.faults link.new }
-    ensures halts { H.yes halt.old ≤ H.yes halt.new }
-    ensures same { (intake.new.selector ≡ intake.old.selector) × (intake.new.host ≡ intake.old.host) }
+    ensures fault { RisesWhere (result ≡ AvroEnd.LinkFault) (L.faults link.old)
+        (L.faults link.new) }
+    ensures stop { RisesWhere (result ≡ AvroEnd.Stopped) (H.yes halt.old) (H.yes halt.new) }
+    ensures same { (intake.new.selector ≡ intake.old.selector)
+        × (intake.new.host ≡ intake.old.host) }
 {
     let mut turns = 0;
     while turns < TURNS {
@@ -308,15 +335,18 @@ pub fn serve_avro<L: Link, F: PutFace + Drop, B: Interceptor, C: Clock, H: Halt>
     clock: &mut C,
     halt: &mut H,
 ) -> AvroEnd
-    ensures served { Served (TakesBatch (Puts F.own F.saw F.seen F.kept) intake.old.selector B.intercepts intake.old.host)
-        (into intake.old (C.moments clock.old)) (into intake.new (C.moments clock.new))
+    ensures served { Served
+        (TakesBatch (Puts F.own F.saw F.seen F.kept) intake.old.selector B.intercepts
+        intake.old.host)
+        (into_of intake.old (C.moments clock.old)) (into_of intake.new (C.moments clock.new))
         (L.told link.old) (L.told link.new) result
-        ⊎ ((result ≡ AvroEnd.NoMemory) × (L.told link.new ≡ L.told link.old) × (intake.new ≡ intake.old) × (C.moments clock.new ≡ C.moments clock.old)) }
-    ensures fault { result ≡ AvroEnd.LinkFault → Rose (L.faults link.old) (L.faults link.new) }
-    ensures stop { result ≡ AvroEnd.Stopped → Rose (H.yes halt.old) (H.yes halt.new) }
-    ensures later { L.faults link.old ≤ L.faults link.new }
-    ensures halts { H.yes halt.old ≤ H.yes halt.new }
-    ensures same { (intake.new.selector ≡ intake.old.selector) × (intake.new.host ≡ intake.old.host) }
+        ⊎ ((result ≡ AvroEnd.NoMemory) × (L.told link.new ≡ L.told link.old)
+        × (intake.new ≡ intake.old) × (C.moments clock.new ≡ C.moments clock.old)) }
+    ensures fault { RisesWhere (result ≡ AvroEnd.LinkFault) (L.faults link.old)
+        (L.faults link.new) }
+    ensures stop { RisesWhere (result ≡ AvroEnd.Stopped) (H.yes halt.old) (H.yes halt.new) }
+    ensures same { (intake.new.selector ≡ intake.old.selector)
+        × (intake.new.host ≡ intake.old.host) }
 {
     let Ok(mut hop) = Hop::new(alloc) else {
         return AvroEnd::NoMemory;

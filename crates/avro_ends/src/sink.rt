@@ -1,9 +1,9 @@
 // A sink that hands batches on to another agent.
-ghost use Rattle.std.specs.Prelude.{◌≡◌, ◌+◌, ◌≤◌, ◌<◌, Some, None, Ok, Err, IsOkAnd, MatchResult};
+ghost use Rattle.std.specs.Prelude.{◌≡◌, ◌+◌, ◌≤◌, ◌<◌, Some, None, Ok, Err, IsOkAnd, OnOk, MatchResult};
 ghost use Rattle.flume_host.specs.Causes.{Rose};
-ghost use Rattle.flume_host.specs.Listens.{IsSettled, gave_one, kept_in, refused_link};
+ghost use Rattle.flume_host.specs.Listens.{IsOwed, IsSettled, gave_one, kept_in, refused_link};
 ghost use Rattle.plug_in.specs.Sinks.{IsRefused};
-ghost use Rattle.avro_ends.specs.Deliveries.{Back, Connects, Delivers, IsOut, Leaves, Outlet, Shuts, Stands, Stands-prop, last_of, said, sink_answer, stays};
+ghost use Rattle.avro_ends.specs.Deliveries.{Back, Connects, Delivers, HasBack, IsOut, Leaves, SinkLinks, Shuts, Stands, Stands-prop, last_of, said, sink_answer, stays};
 
 use crate::dials::Dials;
 use crate::exchange::{exchange, request_of};
@@ -25,11 +25,14 @@ fn last_of<L>(opened: &Option<Open<L>>) -> u32
 }
 
 // Gives the open link back.
-#[tactic(auto, using(crate::proofs::Delivering::owed_out, crate::proofs::Delivering::settled_back, crate::proofs::Delivering::settled_refused, crate::proofs::Delivering::dialled_out))]
+#[tactic(auto, using(crate::proofs::Delivering::settled_back, crate::proofs::Delivering::settled_refused, crate::proofs::Delivering::dialled_out))]
 fn shut<L: Link + Drop, D: Dials<L>>(dialer: &mut D, opened: &mut Option<Open<L>>)
     requires { Stands (D.told dialer.old) opened.old }
-    ensures shuts { Shuts D.told D.faults L.told L.faults dialer.old opened.old (record { dialer = dialer.new; opened = opened.new }) }
-    ensures stands { Stands (D.told dialer.new) opened.new }
+    ensures shuts { Shuts D.told D.faults L.told L.faults dialer.old opened.old
+        (record { dialer = dialer.new; opened = opened.new }) }
+    ensures none { opened.new ≡ None }
+    ensures back { HasBack (D.told dialer.old) opened.old → IsSettled (D.told dialer.new) }
+    ensures endpoint { D.endpoint dialer.new ≡ D.endpoint dialer.old }
 {
     if let Some(open) = opened.take() {
         dialer.take_back(open.link);
@@ -37,16 +40,21 @@ fn shut<L: Link + Drop, D: Dials<L>>(dialer: &mut D, opened: &mut Option<Open<L>
 }
 
 // The open link, or a new one.
-#[tactic(auto, using(crate::proofs::Delivering::owed_out, crate::proofs::Delivering::settled_back, crate::proofs::Delivering::settled_refused, crate::proofs::Delivering::dialled_out))]
+#[tactic(auto, using(crate::proofs::Delivering::settled_back, crate::proofs::Delivering::settled_refused, crate::proofs::Delivering::dialled_out))]
 fn connect<L: Link + Drop, D: Dials<L>>(
     dialer: &mut D,
     opened: &mut Option<Open<L>>,
 ) -> Result<L, Failed>
     requires { Stands (D.told dialer.old) opened.old }
-    ensures link { MatchResult result (λ link. Connects D.told D.faults L.told L.faults dialer.old opened.old link dialer.new)
-        (λ _. (opened.old ≡ None) × (D.told dialer.new ≡ refused_link (D.told dialer.old)) × Rose (D.faults dialer.old) (D.faults dialer.new)) }
-    ensures out { MatchResult result (λ _. IsOut (D.told dialer.new)) (λ _. IsSettled (D.told dialer.new)) }
+    ensures link { MatchResult result
+        (λ link. Connects D.told D.faults L.told L.faults dialer.old opened.old link dialer.new)
+        (λ _. (opened.old ≡ None) × (D.told dialer.new ≡ refused_link (D.told dialer.old))
+        × Rose (D.faults dialer.old) (D.faults dialer.new)) }
+    ensures owed { OnOk result (IsOwed (D.told dialer.new)) }
+    ensures back { HasBack (D.told dialer.old) opened.old
+        → MatchResult result (λ _. IsOut (D.told dialer.new)) (λ _. IsSettled (D.told dialer.new)) }
     ensures none { opened.new ≡ None }
+    ensures endpoint { D.endpoint dialer.new ≡ D.endpoint dialer.old }
 {
     match opened.take() {
         Some(open) => Ok(open.link),
@@ -65,7 +73,7 @@ fn stays(answer: Result<bool, DeliverRefused>, serial: u32) -> bool
 }
 
 // Behind a request: the link stays open, or goes back.
-#[tactic(auto, using(crate::proofs::Delivering::owed_out, crate::proofs::Delivering::settled_back, crate::proofs::Delivering::settled_refused, crate::proofs::Delivering::dialled_out))]
+#[tactic(auto, using(crate::proofs::Delivering::settled_back, crate::proofs::Delivering::settled_refused, crate::proofs::Delivering::dialled_out))]
 fn leave<L: Link + Drop, D: Dials<L>>(
     dialer: &mut D,
     opened: &mut Option<Open<L>>,
@@ -73,10 +81,13 @@ fn leave<L: Link + Drop, D: Dials<L>>(
     serial: u32,
     answer: Result<bool, DeliverRefused>,
 )
-    requires out { IsOut (D.told dialer.old) }
+    requires owed { IsOwed (D.told dialer.old) }
     requires none { opened.old ≡ None }
-    ensures leaves { Leaves D.told D.faults L.told L.faults (stays answer serial) serial dialer.old link (record { dialer = dialer.new; opened = opened.new }) }
+    ensures leaves { Leaves D.told D.faults L.told L.faults (stays answer serial) serial dialer.old
+        link (record { dialer = dialer.new; opened = opened.new }) }
     ensures stands { Stands (D.told dialer.new) opened.new }
+    ensures back { IsOut (D.told dialer.old) → HasBack (D.told dialer.new) opened.new }
+    ensures endpoint { D.endpoint dialer.new ≡ D.endpoint dialer.old }
 {
     if stays(answer, serial) {
         *opened = Some(Open { link, serial });
@@ -102,8 +113,12 @@ fn deliver_by<L: Link + Drop, D: Dials<L>>(
     batch: &Batch,
 ) -> Result<(), DeliverRefused>
     requires { Stands (D.told dialer.old) opened.old }
-    ensures delivers { Delivers D.told D.faults L.told L.faults (record { dialer = dialer.old; opened = opened.old }) batch.now result (record { dialer = dialer.new; opened = opened.new }) }
+    ensures delivers { Delivers D.told D.faults L.told L.faults
+        (record { dialer = dialer.old; opened = opened.old }) batch.now result
+        (record { dialer = dialer.new; opened = opened.new }) }
     ensures stands { Stands (D.told dialer.new) opened.new }
+    ensures back { HasBack (D.told dialer.old) opened.old → HasBack (D.told dialer.new) opened.new }
+    ensures endpoint { D.endpoint dialer.new ≡ D.endpoint dialer.old }
 {
     let serial = last_of(opened) + 1;
     let Ok(request) = request_of(alloc, serial, batch) else {
@@ -154,8 +169,8 @@ pub struct AvroSink<D: Dialer + Drop> {
 impl<D: Dialer + Drop> AvroSink<D> {
     /// A sink that has no link yet. It takes no memory.
     pub fn new(alloc: Global, dialer: D) -> Result<AvroSink<D>, NoMemory>
-        requires { IsSettled (D.told dialer) }
-        ensures { IsOkAnd result (λ sink. (sink.dialer ≡ dialer) × (sink.opened ≡ None) × (sink.faults ≡ 0)) }
+        ensures { IsOkAnd result
+            (λ sink. (sink.dialer ≡ dialer) × (sink.opened ≡ None) × (sink.faults ≡ 0)) }
     {
         Ok(AvroSink {
             alloc,
@@ -167,19 +182,26 @@ impl<D: Dialer + Drop> AvroSink<D> {
 
     /// Delivers a batch. It is Ok exactly where the reply to its own request tells the status OK under the request's serial.
     pub fn deliver(&mut self, batch: &Batch) -> Result<(), DeliverRefused>
-        ensures delivers { Delivers D.told D.faults D.Link.told D.Link.faults (record { dialer = self.old.dialer; opened = self.old.opened }) batch.now result (record { dialer = self.new.dialer; opened = self.new.opened }) }
+        ensures delivers { Delivers D.told D.faults D.Link.told D.Link.faults
+            (record { dialer = self.old.dialer; opened = self.old.opened }) batch.now result
+            (record { dialer = self.new.dialer; opened = self.new.opened }) }
         ensures counted { IsRefused (sink_answer result) → Rose self.old.faults self.new.faults }
         ensures later { self.old.faults ≤ self.new.faults }
+        ensures back { HasBack (D.told self.old.dialer) self.old.opened
+            → HasBack (D.told self.new.dialer) self.new.opened }
+        ensures endpoint { D.endpoint self.new.dialer ≡ D.endpoint self.old.dialer }
     {
         let answer = deliver_by(self.alloc, &mut self.dialer, &mut self.opened, batch);
         self.faults = counted(self.faults, answer);
         answer
     }
 
-    /// Hands the dialer back, which has each link back that it gave.
+    /// Hands the dialer back, which has the open link back.
     pub fn close(self) -> D
-        ensures shuts { Shuts D.told D.faults D.Link.told D.Link.faults self.dialer self.opened (record { dialer = result; opened = None }) }
-        ensures settled { IsSettled (D.told result) }
+        ensures shuts { Shuts D.told D.faults D.Link.told D.Link.faults self.dialer self.opened
+            (record { dialer = result; opened = None }) }
+        ensures back { HasBack (D.told self.dialer) self.opened → IsSettled (D.told result) }
+        ensures endpoint { D.endpoint result ≡ D.endpoint self.dialer }
     {
         let AvroSink {
             alloc: _,
@@ -194,10 +216,13 @@ impl<D: Dialer + Drop> AvroSink<D> {
 
 impl<D: Dialer + Drop> EventSink for AvroSink<D> {
     ghost use Rattle.std.specs.Prelude.{◌≡◌, Result};
-    ghost use Rattle.avro_ends.specs.Deliveries.{Delivers, Outlet, sink_answer};
+    ghost use Rattle.avro_ends.specs.Deliveries.{Delivers, SinkLinks, sink_answer};
     ghost use Rattle.avro_ends.specs.declared.refused.DeliverRefused.{DeliverRefused};
 
-    ghost delivers = { λ s batch moment result t. (answer : Result (Unit {0}) DeliverRefused) × (result ≡ sink_answer answer) × Delivers D.told D.faults D.Link.told D.Link.faults (record { dialer = s.dialer; opened = s.opened }) batch answer (record { dialer = t.dialer; opened = t.opened }) };
+    ghost delivers = { λ s batch moment result t. (answer : Result (Unit {0}) DeliverRefused)
+        × (result ≡ sink_answer answer) × Delivers D.told D.faults D.Link.told D.Link.faults
+        (record { dialer = s.dialer; opened = s.opened }) batch answer
+        (record { dialer = t.dialer; opened = t.opened }) };
 
     ghost faults = { λ s. s.faults };
 

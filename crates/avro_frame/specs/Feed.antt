@@ -14,6 +14,11 @@ abbrev pub packing : Option PackRefused → List ℕ → Packing
 packing None bytes = Holds bytes
 packing (Some e) bytes = Failed e
 
+-- and how many bytes may be fed for which no memory is wanted
+pub record PackState : Type 0 where
+  pub packing : Packing
+  pub room : ℕ
+
 -- the bytes of the present pack, or of none
 abbrev pub Refuses : List ℕ → List ℕ → PackRefused → Packing → Type 0
 Refuses old piece (TooMany n) new = PassesCount (old ++ piece) n × (new ≡ Failed (TooMany n))

@@ -1,11 +1,11 @@
 // The walk over the numbers of one pack, as they come.
-ghost use Rattle.std.specs.Prelude.{◌≡◌, ℕ, ◌+◌, ◌≤◌, ◌<◌, ◌^◌, ◌++◌, List, length, take, drop, IfOk, IfSome, IsSomeAnd, vec_len, vec_capacity};
+ghost use Rattle.std.specs.Prelude.{◌≡◌, ℕ, ◌+◌, ◌≤◌, ◌<◌, ◌^◌, ◌++◌, [], List, length, take, drop, IfSome, IsSomeAnd, OnErr, OnOk, vec_len, vec_capacity};
 ghost use Rattle.std.specs.List.{flat_map};
 ghost use Rattle.avro_frame.specs.Pack.{u32_bytes, buffer, joined};
 ghost use Rattle.avro_frame.specs.Pending.{IsAt, IsBehind, InBuffers, Steps, Fills};
 
 use crate::packs::PackRefused;
-use std::alloc::{AllocError, Global};
+use std::alloc::AllocError;
 
 /// The most buffers of a pack.
 pub const MAX_BUFFERS: u32 = 65_536;
@@ -155,7 +155,7 @@ pub fn fill(held: &mut Vec<u8>, cursor: &mut Cursor, piece: &[u8]) -> (usize, St
 // The buffer at the front of the bytes, and what is behind it.
 fn first_buffer(bytes: &[u8]) -> Option<(&[u8], &[u8])>
     ensures found { (first : List ℕ) (rest : List ℕ) → length first < 2 ^ 32 → bytes.now ≡ buffer first ++ rest → IsSomeAnd result (λ found. (found.0.now ≡ first) × (found.1.now ≡ rest)) }
-    ensures shorter { IfSome result (λ found. length found.1.now < length bytes.now) }
+    ensures shorter { IfSome result (λ found. length found.0.now + length found.1.now < length bytes.now) }
 {
     if bytes.len() < 4 {
         return None;
@@ -168,15 +168,28 @@ fn first_buffer(bytes: &[u8]) -> Option<(&[u8], &[u8])>
     Some(rest.split_at(len))
 }
 
-/// The bytes of all buffers, one behind another.
-pub fn join(alloc: Global, bytes: &[u8], sum: usize) -> Result<Vec<u8>, AllocError>
-    ensures { (buffers : List (List ℕ)) → length (joined buffers) < 2 ^ 32 → bytes.now ≡ flat_map buffer buffers → IfOk result (λ v. v.items ≡ joined buffers) }
+/// Adds the bytes of all buffers, one behind another, for which room is there.
+pub fn join(bytes: &[u8], payload: &mut Vec<u8>)
+    requires none { payload.old.items ≡ [] }
+    requires room { length bytes.now ≤ vec_capacity payload.old }
+    ensures { (buffers : List (List ℕ)) → length (joined buffers) < 2 ^ 32 → bytes.now ≡ flat_map buffer buffers → payload.new.items ≡ joined buffers }
 {
-    let mut payload = Vec::with_capacity(alloc, sum)?;
     let mut rest = bytes;
     'buffers: while let Some((first, others)) = first_buffer(rest) {
-        payload.extend_from_slice(first)?;
+        put(payload, first);
         rest = others;
     }
-    Ok(payload)
+}
+
+/// Makes room for so many bytes more, where there is memory.
+pub fn make_room(bytes: &mut Vec<u8>, more: usize) -> Result<(), AllocError>
+    ensures same { bytes.new.items ≡ bytes.old.items }
+    ensures kept { vec_capacity bytes.old ≤ vec_capacity bytes.new }
+    ensures room { OnOk result (vec_len bytes.new + more ≤ vec_capacity bytes.new) }
+    ensures there { OnErr result (vec_capacity bytes.old < vec_len bytes.old + more) }
+{
+    if bytes.capacity() - bytes.len() >= more {
+        return Ok(());
+    }
+    bytes.reserve(more)
 }

@@ -5,3 +5,4 @@ pub mod OneFile
 pub mod Keeps
 pub mod Talking
 pub mod Settling
+pub mod Folders

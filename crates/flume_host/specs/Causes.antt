@@ -16,3 +16,9 @@ pub record Counts (before now own : ℕ) : Type 0 where
   pub later : before ≤ now
   pub clean : own ≡ 0 → now ≡ before
   pub raised : 1 ≤ own → Rose before now
+
+-- A count rose where this is so, and else is as before.
+pub record RisesWhere (P : Type 0) (before now : ℕ) : Type 0 where
+  pub later : before ≤ now
+  pub rose : P → Rose before now
+  pub same : (P → ⊥) → now ≡ before

@@ -4,15 +4,18 @@ use Rattle.std.specs.Prelude.{Option, Some, None, Result, Ok, Err, Bool, true, f
 use Rattle.std.specs.Option.{option_map}
 use Rattle.flume_host.specs.Causes.{Rose}
 use Rattle.flume_host.specs.Told.{Tells}
-use Rattle.flume_host.specs.Listens.{LinksTold, no_links}
+use Rattle.flume_host.specs.Listens.{Endpoint, LinksTold, no_links}
 use Rattle.flume_host.specs.declared.names.NameRefused.{NameRefused}
 use Rattle.flume_host.specs.declared.names.NameRefused.TheVariants.{Failed, NoMemory}
 
--- One that came back: a listener at this address and port, or a dialer of them, and what it told then.
+-- One that came back: a listener at this address and port, or a dialer of them, what it told then of its links, and how
+-- often it had waited and failed. A dialer waits for nobody.
 pub record CameBack : Type 0 where
   pub host : List ℕ
   pub port : ℕ
   pub told : Option LinksTold
+  pub waits : ℕ
+  pub faults : ℕ
 
 -- The listeners of a host, or its dialers.
 pub record HandedOut : Type 0 where
@@ -27,11 +30,11 @@ pub record GoesOut (host : List ℕ) (port : ℕ) (old new : HandedOut) : Type 0
   pub others : (h : List ℕ) (p : ℕ) → ((h ≡ host) × (p ≡ port) → ⊥) → new.out h p ≡ old.out h p
   pub back : new.back ≡ old.back
 
--- one of this address and port came back and told this
-pub record ComesBack (host : List ℕ) (port : ℕ) (told : Option LinksTold) (old new : HandedOut) : Type 0 where
-  pub fewer : old.out host port ≡ new.out host port + 1
-  pub others : (h : List ℕ) (p : ℕ) → ((h ≡ host) × (p ≡ port) → ⊥) → new.out h p ≡ old.out h p
-  pub back : new.back ≡ old.back ++ record { host = host; port = port; told = told } ∷ []
+-- this one came back
+pub record ComesBack (one : CameBack) (old new : HandedOut) : Type 0 where
+  pub fewer : old.out one.host one.port ≡ new.out one.host one.port + 1
+  pub others : (h : List ℕ) (p : ℕ) → ((h ≡ one.host) × (p ≡ one.port) → ⊥) → new.out h p ≡ old.out h p
+  pub back : new.back ≡ old.back ++ one ∷ []
 
 -- a call with this answer hands one out, or none where it is refused
 abbrev pub HandsOut : {T E : Type 0} → Result T E → List ℕ → ℕ → Option HandedOut → Option HandedOut → Type 0
@@ -39,12 +42,16 @@ HandsOut (Ok one) host port old new = Tells old new (GoesOut host port)
 HandsOut (Err refused) host port old new = new ≡ old
 
 -- one is taken back
-abbrev pub TakesBack : List ℕ → ℕ → Option LinksTold → Option HandedOut → Option HandedOut → Type 0
-TakesBack host port told old new = Tells old new (ComesBack host port told)
+abbrev pub TakesBack : CameBack → Option HandedOut → Option HandedOut → Type 0
+TakesBack one old new = Tells old new (ComesBack one)
 
 -- what is handed out tells, where the host tells of it, and gave no links yet
 abbrev pub fresh_links : Option HandedOut → Option LinksTold
 fresh_links told = option_map (λ (all : HandedOut). no_links) told
+
+-- and it knows its address and port
+abbrev pub endpoint_of : List ℕ → ℕ → Option HandedOut → Option Endpoint
+endpoint_of host port told = option_map (λ (all : HandedOut). record { host = host; port = port }) told
 
 -- one of this address and port is out, where the host tells of it
 abbrev pub IsOut : List ℕ → ℕ → Option HandedOut → Type 0

@@ -1,7 +1,9 @@
 -- What a host tells of itself.
-use Rattle.std.specs.Prelude.{◌≡◌, ◌<◌, ◌≤◌, ℕ, List, length, Option, Some}
+use Rattle.std.specs.Prelude.{◌≡◌, ◌≢◌, ◌<◌, ◌≤◌, ℕ, Bool, List, length, Option, Some}
 use Rattle.flume_host.specs.Causes.{Rose}
 use Rattle.flume_host.specs.HandedOut.{HandedOut}
+use Rattle.flume_host.specs.Told.{Told}
+use Rattle.flume_host.specs.Rolled.{Rolled}
 use Rattle.flume_host.specs.declared.names.FileRefused.{FileRefused}
 use Rattle.flume_host.specs.declared.names.FileRefused.TheVariants.{Failed, TooLarge, NoMemory}
 
@@ -19,8 +21,8 @@ pub record HostState : Type 0 where
   pub moments : Option (ℕ → ℕ)
   pub draws : Option (ℕ → ℕ)
   -- its listeners, and its dialers, where it tells of them
-  pub ears : Option HandedOut
-  pub calls : Option HandedOut
+  pub listeners : Option HandedOut
+  pub dialers : Option HandedOut
   -- the host's name and its address, as texts
   pub name : Option (List ℕ)
   pub address : Option (List ℕ)
@@ -29,11 +31,28 @@ pub record HostState : Type 0 where
   -- the faults of the disks that were given back
   pub disk_faults : ℕ
 
--- What is known by its path is as before, what was opened can still be given back, and no more was opened.
-pub record KeepsNamed {T : Type 0} (old new : List ℕ → Option T) (was is : List ℕ → Type 0) : Type 0 where
-  pub same : new ≡ old
-  pub rooms : (path : List ℕ) → was path → is path
-  pub no_more : (path : List ℕ) → is path → was path
+-- What the folders of a host tell, by their paths: None where the host does not tell of one, and while it is handed out.
+pub record Folders : Type 0 where
+  -- what the disk of a folder tells, and what a folder of rolled files tells
+  pub disks : List ℕ → Option Told
+  pub rolls : List ℕ → Option Rolled
+  -- one was opened, so it can be given back
+  pub disk_opened : List ℕ → Bool
+  pub roll_opened : List ℕ → Bool
+
+-- All is as before, but for the disk of this path.
+pub record ButDisk (path : List ℕ) (old new : Folders) : Type 0 where
+  pub disks : (p : List ℕ) → p ≢ path → new.disks p ≡ old.disks p
+  pub opened : (p : List ℕ) → p ≢ path → new.disk_opened p ≡ old.disk_opened p
+  pub rolls : new.rolls ≡ old.rolls
+  pub rolls_opened : new.roll_opened ≡ old.roll_opened
+
+-- All is as before, but for the rolled files of this path.
+pub record ButRoll (path : List ℕ) (old new : Folders) : Type 0 where
+  pub rolls : (p : List ℕ) → p ≢ path → new.rolls p ≡ old.rolls p
+  pub opened : (p : List ℕ) → p ≢ path → new.roll_opened p ≡ old.roll_opened p
+  pub disks : new.disks ≡ old.disks
+  pub disks_opened : new.disk_opened ≡ old.disk_opened
 
 -- the most bytes of a file that is read whole
 abbrev pub file_limit : ℕ

@@ -4,6 +4,16 @@ use Rattle.std.specs.Prelude.{Option, Some, None, Bool, true, false}
 use Rattle.std.specs.Option.{option_map}
 use Rattle.flume_host.specs.Links.{LinkTold, unused}
 
+-- an address as text, and a port
+pub record Endpoint : Type 0 where
+  pub host : List ℕ
+  pub port : ℕ
+
+-- it was handed out for this address and port, where it tells for which
+abbrev pub IsFrom : List ℕ → ℕ → Option Endpoint → Type 0
+IsFrom host port None = Unit {0}
+IsFrom host port (Some endpoint) = (endpoint.host ≡ host) × (endpoint.port ≡ port)
+
 pub record LinksTold : Type 0 where
   -- how many links it gave
   pub given : ℕ

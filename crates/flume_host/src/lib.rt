@@ -13,6 +13,7 @@ mod names;
 mod roll;
 mod steps;
 mod stream;
+mod write;
 
 pub use clock::{Clock, Random};
 pub use disk::Disk;
@@ -24,3 +25,4 @@ pub use names::{Failed, FileName, FileRefused, NameRefused, NoMemory};
 pub use roll::RollDir;
 pub use steps::Steps;
 pub use stream::{Sink, Source};
+pub use write::write_all;

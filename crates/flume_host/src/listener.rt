@@ -1,7 +1,7 @@
 // Who accepts links, and who dials them.
-ghost use Rattle.std.specs.Prelude.{◌≡◌, ◌≤◌, ℕ, Option, None, MatchOption, IfNone, IfOk, OnErr};
+ghost use Rattle.std.specs.Prelude.{◌≡◌, ◌≤◌, ℕ, Option, None, MatchOption, IfNone, IfOk, OnErr, OnOk};
 ghost use Rattle.flume_host.specs.Causes.{HasCause, Rose};
-ghost use Rattle.flume_host.specs.Listens.{LinksTold, IsOwed, fresh_from, gave_one, gave_none, kept_in, refused_link};
+ghost use Rattle.flume_host.specs.Listens.{Endpoint, LinksTold, IsOwed, fresh_from, gave_one, gave_none, kept_in, refused_link};
 
 use crate::{Failed, Link};
 
@@ -12,6 +12,9 @@ pub trait Listener {
 
     /// The links that it gave and took back, where it tells.
     ghost told: { Self → Option LinksTold };
+
+    /// The address and port for which a host handed it out, where it tells.
+    ghost endpoint: { Self → Option Endpoint };
 
     /// How often it has failed. The count stops at 2^64 - 1.
     ghost faults: { Self → ℕ };
@@ -24,15 +27,17 @@ pub trait Listener {
         ensures given { IfOk result (λ found. MatchOption found (told self.new ≡ gave_none (told self.old))
             (λ link. (told self.new ≡ gave_one (told self.old)) × (Self.Link.told link ≡ fresh_from (told self.old)))) }
         ensures refused { OnErr result (told self.new ≡ refused_link (told self.old)) }
+        ensures owed { IfOk result (λ found. MatchOption found (Unit {0}) (λ _. IsOwed (told self.new))) }
         ensures waited { IfOk result (λ found. IfNone found (Rose (waits self.old) (waits self.new))) }
         ensures waits { waits self.old ≤ waits self.new }
+        ensures endpoint { endpoint self.new ≡ endpoint self.old }
         ensures cause { HasCause (faults self.old) (faults self.new) result };
 
     /// Takes a link back, one of those that it gave, and closes it: its session has ended. It can't fail, and takes no memory.
     fn keep(&mut self, link: Self::Link)
         requires { IsOwed (told self.old) }
         ensures told { told self.new ≡ kept_in (told self.old) (Self.Link.told link) }
-        ensures same { (faults self.new ≡ faults self.old) × (waits self.new ≡ waits self.old) };
+        ensures same { (faults self.new ≡ faults self.old) × (waits self.new ≡ waits self.old) × (endpoint self.new ≡ endpoint self.old) };
 
     /// How often it has failed.
     fn faults(&self) -> u64
@@ -51,20 +56,25 @@ pub trait Dialer {
     /// The links that it gave and took back, where it tells.
     ghost told: { Self → Option LinksTold };
 
+    /// The address and port for which a host handed it out, where it tells.
+    ghost endpoint: { Self → Option Endpoint };
+
     /// How often it has failed. The count stops at 2^64 - 1.
     ghost faults: { Self → ℕ };
 
     /// A new link to the peer.
     fn dial(&mut self) -> Result<Self::Link, Failed>
         ensures given { IfOk result (λ link. (told self.new ≡ gave_one (told self.old)) × (Self.Link.told link ≡ fresh_from (told self.old))) }
+        ensures owed { OnOk result (IsOwed (told self.new)) }
         ensures refused { OnErr result (told self.new ≡ refused_link (told self.old)) }
+        ensures endpoint { endpoint self.new ≡ endpoint self.old }
         ensures cause { HasCause (faults self.old) (faults self.new) result };
 
     /// Takes a link back, one of those that it gave, and closes it: it is of no more use. It can't fail, and takes no memory.
     fn keep(&mut self, link: Self::Link)
         requires { IsOwed (told self.old) }
         ensures told { told self.new ≡ kept_in (told self.old) (Self.Link.told link) }
-        ensures same { faults self.new ≡ faults self.old };
+        ensures same { (faults self.new ≡ faults self.old) × (endpoint self.new ≡ endpoint self.old) };
 
     /// How often it has failed.
     fn faults(&self) -> u64

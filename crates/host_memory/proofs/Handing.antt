@@ -54,26 +54,26 @@ count_parts p old new i d below is =
     let rest : count_by p new ≡ count_by p front + count_by p back = ap (λ (l : List Address). count_by p l) is ∙ sum_by-append f front back in
     omega (arith, whole, rest)
 
-module _ {T : Type 0} (told : T → Option LinksTold) where
+module _ {T : Type 0} (told : T → Option LinksTold) (waits faults : T → ℕ) where
   -- one more of an address is out
-  pub gone_out : (host : List ℕ) (port : ℕ) (old new : List Address) (was is : List (Placed T)) (at : Address) → string_bytes at.host ≡ host → at.port ≡ port → new ≡ old ++ at ∷ [] → is ≡ was → GoesOut host port (ends_of told old was) (ends_of told new is)
+  pub gone_out : (host : List ℕ) (port : ℕ) (old new : List Address) (was is : List (Placed T)) (at : Address) → string_bytes at.host ≡ host → at.port ≡ port → new ≡ old ++ at ∷ [] → is ≡ was → GoesOut host port (ends_of told waits faults old was) (ends_of told waits faults new is)
   gone_out host port old new was is at is_host is_port more same = record {
     more = count_more (is_at host port) old new at more ((at_decides host port at).1 (is_port, is_host));
     others = λ h p differ. count_same (is_at h p) old new at more (at_other host h port p at (is_port, is_host) differ);
-    back = ap (λ (l : List (Placed T)). map (came_back told) l) same;
+    back = ap (λ (l : List (Placed T)). map (came_back told waits faults) l) same;
   }
 
   -- one of an address came back
-  pub come_back : (host : List ℕ) (port : ℕ) (object : T) (old new : List Address) (was now : List (Placed T)) (i : ℕ) (at : Address) → i < length old → is_at host port (get_or old i at) ≡ true → new ≡ take i old ++ drop (i + 1) old → is_at host port at ≡ true → now ≡ was ++ record { at = at; object = object } ∷ [] → ComesBack host port (told object) (ends_of told old was) (ends_of told new now)
+  pub come_back : (host : List ℕ) (port : ℕ) (object : T) (old new : List Address) (was now : List (Placed T)) (i : ℕ) (at : Address) → i < length old → is_at host port (get_or old i at) ≡ true → new ≡ take i old ++ drop (i + 1) old → is_at host port at ≡ true → now ≡ was ++ record { at = at; object = object } ∷ [] → ComesBack (record { host = host; port = port; told = told object; waits = waits object; faults = faults object }) (ends_of told waits faults old was) (ends_of told waits faults new now)
   come_back host port object old new was now i at below found fewer is more =
       let one = get_or old i at in
       let there = (at_decides host port one).0 found in
       let here = (at_decides host port at).0 is in record {
         fewer = count_parts (is_at host port) old new i at below fewer ∙ ap (λ (n : ℕ). count_by (is_at host port) new + n) (one_yes (is_at host port) one found);
         others = λ h p differ. omega (arith, count_parts (is_at h p) old new i at below fewer, one_no (is_at h p) one (at_other host h port p one there differ));
-        back = ap (λ (l : List (Placed T)). map (came_back told) l) more ∙ map-append (came_back told) was (record { at = at; object = object } ∷ [])
-            ∙ ap (λ (c : CameBack). map (came_back told) was ++ c ∷ []) (came_at here.1 here.0);
+        back = ap (λ (l : List (Placed T)). map (came_back told waits faults) l) more ∙ map-append (came_back told waits faults) was (record { at = at; object = object } ∷ [])
+            ∙ ap (λ (c : CameBack). map (came_back told waits faults) was ++ c ∷ []) (came_at here.1 here.0);
       }
     where
-      came_at : string_bytes at.host ≡ host → at.port ≡ port → came_back told (record { at = at; object = object }) ≡ record { host = host; port = port; told = told object }
+      came_at : string_bytes at.host ≡ host → at.port ≡ port → came_back told waits faults (record { at = at; object = object }) ≡ record { host = host; port = port; told = told object; waits = waits object; faults = faults object }
       came_at is_host is_port = cc

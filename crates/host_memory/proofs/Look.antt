@@ -136,17 +136,10 @@ module _ {A K V : Type 0} (same : K → K → Bool) (same_is : (a b : K) → sam
       ap (λ (v : V). cond (same n (key x)) (value x) v) (look-push xs item (map_none (place xs (key item)) parts.1) n)
       ∙ swapped (same n (key x)) (same n (key item)) (value x) (value item) (look xs n) (apart n (key item) (key x) parts.0)
 
-  pub place-push : (items : List A) (item : A) (n : K) → IsSome (place items n) → IsSome (place (items ++ item ∷ []) n)
-  place-push [] item n is = cc
-  place-push (x ∷ xs) item n is = some_first (same n (key x)) (place xs n) (place (xs ++ item ∷ []) n) is (λ later. place-push xs item n later)
-
-  pub place-push-back : (items : List A) (item : A) (n : K) → same n (key item) ≡ false → IsSome (place (items ++ item ∷ []) n) → IsSome (place items n)
-  place-push-back [] item n differ is = absurd (none_has (same n (key item)) differ is)
-    where
-      none_has : (b : Bool) → b ≡ false → IsSome (cond {A = Option ℕ} b (Some 0) None) → ⊥
-      none_has true b_is has = cc
-      none_has false b_is has = cc
-  place-push-back (x ∷ xs) item n differ is = some_first (same n (key x)) (place (xs ++ item ∷ []) n) (place xs n) is (λ later. place-push-back xs item n differ later)
+  -- behind an item of another key each is where it was
+  pub place-push-other : (items : List A) (item : A) (n : K) → same n (key item) ≡ false → place (items ++ item ∷ []) n ≡ place items n
+  place-push-other [] item n differ = ap (λ (b : Bool). cond {A = Option ℕ} b (Some 0) None) differ
+  place-push-other (x ∷ xs) item n differ = ap (λ (o : Option ℕ). cond (same n (key x)) (Some 0) (option_map (λ i. suc i) o)) (place-push-other xs item n differ)
 
   pub place-pushed : (items : List A) (item : A) → IsSome (place (items ++ item ∷ []) (key item))
   place-pushed [] item = ap (λ (b : Bool). is_some {T = ℕ} (cond b (Some 0) None)) (same_self (key item))

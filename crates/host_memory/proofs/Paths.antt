@@ -1,8 +1,8 @@
 -- Objects that are searched by a path.
-use Rattle.std.proofs.Common.{◌≡◌, ◌<◌, ◌∙◌, ap, sym, ℕ, suc, List, [], ◌∷◌, ◌++◌, length, set, get_or, take, refl, Option, Some, None, IsSome, Bool, true, false, cond, bytes_eq, string_bytes}
+use Rattle.std.proofs.Common.{◌≡◌, ◌<◌, ◌∙◌, ap, sym, ℕ, suc, List, [], ◌∷◌, ◌++◌, length, set, get_or, take, refl, Option, Some, None, IsSome, is_some, Bool, true, false, cond, bytes_eq, string_bytes}
 use Rattle.std.proofs.lemmas.Slice.Eq.{bytes_eq-Decides}
 use Rattle.host_memory.specs.declared.named.Named.{Named}
-use Rattle.host_memory.specs.Folders.{place_in, with_object, IsAt}
+use Rattle.host_memory.specs.Folders.{is_in, place_in, with_object, IsAt}
 use Rattle.host_memory.specs.Look.{look_up}
 use Rattle.host_memory.proofs.Look as look
 
@@ -32,11 +32,8 @@ module _ {T : Type 0} where
   pub place_more : (objects : List (Named T)) (path : List ℕ) (i : ℕ) (d : Named T) → i < length objects → place_in (take i objects) path ≡ None → bytes_eq path (string_bytes (get_or objects i d).path) ≡ false → place_in (take (suc i) objects) path ≡ None
   place_more = look.place_more bytes_eq path_is path_self name_of nothing_of tt
 
-  pub place-push : (objects : List (Named T)) (named : Named T) (p : List ℕ) → IsSome (place_in objects p) → IsSome (place_in (objects ++ named ∷ []) p)
-  place-push = look.place-push bytes_eq path_is path_self name_of nothing_of tt
-
-  pub place-push-back : (objects : List (Named T)) (named : Named T) (p : List ℕ) → (p ≡ string_bytes named.path → ⊥) → IsSome (place_in (objects ++ named ∷ []) p) → IsSome (place_in objects p)
-  place-push-back objects named p differ = look.place-push-back bytes_eq path_is path_self name_of nothing_of tt objects named p (path_other p (string_bytes named.path) differ)
+  pub place-push-other : (objects : List (Named T)) (named : Named T) (p : List ℕ) → (p ≡ string_bytes named.path → ⊥) → place_in (objects ++ named ∷ []) p ≡ place_in objects p
+  place-push-other objects named p differ = look.place-push-other bytes_eq path_is path_self name_of nothing_of tt objects named p (path_other p (string_bytes named.path) differ)
 
   pub place-pushed : (objects : List (Named T)) (named : Named T) → IsSome (place_in (objects ++ named ∷ []) (string_bytes named.path))
   place-pushed = look.place-pushed bytes_eq path_is path_self name_of nothing_of tt
@@ -84,43 +81,38 @@ module _ {T V : Type 0} (home : Option T → V) (other : V) where
   pub record Out (objects new : List (Named T)) (path : List ℕ) (value : V) : Type 0 where
     pub told : told_at objects path ≡ value
     pub others : (p : List ℕ) → (p ≡ path → ⊥) → told_at new p ≡ told_at objects p
-    pub room : IsSome (place_in new path)
-    pub rooms : (p : List ℕ) → IsSome (place_in objects p) → IsSome (place_in new p)
-    pub no_more : (p : List ℕ) → (p ≡ path → ⊥) → IsSome (place_in new p) → IsSome (place_in objects p)
+    pub opened : IsSome (place_in new path)
+    pub others_opened : (p : List ℕ) → (p ≡ path → ⊥) → is_some (place_in new p) ≡ is_some (place_in objects p)
 
   pub taken : (objects new : List (Named T)) (path : List ℕ) (i : ℕ) (was : Named T) → place_in objects path ≡ Some i → IsAt objects i was → new ≡ set objects i (with_object was None)
       → Out objects new path (home was.object)
   taken objects new path i was is at new_is = record {
     told = (placed objects path i is).found was ∙ ap home_of (sym at);
     others = λ p differ. ap (λ (l : List (Named T)). told_at l p) new_is ∙ told-set objects path i was None is at p ∙ not_at p path (home None) (told_at objects p) differ;
-    room = rw (new_is, place-set objects path i was None is at path, is) refl;
-    rooms = λ p has. rw (new_is, place-set objects path i was None is at p) has;
-    no_more = λ p differ has. rw (← place-set objects path i was None is at p, ← new_is) has;
+    opened = rw (new_is, place-set objects path i was None is at path, is) refl;
+    others_opened = λ p differ. ap (λ (l : List (Named T)). is_some (place_in l p)) new_is ∙ ap is_some (place-set objects path i was None is at p);
   }
 
   pub added : (objects new : List (Named T)) (path : List ℕ) (named : Named T) → place_in objects path ≡ None → string_bytes named.path ≡ path → new ≡ objects ++ named ∷ [] → Out objects new path other
   added objects new path named none named_is new_is = record {
     told = not_placed objects path none;
     others = λ p differ. ap (λ (l : List (Named T)). told_at l p) new_is ∙ told-push objects named (rw named_is none) p ∙ rw named_is (not_at p path (home named.object) (told_at objects p) differ);
-    room = rw (new_is, ← named_is) (place-pushed objects named);
-    rooms = λ p has. rw new_is (place-push objects named p has);
-    no_more = λ p differ has. place-push-back objects named p (λ is. differ (is ∙ named_is)) (rw (← new_is) has);
+    opened = rw (new_is, ← named_is) (place-pushed objects named);
+    others_opened = λ p differ. ap (λ (l : List (Named T)). is_some (place_in l p)) new_is ∙ ap is_some (place-push-other objects named p (λ is. differ (is ∙ named_is)));
   }
 
   -- what giving one back does
   pub record Back (objects new : List (Named T)) (path : List ℕ) (value : V) : Type 0 where
     pub told : told_at new path ≡ value
     pub others : (p : List ℕ) → (p ≡ path → ⊥) → told_at new p ≡ told_at objects p
-    pub rooms : (p : List ℕ) → IsSome (place_in objects p) → IsSome (place_in new p)
-    pub no_more : (p : List ℕ) → IsSome (place_in new p) → IsSome (place_in objects p)
+    pub opened : (p : List ℕ) → is_some (place_in new p) ≡ is_some (place_in objects p)
 
   pub given : (objects new : List (Named T)) (path : List ℕ) (i : ℕ) (was : Named T) (object : T) → place_in objects path ≡ Some i → IsAt objects i was → new ≡ set objects i (with_object was (Some object))
       → Back objects new path (home (Some object))
   given objects new path i was object is at new_is = record {
     told = ap (λ (l : List (Named T)). told_at l path) new_is ∙ told-set objects path i was (Some object) is at path ∙ ap (λ (b : Bool). cond b (home (Some object)) (told_at objects path)) (path_self path);
     others = λ p differ. ap (λ (l : List (Named T)). told_at l p) new_is ∙ told-set objects path i was (Some object) is at p ∙ not_at p path (home (Some object)) (told_at objects p) differ;
-    rooms = λ p has. rw (new_is, place-set objects path i was (Some object) is at p) has;
-    no_more = λ p has. rw (← place-set objects path i was (Some object) is at p, ← new_is) has;
+    opened = λ p. ap (λ (l : List (Named T)). is_some (place_in l p)) new_is ∙ ap is_some (place-set objects path i was (Some object) is at p);
   }
 
   -- nothing was handed out, since it was out
@@ -131,3 +123,8 @@ module _ {T V : Type 0} (home : Option T → V) (other : V) where
       each : (p : List ℕ) (b : Bool) → bytes_eq p path ≡ b → told_at new p ≡ told_at objects p
       each p true same = ap (λ (l : List (Named T)). told_at l p) new_is ∙ told-set objects path i was None is at p ∙ ap (λ (b : Bool). cond b (home None) (told_at objects p)) same ∙ ap home none ∙ ap home_of at ∙ sym ((placed objects path i is).found was) ∙ ap (λ (q : List ℕ). told_at objects q) (sym (path_is p path same))
       each p false same = ap (λ (l : List (Named T)). told_at l p) new_is ∙ told-set objects path i was None is at p ∙ ap (λ (b : Bool). cond b (home None) (told_at objects p)) same
+
+  -- and each can still be given back
+  pub unchanged_opened : (objects new : List (Named T)) (path : List ℕ) (i : ℕ) (was : Named T) → place_in objects path ≡ Some i → IsAt objects i was → new ≡ set objects i (with_object was None)
+      → is_in new ≡ is_in objects
+  unchanged_opened objects new path i was is at new_is = λ j p. (ap (λ (l : List (Named T)). is_in l p) new_is ∙ ap is_some (place-set objects path i was None is at p)) j

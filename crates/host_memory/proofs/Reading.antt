@@ -17,9 +17,9 @@ step_gives Step.Fail p q into n some reads = cc
 step_gives (Step.Hold flag) p q into n some reads = cc
 
 -- a read that answers what is due, or may fail, follows the script
-pub follows_note : (old new : MemLink) (into : List ℕ) (read : LinkRead) (result : Result LinkRead Failed) → FitsIn read (length into) → Reads old.steps.items (link_place old) (link_place new) into (Ok read) → IfOk result (λ r. r ≡ read) → OnErr result (MayFail read old.quiets) → FollowsScript old new into result
+pub follows_note : (old new : MemLink) (into : List ℕ) (read : LinkRead) (result : Result LinkRead Failed) → FitsIn read (length into) → Reads old.steps.items (link_place old) (link_place new) into (Ok read) → IfOk result (λ r. r ≡ read) → OnErr result (MayFail read old.quiets old.ends) → FollowsScript old new into result
 follows_note old new into read (Ok r) fits reads is may = inl (rw is reads)
 follows_note old new into (Got n) (Err failed) fits (inl reads) is may = cc
 follows_note old new into (Got n) (Err failed) fits (inr reads) is may = inr (refl, inl (λ d. step_gives (get_or old.steps.items old.step d) (link_place old) (link_place new) into n fits.0 (reads.1 d)))
-follows_note old new into Quiet (Err failed) fits reads is may = inr (refl, inr may)
-follows_note old new into End (Err failed) fits reads is may = absurd may
+follows_note old new into Quiet (Err failed) fits reads is may = inr (refl, inr (inl may))
+follows_note old new into End (Err failed) fits reads is may = inr (refl, inr (inr may))

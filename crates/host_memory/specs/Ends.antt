@@ -14,13 +14,15 @@ is_at host port at = (at.port == port) && bytes_eq (string_bytes at.host) host
 abbrev pub none_out : HandedOut
 none_out = record { out = λ host port. 0; back = [] }
 
-module _ {T : Type 0} (told : T → Option LinksTold) where
+module _ {T : Type 0} (told : T → Option LinksTold) (waits faults : T → ℕ) where
   -- what is told of one that came back
   abbrev pub came_back : Placed T → CameBack
   came_back placed = record {
     host = string_bytes placed.at.host;
     port = placed.at.port;
     told = told placed.object;
+    waits = waits placed.object;
+    faults = faults placed.object;
   }
 
   -- of those that are out, and of those that came back

@@ -1,5 +1,5 @@
 -- What a host in memory tells of the parts that are not handed out.
-use Rattle.std.specs.Prelude.{◌≡◌, ℕ, List, [], get_or, Option, None, Some, bytes_eq, string_bytes}
+use Rattle.std.specs.Prelude.{◌≡◌, ℕ, List, [], get_or, Bool, Option, None, Some, is_some, bytes_eq, string_bytes}
 use Rattle.std.specs.declared.vec.Vec.{Vec}
 use Rattle.std.specs.declared.alloc.Global.{Global}
 use Rattle.std.specs.Option.{option_map}
@@ -37,6 +37,10 @@ rolled_home (Some roll) = rolled_in roll
 -- where the first object of a path is
 abbrev pub place_in : {T : Type 0} → List (Named T) → List ℕ → Option ℕ
 place_in = place_by bytes_eq (λ named. string_bytes named.path)
+
+-- there is one of this path
+abbrev pub is_in : {T : Type 0} → List (Named T) → List ℕ → Bool
+is_in objects path = is_some (place_in objects path)
 
 -- the object at this place is this one
 abbrev pub IsAt : {T : Type 0} → List (Named T) → ℕ → Named T → Type 0

@@ -4,12 +4,23 @@ use Rattle.std.specs.declared.string.String.{String}
 use Rattle.std.specs.declared.alloc.Global.{Global}
 use Rattle.flume_host.specs.Told.{Told}
 use Rattle.flume_host.specs.Rolled.{Rolled}
-use Rattle.flume_host.specs.HostState.{HostState}
+use Rattle.flume_host.specs.HandedOut.{HandedOut}
+use Rattle.flume_host.specs.HostState.{Folders, HostState}
+use Rattle.host_memory.specs.declared.ends.Ends.{Ends}
+use Rattle.host_memory.specs.declared.mem_dialer.MemDialer.{MemDialer}
 use Rattle.host_memory.specs.declared.mem_host.MemHost.{MemHost}
+use Rattle.host_memory.specs.declared.mem_listener.MemListener.{MemListener}
 use Rattle.host_memory.specs.Ends.{handed_out}
-use Rattle.host_memory.specs.Listens.{ear_told, dials_told}
+use Rattle.host_memory.specs.Listens.{listener_told, dialer_told}
 use Rattle.host_memory.specs.Times.{moments_of, draws_of}
-use Rattle.host_memory.specs.Folders.{input_of, output_of, handed_of, place_in, folder_of, roll_of, file_of}
+use Rattle.host_memory.specs.Folders.{input_of, output_of, handed_of, is_in, place_in, folder_of, roll_of, file_of}
+
+-- what is told of its listeners, and of its dialers
+abbrev pub listeners_of : Ends MemListener → HandedOut
+listeners_of = handed_out listener_told (λ l. l.waits) (λ l. l.faults)
+
+abbrev pub dialers_of : Ends MemDialer → HandedOut
+dialers_of = handed_out dialer_told (λ d. 0) (λ d. d.faults)
 
 abbrev pub state_in : MemHost → HostState
 state_in h = record {
@@ -19,8 +30,8 @@ state_in h = record {
   files = file_of h.files.items;
   moments = Some (moments_of h.clock);
   draws = Some (draws_of h.random);
-  ears = Some (handed_out ear_told h.ears);
-  calls = Some (handed_out dials_told h.calls);
+  listeners = Some (listeners_of h.listeners);
+  dialers = Some (dialers_of h.dialers);
   name = Some (string_bytes h.name);
   address = Some (string_bytes h.address);
   faults = h.faults;
@@ -42,6 +53,15 @@ roll_in h = roll_of h.rolls.items
 -- the host has a folder of rolled files of this path
 abbrev pub HasRoll : MemHost → List ℕ → Type 0
 HasRoll h path = IsSome (place_in h.rolls.items path)
+
+-- what its folders tell, by their paths
+abbrev pub folders_in : MemHost → Folders
+folders_in h = record {
+  disks = folder_in h;
+  rolls = roll_in h;
+  disk_opened = is_in h.folders.items;
+  roll_opened = is_in h.rolls.items;
+}
 
 -- the lines that were said
 abbrev pub said_in : MemHost → List (String Global)

@@ -20,7 +20,7 @@ link_record l = record {
   took = l.took.items;
   pieces = l.pieces;
   quiets = l.quiets;
-  ended = l.ended;
+  ends = l.ends;
   failed = l.failed;
 }
 
@@ -92,14 +92,18 @@ IsPiece Step.Quiet p = ⊥
 IsPiece Step.Fail p = ⊥
 IsPiece (Step.Hold flag) p = ⊥
 
--- a read that is to bring this may fail: of bytes for want of memory, and a quiet one at the count's last value
-abbrev pub MayFail : LinkRead → ℕ → Type 0
-MayFail (Got n) quiets = Unit {0}
-MayFail Quiet quiets = 2 ^ 64 - 1 ≤ quiets
-MayFail End quiets = ⊥
+-- a count of the link stands at its last value
+abbrev pub IsFull : MemLink → Type 0
+IsFull link = (2 ^ 64 - 1 ≤ link.quiets) ⊎ (2 ^ 64 - 1 ≤ link.ends)
+
+-- a read that is to bring this may fail: of bytes for want of memory, and another one at the last value of its count
+abbrev pub MayFail : LinkRead → ℕ → ℕ → Type 0
+MayFail (Got n) quiets ends = Unit {0}
+MayFail Quiet quiets ends = 2 ^ 64 - 1 ≤ quiets
+MayFail End quiets ends = 2 ^ 64 - 1 ≤ ends
 
 -- A read answers by its script. Else it failed: it had no memory for the bytes of a piece, or a count of the link stands
 -- at its last value.
 abbrev pub FollowsScript : MemLink → MemLink → List ℕ → Result LinkRead Failed → Type 0
 FollowsScript old new into result = Reads old.steps.items (link_place old) (link_place new) into result
-    ⊎ (IsErr result × (((d : LinkStep) → IsPiece (get_or old.steps.items old.step d) (link_place old)) ⊎ (2 ^ 64 - 1 ≤ old.quiets)))
+    ⊎ (IsErr result × (((d : LinkStep) → IsPiece (get_or old.steps.items old.step d) (link_place old)) ⊎ IsFull old))

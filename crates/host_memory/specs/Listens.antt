@@ -1,8 +1,10 @@
 -- What a listener and a dialer in memory tell, and what each call does by its script.
-use Rattle.std.specs.Prelude.{◌≡◌, ◌⊎◌, ◌<◌, ◌≤◌, ◌+◌, length, get_or, map, set}
+use Rattle.std.specs.Prelude.{◌≡◌, ◌⊎◌, ◌<◌, ◌≤◌, ◌+◌, length, get_or, map, set, string_bytes}
 use Rattle.std.specs.Prelude.{Option, Some, None, Result, Ok, IsErr, IfOk, OnOk, MatchOption}
-use Rattle.flume_host.specs.Listens.{LinksTold}
+use Rattle.std.specs.Option.{option_map}
+use Rattle.flume_host.specs.Listens.{Endpoint, LinksTold}
 use Rattle.flume_host.specs.declared.names.Failed.{Failed}
+use Rattle.host_memory.specs.declared.address.Address.{Address}
 use Rattle.host_memory.specs.declared.given.Given.{Given}
 use Rattle.host_memory.specs.declared.mem_link.MemLink.{MemLink}
 use Rattle.host_memory.specs.declared.mem_listener.MemListener.{MemListener}
@@ -16,11 +18,21 @@ use Rattle.host_memory.specs.Links.{send_fails, send_calls, send_pieces}
 abbrev pub given_told : Given → Option LinksTold
 given_told g = where_tells g.tells (record { given = g.given; kept = map link_record g.back.items; failed = g.failed })
 
-abbrev pub ear_told : MemListener → Option LinksTold
-ear_told l = given_told l.given
+-- the address and port for which a host handed it out
+abbrev pub endpoint_at : Option Address → Option Endpoint
+endpoint_at at = option_map (λ (a : Address). record { host = string_bytes a.host; port = a.port }) at
 
-abbrev pub dials_told : MemDialer → Option LinksTold
-dials_told d = given_told d.given
+abbrev pub listener_endpoint : MemListener → Option Endpoint
+listener_endpoint l = endpoint_at l.at
+
+abbrev pub dialer_endpoint : MemDialer → Option Endpoint
+dialer_endpoint d = endpoint_at d.at
+
+abbrev pub listener_told : MemListener → Option LinksTold
+listener_told l = given_told l.given
+
+abbrev pub dialer_told : MemDialer → Option LinksTold
+dialer_told d = given_told d.given
 
 -- a link with the script of that one, of which nothing was asked
 pub record IsFreshCopy (link copy : MemLink) : Type 0 where

@@ -1,6 +1,8 @@
 // Objects by an address and a port.
-ghost use Rattle.std.specs.Prelude.{◌≡◌, ◌<◌, MatchOption, length, count_by, get_or, true};
+ghost use Rattle.std.specs.Prelude.{◌≡◌, ◌<◌, IfOk, MatchOption, string_bytes, length, count_by, get_or, true};
 ghost use Rattle.host_memory.specs.Ends.{is_at};
+
+use std::alloc::{AllocError, Global};
 
 /// An address and a port.
 #[derive(Drop)]
@@ -12,6 +14,14 @@ pub struct Address {
 }
 
 impl Address {
+    /// This address and this port, where there is memory for them.
+    pub fn new(alloc: Global, host: &str, port: u16) -> Result<Address, AllocError>
+        ensures { IfOk result (λ at. (string_bytes at.host ≡ host.now) × (at.port ≡ port)) }
+    {
+        let host = String::from_str(alloc, host)?;
+        Ok(Address { host, port })
+    }
+
     // It is this address and this port.
     fn is(&self, host: &str, port: u16) -> bool
         ensures { result ≡ is_at host.now port self.now }
@@ -40,9 +50,9 @@ impl<T: Drop> Placed<T> {
 }
 
 /// Takes the first object of an address out, if there is one.
-pub fn take_at<T: Drop>(objects: &mut Vec<Placed<T>>, host: &str, port: u16) -> Option<T> {
+pub fn take_at<T: Drop>(objects: &mut Vec<Placed<T>>, at: &Address) -> Option<T> {
     for i in 0..objects.len() {
-        if objects[i].at.is(host, port) {
+        if objects[i].at.is(at.host.as_str(), at.port) {
             return Some(objects.remove(i).object);
         }
     }

@@ -24,7 +24,7 @@ pub fn put<T: Drop>(items: &mut Vec<T>, item: T)
 }
 
 impl<T: Drop> Ends<T> {
-    ghost use Rattle.std.specs.Prelude.{Option, OnErr, OnOk, count_by};
+    ghost use Rattle.std.specs.Prelude.{ℕ, Option, OnErr, OnOk, count_by};
     ghost use Rattle.flume_host.specs.Listens.{LinksTold};
     ghost use Rattle.flume_host.specs.HandedOut.{GoesOut, ComesBack};
     ghost use Rattle.host_memory.specs.Ends.{handed_out, is_at};
@@ -48,7 +48,8 @@ impl<T: Drop> Ends<T> {
 
     /// One more of this address is out. Where there is no memory for it, all is as before.
     pub fn hand_out(&mut self, alloc: Global, host: &str, port: u16) -> Result<(), AllocError>
-        ensures out { OnOk result ((told : T → Option LinksTold) → GoesOut host.now port (handed_out told self.old) (handed_out told self.new)) }
+        ensures out { OnOk result ((told : T → Option LinksTold) (waits faults : T → ℕ)
+            → GoesOut host.now port (handed_out told waits faults self.old) (handed_out told waits faults self.new)) }
         ensures same { OnErr result ((self.new.out.items ≡ self.old.out.items) × (self.new.back.items ≡ self.old.back.items)) }
     {
         let host = String::from_str(alloc, host)?;
@@ -60,7 +61,9 @@ impl<T: Drop> Ends<T> {
     /// One of this address came back.
     pub fn take_back(&mut self, host: &str, port: u16, object: T)
         requires { 0 < count_by (is_at host.now port) self.old.out.items }
-        ensures { (told : T → Option LinksTold) → ComesBack host.now port (told object) (handed_out told self.old) (handed_out told self.new) }
+        ensures { (told : T → Option LinksTold) (waits faults : T → ℕ)
+            → ComesBack (record { host = host.now; port = port; told = told object; waits = waits object; faults = faults object })
+            (handed_out told waits faults self.old) (handed_out told waits faults self.new) }
     {
         let Some(index) = first_at(&self.out, host, port) else {
             unreachable!();

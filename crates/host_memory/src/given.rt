@@ -1,5 +1,5 @@
 // The links that a listener or a dialer in memory gave and took back.
-ghost use Rattle.std.specs.Prelude.{◌≡◌, ◌≤◌, OnOk, vec_capacity};
+ghost use Rattle.std.specs.Prelude.{◌≡◌, ◌≤◌, OnOk, vec_capacity, vec_len};
 
 use crate::MemLink;
 use crate::ends::put;
@@ -15,6 +15,7 @@ pub struct Given {
     pub failed: bool,
     pub tells: bool,
     ghost room: { given ≤ vec_capacity back },
+    ghost owed: { vec_len back ≤ given },
 }
 
 // Makes room for so many links.
@@ -69,6 +70,7 @@ impl Given {
     pub fn give(&mut self, link: MemLink) -> Result<MemLink, Failed>
         ensures told { IfOk result (λ given. (link_told given ≡ fresh_from (given_told self.old)) × IsFreshCopy link given) }
         ensures given { OnOk result (given_told self.new ≡ gave_one (given_told self.old)) }
+        ensures owed { OnOk result (IsOwed (given_told self.new)) }
         ensures refused { OnErr result (given_told self.new ≡ given_told self.old) }
     {
         let Some(given) = self.given.checked_add(1) else {

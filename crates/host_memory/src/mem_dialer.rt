@@ -1,11 +1,12 @@
 // Who dials links in memory.
-ghost use Rattle.std.specs.Prelude.{◌≡◌, Some, None, IsErr, OnErr, IfOk};
+ghost use Rattle.std.specs.Prelude.{◌≡◌, Some, None, IsErr, OnErr, OnOk, IfOk};
 ghost use Rattle.flume_host.specs.Causes.{HasCause};
-ghost use Rattle.flume_host.specs.Listens.{fresh_from, gave_one, no_links, refused_link};
+ghost use Rattle.flume_host.specs.Listens.{IsOwed, fresh_from, gave_one, no_links, refused_link};
 ghost use Rattle.host_memory.specs.Links.{link_told};
-ghost use Rattle.host_memory.specs.Listens.{FollowsDials, dials_told};
+ghost use Rattle.host_memory.specs.Listens.{FollowsDials, dialer_told, dialer_endpoint};
 
 use crate::MemLink;
+use crate::address::Address;
 use crate::given::Given;
 use flume_host::{Dialer, Failed};
 use std::alloc::Global;
@@ -14,6 +15,8 @@ use std::alloc::Global;
 /// memory; the link that it was to give is lost then.
 #[derive(Drop)]
 pub struct MemDialer {
+    // the address for which a host handed it out
+    at: Option<Address>,
     links: Vec<Option<MemLink>>,
     next: usize,
     given: Given,
@@ -23,11 +26,13 @@ pub struct MemDialer {
 impl MemDialer {
     /// A dialer that tells, with these links.
     pub fn new(alloc: Global, links: Vec<Option<MemLink>>) -> MemDialer
-        ensures told { dials_told result ≡ Some no_links }
+        ensures told { dialer_told result ≡ Some no_links }
+        ensures nowhere { result.at ≡ None }
         ensures script { (result.links ≡ links) × (result.next ≡ 0) }
         ensures count { result.faults ≡ 0 }
     {
         MemDialer {
+            at: None,
             links,
             next: 0,
             given: Given::new(alloc),
@@ -37,7 +42,8 @@ impl MemDialer {
 
     /// A dialer that tells nothing, and whose links tell nothing.
     pub fn silent(mut self) -> MemDialer
-        ensures told { dials_told result ≡ None }
+        ensures told { dialer_told result ≡ None }
+        ensures at { result.at ≡ self.at }
         ensures script { (result.links ≡ self.links) × (result.next ≡ self.next) }
         ensures count { result.faults ≡ self.faults }
     {
@@ -45,12 +51,14 @@ impl MemDialer {
         self
     }
 
-    /// The rest of its script, of which nothing was asked yet, and it tells.
-    pub(crate) fn fresh(mut self) -> MemDialer
-        ensures told { dials_told result ≡ Some no_links }
+    /// The rest of its script, of which nothing was asked yet, and it tells. It is handed out for this address.
+    pub(crate) fn fresh(mut self, at: Address) -> MemDialer
+        ensures told { dialer_told result ≡ Some no_links }
+        ensures at { result.at ≡ Some at }
         ensures script { (result.links ≡ self.links) × (result.next ≡ self.next) }
         ensures count { result.faults ≡ 0 }
     {
+        self.at = Some(at);
         self.given = self.given.fresh();
         self.faults = 0;
         self
@@ -65,8 +73,8 @@ impl MemDialer {
 
     // A dial that fails.
     fn fail(&mut self) -> Result<MemLink, Failed>
-        ensures told { dials_told self.new ≡ refused_link (dials_told self.old) }
-        ensures same { (self.new.links ≡ self.old.links) × (self.new.next ≡ self.old.next) }
+        ensures told { dialer_told self.new ≡ refused_link (dialer_told self.old) }
+        ensures same { (self.new.at ≡ self.old.at) × (self.new.links ≡ self.old.links) × (self.new.next ≡ self.old.next) }
         ensures err { IsErr result }
         ensures cause { HasCause self.old.faults self.new.faults result }
     {
@@ -79,13 +87,17 @@ impl MemDialer {
 impl Dialer for MemDialer {
     type Link = MemLink;
 
-    ghost told = { dials_told };
+    ghost told = { dialer_told };
+
+    ghost endpoint = { dialer_endpoint };
 
     ghost faults = { λ d. d.faults };
 
     fn dial(&mut self) -> Result<MemLink, Failed>
-        ensures given { IfOk result (λ link. (dials_told self.new ≡ gave_one (dials_told self.old)) × (link_told link ≡ fresh_from (dials_told self.old))) }
-        ensures refused { OnErr result (dials_told self.new ≡ refused_link (dials_told self.old)) }
+        ensures given { IfOk result (λ link. (dialer_told self.new ≡ gave_one (dialer_told self.old)) × (link_told link ≡ fresh_from (dialer_told self.old))) }
+        ensures owed { OnOk result (IsOwed (dialer_told self.new)) }
+        ensures refused { OnErr result (dialer_told self.new ≡ refused_link (dialer_told self.old)) }
+        ensures endpoint { dialer_endpoint self.new ≡ dialer_endpoint self.old }
         ensures cause { HasCause self.old.faults self.new.faults result }
         ensures follows { FollowsDials self.old self.new result }
     {

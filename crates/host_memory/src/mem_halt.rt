@@ -1,5 +1,5 @@
 // A halt in memory.
-ghost use Rattle.std.specs.Prelude.{◌≡◌, ◌-◌, ◌↔◌, IsTrue};
+ghost use Rattle.std.specs.Prelude.{◌≡◌, ◌-◌, ◌↔◌, IsTrue, IsFalse};
 
 use flume_host::Halt;
 
@@ -20,6 +20,7 @@ impl Halt for MemHalt {
 
     fn asked(&mut self) -> bool
         ensures cause { IsTrue result → Rose self.old.yes self.new.yes }
+        ensures still { IsFalse result → self.new.yes ≡ self.old.yes }
         ensures later { self.old.yes ≤ self.new.yes }
         ensures turn { IsTrue result ↔ (self.old.after ≡ 0) }
         ensures after { self.new.after ≡ self.old.after - 1 }

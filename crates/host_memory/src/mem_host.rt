@@ -2,12 +2,12 @@
 ghost use Rattle.std.specs.Prelude.{◌≡◌, [], None, Some, MatchOption, string_bytes};
 ghost use Rattle.flume_host.specs.Causes.{Counts};
 ghost use Rattle.flume_host.specs.Listens.{no_links};
-ghost use Rattle.host_memory.specs.Ends.{handed_out, none_out};
-ghost use Rattle.host_memory.specs.Listens.{ear_told, dials_told};
+ghost use Rattle.host_memory.specs.Ends.{none_out};
+ghost use Rattle.host_memory.specs.Listens.{listener_told, dialer_told};
 ghost use Rattle.host_memory.specs.Times.{moments_of, draws_of};
-ghost use Rattle.host_memory.specs.Folders.{file_of, folder_of, handed_of, input_of, output_of, place_in, roll_of};
+ghost use Rattle.host_memory.specs.Folders.{file_of, folder_of, roll_of};
 
-use crate::address::{Placed, take_at};
+use crate::address::{Address, Placed, take_at};
 use crate::ends::Ends;
 use crate::named::{add_room, give_back, place_of, take_out};
 use crate::script::Script;
@@ -30,17 +30,20 @@ pub struct MemHost {
     folders: Vec<Named<MemDisk>>,
     rolls: Vec<Named<MemRoll>>,
     files: Vec<Named<Vec<u8>>>,
-    // what listens and dials here, by its address, as long as it was not handed out
-    listeners: Vec<Placed<MemListener>>,
-    dialers: Vec<Placed<MemDialer>>,
-    ears: Ends<MemListener>,
-    calls: Ends<MemDialer>,
+    // what is to be handed out, by its address
+    new_listeners: Vec<Placed<MemListener>>,
+    new_dialers: Vec<Placed<MemDialer>>,
+    // what was handed out, and what came back
+    listeners: Ends<MemListener>,
+    dialers: Ends<MemDialer>,
     name: String,
     address: String,
     clock: MemClock,
     random: MemRandom,
     said: Vec<String>,
     opens: Script,
+    // the openings for which there is no memory
+    lacking: Vec<u64>,
     faults: u64,
     disk_faults: u64,
 }
@@ -58,7 +61,7 @@ impl MemHost {
         output: MemSink,
         folders: Vec<Named<MemDisk>>,
     ) -> Self
-        ensures state { state_in result ≡ record { input = left_in input; output = took_in output; handed = handed_in output; files = file_of []; moments = Some (moments_of (record { moment = 0; step = 0 })); draws = Some (draws_of (record { number = 0; step = 0 })); ears = Some none_out; calls = Some none_out; name = Some []; address = Some []; faults = 0; disk_faults = 0 } }
+        ensures state { state_in result ≡ record { input = left_in input; output = took_in output; handed = handed_in output; files = file_of []; moments = Some (moments_of (record { moment = 0; step = 0 })); draws = Some (draws_of (record { number = 0; step = 0 })); listeners = Some none_out; dialers = Some none_out; name = Some []; address = Some []; faults = 0; disk_faults = 0 } }
         ensures folders { (folder_in result ≡ folder_of folders.items) × (roll_in result ≡ roll_of []) }
     {
         MemHost {
@@ -68,16 +71,17 @@ impl MemHost {
             folders,
             rolls: Vec::new(alloc),
             files: Vec::new(alloc),
-            listeners: Vec::new(alloc),
-            dialers: Vec::new(alloc),
-            ears: Ends::new(alloc),
-            calls: Ends::new(alloc),
+            new_listeners: Vec::new(alloc),
+            new_dialers: Vec::new(alloc),
+            listeners: Ends::new(alloc),
+            dialers: Ends::new(alloc),
             name: String::new(alloc),
             address: String::new(alloc),
             clock: MemClock { moment: 0, step: 0 },
             random: MemRandom { number: 0, step: 0 },
             said: Vec::new(alloc),
             opens: Script::new(alloc),
+            lacking: Vec::new(alloc),
             faults: 0,
             disk_faults: 0,
         }
@@ -121,7 +125,7 @@ impl MemHost {
         ensures folders { (folder_in result ≡ folder_in self) × (roll_in result ≡ roll_in self) }
         ensures script { (open_fails result ≡ open_fails self) × (open_calls result ≡ open_calls self) }
     {
-        self.listeners = listeners;
+        self.new_listeners = listeners;
         self
     }
 
@@ -132,7 +136,7 @@ impl MemHost {
         ensures folders { (folder_in result ≡ folder_in self) × (roll_in result ≡ roll_in self) }
         ensures script { (open_fails result ≡ open_fails self) × (open_calls result ≡ open_calls self) }
     {
-        self.dialers = dialers;
+        self.new_dialers = dialers;
         self
     }
 
@@ -156,6 +160,21 @@ impl MemHost {
     {
         self.opens.fails = calls;
         self
+    }
+
+    /// For those of these numbers there is no memory, unless they fail.
+    pub fn lacking_opens(mut self, calls: Vec<u64>) -> Self
+        ensures state { state_in result ≡ state_in self }
+        ensures folders { (folder_in result ≡ folder_in self) × (roll_in result ≡ roll_in self) }
+        ensures script { (open_fails result ≡ open_fails self) × (open_calls result ≡ open_calls self) }
+    {
+        self.lacking = calls;
+        self
+    }
+
+    // The next opening has no memory.
+    fn lacks(&self) -> bool {
+        self.lacking.contains(&self.opens.calls)
     }
 
     /// How many openings, readings and askings there were.
@@ -204,16 +223,16 @@ impl MemHost {
 
     /// The listeners that came back, in that order.
     pub fn listeners(&self) -> &[Placed<MemListener>]
-        ensures { result.now ≡ self.now.ears.back.items }
+        ensures { result.now ≡ self.now.listeners.back.items }
     {
-        self.ears.back()
+        self.listeners.back()
     }
 
     /// The dialers that came back, in that order.
     pub fn dialers(&self) -> &[Placed<MemDialer>]
-        ensures { result.now ≡ self.now.calls.back.items }
+        ensures { result.now ≡ self.now.dialers.back.items }
     {
-        self.calls.back()
+        self.dialers.back()
     }
 
     // The bytes of the first file of a path.
@@ -240,39 +259,31 @@ fn count_after(before: u64, own: u64) -> u64
 }
 
 // The first listener of an address, which is taken out, or one that only waits. Nothing was asked of it yet.
-fn listener_at(
-    alloc: Global,
-    listeners: &mut Vec<Placed<MemListener>>,
-    host: &str,
-    port: u16,
-) -> MemListener
-    ensures told { ear_told result ≡ Some no_links }
+fn listener_at(alloc: Global, listeners: &mut Vec<Placed<MemListener>>, at: Address) -> MemListener
+    ensures told { listener_told result ≡ Some no_links }
+    ensures at { result.at ≡ Some at }
     ensures counts { (result.faults ≡ 0) × (result.waits ≡ 0) }
 {
-    match take_at(listeners, host, port) {
-        Some(listener) => listener.fresh(),
-        None => MemListener::new(alloc, Vec::new(alloc)),
+    match take_at(listeners, &at) {
+        Some(listener) => listener.fresh(at),
+        None => MemListener::new(alloc, Vec::new(alloc)).fresh(at),
     }
 }
 
 // The first dialer of an address, which is taken out, or one whose dials fail. Nothing was asked of it yet.
-fn dialer_at(
-    alloc: Global,
-    dialers: &mut Vec<Placed<MemDialer>>,
-    host: &str,
-    port: u16,
-) -> MemDialer
-    ensures told { dials_told result ≡ Some no_links }
+fn dialer_at(alloc: Global, dialers: &mut Vec<Placed<MemDialer>>, at: Address) -> MemDialer
+    ensures told { dialer_told result ≡ Some no_links }
+    ensures at { result.at ≡ Some at }
     ensures count { result.faults ≡ 0 }
 {
-    match take_at(dialers, host, port) {
-        Some(dialer) => dialer.fresh(),
-        None => MemDialer::new(alloc, Vec::new(alloc)),
+    match take_at(dialers, &at) {
+        Some(dialer) => dialer.fresh(at),
+        None => MemDialer::new(alloc, Vec::new(alloc)).fresh(at),
     }
 }
 
 impl Host for MemHost {
-    ghost use Rattle.std.specs.Prelude.{IsSome};
+    ghost use Rattle.host_memory.specs.HostWords.{folders_in, state_in};
 
     type Source = MemSource;
 
@@ -290,15 +301,9 @@ impl Host for MemHost {
 
     type Random = MemRandom;
 
-    ghost state = { λ h. record { input = input_of h.input; output = output_of h.output; handed = handed_of h.output; files = file_of h.files.items; moments = Some (moments_of h.clock); draws = Some (draws_of h.random); ears = Some (handed_out ear_told h.ears); calls = Some (handed_out dials_told h.calls); name = Some (string_bytes h.name); address = Some (string_bytes h.address); faults = h.faults; disk_faults = h.disk_faults } };
+    ghost state = { state_in };
 
-    ghost folder = { λ h. folder_of h.folders.items };
-
-    ghost room = { λ h path. IsSome (place_in h.folders.items path) };
-
-    ghost rolled = { λ h. roll_of h.rolls.items };
-
-    ghost roll_room = { λ h path. IsSome (place_in h.rolls.items path) };
+    ghost folders = { folders_in };
 
     fn take_input(&mut self) -> MemSource {
         match self.input.take() {
@@ -337,9 +342,13 @@ impl Host for MemHost {
     }
 
     fn open_disk(&mut self, path: &str) -> Result<MemDisk, NameRefused> {
+        let lacks = self.lacks();
         if self.opens.next_fails() {
             self.faults = self.faults.saturating_add(1);
             return Err(NameRefused::Failed);
+        }
+        if lacks {
+            return Err(NameRefused::NoMemory);
         }
         let Some(index) = place_of(&self.folders, path) else {
             return match add_room(self.alloc, &mut self.folders, path) {
@@ -366,9 +375,13 @@ impl Host for MemHost {
     }
 
     fn read_file(&mut self, path: &str) -> Result<Vec<u8>, FileRefused> {
+        let lacks = self.lacks();
         if self.opens.next_fails() {
             self.faults = self.faults.saturating_add(1);
             return Err(FileRefused::Failed);
+        }
+        if lacks {
+            return Err(FileRefused::NoMemory);
         }
         let Some(bytes) = self.bytes_of(path) else {
             self.faults = self.faults.saturating_add(1);
@@ -385,9 +398,13 @@ impl Host for MemHost {
     }
 
     fn open_roll(&mut self, path: &str) -> Result<MemRoll, NameRefused> {
+        let lacks = self.lacks();
         if self.opens.next_fails() {
             self.faults = self.faults.saturating_add(1);
             return Err(NameRefused::Failed);
+        }
+        if lacks {
+            return Err(NameRefused::NoMemory);
         }
         let Some(index) = place_of(&self.rolls, path) else {
             return match add_room(self.alloc, &mut self.rolls, path) {
@@ -415,35 +432,49 @@ impl Host for MemHost {
     }
 
     fn listen(&mut self, bind: &str, port: u16) -> Result<MemListener, NameRefused> {
+        let lacks = self.lacks();
         if self.opens.next_fails() {
             self.faults = self.faults.saturating_add(1);
             return Err(NameRefused::Failed);
         }
-        match self.ears.hand_out(self.alloc, bind, port) {
-            Ok(()) => Ok(listener_at(self.alloc, &mut self.listeners, bind, port)),
+        if lacks {
+            return Err(NameRefused::NoMemory);
+        }
+        let Ok(at) = Address::new(self.alloc, bind, port) else {
+            return Err(NameRefused::NoMemory);
+        };
+        match self.listeners.hand_out(self.alloc, bind, port) {
+            Ok(()) => Ok(listener_at(self.alloc, &mut self.new_listeners, at)),
             Err(_) => Err(NameRefused::NoMemory),
         }
     }
 
     fn keep_listener(&mut self, bind: &str, port: u16, listener: MemListener) {
-        self.ears.take_back(bind, port, listener);
+        self.listeners.take_back(bind, port, listener);
     }
 
     fn dialer(&mut self, host: &str, port: u16) -> Result<MemDialer, NoMemory> {
-        match self.calls.hand_out(self.alloc, host, port) {
-            Ok(()) => Ok(dialer_at(self.alloc, &mut self.dialers, host, port)),
+        let Ok(at) = Address::new(self.alloc, host, port) else {
+            return Err(NoMemory);
+        };
+        match self.dialers.hand_out(self.alloc, host, port) {
+            Ok(()) => Ok(dialer_at(self.alloc, &mut self.new_dialers, at)),
             Err(_) => Err(NoMemory),
         }
     }
 
     fn keep_dialer(&mut self, host: &str, port: u16, dialer: MemDialer) {
-        self.calls.take_back(host, port, dialer);
+        self.dialers.take_back(host, port, dialer);
     }
 
     fn host_name(&mut self, use_ip: bool) -> Result<String, NameRefused> {
+        let lacks = self.lacks();
         if self.opens.next_fails() {
             self.faults = self.faults.saturating_add(1);
             return Err(NameRefused::Failed);
+        }
+        if lacks {
+            return Err(NameRefused::NoMemory);
         }
         let text = if use_ip { &self.address } else { &self.name };
         match String::from_str(self.alloc, text.as_str()) {

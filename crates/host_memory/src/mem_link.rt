@@ -40,7 +40,7 @@ pub struct MemLink {
     took: Vec<u8>,
     pieces: u64,
     quiets: u64,
-    ended: bool,
+    ends: u64,
     failed: bool,
     waits: u64,
     faults: u64,
@@ -73,7 +73,7 @@ impl MemLink {
             took: Vec::new(alloc),
             pieces: 0,
             quiets: 0,
-            ended: false,
+            ends: 0,
             failed: false,
             waits: 0,
             faults: 0,
@@ -142,7 +142,7 @@ impl MemLink {
         self.took.clear();
         self.pieces = 0;
         self.quiets = 0;
-        self.ended = false;
+        self.ends = 0;
         self.failed = false;
         self.waits = 0;
         self.faults = 0;
@@ -298,7 +298,7 @@ impl MemLink {
         requires { FitsIn read (length into.now) }
         ensures told { Hears result into.now (link_told self.old) (link_told self.new) }
         ensures ok { IfOk result (λ r. r ≡ read) }
-        ensures err { OnErr result (MayFail read self.old.quiets) }
+        ensures err { OnErr result (MayFail read self.old.quiets self.old.ends) }
         ensures same { IsUnread self.old self.new }
         ensures waits { CountsWait result self.old.waits self.new.waits }
         ensures cause { HasCause self.old.faults self.new.faults result }
@@ -307,7 +307,10 @@ impl MemLink {
             LinkRead::Got(n) => self.give(&into[..n]),
             LinkRead::Quiet => self.rest(),
             LinkRead::End => {
-                self.ended = true;
+                let Some(ends) = self.ends.checked_add(1) else {
+                    return self.fail();
+                };
+                self.ends = ends;
                 self.failed = false;
                 Ok(LinkRead::End)
             }

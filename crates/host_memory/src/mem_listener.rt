@@ -1,10 +1,11 @@
 // Who accepts links in memory.
 ghost use Rattle.std.specs.Prelude.{◌≡◌, ◌≤◌, Some, None, IsErr, OnErr, IfOk, IfNone, MatchOption};
 ghost use Rattle.flume_host.specs.Causes.{HasCause, Rose};
-ghost use Rattle.flume_host.specs.Listens.{fresh_from, gave_none, gave_one, no_links, refused_link};
+ghost use Rattle.flume_host.specs.Listens.{IsOwed, fresh_from, gave_none, gave_one, no_links, refused_link};
 ghost use Rattle.host_memory.specs.Links.{link_told};
-ghost use Rattle.host_memory.specs.Listens.{AnswersOffer, FollowsOffers, ear_told, given_told};
+ghost use Rattle.host_memory.specs.Listens.{AnswersOffer, FollowsOffers, listener_endpoint, listener_told, given_told};
 
+use crate::address::Address;
 use crate::given::Given;
 use crate::{Flag, MemLink};
 use flume_host::{Failed, Listener};
@@ -28,6 +29,8 @@ pub enum Offer {
 /// too, and the link that it was to give is lost.
 #[derive(Drop)]
 pub struct MemListener {
+    // the address for which a host handed it out
+    at: Option<Address>,
     offers: Vec<Offer>,
     next: usize,
     given: Given,
@@ -38,11 +41,13 @@ pub struct MemListener {
 impl MemListener {
     /// A listener that tells, with this script.
     pub fn new(alloc: Global, offers: Vec<Offer>) -> MemListener
-        ensures told { ear_told result ≡ Some no_links }
+        ensures told { listener_told result ≡ Some no_links }
+        ensures nowhere { result.at ≡ None }
         ensures script { (result.offers ≡ offers) × (result.next ≡ 0) }
         ensures counts { (result.faults ≡ 0) × (result.waits ≡ 0) }
     {
         MemListener {
+            at: None,
             offers,
             next: 0,
             given: Given::new(alloc),
@@ -53,7 +58,8 @@ impl MemListener {
 
     /// A listener that tells nothing, and whose links tell nothing.
     pub fn silent(mut self) -> MemListener
-        ensures told { ear_told result ≡ None }
+        ensures told { listener_told result ≡ None }
+        ensures at { result.at ≡ self.at }
         ensures script { (result.offers ≡ self.offers) × (result.next ≡ self.next) }
         ensures counts { (result.faults ≡ self.faults) × (result.waits ≡ self.waits) }
     {
@@ -61,12 +67,14 @@ impl MemListener {
         self
     }
 
-    /// The rest of its script, of which nothing was asked yet, and it tells.
-    pub(crate) fn fresh(mut self) -> MemListener
-        ensures told { ear_told result ≡ Some no_links }
+    /// The rest of its script, of which nothing was asked yet, and it tells. It is handed out for this address.
+    pub(crate) fn fresh(mut self, at: Address) -> MemListener
+        ensures told { listener_told result ≡ Some no_links }
+        ensures at { result.at ≡ Some at }
         ensures script { (result.offers ≡ self.offers) × (result.next ≡ self.next) }
         ensures counts { (result.faults ≡ 0) × (result.waits ≡ 0) }
     {
+        self.at = Some(at);
         self.given = self.given.fresh();
         self.waits = 0;
         self.faults = 0;
@@ -82,8 +90,8 @@ impl MemListener {
 
     // An accept that fails.
     fn fail(&mut self) -> Result<Option<MemLink>, Failed>
-        ensures told { ear_told self.new ≡ refused_link (ear_told self.old) }
-        ensures same { (self.new.offers ≡ self.old.offers) × (self.new.next ≡ self.old.next) × (self.new.waits ≡ self.old.waits) }
+        ensures told { listener_told self.new ≡ refused_link (listener_told self.old) }
+        ensures same { (self.new.at ≡ self.old.at) × (self.new.offers ≡ self.old.offers) × (self.new.next ≡ self.old.next) × (self.new.waits ≡ self.old.waits) }
         ensures err { IsErr result }
         ensures cause { HasCause self.old.faults self.new.faults result }
     {
@@ -94,9 +102,9 @@ impl MemListener {
 
     // An accept that waits in vain.
     fn rest(&mut self) -> Result<Option<MemLink>, Failed>
-        ensures told { ear_told self.new ≡ gave_none (ear_told self.old) }
+        ensures told { listener_told self.new ≡ gave_none (listener_told self.old) }
         ensures none { result ≡ Ok None }
-        ensures same { (self.new.offers ≡ self.old.offers) × (self.new.next ≡ self.old.next) }
+        ensures same { (self.new.at ≡ self.old.at) × (self.new.offers ≡ self.old.offers) × (self.new.next ≡ self.old.next) }
         ensures waited { Rose self.old.waits self.new.waits × (self.old.waits ≤ self.new.waits) }
         ensures cause { HasCause self.old.faults self.new.faults result }
     {
@@ -107,14 +115,15 @@ impl MemListener {
 
     // An accept by an offer.
     fn take(&mut self, offer: Offer) -> Result<Option<MemLink>, Failed>
-        ensures given { IfOk result (λ found. MatchOption found (ear_told self.new ≡ gave_none (ear_told self.old))
-            (λ link. (ear_told self.new ≡ gave_one (ear_told self.old)) × (link_told link ≡ fresh_from (ear_told self.old)))) }
-        ensures refused { OnErr result (ear_told self.new ≡ refused_link (ear_told self.old)) }
+        ensures given { IfOk result (λ found. MatchOption found (listener_told self.new ≡ gave_none (listener_told self.old))
+            (λ link. (listener_told self.new ≡ gave_one (listener_told self.old)) × (link_told link ≡ fresh_from (listener_told self.old)))) }
+        ensures refused { OnErr result (listener_told self.new ≡ refused_link (listener_told self.old)) }
+        ensures owed { IfOk result (λ found. MatchOption found (Unit {0}) (λ _. IsOwed (listener_told self.new))) }
         ensures waited { IfOk result (λ found. IfNone found (Rose self.old.waits self.new.waits)) }
         ensures waits { self.old.waits ≤ self.new.waits }
         ensures cause { HasCause self.old.faults self.new.faults result }
         ensures follows { AnswersOffer offer result }
-        ensures same { (self.new.offers ≡ self.old.offers) × (self.new.next ≡ self.old.next) }
+        ensures same { (self.new.at ≡ self.old.at) × (self.new.offers ≡ self.old.offers) × (self.new.next ≡ self.old.next) }
     {
         match offer {
             Offer::Link(link) => match self.given.give(link) {
@@ -137,18 +146,22 @@ impl MemListener {
 impl Listener for MemListener {
     type Link = MemLink;
 
-    ghost told = { ear_told };
+    ghost told = { listener_told };
+
+    ghost endpoint = { listener_endpoint };
 
     ghost faults = { λ l. l.faults };
 
     ghost waits = { λ l. l.waits };
 
     fn accept(&mut self) -> Result<Option<MemLink>, Failed>
-        ensures given { IfOk result (λ found. MatchOption found (ear_told self.new ≡ gave_none (ear_told self.old))
-            (λ link. (ear_told self.new ≡ gave_one (ear_told self.old)) × (link_told link ≡ fresh_from (ear_told self.old)))) }
-        ensures refused { OnErr result (ear_told self.new ≡ refused_link (ear_told self.old)) }
+        ensures given { IfOk result (λ found. MatchOption found (listener_told self.new ≡ gave_none (listener_told self.old))
+            (λ link. (listener_told self.new ≡ gave_one (listener_told self.old)) × (link_told link ≡ fresh_from (listener_told self.old)))) }
+        ensures refused { OnErr result (listener_told self.new ≡ refused_link (listener_told self.old)) }
+        ensures owed { IfOk result (λ found. MatchOption found (Unit {0}) (λ _. IsOwed (listener_told self.new))) }
         ensures waited { IfOk result (λ found. IfNone found (Rose self.old.waits self.new.waits)) }
         ensures waits { self.old.waits ≤ self.new.waits }
+        ensures endpoint { listener_endpoint self.new ≡ listener_endpoint self.old }
         ensures cause { HasCause self.old.faults self.new.faults result }
         ensures follows { FollowsOffers self.old self.new result }
     {

@@ -52,6 +52,8 @@ impl Dialer for RealDialer {
 
     ghost told = { λ _. None };
 
+    ghost endpoint = { λ _. None };
+
     ghost faults = { λ d. d.faults };
 
     fn dial(&mut self) -> Result<RealLink, Failed> {

@@ -1,12 +1,12 @@
 // What hands the streams, folders, clock and random numbers of the system out, and takes them back.
-ghost use Rattle.std.specs.Prelude.{◌≡◌, None};
+ghost use Rattle.std.specs.Prelude.{◌≡◌, None, true};
 ghost use Rattle.flume_host.specs.Causes.{Counts};
 
 use crate::dialer::RealDialer;
 use crate::disk::RealDisk;
-use crate::ears::Ears;
 use crate::listener::RealListener;
 use crate::roll::RealRoll;
+use crate::sockets::Sockets;
 use crate::stream::{RealSink, RealSource};
 use crate::times::{RealClock, RealRandom};
 use flume_host::{FileRefused, Host, NameRefused, NoMemory};
@@ -19,7 +19,7 @@ use std::net::ToSocketAddrs;
 #[derive(Drop)]
 pub struct RealHost {
     rt: HostRuntime,
-    ears: Ears,
+    sockets: Sockets,
     faults: u64,
     disk_faults: u64,
 }
@@ -31,7 +31,7 @@ impl RealHost {
     {
         RealHost {
             rt,
-            ears: Ears::new(rt),
+            sockets: Sockets::new(rt),
             faults: 0,
             disk_faults: 0,
         }
@@ -129,15 +129,9 @@ impl Host for RealHost {
 
     type Random = RealRandom;
 
-    ghost state = { λ h. record { input = None; output = None; handed = None; files = λ _. None; moments = None; draws = None; ears = None; calls = None; name = None; address = None; faults = h.faults; disk_faults = h.disk_faults } };
+    ghost state = { λ h. record { input = None; output = None; handed = None; files = λ _. None; moments = None; draws = None; listeners = None; dialers = None; name = None; address = None; faults = h.faults; disk_faults = h.disk_faults } };
 
-    ghost folder = { λ _ _. None };
-
-    ghost room = { λ _ _. Unit {0} };
-
-    ghost rolled = { λ _ _. None };
-
-    ghost roll_room = { λ _ _. Unit {0} };
+    ghost folders = { λ _. record { disks = λ _. None; rolls = λ _. None; disk_opened = λ _. true; roll_opened = λ _. true } };
 
     fn take_input(&mut self) -> RealSource {
         RealSource::new(self.rt)
@@ -210,7 +204,7 @@ impl Host for RealHost {
     fn keep_roll(&mut self, _path: &str, _roll: RealRoll) {}
 
     fn listen(&mut self, bind: &str, port: u16) -> Result<RealListener, NameRefused> {
-        match self.ears.listen(bind, port) {
+        match self.sockets.listen(bind, port) {
             Ok(listener) => Ok(listener),
             Err(NameRefused::NoMemory) => Err(NameRefused::NoMemory),
             Err(NameRefused::Failed) => {
@@ -221,7 +215,7 @@ impl Host for RealHost {
     }
 
     fn keep_listener(&mut self, bind: &str, port: u16, _listener: RealListener) {
-        self.ears.give_back(bind, port);
+        self.sockets.give_back(bind, port);
     }
 
     fn dialer(&mut self, host: &str, port: u16) -> Result<RealDialer, NoMemory> {

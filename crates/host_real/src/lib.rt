@@ -4,11 +4,11 @@
 
 mod dialer;
 mod disk;
-mod ears;
 mod host;
 mod link;
 mod listener;
 mod roll;
+mod sockets;
 mod stream;
 mod times;
 

@@ -76,6 +76,8 @@ impl Listener for RealListener {
 
     ghost told = { λ _. None };
 
+    ghost endpoint = { λ _. None };
+
     ghost faults = { λ l. l.faults };
 
     ghost waits = { λ l. l.waits };

@@ -1,6 +1,6 @@
 // Links in memory, and the host that hands out who gives them: each follows its script.
-ghost use Rattle.flume_host.specs.Listens.{IsSettled};
-ghost use Rattle.host_memory.specs.Listens.{dials_told, ear_told};
+ghost use Rattle.std.specs.Prelude.{◌≡◌};
+ghost use Rattle.host_memory.specs.Listens.{dialer_endpoint, listener_endpoint};
 
 use flume_host::{Dialer, Failed, Host, Link, LinkRead, Listener, NameRefused};
 use host_memory::{
@@ -91,8 +91,7 @@ fn link_of(alloc: Global, text: &[u8]) -> Result<MemLink, AllocError> {
 
 // What an accept gave: the first byte of a link, which is given back, or none.
 fn accepted(listener: &mut MemListener) -> Result<Option<u8>, Failed>
-    requires { IsSettled (ear_told listener.old) }
-    ensures { IsSettled (ear_told listener.new) }
+    ensures { listener_endpoint listener.new ≡ listener_endpoint listener.old }
 {
     let Some(mut link) = listener.accept()? else {
         return Ok(None);
@@ -136,8 +135,7 @@ fn a_listener_gives_links_and_takes_them_back(rt: HostRuntime) -> Result<(), Fai
 
 // What a dial gave: the first byte of a link, which is given back.
 fn dialled(dialer: &mut MemDialer) -> Result<u8, Failed>
-    requires { IsSettled (dials_told dialer.old) }
-    ensures { IsSettled (dials_told dialer.new) }
+    ensures { dialer_endpoint dialer.new ≡ dialer_endpoint dialer.old }
 {
     let mut link = dialer.dial()?;
     let mut into = [0u8; 1];
@@ -181,7 +179,8 @@ fn a_held_read_fails_on_one_thread(rt: HostRuntime) -> Result<(), Fail> {
     Ok(())
 }
 
-// A host with one listener and one dialer of the address `a` and port 1, whose opening number 2 fails.
+// A host with one listener and one dialer of the address `a` and port 1, whose opening number 2 fails, and number 4 has no
+// memory.
 fn host(alloc: Global) -> Result<MemHost, AllocError> {
     let mut listeners = Vec::new(alloc);
     let listener = MemListener::new(alloc, offers(alloc)?);
@@ -194,7 +193,8 @@ fn host(alloc: Global) -> Result<MemHost, AllocError> {
     let name = String::from_str(alloc, "box")?;
     let host = host.named(name, String::from_str(alloc, "10.0.0.1")?);
     let host = host.with_listeners(listeners).with_dialers(dialers);
-    Ok(host.failing_opens([2].as_slice().to_vec(alloc)?))
+    let host = host.failing_opens([2].as_slice().to_vec(alloc)?);
+    Ok(host.lacking_opens([4].as_slice().to_vec(alloc)?))
 }
 
 // What the first accept of a listener gives that a host hands out, and takes back.
@@ -222,11 +222,13 @@ fn called(host: &mut MemHost, address: &str, port: u16) -> Option<u8> {
 }
 
 // Addresses at which a host listens one after the other, and what comes first.
-const HEARD: [(&str, u16, Result<Option<u8>, NameRefused>); 4] = [
+const HEARD: [(&str, u16, Result<Option<u8>, NameRefused>); 6] = [
     ("b", 1, Ok(None)),
     ("a", 1, Ok(Some(b'a'))),
     ("a", 1, Err(NameRefused::Failed)),
     ("a", 1, Ok(None)),
+    ("a", 1, Err(NameRefused::NoMemory)),
+    ("a", 2, Ok(None)),
 ];
 
 #[test]
@@ -236,7 +238,7 @@ fn a_host_hands_listeners_out(rt: HostRuntime) -> Result<(), Fail> {
         let (bind, port, want) = *case;
         assert!(rt; heard(&mut host, bind, port) == want, "row {row}");
     }
-    assert!(rt; (host.listeners().len(), host.faults(), host.opens()) == (3, 1, 4));
+    assert!(rt; (host.listeners().len(), host.faults(), host.opens()) == (4, 1, 6));
     Ok(())
 }
 

@@ -1,10 +1,9 @@
 -- What the front of a piece does to a session.
-use Rattle.std.proofs.Common.{◌≡◌, ◌∙◌, ℕ, Bool, true, List, [], ◌∷◌, ◌++◌, length, take, drop, flat_map, All, Option, Result, Ok, Err, OnErr, inl, inr, refl, sym, ap, subst, arith, append_assoc, append-nil, length-append, take-append-drop}
+use Rattle.std.proofs.Common.{◌≡◌, ◌∙◌, ℕ, Bool, List, [], ◌∷◌, ◌++◌, length, take, drop, flat_map, All, Option, inl, inr, refl, sym, ap, subst, arith, append_assoc, append-nil, length-append, take-append-drop}
 use Rattle.std.proofs.lemmas.List.{take_at}
 use Rattle.std.proofs.lemmas.List.Elements.{All-nil, All-cons}
 use Rattle.flume_host.specs.Told.{Tells}
-use Rattle.flume_host.specs.Links.{LinkTold, Talks, broke}
-use Rattle.flume_host.proofs.Telling.{tells_more}
+use Rattle.flume_host.specs.Links.{LinkTold, Talks, TalksTo}
 use Rattle.flume_host.proofs.Talking.{talks_none}
 use Rattle.source_put.specs.declared.intake.Verdict.{Verdict}
 use Rattle.netcat_source.specs.Lines.{IsLine, IsTooLong, IsUnbroken, TooLong, joined}
@@ -15,15 +14,6 @@ use Rattle.netcat_source.specs.declared.session.SessionEnd.TheVariants.{End, Sto
 use Rattle.netcat_source.specs.Judged.{said_of, GoesOn}
 use Rattle.netcat_source.specs.Into.{Sides}
 use Rattle.netcat_source.specs.Parts.{Goes, Breaks, AnswerEnds, Answers, LongEnds, TakesOne}
-
--- what holds holds of a refusal
-pub on_err : {A E P : Type 0} (r : Result A E) → P → OnErr r P
-on_err (Ok a) p = tt
-on_err (Err e) p = p
-
--- a call that failed is told
-pub told_failed : (a b : Option LinkTold) → Tells a b (λ t u. u ≡ broke t) → Tells a b (λ t u. u.failed ≡ true)
-told_failed a b = tells_more a b (λ t u. u ≡ broke t) (λ t u. u.failed ≡ true) (λ t u _ _ is. ap (λ (l : LinkTold). l.failed) is)
 
 module _ (max : ℕ) (ack : Bool) {S : Type 0} (Takes : S → List ℕ → Verdict → S → Type 0) where
   -- nothing was done
@@ -37,6 +27,20 @@ module _ (max : ℕ) (ack : Bool) {S : Type 0} (Takes : S → List ℕ → Verdi
   -- a read changed no line
   pub read_goes : (into : S) (x y : Option LinkTold) (held given : List ℕ) (n : ℕ) → Tells x y (Talks given [] n) → Goes max ack Takes (record { into = into; told = x }) (record { into = into; told = y }) held [] held given n
   read_goes into x y held given n talk = record { done = []; takes = refl; each = All-nil (IsLine max); going = All-nil GoesOn; cut = append-nil held; talk = talk }
+
+  -- a read found the end of the link, behind a part of a line
+  pub found_breaks : (into : S) (x y : Option LinkTold) (held : List ℕ) → IsLine max held → Tells x y (TalksTo 1 [] [] 0) → Breaks max ack Takes (record { into = into; told = x }) (record { into = into; told = y }) held [] [] 0 End
+  found_breaks into x y held is talk = record {
+    done = [];
+    takes = refl;
+    each = All-nil (IsLine max);
+    rest = held;
+    sent = [];
+    cut = append-nil held;
+    talk = talk;
+    ends = (record { going = All-nil GoesOn; whole = refl }, is);
+    leaves = tt;
+  }
 
   module _ (a b : Sides S) (held bytes line : List ℕ) (cut : held ++ bytes ≡ line ++ 10 ∷ []) (is : IsLine max line) where
     each : All (IsLine max) (line ∷ [])

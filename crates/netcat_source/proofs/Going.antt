@@ -1,12 +1,11 @@
 -- Parts of a session, one after another.
-use Rattle.std.proofs.Common.{◌≡◌, ◌∙◌, ℕ, ◌+◌, ◌<◌, Bool, true, List, [], ◌∷◌, ◌++◌, take, flat_map, All, Option, inl, inr, refl, sym, ap, subst, arith, append_assoc, append-nil}
+use Rattle.std.proofs.Common.{◌≡◌, ◌∙◌, ℕ, ◌+◌, ◌<◌, Bool, List, [], ◌∷◌, ◌++◌, take, flat_map, All, Option, inl, inr, refl, sym, ap, subst, arith, append_assoc, append-nil}
 use Rattle.std.proofs.lemmas.List.{map-append}
 use Rattle.std.proofs.lemmas.List.Concat.{flat_map-append}
 use Rattle.std.proofs.lemmas.List.Elements.{All-append}
 use Rattle.flume_host.specs.Told.{Tells}
-use Rattle.flume_host.specs.Links.{LinkTold, Talks}
-use Rattle.flume_host.proofs.Telling.{follows}
-use Rattle.flume_host.proofs.Talking.{talks_then}
+use Rattle.flume_host.specs.Links.{LinkTold, Talks, TalksTo, most_turns}
+use Rattle.flume_host.proofs.Talking.{failed_behind, talks_then, talks_to}
 use Rattle.source_put.specs.declared.intake.Verdict.{Verdict}
 use Rattle.netcat_source.specs.Lines.{IsLine, LinesEnd, Rest, TooLong, joined, ended}
 use Rattle.netcat_source.specs.Replies.{reply, replies, end_reply}
@@ -16,8 +15,8 @@ use Rattle.netcat_source.specs.declared.session.SessionEnd.{SessionEnd}
 use Rattle.netcat_source.specs.declared.session.SessionEnd.TheVariants.{End, Stopped, TooLongLine, LinkFault, Turns, NoMemory}
 use Rattle.netcat_source.specs.Judged.{Judged, lines_of, verdicts_of, said_of, GoesOn}
 use Rattle.netcat_source.specs.Into.{Sides, TakesAll}
-use Rattle.netcat_source.specs.Sessions.{Served, EndsBy, EndsAfter, LeavesLink, AllAnswered, SentPart, FailsInReply, FailsAtLong, LacksMemory, most_turns}
-use Rattle.netcat_source.specs.Parts.{Goes, Breaks, IsOfTurn, IsTurnsOf}
+use Rattle.netcat_source.specs.Sessions.{Served, EndsBy, EndsAfter, LeavesLink, AllAnswered, SentPart, FailsInReply, FailsAtLong, LacksMemory, finds}
+use Rattle.netcat_source.specs.Parts.{Goes, Breaks, IsTurnsOf}
 
 lines-append : (xs ys : List Judged) → lines_of (xs ++ ys) ≡ lines_of xs ++ lines_of ys
 lines-append xs ys = map-append (λ (j : Judged). j.line) xs ys
@@ -87,13 +86,9 @@ module _ (max : ℕ) (ack : Bool) (vs ws : List LineVerdict) (rest sent : List �
   ends_then Turns p = (answered_then Rest p.0, p.1)
   ends_then NoMemory p = (lacks_then p.0, ap (λ (l : List ℕ). flat_map (reply ack) vs ++ l) p.1 ∙ sym (replies-append ack vs ws Rest))
 
--- a call that failed behind others
-pub failed_behind : (x y z : Option LinkTold) (given taken : List ℕ) (n : ℕ) → Tells x y (Talks given taken n) → Tells y z (λ t u. u.failed ≡ true) → Tells x z (λ t u. u.failed ≡ true)
-failed_behind x y z given taken n first failed = follows x y z (Talks given taken n) (λ t u. u.failed ≡ true) (λ t u. u.failed ≡ true) (λ t u v _ _ _ _ second. second) first failed
-
 -- what a link tells at the end, it tells also from before
 leaves_then : (x y z : Option LinkTold) (given taken : List ℕ) (n : ℕ) (end : SessionEnd) → Tells x y (Talks given taken n) → LeavesLink end y z → LeavesLink end x z
-leaves_then x y z given taken n End first found = follows x y z (Talks given taken n) (λ t u. u.ended ≡ true) (λ t u. u.ended ≡ true) (λ t u v _ _ _ _ second. second) first found
+leaves_then x y z given taken n End first found = tt
 leaves_then x y z given taken n LinkFault first failed = failed_behind x y z given taken n first failed
 leaves_then x y z given taken n Stopped first found = tt
 leaves_then x y z given taken n TooLongLine first found = tt
@@ -102,7 +97,7 @@ leaves_then x y z given taken n NoMemory first found = tt
 
 -- what a session ends with between two lines
 abbrev pub EndsBetween : SessionEnd → Type 0
-EndsBetween End = Unit {0}
+EndsBetween End = ⊥
 EndsBetween Stopped = Unit {0}
 EndsBetween TooLongLine = ⊥
 EndsBetween LinkFault = Unit {0}
@@ -139,7 +134,7 @@ module _ (max : ℕ) (ack : Bool) {S : Type 0} (Takes : S → List ℕ → Verdi
     rest = q.rest;
     sent = flat_map (reply ack) (verdicts_of p.done) ++ q.sent;
     cut = cuts-append held bytes mid bytes' q.rest p.done q.done p.cut q.cut;
-    talk = talks_then a.told b.told c.told given (flat_map (reply ack) (verdicts_of p.done)) given' q.sent n m p.talk q.talk;
+    talk = talks_to (finds end) a.told b.told c.told given (flat_map (reply ack) (verdicts_of p.done)) given' q.sent n m p.talk q.talk;
     ends =
         let P : List LineVerdict → Type 0 = λ l. EndsBy max ack end l q.rest (flat_map (reply ack) (verdicts_of p.done) ++ q.sent) in
         subst P (sym (verdicts-append p.done q.done)) (ends_then max ack (verdicts_of p.done) (verdicts_of q.done) q.rest q.sent p.going end q.ends);
@@ -155,7 +150,7 @@ module _ (max : ℕ) (ack : Bool) {S : Type 0} (Takes : S → List ℕ → Verdi
     rest = p.rest;
     sent = p.sent;
     turns = n;
-    talk = let P : List ℕ → Type 0 = λ l. Tells a.told c.told (Talks l p.sent n) in subst P p.cut p.talk;
+    talk = let P : List ℕ → Type 0 = λ l. Tells a.told c.told (TalksTo (finds end) l p.sent n) in subst P p.cut p.talk;
     ends = p.ends;
     leaves = p.leaves;
     after = after;
@@ -163,14 +158,14 @@ module _ (max : ℕ) (ack : Bool) {S : Type 0} (Takes : S → List ℕ → Verdi
 
   -- between two lines a session may end
   pub ends_between : {a c : Sides S} {held bytes left given : List ℕ} {n : ℕ} → Goes max ack Takes a c held bytes left given n → IsLine max left → (end : SessionEnd) → EndsBetween end → LeavesLink end a.told c.told → Breaks max ack Takes a c held bytes given n end
-  ends_between {left = left} p is end between leaves = record {
+  ends_between {a} {c} {left = left} {given} {n} p is end between leaves = record {
     done = p.done;
     takes = p.takes;
     each = p.each;
     rest = left;
     sent = flat_map (reply ack) (verdicts_of p.done);
     cut = p.cut;
-    talk = p.talk;
+    talk = talk_by end between;
     ends = by_end end between;
     leaves = leaves;
   }
@@ -179,12 +174,20 @@ module _ (max : ℕ) (ack : Bool) {S : Type 0} (Takes : S → List ℕ → Verdi
       all = record { going = p.going; whole = sym (append-nil (flat_map (reply ack) (verdicts_of p.done))) }
 
       by_end : (end : SessionEnd) → EndsBetween end → EndsBy max ack end (verdicts_of p.done) left (flat_map (reply ack) (verdicts_of p.done))
-      by_end End b = (all, is)
+      by_end End b = absurd b
       by_end Stopped b = all
       by_end TooLongLine b = absurd b
       by_end LinkFault b = inl (all, is)
       by_end Turns b = (all, is)
       by_end NoMemory b = absurd b
+
+      talk_by : (end : SessionEnd) → EndsBetween end → Tells a.told c.told (TalksTo (finds end) given (flat_map (reply ack) (verdicts_of p.done)) n)
+      talk_by End b = absurd b
+      talk_by Stopped b = p.talk
+      talk_by TooLongLine b = absurd b
+      talk_by LinkFault b = p.talk
+      talk_by Turns b = p.talk
+      talk_by NoMemory b = absurd b
 
   -- a session that was told to stop leaves the rest of what was read
   pub stops_amid : {a c : Sides S} {held bytes left given : List ℕ} {n : ℕ} → Goes max ack Takes a c held bytes left given n → (rest all : List ℕ) → bytes ++ rest ≡ all → Breaks max ack Takes a c held all given n Stopped
@@ -217,19 +220,19 @@ module _ (max : ℕ) (ack : Bool) {S : Type 0} (Takes : S → List ℕ → Verdi
   turn_breaks {a} {c = c} {held = held} {end = end} piece p q = let P : List ℕ → Type 0 = λ l. Breaks max ack Takes a c held piece l 1 end in subst P (append-nil piece) (breaks_then p q)
 
 -- a read that gave bytes is one turn
-pub one_turn : (end : SessionEnd) → IsOfTurn end → (end ≡ End → ⊥) → IsTurnsOf end 1
+pub one_turn : (end : SessionEnd) → (end ≡ Turns → ⊥) → (end ≡ End → ⊥) → IsTurnsOf end 1
 one_turn End of other = absurd (other refl)
 one_turn Stopped of other = omega arith
 one_turn TooLongLine of other = omega arith
 one_turn LinkFault of other = omega arith
-one_turn Turns of other = absurd of
+one_turn Turns of other = absurd (of refl)
 one_turn NoMemory of other = omega arith
 
 -- behind some turns one more ended the session
-pub after_turn : (end : SessionEnd) (n m : ℕ) → IsOfTurn end → IsTurnsOf end m → n < most_turns → EndsAfter end (n + m)
+pub after_turn : (end : SessionEnd) (n m : ℕ) → (end ≡ Turns → ⊥) → IsTurnsOf end m → n < most_turns → EndsAfter end (n + m)
 after_turn End n m of one few = omega (arith, one, few)
 after_turn Stopped n m of one few = omega (arith, one, few)
 after_turn TooLongLine n m of one few = omega (arith, one, few)
 after_turn LinkFault n m of one few = omega (arith, one, few)
-after_turn Turns n m of one few = absurd of
+after_turn Turns n m of one few = absurd (of refl)
 after_turn NoMemory n m of one few = omega (arith, one, few)

@@ -1,11 +1,11 @@
 -- Whatever the pieces of a text, feeding them brings the lines of the whole.
-use Rattle.std.proofs.Common.{◌≡◌, ◌∙◌, ℕ, List, [], ◌∷◌, ◌++◌, length, take, drop, sym, ap, subst, arith, append_assoc, append-nil, length-append, take-append-drop}
+use Rattle.std.proofs.Common.{◌≡◌, ◌∙◌, ℕ, ◌+◌, List, [], ◌∷◌, ◌++◌, length, take, drop, sym, ap, subst, arith, append_assoc, append-nil, length-append, take-append-drop}
 use Rattle.std.proofs.lemmas.List.{drop_all, take_at}
 use Rattle.std.proofs.lemmas.List.Elements.{All-nil, All-cons}
 use Rattle.netcat_source.specs.declared.lines.Cut.{Cut}
 use Rattle.netcat_source.specs.Lines.{IsLine, IsUnbroken, IsCut, LinesEnd, TooLong, joined}
 use Rattle.netcat_source.specs.Feed.{LineState, begun}
-use Rattle.netcat_source.specs.Pieces.{IsFed, Done, GoesOn, Brings, Stops, FeedingCuts, AnyPieces}
+use Rattle.netcat_source.specs.Pieces.{IsFed, Done, GoesOn, Brings, Passes, Stops, FeedingCuts, AnyPieces}
 use Rattle.netcat_source.proofs.OneCut.{one_cut}
 
 -- a front of the piece, and the rest of it with all that follows
@@ -56,6 +56,10 @@ fed_cuts before text lines end (Brings old after piece rest n more last f fed) i
     let holds : IsLine after.max (begun after.at after.line) = rw (none, f.max) (record { short = omega (arith, f.holds.short); unbroken = All-nil (λ b. b ≡ 10 → ⊥) }) in
     let cut = rw (none, f.max) at (fed_cuts after (drop n piece ++ rest) more last fed holds) in
     line_cuts old.max (begun old.at old.line) piece rest n after.line more last f.takes.2 f.holds cut
+fed_cuts before text lines end (Passes now piece rest line more last w fed) is =
+    let n : ℕ = length line + 1 in
+    let cut = rw w.none at (fed_cuts now (drop n piece ++ rest) more last fed is) in
+    rw w.none (line_cuts now.max [] piece rest n line more last w.front w.is cut)
 fed_cuts before text lines end (Stops old after piece rest n f) is =
     long_cuts old.max (begun old.at old.line) piece rest n after.line [] TooLong f.takes.1 f.holds.0 f.holds.1
 

@@ -5,20 +5,13 @@ use Rattle.flume_host.specs.Links.{LinkTold}
 use Rattle.selectors.specs.declared.selector.Selector.{Selector}
 use Rattle.source_put.specs.declared.chain.HostNames.{HostNames}
 use Rattle.source_put.specs.declared.intake.Intake.{Intake}
+use Rattle.source_put.specs.Into.{Into, into_of}
 use Rattle.source_put.specs.declared.intake.Verdict.{Verdict}
 use Rattle.source_put.specs.declared.intake.Verdict.TheVariants.{NoMemory}
 use Rattle.source_put.specs.Chains.{Meaning}
 use Rattle.source_put.specs.Tries.{Giving}
-use Rattle.source_put.specs.Routes.{Route, Accepts, route_of}
+use Rattle.source_put.specs.Routes.{Accepts}
 use Rattle.netcat_source.specs.Judged.{Judged, event_of}
-
--- the chain and the channels of a source, and the moments that are to come, where they are told
-pub record Into (F B : Type 0) : Type 0 where
-  pub route : Route F B
-  pub moments : Option (ℕ → ℕ)
-
-abbrev pub into_of : {F B : Type 0} → Intake F B → Option (ℕ → ℕ) → Into F B
-into_of intake moments = record { route = route_of intake; moments = moments }
 
 module _ {F : Type 0} (Given : Giving F) (selector : Selector) {B : Type 0} (Means : Meaning B)
     (host : HostNames) where

@@ -1,8 +1,8 @@
 -- Parts of a session: what its functions say of themselves.
-use Rattle.std.specs.Prelude.{◌≡◌, ◌<◌, ◌≤◌, ℕ, Bool, true, List, [], ◌++◌, length, take, flat_map, All}
+use Rattle.std.specs.Prelude.{◌≡◌, ◌≤◌, ℕ, Bool, List, [], ◌++◌, flat_map, All}
 use Rattle.std.specs.Prelude.{Option}
 use Rattle.flume_host.specs.Told.{Tells}
-use Rattle.flume_host.specs.Links.{LinkTold, Talks}
+use Rattle.flume_host.specs.Links.{BreaksOff, LinkTold, Talks, TalksTo}
 use Rattle.source_put.specs.declared.intake.Verdict.{Verdict}
 use Rattle.netcat_source.specs.Feed.{LineState, begun}
 use Rattle.netcat_source.specs.Lines.{IsLine, TooLong, joined}
@@ -14,18 +14,11 @@ use Rattle.netcat_source.specs.declared.session.SessionEnd.TheVariants.{End, Sto
 use Rattle.netcat_source.specs.declared.session.SessionEnd.TheVariants.{Turns, NoMemory}
 use Rattle.netcat_source.specs.Judged.{Judged, said_of, lines_of, verdicts_of, GoesOn}
 use Rattle.netcat_source.specs.Into.{Sides, TakesAll}
-use Rattle.netcat_source.specs.Sessions.{EndsBy, LeavesLink}
+use Rattle.netcat_source.specs.Sessions.{EndsBy, LeavesLink, finds}
 
 -- the bytes of the line that isn't whole yet
 abbrev pub held_by : LineState → List ℕ
 held_by lines = begun lines.at lines.line
-
--- a write of these bytes failed: a part of them was sent
-pub record BreaksOff (bytes : List ℕ) (old new : Option LinkTold) : Type 0 where
-  pub count : ℕ
-  pub short : count < length bytes
-  pub talk : Tells old new (Talks [] (take count bytes) 0)
-  pub failed : Tells old new (λ t u. u.failed ≡ true)
 
 -- how the answer to a line ends a session
 abbrev pub AnswerEnds : Bool → LineVerdict → Option LinkTold → Option LinkTold → SessionEnd → Type 0
@@ -49,15 +42,6 @@ LongEnds old new NoMemory = ⊥
 -- a line was answered, and the session goes on
 abbrev pub Answers : Bool → LineVerdict → Option LinkTold → Option LinkTold → Type 0
 Answers ack verdict old new = GoesOn verdict × Tells old new (Talks [] (reply ack verdict) 0)
-
--- what ends a turn
-abbrev pub IsOfTurn : SessionEnd → Type 0
-IsOfTurn End = Unit {0}
-IsOfTurn Stopped = Unit {0}
-IsOfTurn TooLongLine = Unit {0}
-IsOfTurn LinkFault = Unit {0}
-IsOfTurn Turns = ⊥
-IsOfTurn NoMemory = Unit {0}
 
 -- how many turns one is that ended so: at the link's end it is none, as before its read or where that failed
 abbrev pub IsTurnsOf : SessionEnd → ℕ → Type 0
@@ -93,6 +77,6 @@ module _ (max : ℕ) (ack : Bool) {S : Type 0} (Takes : S → List ℕ → Verdi
     pub rest : List ℕ
     pub sent : List ℕ
     pub cut : held ++ bytes ≡ joined (lines_of done) ++ rest
-    pub talk : Tells old.told new.told (Talks given sent turns)
+    pub talk : Tells old.told new.told (TalksTo (finds end) given sent turns)
     pub ends : EndsBy max ack end (verdicts_of done) rest sent
     pub leaves : LeavesLink end old.told new.told

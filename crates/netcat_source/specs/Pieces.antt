@@ -1,11 +1,12 @@
 -- A text that comes in pieces.
-use Rattle.std.specs.Prelude.{◌≡◌, ℕ, List, [], ◌∷◌, ◌++◌, drop}
+use Rattle.std.specs.Prelude.{◌≡◌, ℕ, ◌+◌, List, [], ◌∷◌, ◌++◌, length, drop}
 use Rattle.netcat_source.specs.declared.lines.Cut.TheVariants as brings
 use Rattle.netcat_source.specs.Lines.{IsLine, IsCut, LinesEnd, Rest, TooLong}
-use Rattle.netcat_source.specs.Feed.{LineState, begun, Feeds}
+use Rattle.netcat_source.specs.Feed.{LineState, begun, Feeds, StandsWhole}
 
 -- A text that is fed to a cutter: each call gets some front of what is left of the text, and what it took is
--- gone. The lines that were brought, and what is behind them. Nothing is fed behind a line that is too long.
+-- gone; a line that stands whole in such a front may be passed over with its newline instead. The lines that were
+-- brought, and what is behind them. Nothing is fed behind a line that is too long.
 pub data IsFed : LineState → List ℕ → List (List ℕ) → LinesEnd → Type 0 where
   Done : (now : LineState) → IsFed now [] [] Rest
   GoesOn : (before after : LineState) (piece rest : List ℕ) (n : ℕ) (lines : List (List ℕ)) (end : LinesEnd)
@@ -14,6 +15,9 @@ pub data IsFed : LineState → List ℕ → List (List ℕ) → LinesEnd → Typ
   Brings : (before after : LineState) (piece rest : List ℕ) (n : ℕ) (lines : List (List ℕ)) (end : LinesEnd)
       → Feeds before piece n brings.Line after → IsFed after (drop n piece ++ rest) lines end
       → IsFed before (piece ++ rest) (after.line ∷ lines) end
+  Passes : (now : LineState) (piece rest line : List ℕ) (lines : List (List ℕ)) (end : LinesEnd)
+      → StandsWhole now piece line → IsFed now (drop (length line + 1) piece ++ rest) lines end
+      → IsFed now (piece ++ rest) (line ∷ lines) end
   Stops : (before after : LineState) (piece rest : List ℕ) (n : ℕ)
       → Feeds before piece n brings.TooLong after → IsFed before (piece ++ rest) [] TooLong
 

@@ -1,8 +1,8 @@
 -- What a session of lines on a link has done, and how it ended.
-use Rattle.std.specs.Prelude.{◌≡◌, ◌⊎◌, ◌<◌, ◌≤◌, ◌^◌, ℕ, Bool, true, List, [], ◌∷◌, ◌++◌, length, take}
+use Rattle.std.specs.Prelude.{◌≡◌, ◌⊎◌, ◌<◌, ◌≤◌, ℕ, Bool, List, [], ◌∷◌, ◌++◌, length, take}
 use Rattle.std.specs.Prelude.{flat_map, All, Option}
 use Rattle.flume_host.specs.Told.{Tells}
-use Rattle.flume_host.specs.Links.{LinkTold, Talks}
+use Rattle.flume_host.specs.Links.{FailedLast, LinkTold, TalksTo, most_turns}
 use Rattle.source_put.specs.declared.intake.Verdict.{Verdict}
 use Rattle.netcat_source.specs.Lines.{IsLine, IsTooLong, LinesEnd, Rest, TooLong, joined}
 use Rattle.netcat_source.specs.Replies.{reply, replies, end_reply}
@@ -13,10 +13,6 @@ use Rattle.netcat_source.specs.declared.session.SessionEnd.TheVariants.{End, Sto
 use Rattle.netcat_source.specs.declared.session.SessionEnd.TheVariants.{Turns, NoMemory}
 use Rattle.netcat_source.specs.Judged.{Judged, lines_of, verdicts_of, GoesOn}
 use Rattle.netcat_source.specs.Into.{Sides, TakesAll}
-
--- the most turns of a session
-abbrev pub most_turns : ℕ
-most_turns = 2 ^ 40
 
 -- Every line was answered, and the session goes on.
 pub record AllAnswered (ack : Bool) (verdicts : List LineVerdict) (end : LinesEnd) (sent : List ℕ)
@@ -72,14 +68,15 @@ EndsAfter TooLongLine turns = turns ≤ most_turns
 EndsAfter LinkFault turns = turns ≤ most_turns
 EndsAfter NoMemory turns = turns ≤ most_turns
 
--- what the link tells at this end: its end was found, or its last call failed
+-- how many reads of a session that ends so found the link's end
+abbrev pub finds : SessionEnd → ℕ
+finds End = 1
+finds other = 0
+
+-- where a fault ended it, the link's last call failed
 abbrev pub LeavesLink : SessionEnd → Option LinkTold → Option LinkTold → Type 0
-LeavesLink End old new = Tells old new (λ t u. u.ended ≡ true)
-LeavesLink LinkFault old new = Tells old new (λ t u. u.failed ≡ true)
-LeavesLink Stopped old new = Unit {0}
-LeavesLink TooLongLine old new = Unit {0}
-LeavesLink Turns old new = Unit {0}
-LeavesLink NoMemory old new = Unit {0}
+LeavesLink LinkFault old new = FailedLast old new
+LeavesLink other old new = Unit {0}
 
 module _ (max : ℕ) (ack : Bool) {S : Type 0} (Takes : S → List ℕ → Verdict → S → Type 0) where
   -- A whole session: what the link gave is the lines that were taken, one accept each and in order, and the
@@ -91,7 +88,7 @@ module _ (max : ℕ) (ack : Bool) {S : Type 0} (Takes : S → List ℕ → Verdi
     pub rest : List ℕ
     pub sent : List ℕ
     pub turns : ℕ
-    pub talk : Tells old.told new.told (Talks (joined (lines_of done) ++ rest) sent turns)
+    pub talk : Tells old.told new.told (TalksTo (finds end) (joined (lines_of done) ++ rest) sent turns)
     pub ends : EndsBy max ack end (verdicts_of done) rest sent
     pub leaves : LeavesLink end old.told new.told
     pub after : EndsAfter end turns

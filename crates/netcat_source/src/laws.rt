@@ -8,7 +8,7 @@ pub fn one_cut()
 {}
 
 /// Whatever the pieces of a text, feeding them to a cutter brings the lines and the end of the whole, and so the same as
-/// any other pieces.
+/// any other pieces; also where lines that `Lines::whole` found in a piece were passed over.
 pub fn pieces_cut()
     ensures whole { FeedingCuts }
     ensures same { AnyPieces }

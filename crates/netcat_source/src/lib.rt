@@ -8,7 +8,6 @@ mod replies;
 mod session;
 mod take;
 mod worker;
-mod write;
 
 pub use laws::{one_cut, pieces_cut};
 pub use lines::{Cut, Lines};

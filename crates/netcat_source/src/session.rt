@@ -1,18 +1,18 @@
 // One session of lines on a link.
 ghost use Rattle.std.specs.Prelude.{◌≡◌, ◌⊎◌, ◌<◌, ◌≤◌, ◌^◌, [], List, ℕ, length, take, IfOk, OnOk, IfErr, IsErrOf};
-ghost use Rattle.flume_host.specs.Causes.{Rose};
+ghost use Rattle.flume_host.specs.Causes.{RisesWhere};
 ghost use Rattle.netcat_source.specs.Lines.{IsLine, IsLineLimit};
-ghost use Rattle.netcat_source.specs.Into.{TakesLine, into_of, sides};
+ghost use Rattle.netcat_source.specs.Into.{TakesLine, sides};
+ghost use Rattle.source_put.specs.Into.{into_of};
 ghost use Rattle.netcat_source.specs.Sessions.{Served};
-ghost use Rattle.netcat_source.specs.Parts.{AnswerEnds, Answers, Breaks, Goes, IsOfTurn, IsTurnsOf, LongEnds, TakesOne, held_by};
+ghost use Rattle.netcat_source.specs.Parts.{AnswerEnds, Answers, Breaks, Goes, IsTurnsOf, LongEnds, TakesOne, held_by};
 ghost use Rattle.source_put.specs.Tries.{Puts};
 
 use crate::lines::{Cut, Lines};
 use crate::replies::{LineVerdict, TOO_LONG_REPLY, reply_to};
 use crate::take::{said_of, take_line};
-use crate::write::write_all;
 use channel_face::PutFace;
-use flume_host::{Clock, Halt, Link, LinkRead};
+use flume_host::{Clock, Halt, Link, LinkRead, write_all};
 use plug_in::Interceptor;
 use source_put::Intake;
 use std::alloc::Global;
@@ -47,9 +47,7 @@ pub enum SessionEnd {
 fn answer<L: Link>(link: &mut L, verdict: LineVerdict, ack: bool) -> Result<(), SessionEnd>
     ensures ok { OnOk result (Answers ack verdict (L.told link.old) (L.told link.new)) }
     ensures ends { IfErr result (AnswerEnds ack verdict (L.told link.old) (L.told link.new)) }
-    ensures fault { IsErrOf result SessionEnd.LinkFault → Rose (L.faults link.old) (L.faults link.new) }
-    ensures later { L.faults link.old ≤ L.faults link.new }
-    ensures well { OnOk result (L.faults link.new ≡ L.faults link.old) }
+    ensures fault { RisesWhere (IsErrOf result SessionEnd.LinkFault) (L.faults link.old) (L.faults link.new) }
 {
     match write_all(link, reply_to(verdict, ack)) {
         Ok(()) => match verdict {
@@ -74,9 +72,7 @@ fn serve_line<L: Link, F: PutFace + Drop, B: Interceptor, C: Clock>(
         (into_of intake.old (C.moments clock.old)) line.now (into_of intake.new (C.moments clock.new)) (λ said. Answers ack said (L.told link.old) (L.told link.new))) }
     ensures ends { IfErr result (λ end. TakesOne (TakesLine (Puts F.own F.saw F.seen F.kept) intake.old.selector B.intercepts intake.old.host)
         (into_of intake.old (C.moments clock.old)) line.now (into_of intake.new (C.moments clock.new)) (λ said. AnswerEnds ack said (L.told link.old) (L.told link.new) end)) }
-    ensures fault { IsErrOf result SessionEnd.LinkFault → Rose (L.faults link.old) (L.faults link.new) }
-    ensures later { L.faults link.old ≤ L.faults link.new }
-    ensures well { OnOk result (L.faults link.new ≡ L.faults link.old) }
+    ensures fault { RisesWhere (IsErrOf result SessionEnd.LinkFault) (L.faults link.old) (L.faults link.new) }
     ensures same { (intake.new.selector ≡ intake.old.selector) × (intake.new.host ≡ intake.old.host) }
 {
     let verdict = take_line(alloc, intake, clock, line);
@@ -86,8 +82,7 @@ fn serve_line<L: Link, F: PutFace + Drop, B: Interceptor, C: Clock>(
 // Says of a line that it is too long.
 fn refuse_long<L: Link>(link: &mut L) -> SessionEnd
     ensures ends { LongEnds (L.told link.old) (L.told link.new) result }
-    ensures fault { result ≡ SessionEnd.LinkFault → Rose (L.faults link.old) (L.faults link.new) }
-    ensures later { L.faults link.old ≤ L.faults link.new }
+    ensures fault { RisesWhere (result ≡ SessionEnd.LinkFault) (L.faults link.old) (L.faults link.new) }
 {
     match write_all(link, TOO_LONG_REPLY) {
         Ok(()) => SessionEnd::TooLongLine,
@@ -115,12 +110,10 @@ fn serve_front<L: Link, F: PutFace + Drop, B: Interceptor, C: Clock>(
         (held_by lines.old) (take n rest.now) (held_by lines.new) [] 0) }
     ensures breaks { IfErr result (Breaks lines.old.max ack (TakesLine (Puts F.own F.saw F.seen F.kept) intake.old.selector B.intercepts intake.old.host)
         (sides intake.old (C.moments clock.old) (L.told link.old)) (sides intake.new (C.moments clock.new) (L.told link.new)) (held_by lines.old) rest.now [] 0) }
-    ensures kind { IfErr result IsOfTurn }
+    ensures turn { ¬ IsErrOf result SessionEnd.Turns }
     ensures end { ¬ IsErrOf result SessionEnd.End }
     ensures stop { ¬ IsErrOf result SessionEnd.Stopped }
-    ensures fault { IsErrOf result SessionEnd.LinkFault → Rose (L.faults link.old) (L.faults link.new) }
-    ensures later { L.faults link.old ≤ L.faults link.new }
-    ensures well { OnOk result (L.faults link.new ≡ L.faults link.old) }
+    ensures fault { RisesWhere (IsErrOf result SessionEnd.LinkFault) (L.faults link.old) (L.faults link.new) }
     ensures same { (intake.new.selector ≡ intake.old.selector) × (intake.new.host ≡ intake.old.host) }
 {
     if let Some(line) = lines.whole(rest) {
@@ -160,13 +153,10 @@ fn serve_piece<L: Link, F: PutFace + Drop, B: Interceptor, C: Clock, H: Halt>(
         (held_by lines.old) piece.now (held_by lines.new) [] 0) }
     ensures breaks { IfErr result (Breaks lines.old.max ack (TakesLine (Puts F.own F.saw F.seen F.kept) intake.old.selector B.intercepts intake.old.host)
         (sides intake.old (C.moments clock.old) (L.told link.old)) (sides intake.new (C.moments clock.new) (L.told link.new)) (held_by lines.old) piece.now [] 0) }
-    ensures kind { IfErr result IsOfTurn }
+    ensures turn { ¬ IsErrOf result SessionEnd.Turns }
     ensures end { ¬ IsErrOf result SessionEnd.End }
-    ensures fault { IsErrOf result SessionEnd.LinkFault → Rose (L.faults link.old) (L.faults link.new) }
-    ensures stop { IsErrOf result SessionEnd.Stopped → Rose (H.yes halt.old) (H.yes halt.new) }
-    ensures later { L.faults link.old ≤ L.faults link.new }
-    ensures halts { H.yes halt.old ≤ H.yes halt.new }
-    ensures well { OnOk result (L.faults link.new ≡ L.faults link.old) }
+    ensures fault { RisesWhere (IsErrOf result SessionEnd.LinkFault) (L.faults link.old) (L.faults link.new) }
+    ensures stop { RisesWhere (IsErrOf result SessionEnd.Stopped) (H.yes halt.old) (H.yes halt.new) }
     ensures same { (intake.new.selector ≡ intake.old.selector) × (intake.new.host ≡ intake.old.host) }
 {
     let mut at = 0;
@@ -206,12 +196,9 @@ fn serve_turn<L: Link, F: PutFace + Drop, B: Interceptor, C: Clock, H: Halt>(
         (TakesLine (Puts F.own F.saw F.seen F.kept) intake.old.selector B.intercepts intake.old.host)
         (sides intake.old (C.moments clock.old) (L.told link.old)) (sides intake.new (C.moments clock.new) (L.told link.new))
         (held_by lines.old) bytes bytes turns end) }
-    ensures kind { IfErr result IsOfTurn }
-    ensures fault { IsErrOf result SessionEnd.LinkFault → Rose (L.faults link.old) (L.faults link.new) }
-    ensures stop { IsErrOf result SessionEnd.Stopped → Rose (H.yes halt.old) (H.yes halt.new) }
-    ensures later { L.faults link.old ≤ L.faults link.new }
-    ensures halts { H.yes halt.old ≤ H.yes halt.new }
-    ensures well { OnOk result (L.faults link.new ≡ L.faults link.old) }
+    ensures turn { ¬ IsErrOf result SessionEnd.Turns }
+    ensures fault { RisesWhere (IsErrOf result SessionEnd.LinkFault) (L.faults link.old) (L.faults link.new) }
+    ensures stop { RisesWhere (IsErrOf result SessionEnd.Stopped) (H.yes halt.old) (H.yes halt.new) }
     ensures same { (intake.new.selector ≡ intake.old.selector) × (intake.new.host ≡ intake.old.host) }
 {
     if halt.asked() {
@@ -248,10 +235,8 @@ fn serve_until<L: Link, F: PutFace + Drop, B: Interceptor, C: Clock, H: Halt>(
     requires held { held_by lines.old ≡ [] }
     ensures served { Served lines.old.max ack (TakesLine (Puts F.own F.saw F.seen F.kept) intake.old.selector B.intercepts intake.old.host)
         (sides intake.old (C.moments clock.old) (L.told link.old)) (sides intake.new (C.moments clock.new) (L.told link.new)) result }
-    ensures fault { result ≡ SessionEnd.LinkFault → Rose (L.faults link.old) (L.faults link.new) }
-    ensures stop { result ≡ SessionEnd.Stopped → Rose (H.yes halt.old) (H.yes halt.new) }
-    ensures later { L.faults link.old ≤ L.faults link.new }
-    ensures halts { H.yes halt.old ≤ H.yes halt.new }
+    ensures fault { RisesWhere (result ≡ SessionEnd.LinkFault) (L.faults link.old) (L.faults link.new) }
+    ensures stop { RisesWhere (result ≡ SessionEnd.Stopped) (H.yes halt.old) (H.yes halt.new) }
     ensures same { (intake.new.selector ≡ intake.old.selector) × (intake.new.host ≡ intake.old.host) }
 {
     let mut turns = 0;
@@ -279,10 +264,8 @@ pub fn serve_netcat<L: Link, F: PutFace + Drop, B: Interceptor, C: Clock, H: Hal
     ensures served { Served rules.now.max rules.now.ack (TakesLine (Puts F.own F.saw F.seen F.kept) intake.old.selector B.intercepts intake.old.host)
         (sides intake.old (C.moments clock.old) (L.told link.old)) (sides intake.new (C.moments clock.new) (L.told link.new)) result
         ⊎ ((result ≡ SessionEnd.NoMemory) × (L.told link.new ≡ L.told link.old) × (intake.new ≡ intake.old) × (C.moments clock.new ≡ C.moments clock.old)) }
-    ensures fault { result ≡ SessionEnd.LinkFault → Rose (L.faults link.old) (L.faults link.new) }
-    ensures stop { result ≡ SessionEnd.Stopped → Rose (H.yes halt.old) (H.yes halt.new) }
-    ensures later { L.faults link.old ≤ L.faults link.new }
-    ensures halts { H.yes halt.old ≤ H.yes halt.new }
+    ensures fault { RisesWhere (result ≡ SessionEnd.LinkFault) (L.faults link.old) (L.faults link.new) }
+    ensures stop { RisesWhere (result ≡ SessionEnd.Stopped) (H.yes halt.old) (H.yes halt.new) }
     ensures same { (intake.new.selector ≡ intake.old.selector) × (intake.new.host ≡ intake.old.host) }
 {
     let Ok(mut lines) = Lines::new(alloc, rules.max) else {

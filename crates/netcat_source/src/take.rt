@@ -2,7 +2,8 @@
 ghost use Rattle.std.specs.Prelude.{◌≡◌, ◌<◌, [], ◌∷◌, length, IfOk};
 ghost use Rattle.source_put.specs.Tries.{Puts};
 ghost use Rattle.netcat_source.specs.Judged.{event_of, said_of};
-ghost use Rattle.netcat_source.specs.Into.{TakesLine, into_of};
+ghost use Rattle.netcat_source.specs.Into.{TakesLine};
+ghost use Rattle.source_put.specs.Into.{into_of};
 
 use crate::replies::LineVerdict;
 use channel_face::{FaceRefused, PutFace};

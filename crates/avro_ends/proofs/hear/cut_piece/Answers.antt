@@ -9,11 +9,11 @@ none = InHead (omega arith)
 
 pub returns-in-Ok-default-Some : goal.returns-in-Ok-default-Some
 returns-in-Ok-default-Some c =
-    let feeds = rw (c.in-Ok-default-Some.is, c.in-Ok-default-Some.field-0-1-is) at c.feed.ensures in
+    let feeds = rw (c.in-Ok-default-Some.is, c.in-Ok-default-Some.field-0-1-is) at c.feed.ensures.feeds in
     let all = feeds_all _ _ _ _ _ c.no_pack_within.ensures.part none c.requires.opened feeds in
     cuts_at _ _ _ _ _ all.pack
 
 pub returns-in-Ok-default-None : goal.returns-in-Ok-default-None
 returns-in-Ok-default-None c =
-    let feeds = rw (c.in-Ok-default-None.is, c.in-Ok-default-None.field-0-1-is) at c.feed.ensures in
+    let feeds = rw (c.in-Ok-default-None.is, c.in-Ok-default-None.field-0-1-is) at c.feed.ensures.feeds in
     piece_part _ _ _ _ c.requires.opened feeds

@@ -1,11 +1,11 @@
-use Rattle.std.proofs.Common.{◌≡◌, ◌∙◌, ◌+◌, ◌++◌, [], take, drop, sym, refl, arith, take-append-drop}
+use Rattle.std.proofs.Common.{◌∙◌, ◌+◌, take, drop, sym, refl, arith, take-append-drop}
 use Rattle.std.proofs.Math.Seq.{take-add}
 use Rattle.std.proofs.lemmas.List.{take_rest}
 use Rattle.avro_ends.proofs.Going.{breaks_behind, goes_behind, goes_none, stops_amid}
 use Rattle.avro_ends.proofs.session.serve_piece.Goals as goal
 
 pub loop-at-init : goal.loop-at-init
-loop-at-init g c = record { within = omega arith; opened = c.requires; well = refl; halts = omega arith; selector = refl; host = refl; goes = goes_none _ _ _ _ _ }
+loop-at-init g c = record { within = omega arith; opened = c.requires; well = refl; halts = refl; selector = refl; host = refl; goes = goes_none _ _ _ _ _ }
 
 pub returns-then-asked-clause-breaks : goal.returns-then-asked-clause-breaks
 returns-then-asked-clause-breaks g c = stops_amid _ c.loop-at.invariant.goes (drop c.loop-at.at c.args.piece.now) c.args.piece.now (take-append-drop c.loop-at.at c.args.piece.now)
@@ -25,8 +25,8 @@ loop-at-preserved g c =
     record {
       within = omega (arith, c.in-Ok.ensures.n);
       opened = c.in-Ok.ensures.open;
-      well = c.in-Ok.ensures.well ∙ i.well;
-      halts = omega (arith, i.halts, c.asked.ensures.later);
+      well = c.in-Ok.ensures.fault.same (λ is. cc) ∙ i.well;
+      halts = c.asked.ensures.still c.if-asked.false ∙ i.halts;
       selector = c.serve_next.ensures.same.0 ∙ i.selector;
       host = c.serve_next.ensures.same.1 ∙ i.host;
       goes = goes_behind _ (take (c.loop-at.at + n) xs) (sym (take-add c.loop-at.at n xs)) i.goes goes;

@@ -11,7 +11,7 @@ invariant-loop-at g l = record {
   max : l.lines.max ≡ l.initial.lines.max;
   partial : IsLine l.lines.max (held_by l.lines);
   well : g.L.Link.faults l.link ≡ g.L.Link.faults l.initial.link;
-  halts : g.H.Halt.yes l.initial.halt ≤ g.H.Halt.yes l.halt;
+  halts : g.H.Halt.yes l.halt ≡ g.H.Halt.yes l.initial.halt;
   selector : l.intake.selector ≡ l.initial.intake.selector;
   host : l.intake.host ≡ l.initial.intake.host;
   goes : Goes l.initial.lines.max l.ack (TakesLine (Puts g.F.PutFace.own g.F.PutFace.saw g.F.PutFace.seen g.F.PutFace.kept) l.initial.intake.selector g.B.Interceptor.intercepts l.initial.intake.host)

@@ -1,4 +1,4 @@
-use Rattle.std.proofs.Common.{◌∙◌, List, Some, sym, ap}
+use Rattle.std.proofs.Common.{◌∙◌, refl, List, Some, sym, ap}
 use Rattle.host_memory.specs.declared.named.Named.{Named}
 use Rattle.host_memory.specs.declared.mem_roll.MemRoll.{MemRoll}
 use Rattle.host_memory.specs.Words.{no_files}
@@ -21,10 +21,7 @@ pub returns-clause-told : goal.returns-clause-told
 returns-clause-told c = (back c).told
 
 pub returns-clause-others : goal.returns-clause-others
-returns-clause-others c = (back c).others
+returns-clause-others c = record { rolls = (back c).others; opened = λ p differ. (back c).opened p; disks = refl; disks_opened = refl }
 
-pub returns-clause-rooms : goal.returns-clause-rooms
-returns-clause-rooms c = (back c).rooms
-
-pub returns-clause-no_more : goal.returns-clause-no_more
-returns-clause-no_more c = (back c).no_more
+pub returns-clause-opened : goal.returns-clause-opened
+returns-clause-opened c = (back c).opened c.args.path.now ∙ c.requires

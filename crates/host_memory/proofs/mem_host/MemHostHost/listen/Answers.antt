@@ -1,7 +1,7 @@
 use Rattle.std.proofs.Common.{Some, refl}
-use Rattle.host_memory.specs.Ends.{handed_out}
-use Rattle.host_memory.specs.Listens.{ear_told}
+use Rattle.host_memory.specs.Listens.{listener_told}
+use Rattle.host_memory.specs.HostWords.{listeners_of}
 use Rattle.host_memory.proofs.mem_host.MemHostHost.listen.Goals as goal
 
-pub returns-in-Ok-clause-state : goal.returns-in-Ok-clause-state
-returns-in-Ok-clause-state c = (c.args.self.now.faults, Some (handed_out ear_told c.hand_out.new.self), refl, c.in-Ok.ensures.out ear_told, refl)
+pub returns-in-Ok-hand_out-clause-state : goal.returns-in-Ok-hand_out-clause-state
+returns-in-Ok-hand_out-clause-state c = (c.args.self.now.faults, Some (listeners_of c.hand_out.new.self), refl, c.in-Ok-hand_out.ensures.out listener_told (λ l. l.waits) (λ l. l.faults), refl)

@@ -7,7 +7,7 @@ use std::net::TcpListener;
 
 // An address and a port, its socket, and how many listeners of it are out.
 #[derive(Drop)]
-struct Ear {
+struct OpenSocket {
     bind: String,
     port: u16,
     socket: TcpListener,
@@ -16,26 +16,26 @@ struct Ear {
 
 /// The sockets of the ports of which a listener is out.
 #[derive(Drop)]
-pub struct Ears {
+pub struct Sockets {
     rt: HostRuntime,
-    ears: Vec<Ear>,
+    sockets: Vec<OpenSocket>,
 }
 
-impl Ears {
+impl Sockets {
     /// None yet.
-    pub fn new(rt: HostRuntime) -> Ears {
-        Ears {
+    pub fn new(rt: HostRuntime) -> Sockets {
+        Sockets {
             rt,
-            ears: Vec::new(rt.alloc()),
+            sockets: Vec::new(rt.alloc()),
         }
     }
 
     // Where the socket of an address and a port is.
     fn place_of(&self, bind: &str, port: u16) -> Option<usize>
-        ensures { IfSome result (λ i. i < length self.now.ears.items) }
+        ensures { IfSome result (λ i. i < length self.now.sockets.items) }
     {
-        for i in 0..self.ears.len() {
-            if self.ears[i].port == port && self.ears[i].bind.as_str() == bind {
+        for i in 0..self.sockets.len() {
+            if self.sockets[i].port == port && self.sockets[i].bind.as_str() == bind {
                 return Some(i);
             }
         }
@@ -49,7 +49,7 @@ impl Ears {
         let Ok(own) = String::from_str(self.rt.alloc(), address) else {
             return Err(NameRefused::NoMemory);
         };
-        if self.ears.reserve(1).is_err() {
+        if self.sockets.reserve(1).is_err() {
             return Err(NameRefused::NoMemory);
         }
         let Ok(socket) = bind(&self.rt, address, port) else {
@@ -58,13 +58,13 @@ impl Ears {
         let Ok(listener) = RealListener::of(self.rt, &socket) else {
             return Err(NameRefused::Failed);
         };
-        let ear = Ear {
+        let opened = OpenSocket {
             bind: own,
             port,
             socket,
             out: 1,
         };
-        match self.ears.push(ear) {
+        match self.sockets.push(opened) {
             Ok(()) => Ok(listener),
             Err(_) => Err(NameRefused::NoMemory),
         }
@@ -77,9 +77,9 @@ impl Ears {
         let Some(index) = self.place_of(address, port) else {
             return self.open(address, port);
         };
-        match RealListener::of(self.rt, &self.ears[index].socket) {
+        match RealListener::of(self.rt, &self.sockets[index].socket) {
             Ok(listener) => {
-                self.ears[index].out = self.ears[index].out.saturating_add(1);
+                self.sockets[index].out = self.sockets[index].out.saturating_add(1);
                 Ok(listener)
             }
             Err(_) => Err(NameRefused::Failed),
@@ -91,11 +91,11 @@ impl Ears {
         let Some(index) = self.place_of(address, port) else {
             return;
         };
-        let out = self.ears[index].out;
+        let out = self.sockets[index].out;
         if out > 1 {
-            self.ears[index].out = out - 1;
+            self.sockets[index].out = out - 1;
         } else {
-            let _ = self.ears.swap_remove(index);
+            let _ = self.sockets.swap_remove(index);
         }
     }
 }

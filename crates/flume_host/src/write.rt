@@ -2,15 +2,16 @@
 ghost use Rattle.std.specs.Prelude.{◌≡◌, ◌≤◌, ◌<◌, ℕ, [], take, length, OnOk, OnErr};
 ghost use Rattle.flume_host.specs.Causes.{HasCause};
 ghost use Rattle.flume_host.specs.Told.{Tells};
-ghost use Rattle.flume_host.specs.Links.{Talks};
-ghost use Rattle.netcat_source.specs.Parts.{BreaksOff};
+ghost use Rattle.flume_host.specs.Links.{BreaksOff, Talks, Waited};
 
-use flume_host::{Failed, Link};
+use crate::{Failed, Link};
 
-// Writes all of the bytes, or a part of them until the link fails.
-pub(crate) fn write_all<L: Link>(link: &mut L, bytes: &[u8]) -> Result<(), Failed>
+/// Writes all of the bytes to a link, or a part of them until it fails.
+pub fn write_all<L: Link>(link: &mut L, bytes: &[u8]) -> Result<(), Failed>
     ensures ok { OnOk result (Tells (L.told link.old) (L.told link.new) (Talks [] bytes.now 0)) }
     ensures part { OnErr result (BreaksOff bytes.now (L.told link.old) (L.told link.new)) }
+    ensures waited { Tells (L.told link.old) (L.told link.new) (Waited 0) }
+    ensures waits { L.waits link.old ≤ L.waits link.new }
     ensures cause { HasCause (L.faults link.old) (L.faults link.new) result }
 {
     let mut at = 0;

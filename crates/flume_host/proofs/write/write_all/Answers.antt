@@ -2,12 +2,11 @@ use Rattle.std.proofs.Common.{[], drop, take, arith, refl}
 use Rattle.std.proofs.Math.Seq.{take-add}
 use Rattle.std.proofs.lemmas.List.{take_rest}
 use Rattle.std.proofs.lemmas.Result.{err_from_is_err_and}
-use Rattle.flume_host.proofs.Talking.{talks_none, talks_then, talks_broke, talks_still, talks_wrote}
-use Rattle.avro_ends.proofs.Listening.{waited_none, waited_then, waited_wrote, waited_broke, failed_behind, failed_broke}
-use Rattle.avro_ends.proofs.write.write_all.Goals as goal
+use Rattle.flume_host.proofs.Talking.{talks_none, talks_then, talks_broke, talks_still, talks_wrote, waited_none, waited_then, waited_wrote, waited_broke, failed_behind, failed_broke}
+use Rattle.flume_host.proofs.write.write_all.Goals as goal
 
 pub loop-at-init : goal.loop-at-init
-loop-at-init g c = record { within = omega arith; well = refl; waited = waited_none (g.L.Link.told c.args.link.now); talk = talks_none (g.L.Link.told c.args.link.now) }
+loop-at-init g c = record { within = omega arith; well = refl; waits = omega arith; waited = waited_none (g.L.Link.told c.args.link.now); talk = talks_none (g.L.Link.told c.args.link.now) }
 
 pub loop-at-preserved : goal.loop-at-preserved
 loop-at-preserved g c =
@@ -19,6 +18,7 @@ loop-at-preserved g c =
     record {
       within = omega (arith, c.in_ok-at.ensures.bound);
       well = omega (arith, c.in_ok-at.ensures.cause.well, c.loop-at.invariant.well);
+      waits = omega (arith, c.in_ok-at.ensures.waits, c.loop-at.invariant.waits);
       waited = waited_then _ _ _ 0 0 c.loop-at.invariant.waited (waited_wrote _ _ _ _ (rw take_rest at c.in_ok-at.ensures.done));
       talk = rw (take-add c.loop-at.at n xs) both;
     }
@@ -32,7 +32,7 @@ returns-in_err-at-clause-part g c =
       count = c.loop-at.at;
       short = c.loop-at-test.true;
       talk = talks_still (told c.args.link.now) (told c.loop-at.link) (told c.write.new.self) [] (take c.loop-at.at c.args.bytes.now) 0 c.loop-at.invariant.talk broke;
-      failed = failed_behind _ _ _ 0 c.loop-at.invariant.waited (failed_broke _ _ c.in_err-at.ensures.done);
+      failed = failed_behind _ _ _ [] (take c.loop-at.at c.args.bytes.now) 0 c.loop-at.invariant.talk (failed_broke _ _ c.in_err-at.ensures.done);
     })
 
 pub returns-in_err-at-clause-waited : goal.returns-in_err-at-clause-waited
