@@ -22,11 +22,7 @@ fn failing(alloc: Global) -> Result<Intake<OwnFace<FileChannel<MemDisk>>>, Fail>
         max_file: 1_000_000,
     };
     let mut channels = Vec::new(alloc);
-    channels.push(channel_on(
-        alloc,
-        disk_failing_in_flush(alloc, limits)?,
-        limits,
-    )?)?;
+    channels.push(channel_on(alloc, disk_failing_in_flush(alloc, limits)?, limits)?)?;
     intake_over(alloc, None, channels)
 }
 
@@ -40,9 +36,7 @@ fn a_line_in_doubt(rt: HostRuntime) -> Result<(), Fail> {
     let mut halt = MemHalt { after: 100, yes: 0 };
     let end = serve_netcat(alloc, &mut link, &rules, &mut intake, &mut clock, &mut halt);
     assert!(rt; end == SessionEnd::End);
-    assert!(rt;
-        link.took() == b"FAILED: channel in doubt\nFAILED: channel refused\n".as_slice()
-    );
+    assert!(rt; link.took() == b"FAILED: channel in doubt\nFAILED: channel refused\n".as_slice());
     Ok(())
 }
 

@@ -2,9 +2,8 @@
 use crate::channels::{bodies, in_memory, intake_over};
 use crate::packs::Part::{self, Breaks, Text, Waits};
 use crate::packs::{
-    APPEND, APPENDED, BATCH, BATCH_FAILED, BATCH_TAKEN, HELLO, HELLO_REPLY,
-    NEGATIVE, NONE, NONE_END, STRANGE, TOLD, TOLD_END, TOLD_REPLY, TOO_MANY, TRAILING, bytes_of,
-    link_giving,
+    APPEND, APPENDED, BATCH, BATCH_FAILED, BATCH_TAKEN, HELLO, HELLO_REPLY, NEGATIVE, NONE,
+    NONE_END, STRANGE, TOLD, TOLD_END, TOLD_REPLY, TOO_MANY, TRAILING, bytes_of, link_giving,
 };
 use avro_ends::{AvroEnd, serve_avro};
 use channel_face::{Channel, OwnFace};

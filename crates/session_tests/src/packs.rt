@@ -55,8 +55,9 @@ pub const HELLO: Part = Bytes(
 );
 
 /// BOTH.
-pub const HELLO_REPLY: Part =
-    Bytes(b"\x00\x00\x00\x06\x00\x00\x00\x01\x00\x00\x00\x04\x00\x00\x00\x00");
+pub const HELLO_REPLY: Part = Bytes(
+    b"\x00\x00\x00\x06\x00\x00\x00\x01\x00\x00\x00\x04\x00\x00\x00\x00",
+);
 
 /// Serial 7: append of the body `a` with h = v.
 pub const APPEND: Part = Bytes(
@@ -64,11 +65,11 @@ pub const APPEND: Part = Bytes(
 );
 
 /// OK to it, and FAILED.
-pub const APPENDED: Part =
-    Bytes(b"\x00\x00\x00\x07\x00\x00\x00\x01\x00\x00\x00\x03\x00\x00\x00");
+pub const APPENDED: Part = Bytes(b"\x00\x00\x00\x07\x00\x00\x00\x01\x00\x00\x00\x03\x00\x00\x00");
 
-pub const APPEND_FAILED: Part =
-    Bytes(b"\x00\x00\x00\x07\x00\x00\x00\x01\x00\x00\x00\x03\x00\x00\x02");
+pub const APPEND_FAILED: Part = Bytes(
+    b"\x00\x00\x00\x07\x00\x00\x00\x01\x00\x00\x00\x03\x00\x00\x02",
+);
 
 /// Serial 8: appendBatch of the bodies `x` and `y`.
 pub const BATCH: Part = Bytes(
@@ -76,11 +77,13 @@ pub const BATCH: Part = Bytes(
 );
 
 /// OK to it, and FAILED.
-pub const BATCH_TAKEN: Part =
-    Bytes(b"\x00\x00\x00\x08\x00\x00\x00\x01\x00\x00\x00\x03\x00\x00\x00");
+pub const BATCH_TAKEN: Part = Bytes(
+    b"\x00\x00\x00\x08\x00\x00\x00\x01\x00\x00\x00\x03\x00\x00\x00",
+);
 
-pub const BATCH_FAILED: Part =
-    Bytes(b"\x00\x00\x00\x08\x00\x00\x00\x01\x00\x00\x00\x03\x00\x00\x02");
+pub const BATCH_FAILED: Part = Bytes(
+    b"\x00\x00\x00\x08\x00\x00\x00\x01\x00\x00\x00\x03\x00\x00\x02",
+);
 
 /// Serial 8: the same in a block of the count -2 with its size.
 pub const NEGATIVE: Part = Bytes(
@@ -101,11 +104,11 @@ pub const STRANGE: Part = Bytes(
 );
 
 /// NONE, in front of the text, and the hash behind it.
-pub const NONE: Part =
-    Bytes(b"\x00\x00\x00\x01\x00\x00\x00\x01\x00\x00\x02\x13\x04\x02\xfa\x07");
+pub const NONE: Part = Bytes(b"\x00\x00\x00\x01\x00\x00\x00\x01\x00\x00\x02\x13\x04\x02\xfa\x07");
 
-pub const NONE_END: Part =
-    Bytes(b"\x02\x30\xda\x54\x05\x9d\xf7\x2d\x95\x84\xb8\x67\xd5\x20\x2e\x20\x69\x00");
+pub const NONE_END: Part = Bytes(
+    b"\x02\x30\xda\x54\x05\x9d\xf7\x2d\x95\x84\xb8\x67\xd5\x20\x2e\x20\x69\x00",
+);
 
 /// Serial 2: the hash 07.., in front of the text.
 pub const TOLD: Part = Bytes(
