@@ -80,7 +80,7 @@ AllSinkDeliver {S} delivers (o ∷ offers) g old failed after new more =
 -- the batches that it answered Ok
 abbrev pub ok_by : Result (Unit {0}) SinkRefused → List Content → List (List Content)
 ok_by (Ok done) batch = batch ∷ []
-ok_by (Err refused) batch = []
+ok_by (Err _) batch = []
 
 abbrev pub answered_ok : List SinkOffer → List (List Content)
 answered_ok [] = []
