@@ -43,12 +43,18 @@ impl MemoryChannel {
     /// An empty channel. It does not read the limit of a file.
     pub fn new(alloc: Global, limits: Limits) -> Result<MemoryChannel, NoMemory>
         ensures state { IfOk result (λ c. (faults from : ℕ)
-            → c.state ≡ opening (record
-            { rules = record { kind = Kind.Memory; limits = limits }; base = record
-            { items = []; first = 0 }; txn = 1; faults = faults; from = from; tells = true; })) }
+            → c.state ≡ opening (record {
+              rules = record { kind = Kind.Memory; limits = limits };
+              base = record
+                  { items = []; first = 0 };
+              txn = 1;
+              faults = faults;
+              from = from;
+              tells = true;
+            })) }
         ensures tally { IfOk result
             (λ c. c.tally ≡ record
-            { put_attempts = 0; put_successes = 0; take_attempts = 0; take_successes = 0; }) }
+            { put_attempts = 0; put_successes = 0; take_attempts = 0; take_successes = 0 }) }
     {
         let mut items = Vec::new(alloc);
         items.reserve(1)?;
