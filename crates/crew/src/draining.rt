@@ -44,6 +44,7 @@ pub fn drain<S: Source>(input: &mut S) -> DrainEnd
 /// The worker of an agent whose standard input is no source: it drains it, and then sets the stop, whatever ended it.
 #[derive(Drop)]
 pub struct DrainWorker<S> {
+    /// The input that is drained.
     pub input: S,
     /// What ended the reading, once it has run.
     pub end: Option<DrainEnd>,

@@ -1,5 +1,5 @@
 // What tells workers to stop.
-ghost use Rattle.std.specs.Prelude.{◌≡◌, ◌≤◌, IsTrue};
+ghost use Rattle.std.specs.Prelude.{◌≡◌, ◌≤◌, IsFalse, IsTrue};
 ghost use Rattle.flume_host.specs.Causes.{Rose};
 
 use flume_host::Halt;
@@ -53,6 +53,7 @@ impl<'a> Halt for Watch<'a> {
 
     fn asked(&mut self) -> bool
         ensures cause { IsTrue result → Rose self.old.yes self.new.yes }
+        ensures still { IsFalse result → self.new.yes ≡ self.old.yes }
         ensures later { self.old.yes ≤ self.new.yes }
     {
         let set = self.stop.is_set();
