@@ -1,11 +1,13 @@
 -- A shared channel of either kind.
-use Rattle.std.specs.Prelude.{Bool, List}
+use Rattle.std.specs.Prelude.{Bool, List, []}
 use Rattle.atomic_table.specs.Seated.{TableId}
 use Rattle.channel_face.specs.History.{Opening, Step}
-use Rattle.shared_channel.specs.Calls.{Looks}
+use Rattle.shared_channel.specs.Calls.{Left, Looks}
 use Rattle.shared_channel.specs.Counting.{StandsAgreeing}
 use Rattle.shared_channel.specs.Passes.{Known}
 use Rattle.turn_passes.specs.Views.{View}
+use Rattle.two_channels.specs.Ports.{IsOnDisk}
+use Rattle.two_channels.specs.declared.port.EitherPort.{EitherPort}
 use Rattle.two_channels.specs.declared.shared.EitherShared.{EitherShared}
 use Rattle.two_channels.specs.declared.shared.EitherShared.TheVariants as share
 use Rattle.two_channels.specs.declared.shared.EitherClosed.{EitherClosed}
@@ -15,6 +17,15 @@ module _ {A B : Type 0} where
   abbrev pub table_of : EitherShared A B → TableId
   table_of (share.Disk s) = s.turn.table.shared.table_id
   table_of (share.Memory s) = s.turn.table.shared.table_id
+
+  -- the channel is on a disk
+  abbrev pub IsDisk : EitherShared A B → Type 0
+  IsDisk (share.Disk s) = Unit {0}
+  IsDisk (share.Memory s) = ⊥
+
+  -- the port is of a channel on a disk exactly where the shared channel is one
+  abbrev pub IsPortOf : {R : Type 0} → EitherShared A B → EitherPort R A B → Type 0
+  IsPortOf s p = (IsDisk s → IsOnDisk p) × (IsOnDisk p → IsDisk s)
 
   -- the pass that came back
   abbrev pub pass_of : EitherClosed A B → Known
@@ -26,6 +37,12 @@ module _ {A B : Type 0} where
   StandsClosed disk memory (share.Disk s) start calls (closed.Disk c) = StandsAgreeing disk c.channel start calls
   StandsClosed disk memory (share.Memory s) start calls (closed.Memory c) = StandsAgreeing memory c.channel start calls
   StandsClosed disk memory s start calls c = ⊥
+
+  -- it is of the same kind, and its pass called nothing, and saw all that its channel then stands for
+  abbrev pub LeftIn : (A → Opening → List Step → Type 0) → (A → Bool) → (B → Opening → List Step → Type 0) → (B → Bool) → EitherShared A B → View → EitherClosed A B → Type 0
+  LeftIn disk tells memory tells' (share.Disk s) v (closed.Disk c) = Left disk tells v [] c.pass.view c.channel
+  LeftIn disk tells memory tells' (share.Memory s) v (closed.Memory c) = Left memory tells' v [] c.pass.view c.channel
+  LeftIn disk tells memory tells' s v c = ⊥
 
   -- it was looked at: nothing was called, and a channel of its kind stands for all that is seen
   abbrev pub LooksIn : (A → Opening → List Step → Type 0) → (A → Bool) → (B → Opening → List Step → Type 0) → (B → Bool) → EitherShared A B → View → View → Type 0

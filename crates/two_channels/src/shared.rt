@@ -2,9 +2,10 @@
 ghost use Rattle.std.specs.Prelude.{◌≡◌};
 ghost use Rattle.channel_face.specs.Counters.{counts_of};
 ghost use Rattle.shared_channel.specs.Calls.{state_seen};
+ghost use Rattle.turn_passes.specs.Calls.{calls_by};
 ghost use Rattle.turn_passes.specs.Turns.{HasAll};
 ghost use Rattle.two_channels.specs.Ports.{pass_of as port_pass};
-ghost use Rattle.two_channels.specs.Shares.{LooksIn, StandsClosed, pass_of, table_of};
+ghost use Rattle.two_channels.specs.Shares.{IsPortOf, LeftIn, LooksIn, StandsClosed, pass_of, table_of};
 
 use crate::port::EitherPort;
 use channel_face::Channel;
@@ -30,10 +31,11 @@ pub enum EitherClosed<A, B> {
 }
 
 impl<A: Channel, B: Channel> EitherShared<A, B> {
-    /// A port with this pass. It takes no memory.
+    /// A port with this pass, of the kind that the channel is of. It takes no memory.
     pub fn port<'a, R: Wait>(&'a self, rt: &'a R, pass: Pass) -> EitherPort<'a, R, A, B>
         requires { pass.table_id ≡ table_of self.now }
-        ensures { port_pass result ≡ pass }
+        ensures pass { port_pass result ≡ pass }
+        ensures kind { IsPortOf self.now result }
     {
         match self {
             EitherShared::Disk(shared) => EitherPort::Disk(Port::new(rt, shared, pass)),
@@ -63,7 +65,11 @@ impl<A: Channel + Drop, B: Channel + Drop> EitherShared<A, B> {
     /// Hands the channel back, and a pass that has seen the calls that it then stands for, as [`Shared::close`].
     pub fn close<R: Wait>(self, rt: &R, pass: Pass) -> EitherClosed<A, B>
         requires { pass.table_id ≡ table_of self }
+        ensures same { ((pass_of result).table_id ≡ pass.table_id) × ((pass_of result).number ≡ pass.number) }
+        ensures left { LeftIn A.stands A.tells B.stands B.tells self pass.view result }
         ensures channel { StandsClosed A.stands B.stands self pass.view.base (pass_of result).view.seen result }
+        ensures all { HasAll pass.view → calls_by pass.view.numbers (pass_of result).view.seen ≡
+            (pass_of result).view.seen }
         ensures whole { HasAll pass.view → (pass_of result).view.seen ≡ pass.view.seen }
     {
         match self {

@@ -53,7 +53,7 @@ pub returns-clause-ports : goal.returns-clause-ports
 returns-clause-ports g t c =
     let R = λ (pass : Known) (port : EitherPort g.row.R.Denot g.row.A.Denot g.row.B.Denot). pass_of port ≡ pass in
     subst (λ (x : List Known × List (EitherPort g.row.R.Denot g.row.A.Denot g.row.B.Denot)). Zips R x.0 x.1) (λ i. (sym c.in-Some.ensures.items i, sym c.push_reserved.ensures.items i))
-    (zips_push R c.pop.new.self.items c.open_ports.new.ports.items c.in-Some.pass _ c.open_ports.ensures.ports c.port.ensures)
+    (zips_push R c.pop.new.self.items c.open_ports.new.ports.items c.in-Some.pass _ c.open_ports.ensures.ports c.port.ensures.pass)
 
 pub push_reserved-requires : goal.push_reserved-requires
 push_reserved-requires g t c =
