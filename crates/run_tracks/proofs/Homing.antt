@@ -1,5 +1,5 @@
 -- Passes that took others in.
-use Rattle.std.proofs.Common.{◌≡◌, ◌∙◌, ◌<◌, ℕ, suc, List, [], ◌∷◌, ◌++◌, true, length, set, take, get_or, refl, sym, ap, subst, append_assoc, arith, rules, length-set}
+use Rattle.std.proofs.Common.{◌≡◌, ◌∙◌, ◌<◌, ℕ, suc, List, [], ◌∷◌, ◌++◌, ◌+◌, true, length, set, take, get_or, refl, sym, ap, subst, append_assoc, arith, rules, length-set}
 use Rattle.std.proofs.lemmas.List.{get_or-set_same, get_or-set_other, get_or_append_left, get_or_push, length-append}
 use mathlib.Core.Logic.{dite}
 use native.Mathlib.Decide.{ℕ_discrete}
@@ -11,7 +11,7 @@ use Rattle.turn_passes.specs.Turns.{Has}
 use Rattle.turn_passes.specs.Views.{View, part, both, joined}
 use Rattle.turn_passes.proofs.Histories.{begins_self, fewer, has_left, has_right}
 use Rattle.shared_channel.specs.Passes.{Known}
-use Rattle.run_tracks.specs.Homes.{Took, AreHomes, TookAt, EachTook}
+use Rattle.run_tracks.specs.Homes.{Took, AreHomes, TookAt, EachTook, StayElsewhere}
 use Rattle.run_tracks.specs.Places.{Zips, TookEach}
 
 pub prefix_then : (a b c : List Step) → IsPrefix a b → IsPrefix b c → IsPrefix a c
@@ -49,13 +49,19 @@ joined_from p q n table same is seen base passes = record {
 }
 
 -- one of the passes at home goes on
-pub set_took : (homes : List Known) (place : ℕ) (n : Known) → place < length homes → ((d : Known) → Took n (get_or homes place d)) → EachTook homes (set homes place n)
-set_took homes place n below t = record {
+pub set_took : (homes : List Known) (place : ℕ) (n : Known) → place < length homes → ((d : Known) → Took n (get_or homes place d)) → ((d : Known) → n.number ≡ (get_or homes place d).number) → EachTook homes (set homes place n)
+set_took homes place n below t number = record {
   as_many = length-set homes place n;
   each = λ i d low. dite (ℕ_discrete place i)
       (λ same. subst (λ (k : ℕ). Took (get_or (set homes place n) k d) (get_or homes k d)) same (subst (λ (p : Known). Took p (get_or homes place d)) (sym (get_or-set_same homes place n d below)) (t d)))
       (λ other. subst (λ (p : Known). Took p (get_or homes i d)) (sym (get_or-set_other homes place i n d (λ e. other (sym e)))) (took_self (get_or homes i d)));
+  number = λ i d low. dite (ℕ_discrete place i)
+      (λ same. subst (λ (k : ℕ). (get_or (set homes place n) k d).number ≡ (get_or homes k d).number) same (ap (λ (p : Known). p.number) (get_or-set_same homes place n d below) ∙ number d))
+      (λ other. ap (λ (p : Known). p.number) (get_or-set_other homes place i n d (λ e. other (sym e))));
 }
+
+pub set_elsewhere : (homes : List Known) (place : ℕ) (n : Known) → StayElsewhere (place ∷ []) homes (set homes place n)
+set_elsewhere homes place n i d apart = get_or-set_other homes place i n d apart.0
 
 pub set_took_at : (homes : List Known) (place : ℕ) (n q : Known) → place < length homes → Took n q → TookAt (set homes place n) place q
 set_took_at homes place n q below t = (omega (arith, length-set homes place n), λ d. subst (λ (p : Known). Took p q) (sym (get_or-set_same homes place n d below)) t)
@@ -71,12 +77,13 @@ homes_kept table shares old new are took = record {
 }
 
 pub each_took_self : (homes : List Known) → EachTook homes homes
-each_took_self homes = record { as_many = refl; each = λ place d below. took_self (get_or homes place d) }
+each_took_self homes = record { as_many = refl; each = λ place d below. took_self (get_or homes place d); number = λ place d below. refl }
 
 pub each_took_then : (a b c : List Known) → EachTook a b → EachTook b c → EachTook a c
 each_took_then a b c f g = record {
   as_many = g.as_many ∙ f.as_many;
   each = λ place d below. took_then (get_or c place d) (get_or b place d) (get_or a place d) (g.each place d (let e = f.as_many in omega arith)) (f.each place d below);
+  number = λ place d below. g.number place d (let e = f.as_many in omega arith) ∙ f.number place d below;
 }
 
 pub took_at_later : (a b : List Known) (place : ℕ) (q : Known) → EachTook a b → TookAt a place q → TookAt b place q
@@ -142,3 +149,10 @@ zips_last R [] [] b d z = absurd z
 zips_last R [] (y ∷ ys) b d z = absurd z
 zips_last R (a ∷ xs) [] b d z = (omega arith, (tt, z.0))
 zips_last R (a ∷ xs) (y ∷ ys) b d z = let r = zips_last R xs ys b d z.1 in (let l = r.0 in omega arith, ((z.0, r.1.0), r.1.1))
+
+-- what stands beside the front of a list, and what stands beside its last
+pub zips_join : {A B : Type 0} (R : A → B → Type 0) (xs : List A) (ys : List B) (b : B) (d : A) → length xs ≡ length ys + 1 → Zips R (take (length ys) xs) ys → R (get_or xs (length ys) d) b → Zips R xs (ys ++ b ∷ [])
+zips_join R [] ys b d e z r = absurd (let x = e in omega arith)
+zips_join R (a ∷ []) [] b d e z r = (r, tt)
+zips_join R (a ∷ (x ∷ xs)) [] b d e z r = absurd (let x = e in omega arith)
+zips_join R (a ∷ xs) (y ∷ ys) b d e z r = (z.0, zips_join R xs ys b d (let x = e in omega arith) z.1 r)

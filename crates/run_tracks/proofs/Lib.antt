@@ -2,3 +2,4 @@ pub mod Moving
 pub mod Homing
 pub mod Tracking
 pub mod Telling
+mod Closing

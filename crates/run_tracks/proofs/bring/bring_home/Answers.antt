@@ -2,7 +2,7 @@ use Rattle.std.proofs.Common.{◌≡◌, ◌∙◌, ◌<◌, length, set, get_or
 use Rattle.std.proofs.lemmas.List.{get_or_default}
 use Rattle.shared_channel.specs.Passes.{Known}
 use Rattle.run_tracks.specs.Homes.{Took, EachTook}
-use Rattle.run_tracks.proofs.Homing.{joined_old, joined_from, set_took, set_took_at, homes_kept}
+use Rattle.run_tracks.proofs.Homing.{joined_old, joined_from, set_elsewhere, set_took, set_took_at, homes_kept}
 use Rattle.run_tracks.proofs.bring.bring_home.Goals as goal
 
 pub join_pass-requires : goal.join_pass-requires
@@ -25,5 +25,6 @@ returns g c =
     let j = c.join_pass.ensures in
     let before : Took new old = joined_old old c.args.pass new j.same.0 j.view j.seen.0 in
     let from : Took new c.args.pass = joined_from old c.args.pass new j.same.0 tables j.view j.seen.1 j.one.0 j.one.1 in
-    let kept : EachTook homes (set homes place new) = set_took homes place new below (λ d. subst (λ (p : Known). Took new p) (get_or_default homes place c.index-homes-place.result d below) before) in
-    record { homes = homes_kept _ _ homes (set homes place new) c.requires.homes kept; kept = kept; took = set_took_at homes place new c.args.pass below from }
+    let kept : EachTook homes (set homes place new) = set_took homes place new below (λ d. subst (λ (p : Known). Took new p) (get_or_default homes place c.index-homes-place.result d below) before)
+    (λ d. j.same.1 ∙ ap (λ (p : Known). p.number) (get_or_default homes place c.index-homes-place.result d below)) in
+    record { homes = homes_kept _ _ homes (set homes place new) c.requires.homes kept; kept = kept; others = set_elsewhere homes place new; took = set_took_at homes place new c.args.pass below from }

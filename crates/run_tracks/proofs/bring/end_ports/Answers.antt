@@ -1,7 +1,7 @@
-use Rattle.std.proofs.Common.{◌≡◌, ◌∙◌, ℕ, List, [], ◌∷◌, ◌++◌, sym, ap, subst, append_assoc, rules}
+use Rattle.std.proofs.Common.{◌≡◌, ◌∙◌, ℕ, List, [], ◌∷◌, ◌++◌, refl, sym, ap, subst, append_assoc, rules}
 use Rattle.std.proofs.lemmas.List.{append-nil}
 use Rattle.shared_channel.specs.Passes.{Known}
-use Rattle.run_tracks.specs.Homes.{IsAt, TookAt}
+use Rattle.run_tracks.specs.Homes.{IsAt, StayElsewhere, TookAt}
 use Rattle.run_tracks.specs.Places.{Zips, TookEach}
 use Rattle.run_tracks.proofs.Homing.{each_took_self, each_took_then, took_each_later, zips-append, zips_none}
 use Rattle.run_tracks.proofs.bring.end_ports.Goals as goal
@@ -11,7 +11,7 @@ loop-port-init g c = record {
   homes = c.requires.homes;
   kept = each_took_self c.args.homes.now;
   at = c.requires.ports;
-  rest = ([], [], sym (append-nil c.args.channels.items), sym (append-nil c.args.ports.items), tt);
+  rest = ([], [], sym (append-nil c.args.channels.items), sym (append-nil c.args.ports.items), tt, λ i d apart. refl);
 }
 
 pub bring_home-requires-clause-pass : goal.bring_home-requires-clause-pass
@@ -43,6 +43,7 @@ loop-port-preserved g c =
         inv.rest.2 ∙ ap (λ (l : List ℕ). l ++ cs) c.in-Some-pop.ensures.items ∙ append_assoc places (place ∷ []) cs,
         inv.rest.3 ∙ ap (λ (l : List g.row.F.Denot). l ++ ps) c.in-Some.ensures.items ∙ append_assoc left (port ∷ []) ps,
         (subst (λ (p : Known). TookAt new place p) c.into_pass.ensures c.bring_home.ensures.took, took_each_later g.F.Carries.pass c.loop-port.homes new cs ps c.bring_home.ensures.kept inv.rest.4),
+        λ i d apart. c.bring_home.ensures.others i d (apart.0, tt) ∙ inv.rest.5 i d apart.1,
       );
     }
 
@@ -53,3 +54,10 @@ returns-clause-took g c =
     let nowhere : c.loop-port.places.items ≡ [] = zips_none (λ (place : ℕ) (port : g.row.F.Denot). IsAt g.S.Joins.table c.args.shares.now place (g.F.Carries.pass port)) c.loop-port.places.items c.loop-port.left.items inv.at none in
     subst (λ (x : List ℕ × List g.row.F.Denot). TookEach c.loop-port.homes g.F.Carries.pass x.0 x.1)
     (λ i. (sym (inv.rest.2 ∙ ap (λ (l : List ℕ). l ++ inv.rest.0) nowhere) i, sym (inv.rest.3 ∙ ap (λ (l : List g.row.F.Denot). l ++ inv.rest.1) none) i)) inv.rest.4
+
+pub returns-clause-others : goal.returns-clause-others
+returns-clause-others g c =
+    let inv = c.loop-port.invariant in
+    let none : c.loop-port.left.items ≡ [] = search rules in
+    let nowhere : c.loop-port.places.items ≡ [] = zips_none (λ (place : ℕ) (port : g.row.F.Denot). IsAt g.S.Joins.table c.args.shares.now place (g.F.Carries.pass port)) c.loop-port.places.items c.loop-port.left.items inv.at none in
+    subst (λ (places : List ℕ). StayElsewhere places c.args.homes.now c.loop-port.homes) (sym (inv.rest.2 ∙ ap (λ (l : List ℕ). l ++ inv.rest.0) nowhere)) inv.rest.5
