@@ -514,8 +514,10 @@ fn a_host_hands_out_rolled_files(rt: HostRuntime) -> Result<(), Fail> {
         return Err(Fail::from("not opened"));
     };
     assert!(rt; (roll.begin("5000-1"), roll.write(b"x\n")) == (Ok(()), Ok(2)));
-    assert!(rt; host.open_roll("out").is_err());
-    host.keep_roll("out", roll);
+    match host.open_roll("out") {
+        Ok(_) => return Err(Fail::from("opened twice")),
+        Err(_) => host.keep_roll("out", roll),
+    }
     assert!(rt; has_rolled(&host, "out", "5000-1", b"x\n"));
     assert!(rt; (host.faults(), host.opens()) == (1, 2));
     Ok(())
