@@ -48,8 +48,10 @@ impl<A: Channel, B: Channel> EitherShared<A, B> {
     /// What is counted, and whether the channel is broken, of one state, as [`Shared::look`].
     pub fn look<R: Wait>(&self, rt: &R, pass: &mut Pass) -> Look
         requires { pass.old.table_id ≡ table_of self.now }
-        ensures same { (pass.new.table_id ≡ pass.old.table_id) × (pass.new.number ≡ pass.old.number) }
-        ensures look { LooksIn A.stands A.tells B.stands B.tells self.now pass.old.view pass.new.view }
+        ensures same { (pass.new.table_id ≡ pass.old.table_id)
+            × (pass.new.number ≡ pass.old.number) }
+        ensures look { LooksIn A.stands A.tells B.stands B.tells self.now pass.old.view
+            pass.new.view }
         ensures whole { HasAll pass.old.view → pass.new.view.seen ≡ pass.old.view.seen }
         ensures counts { result.counts ≡ counts_of pass.new.view.base pass.new.view.seen }
         ensures broken { result.broken ≡ (state_seen pass.new.view).broken }
@@ -65,9 +67,11 @@ impl<A: Channel + Drop, B: Channel + Drop> EitherShared<A, B> {
     /// Hands the channel back, and a pass that has seen the calls that it then stands for, as [`Shared::close`].
     pub fn close<R: Wait>(self, rt: &R, pass: Pass) -> EitherClosed<A, B>
         requires { pass.table_id ≡ table_of self }
-        ensures same { ((pass_of result).table_id ≡ pass.table_id) × ((pass_of result).number ≡ pass.number) }
+        ensures same { ((pass_of result).table_id ≡ pass.table_id)
+            × ((pass_of result).number ≡ pass.number) }
         ensures left { LeftIn A.stands A.tells B.stands B.tells self pass.view result }
-        ensures channel { StandsClosed A.stands B.stands self pass.view.base (pass_of result).view.seen result }
+        ensures channel { StandsClosed A.stands B.stands self pass.view.base (pass_of result).view.seen
+            result }
         ensures all { HasAll pass.view → calls_by pass.view.numbers (pass_of result).view.seen ≡
             (pass_of result).view.seen }
         ensures whole { HasAll pass.view → (pass_of result).view.seen ≡ pass.view.seen }
