@@ -1,9 +1,7 @@
 -- What is known of workers once all passes are joined.
-use Rattle.std.proofs.Common.{◌≡◌, ◌∙◌, ◌<◌, ◌⊎◌, inl, inr, ℕ, List, length, get_or, Result, subst, arith}
-use Rattle.event_core.specs.Content.{Content}
+use Rattle.std.proofs.Common.{◌≡◌, ◌∙◌, ◌<◌, ◌⊎◌, inl, inr, List, length, get_or, subst, arith}
 use Rattle.channel_face.specs.Faces.{Own}
 use Rattle.channel_face.specs.History.{Opening, Step}
-use Rattle.plug_in.specs.declared.sink.SinkRefused.{SinkRefused}
 use Rattle.shared_channel.specs.Passes.{Known}
 use Rattle.channel_face.specs.Machine.{State}
 use Rattle.shared_channel.specs.Calls.{state_seen}
@@ -12,22 +10,25 @@ use Rattle.two_channels.specs.Ports.{IsOnDisk, LaterPort, SawIn, pass_of}
 use Rattle.two_channels.specs.declared.port.EitherPort.{EitherPort}
 use Rattle.two_channels.specs.declared.port.EitherPort.TheVariants.{Disk, Memory}
 use Rattle.source_put.specs.Chains.{Meaning}
-use Rattle.sink_worker.specs.Rounds.{Rounds}
+use Rattle.sink_worker.specs.Rounds.{Rounds, Told}
 use Rattle.run_tracks.specs.Dealt.{EveryNumberIsHome, HasNumber, Owner}
-use Rattle.run_tracks.specs.Told.{BatchIsInTracks, IsFace, IsSteady, Matches, RoundsAreInTrack}
+use Rattle.run_tracks.specs.Told.{BatchIsInTracks, IsFace, IsSteady, Matches, RoundsAreHome, RoundsAreInTrack}
 use Rattle.run_tracks.specs.Tracks.{Mended, Turned, ended, track_of}
 use Rattle.run_tracks.proofs.Tracking.{accepts, matches_home, rounds, rounds_later}
 
 module _ {F : Type 0} (pass : F → Known) (saw : F → List Own → State → Type 0) (kept : F → F → Type 0) (face : IsFace pass saw kept) where
-  pub rounds_in_track : (on_disk : F → Type 0) → IsSteady kept on_disk → {S : Type 0} (delivers : S → List Content → ℕ → Result (Unit {0}) SinkRefused → S → Type 0) → RoundsAreInTrack pass saw kept on_disk delivers
-  rounds_in_track on_disk steady delivers batch turns old new home fresh took ran =
+  pub rounds_in_track : (on_disk : F → Type 0) → IsSteady kept on_disk → {S : Type 0} (sink : Told S) → RoundsAreInTrack pass saw kept on_disk sink
+  rounds_in_track on_disk steady sink batch turns old new t m ran = rounds pass saw kept face sink batch on_disk steady (on_disk old.from) turns old new t m (λ x. x, λ x. x) ran
+
+  pub rounds_home : (on_disk : F → Type 0) → IsSteady kept on_disk → {S : Type 0} (sink : Told S) → RoundsAreHome pass saw kept on_disk sink
+  rounds_home on_disk steady sink batch turns old new home fresh took ran =
       let n = (pass old.from).number in
       let t = ended (track_of home n) in
       let D = on_disk old.from in
-      let later = rounds_later pass saw kept face delivers batch on_disk steady D turns old new ran in
+      let later = rounds_later pass saw kept face sink batch on_disk steady D turns old new ran in
       let m : Matches (pass new.from) t = matches_home home (pass new.from) n (later.numbers ∙ fresh.0) took in
-      let got = rounds pass saw kept face delivers batch on_disk steady D turns old new t m (λ x. x, λ x. x) ran in
-      subst (λ (l : List Own). Rounds (Turned delivers batch) (Mended D) turns (record { from = record t { own = l }; sink = old.sink; moments = old.moments }) (record { from = t; sink = new.sink; moments = new.moments })) fresh.1 got.1
+      let got = rounds_in_track on_disk steady sink batch turns old new t m ran in
+      subst (λ (l : List Own). Rounds (Turned sink batch) (Mended D) turns (record { from = record t { own = l }; sink = old.sink; moments = old.moments }) (record { from = t; sink = new.sink; moments = new.moments })) fresh.1 got.1
 
   pub batch_in_tracks : {B : Type 0} (Means : Meaning B) → BatchIsInTracks pass saw kept Means
   batch_in_tracks Means selector host moment old new batch verdict after m accepted =

@@ -3,16 +3,15 @@ use Rattle.std.proofs.Common.{◌≡◌, ◌∙◌, ◌≤◌, inl, inr, ℕ, su
 use Rattle.std.proofs.lemmas.List.{append-nil}
 use mathlib.Core.List.{IsPrefix}
 use Rattle.event_core.specs.Content.{Content}
-use Rattle.channel_face.specs.History.{Opening, Step, opening, state_after}
+use Rattle.channel_face.specs.History.{Step, opening, state_after}
 use Rattle.channel_face.specs.Machine.{State}
 use Rattle.channel_face.specs.Faces.{Own}
 use Rattle.channel_face.specs.declared.replies.FaceRefused.{FaceRefused}
 use Rattle.channel_face.specs.declared.replies.OpenCause.{OpenCause}
-use Rattle.plug_in.specs.declared.sink.SinkRefused.{SinkRefused}
 use Rattle.turn_passes.specs.Calls.{calls_by}
 use Rattle.turn_passes.proofs.Histories.{calls_by-append, nil_of}
 use Rattle.shared_channel.specs.Passes.{Known}
-use Rattle.shared_channel.specs.Ports.{own_calls, owned, AreOwned, Later, later_none, later_then}
+use Rattle.shared_channel.specs.Ports.{own_calls, owned, Later, later_none, later_then}
 use Rattle.shared_channel.proofs.Porting.{own-append, own-none}
 use Rattle.selectors.specs.Choices.{required, optional}
 use Rattle.selectors.specs.declared.selector.Selector.{Selector}
@@ -27,10 +26,10 @@ use Rattle.source_put.specs.declared.intake.Verdict.{Verdict}
 use Rattle.sink_runner.specs.declared.turn.Turn.{Turn}
 use Rattle.source_put.specs.Routes.{Accepts, Route}
 use Rattle.sink_worker.specs.Answers.{needs_mend}
-use Rattle.sink_worker.specs.Rounds.{MendsIf, MendsOnce, Round, Rounds, Taking, TurnsOnce}
+use Rattle.sink_worker.specs.Rounds.{MendsIf, MendsOnce, Round, Rounds, Taking, Told, TurnsOnce}
 use Rattle.run_tracks.specs.Homes.{Took}
 use Rattle.run_tracks.specs.Places.{Zips}
-use Rattle.run_tracks.specs.Told.{IsBehind, IsFace, IsSteady, Matches, PortPuts}
+use Rattle.run_tracks.specs.Told.{as_face, IsBehind, IsFace, IsSteady, Matches, PortPuts}
 use Rattle.run_tracks.specs.Tracks.{Track, track_of, ended, Stood, Gave, Turned, Mended}
 use Rattle.run_tracks.proofs.Homing.{prefix_then}
 use Rattle.run_tracks.proofs.Moving.{batch, mend, turned}
@@ -82,13 +81,6 @@ module _ {F : Type 0} (pass : F → Known) (saw : F → List Own → State → T
         (λ i. own_calls (sym m.numbers i) (opening (sym m.start i)) (pass q).view.seen) ∙ told.0,
         (λ i. state_after (opening (sym m.start i)) (pass q).view.seen) ∙ told.1,
       )
-
-  -- as a port has them
-  abbrev pub port_own : F → Opening → List Step → List Own → Type 0
-  port_own p = AreOwned (pass p).view
-
-  abbrev pub port_seen : F → ℕ
-  port_seen p = length (pass p).view.seen
 
   gave : (p q : F) (t : Track) (events : List Content) (result : Result ℕ FaceRefused) → Matches (pass q) t → (PortPuts pass saw kept) p q events result → Gave (back (pass p) t) t events result
   gave p q t events result m put =
@@ -223,12 +215,12 @@ module _ {F : Type 0} (pass : F → Known) (saw : F → List Own → State → T
     pub accepts_later : (a b : Route F B) (batch : List Content) (verdict : Verdict) → Accepts (PortPuts pass saw kept) selector Means moment host a batch verdict b → AllLater a.ports b.ports
     accepts_later a b batch verdict (made, passed, judged) = judges_later selector made a.ports b.ports verdict judged
 
-  module _ {S : Type 0} (delivers : S → List Content → ℕ → Result (Unit {0}) SinkRefused → S → Type 0) (most : ℕ) (on_disk : F → Type 0) (steady : IsSteady kept on_disk) (D : Type 0) where
+  module _ {S : Type 0} (sink : Told S) (most : ℕ) (on_disk : F → Type 0) (steady : IsSteady kept on_disk) (D : Type 0) where
     abbrev pub PortTurns : Taking F S → Turn → Taking F S → Type 0
-    PortTurns = TurnsOnce port_own saw port_seen kept delivers most
+    PortTurns = TurnsOnce (as_face pass saw kept) sink most
 
     abbrev pub PortMends : Taking F S → Result Bool OpenCause → Taking F S → Type 0
-    PortMends = MendsOnce port_own saw port_seen kept on_disk
+    PortMends = MendsOnce (as_face pass saw kept) on_disk
 
     -- with a track for its port
     abbrev pub on : Track → Taking F S → Taking Track S
@@ -241,7 +233,7 @@ module _ {F : Type 0} (pass : F → Known) (saw : F → List Own → State → T
     same_after : (a b : Taking F S) → kept a.from b.from → SameDisk a → SameDisk b
     same_after a b k same = let s = steady a.from b.from k in (λ x. same.0 (s.1 x), λ d. s.0 (same.1 d))
 
-    turned_once : (a b : Taking F S) (turn : Turn) (t : Track) → Matches (pass b.from) t → PortTurns a turn b → Matches (pass a.from) (back (pass a.from) t) × Turned delivers most (on (back (pass a.from) t) a) turn (on t b)
+    turned_once : (a b : Taking F S) (turn : Turn) (t : Track) → Matches (pass b.from) t → PortTurns a turn b → Matches (pass a.from) (back (pass a.from) t) × Turned sink most (on (back (pass a.from) t) a) turn (on t b)
     turned_once a b turn t m once =
         let p = pass a.from in
         let own = owned p.view in
@@ -252,8 +244,9 @@ module _ {F : Type 0} (pass : F → Known) (saw : F → List Own → State → T
             once.moment,
             at.0,
             once.next,
+            once.counts,
             ap (λ (l : List Own). record t { own = l }) (sym all),
-            turned (saw b.from) (Stood (back p t)) (length (pass b.from).view.seen) (length t.whole) (prefix_short (pass b.from).view.seen t.whole m.within) delivers most once.moment a.sink turn b.sink own own at.0
+            turned (saw b.from) (Stood (back p t)) (length (pass b.from).view.seen) (length t.whole) (prefix_short (pass b.from).view.seen t.whole m.within) sink.delivers most once.moment a.sink turn b.sink own own at.0
                 (λ x s seen. stood b.from t m (own ++ x) s seen) at.2,
           ),
         )
@@ -281,7 +274,7 @@ module _ {F : Type 0} (pass : F → Known) (saw : F → List Own → State → T
         let is = back_same a.from t here in
         (subst (λ (u : Track). Matches (pass a.from) u) (sym is) here, λ i. on (sym is i) (none i))
 
-    round : (a b : Taking F S) (turn : Turn) (t : Track) → Matches (pass b.from) t → SameDisk a → Round PortTurns PortMends a turn b → Matches (pass a.from) (back (pass a.from) t) × Round (Turned delivers most) (Mended D) (on (back (pass a.from) t) a) turn (on t b)
+    round : (a b : Taking F S) (turn : Turn) (t : Track) → Matches (pass b.from) t → SameDisk a → Round PortTurns PortMends a turn b → Matches (pass a.from) (back (pass a.from) t) × Round (Turned sink most) (Mended D) (on (back (pass a.from) t) a) turn (on t b)
     round a b turn t m same (between, one, due) =
         let later = mended_if (needs_mend turn) between b t m (same_after a between one.same same) due in
         let first = turned_once a between turn (back (pass between.from) t) later.0 one in
@@ -292,7 +285,7 @@ module _ {F : Type 0} (pass : F → Known) (saw : F → List Own → State → T
     same_mended false a b none same = subst SameDisk (sym none) same
 
     -- rounds that were made through a port are in its track
-    pub rounds : (turns : List Turn) (a b : Taking F S) (t : Track) → Matches (pass b.from) t → SameDisk a → Rounds PortTurns PortMends turns a b → Matches (pass a.from) (back (pass a.from) t) × Rounds (Turned delivers most) (Mended D) turns (on (back (pass a.from) t) a) (on t b)
+    pub rounds : (turns : List Turn) (a b : Taking F S) (t : Track) → Matches (pass b.from) t → SameDisk a → Rounds PortTurns PortMends turns a b → Matches (pass a.from) (back (pass a.from) t) × Rounds (Turned sink most) (Mended D) turns (on (back (pass a.from) t) a) (on t b)
     rounds [] a b t m same none =
         let here : Matches (pass a.from) t = subst (λ (x : Taking F S). Matches (pass x.from) t) none m in
         let is = back_same a.from t here in

@@ -1,16 +1,15 @@
 -- What is known of a worker once all passes are joined.
-use Rattle.std.specs.Prelude.{◌≡◌, ℕ, List, [], ◌∷◌, length, Result}
+use Rattle.std.specs.Prelude.{◌≡◌, ℕ, List, [], ◌∷◌, length}
 use mathlib.Core.List.{IsPrefix}
 use Rattle.event_core.specs.Content.{Content}
 use Rattle.channel_face.specs.Faces.{Own}
 use Rattle.channel_face.specs.Machine.{State}
-use Rattle.plug_in.specs.declared.sink.SinkRefused.{SinkRefused}
 use Rattle.selectors.specs.declared.selector.Selector.{Selector}
 use Rattle.shared_channel.specs.Calls.{state_seen}
 use Rattle.shared_channel.specs.Passes.{Known}
 use Rattle.shared_channel.specs.Ports.{AreOwned, Later, owned}
 use Rattle.sink_runner.specs.declared.turn.Turn.{Turn}
-use Rattle.sink_worker.specs.Rounds.{MendsOnce, Rounds, Taking, TurnsOnce}
+use Rattle.sink_worker.specs.Rounds.{Face, MendsOnce, Rounds, Taking, Told, TurnsOnce, face}
 use Rattle.source_put.specs.Chains.{Meaning}
 use Rattle.source_put.specs.Routes.{Accepts, Route}
 use Rattle.source_put.specs.Tries.{Giving, Puts}
@@ -44,25 +43,38 @@ IsBehind u t = u ≡ record t { own = u.own }
 abbrev pub IsSteady : {F : Type 0} → (F → F → Type 0) → (F → Type 0) → Type 0
 IsSteady {F} kept on_disk = (p q : F) → kept p q → (on_disk p → on_disk q) × (on_disk q → on_disk p)
 
+-- the rounds of a sink by what its port says of itself
+abbrev pub FaceRounds : {F : Type 0} → Face F → (F → Type 0) → {S : Type 0} → Told S → ℕ → List Turn → Taking F S → Taking F S → Type 0
+FaceRounds face on_disk sink batch = Rounds (TurnsOnce face sink batch) (MendsOnce face on_disk)
+
 module _ {F : Type 0} (pass : F → Known) (saw : F → List Own → State → Type 0) (kept : F → F → Type 0) where
   -- a put through a port with this pass
   abbrev pub PortPuts : Giving F
   PortPuts = Puts (λ p. AreOwned (pass p).view) saw (λ p. length (pass p).view.seen) kept
 
-  -- the rounds of a sink whose port has this pass
-  abbrev pub PortRounds : (F → Type 0) → {S : Type 0} → (S → List Content → ℕ → Result (Unit {0}) SinkRefused → S → Type 0) → ℕ → List Turn → Taking F S → Taking F S → Type 0
-  PortRounds on_disk delivers batch =
-      Rounds (TurnsOnce (λ p. AreOwned (pass p).view) saw (λ p. length (pass p).view.seen) kept delivers batch)
-      (MendsOnce (λ p. AreOwned (pass p).view) saw (λ p. length (pass p).view.seen) kept on_disk)
+  -- what a port with this pass says of itself
+  abbrev pub as_face : Face F
+  as_face = face (λ p. AreOwned (pass p).view) saw (λ p. length (pass p).view.seen) kept
 
-  -- Rounds that a sink made through a port are, once its pass is at home, all calls with its number in the whole history, in
-  -- order and no others.
-  abbrev pub RoundsAreInTrack : (F → Type 0) → {S : Type 0} → (S → List Content → ℕ → Result (Unit {0}) SinkRefused → S → Type 0) → Type 0
-  RoundsAreInTrack on_disk {S} delivers =
+  -- Rounds that a sink made through a port are in each track at which its pass is: there they are all calls since the track
+  -- before, in order and no others.
+  abbrev pub RoundsAreInTrack : (F → Type 0) → {S : Type 0} → Told S → Type 0
+  RoundsAreInTrack on_disk {S} sink =
+      (batch : ℕ) (turns : List Turn) (old new : Taking F S) (t : Track)
+      → Matches (pass new.from) t → FaceRounds as_face on_disk sink batch turns old new
+      → let before = record t { own = owned (pass old.from).view } in
+      Matches (pass old.from) before
+      × Rounds (Turned sink batch) (Mended (on_disk old.from)) turns
+      (record { from = before; sink = old.sink; moments = old.moments })
+      (record { from = t; sink = new.sink; moments = new.moments })
+
+  -- Of a new pass they are, once it is at home, all calls with its number in the whole history.
+  abbrev pub RoundsAreHome : (F → Type 0) → {S : Type 0} → Told S → Type 0
+  RoundsAreHome on_disk {S} sink =
       (batch : ℕ) (turns : List Turn) (old new : Taking F S) (home : Known)
-      → IsNew (pass old.from) → Took home (pass new.from) → PortRounds on_disk delivers batch turns old new
+      → IsNew (pass old.from) → Took home (pass new.from) → FaceRounds as_face on_disk sink batch turns old new
       → let track = track_of home (pass old.from).number in
-      Rounds (Turned delivers batch) (Mended (on_disk old.from)) turns
+      Rounds (Turned sink batch) (Mended (on_disk old.from)) turns
       (record { from = track; sink = old.sink; moments = old.moments })
       (record { from = ended track; sink = new.sink; moments = new.moments })
 

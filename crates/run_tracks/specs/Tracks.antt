@@ -9,12 +9,11 @@ use Rattle.channel_face.specs.Machine.{State}
 use Rattle.channel_face.specs.Faces.{Own, IsPutBatch}
 use Rattle.channel_face.specs.declared.replies.FaceRefused.{FaceRefused}
 use Rattle.channel_face.specs.declared.replies.OpenCause.{OpenCause}
-use Rattle.plug_in.specs.declared.sink.SinkRefused.{SinkRefused}
 use Rattle.shared_channel.specs.Passes.{Known}
 use Rattle.shared_channel.specs.Ports.{own_calls}
 use Rattle.sink_runner.specs.Turns.{IsTurn}
 use Rattle.sink_runner.specs.declared.turn.Turn.{Turn}
-use Rattle.sink_worker.specs.Rounds.{Taking}
+use Rattle.sink_worker.specs.Rounds.{Counts, Taking, Told}
 
 -- A channel's opening and all calls since, the number of a worker's pass, and that worker's own calls so far.
 pub record Track : Type 0 where
@@ -47,10 +46,10 @@ Gave old new events result =
     (more : List Own) × Calls old new more × IsPutBatch (Stood old) (length old.whole) events result old.own more
 
 -- its next calls were one run of a sink, at the next moment
-abbrev pub Turned : {S : Type 0} → (S → List Content → ℕ → Result (Unit {0}) SinkRefused → S → Type 0) → ℕ → Taking Track S → Turn → Taking Track S → Type 0
-Turned delivers batch old turn new =
-    (moment : ℕ) × (more : List Own) × Gives moment old.moments new.moments × Calls old.from new.from more
-    × IsTurn (Stood old.from) (length old.from.whole) delivers batch moment old.sink turn new.sink old.from.own more
+abbrev pub Turned : {S : Type 0} → Told S → ℕ → Taking Track S → Turn → Taking Track S → Type 0
+Turned sink batch old turn new =
+    (moment : ℕ) × (more : List Own) × Gives moment old.moments new.moments × Counts sink.faults old.sink turn new.sink
+    × Calls old.from new.from more × IsTurn (Stood old.from) (length old.from.whole) sink.delivers batch moment old.sink turn new.sink old.from.own more
 
 -- its next calls were a mend of the channel, which is on a disk where OnDisk holds
 abbrev pub Mended : Type 0 → {S : Type 0} → Taking Track S → Result Bool OpenCause → Taking Track S → Type 0

@@ -1,8 +1,9 @@
 // Laws of workers' calls in whole histories.
 ghost use Rattle.shared_channel.specs.Ports.{Later, Saw};
+ghost use Rattle.sink_worker.specs.Rounds.{told};
 ghost use Rattle.two_channels.specs.Ports.{IsOnDisk, LaterPort, SawIn};
 ghost use Rattle.run_tracks.specs.Dealt.{EveryNumberIsHome};
-ghost use Rattle.run_tracks.specs.Told.{BatchIsInTracks, RoundsAreInTrack};
+ghost use Rattle.run_tracks.specs.Told.{BatchIsInTracks, RoundsAreHome, RoundsAreInTrack};
 
 use channel_face::Channel;
 use plug_in::{EventSink, Interceptor};
@@ -10,14 +11,20 @@ use shared_channel::{Carries, Port};
 use std::sync::Wait;
 use two_channels::EitherPort;
 
-/// What a sink's worker did through its port is, once its pass is at home, all calls with its number in the whole history of
-/// the channel: its rounds, in order and no others. It is so of a port of a channel on a disk, and of one that may be of either
-/// kind.
+/// What a sink's worker did through its port is, in each track at which its pass is, all calls since the track before: its
+/// rounds, in order and no others. So, once a new pass is at home, it is all calls with its number in the whole history of the
+/// channel. It is so of a port of a channel on a disk, and of one that may be of either kind.
 pub fn rounds_are_in_track<'a, R: Wait + 'a, A: Channel + 'a, B: Channel + 'a, S: EventSink>()
     ensures port { RoundsAreInTrack ⟦<Port<'a, R, A> as Carries>⟧.pass
-        (λ p. Saw A.stands p.pass.view) (λ p q. Later p.pass q.pass) (λ p. Unit {0}) S.delivers }
+        (λ p. Saw A.stands p.pass.view) (λ p q. Later p.pass q.pass)
+        (λ p. Unit {0}) (told S.delivers S.faults) }
+    ensures port_home { RoundsAreHome ⟦<Port<'a, R, A> as Carries>⟧.pass
+        (λ p. Saw A.stands p.pass.view) (λ p q. Later p.pass q.pass)
+        (λ p. Unit {0}) (told S.delivers S.faults) }
     ensures either { RoundsAreInTrack ⟦<EitherPort<'a, R, A, B> as Carries>⟧.pass
-        (SawIn A.stands B.stands) LaterPort IsOnDisk S.delivers }
+        (SawIn A.stands B.stands) LaterPort IsOnDisk (told S.delivers S.faults) }
+    ensures either_home { RoundsAreHome ⟦<EitherPort<'a, R, A, B> as Carries>⟧.pass
+        (SawIn A.stands B.stands) LaterPort IsOnDisk (told S.delivers S.faults) }
 {}
 
 /// What became of a batch at the ports of its channels is, read backwards from the end, what the worker called in their whole

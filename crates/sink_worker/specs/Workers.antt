@@ -15,5 +15,5 @@ pub record SinkRan {F S C : Type 0} (Turns : Taking F S → Turn → Taking F S 
     (old new : SinkWorker F S C) : Type 0 where
   pub turns : List Turn
   pub rounds : Rounds Turns Mends turns (taking moments old) (taking moments new)
-  pub place : new.place ≡ old.place
+  pub channel : new.channel ≡ old.channel
   pub batch : new.batch ≡ old.batch

@@ -1,6 +1,6 @@
 // One round of a sink's worker.
 ghost use Rattle.std.specs.Prelude.{◌≡◌};
-ghost use Rattle.sink_worker.specs.Rounds.{Round, TurnsOnce, MendsOnce};
+ghost use Rattle.sink_worker.specs.Rounds.{MendsOnce, Round, TurnsOnce, face, told};
 ghost use Rattle.sink_worker.specs.Workers.{taking};
 
 use crate::answers::needs_mend;
@@ -13,10 +13,12 @@ use sink_runner::{Turn, drain_turn};
 impl<F: TakeFace + KeepFace, S: EventSink, C: Clock> SinkWorker<F, S, C> {
     // One run of the sink at the next moment.
     fn run_once(&mut self) -> Turn
-        ensures turns { TurnsOnce ⟦<F as TakeFace>⟧.own ⟦<F as TakeFace>⟧.saw ⟦<F as TakeFace>⟧.seen
-            ⟦<F as TakeFace>⟧.kept S.delivers self.old.batch
+        ensures turns { TurnsOnce
+            (face ⟦<F as TakeFace>⟧.own ⟦<F as TakeFace>⟧.saw
+            ⟦<F as TakeFace>⟧.seen ⟦<F as TakeFace>⟧.kept)
+            (told S.delivers S.faults) self.old.batch
             (taking C.moments self.old) result (taking C.moments self.new) }
-        ensures same { (self.new.place ≡ self.old.place) × (self.new.batch ≡ self.old.batch) }
+        ensures same { (self.new.channel ≡ self.old.channel) × (self.new.batch ≡ self.old.batch) }
     {
         let moment = self.clock.now();
         drain_turn(
@@ -32,12 +34,16 @@ impl<F: TakeFace + KeepFace, S: EventSink, C: Clock> SinkWorker<F, S, C> {
     /// commit in doubt.
     pub(crate) fn round(&mut self) -> Turn
         ensures round { Round
-            (TurnsOnce ⟦<F as TakeFace>⟧.own ⟦<F as TakeFace>⟧.saw ⟦<F as TakeFace>⟧.seen ⟦<F as TakeFace>⟧.kept
-            S.delivers self.old.batch)
-            (MendsOnce ⟦<F as KeepFace>⟧.own ⟦<F as KeepFace>⟧.saw ⟦<F as KeepFace>⟧.seen ⟦<F as KeepFace>⟧.kept
+            (TurnsOnce
+            (face ⟦<F as TakeFace>⟧.own ⟦<F as TakeFace>⟧.saw
+            ⟦<F as TakeFace>⟧.seen ⟦<F as TakeFace>⟧.kept)
+            (told S.delivers S.faults) self.old.batch)
+            (MendsOnce
+            (face ⟦<F as KeepFace>⟧.own ⟦<F as KeepFace>⟧.saw
+            ⟦<F as KeepFace>⟧.seen ⟦<F as KeepFace>⟧.kept)
             ⟦<F as KeepFace>⟧.on_disk)
             (taking C.moments self.old) result (taking C.moments self.new) }
-        ensures same { (self.new.place ≡ self.old.place) × (self.new.batch ≡ self.old.batch) }
+        ensures same { (self.new.channel ≡ self.old.channel) × (self.new.batch ≡ self.old.batch) }
     {
         let turn = self.run_once();
         if needs_mend(&turn) {

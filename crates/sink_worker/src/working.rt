@@ -1,5 +1,6 @@
 // What a sink's worker does.
-ghost use Rattle.sink_worker.specs.Rounds.{TurnsOnce, MendsOnce};
+ghost use Rattle.flume_host.specs.Causes.{Rose};
+ghost use Rattle.sink_worker.specs.Rounds.{MendsOnce, TurnsOnce, face, told};
 ghost use Rattle.sink_worker.specs.Workers.{SinkRan};
 
 use crate::answers::pause_after;
@@ -10,29 +11,53 @@ use flume_host::{Clock, Halt};
 use plug_in::EventSink;
 use std::sync::Wait;
 
-/// It makes one round after the other until it finds the stop set: before each, and between the pieces of each pause. A
-/// round that delivered is followed by no pause, one that found no event by 100 milliseconds, and each other by 1,000.
+impl<F: TakeFace + KeepFace, S: EventSink, C: Clock> SinkWorker<F, S, C> {
+    /// Makes one round after the other until it is told to stop: it asks before each, and between the pieces of each pause, and
+    /// ends for nothing else. A round that delivered is followed by no pause, one that found no event by 100 milliseconds, and
+    /// each other by 1,000.
+    pub fn work_until<R: Wait, H: Halt>(&mut self, rt: &R, halt: &mut H)
+        ensures ran { SinkRan
+            (TurnsOnce
+            (face ⟦<F as TakeFace>⟧.own ⟦<F as TakeFace>⟧.saw
+            ⟦<F as TakeFace>⟧.seen ⟦<F as TakeFace>⟧.kept)
+            (told S.delivers S.faults) self.old.batch)
+            (MendsOnce
+            (face ⟦<F as KeepFace>⟧.own ⟦<F as KeepFace>⟧.saw
+            ⟦<F as KeepFace>⟧.seen ⟦<F as KeepFace>⟧.kept)
+            ⟦<F as KeepFace>⟧.on_disk)
+            C.moments self.old self.new }
+        ensures stop { Rose (H.yes halt.old) (H.yes halt.new) }
+    {
+        for _ in rt.forever() {
+            if halt.asked() {
+                return;
+            }
+            let turn = self.round();
+            if rest(&mut self.clock, halt, pause_after(&turn)) {
+                return;
+            }
+        }
+        unreachable!()
+    }
+}
+
+/// It works until it finds the stop set, as [`SinkWorker::work_until`].
 impl<F: TakeFace + KeepFace, S: EventSink, C: Clock> Work for SinkWorker<F, S, C> {
     ghost ready = { λ w. Unit {0} };
 
     ghost ran = { λ old new. SinkRan
-        (TurnsOnce ⟦<F as TakeFace>⟧.own ⟦<F as TakeFace>⟧.saw ⟦<F as TakeFace>⟧.seen ⟦<F as TakeFace>⟧.kept
-        S.delivers old.batch)
-        (MendsOnce ⟦<F as KeepFace>⟧.own ⟦<F as KeepFace>⟧.saw ⟦<F as KeepFace>⟧.seen ⟦<F as KeepFace>⟧.kept
+        (TurnsOnce
+        (face ⟦<F as TakeFace>⟧.own ⟦<F as TakeFace>⟧.saw
+        ⟦<F as TakeFace>⟧.seen ⟦<F as TakeFace>⟧.kept)
+        (told S.delivers S.faults) old.batch)
+        (MendsOnce
+        (face ⟦<F as KeepFace>⟧.own ⟦<F as KeepFace>⟧.saw
+        ⟦<F as KeepFace>⟧.seen ⟦<F as KeepFace>⟧.kept)
         ⟦<F as KeepFace>⟧.on_disk)
         C.moments old new };
 
     fn work<R: Wait>(&mut self, rt: &R, stop: &Stop) {
         let mut watch = Watch::new(stop);
-        for _ in rt.forever() {
-            if watch.asked() {
-                return;
-            }
-            let turn = self.round();
-            if rest(&mut self.clock, &mut watch, pause_after(&turn)) {
-                return;
-            }
-        }
-        unreachable!()
+        self.work_until(rt, &mut watch);
     }
 }

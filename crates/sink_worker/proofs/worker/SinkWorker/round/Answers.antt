@@ -1,14 +1,14 @@
 use Rattle.std.proofs.Common.{◌≡◌, ◌∙◌, true, false, refl, sym}
 use Rattle.sink_worker.specs.Answers.{needs_mend}
-use Rattle.sink_worker.specs.Rounds.{TurnsOnce, MendsOnce}
+use Rattle.sink_worker.specs.Rounds.{MendsOnce, TurnsOnce, face, told}
 use Rattle.sink_worker.specs.Workers.{taking}
 use Rattle.sink_worker.proofs.Rounding.{with_mend, without_mend}
 use Rattle.sink_worker.proofs.worker.SinkWorker.round.Goals as goal
 
 pub returns-then-needs_mend-clause-round : goal.returns-then-needs_mend-clause-round
 returns-then-needs_mend-clause-round g c =
-    let Turns = TurnsOnce g.F.TakeFace.own g.F.TakeFace.saw g.F.TakeFace.seen g.F.TakeFace.kept g.S.EventSink.delivers c.args.self.now.batch in
-    let Mends = MendsOnce g.F.KeepFace.own g.F.KeepFace.saw g.F.KeepFace.seen g.F.KeepFace.kept g.F.KeepFace.on_disk in
+    let Turns = TurnsOnce (face g.F.TakeFace.own g.F.TakeFace.saw g.F.TakeFace.seen g.F.TakeFace.kept) (told g.S.EventSink.delivers g.S.EventSink.faults) c.args.self.now.batch in
+    let Mends = MendsOnce (face g.F.KeepFace.own g.F.KeepFace.saw g.F.KeepFace.seen g.F.KeepFace.kept) g.F.KeepFace.on_disk in
     let turn = c.run_once-turn.result in
     let mended = c.mend-mended.ensures in
     let is : needs_mend turn ≡ true = sym c.needs_mend.ensures ∙ c.if-needs_mend.true in
@@ -16,8 +16,8 @@ returns-then-needs_mend-clause-round g c =
 
 pub returns-else-needs_mend-clause-round : goal.returns-else-needs_mend-clause-round
 returns-else-needs_mend-clause-round g c =
-    let Turns = TurnsOnce g.F.TakeFace.own g.F.TakeFace.saw g.F.TakeFace.seen g.F.TakeFace.kept g.S.EventSink.delivers c.args.self.now.batch in
-    let Mends = MendsOnce g.F.KeepFace.own g.F.KeepFace.saw g.F.KeepFace.seen g.F.KeepFace.kept g.F.KeepFace.on_disk in
+    let Turns = TurnsOnce (face g.F.TakeFace.own g.F.TakeFace.saw g.F.TakeFace.seen g.F.TakeFace.kept) (told g.S.EventSink.delivers g.S.EventSink.faults) c.args.self.now.batch in
+    let Mends = MendsOnce (face g.F.KeepFace.own g.F.KeepFace.saw g.F.KeepFace.seen g.F.KeepFace.kept) g.F.KeepFace.on_disk in
     let turn = c.run_once-turn.result in
     let is : needs_mend turn ≡ false = sym c.needs_mend.ensures ∙ c.if-needs_mend.false in
     without_mend Turns Mends (taking g.C.Clock.moments c.args.self.now) (taking g.C.Clock.moments c.run_once-turn.new.self) turn is c.run_once-turn.ensures.turns
