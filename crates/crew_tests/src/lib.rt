@@ -1,8 +1,14 @@
-//! Tests of workers in rows: that they run beside each other, that a pause is made in pieces and ends at the stop, and that
-//! a look at the stop finds it once it is set.
+//! Tests of workers: that those in a row run beside each other, that a pause is made in pieces and ends at the stop, that a
+//! look at the stop finds it once it is set, that a drained input sets it, and which runs a sink's worker makes until then.
 #![tactic(auto)]
 
+#[cfg(test)]
+mod drains;
+#[cfg(test)]
+mod face;
 #[cfg(test)]
 mod pauses;
 #[cfg(test)]
 mod rows;
+#[cfg(test)]
+mod sinks;
