@@ -51,7 +51,7 @@ impl KeepFace for SilentFace {
 
     ghost kept = { λ _ _. Unit {0} };
 
-    ghost on_disk = { λ _. ⊥ };
+    ghost on_disk = { λ _. Unit {0} };
 
     ghost kept_none = { λ _. tt };
 
@@ -62,11 +62,11 @@ impl KeepFace for SilentFace {
     }
 
     fn checkpoint(&mut self) -> Result<(), CheckRefused> {
-        unreachable!()
+        Err(CheckRefused::Broken)
     }
 
     fn prune(&mut self) -> Result<u64, PruneRefused> {
-        unreachable!()
+        Err(PruneRefused::Broken)
     }
 
     fn size(&mut self) -> u64 {
