@@ -5,7 +5,8 @@ ghost use Rattle.run_tracks.specs.Places.{AreAt, TookEach};
 
 use shared_channel::{Carries, Joins, Pass};
 
-/// The pass at home at this place takes another one in, and keeps its own number; the others stay as they are. It takes no memory, and can't fail.
+/// The pass at home at this place takes another one in, and keeps its own number; the others stay as they are. It takes no
+/// memory, and can't fail.
 pub fn bring_home<S: Joins>(shares: &[S], homes: &mut [Pass], place: usize, pass: Pass)
     requires homes { AreHomes S.table shares.now homes.old }
     requires pass { IsAt S.table shares.now place pass }

@@ -28,7 +28,7 @@ pub fn rounds_are_in_track<'a, R: Wait + 'a, A: Channel + 'a, B: Channel + 'a, S
 {}
 
 /// What became of a batch at the ports of its channels is, read backwards from the end, what the worker called in their whole
-/// histories, and it called no other.
+/// histories. It says of one batch, and not that the worker called no other.
 pub fn batch_is_in_tracks<'a, R: Wait + 'a, A: Channel + 'a, B: Channel + 'a, I: Interceptor>()
     ensures port { BatchIsInTracks ⟦<Port<'a, R, A> as Carries>⟧.pass
         (λ p. Saw A.stands p.pass.view) (λ p q. Later p.pass q.pass) I.intercepts }

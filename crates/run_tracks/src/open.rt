@@ -10,8 +10,8 @@ use shared_channel::Pass;
 use std::sync::Wait;
 use two_channels::{EitherPort, EitherShared};
 
-/// Gives each pass a port of the channel at its place and of its kind, in order. The list has room for them: so it takes no memory, and no
-/// pass is lost.
+/// Gives each pass a port of the channel at its place and of its kind, in order. The list has room for them: so it takes no
+/// memory, and no pass is lost.
 pub fn open_ports<'a, R: Wait + 'a, A: Channel + 'a, B: Channel + 'a>(
     rt: &'a R,
     shares: &'a [EitherShared<A, B>],
