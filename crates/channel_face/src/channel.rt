@@ -150,8 +150,18 @@ pub trait Channel {
     ghost tells_as_opened: { (channel : Self) (start : Opening) (h : List Step) → stands channel start h → start.tells ≡ tells channel };
 }
 
-/// A channel on a disk.
-pub trait Durable: Channel {
+/// A channel that can be opened anew: one on a disk.
+pub trait Reopen: Channel {
+    /// Opens the channel's folder anew. On Ok the life is one more, earlier tokens are stale, and what was staged is kept up
+    /// to some place. After a refusal the channel is broken, and `Spent` of `Counter::Life` comes exactly where the life is
+    /// 2^64 - 1. `steps` counts the records that it reads.
+    fn reopen<L: Ledger>(&mut self, steps: &mut Steps<L>) -> Result<(), OpenCause>
+        ensures step { (kept : Reopened) × AddsOne (Self.stands self.old) (Self.stands self.new) (Reopen (reopen_reply result kept)) (Self.moment self.new) }
+        ensures fault { IsErrOf result OpenCause.DiskFault → Rose (Self.faults self.old) (Self.faults self.new) };
+}
+
+/// A channel on a disk that lays checkpoints and removes old files.
+pub trait Durable: Reopen {
     /// Flushes, then lays a checkpoint. 1. `Broken`. 2. `Spent` of `Counter::Check`. 3. `DiskFault`, where the flush failed.
     /// 4. `CheckFault`, where the checkpoint's own file failed: what was staged is settled. It takes no memory.
     fn checkpoint(&mut self) -> Result<(), CheckRefused>
@@ -164,11 +174,4 @@ pub trait Durable: Channel {
     fn prune(&mut self) -> Result<u64, PruneRefused>
         ensures step { AddsOne (Self.stands self.old) (Self.stands self.new) (Prune result) (Self.moment self.new) }
         ensures fault { IsErrOf result PruneRefused.DiskFault → Rose (Self.faults self.old) (Self.faults self.new) };
-
-    /// Opens the channel's folder anew. On Ok the life is one more, earlier tokens are stale, and what was staged is kept up
-    /// to some place. After a refusal the channel is broken, and `Spent` of `Counter::Life` comes exactly where the life is
-    /// 2^64 - 1. `steps` counts the records that it reads.
-    fn reopen<L: Ledger>(&mut self, steps: &mut Steps<L>) -> Result<(), OpenCause>
-        ensures step { (kept : Reopened) × AddsOne (Self.stands self.old) (Self.stands self.new) (Reopen (reopen_reply result kept)) (Self.moment self.new) }
-        ensures fault { IsErrOf result OpenCause.DiskFault → Rose (Self.faults self.old) (Self.faults self.new) };
 }

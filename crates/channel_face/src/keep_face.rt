@@ -1,88 +1,23 @@
 // What those see of a channel who keep it in order.
-ghost use Rattle.std.specs.Prelude.{◌≡◌, ◌<◌, ◌≤◌, ℕ, List, length};
-ghost use Rattle.channel_face.specs.Faces.{Own, Gains};
-ghost use Rattle.channel_face.specs.History.{Opening, Step};
-ghost use Rattle.channel_face.specs.Keeps.{IsCheck, IsLook, IsMend, IsPrune};
-ghost use Rattle.channel_face.specs.Machine.{State};
+ghost use Rattle.std.specs.Prelude.{◌≤◌};
+ghost use Rattle.channel_face.specs.Faces.{Gains};
+ghost use Rattle.channel_face.specs.Keeps.{IsCheck, IsPrune};
 
-use crate::{CheckRefused, OpenCause, PruneRefused};
-use flume_host::Steps;
-use std::marker::Brand;
-use std::sync::ledger::{Blank, Ledger};
+use crate::{CheckRefused, MendFace, PruneRefused};
 
-/// What those see of a channel who mend it, lay its checkpoints, remove its old files and ask how many events are left.
-pub trait KeepFace {
-    /// Behind this opening and these earlier calls of the channel, these are its own calls so far, with their replies.
-    ghost own: { Self → Opening → List Step → List Own → Type 0 };
-
-    /// These are its own calls so far, and in this state it left the channel.
-    ghost saw: { Self → List Own → State → Type 0 };
-
-    /// How many of the channel's calls it has seen.
-    ghost seen: { Self → ℕ };
-
-    /// The second is the first after some calls: what never changes of it is the same.
-    ghost kept: { Self → Self → Type 0 };
-
-    /// The channel is on a disk.
-    ghost on_disk: { Self → Type 0 };
-
-    /// Reopens the channel exactly where it is broken, and answers true after a reopening. False comes exactly where it is not
-    /// broken, and then it is no call. A channel that is not on a disk never breaks. `steps` counts the records that a
-    /// reopening reads.
-    fn mend<L: Ledger>(&mut self, steps: &mut Steps<L>) -> Result<bool, OpenCause>
-        ensures seen { seen self.old ≤ seen self.new }
-        ensures kept { kept self.old self.new }
-        ensures calls { Gains (own self.old) (own self.new)
-            (IsMend (on_disk self.old) (saw self.new) (seen self.new) result) };
-
+/// What those see of a channel who lay its checkpoints and remove its old files.
+pub trait KeepFace: MendFace {
     /// Flushes, then lays a checkpoint, as [`Durable::checkpoint`](crate::Durable::checkpoint).
     fn checkpoint(&mut self) -> Result<(), CheckRefused>
-        requires { on_disk self.old }
-        ensures seen { seen self.old ≤ seen self.new }
-        ensures kept { kept self.old self.new }
-        ensures calls { Gains (own self.old) (own self.new) (λ earlier. IsCheck (seen self.new) result) };
+        requires { Self.on_disk self.old }
+        ensures seen { Self.seen self.old ≤ Self.seen self.new }
+        ensures kept { Self.kept self.old self.new }
+        ensures calls { Gains (Self.own self.old) (Self.own self.new) (λ earlier. IsCheck (Self.seen self.new) result) };
 
     /// Removes the files that no reopening needs, as [`Durable::prune`](crate::Durable::prune).
     fn prune(&mut self) -> Result<u64, PruneRefused>
-        requires { on_disk self.old }
-        ensures seen { seen self.old ≤ seen self.new }
-        ensures kept { kept self.old self.new }
-        ensures calls { Gains (own self.old) (own self.new) (λ earlier. IsPrune (seen self.new) result) };
-
-    /// How many events are left. It is no call.
-    fn size(&mut self) -> u64
-        ensures seen { seen self.old ≤ seen self.new }
-        ensures kept { kept self.old self.new }
-        ensures calls { Gains (own self.old) (own self.new)
-            (IsLook (saw self.new) (λ s. result ≡ length s.items)) };
-
-    /// No call changes nothing.
-    ghost kept_none: { (face : Self) → kept face face };
-
-    /// Calls after calls are calls.
-    ghost kept_then: { (first second third : Self) → kept first second → kept second third → kept first third };
-}
-
-fn mend_by<F: KeepFace, L: Ledger>(blank: Blank, face: &mut F) -> Result<bool, OpenCause>
-    requires name { blank.name ≡ L.name }
-    requires parts { blank.parts ≡ L.parts }
-    requires some { 0 < L.parts }
-    ensures seen { F.seen face.old ≤ F.seen face.new }
-    ensures kept { F.kept face.old face.new }
-    ensures calls { Gains (F.own face.old) (F.own face.new)
-        (IsMend (F.on_disk face.old) (F.saw face.new) (F.seen face.new) result) }
-{
-    let mut steps = Steps::<L>::new(blank);
-    face.mend(&mut steps)
-}
-
-/// Mends a channel, as [`KeepFace::mend`], for one who counts no steps.
-pub fn mend<F: KeepFace>(face: &mut F) -> Result<bool, OpenCause>
-    ensures seen { F.seen face.old ≤ F.seen face.new }
-    ensures kept { F.kept face.old face.new }
-    ensures calls { Gains (F.own face.old) (F.own face.new)
-        (IsMend (F.on_disk face.old) (F.saw face.new) (F.seen face.new) result) }
-{
-    mend_by::<F, Brand>(Blank::new(1), face)
+        requires { Self.on_disk self.old }
+        ensures seen { Self.seen self.old ≤ Self.seen self.new }
+        ensures kept { Self.kept self.old self.new }
+        ensures calls { Gains (Self.own self.old) (Self.own self.new) (λ earlier. IsPrune (Self.seen self.new) result) };
 }

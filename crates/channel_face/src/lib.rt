@@ -5,17 +5,19 @@ mod channel;
 mod face;
 mod keep_face;
 mod laws;
+mod mend_face;
 mod own_face;
 mod replies;
 mod tokens;
 
-pub use channel::{Channel, Durable};
+pub use channel::{Channel, Durable, Reopen};
 pub use face::{PutFace, TakeFace};
-pub use keep_face::{KeepFace, mend};
+pub use keep_face::KeepFace;
 pub use laws::{
     commits_are_well_formed, count_stays_within, counts_one_call, numbers_rise, stands_for_journal,
     takes_least,
 };
+pub use mend_face::{MendFace, mend};
 pub use own_face::OwnFace;
 pub use replies::{
     BeginRefused, CheckRefused, CommitRefused, Counter, Counts, FaceRefused, FlushRefused, Kind,

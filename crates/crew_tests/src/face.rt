@@ -1,7 +1,5 @@
 // A face over a channel in memory, which needs no mend. It tells nothing of its calls.
-use channel_face::{
-    CheckRefused, FaceRefused, KeepFace, OpenCause, OwnFace, PruneRefused, TakeFace, TakeTxn,
-};
+use channel_face::{FaceRefused, MendFace, OpenCause, OwnFace, TakeFace, TakeTxn};
 use event_core::Event;
 use flume_host::Steps;
 use memory_channel::MemoryChannel;
@@ -42,7 +40,7 @@ impl TakeFace for SilentFace {
     }
 }
 
-impl KeepFace for SilentFace {
+impl MendFace for SilentFace {
     ghost own = { λ _ _ _ _. ⊥ };
 
     ghost saw = { λ _ _ _. ⊥ };
@@ -59,14 +57,6 @@ impl KeepFace for SilentFace {
 
     fn mend<L: Ledger>(&mut self, _steps: &mut Steps<L>) -> Result<bool, OpenCause> {
         Ok(false)
-    }
-
-    fn checkpoint(&mut self) -> Result<(), CheckRefused> {
-        Err(CheckRefused::Broken)
-    }
-
-    fn prune(&mut self) -> Result<u64, PruneRefused> {
-        Err(PruneRefused::Broken)
     }
 
     fn size(&mut self) -> u64 {

@@ -1,22 +1,19 @@
-// The calls of a channel on a disk through a pass, and the mending of a broken one.
+// The calls of a channel on a disk through a pass that lay checkpoints and remove old files.
 ghost use Rattle.std.specs.Prelude.{◌≡◌, ◌^◌, ◌-◌, length, true, not};
 ghost use Rattle.channel_face.specs.Machine.{Checkpoint, Prune};
 ghost use Rattle.turn_passes.specs.Calls.{has};
 ghost use Rattle.shared_channel.specs.Calls.{IsIn, Makes, Bounds, Answers, made_if, step};
-ghost use Rattle.channel_face.specs.Keeps.{is_spent_check, is_spent_prune, is_spent_open};
-ghost use Rattle.shared_channel.specs.Durables.{MakesReopen, MakesMended, Reopens, Mends};
+ghost use Rattle.channel_face.specs.Keeps.{is_spent_check, is_spent_prune};
 
 use crate::home::Home;
 use crate::making::MOST;
 use crate::pass::Pass;
 use crate::shared::Shared;
 use atomic_table::Badge;
-use channel_face::{CheckRefused, Counter, Durable, OpenCause, PruneRefused};
-use flume_host::Steps;
+use channel_face::{CheckRefused, Counter, Durable, PruneRefused};
 use std::marker::Brand;
 use std::mem;
 use std::sync::Wait;
-use std::sync::ledger::Ledger;
 use turn_passes::Place;
 
 impl<C: Durable> Shared<C> {
@@ -76,62 +73,6 @@ impl<C: Durable> Shared<C> {
         reply
     }
 
-    // What it kept is known to be there, and not what it is. So one of the calls is counted that its reply may stand for.
-    fn make_reopen<L: Ledger>(
-        &self,
-        seat: &mut Place<Home<C>>,
-        home: &mut Home<C>,
-        calls: u64,
-        by: u64,
-        steps: &mut Steps<L>,
-    ) -> Result<(), OpenCause>
-        requires table { seat.old.table_id ≡ self.now.turn.table.shared.table_id }
-        requires within { IsIn C.stands seat.old.me home.old.channel }
-        requires own { has seat.old.me.0.numbers by ≡ true }
-        requires calls { calls ≡ length seat.old.me.0.seen }
-        ensures same { seat.new.table_id ≡ seat.old.table_id }
-        ensures makes { MakesReopen C.stands by (C.moment home.new.channel) result seat.old.me
-            home.new.channel seat.new.me }
-        ensures bound { Bounds (is_spent_open result) (2 ^ 64 - 1025) (length seat.old.me.0.seen) }
-    {
-        if calls >= MOST {
-            return Err(OpenCause::Spent {
-                counter: Counter::Calls,
-            });
-        }
-        let reply = home.channel.reopen(steps);
-        self.turn
-            .count_one::<Brand, (&Result<(), OpenCause>, &Home<C>)>(seat, by, &(&reply, &*home));
-        reply
-    }
-
-    // Reopens the channel where it is broken, and answers whether it was.
-    fn make_mended<L: Ledger>(
-        &self,
-        seat: &mut Place<Home<C>>,
-        home: &mut Home<C>,
-        calls: u64,
-        by: u64,
-        steps: &mut Steps<L>,
-    ) -> Result<bool, OpenCause>
-        requires table { seat.old.table_id ≡ self.now.turn.table.shared.table_id }
-        requires within { IsIn C.stands seat.old.me home.old.channel }
-        requires own { has seat.old.me.0.numbers by ≡ true }
-        requires calls { calls ≡ length seat.old.me.0.seen }
-        ensures same { seat.new.table_id ≡ seat.old.table_id }
-        ensures makes { MakesMended C.stands by (C.moment home.new.channel) result seat.old.me
-            home.new.channel seat.new.me }
-    {
-        let broken = home.channel.is_broken();
-        if !broken {
-            return Ok(false);
-        }
-        match self.make_reopen(seat, home, calls, by, steps) {
-            Ok(()) => Ok(true),
-            Err(cause) => Err(cause),
-        }
-    }
-
     /// Flushes, then lays a checkpoint, as [`Durable::checkpoint`], or is refused as `Spent` of `Counter::Calls`.
     pub fn checkpoint<R: Wait>(&self, rt: &R, pass: &mut Pass) -> Result<(), CheckRefused>
         requires { pass.old.table_id ≡ self.now.turn.table.shared.table_id }
@@ -162,52 +103,6 @@ impl<C: Durable> Shared<C> {
         let mut seat = badge.into_seat();
         let (mut home, calls) = self.enter(rt, &mut seat);
         let reply = self.make_prune(&mut seat, &mut home, calls, pass.number);
-        pass.calls = self.leave(&mut seat, home);
-        pass.badge = seat.into_badge();
-        reply
-    }
-
-    /// Opens the channel's folder anew, as [`Durable::reopen`], or is refused as `Spent` of `Counter::Calls`. After Ok the tokens
-    /// of every pass from before are stale, and tickets of what was not settled are in doubt.
-    pub fn reopen<R: Wait, L: Ledger>(
-        &self,
-        rt: &R,
-        pass: &mut Pass,
-        steps: &mut Steps<L>,
-    ) -> Result<(), OpenCause>
-        requires { pass.old.table_id ≡ self.now.turn.table.shared.table_id }
-        ensures same { (pass.new.table_id ≡ pass.old.table_id) ×
-            (pass.new.number ≡ pass.old.number) }
-        ensures call { Reopens C.stands C.tells C.moment pass.old.view pass.old.number result
-            pass.new.view }
-    {
-        let badge = mem::replace(&mut pass.badge, Badge::blank());
-        let mut seat = badge.into_seat();
-        let (mut home, calls) = self.enter(rt, &mut seat);
-        let reply = self.make_reopen(&mut seat, &mut home, calls, pass.number, steps);
-        pass.calls = self.leave(&mut seat, home);
-        pass.badge = seat.into_badge();
-        reply
-    }
-
-    /// In one turn reopens the channel exactly where it is broken, and answers true after a reopening. False comes exactly where
-    /// the channel is not broken: then it is a look, and no call. A refusal is that of [`Shared::reopen`].
-    pub fn mend<R: Wait, L: Ledger>(
-        &self,
-        rt: &R,
-        pass: &mut Pass,
-        steps: &mut Steps<L>,
-    ) -> Result<bool, OpenCause>
-        requires { pass.old.table_id ≡ self.now.turn.table.shared.table_id }
-        ensures same { (pass.new.table_id ≡ pass.old.table_id) ×
-            (pass.new.number ≡ pass.old.number) }
-        ensures call { Mends C.stands C.tells C.moment pass.old.view pass.old.number result
-            pass.new.view }
-    {
-        let badge = mem::replace(&mut pass.badge, Badge::blank());
-        let mut seat = badge.into_seat();
-        let (mut home, calls) = self.enter(rt, &mut seat);
-        let reply = self.make_mended(&mut seat, &mut home, calls, pass.number, steps);
         pass.calls = self.leave(&mut seat, home);
         pass.badge = seat.into_badge();
         reply

@@ -5,7 +5,9 @@ ghost use Rattle.channel_face.specs.Keeps.{IsCheck, IsLook, IsMend, IsPrune};
 ghost use Rattle.shared_channel.specs.Ports.{AreOwned, Later, Saw};
 
 use crate::port::Port;
-use channel_face::{Channel, CheckRefused, Durable, KeepFace, OpenCause, PruneRefused};
+use channel_face::{
+    Channel, CheckRefused, Durable, KeepFace, MendFace, OpenCause, PruneRefused, Reopen,
+};
 use flume_host::Steps;
 use std::sync::Wait;
 use std::sync::ledger::Ledger;
@@ -22,7 +24,7 @@ impl<'a, R: Wait, C: Channel> Port<'a, R, C> {
     }
 }
 
-impl<'a, R: Wait, C: Durable> KeepFace for Port<'a, R, C> {
+impl<'a, R: Wait, C: Reopen> MendFace for Port<'a, R, C> {
     ghost use Rattle.std.specs.Prelude.{length};
     ghost use Rattle.shared_channel.specs.Ports.{AreOwned, Later, Saw, later_none, later_then};
 
@@ -50,6 +52,17 @@ impl<'a, R: Wait, C: Durable> KeepFace for Port<'a, R, C> {
         self.shared.mend(self.rt, &mut self.pass, steps)
     }
 
+    fn size(&mut self) -> u64
+        ensures seen { length self.old.pass.view.seen ≤ length self.new.pass.view.seen }
+        ensures calls { Gains (AreOwned self.old.pass.view) (AreOwned self.new.pass.view)
+            (IsLook (Saw C.stands self.new.pass.view) (λ s. result ≡ length s.items)) }
+        ensures kept { Later self.old.pass self.new.pass }
+    {
+        self.events_left()
+    }
+}
+
+impl<'a, R: Wait, C: Durable> KeepFace for Port<'a, R, C> {
     fn checkpoint(&mut self) -> Result<(), CheckRefused>
         ensures seen { length self.old.pass.view.seen ≤ length self.new.pass.view.seen }
         ensures calls { Gains (AreOwned self.old.pass.view) (AreOwned self.new.pass.view)
@@ -66,14 +79,5 @@ impl<'a, R: Wait, C: Durable> KeepFace for Port<'a, R, C> {
         ensures kept { Later self.old.pass self.new.pass }
     {
         self.shared.prune(self.rt, &mut self.pass)
-    }
-
-    fn size(&mut self) -> u64
-        ensures seen { length self.old.pass.view.seen ≤ length self.new.pass.view.seen }
-        ensures calls { Gains (AreOwned self.old.pass.view) (AreOwned self.new.pass.view)
-            (IsLook (Saw C.stands self.new.pass.view) (λ s. result ≡ length s.items)) }
-        ensures kept { Later self.old.pass self.new.pass }
-    {
-        self.events_left()
     }
 }

@@ -11,6 +11,7 @@ mod making;
 mod pass;
 mod port;
 mod puts;
+mod reopening;
 mod shared;
 mod takes;
 

@@ -6,7 +6,7 @@ ghost use Rattle.shared_channel.specs.Ports.{AreOwned, Later, Saw, SawAll};
 
 use crate::pass::Pass;
 use crate::shared::Shared;
-use channel_face::{Channel, Durable, FaceRefused, OpenCause, PutFace, TakeFace, TakeTxn};
+use channel_face::{Channel, FaceRefused, OpenCause, PutFace, Reopen, TakeFace, TakeTxn};
 use event_core::{Batch, Event};
 use flume_host::Steps;
 use std::sync::Wait;
@@ -44,7 +44,7 @@ impl<'a, R: Wait, C: Channel> Port<'a, R, C> {
     }
 }
 
-impl<'a, R: Wait, C: Durable> Port<'a, R, C> {
+impl<'a, R: Wait, C: Reopen> Port<'a, R, C> {
     /// Reopens the channel exactly where it is broken, as [`Shared::mend`].
     pub fn mend<L: Ledger>(&mut self, steps: &mut Steps<L>) -> Result<bool, OpenCause>
         ensures same { (self.new.pass.table_id ≡ self.old.pass.table_id) ×

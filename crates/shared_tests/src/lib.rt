@@ -11,7 +11,6 @@ mod many;
 #[cfg(test)]
 mod mended;
 #[cfg(test)]
-mod reopening;
 #[cfg(test)]
 mod sharing;
 #[cfg(test)]

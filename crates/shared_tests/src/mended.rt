@@ -1,61 +1,20 @@
 // A channel that breaks and is mended, by a port and through a pass.
-ghost use Rattle.std.specs.Prelude.{◌≡◌, ◌<◌, All, IfSome};
-ghost use Rattle.channel_face.specs.History.{Opening};
-ghost use Rattle.shared_tests.specs.Opened.{IsOpenedAt};
+ghost use Rattle.std.specs.Prelude.{◌≡◌, ◌<◌};
 
-use crate::reopening::Reopening;
-use crate::sharing::{LIMITS, Opened};
+use crate::sharing::{LIMITS, on_disk};
 use crate::staged::put_by_port;
-use channel_face::{BeginRefused, Durable, FaceRefused, Limits, OpenCause};
-use file_channel::{FileChannel, OpenRefused, open_channel};
-use flume_host::{Disk, Steps};
+use channel_face::{BeginRefused, FaceRefused, OpenCause, Reopen};
+use flume_host::Steps;
 use host_memory::MemDisk;
 use shared_channel::{Pass, Port, Shared};
 use std::alloc::Global;
 use std::marker::Brand;
-use std::process::Abort;
-use std::snapshot::Snapshot;
 use std::sync::Wait;
 use std::sync::ledger::{Blank, Ledger};
 use std::test::Fail;
 use test_fixtures::disk_failing_in_flush;
 
-// Shares a channel that was opened in a folder that was so before.
-fn share_reopening<'a, R: Abort, D: Disk + Drop>(
-    rt: &'a R,
-    alloc: Global,
-    channel: FileChannel<D>,
-    before: Snapshot<D>,
-    limits: Limits,
-) -> Opened<Reopening<'a, R, D>>
-    ghost start: { Opening }
-    requires { IsOpenedAt (D.told channel.0) (D.faults channel.0) channel.1 start }
-    ensures { IfSome result (λ r. All (λ p. p.table_id ≡ r.0.turn.table.shared.table_id) r.1.items) }
-{
-    let _ = before;
-    let _ = limits;
-    match Shared::new(alloc, Reopening { rt, channel }, 1) {
-        Ok(opened) => Some(opened),
-        Err(_) => None,
-    }
-}
-
-fn open_reopening<'a, R: Abort, D: Disk + Drop, L: Ledger>(
-    rt: &'a R,
-    alloc: Global,
-    disk: D,
-    steps: &mut Steps<L>,
-) -> Opened<Reopening<'a, R, D>>
-    ensures { IfSome result (λ r. All (λ p. p.table_id ≡ r.0.turn.table.shared.table_id) r.1.items) }
-{
-    let before = Snapshot::of(&disk);
-    match open_channel(alloc, disk, LIMITS, steps) {
-        Ok(channel) => share_reopening(rt, alloc, channel, before, LIMITS),
-        Err(OpenRefused { disk: _, cause: _ }) => None,
-    }
-}
-
-fn mend_by_port<R: Wait, C: Durable, L: Ledger>(
+fn mend_by_port<R: Wait, C: Reopen, L: Ledger>(
     rt: &R,
     shared: &Shared<C>,
     pass: Pass,
@@ -71,7 +30,7 @@ fn mend_by_port<R: Wait, C: Durable, L: Ledger>(
 
 // Whether the first put is in doubt, the next one refused, a mend by a port reopens, a token from before is then stale, and the
 // pass has seen the calls of these and the reopening.
-fn breaks_and_is_mended<R: Wait, C: Durable, L: Ledger>(
+fn breaks_and_is_mended<R: Wait, C: Reopen, L: Ledger>(
     rt: &R,
     alloc: Global,
     shared: &Shared<C>,
@@ -98,7 +57,7 @@ fn breaks_and_is_mended<R: Wait, C: Durable, L: Ledger>(
 }
 
 // Whether a sound channel is put to, is not reopened by a mend, and has the event whose flush failed, or not.
-fn is_sound<R: Wait, C: Durable, L: Ledger>(
+fn is_sound<R: Wait, C: Reopen, L: Ledger>(
     rt: &R,
     alloc: Global,
     shared: &Shared<C>,
@@ -118,7 +77,7 @@ fn is_sound<R: Wait, C: Durable, L: Ledger>(
 }
 
 // Whether a reopening of a sound channel makes a token stale, and is counted.
-fn is_reopened<R: Wait, C: Durable, L: Ledger>(
+fn is_reopened<R: Wait, C: Reopen, L: Ledger>(
     rt: &R,
     shared: &Shared<C>,
     mut pass: Pass,
@@ -137,7 +96,7 @@ fn is_reopened<R: Wait, C: Durable, L: Ledger>(
     (pass, is_so)
 }
 
-fn all_of_it<R: Wait + Abort, L: Ledger>(
+fn all_of_it<R: Wait, L: Ledger>(
     rt: &R,
     alloc: Global,
     blank: Blank,
@@ -148,7 +107,7 @@ fn all_of_it<R: Wait + Abort, L: Ledger>(
     requires some { 0 < L.parts }
 {
     let mut steps = Steps::<L>::new(blank);
-    let Some((shared, mut passes)) = open_reopening(rt, alloc, disk, &mut steps) else {
+    let Some((shared, mut passes)) = on_disk(alloc, disk, 1) else {
         return Err(Fail::from("no channel"));
     };
     let Some(pass) = passes.pop() else {

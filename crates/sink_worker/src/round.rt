@@ -5,12 +5,12 @@ ghost use Rattle.sink_worker.specs.Workers.{taking};
 
 use crate::answers::needs_mend;
 use crate::worker::SinkWorker;
-use channel_face::{KeepFace, TakeFace, mend};
+use channel_face::{MendFace, TakeFace, mend};
 use flume_host::Clock;
 use plug_in::EventSink;
 use sink_runner::{Turn, drain_turn};
 
-impl<F: TakeFace + KeepFace, S: EventSink, C: Clock> SinkWorker<F, S, C> {
+impl<F: TakeFace + MendFace, S: EventSink, C: Clock> SinkWorker<F, S, C> {
     // One run of the sink at the next moment.
     fn run_once(&mut self) -> Turn
         ensures turns { TurnsOnce
@@ -39,9 +39,9 @@ impl<F: TakeFace + KeepFace, S: EventSink, C: Clock> SinkWorker<F, S, C> {
             ⟦<F as TakeFace>⟧.seen ⟦<F as TakeFace>⟧.kept)
             (told S.delivers S.faults) self.old.batch)
             (MendsOnce
-            (face ⟦<F as KeepFace>⟧.own ⟦<F as KeepFace>⟧.saw
-            ⟦<F as KeepFace>⟧.seen ⟦<F as KeepFace>⟧.kept)
-            ⟦<F as KeepFace>⟧.on_disk)
+            (face ⟦<F as MendFace>⟧.own ⟦<F as MendFace>⟧.saw
+            ⟦<F as MendFace>⟧.seen ⟦<F as MendFace>⟧.kept)
+            ⟦<F as MendFace>⟧.on_disk)
             (taking C.moments self.old) result (taking C.moments self.new) }
         ensures same { (self.new.channel ≡ self.old.channel) × (self.new.batch ≡ self.old.batch) }
     {

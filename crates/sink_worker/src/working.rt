@@ -5,13 +5,13 @@ ghost use Rattle.sink_worker.specs.Workers.{SinkRan};
 
 use crate::answers::pause_after;
 use crate::worker::SinkWorker;
-use channel_face::{KeepFace, TakeFace};
+use channel_face::{MendFace, TakeFace};
 use crew::{Stop, Watch, Work, rest};
 use flume_host::{Clock, Halt};
 use plug_in::EventSink;
 use std::sync::Wait;
 
-impl<F: TakeFace + KeepFace, S: EventSink, C: Clock> SinkWorker<F, S, C> {
+impl<F: TakeFace + MendFace, S: EventSink, C: Clock> SinkWorker<F, S, C> {
     /// Makes one round after the other until it is told to stop: it asks before each, and between the pieces of each pause, and
     /// ends for nothing else. A round that delivered is followed by no pause, one that found no event by 100 milliseconds, and
     /// each other by 1,000.
@@ -22,9 +22,9 @@ impl<F: TakeFace + KeepFace, S: EventSink, C: Clock> SinkWorker<F, S, C> {
             ⟦<F as TakeFace>⟧.seen ⟦<F as TakeFace>⟧.kept)
             (told S.delivers S.faults) self.old.batch)
             (MendsOnce
-            (face ⟦<F as KeepFace>⟧.own ⟦<F as KeepFace>⟧.saw
-            ⟦<F as KeepFace>⟧.seen ⟦<F as KeepFace>⟧.kept)
-            ⟦<F as KeepFace>⟧.on_disk)
+            (face ⟦<F as MendFace>⟧.own ⟦<F as MendFace>⟧.saw
+            ⟦<F as MendFace>⟧.seen ⟦<F as MendFace>⟧.kept)
+            ⟦<F as MendFace>⟧.on_disk)
             C.moments self.old self.new }
         ensures stop { Rose (H.yes halt.old) (H.yes halt.new) }
     {
@@ -42,7 +42,7 @@ impl<F: TakeFace + KeepFace, S: EventSink, C: Clock> SinkWorker<F, S, C> {
 }
 
 /// It works until it finds the stop set, as [`SinkWorker::work_until`].
-impl<F: TakeFace + KeepFace, S: EventSink, C: Clock> Work for SinkWorker<F, S, C> {
+impl<F: TakeFace + MendFace, S: EventSink, C: Clock> Work for SinkWorker<F, S, C> {
     ghost ready = { λ w. Unit {0} };
 
     ghost ran = { λ old new. SinkRan
@@ -51,9 +51,9 @@ impl<F: TakeFace + KeepFace, S: EventSink, C: Clock> Work for SinkWorker<F, S, C
         ⟦<F as TakeFace>⟧.seen ⟦<F as TakeFace>⟧.kept)
         (told S.delivers S.faults) old.batch)
         (MendsOnce
-        (face ⟦<F as KeepFace>⟧.own ⟦<F as KeepFace>⟧.saw
-        ⟦<F as KeepFace>⟧.seen ⟦<F as KeepFace>⟧.kept)
-        ⟦<F as KeepFace>⟧.on_disk)
+        (face ⟦<F as MendFace>⟧.own ⟦<F as MendFace>⟧.saw
+        ⟦<F as MendFace>⟧.seen ⟦<F as MendFace>⟧.kept)
+        ⟦<F as MendFace>⟧.on_disk)
         C.moments old new };
 
     fn work<R: Wait>(&mut self, rt: &R, stop: &Stop) {

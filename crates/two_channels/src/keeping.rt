@@ -1,11 +1,13 @@
 // Keeping a channel of either kind in order.
 use crate::port::EitherPort;
-use channel_face::{Channel, CheckRefused, Durable, KeepFace, OpenCause, PruneRefused};
+use channel_face::{
+    Channel, CheckRefused, Durable, KeepFace, MendFace, OpenCause, PruneRefused, Reopen,
+};
 use flume_host::Steps;
 use std::sync::Wait;
 use std::sync::ledger::Ledger;
 
-impl<'a, R: Wait, A: Durable, B: Channel> KeepFace for EitherPort<'a, R, A, B> {
+impl<'a, R: Wait, A: Reopen, B: Channel> MendFace for EitherPort<'a, R, A, B> {
     ghost use Rattle.two_channels.specs.Ports.{IsOnDisk, LaterPort, SawIn, later_port_none, later_port_then, own_of, seen_of};
 
     ghost own = { λ p. own_of p };
@@ -24,11 +26,20 @@ impl<'a, R: Wait, A: Durable, B: Channel> KeepFace for EitherPort<'a, R, A, B> {
 
     fn mend<L: Ledger>(&mut self, steps: &mut Steps<L>) -> Result<bool, OpenCause> {
         match self {
-            EitherPort::Disk(port) => KeepFace::mend(port, steps),
+            EitherPort::Disk(port) => MendFace::mend(port, steps),
             EitherPort::Memory(_) => Ok(false),
         }
     }
 
+    fn size(&mut self) -> u64 {
+        match self {
+            EitherPort::Disk(port) => port.events_left(),
+            EitherPort::Memory(port) => port.events_left(),
+        }
+    }
+}
+
+impl<'a, R: Wait, A: Durable, B: Channel> KeepFace for EitherPort<'a, R, A, B> {
     fn checkpoint(&mut self) -> Result<(), CheckRefused> {
         match self {
             EitherPort::Disk(port) => port.checkpoint(),
@@ -40,13 +51,6 @@ impl<'a, R: Wait, A: Durable, B: Channel> KeepFace for EitherPort<'a, R, A, B> {
         match self {
             EitherPort::Disk(port) => port.prune(),
             EitherPort::Memory(_) => unreachable!(),
-        }
-    }
-
-    fn size(&mut self) -> u64 {
-        match self {
-            EitherPort::Disk(port) => port.events_left(),
-            EitherPort::Memory(port) => port.events_left(),
         }
     }
 }

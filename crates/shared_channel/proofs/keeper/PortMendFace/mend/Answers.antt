@@ -4,7 +4,7 @@ use Rattle.channel_face.specs.Faces.{Own}
 use Rattle.shared_channel.specs.Ports.{Saw, WentBy}
 use Rattle.shared_channel.proofs.Porting.{gains, goes_grows, later}
 use Rattle.shared_channel.proofs.Mending.{mend_goes}
-use Rattle.shared_channel.proofs.keeper.PortKeepFace.mend.Goals as goal
+use Rattle.shared_channel.proofs.keeper.PortMendFace.mend.Goals as goal
 
 pub returns-clause-seen : goal.returns-clause-seen
 returns-clause-seen g c =

@@ -4,7 +4,7 @@ use Rattle.channel_face.specs.Keeps.{IsLook}
 use Rattle.shared_channel.specs.Ports.{AreOwned, Saw}
 use Rattle.two_channels.specs.Ports.{own_of}
 use Rattle.two_channels.specs.declared.port.EitherPort.{EitherPort}
-use Rattle.two_channels.proofs.keeping.EitherPortKeepFace.size.Goals as goal
+use Rattle.two_channels.proofs.keeping.EitherPortMendFace.size.Goals as goal
 
 pub returns-in-Disk-clause-calls : goal.returns-in-Disk-clause-calls
 returns-in-Disk-clause-calls g c =

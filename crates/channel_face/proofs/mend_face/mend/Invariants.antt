@@ -1,4 +1,4 @@
-use Rattle.channel_face.proofs.keep_face.mend.Given as goal
+use Rattle.channel_face.proofs.mend_face.mend.Given as goal
 
 abbrev pub ghosts-mend_by : goal.ghosts-mend_by
 ghosts-mend_by g a = record { name = a.blank.name; parts = a.blank.parts }
