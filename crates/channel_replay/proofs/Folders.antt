@@ -14,12 +14,12 @@ use Rattle.channel_replay.specs.declared.recovery.Recovery.{Recovery}
 use Rattle.channel_replay.specs.declared.recovery.Replayed.{Replayed}
 use Rattle.channel_replay.specs.declared.refused.ReplayRefused.{ReplayRefused}
 use Rattle.channel_face.proofs.Numbers.{base_rising, rising-left}
-use Rattle.channel_replay.specs.Marks.{Applied, Dropped, Past, journal, next_txn}
+use Rattle.channel_replay.specs.Marks.{Past, journal}
 use Rattle.channel_replay.specs.Plain.{base_of}
 use Rattle.channel_replay.specs.Recover.{AreLogs, AreSound, HasFault, IsBadLog, Line, LogFile, StandsFor, WhereLogs, empty_base, file_lines, lines, past_lines}
 use Rattle.channel_replay.specs.Recovery.{Agrees, IsReached}
 use Rattle.channel_replay.specs.Replay.{AppliesAll, WhereBadLog, WhereHolds, floor, record_count}
-use Rattle.channel_replay.proofs.Lines.{fault_append, fault_front, lines-append, past_lines-append, sound_append}
+use Rattle.channel_replay.proofs.Lines.{fault_append, fault_front, lines-append, past_lines-append, some_txn, sound_append, txn_from_one}
 use Rattle.channel_replay.proofs.Replaying.{log_maps, record_count-append}
 
 -- How far a folder was read: the log files below a number were applied, and the others are left.
@@ -199,7 +199,7 @@ pub recovered : (logs : List LogFile) (now : Recovery) (r : Replayed) → AreSou
 recovered logs now r is items number txn = record {
   sound = is.0;
   left_is = same_base (base_of r) (after_journal empty_base (journal (past_lines [] (lines logs)))) (items ∙ is.1.items) (number ∙ is.1.number);
-  txn_is = txn ∙ is.1.txn;
+  txn_is = txn ∙ (is.1.txn ∙ sym (txn_from_one (past_lines [] (lines logs))));
 }
 
 -- and whether the disk tells or not
@@ -207,11 +207,6 @@ pub replayed_base : (now : Recovery) (r : Replayed) → IsReached now → r.item
 replayed_base now r reached items number =
     let all : base_of r ≡ after_journal empty_base (journal reached.0) = same_base (base_of r) (after_journal empty_base (journal reached.0)) (items ∙ reached.1.items) (number ∙ reached.1.number) in
     subst IsBase (sym all) (base_rising (after_journal empty_base (journal reached.0)) (rising-left empty_base (journal reached.0) (omega arith)))
-
-some_txn : (past : Past) → 1 ≤ next_txn past
-some_txn [] = omega arith
-some_txn (Dropped ∷ past) = some_txn past
-some_txn (Applied rec ∷ past) = omega (arith, some_txn past)
 
 pub replayed_txn : (now : Recovery) (r : Replayed) → IsReached now → r.next.txn ≡ now.txn → 1 ≤ r.next.txn
 replayed_txn now r reached txn = omega (arith, txn, reached.1.txn, some_txn reached.0)

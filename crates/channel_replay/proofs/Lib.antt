@@ -7,5 +7,10 @@ pub mod Lines
 pub mod Replaying
 pub mod Folders
 pub mod OneList
-pub mod Earlier
+pub mod Among
+pub mod Ordered
+pub mod Alike
+pub mod Starts
+pub mod Agreeing
+pub mod Laying
 pub mod OneFault

@@ -1,12 +1,13 @@
 -- Lines that are applied one after another.
-use Rattle.std.proofs.Common.{◌≡◌, ℕ, List, [], ◌∷◌, ◌++◌, Result, Ok, Err, OnOk, refl, sym, ◌∙◌, ap, subst, append_assoc}
+use Rattle.std.proofs.Common.{◌≡◌, ◌≤◌, ℕ, List, [], ◌∷◌, ◌++◌, Result, Ok, Err, IfOk, OnOk, refl, sym, ◌∙◌, ap, subst, append_assoc, arith}
+use Rattle.std.specs.Prelude.{max}
 use Rattle.std.proofs.lemmas.List.{append-nil}
 use Rattle.event_core.specs.Journal.{Base, after_journal, left}
 use Rattle.channel_log.specs.Frames.{Holds}
 use Rattle.channel_replay.specs.declared.plain.WholeFile.{WholeFile}
 use Rattle.channel_replay.specs.declared.recovery.Recovery.{Recovery}
 use Rattle.channel_replay.specs.declared.recovery.Replayed.{Replayed}
-use Rattle.channel_replay.specs.Marks.{Past, journal, next_number, next_txn}
+use Rattle.channel_replay.specs.Marks.{Applied, Dropped, Past, journal, next_number, next_txn}
 use Rattle.channel_replay.specs.Recover.{AreSound, HasFault, IsAt, IsSound, Line, LogFile, StandsFor, empty_base, file_lines, lines, past_line, past_lines}
 use Rattle.channel_replay.specs.Plain.{AddsFile, AreOf, WhereBad, base_of}
 use Rattle.channel_replay.specs.declared.refused.RecoverRefused.{RecoverRefused}
@@ -79,12 +80,21 @@ applied_bad all rest more line old file at on is bad = record {
 same_base : (a b : Base) → a.items ≡ b.items → a.first ≡ b.first → a ≡ b
 same_base a b items first = rw (items, first) refl
 
+pub some_txn : (past : Past) → 1 ≤ next_txn past
+some_txn [] = omega arith
+some_txn (Dropped ∷ past) = some_txn past
+some_txn (Applied rec ∷ past) = omega (arith, some_txn past)
+
+-- The next transaction number is at least 1, with which the empty start begins.
+pub txn_from_one : (past : Past) → max 1 (next_txn past) ≡ next_txn past
+txn_from_one past = omega (arith, some_txn past)
+
 -- Lines of log files that were applied without fault.
 pub stands_for : (logs : List LogFile) (found : List Line) (r : Replayed) → found ≡ lines logs → IsRecovered found r → StandsFor logs (base_of r) r.next.txn
 stands_for logs found r same is = record {
   sound = subst (AreSound empty_base []) same is.sound;
   left_is = same_base (base_of r) (after_journal empty_base (journal (past_lines [] (lines logs)))) (is.items ∙ ap (λ (l : List Line). left empty_base (journal (past_lines [] l))) same) (is.number ∙ ap (λ (l : List Line). next_number empty_base (past_lines [] l)) same);
-  txn_is = is.txn ∙ ap (λ (l : List Line). next_txn (past_lines [] l)) same;
+  txn_is = is.txn ∙ (ap (λ (l : List Line). next_txn (past_lines [] l)) same ∙ sym (txn_from_one (past_lines [] (lines logs))));
 }
 
 -- Files that were read, one after another.
@@ -114,6 +124,10 @@ files_more files file now new on adds =
     }
 
 -- of answers
+
+pub recovered_maps : (r : Result Replayed RecoverRefused) (P Q : Replayed → Type 0) → ((x : Replayed) → P x → Q x) → IfOk r P → IfOk r Q
+recovered_maps (Ok x) P Q maps is = maps x is
+recovered_maps (Err e) P Q maps is = tt
 
 pub when_ok : (r : Result (Unit {0}) NoMemory) (P Q : Type 0) → (P → Q) → OnOk r P → OnOk r Q
 when_ok (Ok done) P Q maps is = maps is

@@ -1,8 +1,10 @@
 pub mod Marks
 pub mod Rules
-pub mod Recover
 pub mod Open
+pub mod Start
+pub mod Recover
 pub mod Recovery
 pub mod Plain
 pub mod Replay
 pub mod Laws
+pub mod StartLaws

@@ -1,5 +1,5 @@
 -- What the log files of a folder stand for.
-use Rattle.std.specs.Prelude.{◌≡◌, ◌<◌, ◌≤◌, ◌+◌, ◌^◌, ℕ, List, [], ◌∷◌, ◌++◌, Option, Some, None, if◌then◌else◌, ◌==◌, IsSomeAnd}
+use Rattle.std.specs.Prelude.{◌≡◌, ◌<◌, ◌≤◌, ◌+◌, ◌^◌, ℕ, List, [], ◌∷◌, ◌++◌, Option, Some, None, if◌then◌else◌, ◌==◌, IsSomeAnd, max}
 use Rattle.flume_host.specs.Folder.{Files}
 use Rattle.flume_host.specs.declared.names.FileName.TheVariants.{Log}
 use Rattle.event_core.specs.Journal.{Base, after_journal}
@@ -10,6 +10,7 @@ pub use Rattle.channel_replay.specs.declared.line.Line.{Line}
 pub use Rattle.channel_replay.specs.declared.line.Line.TheVariants.{Begins, Stands, Faulty}
 use Rattle.channel_replay.specs.Marks.{Dropped, Applied, Past, journal, next_txn}
 use Rattle.channel_replay.specs.Rules.{IsLegal}
+use Rattle.channel_replay.specs.Start.{Start, start_past}
 
 -- A log file: its number, and what it holds.
 pub record LogFile : Type 0 where
@@ -88,15 +89,31 @@ pub record HasFault (base : Base) (past : Past) (lines : List Line) (file at : �
 abbrev pub empty_base : Base
 empty_base = record { items = []; first = 0 }
 
--- The log files have no fault. What is left is what the commits leave of the base, with the next event number and the next transaction number.
-pub record StandsFor (logs : List LogFile) (left : Base) (txn : ℕ) : Type 0 where
-  pub sound : AreSound empty_base [] (lines logs)
-  pub left_is : left ≡ after_journal empty_base (journal (past_lines [] (lines logs)))
-  pub txn_is : txn ≡ next_txn (past_lines [] (lines logs))
+-- the start of a folder without checkpoints
+abbrev pub empty_start : Start
+empty_start = record { base = empty_base; opened = []; txn = 1 }
+
+-- what lines leave behind a start
+abbrev pub replayed : Start → List Line → Base
+replayed s found = after_journal s.base (journal (past_lines (start_past s) found))
+
+-- Lines behind a start have no fault. What is left is what the commits leave of the base, with the next event number and the next transaction number.
+pub record StandsFrom (s : Start) (found : List Line) (left : Base) (txn : ℕ) : Type 0 where
+  pub sound : AreSound s.base (start_past s) found
+  pub left_is : left ≡ replayed s found
+  pub txn_is : txn ≡ max s.txn (next_txn (past_lines (start_past s) found))
+
+-- lines behind a start have their first fault here
+abbrev pub IsBadFrom : Start → List Line → ℕ → ℕ → Type 0
+IsBadFrom s found file at = HasFault s.base (start_past s) found file at
+
+-- the log files have no fault, and leave this
+abbrev pub StandsFor : List LogFile → Base → ℕ → Type 0
+StandsFor logs left txn = StandsFrom empty_start (lines logs) left txn
 
 -- the log files have their first fault here
 abbrev pub IsBad : List LogFile → ℕ → ℕ → Type 0
-IsBad logs file at = HasFault empty_base [] (lines logs) file at
+IsBad logs file at = IsBadFrom empty_start (lines logs) file at
 
 -- P of the log files of a folder; file numbers are below 2 ^ 32
 abbrev pub WhereLogs : Files → (List LogFile → Type 0) → Type 0

@@ -9,6 +9,7 @@ mod open;
 mod plain;
 mod recovery;
 mod refused;
+mod start_laws;
 mod whole;
 
 pub use folder::replay;
@@ -17,3 +18,7 @@ pub use line::Line;
 pub use plain::{WholeFile, recover};
 pub use recovery::{Next, Replayed};
 pub use refused::{RecoverRefused, ReplayRefused};
+pub use start_laws::{
+    a_fault_is_one_for_both, a_new_life_agrees, following_goes_on, starts_agree,
+    what_is_laid_follows,
+};

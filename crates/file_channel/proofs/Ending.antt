@@ -14,18 +14,18 @@ use Rattle.channel_face.specs.Machine.{State, base_of, entry_of, with_entry, wit
 use Rattle.channel_face.proofs.Numbers.{among_times, put_events-append, taken_numbers-append, times}
 use Rattle.channel_face.proofs.LawLemmas.{TakesEarlier, after-append}
 use Rattle.channel_replay.specs.Marks.{Past, Applied, opened, open_txns, open_by, opened_by, txn_of, removed, journal, next_txn, next_number, entries_of}
-use Rattle.channel_replay.specs.Recover.{empty_base}
 use Rattle.channel_replay.specs.Rules.{IsPutOf, IsTakeOf}
 use Rattle.channel_replay.proofs.Keys.{Tells, EachOnce, entry_of-without}
 use Rattle.channel_replay.proofs.Numbers.{or_among}
-use Rattle.file_channel.specs.Mirrors.{Mirrors, applied, done_of, one_if_done, busy}
+use Rattle.file_channel.specs.Mirrors.{Mirrors, applied, one_if_done, busy}
+use Rattle.channel_replay.specs.StartLaws.{done_of}
 use Rattle.file_channel.specs.Laws.{BeginIsMirrored, RollbackIsMirrored, EndIsMirrored, StagePutIsMirrored, StageTakeIsMirrored, FlushIsMirrored}
-use Rattle.file_channel.proofs.Among.{one_removed, apart_once}
+use Rattle.channel_replay.proofs.Among.{one_removed, apart_once}
 use Rattle.file_channel.proofs.Opens.{one_done, busy_without, busy_push, all_without, all_push, all_higher, apart_without, apart_push, length_without, done_push}
 use Rattle.file_channel.proofs.Mirroring.{applied-push, legal-push, is_txn}
 
 pub begin_mirrored : BeginIsMirrored
-begin_mirrored s settled records entry m idle room below =
+begin_mirrored start s settled records entry m idle room below =
     let more : List (ℕ × Entry) = s.opened ++ (s.txn, entry) ∷ [] in
     let none : one_done entry ≡ 0 = ap one_if_done idle in
     record {
@@ -62,14 +62,14 @@ record EndsWell (s : State) (settled : Past) (records : List Rec) (txn : ℕ) (r
   as_many : length (open_txns (applied settled (records ++ rec ∷ []))) ≡ busy (without_entry txn s.opened)
   next : next_txn (applied settled (records ++ rec ∷ [])) ≤ s.txn
 
-ends_well : (s : State) (settled : Past) (records : List Rec) (txn : ℕ) (entry : Entry) (rec : Rec) → Mirrors s settled records → entry_of txn s.opened ≡ Some entry → done_of (Some entry) ≡ Some entry → Ends rec txn → EndsWell s settled records txn rec
-ends_well s settled records txn entry rec m is busy_one e =
+ends_well : (start : Base) (s : State) (settled : Past) (records : List Rec) (txn : ℕ) (entry : Entry) (rec : Rec) → Mirrors start s settled records → entry_of txn s.opened ≡ Some entry → done_of (Some entry) ≡ Some entry → Ends rec txn → EndsWell s settled records txn rec
+ends_well start s settled records txn entry rec m is busy_one e =
     let all : Past = applied settled records in
     let push : applied settled (records ++ rec ∷ []) ≡ Applied rec ∷ all = applied-push settled records rec in
     let once : EachOnce _ = λ n. apart_once _ n m.apart in
     let here : opened txn all ≡ Some entry = m.each txn ∙ (ap done_of is ∙ busy_one) in
     let fewer = one_removed all txn (ap is_some_of here) in
-    let number = is_txn s settled records txn entry m is in
+    let number = is_txn start s settled records txn entry m is in
     record {
       each = λ n. ap (λ (p : Past). opened n p) push ∙ (ap (λ (t : ℕ). cond (t == n) (opened_by rec (opened n all)) (opened n all)) e.of ∙ (ap (λ (x : Option Entry). cond (txn == n) x (opened n all)) (e.entry (opened n all)) ∙ (ap (λ (x : Option Entry). cond (txn == n) None x) (m.each n) ∙ (end_if (txn == n) (entry_of n s.opened) ∙ ap done_of (sym (entry_of-without s.opened txn n once))))));
       as_many = ap (λ (p : Past). length (open_txns p)) push ∙ (ap (λ (l : List ℕ). length l) (e.open_ones (open_txns all)) ∙ omega (arith, fewer, m.as_many, busy_without s.opened txn entry is, some_done entry busy_one));
@@ -77,12 +77,12 @@ ends_well s settled records txn entry rec m is busy_one e =
     }
 
 pub rollback_mirrored : RollbackIsMirrored
-rollback_mirrored s settled records txn entry m is busy_one =
+rollback_mirrored start s settled records txn entry m is busy_one =
     let all : Past = applied settled records in
     let rec : Rec = Rollback txn in
     let push : applied settled (records ++ rec ∷ []) ≡ Applied rec ∷ all = applied-push settled records rec in
     let here : opened txn all ≡ Some entry = m.each txn ∙ (ap done_of is ∙ busy_one) in
-    let ended = ends_well s settled records txn entry rec m is busy_one (record { of = refl; entry = λ x. refl; open_ones = λ xs. refl }) in
+    let ended = ends_well start s settled records txn entry rec m is busy_one (record { of = refl; entry = λ x. refl; open_ones = λ xs. refl }) in
     record {
       base = m.base;
       earlier = m.earlier;
@@ -90,7 +90,7 @@ rollback_mirrored s settled records txn entry m is busy_one =
       each = ended.each;
       as_many = ended.as_many;
       next = ended.next;
-      legal = legal-push settled records rec m.legal ((is_txn s settled records txn entry m is).0, subst IsSome (sym here) refl);
+      legal = legal-push start settled records rec m.legal ((is_txn start s settled records txn entry m is).0, subst IsSome (sym here) refl);
       low = all_without (λ n. 1 ≤ n) s.opened txn m.low;
       below = all_without (λ n. n < s.txn) s.opened txn m.below;
       apart = apart_without s.opened txn m.apart;
@@ -99,7 +99,7 @@ rollback_mirrored s settled records txn entry m is busy_one =
     }
 
 pub end_mirrored : EndIsMirrored
-end_mirrored s settled records txn entry m is idle =
+end_mirrored start s settled records txn entry m is idle =
     let once : EachOnce _ = λ n. apart_once _ n m.apart in
     let none : one_done entry ≡ 0 = ap one_if_done idle in
     record {
@@ -138,22 +138,22 @@ stage_takes s txn [] some = absurd (omega (arith, some))
 stage_takes s txn (n ∷ numbers) some = refl
 
 -- the log's next event number is the state's
-pub same_number : (s : State) (settled : Past) (records : List Rec) → Mirrors s settled records → next_number empty_base (applied settled records) ≡ Face.next_number s
-same_number s settled records m =
-    let first : s.first ≡ next_number empty_base settled = ap (λ (b : Base). b.first) m.base in
+pub same_number : (start : Base) (s : State) (settled : Past) (records : List Rec) → Mirrors start s settled records → next_number start (applied settled records) ≡ Face.next_number s
+same_number start s settled records m =
+    let first : s.first ≡ next_number start settled = ap (λ (b : Base). b.first) m.base in
     let puts : length (put_events (journal (applied settled records))) ≡ length (put_events (journal settled)) + length (put_events s.staged) =
     ap (λ (l : List Entry). length (put_events l)) m.staged ∙ (ap (λ (l : List Content). length l) (put_events-append (journal settled) s.staged) ∙ length-append (put_events (journal settled)) (put_events s.staged)) in
     omega (arith, first, puts)
 
 pub stage_put_mirrored : StagePutIsMirrored
-stage_put_mirrored s settled records txn events m is some fits =
+stage_put_mirrored start s settled records txn events m is some fits =
     let all : Past = applied settled records in
     let entry : Entry = Puts events in
     let rec : Rec = CommitPut txn (Face.next_number s) (length events) in
     let push : applied settled (records ++ rec ∷ []) ≡ Applied rec ∷ all = applied-push settled records rec in
     let busy_one : done_of (Some entry) ≡ Some entry = puts_done events some in
     let here : opened txn all ≡ Some entry = m.each txn ∙ (ap done_of is ∙ busy_one) in
-    let ended = ends_well s settled records txn entry rec m is busy_one (record { of = refl; entry = λ x. refl; open_ones = λ xs. refl }) in
+    let ended = ends_well start s settled records txn entry rec m is busy_one (record { of = refl; entry = λ x. refl; open_ones = λ xs. refl }) in
     let held : IsSomeAnd (opened txn all) (IsPutOf (length events)) = subst (λ (x : Option Entry). IsSomeAnd x (IsPutOf (length events))) (sym here) refl in
     let longer : journal (Applied rec ∷ all) ≡ journal settled ++ (s.staged ++ entry ∷ []) =
     ap (λ (x : Option Entry). journal all ++ entries_of x) here ∙ (ap (λ (l : List Entry). l ++ entry ∷ []) m.staged ∙ append_assoc (journal settled) s.staged (entry ∷ [])) in
@@ -164,7 +164,7 @@ stage_put_mirrored s settled records txn events m is some fits =
       each = ended.each;
       as_many = ended.as_many;
       next = ended.next;
-      legal = legal-push settled records rec m.legal ((is_txn s settled records txn entry m is).0, held, sym (same_number s settled records m), fits);
+      legal = legal-push start settled records rec m.legal ((is_txn start s settled records txn entry m is).0, held, sym (same_number start s settled records m), fits);
       low = all_without (λ n. 1 ≤ n) s.opened txn m.low;
       below = all_without (λ n. n < s.txn) s.opened txn m.below;
       apart = apart_without s.opened txn m.apart;
@@ -173,14 +173,14 @@ stage_put_mirrored s settled records txn events m is some fits =
     })
 
 pub stage_take_mirrored : StageTakeIsMirrored
-stage_take_mirrored s settled records txn numbers m is some =
+stage_take_mirrored start s settled records txn numbers m is some =
     let all : Past = applied settled records in
     let entry : Entry = Takes numbers in
     let rec : Rec = CommitTake txn (length numbers) in
     let push : applied settled (records ++ rec ∷ []) ≡ Applied rec ∷ all = applied-push settled records rec in
     let busy_one : done_of (Some entry) ≡ Some entry = takes_done numbers some in
     let here : opened txn all ≡ Some entry = m.each txn ∙ (ap done_of is ∙ busy_one) in
-    let ended = ends_well s settled records txn entry rec m is busy_one (record { of = refl; entry = λ x. refl; open_ones = λ xs. refl }) in
+    let ended = ends_well start s settled records txn entry rec m is busy_one (record { of = refl; entry = λ x. refl; open_ones = λ xs. refl }) in
     let held : IsSomeAnd (opened txn all) (IsTakeOf (length numbers)) = subst (λ (x : Option Entry). IsSomeAnd x (IsTakeOf (length numbers))) (sym here) refl in
     let longer : journal (Applied rec ∷ all) ≡ journal settled ++ (s.staged ++ entry ∷ []) =
     ap (λ (x : Option Entry). journal all ++ entries_of x) here ∙ (ap (λ (l : List Entry). l ++ entry ∷ []) m.staged ∙ append_assoc (journal settled) s.staged (entry ∷ [])) in
@@ -191,7 +191,7 @@ stage_take_mirrored s settled records txn numbers m is some =
       each = ended.each;
       as_many = ended.as_many;
       next = ended.next;
-      legal = legal-push settled records rec m.legal ((is_txn s settled records txn entry m is).0, held);
+      legal = legal-push start settled records rec m.legal ((is_txn start s settled records txn entry m is).0, held);
       low = all_without (λ n. 1 ≤ n) s.opened txn m.low;
       below = all_without (λ n. n < s.txn) s.opened txn m.below;
       apart = apart_without s.opened txn m.apart;
@@ -200,8 +200,8 @@ stage_take_mirrored s settled records txn numbers m is some =
     })
 
 -- takes of earlier numbers, as counts
-pub settled_earlier : (s : State) (settled : Past) (records : List Rec) → Mirrors s settled records → TakesEarlier empty_base (journal settled)
-settled_earlier s settled records m n more = from (among_times n (taken_numbers (journal settled)))
+pub settled_earlier : (start : Base) (s : State) (settled : Past) (records : List Rec) → Mirrors start s settled records → TakesEarlier start (journal settled)
+settled_earlier start s settled records m n more = from (among_times n (taken_numbers (journal settled)))
   where
     differ : true ≡ false → ⊥
     differ is = absurd (cc)
@@ -211,18 +211,18 @@ settled_earlier s settled records m n more = from (among_times n (taken_numbers 
     from (inr none) = none.1
 
 -- what the log leaves with what is staged
-pub staged_base : (s : State) (settled : Past) (records : List Rec) → Mirrors s settled records → after_journal (base_of s) s.staged ≡ after_journal empty_base (journal (applied settled records))
-staged_base s settled records m =
-    ap (λ (b : Base). after_journal b s.staged) m.base ∙ (sym (after-append empty_base (journal settled) s.staged (settled_earlier s settled records m)) ∙ ap (λ (l : List Entry). after_journal empty_base l) (sym m.staged))
+pub staged_base : (start : Base) (s : State) (settled : Past) (records : List Rec) → Mirrors start s settled records → after_journal (base_of s) s.staged ≡ after_journal start (journal (applied settled records))
+staged_base start s settled records m =
+    ap (λ (b : Base). after_journal b s.staged) m.base ∙ (sym (after-append start (journal settled) s.staged (settled_earlier start s settled records m)) ∙ ap (λ (l : List Entry). after_journal start l) (sym m.staged))
 
 both_none : (b c : Bool) → b ≡ false → c ≡ false → (b || c) ≡ false
 both_none b c x y = rw (x, y) refl
 
 pub flush_mirrored : FlushIsMirrored
-flush_mirrored s settled records m staged_earlier =
+flush_mirrored start s settled records m staged_earlier =
     let all : Past = applied settled records in
     record {
-      base = staged_base s settled records m;
+      base = staged_base start s settled records m;
       earlier = λ n more. earlier n more;
       staged = sym (append-nil (journal all));
       each = m.each;
@@ -236,9 +236,9 @@ flush_mirrored s settled records m staged_earlier =
       few = m.few;
     }
   where
-    earlier : (n : ℕ) → next_number empty_base (applied settled records) ≤ n → is_among (taken_numbers (journal (applied settled records))) n ≡ false
+    earlier : (n : ℕ) → next_number start (applied settled records) ≤ n → is_among (taken_numbers (journal (applied settled records))) n ≡ false
     earlier n more =
-        let number : next_number empty_base (applied settled records) ≡ Face.next_number s = same_number s settled records m in
-        let first : s.first ≡ next_number empty_base settled = ap (λ (b : Base). b.first) m.base in
-        let lower : next_number empty_base settled ≤ n = omega (arith, more, number, first) in
+        let number : next_number start (applied settled records) ≡ Face.next_number s = same_number start s settled records m in
+        let first : s.first ≡ next_number start settled = ap (λ (b : Base). b.first) m.base in
+        let lower : next_number start settled ≤ n = omega (arith, more, number, first) in
         ap (λ (l : List Entry). is_among (taken_numbers l) n) m.staged ∙ (ap (λ (l : List ℕ). is_among l n) (taken_numbers-append (journal settled) s.staged) ∙ (or_among (taken_numbers (journal settled)) (taken_numbers s.staged) n ∙ both_none (is_among (taken_numbers (journal settled)) n) (is_among (taken_numbers s.staged) n) (m.earlier n lower) (staged_earlier n (omega (arith, more, number)))))

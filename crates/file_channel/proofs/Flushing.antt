@@ -17,7 +17,7 @@ use Rattle.record_form.specs.declared.record.Rec.TheVariants.{Put, Take, Rollbac
 use Rattle.channel_log.specs.Writer.{HasFrames, IsAtRest, IsPending, IsReady, LacksOrHas, Writer, file_of}
 use Rattle.event_core.specs.Journal.{after_journal}
 use Rattle.channel_face.specs.Machine.{State, base_of, next_number, settle}
-use Rattle.channel_replay.specs.Recover.{AreLogs, LogFile, Recovers}
+use Rattle.channel_replay.specs.Recover.{AreLogs, LogFile, Recovers, empty_base}
 use Rattle.file_channel.specs.Folders.{HasNoCheck}
 use Rattle.file_channel.specs.Logs.{HasLog}
 use Rattle.file_channel.specs.Touches.{WritesLast}
@@ -218,7 +218,7 @@ logged_after told told' w w' b s log whole earlier given flushed writer none = f
       before = disk.before;
       none = disk.none;
       unchecked = disk.unchecked;
-      logs = record { sound = disk.logs.sound; legal = disk.logs.legal; mirrors = flush_mirrored s _ [] disk.logs.mirrors earlier };
+      logs = record { sound = disk.logs.sound; legal = disk.logs.legal; mirrors = flush_mirrored empty_base s _ [] disk.logs.mirrors earlier };
     }
 
     from : (length waits.records ≡ 0) ⊎ (1 ≤ length waits.records) → IsLogged told' w' b (settle s)

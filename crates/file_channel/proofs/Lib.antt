@@ -1,8 +1,8 @@
-pub mod Among
 pub mod Opens
 pub mod Mirroring
 pub mod Taking
 pub mod Ending
+pub mod Checking
 pub mod Recovering
 pub mod Writes
 pub mod Flushing

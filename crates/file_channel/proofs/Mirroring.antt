@@ -2,6 +2,7 @@
 use Rattle.std.proofs.Common.{inl, inr, ◌≡◌, ◌<◌, ◌≤◌, ◌+◌, ◌++◌, ◌∷◌, [], ℕ, List, length, Option, Some, None, ◌==◌, cond, refl, sym, ◌∙◌, ap, subst, arith}
 use Rattle.std.proofs.lemmas.Bool.Decides.{eqb_tells}
 use Rattle.std.proofs.lemmas.List.{append-nil}
+use Rattle.event_core.specs.Journal.{Base}
 use Rattle.event_core.specs.Content.{Content}
 use Rattle.event_core.specs.declared.journal.Entry.{Entry}
 use Rattle.event_core.specs.declared.journal.Entry.TheVariants.{Puts}
@@ -9,25 +10,26 @@ use Rattle.record_form.specs.declared.record.Rec.{Rec}
 use Rattle.record_form.specs.declared.record.Rec.TheVariants.{Put}
 use Rattle.channel_face.specs.Machine.{State, entry_of, is_some_of}
 use Rattle.channel_replay.specs.Marks.{Past, Applied, opened, open_txns, added, journal, next_txn, events_of}
-use Rattle.channel_replay.specs.Recover.{empty_base}
 use Rattle.channel_replay.specs.Rules.{IsLegal, IsTxn, MayGoOn, IsPut}
 use Rattle.channel_replay.proofs.Keys.{Tells}
-use Rattle.file_channel.specs.Mirrors.{Mirrors, applied, AreLegal, AreApart, done_of, one_if_done}
+use Rattle.file_channel.specs.Mirrors.{Mirrors, applied, AreLegal, one_if_done}
+use Rattle.channel_replay.specs.StartLaws.{done_of}
+use Rattle.channel_replay.specs.Start.{AreApart}
 use Rattle.file_channel.specs.Laws.{PutIsMirrored}
-use Rattle.file_channel.proofs.Among.{among_open, added_length, added_same}
+use Rattle.channel_replay.proofs.Among.{among_open, added_length, added_same}
 use Rattle.file_channel.proofs.Opens.{entry_with, keys_with, all_with, length_with, busy_with, busy_room, at_number, one_done}
 
 pub applied-push : (past : Past) (records : List Rec) (rec : Rec) → applied past (records ++ rec ∷ []) ≡ Applied rec ∷ applied past records
 applied-push past [] rec = refl
 applied-push past (x ∷ records) rec = applied-push (Applied x ∷ past) records rec
 
-pub legal-push : (past : Past) (records : List Rec) (rec : Rec) → AreLegal past records → IsLegal empty_base (applied past records) rec → AreLegal past (records ++ rec ∷ [])
-legal-push past [] rec legal may = (may, tt)
-legal-push past (x ∷ records) rec legal may = (legal.0, legal-push (Applied x ∷ past) records rec legal.1 may)
+pub legal-push : (start : Base) (past : Past) (records : List Rec) (rec : Rec) → AreLegal start past records → IsLegal start (applied past records) rec → AreLegal start past (records ++ rec ∷ [])
+legal-push start past [] rec legal may = (may, tt)
+legal-push start past (x ∷ records) rec legal may = (legal.0, legal-push start (Applied x ∷ past) records rec legal.1 may)
 
 -- the number of an open transaction may stand in a record
-pub is_txn : (s : State) (settled : Past) (records : List Rec) (txn : ℕ) (entry : Entry) → Mirrors s settled records → entry_of txn s.opened ≡ Some entry → IsTxn txn × (txn < s.txn)
-is_txn s settled records txn entry m is =
+pub is_txn : (start : Base) (s : State) (settled : Past) (records : List Rec) (txn : ℕ) (entry : Entry) → Mirrors start s settled records → entry_of txn s.opened ≡ Some entry → IsTxn txn × (txn < s.txn)
+is_txn start s settled records txn entry m is =
     let low = at_number (λ n. 1 ≤ n) s.opened txn entry is m.low in
     let below = at_number (λ n. n < s.txn) s.opened txn entry is m.below in
     ((omega (arith, low.1, low.2), omega (arith, below.1, below.2, m.high.1)), omega (arith, below.1, below.2))
@@ -56,16 +58,16 @@ may_put count [] room = room refl
 may_put count (e ∷ events) room = tt
 
 pub put_mirrored : PutIsMirrored
-put_mirrored s settled records txn events event m is =
+put_mirrored start s settled records txn events event m is =
     let all : Past = applied settled records in
     let rec : Rec = Put txn event in
     let new : Entry = Puts (events ++ event ∷ []) in
     let next : Past = Applied rec ∷ all in
     let push : applied settled (records ++ rec ∷ []) ≡ next = applied-push settled records rec in
     let here : opened txn all ≡ done_of (Some (Puts events)) = m.each txn ∙ ap done_of is in
-    let number = is_txn s settled records txn (Puts events) m is in
+    let number = is_txn start s settled records txn (Puts events) m is in
     let room : one_done (Puts events) ≡ 0 → length (open_txns all) < 1024 = λ idle. omega (arith, busy_room s.opened txn (Puts events) is idle, m.as_many, m.few) in
-    let may : IsLegal empty_base all rec = (number.0, subst (λ (e : Option Entry). MayGoOn (length (open_txns all)) e IsPut) (sym here) (may_put (length (open_txns all)) events room)) in
+    let may : IsLegal start all rec = (number.0, subst (λ (e : Option Entry). MayGoOn (length (open_txns all)) e IsPut) (sym here) (may_put (length (open_txns all)) events room)) in
     let grown = more_open all txn (done_of (Some (Puts events))) here in
     record {
       base = m.base;
@@ -74,7 +76,7 @@ put_mirrored s settled records txn events event m is =
       each = λ n. ap (λ (p : Past). opened n p) push ∙ (each n (eqb_tells txn n) ∙ ap done_of (sym (entry_with s.opened txn n (Puts events) new is)));
       as_many = ap (λ (p : Past). length (open_txns p)) push ∙ omega (arith, grown, m.as_many, busy_with s.opened txn (Puts events) new is, one_more events event);
       next = subst (λ (p : Past). next_txn p ≤ s.txn) (sym push) (omega (arith, number.1, m.next));
-      legal = legal-push settled records rec m.legal may;
+      legal = legal-push start settled records rec m.legal may;
       low = all_with (λ n. 1 ≤ n) s.opened txn new m.low;
       below = all_with (λ n. n < s.txn) s.opened txn new m.below;
       apart = subst AreApart (sym (keys_with s.opened txn new)) m.apart;

@@ -1,6 +1,6 @@
 -- What an opening finds, and what it leaves of the folder.
 use Rattle.std.proofs.Common.{◌⊎◌, inl, inr, ◌≡◌, ◌<◌, ◌≤◌, ◌+◌, ◌-◌, ◌^◌, ◌++◌, ◌∷◌, [], ℕ, List, length, Option, Some, None, Result, Ok, Err, true, false, refl, sym, ◌∙◌, ap, subst, arith, append_assoc}
-use Rattle.std.specs.Prelude.{IsSome, IsSomeAnd}
+use Rattle.std.specs.Prelude.{max, IsSome, IsSomeAnd}
 use Rattle.std.proofs.lemmas.Bool.{cases_lt}
 use Rattle.std.proofs.lemmas.Bool.Decides.{nat_tests}
 use Rattle.std.proofs.lemmas.List.{append-nil, get_or_past}
@@ -20,7 +20,7 @@ use Rattle.channel_replay.specs.Recover.{AreLogs, AreSound, IsBadLog, LogFile, R
 use Rattle.channel_replay.specs.Replay.{LeavesCount, WhereBadLog, WhereOver}
 use Rattle.channel_replay.specs.declared.refused.ReplayRefused.{ReplayRefused}
 use Rattle.channel_replay.specs.declared.refused.ReplayRefused.TheVariants as replays
-use Rattle.channel_replay.proofs.Earlier.{takes_earlier}
+use Rattle.channel_replay.proofs.Ordered.{front_earlier}
 use Rattle.channel_replay.proofs.Lines.{lines-append}
 use Rattle.channel_replay.proofs.OneList.{has_one_list, one_list}
 use Rattle.file_channel.specs.Folders.{AreSame, FailsToSettle, GainsLog, HasNoCheck, IsAsBefore, IsBegun, IsFirstCheck, IsNextFile, Opens, OpensFrom, OpensOver, OpensTo, Refuses, as_cause, last_file, log_name}
@@ -112,7 +112,7 @@ blank_behind logs number left txn stands =
     record {
       sound = subst (λ (l : List _). AreSound empty_base [] l) (sym same) stands.sound;
       left_is = stands.left_is ∙ ap (λ (l : List _). after_journal empty_base (journal (past_lines [] l))) (sym same);
-      txn_is = stands.txn_is ∙ ap (λ (l : List _). next_txn (past_lines [] l)) (sym same);
+      txn_is = stands.txn_is ∙ ap (λ (l : List _). max 1 (next_txn (past_lines [] l))) (sym same);
     }
 
 -- the log files before the one that was gained
@@ -228,10 +228,10 @@ begun_gains t v number next changes rest = record { number = number; next = next
 
 -- the log of a channel in it
 
-begun_mirrors : (s : State) (logs : List LogFile) (base : Base) (txn : ℕ) → IsFresh s base txn → StandsFor logs base txn → txn ≤ 2 ^ 64 - 1 → 1 ≤ txn → Mirrors s (begun logs) []
+begun_mirrors : (s : State) (logs : List LogFile) (base : Base) (txn : ℕ) → IsFresh s base txn → StandsFor logs base txn → txn ≤ 2 ^ 64 - 1 → 1 ≤ txn → Mirrors empty_base s (begun logs) []
 begun_mirrors s logs base txn fresh stands most some = record {
   base = fresh.base_is ∙ stands.left_is;
-  earlier = takes_earlier (lines logs) stands.sound;
+  earlier = front_earlier (lines logs) stands.sound;
   staged = sym (append-nil (journal (past_lines [] (lines logs)))) ∙ ap (λ (l : List _). journal (past_lines [] (lines logs)) ++ l) (sym fresh.staged);
   each = λ n. rw fresh.opened refl;
   as_many = rw fresh.opened refl;

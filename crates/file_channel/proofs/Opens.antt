@@ -9,7 +9,9 @@ use Rattle.channel_replay.specs.Open.{keys, put_entry}
 use Rattle.channel_replay.proofs.Keys.{Tells, entry_of-put}
 use Rattle.channel_replay.proofs.Numbers.{or_among}
 use Rattle.std.proofs.lemmas.Bool.Decides.{eqb_tells}
-use Rattle.file_channel.specs.Mirrors.{done_of, one_if_done, busy, AreApart}
+use Rattle.file_channel.specs.Mirrors.{one_if_done, busy}
+use Rattle.channel_replay.specs.StartLaws.{done_of}
+use Rattle.channel_replay.specs.Start.{AreApart}
 
 abbrev pub Opened : Type 0
 Opened = List (ℕ × Entry)

@@ -15,7 +15,7 @@ use Rattle.channel_replay.specs.declared.line.Line.{Line}
 use Rattle.record_form.specs.Record.{record_length}
 use Rattle.channel_replay.specs.Marks.{Past, Dropped, Applied, journal, next_txn}
 use Rattle.channel_replay.specs.Recover.{AreLogs, AreSound, LogFile, Recovers, StandsFor, empty_base, file_lines, lines, past_lines, record_lines}
-use Rattle.channel_replay.proofs.Lines.{past_lines-append, sound_append, lines-append}
+use Rattle.channel_replay.proofs.Lines.{past_lines-append, sound_append, lines-append, txn_from_one}
 use Rattle.channel_replay.proofs.OneList.{one_list}
 use Rattle.file_channel.specs.Mirrors.{AreLegal, Mirrors, applied}
 use Rattle.file_channel.specs.Logs.{HasLog, Logs, begun, flat}
@@ -32,7 +32,7 @@ pub applied-append : (past : Past) (a b : List Rec) → applied past (a ++ b) �
 applied-append past [] b = refl
 applied-append past (rec ∷ a) b = applied-append (Applied rec ∷ past) a b
 
-pub legal-append : (past : Past) (a b : List Rec) → AreLegal past a → AreLegal (applied past a) b → AreLegal past (a ++ b)
+pub legal-append : (past : Past) (a b : List Rec) → AreLegal empty_base past a → AreLegal empty_base (applied past a) b → AreLegal empty_base past (a ++ b)
 legal-append past [] b first later = later
 legal-append past (rec ∷ a) b first later = (first.0, legal-append (Applied rec ∷ past) a b first.1 later)
 
@@ -64,7 +64,7 @@ past_records : (file : ℕ) (past : Past) (items : List (Rec × ℕ)) → past_l
 past_records file past [] = refl
 past_records file past (item ∷ items) = past_records file (Applied item.0 ∷ past) items
 
-sound_records : (file : ℕ) (past : Past) (items : List (Rec × ℕ)) → AreLegal past (firsts items) → AreSound empty_base past (record_lines file items)
+sound_records : (file : ℕ) (past : Past) (items : List (Rec × ℕ)) → AreLegal empty_base past (firsts items) → AreSound empty_base past (record_lines file items)
 sound_records file past [] legal = tt
 sound_records file past (item ∷ items) legal = (legal.0, sound_records file (Applied item.0 ∷ past) items legal.1)
 
@@ -74,14 +74,14 @@ record LastLines (past : Past) (found : List Line) (frames : List (List Rec)) : 
   journal_is : journal (past_lines past found) ≡ journal (applied (Dropped ∷ past) (flat frames))
   txn_is : next_txn (past_lines past found) ≡ next_txn (applied (Dropped ∷ past) (flat frames))
 
-whole_lines : (past : Past) (number : ℕ) (frames : List (List Rec)) → AreLegal (Dropped ∷ past) (flat frames) → LastLines past (file_lines number (Whole 1 frames)) frames
+whole_lines : (past : Past) (number : ℕ) (frames : List (List Rec)) → AreLegal empty_base (Dropped ∷ past) (flat frames) → LastLines past (file_lines number (Whole 1 frames)) frames
 whole_lines past number frames legal =
     let items : List (Rec × ℕ) = frame_items 16 frames in
     let same : record_lines number items ++ [] ≡ record_lines number items = append-nil (record_lines number items) in
     let there : past_lines (Dropped ∷ past) (record_lines number items ++ []) ≡ applied (Dropped ∷ past) (flat frames) =
     ap (λ (l : List Line). past_lines (Dropped ∷ past) l) same ∙ (past_records number (Dropped ∷ past) items ∙ ap (λ (l : List Rec). applied (Dropped ∷ past) l) (firsts-frames 16 frames)) in
     record {
-      sound = (tt, subst (λ (l : List Line). AreSound empty_base (Dropped ∷ past) l) (sym same) (sound_records number (Dropped ∷ past) items (subst (λ (l : List Rec). AreLegal (Dropped ∷ past) l) (sym (firsts-frames 16 frames)) legal)));
+      sound = (tt, subst (λ (l : List Line). AreSound empty_base (Dropped ∷ past) l) (sym same) (sound_records number (Dropped ∷ past) items (subst (λ (l : List Rec). AreLegal empty_base (Dropped ∷ past) l) (sym (firsts-frames 16 frames)) legal)));
       journal_is = ap journal there;
       txn_is = ap next_txn there;
     }
@@ -90,7 +90,7 @@ no_lines : (past : Past) (number : ℕ) → LastLines past (file_lines number Bl
 no_lines past number = record { sound = tt; journal_is = refl; txn_is = refl }
 
 -- a file of these frames holds them, or counts as empty and has none
-held_content : (number : ℕ) (frames : List (List Rec)) (bytes : List ℕ) (past : Past) → HasFrames 1 number frames bytes → AreLegal (Dropped ∷ past) (flat frames) → (content : Content) × Holds number bytes content × LastLines past (file_lines number content) frames
+held_content : (number : ℕ) (frames : List (List Rec)) (bytes : List ℕ) (past : Past) → HasFrames 1 number frames bytes → AreLegal empty_base (Dropped ∷ past) (flat frames) → (content : Content) × Holds number bytes content × LastLines past (file_lines number content) frames
 held_content number frames bytes past has legal = from (longer (length bytes))
   where
     longer : (n : ℕ) → (17 < n) ⊎ (n ≤ 17)
@@ -117,7 +117,7 @@ logs_and_one files from number to [] content before low small last none = (low, 
 logs_and_one files from number to (log ∷ earlier) content before low small last none =
     (before.0, omega (arith, before.1, small), before.2, before.3, logs_and_one files (log.number + 1) number to earlier content before.4 (omega (arith, before.1)) small last none)
 
-some_held : (number : ℕ) (frames : List (List Rec)) (file : Option (List ℕ)) (past : Past) → IsSomeAnd file (HasFrames 1 number frames) → AreLegal (Dropped ∷ past) (flat frames)
+some_held : (number : ℕ) (frames : List (List Rec)) (file : Option (List ℕ)) (past : Past) → IsSomeAnd file (HasFrames 1 number frames) → AreLegal empty_base (Dropped ∷ past) (flat frames)
     → (content : Content) × IsSomeAnd file (λ bytes. Holds number bytes content) × LastLines past (file_lines number content) frames
 some_held number frames None past has legal = absurd has
 some_held number frames (Some bytes) past has legal = held_content number frames bytes past has legal
@@ -136,7 +136,7 @@ frames_recover image earlier number frames has sound legal logs are =
     (record {
       sound = subst (λ (l : List Line). AreSound empty_base [] l) (sym all_lines) (sound_append empty_base [] (lines earlier) found sound held.2.sound);
       left_is = ap (λ (j : List _). after_journal empty_base j) (sym (ap journal whole ∙ held.2.journal_is));
-      txn_is = sym (ap next_txn whole ∙ held.2.txn_is);
+      txn_is = sym (txn_from_one (past_lines [] (lines (earlier ++ last ∷ []))) ∙ (ap next_txn whole ∙ held.2.txn_is));
     })
 
 -- while a frame more is written
@@ -171,16 +171,16 @@ flush_recovers s image earlier number frames records log has = from (or_some (im
         let it = frames_recover image earlier number frames (record { small = has.small; before = has.before; last = lacks; none = has.none }) log.sound log.legal in
         (next_txn settled, omega (arith, next_less settled records, log.mirrors.next), inl (subst (λ (b : Base). Recovers image b (next_txn settled)) (sym log.mirrors.base) it))
     from (inr holds) =
-        let legal : AreLegal (begun earlier) (flat (frames ++ records ∷ [])) = subst (λ (l : List Rec). AreLegal (begun earlier) l) (sym (flat-push frames records)) (legal-append (begun earlier) (flat frames) records log.legal log.mirrors.legal) in
+        let legal : AreLegal empty_base (begun earlier) (flat (frames ++ records ∷ [])) = subst (λ (l : List Rec). AreLegal empty_base (begun earlier) l) (sym (flat-push frames records)) (legal-append (begun earlier) (flat frames) records log.legal log.mirrors.legal) in
         let it = frames_recover image earlier number (frames ++ records ∷ []) (record { small = has.small; before = has.before; last = holds; none = has.none }) log.sound legal in
         let same : Recovers image (after_journal empty_base (journal (applied settled records))) (next_txn (applied settled records)) = subst (λ (p : Past). Recovers image (after_journal empty_base (journal p)) (next_txn p)) more it in
-        (next_txn (applied settled records), log.mirrors.next, inr (subst (λ (b : Base). Recovers image b (next_txn (applied settled records))) (sym (staged_base s settled records log.mirrors)) same))
+        (next_txn (applied settled records), log.mirrors.next, inr (subst (λ (b : Base). Recovers image b (next_txn (applied settled records))) (sym (staged_base empty_base s settled records log.mirrors)) same))
 
 pub flush_logged : FlushIsLogged
 flush_logged s earlier frames records log staged_earlier =
     let more : applied (begun earlier) (flat (frames ++ records ∷ [])) ≡ applied (applied (begun earlier) (flat frames)) records = ap (λ (l : List Rec). applied (begun earlier) l) (flat-push frames records) ∙ applied-append (begun earlier) (flat frames) records in
     record {
       sound = log.sound;
-      legal = subst (λ (l : List Rec). AreLegal (begun earlier) l) (sym (flat-push frames records)) (legal-append (begun earlier) (flat frames) records log.legal log.mirrors.legal);
-      mirrors = subst (λ (p : Past). Mirrors (settle s) p []) (sym more) (flush_mirrored s (applied (begun earlier) (flat frames)) records log.mirrors staged_earlier);
+      legal = subst (λ (l : List Rec). AreLegal empty_base (begun earlier) l) (sym (flat-push frames records)) (legal-append (begun earlier) (flat frames) records log.legal log.mirrors.legal);
+      mirrors = subst (λ (p : Past). Mirrors empty_base (settle s) p []) (sym more) (flush_mirrored empty_base s (applied (begun earlier) (flat frames)) records log.mirrors staged_earlier);
     }

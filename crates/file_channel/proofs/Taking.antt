@@ -10,11 +10,12 @@ use Rattle.record_form.specs.declared.record.Rec.{Rec}
 use Rattle.record_form.specs.declared.record.Rec.TheVariants.{Take}
 use Rattle.channel_face.specs.Machine.{State, base_of, entries, entry_of, free}
 use Rattle.channel_replay.specs.Marks.{Past, Applied, opened, open_txns, journal, next_txn, numbers_of, IsLeft, IsHeld}
-use Rattle.channel_replay.specs.Recover.{empty_base}
 use Rattle.channel_replay.specs.Rules.{IsLegal, MayGoOn, IsTake}
 use Rattle.channel_replay.proofs.Keys.{Tells, held_among}
 use Rattle.channel_replay.proofs.Numbers.{or_among}
-use Rattle.file_channel.specs.Mirrors.{applied, AreApart, done_of}
+use Rattle.file_channel.specs.Mirrors.{applied}
+use Rattle.channel_replay.specs.StartLaws.{done_of}
+use Rattle.channel_replay.specs.Start.{AreApart}
 use Rattle.file_channel.specs.Laws.{TakeIsMirrored}
 use Rattle.file_channel.proofs.Opens.{entry_with, keys_with, all_with, length_with, busy_with, busy_room, one_done}
 use Rattle.file_channel.proofs.Mirroring.{applied-push, legal-push, is_txn, more_open}
@@ -111,17 +112,17 @@ may_take count [] room = room refl
 may_take count (n ∷ ns) room = tt
 
 pub take_mirrored : TakeIsMirrored
-take_mirrored s settled records txn ns item rest m is first =
+take_mirrored start s settled records txn ns item rest m is first =
     let all : Past = applied settled records in
     let rec : Rec = Take txn item.0 in
     let new : Entry = Takes (ns ++ item.0 ∷ []) in
     let push : applied settled (records ++ rec ∷ []) ≡ Applied rec ∷ all = applied-push settled records rec in
     let here : opened txn all ≡ done_of (Some (Takes ns)) = m.each txn ∙ ap done_of is in
-    let number = is_txn s settled records txn (Takes ns) m is in
+    let number = is_txn start s settled records txn (Takes ns) m is in
     let free_one : IsFree s item.0 = is_free s item rest first in
     let room : one_done (Takes ns) ≡ 0 → length (open_txns all) < 1024 = λ idle. omega (arith, busy_room s.opened txn (Takes ns) is idle, m.as_many, m.few) in
-    let is_left : IsLeft empty_base all item.0 = subst (λ (b : Base). is_among (numbers b.items) item.0 ≡ true) (staged_base s settled records m) (left_there s item.0 free_one) in
-    let may : IsLegal empty_base all rec = (number.0, subst (λ (e : Option Entry). MayGoOn (length (open_txns all)) e IsTake) (sym here) (may_take (length (open_txns all)) ns room), is_left, not_held) in
+    let is_left : IsLeft start all item.0 = subst (λ (b : Base). is_among (numbers b.items) item.0 ≡ true) (staged_base start s settled records m) (left_there s item.0 free_one) in
+    let may : IsLegal start all rec = (number.0, subst (λ (e : Option Entry). MayGoOn (length (open_txns all)) e IsTake) (sym here) (may_take (length (open_txns all)) ns room), is_left, not_held) in
     let grown = more_open all txn (done_of (Some (Takes ns))) here in
     record {
       base = m.base;
@@ -130,7 +131,7 @@ take_mirrored s settled records txn ns item rest m is first =
       each = λ n. ap (λ (p : Past). opened n p) push ∙ (each n (eqb_tells txn n) ∙ ap done_of (sym (entry_with s.opened txn n (Takes ns) new is)));
       as_many = ap (λ (p : Past). length (open_txns p)) push ∙ omega (arith, grown, m.as_many, busy_with s.opened txn (Takes ns) new is, one_more ns item.0);
       next = subst (λ (p : Past). next_txn p ≤ s.txn) (sym push) (omega (arith, number.1, m.next));
-      legal = legal-push settled records rec m.legal may;
+      legal = legal-push start settled records rec m.legal may;
       low = all_with (λ n. 1 ≤ n) s.opened txn new m.low;
       below = all_with (λ n. n < s.txn) s.opened txn new m.below;
       apart = subst AreApart (sym (keys_with s.opened txn new)) m.apart;

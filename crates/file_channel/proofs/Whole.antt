@@ -22,7 +22,9 @@ use Rattle.channel_face.proofs.Numbers.{among_times, number_high, number_of, tim
 use Rattle.channel_face.proofs.Opened.{puts_of-some, takes_of-some}
 use Rattle.channel_face.proofs.Sound.{IsSoundState, sound_after}
 use Rattle.txn_core.proofs.Kept.{few_opened}
-use Rattle.file_channel.specs.Mirrors.{busy, done_of, one_if_done}
+use Rattle.channel_replay.specs.Recover.{empty_base}
+use Rattle.channel_replay.specs.StartLaws.{done_of}
+use Rattle.file_channel.specs.Mirrors.{busy, one_if_done}
 use Rattle.file_channel.specs.Written.{IsLogged, MayRecover, MayRest, OnDisk, Waits}
 use Rattle.file_channel.specs.Whole.{IsWhole}
 use Rattle.file_channel.proofs.Opens.{busy_push, busy_without, length_without}
@@ -48,7 +50,7 @@ differ : {A : Type 0} → true ≡ false → A
 differ is = absurd (cc)
 
 -- the log is as before, and the state changed so that it has no record
-log_same : (told : Option Told) (w : Writer) (b : ℕ) (s s' : State) → IsLogged told w b s → b ≡ busy s'.opened → length s'.opened ≤ 1024 → s'.broken ≡ s.broken → s'.rules.limits.max_file ≡ s.rules.limits.max_file → ((settled : Past) (records : List Rec) → Mirrors s settled records → Mirrors s' settled records) → IsLogged told w b s'
+log_same : (told : Option Told) (w : Writer) (b : ℕ) (s s' : State) → IsLogged told w b s → b ≡ busy s'.opened → length s'.opened ≤ 1024 → s'.broken ≡ s.broken → s'.rules.limits.max_file ≡ s.rules.limits.max_file → ((settled : Past) (records : List Rec) → Mirrors empty_base s settled records → Mirrors empty_base s' settled records) → IsLogged told w b s'
 log_same told w b s s' log many few broken limit step = record {
   busy_is = many;
   few = few;
@@ -93,7 +95,7 @@ sound_then s call s' moves sound = subst IsSoundState (sym moves.state) (sound_a
 begun_logged : (told : Option Told) (w : Writer) (b : ℕ) (s : State) (entry : Entry) → IsLogged told w b s → done_of (Some entry) ≡ None → length s.opened < 1024 → s.txn < 2 ^ 64 - 1 → IsLogged told w b (record s { opened = s.opened ++ (s.txn, entry) ∷ []; txn = s.txn + 1 })
 begun_logged told w b s entry log idle room below =
     log_same told w b s (record s { opened = s.opened ++ (s.txn, entry) ∷ []; txn = s.txn + 1 }) log (omega (arith, log.busy_is, busy_push s.opened (s.txn, entry), ap one_if_done idle)) (omega (arith, room, length-append s.opened ((s.txn, entry) ∷ []))) refl refl
-    (λ settled records m. begin_mirrored s settled records entry m idle room below)
+    (λ settled records m. begin_mirrored empty_base s settled records entry m idle room below)
 
 pub begun_whole : (told : Option Told) (w : Writer) (b : ℕ) (s s' : State) (entry : Entry) (reply : Result Token BeginRefused) → IsWhole told w b s → AdmitsBegin s reply → s' ≡ after_begin entry s reply → IsSoundState s' → done_of (Some entry) ≡ None → IsWhole told w b s'
 begun_whole told w b s s' entry (Ok token) whole may is sound idle =
@@ -144,7 +146,7 @@ no_fault (Err e) refused is = other e refused (let same : e ≡ FlushNo.DiskFaul
 ended_logged : (told : Option Told) (w : Writer) (b : ℕ) (s : State) (txn : ℕ) (entry : Entry) → IsLogged told w b s → entry_of txn s.opened ≡ Some entry → done_of (Some entry) ≡ None → IsLogged told w b (close txn s)
 ended_logged told w b s txn entry log is idle =
     log_same told w b s (close txn s) log (omega (arith, log.busy_is, busy_without s.opened txn entry is, ap one_if_done idle)) (omega (arith, log.few, length_without s.opened txn)) refl refl
-    (λ settled records m. end_mirrored s settled records txn entry m is idle)
+    (λ settled records m. end_mirrored empty_base s settled records txn entry m is idle)
 
 fits_number : (most n : ℕ) → cond (nat_lt most n) (Some (StageNo.Spent Number)) None ≡ None → n ≤ most
 fits_number most n none = grind (arith, nat_tests)

@@ -15,7 +15,9 @@ use Rattle.channel_log.specs.Frames.{IsFramed, record_bytes}
 use Rattle.channel_log.specs.Writer.{Appends, HasRoom, IsPending, Writer}
 use Rattle.channel_face.specs.Machine.{State, close, entry_of, free, next_number, stage, with_entry, without_entry}
 use Rattle.channel_replay.specs.Marks.{Past}
-use Rattle.file_channel.specs.Mirrors.{Mirrors, busy, done_of, one_if_done}
+use Rattle.channel_replay.specs.Recover.{empty_base}
+use Rattle.channel_replay.specs.StartLaws.{done_of}
+use Rattle.file_channel.specs.Mirrors.{Mirrors, busy, one_if_done}
 use Rattle.file_channel.specs.Written.{IsLogged, OnDisk, Waits, kept}
 use Rattle.file_channel.proofs.Opens.{busy_with, busy_without, length_with, length_without, one_done}
 use Rattle.file_channel.proofs.Mirroring.{put_mirrored}
@@ -38,7 +40,7 @@ pending-push w w' records rec pending adds = record {
 }
 
 -- a record more waits, which mirrors a step of the state
-waits_more : (told : Option Told) (w w' : Writer) (s s' : State) (rec : Rec) → Waits told w s → Appends w w' rec → ((settled : Past) (records : List Rec) → Mirrors s settled records → Mirrors s' settled (records ++ rec ∷ [])) → Waits told w' s'
+waits_more : (told : Option Told) (w w' : Writer) (s s' : State) (rec : Rec) → Waits told w s → Appends w w' rec → ((settled : Past) (records : List Rec) → Mirrors empty_base s settled records → Mirrors empty_base s' settled (records ++ rec ∷ [])) → Waits told w' s'
 waits_more told w w' s s' rec waits adds step =
     let file : w'.file ≡ w.file = ap (λ (v : Writer). v.file) adds.is in
     let gate : w'.gate ≡ w.gate = ap (λ (v : Writer). v.gate) adds.is in
@@ -103,7 +105,7 @@ put_logged told w w' b b' s txn events event first log is is_first adds more roo
       few = omega (arith, log.few, length_with s.opened txn new);
       room = room_after w w' (Put txn event) b b' first adds more room;
       limit = same_limit w w' (Put txn event) adds ∙ log.limit;
-      waits = λ whole. waits_more told w w' s (record s { opened = with_entry txn new s.opened }) (Put txn event) (log.waits whole) adds (λ settled records m. put_mirrored s settled records txn events event m is);
+      waits = λ whole. waits_more told w w' s (record s { opened = with_entry txn new s.opened }) (Put txn event) (log.waits whole) adds (λ settled records m. put_mirrored empty_base s settled records txn events event m is);
     }
 
 pub take_logged : (told : Option Told) (w w' : Writer) (b b' : ℕ) (s : State) (txn : ℕ) (numbers : List ℕ) (item : ℕ × Content) (rest : List (ℕ × Content)) (first : Bool) → IsLogged told w b s → entry_of txn s.opened ≡ Some (Takes numbers) → free s ≡ item ∷ rest → first ≡ (length numbers == 0)
@@ -115,7 +117,7 @@ take_logged told w w' b b' s txn numbers item rest first log is free_is is_first
       few = omega (arith, log.few, length_with s.opened txn new);
       room = room_after w w' (Take txn item.0) b b' first adds more room;
       limit = same_limit w w' (Take txn item.0) adds ∙ log.limit;
-      waits = λ whole. waits_more told w w' s (record s { opened = with_entry txn new s.opened }) (Take txn item.0) (log.waits whole) adds (λ settled records m. take_mirrored s settled records txn numbers item rest m is free_is);
+      waits = λ whole. waits_more told w w' s (record s { opened = with_entry txn new s.opened }) (Take txn item.0) (log.waits whole) adds (λ settled records m. take_mirrored empty_base s settled records txn numbers item rest m is free_is);
     }
 
 rollback_length : (txn : ℕ) → length (spelling (Rollback txn)) ≡ 9
@@ -139,7 +141,7 @@ rollback_logged told w w' b b' s txn entry log is busy_one adds fewer =
       few = omega (arith, log.few, length_without s.opened txn);
       room = omega (arith, log.room, fewer, longer_by w w' (Rollback txn) adds, rollback_length txn);
       limit = same_limit w w' (Rollback txn) adds ∙ log.limit;
-      waits = λ whole. waits_more told w w' s (close txn s) (Rollback txn) (log.waits whole) adds (λ settled records m. rollback_mirrored s settled records txn entry m is busy_one);
+      waits = λ whole. waits_more told w w' s (close txn s) (Rollback txn) (log.waits whole) adds (λ settled records m. rollback_mirrored empty_base s settled records txn entry m is busy_one);
     }
 
 pub puts_done : (events : List Content) → 1 ≤ length events → done_of (Some (Puts events)) ≡ Some (Puts events)
@@ -177,7 +179,7 @@ commit_put_logged told w w' b b' s txn first count events log is some counted fi
       few = omega (arith, log.few, length_without s.opened txn, ap (λ (l : List (ℕ × Entry)). length l) to.opened);
       room = omega (arith, log.room, fewer, longer_by w w' rec adds', commit_put_length txn (next_number s) (length events));
       limit = same_limit w w' rec adds' ∙ (log.limit ∙ sym to.limit);
-      waits = λ whole. waits_more told w w' s (stage txn (Some (Puts events)) s) rec (log.waits (sym to.broken ∙ whole)) adds' (λ settled records m. stage_put_mirrored s settled records txn events m is many fits);
+      waits = λ whole. waits_more told w w' s (stage txn (Some (Puts events)) s) rec (log.waits (sym to.broken ∙ whole)) adds' (λ settled records m. stage_put_mirrored empty_base s settled records txn events m is many fits);
     }
 
 pub commit_take_logged : (told : Option Told) (w w' : Writer) (b b' : ℕ) (s : State) (txn count : ℕ) (numbers : List ℕ) → IsLogged told w b s → entry_of txn s.opened ≡ Some (Takes numbers) → 1 ≤ count → count ≡ length numbers
@@ -192,5 +194,5 @@ commit_take_logged told w w' b b' s txn count numbers log is some counted adds f
       few = omega (arith, log.few, length_without s.opened txn, ap (λ (l : List (ℕ × Entry)). length l) to.opened);
       room = omega (arith, log.room, fewer, longer_by w w' rec adds', commit_take_length txn (length numbers));
       limit = same_limit w w' rec adds' ∙ (log.limit ∙ sym to.limit);
-      waits = λ whole. waits_more told w w' s (stage txn (Some (Takes numbers)) s) rec (log.waits (sym to.broken ∙ whole)) adds' (λ settled records m. stage_take_mirrored s settled records txn numbers m is many);
+      waits = λ whole. waits_more told w w' s (stage txn (Some (Takes numbers)) s) rec (log.waits (sym to.broken ∙ whole)) adds' (λ settled records m. stage_take_mirrored empty_base s settled records txn numbers m is many);
     }

@@ -27,5 +27,5 @@ pub record HasLog (files : Files) (earlier : List LogFile) (number : ℕ) (P : L
 -- A channel's log has these files without fault before it, and in its own file these frames and then these records, which mirror its state.
 pub record Logs (s : State) (earlier : List LogFile) (frames : List (List Rec)) (records : List Rec) : Type 0 where
   pub sound : AreSound empty_base [] (lines earlier)
-  pub legal : AreLegal (begun earlier) (flat frames)
-  pub mirrors : Mirrors s (applied (begun earlier) (flat frames)) records
+  pub legal : AreLegal empty_base (begun earlier) (flat frames)
+  pub mirrors : Mirrors empty_base s (applied (begun earlier) (flat frames)) records

@@ -1,15 +1,15 @@
 -- How the records of a log mirror a channel's state.
 use Rattle.std.specs.Prelude.{◌≡◌, ◌<◌, ◌≤◌, ◌+◌, ◌-◌, ◌^◌, ℕ, List, [], ◌∷◌, ◌++◌, length, Option, Some, None, false}
 use Rattle.std.specs.List.{AllByRecursion}
-use Rattle.event_core.specs.Journal.{after_journal, is_among, taken_numbers}
+use Rattle.event_core.specs.Journal.{Base, after_journal, is_among, taken_numbers}
 use Rattle.event_core.specs.declared.journal.Entry.{Entry}
-use Rattle.event_core.specs.declared.journal.Entry.TheVariants.{Puts, Takes}
 use Rattle.record_form.specs.declared.record.Rec.{Rec}
 use Rattle.channel_face.specs.Machine.{State, base_of, entry_of}
 use Rattle.channel_replay.specs.Marks.{Past, Applied, opened, open_txns, journal, next_txn, next_number}
 use Rattle.channel_replay.specs.Open.{keys}
-use Rattle.channel_replay.specs.Recover.{empty_base}
 use Rattle.channel_replay.specs.Rules.{IsLegal}
+use Rattle.channel_replay.specs.StartLaws.{done_of}
+use Rattle.channel_replay.specs.Start.{AreApart}
 
 -- the marks after these records
 abbrev pub applied : Past → List Rec → Past
@@ -17,16 +17,9 @@ applied past [] = past
 applied past (rec ∷ records) = applied (Applied rec ∷ past) records
 
 -- each of the records is legal at its place
-abbrev pub AreLegal : Past → List Rec → Type 0
-AreLegal past [] = Unit {0}
-AreLegal past (rec ∷ records) = IsLegal empty_base past rec × AreLegal (Applied rec ∷ past) records
-
--- what an open transaction did, if it did anything
-abbrev pub done_of : Option Entry → Option Entry
-done_of None = None
-done_of (Some (Puts [])) = None
-done_of (Some (Takes [])) = None
-done_of (Some entry) = Some entry
+abbrev pub AreLegal : Base → Past → List Rec → Type 0
+AreLegal start past [] = Unit {0}
+AreLegal start past (rec ∷ records) = IsLegal start past rec × AreLegal start (Applied rec ∷ past) records
 
 abbrev pub one_if_done : Option Entry → ℕ
 one_if_done None = 0
@@ -37,20 +30,15 @@ abbrev pub busy : List (ℕ × Entry) → ℕ
 busy [] = 0
 busy (o ∷ opened) = one_if_done (done_of (Some o.1)) + busy opened
 
--- none of the numbers stands twice
-abbrev pub AreApart : List ℕ → Type 0
-AreApart [] = Unit {0}
-AreApart (x ∷ xs) = (is_among xs x ≡ false) × AreApart xs
-
--- After these marks and these records, which no flush has settled, a log has what the state has: what is settled, what is staged, and what the open transactions did. The records are legal.
-pub record Mirrors (s : State) (settled : Past) (records : List Rec) : Type 0 where
-  pub base : base_of s ≡ after_journal empty_base (journal settled)
-  pub earlier : (n : ℕ) → next_number empty_base settled ≤ n → is_among (taken_numbers (journal settled)) n ≡ false
+-- Behind a start, these marks and these records, which no flush has settled, a log has what the state has: what is settled, what is staged, and what the open transactions did. The records are legal.
+pub record Mirrors (start : Base) (s : State) (settled : Past) (records : List Rec) : Type 0 where
+  pub base : base_of s ≡ after_journal start (journal settled)
+  pub earlier : (n : ℕ) → next_number start settled ≤ n → is_among (taken_numbers (journal settled)) n ≡ false
   pub staged : journal (applied settled records) ≡ journal settled ++ s.staged
   pub each : (n : ℕ) → opened n (applied settled records) ≡ done_of (entry_of n s.opened)
   pub as_many : length (open_txns (applied settled records)) ≡ busy s.opened
   pub next : next_txn (applied settled records) ≤ s.txn
-  pub legal : AreLegal settled records
+  pub legal : AreLegal start settled records
   -- numbers of transactions fit, and none is used twice
   pub low : AllByRecursion (λ o. 1 ≤ o.0) s.opened
   pub below : AllByRecursion (λ o. o.0 < s.txn) s.opened

@@ -1,5 +1,5 @@
-// Laws of the records that a channel writes.
-ghost use Rattle.file_channel.specs.Laws.{BeginIsMirrored, PutIsMirrored, TakeIsMirrored, RollbackIsMirrored, EndIsMirrored, StagePutIsMirrored, StageTakeIsMirrored, FlushIsMirrored, FramesRecover, FlushRecovers, FlushIsLogged};
+// Laws of the records that a channel writes, behind any start.
+ghost use Rattle.file_channel.specs.Laws.{BeginIsMirrored, PutIsMirrored, TakeIsMirrored, RollbackIsMirrored, EndIsMirrored, StagePutIsMirrored, StageTakeIsMirrored, FlushIsMirrored, CheckpointIsMirrored, StartsLeaveTheSame, FramesRecover, FlushRecovers, FlushIsLogged};
 
 /// A transaction that did nothing yet writes no record.
 pub fn a_begin_is_mirrored()
@@ -39,6 +39,16 @@ pub fn a_staged_take_is_mirrored()
 /// What is staged is settled, and the records are those of a frame more.
 pub fn a_flush_is_mirrored()
     ensures { FlushIsMirrored }
+{}
+
+/// A checkpoint is a start that mirrors the state.
+pub fn a_checkpoint_is_mirrored()
+    ensures { CheckpointIsMirrored }
+{}
+
+/// Logs behind starts that mirror one state leave the same.
+pub fn starts_leave_the_same()
+    ensures { StartsLeaveTheSame }
 {}
 
 /// A log whose last file has some committed frames recovers to what they and the files before leave.

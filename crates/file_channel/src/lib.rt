@@ -10,7 +10,8 @@ mod writing;
 
 pub use channel::{FileChannel, OpenRefused, open_channel};
 pub use laws::{
-    a_begin_is_mirrored, a_flush_is_logged, a_flush_is_mirrored, a_flush_recovers,
-    a_put_is_mirrored, a_rollback_is_mirrored, a_staged_put_is_mirrored, a_staged_take_is_mirrored,
-    a_take_is_mirrored, an_end_is_mirrored, frames_recover,
+    a_begin_is_mirrored, a_checkpoint_is_mirrored, a_flush_is_logged, a_flush_is_mirrored,
+    a_flush_recovers, a_put_is_mirrored, a_rollback_is_mirrored, a_staged_put_is_mirrored,
+    a_staged_take_is_mirrored, a_take_is_mirrored, an_end_is_mirrored, frames_recover,
+    starts_leave_the_same,
 };

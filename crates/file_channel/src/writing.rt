@@ -7,7 +7,7 @@ ghost use Rattle.event_core.specs.Journal.{is_among, taken_numbers};
 ghost use Rattle.event_core.specs.declared.journal.Entry.{Entry};
 ghost use Rattle.channel_face.specs.Machine.{State, close, entry_of, free, next_number, settle, stage, with_entry};
 ghost use Rattle.channel_log.specs.Writer.{HasRoom};
-ghost use Rattle.file_channel.specs.Mirrors.{done_of};
+ghost use Rattle.channel_replay.specs.StartLaws.{done_of};
 ghost use Rattle.file_channel.specs.Touches.{WritesLast};
 ghost use Rattle.file_channel.specs.Written.{IsLogged, MayRecover, kept};
 

@@ -11,9 +11,9 @@ use Rattle.channel_face.proofs.Numbers.{among_times, one_if, same_number, other_
 use Rattle.channel_replay.specs.Marks.{Past, Dropped, Applied, added, removed, opened, open_by, open_txns, txn_of, opened_by, events_of, numbers_of}
 use Rattle.channel_replay.proofs.Numbers.{or_among}
 use Rattle.channel_replay.proofs.Keys.{Tells, open_once}
-use Rattle.file_channel.specs.Mirrors.{AreApart}
+use Rattle.channel_replay.specs.Start.{AreApart}
 
-differ : true ≡ false → ⊥
+pub differ : true ≡ false → ⊥
 differ is = absurd (cc)
 
 or_right : (b : Bool) → (b || false) ≡ b
