@@ -1,6 +1,7 @@
 -- Slots, of which one changes, and what is left by them.
 use Rattle.std.proofs.Common.{◌⊎◌, inl, inr, ◌≡◌, ◌≢◌, ◌<◌, ◌≤◌, ◌+◌, ◌-◌, ◌++◌, ◌∷◌, [], ℕ, zero, suc, List, length, take, drop, slice_get, slice_set, Option, Some, None, Bool, true, false, ◌==◌, leb, cond, min, refl, sym, ◌∙◌, ap, subst, arith}
 use Rattle.std.specs.List.{AllByRecursion}
+use Rattle.std.specs.Option.{option_map}
 use Rattle.std.proofs.lemmas.Bool.Decides.{eqb_tells, leb_tells}
 use Rattle.std.proofs.lemmas.List.{append-nil, drop-set-lt, length-drop, length-set, take_more_set}
 use Rattle.std.proofs.lemmas.Grind.{drop_more_same}
@@ -8,7 +9,7 @@ use Rattle.record_form.specs.declared.record.Pointer.{Pointer}
 use Rattle.event_ring.specs.declared.slots.Slot.{Slot}
 use Rattle.event_ring.specs.declared.slots.State.{State}
 use Rattle.event_ring.specs.declared.slots.State.TheVariants.{Free, Held, Gone}
-use Rattle.event_ring.specs.Slots.{AreGaps, Index, IsBusy, IsFront, IsLive, IsRing, Left, Rises, closed, first_free, is_gone, is_held, lasting, left_of, live_of, marked, next_from, pointer_at}
+use Rattle.event_ring.specs.Slots.{AreGaps, Index, IsBusy, IsFront, IsLive, IsRing, Left, Rises, closed, first_free, is_gone, is_held, lasting, left_of, live_of, look_at, marked, next_from, pointer_at}
 
 abbrev Tells : ℕ → ℕ → Type 0
 Tells a b = ((a == b) ≡ true) × (a ≡ b) ⊎ ((a == b) ≡ false) × (a ≢ b)
@@ -324,48 +325,48 @@ one_free (x ∷ slots) (suc place) s all is free = by_test (is_gone x.state) ref
 
 -- where an event's record stands
 
-pointer_above : (low number : ℕ) (slots : List Slot) (top : ℕ) → Rises low slots top → number < low → pointer_at number (live_of slots) ≡ None
-pointer_above low number [] top rises less = refl
-pointer_above low number (s ∷ slots) top rises less = by_test (is_gone s.state) (pointer_above (s.number + 1) number slots top rises.1 (omega (arith, less, rises.0))) (eqb_tells s.number number)
+look_above : (low number : ℕ) (slots : List Slot) (top : ℕ) → Rises low slots top → number < low → look_at number (live_of slots) ≡ None
+look_above low number [] top rises less = refl
+look_above low number (s ∷ slots) top rises less = by_test (is_gone s.state) (look_above (s.number + 1) number slots top rises.1 (omega (arith, less, rises.0))) (eqb_tells s.number number)
   where
-    by_test : (t : Bool) → pointer_at number (live_of slots) ≡ None → Tells s.number number → pointer_at number (cond t (live_of slots) (left_of s ∷ live_of slots)) ≡ None
+    by_test : (t : Bool) → look_at number (live_of slots) ≡ None → Tells s.number number → look_at number (cond t (live_of slots) (left_of s ∷ live_of slots)) ≡ None
     by_test true rest tells = rest
     by_test false rest (inl same) = absurd (omega (arith, less, rises.0, same.1))
     by_test false rest (inr other) = rw other.0 rest
 
 -- by the place at which it would stand
-pub record Seen (slots : List Slot) (number place : ℕ) (found : Option Pointer) : Type 0 where
-  pub some : (s : Slot) → slice_get slots place ≡ Some s → s.number ≡ number → is_gone s.state ≡ false → found ≡ Some (left_of s).pointer
+pub record Seen (slots : List Slot) (number place : ℕ) (found : Option (Pointer × Bool)) : Type 0 where
+  pub some : (s : Slot) → slice_get slots place ≡ Some s → s.number ≡ number → is_gone s.state ≡ false → found ≡ Some ((left_of s).pointer, (left_of s).held)
   pub gap : (s : Slot) → slice_get slots place ≡ Some s → s.number ≡ number → is_gone s.state ≡ true → found ≡ None
   pub other : (s : Slot) → slice_get slots place ≡ Some s → s.number ≢ number → found ≡ None
   pub end : length slots ≤ place → found ≡ None
 
-pub pointer_seen : (low number : ℕ) (slots : List Slot) (top place : ℕ) → Rises low slots top → IsFront slots number place → Seen slots number place (pointer_at number (live_of slots))
-pointer_seen low number [] top place rises front = record { some = λ s is same lives. absurd (cc); gap = λ s is same gone. refl; other = λ s is other. refl; end = λ past. refl }
-pointer_seen low number (x ∷ slots) top zero rises front = record {
+pub look_seen : (low number : ℕ) (slots : List Slot) (top place : ℕ) → Rises low slots top → IsFront slots number place → Seen slots number place (look_at number (live_of slots))
+look_seen low number [] top place rises front = record { some = λ s is same lives. absurd (cc); gap = λ s is same gone. refl; other = λ s is other. refl; end = λ past. refl }
+look_seen low number (x ∷ slots) top zero rises front = record {
   some = λ s is same lives.
       let here : x ≡ s = cc in
       let lives' : is_gone x.state ≡ false = ap (λ (y : Slot). is_gone y.state) here ∙ lives in
       let own : (x.number == number) ≡ true = test (eqb_tells x.number number) (ap (λ (y : Slot). y.number) here ∙ same) in
-      rw (lives', own) (ap (λ (y : Slot). Some (left_of y).pointer) here);
+      rw (lives', own) (ap (λ (y : Slot). Some ((left_of y).pointer, (left_of y).held)) here);
   gap = λ s is same gone.
       let here : x ≡ s = cc in
       let gone' : is_gone x.state ≡ true = ap (λ (y : Slot). is_gone y.state) here ∙ gone in
-      rw gone' (pointer_above (x.number + 1) number slots top rises.1 (omega (arith, ap (λ (y : Slot). y.number) here, same)));
+      rw gone' (look_above (x.number + 1) number slots top rises.1 (omega (arith, ap (λ (y : Slot). y.number) here, same)));
   other = λ s is other.
       let here : x ≡ s = cc in
       let less : number < x.number = omega (arith, front.above zero x (omega arith) refl, ap (λ (y : Slot). y.number) here, other) in
-      pointer_above (number + 1) number (x ∷ slots) top (omega (arith, less), rises.1) (omega arith);
+      look_above (number + 1) number (x ∷ slots) top (omega (arith, less), rises.1) (omega arith);
   end = λ past. absurd (omega (arith, past));
 }
   where
     test : Tells x.number number → x.number ≡ number → (x.number == number) ≡ true
     test (inl same) is = same.0
     test (inr other) is = absurd (other.1 is)
-pointer_seen low number (x ∷ slots) top (suc place) rises front =
-    let rest : Seen slots number place (pointer_at number (live_of slots)) = pointer_seen (x.number + 1) number slots top place rises.1
+look_seen low number (x ∷ slots) top (suc place) rises front =
+    let rest : Seen slots number place (look_at number (live_of slots)) = look_seen (x.number + 1) number slots top place rises.1
     (record { within = omega (arith, front.within); below = λ k s less is. front.below (suc k) s (omega (arith, less)) is; above = λ k s more is. front.above (suc k) s (omega (arith, more)) is }) in
-    let passed : pointer_at number (live_of (x ∷ slots)) ≡ pointer_at number (live_of slots) = pass (is_gone x.state) (eqb_tells x.number number) (front.below zero x (omega arith) refl) in
+    let passed : look_at number (live_of (x ∷ slots)) ≡ look_at number (live_of slots) = pass (is_gone x.state) (eqb_tells x.number number) (front.below zero x (omega arith) refl) in
     record {
       some = λ s is same lives. passed ∙ rest.some s is same lives;
       gap = λ s is same gone. passed ∙ rest.gap s is same gone;
@@ -373,10 +374,19 @@ pointer_seen low number (x ∷ slots) top (suc place) rises front =
       end = λ past. passed ∙ rest.end (omega (arith, past));
     }
   where
-    pass : (t : Bool) → Tells x.number number → x.number < number → pointer_at number (cond t (live_of slots) (left_of x ∷ live_of slots)) ≡ pointer_at number (live_of slots)
+    pass : (t : Bool) → Tells x.number number → x.number < number → look_at number (cond t (live_of slots) (left_of x ∷ live_of slots)) ≡ look_at number (live_of slots)
     pass true tells less = refl
     pass false (inl same) less = absurd (omega (arith, less, same.1))
     pass false (inr other) less = rw other.0 refl
+
+-- the place alone
+pub look_place : (number : ℕ) (live : List Left) → option_map (λ (l : Pointer × Bool). l.0) (look_at number live) ≡ pointer_at number live
+look_place number [] = refl
+look_place number (l ∷ live) = by_test (l.number == number) (look_place number live)
+  where
+    by_test : (t : Bool) → option_map (λ (x : Pointer × Bool). x.0) (look_at number live) ≡ pointer_at number live → option_map (λ (x : Pointer × Bool). x.0) (cond t (Some (l.pointer, l.held)) (look_at number live)) ≡ cond t (Some l.pointer) (pointer_at number live)
+    by_test true rest = refl
+    by_test false rest = rest
 
 -- one slot changes its state
 

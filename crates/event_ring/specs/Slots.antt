@@ -90,6 +90,11 @@ abbrev pub pointer_at : ℕ → List Left → Option Pointer
 pointer_at number [] = None
 pointer_at number (l ∷ live) = if l.number == number then Some l.pointer else pointer_at number live
 
+-- where that record stands, and whether the event is held
+abbrev pub look_at : ℕ → List Left → Option (Pointer × Bool)
+look_at number [] = None
+look_at number (l ∷ live) = if l.number == number then Some (l.pointer, l.held) else look_at number live
+
 -- the least number above this one, or the least of all
 abbrev pub least_above : Option ℕ → ℕ
 least_above None = 0

@@ -1,10 +1,10 @@
 // The ring of the events that are left.
 ghost use Rattle.std.specs.Prelude.{◌≡◌, ◌<◌, ◌≤◌, ◌+◌, ◌-◌, ◌^◌, ◌++◌, [], ◌∷◌, length, IfOk, OnErr, OnOk, false, true};
-ghost use Rattle.event_ring.specs.Slots.{IsLive, first_free, lasting, least_above, marked, next_from, pointer_at};
+ghost use Rattle.event_ring.specs.Slots.{IsLive, first_free, lasting, least_above, look_at, marked, next_from, pointer_at};
 
 use crate::slots::{
-    Slot, State, close_up, drop_gaps, free_place, is_gap, live_place, make_room, place_of, read,
-    write,
+    Slot, State, close_up, drop_gaps, free_place, is_gap, is_held, live_place, make_room, place_of,
+    read, write,
 };
 use circular_buffer::HeapCircularBuffer;
 use event_core::NoMemory;
@@ -155,9 +155,9 @@ impl Ring {
         }
     }
 
-    /// Where the record of an event stands.
-    pub fn pointer(&self, number: u64) -> Option<Pointer>
-        ensures { result ≡ pointer_at number self.now.live }
+    /// Where the record of an event stands, and whether it is held. It takes no memory.
+    pub fn look(&self, number: u64) -> Option<(Pointer, bool)>
+        ensures { result ≡ look_at number self.now.live }
     {
         let place = place_of(&self.slots, number);
         if place >= self.slots.len() {
@@ -167,11 +167,22 @@ impl Ring {
         if slot.number != number || is_gap(&slot) {
             return None;
         }
-        Some(Pointer {
+        let pointer = Pointer {
             file: slot.file,
             at: slot.at,
             length: slot.length,
-        })
+        };
+        Some((pointer, is_held(&slot)))
+    }
+
+    /// Where the record of an event stands.
+    pub fn pointer(&self, number: u64) -> Option<Pointer>
+        ensures { result ≡ pointer_at number self.now.live }
+    {
+        match self.look(number) {
+            Some((pointer, _)) => Some(pointer),
+            None => None,
+        }
     }
 
     /// The event of the least number above this one, or the first of all, with the place of its record. It takes no memory.

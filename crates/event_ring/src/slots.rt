@@ -2,7 +2,7 @@
 ghost use Rattle.std.specs.Prelude.{◌≡◌, ◌<◌, ◌≤◌, ◌+◌, ◌^◌, ℕ, length, take, drop, slice_get, slice_set, Some, false, true};
 ghost use Rattle.std.specs.List.{AllByRecursion};
 ghost use Rattle.circular_buffer.specs.Buffer.{buffer};
-ghost use Rattle.event_ring.specs.Slots.{AreGaps, Free, IsBusy, IsFront, Rises, closed, is_gone, live_of};
+ghost use Rattle.event_ring.specs.Slots.{AreGaps, Free, IsBusy, IsFront, Rises, closed, is_gone, is_held, live_of};
 
 use circular_buffer::HeapCircularBuffer;
 
@@ -53,6 +53,13 @@ pub(crate) fn is_gap(slot: &Slot) -> bool
     ensures { result ≡ is_gone slot.now.state }
 {
     matches!(slot.state, State::Gone)
+}
+
+// Whether the event of the slot is held.
+pub(crate) fn is_held(slot: &Slot) -> bool
+    ensures { result ≡ is_held slot.now.state }
+{
+    matches!(slot.state, State::Held)
 }
 
 // Moves a slot to this place, unless it is a gap. The place for the next one.

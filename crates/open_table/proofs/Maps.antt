@@ -1,9 +1,10 @@
 -- The table of a map, and after a change of the map.
-use Rattle.std.proofs.Common.{◌≡◌, ℕ, List, [], ◌∷◌, Option, None, Some, IsSome, is_some, BTreeMap, nat_cmp, refl, sym, ap, ◌∙◌, subst}
+use Rattle.std.proofs.Common.{◌≡◌, ℕ, List, [], ◌∷◌, Option, None, Some, IsSome, is_some, Result, Ok, Err, OnOk, OnErr, BTreeMap, nat_cmp, refl, sym, ap, ◌∙◌, subst}
 use Rattle.std.specs.Option.{option_map}
 use Rattle.std.specs.BTreeMap.{WritesThrough, Updates, get_by}
 use Rattle.std.specs.BTreeMap.Range.{IsRangeOf}
 use Rattle.std.specs.declared.ops.Bound.TheVariants.{Unbounded}
+use Rattle.event_core.specs.declared.refused.NoMemory.{NoMemory}
 use Rattle.open_table.specs.Tables.{Open, Table, HasAt, IsNext, open_at}
 use Rattle.open_table.proofs.Orders.{apart, start_of, inside, above, at_most}
 
@@ -25,6 +26,22 @@ changed f txn was is m n old same here to written =
     let there : IsSome (get_by (nat_cmp txn) m) = subst (λ (o : Option Open). IsSome o) (sym here) refl in
     let now : option_map f (open_at old txn) ≡ Some is = ap (λ (o : Option Open). option_map f o) (found m old txn (Some was) same here) ∙ ap Some (sym to) in
     subst (λ (o : Option Open). HasAt txn o old n.entries) (sym now) (updated txn (Some is) m n old same (written.3 there))
+
+-- the value that stands there was put back
+pub put_back : (txn : ℕ) (was is : Open) (m n : BTreeMap ℕ Open) (old : Table) → m.entries ≡ old → get_by (nat_cmp txn) m ≡ Some was → is ≡ was → WritesThrough nat_cmp (nat_cmp txn) m is n → HasAt txn (open_at old txn) old n.entries
+put_back txn was is m n old same here to written =
+    let there : IsSome (get_by (nat_cmp txn) m) = subst (λ (o : Option Open). IsSome o) (sym here) refl in
+    let now : open_at old txn ≡ Some is = found m old txn (Some was) same here ∙ ap Some (sym to) in
+    subst (λ (o : Option Open). HasAt txn o old n.entries) (sym now) (updated txn (Some is) m n old same (written.3 there))
+
+-- a change may want memory
+pub when_ok : (r : Result (Unit {0}) NoMemory) (P Q : Type 0) → (P → Q) → OnOk r P → OnOk r Q
+when_ok (Ok done) P Q maps is = maps is
+when_ok (Err e) P Q maps is = tt
+
+pub when_err : (r : Result (Unit {0}) NoMemory) (P Q : Type 0) → (P → Q) → OnErr r P → OnErr r Q
+when_err (Ok done) P Q maps is = tt
+when_err (Err e) P Q maps is = maps is
 
 -- nothing stands there, and nothing was changed
 pub unchanged : (f : Open → Open) (txn : ℕ) (m n : BTreeMap ℕ Open) (old : Table) → m.entries ≡ old → get_by (nat_cmp txn) m ≡ None → n ≡ m → HasAt txn (option_map f (open_at old txn)) old n.entries

@@ -1,5 +1,5 @@
 -- A table of open transactions, and what each call makes of it.
-use Rattle.std.specs.Prelude.{◌≡◌, ◌≢◌, ◌<◌, ◌≤◌, ◌+◌, ◌-◌, ◌^◌, ◌==◌, ℕ, nat_le, List, [], ◌∷◌, ◌++◌, length, map, All, Option, Some, None, option_map, Bool, true, false, not, if◌then◌else◌, IsSome, vec_capacity}
+use Rattle.std.specs.Prelude.{◌≡◌, ◌≢◌, ◌<◌, ◌≤◌, ◌+◌, ◌-◌, ◌*◌, ◌^◌, ◌==◌, ℕ, nat_le, nat_lt, List, [], ◌∷◌, ◌++◌, length, map, All, Option, Some, None, option_map, Bool, true, false, not, if◌then◌else◌, IsSome, vec_capacity}
 use Rattle.std.specs.Map.{lookup}
 use Rattle.std.specs.Ordering.{is_eq, nat_cmp}
 use Rattle.record_form.specs.declared.record.Pointer.{Pointer}
@@ -103,6 +103,10 @@ MayAdd item (Some o) = IsOf item o.listed × (size o.listed < o.room)
 -- the transaction with one more
 abbrev pub added : Item → Option Open → Option Open
 added item = option_map (λ (o : Open). record o { listed = with_item item o.listed })
+
+-- the transaction with room for one more: where its room is used up, for as many again and one more
+abbrev pub wider : Open → Open
+wider o = if nat_lt (size o.listed) o.room then o else record o { room = 2 * size o.listed + 1 }
 
 -- the transaction is open, with puts or with takes
 abbrev pub is_open : Bool → Option Open → Bool

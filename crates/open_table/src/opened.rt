@@ -1,6 +1,6 @@
 // What one transaction has open.
-ghost use Rattle.std.specs.Prelude.{◌≡◌, ◌<◌, ◌+◌, ◌-◌, ◌^◌, true, map, IfOk};
-ghost use Rattle.open_table.specs.Tables.{Puts, is_behind, moved_pointer, IsOf, size, with_item, begun, listed_of, moved, MayMove, is_puts, puts_of, takes_of};
+ghost use Rattle.std.specs.Prelude.{◌≡◌, ◌<◌, ◌≤◌, ◌+◌, ◌-◌, ◌^◌, true, map, IfOk, OnErr, OnOk, vec_capacity};
+ghost use Rattle.open_table.specs.Tables.{Puts, is_behind, moved_pointer, IsOf, size, with_item, begun, capacity_of, listed_of, moved, wider, MayMove, is_puts, puts_of, takes_of};
 
 use event_core::NoMemory;
 use record_form::Pointer;
@@ -62,6 +62,34 @@ fn move_pointers(pointers: &mut [Pointer], file: u32, at: u64, to_file: u32, to_
     }
 }
 
+// The most puts or takes for which more room can be made.
+const MOST_WIDENED: usize = 0x7fff_ffff;
+
+// Makes room for so many in all, at least.
+fn room_for<T: Drop>(list: &mut Vec<T>, room: u32) -> Result<(), NoMemory>
+    ensures items { list.new.items ≡ list.old.items }
+    ensures room { OnOk result (room ≤ vec_capacity list.new) }
+    ensures kept { vec_capacity list.old ≤ vec_capacity list.new }
+{
+    let more = (room as usize).saturating_sub(list.len());
+    match list.reserve_exact(more) {
+        Ok(()) => Ok(()),
+        Err(_) => Err(NoMemory),
+    }
+}
+
+// Makes room in a list for so many in all, at least.
+fn make_room(list: &mut Ended, room: u32) -> Result<(), NoMemory>
+    ensures listed { listed_of list.new ≡ listed_of list.old }
+    ensures room { OnOk result (room ≤ capacity_of list.new) }
+    ensures kept { capacity_of list.old ≤ capacity_of list.new }
+{
+    match list {
+        Ended::Puts(pointers) => room_for(pointers, room),
+        Ended::Takes(numbers) => room_for(numbers, room),
+    }
+}
+
 impl Opened {
     /// A transaction of puts, or of takes, that has none yet.
     pub fn new(alloc: Global, puts: bool, room: u32) -> Result<Opened, NoMemory>
@@ -91,6 +119,34 @@ impl Opened {
             (Ended::Takes(numbers), Item::Take(number)) => numbers.push_reserved(number),
             (Ended::Puts(_), Item::Take(_)) | (Ended::Takes(_), Item::Put(_)) => {}
         }
+    }
+
+    // How many puts or takes it has.
+    fn len(&self) -> usize
+        ensures { result ≡ size self.now.listed }
+    {
+        match &self.list {
+            Ended::Puts(pointers) => pointers.len(),
+            Ended::Takes(numbers) => numbers.len(),
+        }
+    }
+
+    /// Makes room for as many again and one more, where its room is used up.
+    pub fn widen(&mut self) -> Result<(), NoMemory>
+        ensures wider { OnOk result (self.new ≡ wider self.old) }
+        ensures same { OnErr result (self.new ≡ self.old) }
+    {
+        let len = self.len();
+        if len < self.room as usize {
+            return Ok(());
+        }
+        if len > MOST_WIDENED {
+            return Err(NoMemory);
+        }
+        let room = 2 * len as u32 + 1;
+        make_room(&mut self.list, room)?;
+        self.room = room;
+        Ok(())
     }
 
     /// Moves its pointers into a file at this offset or behind it to another file.

@@ -1,6 +1,6 @@
 // The table.
 ghost use Rattle.std.specs.Prelude.{◌≡◌, ◌<◌, ◌≤◌, ◌+◌, ◌↔◌, [], length, None, Some, IsSome, IfOk, OnOk, OnErr, MatchOption, MatchResult, option_map, ℕ};
-ghost use Rattle.open_table.specs.Tables.{open_at, HasAt, MayAdd, MayMove, IsNext, added, begun, is_open, listed_of, moved_open, puts_of, takes_of};
+ghost use Rattle.open_table.specs.Tables.{open_at, HasAt, MayAdd, MayMove, IsNext, added, begun, is_open, listed_of, moved_open, puts_of, takes_of, wider};
 ghost use Rattle.open_table.specs.declared.table.TableRefused.TheVariants.{TooManyOpen};
 
 use crate::opened::{Ended, Item, Opened};
@@ -78,6 +78,19 @@ impl OpenTable {
     {
         if let Some(opened) = self.opened.get_mut(&txn) {
             opened.add(item);
+        }
+    }
+
+    /// Makes room in an open transaction for as many again and one more, where its room is used up.
+    pub fn widen(&mut self, txn: u64) -> Result<(), NoMemory>
+        requires { IsSome (open_at self.old txn) }
+        ensures wider { OnOk result (HasAt txn (option_map wider (open_at self.old txn)) self.old self.new) }
+        ensures count { length self.new ≡ length self.old }
+        ensures same { OnErr result (HasAt txn (open_at self.old txn) self.old self.new) }
+    {
+        match self.opened.get_mut(&txn) {
+            Some(opened) => opened.widen(),
+            None => Ok(()),
         }
     }
 
