@@ -81,8 +81,8 @@ module _ (size : ℕ) (k : Kept) (file at : ℕ) (part : ℕ → List ℕ) (is :
   pub block_piece : IsPieceOf k part
   block_piece = subst (λ (kept : Kept). IsPieceOf kept part) (sym is) (own_length size (drop at (part file)))
 
-  pub block_has : (want : ℕ) → at + want ≤ length (part file) → want ≤ size → HasThere k 0 (part file) at want
-  block_has want within few = subst (λ (kept : Kept). HasThere kept 0 (part file) at want) (sym is) (record {
+  pub block_has : (want : ℕ) → want ≤ size → at + want ≤ length (part file) → HasThere k 0 (part file) at want
+  block_has want few within = subst (λ (kept : Kept). HasThere kept 0 (part file) at want) (sym is) (record {
     long = omega (arith, within, few, length-take size (drop at (part file)), length-drop at (part file));
     same = take_take want size (drop at (part file)) few;
   })
@@ -122,3 +122,7 @@ piece_grows k part longer grows piece =
         ∙ sym (ap (λ (l : List ℕ). take (length k.bytes) (drop k.from l)) is
         ∙ (ap (λ (l : List ℕ). take (length k.bytes) l) (drop-append-le k.from (part k.file) more within)
         ∙ take-append-le (length k.bytes) (drop k.from (part k.file)) more (omega (arith, long, length-drop k.from (part k.file)))))
+
+-- all of a range is kept, so each front of it is
+pub fewer : (k : Kept) (file at want n : ℕ) → Covers k file at want → n ≤ want → Covers k file at n
+fewer k file at want n covers less = record { same = covers.same; low = covers.low; high = omega (arith, less, covers.high) }

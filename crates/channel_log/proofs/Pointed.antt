@@ -1,16 +1,21 @@
 -- What stands at a pointer, in what is kept.
-use Rattle.std.proofs.Common.{◌≡◌, ◌≤◌, ◌<◌, ◌+◌, ◌-◌, ◌++◌, ◌∷◌, min, ℕ, List, [], length, take, drop, length-append, append_assoc, Option, Some, None, Result, Ok, Err, refl, sym, ap, subst, ◌∙◌, arith}
-use Rattle.std.proofs.lemmas.List.{append-nil, drop-drop, drop-take, drop_at, length-drop, length-take, take-append-drop, take_all, take_at, take_min}
+use Rattle.std.specs.Prelude.{◌↔◌, IsTrue, Bool, true, false}
+use Rattle.std.proofs.Common.{◌⊎◌, inl, inr, ◌≡◌, ◌≤◌, ◌<◌, ◌+◌, ◌-◌, ◌++◌, ◌∷◌, ℕ, List, [], length, take, drop, length-append, append_assoc, Option, Some, None, Result, Ok, Err, refl, sym, ap, subst, ◌∙◌, arith}
+use Rattle.std.proofs.lemmas.Bool.{cases_lt}
+use Rattle.std.proofs.lemmas.List.{drop-drop, drop-take, drop_at, length-drop, length-take, take-append-drop, take-append-le, take_all, take_at}
 use Rattle.event_core.specs.Content.{Content, size}
 use Rattle.record_form.specs.declared.record.Pointer.{Pointer}
 use Rattle.record_form.specs.declared.record.Rec.{Rec}
 use Rattle.record_form.specs.declared.record.Rec.TheVariants.{Put}
-use Rattle.record_form.specs.declared.record.Read.TheVariants.{Whole}
+use Rattle.record_form.specs.declared.record.Read.{Read}
+use Rattle.record_form.specs.declared.record.Read.TheVariants.{Part, Whole}
 use Rattle.record_form.specs.Grammar.{Complete, Outcome, as_read, outcome_of, read_of}
 use Rattle.record_form.specs.Record.{Spells, record_length, spelling}
 use Rattle.record_form.proofs.Again.{length-spelling}
+use Rattle.record_form.proofs.Cuts.{cut-part}
+use Rattle.channel_log.proofs.Keeping.{take_take}
 use Rattle.channel_log.proofs.Pointing.{put_read}
-use Rattle.channel_log.specs.Pointers.{FoundAt, IsDamageOf, IsEventOf, PutAt, in_frame}
+use Rattle.channel_log.specs.Pointers.{FoundAt, IsEventOf, IsLengthOf, IsOfLength, IsSeen, LengthAt, PutAt, in_frame}
 use Rattle.channel_log.specs.Writer.{Writer}
 use Rattle.channel_log.specs.declared.pointers.ReadRefused.{ReadRefused}
 use Rattle.channel_log.specs.declared.pointers.ReadRefused.TheVariants.{Damaged, NoMemory, ReadFault}
@@ -94,24 +99,32 @@ no_put bytes rec p event read none zero at =
     same_rec : (o : Outcome) (r : Rec) (t : ℕ) (e : Content) (m n : ℕ) → o ≡ Complete r m → o ≡ Complete (Put t e) n → r ≡ Put t e
     same_rec o r t e m n one two = cc
 
+-- the length of a record that a front of the bytes spells, if that is a PUT
+length_in : (bytes : List ℕ) (rec : Rec) (p : Pointer) (found : Option ℕ) → outcome_of bytes ≡ Complete rec (record_length rec) → Spells (take (record_length rec) bytes) rec → p.at ≡ 0 → IsLengthOf rec found → LengthAt bytes p found
+length_in bytes rec p None read spells zero none = λ event at. no_put bytes rec (record p { length = size event }) event read (λ txn e is long. none txn e is) zero at
+length_in bytes rec p (Some n) read spells zero is = (is.1, put_is bytes rec is.0 is.1 (record p { length = n }) spells is.2 zero is.3)
+
 -- what was found in a record that a front of the bytes spells
 pub found_in : (bytes : List ℕ) (rec : Rec) (p : Pointer) (r : Result Content ReadRefused) → outcome_of bytes ≡ Complete rec (record_length rec) → Spells (take (record_length rec) bytes) rec → p.at ≡ 0 → IsEventOf rec p.length r → FoundAt bytes p r
 found_in bytes rec p (Ok event) read spells zero is = put_is bytes rec is.0.0 event p spells is.0.1 zero is.1
 found_in bytes rec p (Err ReadFault) read spells zero is = absurd is
-found_in bytes rec p (Err (Damaged kept found)) read spells zero is = λ event at. no_put bytes rec p event read is.2 zero at
+found_in bytes rec p (Err (Damaged kept found)) read spells zero is = (λ event at. no_put bytes rec p event read is.2 zero at, length_in bytes rec p found read spells zero is.3)
 found_in bytes rec p (Err NoMemory) read spells zero is = absurd is
 
-pub damage_in : (rec : Rec) (length' : ℕ) (r : Result Content ReadRefused) → IsEventOf rec length' r → IsDamageOf length' r
-damage_in rec length' (Ok event) is = tt
-damage_in rec length' (Err ReadFault) is = absurd is
-damage_in rec length' (Err (Damaged kept found)) is = (is.0, is.1)
-damage_in rec length' (Err NoMemory) is = absurd is
+pub length_of : (rec : Rec) (length' : ℕ) (r : Result Content ReadRefused) → IsEventOf rec length' r → IsOfLength length' r
+length_of rec length' (Ok event) is = is.1
+length_of rec length' (Err ReadFault) is = absurd is
+length_of rec length' (Err (Damaged kept found)) is = (is.0, is.1)
+length_of rec length' (Err NoMemory) is = absurd is
 
 -- where no record is whole, none stands
 pub none_whole : (bytes : List ℕ) (p : Pointer) (event : Content) → p.at ≡ 0 → PutAt bytes p event → (n : ℕ) × (read_of bytes ≡ Whole 1 n)
 none_whole bytes p event zero at =
     let o = front_outcome bytes p event at zero in
     (_, whole_read bytes o.0 event _ o.1)
+
+pub none_unread : (bytes : List ℕ) (read : Read) → read ≡ read_of bytes → ((kind n : ℕ) → read ≡ Whole kind n → ⊥) → (p : Pointer) → p.at ≡ 0 → (event : Content) → PutAt bytes p event → ⊥
+none_unread bytes read is none p zero event at = none _ _ (is ∙ (none_whole bytes p event zero at).1)
 
 -- what was found in a piece of the bytes from the pointer's place on, which has all that a PUT of its length has, was found at the pointer
 pub put_back : (bytes : List ℕ) (n : ℕ) (p : Pointer) (event : Content) → PutAt (take n (drop p.at bytes)) (front p) event → PutAt bytes p event
@@ -136,43 +149,73 @@ put_back bytes n p event at =
     no_before [] is = refl
     no_before (x ∷ l) is = absurd (omega (arith, is))
 
--- a reader who looked at a piece of the bytes, from the pointer's place on and as long as a PUT of its length may be, found what is at the pointer
-pub found_back : (bytes piece : List ℕ) (m : ℕ) (p : Pointer) (r : Result Content ReadRefused) → piece ≡ take m (drop p.at bytes)
-    → ((event : Content) → PutAt bytes p event → PutAt piece (front p) event) → FoundAt piece (front p) r → FoundAt bytes p r
+-- a reader who looked at a piece of the bytes from the pointer's place on, which has all of a PUT that stands there, found what is at the pointer
+pub found_back : (bytes piece : List ℕ) (m : ℕ) (p : Pointer) (r : Result Content ReadRefused) → piece ≡ take m (drop p.at bytes) → IsSeen bytes p piece → FoundAt piece (front p) r → FoundAt bytes p r
 found_back bytes piece m p (Ok event) is there at = put_back bytes m p event (subst (λ (l : List ℕ). PutAt l (front p) event) is at)
 found_back bytes piece m p (Err ReadFault) is there at = tt
-found_back bytes piece m p (Err (Damaged kept found)) is there at = λ event stands. at event (there event stands)
+found_back bytes piece m p (Err (Damaged kept found)) is there at = (λ event stands. at.0 event (there p.length event stands), length_back found at.1)
+  where
+    length_back : (found : Option ℕ) → LengthAt piece (front p) found → LengthAt bytes p found
+    length_back None none = λ event stands. none event (there (size event) event stands)
+    length_back (Some n) here = (here.0, put_back bytes m (record p { length = n }) here.0 (subst (λ (l : List ℕ). PutAt l (front (record p { length = n })) here.0) is here.1))
 found_back bytes piece m p (Err NoMemory) is there at = tt
 
--- a piece that has room for a PUT of its length has the whole PUT
-pub put_read_piece : (bytes : List ℕ) (p : Pointer) (event : Content) → PutAt bytes p event → PutAt (take (min p.length 1_048_576 + 13) (drop p.at bytes)) (front p) event
-put_read_piece bytes p event at =
+-- a piece that is as long as a PUT has it
+pub seen_long : (bytes piece : List ℕ) (m : ℕ) (p : Pointer) (event : Content) → piece ≡ take m (drop p.at bytes) → p.length + 13 ≤ m → PutAt bytes p event → PutAt piece (front p) event
+seen_long bytes piece m p event is room at =
     let want : ℕ = p.length + 13 in
-    let long : min p.length 1_048_576 + 13 ≡ want = omega (arith, at.long, at.limits) in
-    let here : drop p.at bytes ≡ spelling (Put at.txn event) ++ at.behind = ap (λ (l : List ℕ). drop p.at l) at.split ∙ drop_at at.before (spelling (Put at.txn event) ++ at.behind) p.at at.place in
-    let whole : take want (drop p.at bytes) ≡ spelling (Put at.txn event) = ap (λ (l : List ℕ). take want l) here ∙ take_at (spelling (Put at.txn event)) at.behind want (spelled_length bytes p event at) in
-    subst (λ (n : ℕ). PutAt (take n (drop p.at bytes)) (front p) event) (sym long)
-    (record {
+    let spelt : List ℕ = spelling (Put at.txn event) in
+    let here : drop p.at bytes ≡ spelt ++ at.behind = ap (λ (l : List ℕ). drop p.at l) at.split ∙ drop_at at.before (spelt ++ at.behind) p.at at.place in
+    let first : take want piece ≡ spelt =
+    ap (λ (l : List ℕ). take want l) is ∙ (take_take want m (drop p.at bytes) room ∙ (ap (λ (l : List ℕ). take want l) here ∙ take_at spelt at.behind want (spelled_length bytes p event at))) in
+    record {
       txn = at.txn;
       before = [];
-      behind = [];
-      split = whole ∙ sym (append-nil (spelling (Put at.txn event)));
+      behind = drop want piece;
+      split = sym (take-append-drop want piece) ∙ ap (λ (l : List ℕ). l ++ drop want piece) first;
       place = refl;
       long = at.long;
       fields = at.fields;
       limits = at.limits;
-    })
+    }
+
+-- where a test says that no record is cut, none is
+pub uncut : {P : Type 0} (cut : Bool) → cut ≡ false → (IsTrue cut ↔ P) → P → ⊥
+uncut cut none is at = differ cut none (is.1 at)
+  where
+    differ : (b : Bool) → b ≡ false → b ≡ true → ⊥
+    differ true one two = cc
+    differ false one two = cc
+
+pub uncut_kept : (read kept : List ℕ) → read ≡ kept → (read_of read ≡ Part → ⊥) → read_of kept ≡ Part → ⊥
+uncut_kept read kept same none cut = none (ap read_of same ∙ cut)
+
+-- so one that is as long as the PUT of the greatest event has any
+pub seen_greatest : (bytes piece : List ℕ) (m : ℕ) (p : Pointer) → piece ≡ take m (drop p.at bytes) → 1_048_589 ≤ m → IsSeen bytes p piece
+seen_greatest bytes piece m p is room n event at = seen_long bytes piece m (record p { length = n }) event is (omega (arith, at.long, at.limits, room)) at
+
+-- and one whose front is no cut record has any that stands there
+pub seen_uncut : (bytes piece : List ℕ) (m : ℕ) (p : Pointer) → piece ≡ take m (drop p.at bytes) → (read_of piece ≡ Part → ⊥) → IsSeen bytes p piece
+seen_uncut bytes piece m p is uncut n event at = by_size (cases_lt m (n + 13))
+  where
+    q : Pointer
+    q = record p { length = n }
+
+    spelt : List ℕ
+    spelt = spelling (Put at.txn event)
+
+    here : drop p.at bytes ≡ spelt ++ at.behind
+    here = ap (λ (l : List ℕ). drop p.at l) at.split ∙ drop_at at.before (spelt ++ at.behind) p.at at.place
+
+    by_size : ((m < n + 13) ⊎ (n + 13 ≤ m)) → PutAt piece (front q) event
+    by_size (inl short) =
+        let cut : piece ≡ take m spelt =
+        is ∙ (ap (λ (l : List ℕ). take m l) here ∙ take-append-le m spelt at.behind (omega (arith, short, spelled_length bytes q event at))) in
+        absurd (uncut (ap read_of cut ∙ cut-part (Put at.txn event) m at.fields at.limits (omega (arith, short, at.long))))
+    by_size (inr room) = seen_long bytes piece m q event is room at
 
 pub not_fault : (r : Result Content ReadRefused) (kept : ℕ) (found : Option ℕ) → r ≡ Err (Damaged kept found) → r ≡ Err ReadFault → ⊥
 not_fault r kept found one two = cc
-
--- what a reader of so many bytes filled of a block
-pub piece_read : (size n : ℕ) (into found old : List ℕ) → n ≡ min size (length found) → into ≡ take n found ++ drop n old → take n into ≡ take size found
-piece_read size n into found old is read =
-    let long : length (take n found) ≡ n = omega (arith, is, length-take n found) in
-    ap (λ (l : List ℕ). take n l) read
-    ∙ (take_at (take n found) (drop n old) n long
-    ∙ (ap (λ (k : ℕ). take k found) is ∙ take_min size found))
 
 -- what stands at a pointer stands at the front of what is left from its place on
 pub put_dropped : (bytes : List ℕ) (p : Pointer) (event : Content) → PutAt bytes p event → PutAt (drop p.at bytes) (front p) event
@@ -191,7 +234,7 @@ put_dropped bytes p event at = record {
 pub found_from : (bytes : List ℕ) (p : Pointer) (r : Result Content ReadRefused) → FoundAt (drop p.at bytes) (front p) r → FoundAt bytes p r
 found_from bytes p r found =
     let rest : List ℕ = drop p.at bytes in
-    found_back bytes rest (length rest) p r (sym (take_all (length rest) rest (omega arith))) (put_dropped bytes p) found
+    found_back bytes rest (length rest) p r (sym (take_all (length rest) rest (omega arith))) (λ n event at. put_dropped bytes (record p { length = n }) event at) found
 
 -- nothing stands past the end of the bytes
 pub none_past : (bytes : List ℕ) (p : Pointer) (event : Content) → length bytes < p.at → PutAt bytes p event → ⊥
@@ -212,16 +255,21 @@ piece_from k part file place at piece same there low =
 
 -- a reader found in what is kept what stands at the pointer
 pub found_kept : (k : Kept) (part : ℕ → List ℕ) (place : ℕ) (p : Pointer) (r : Result Content ReadRefused) → IsPieceOf k part → k.file ≡ p.file → k.from + place ≡ p.at → place ≤ length k.bytes
-    → (p.at + (min p.length 1_048_576 + 13) ≤ length (part p.file) → HasThere k place (part p.file) p.at (min p.length 1_048_576 + 13))
-    → FoundAt (drop place k.bytes) (front p) r → FoundAt (part p.file) p r
-found_kept k part place p r piece same there low has found =
-    found_back (part p.file) (drop place k.bytes) (length k.bytes - place) p r (piece_from k part p.file place p.at piece same there low) stands found
-  where
-    stands : (event : Content) → PutAt (part p.file) p event → PutAt (drop place k.bytes) (front p) event
-    stands event at =
-        let long : min p.length 1_048_576 + 13 ≡ p.length + 13 = omega (arith, at.long, at.limits) in
-        let room : p.at + (min p.length 1_048_576 + 13) ≤ length (part p.file) = omega (arith, long, within (part p.file) p event at) in
-        put_there k place (part p.file) p event at (subst (λ (n : ℕ). HasThere k place (part p.file) p.at n) long (has room))
+    → IsSeen (part p.file) p (drop place k.bytes) → FoundAt (drop place k.bytes) (front p) r → FoundAt (part p.file) p r
+found_kept k part place p r piece same there low seen found =
+    found_back (part p.file) (drop place k.bytes) (length k.bytes - place) p r (piece_from k part p.file place p.at piece same there low) seen found
+
+-- what is kept from the pointer's place on has each PUT that stands there: its front is no cut record
+pub kept_uncut : (k : Kept) (part : ℕ → List ℕ) (place : ℕ) (p : Pointer) → IsPieceOf k part → k.file ≡ p.file → k.from + place ≡ p.at → place ≤ length k.bytes
+    → (read_of (drop place k.bytes) ≡ Part → ⊥) → IsSeen (part p.file) p (drop place k.bytes)
+kept_uncut k part place p piece same there low uncut = seen_uncut (part p.file) (drop place k.bytes) (length k.bytes - place) p (piece_from k part p.file place p.at piece same there low) uncut
+
+-- or it has as much of the part as a PUT may have
+pub kept_greatest : (k : Kept) (part : ℕ → List ℕ) (place : ℕ) (p : Pointer)
+    → ((n : ℕ) → n ≤ 1_048_589 → p.at + n ≤ length (part p.file) → HasThere k place (part p.file) p.at n) → IsSeen (part p.file) p (drop place k.bytes)
+kept_greatest k part place p has n event at =
+    let q : Pointer = record p { length = n } in
+    put_there k place (part p.file) q event at (has (n + 13) (omega (arith, at.long, at.limits)) (within (part p.file) q event at))
 
 -- a reader who looked at the bytes that wait, from the pointer's place on, found what waits there
 pub found_waiting : (frame : List ℕ) (gate : ℕ) (w : Writer) (p : Pointer) (r : Result Content ReadRefused) → frame ≡ w.bytes → gate ≡ w.gate

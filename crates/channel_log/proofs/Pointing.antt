@@ -132,4 +132,4 @@ pub each_image : StandsInEachImage
 each_image t birth number frames frame p event image (inl here) is own =
     subst (λ (n : ℕ). IsSomeAnd (image (Log n)) (λ bytes. PutAt bytes p event)) (sym here.0) ((put_stays birth number frames frame p event here.1).0 (image (Log number)) own)
 each_image t birth number frames frame p event image (inr there) is own =
-    still_file (image (Log p.file)) there.0 p event (subst (λ (e : _). Allows e (image (Log p.file))) there.1 (is (Log p.file))) there.2
+    still_file (image (Log p.file)) there.1 p event (subst (λ (e : _). Allows e (image (Log p.file))) there.2 (is (Log p.file))) there.3

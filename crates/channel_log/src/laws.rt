@@ -27,7 +27,7 @@ pub fn a_put_stays()
     ensures { PutStays }
 {}
 
-/// The event of a waiting record will stand where its pointer says, also where a file is begun for its frame.
+/// The event of a record that waits stands at its pointer once the file has its frame.
 pub fn a_pending_put_stands()
     ensures { PendingStands }
 {}

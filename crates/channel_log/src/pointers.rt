@@ -1,12 +1,15 @@
 // The event at a pointer into a log file.
-ghost use Rattle.std.specs.Prelude.{◌≡◌, ◌≤◌, ◌+◌, [], ℕ, List, length, min, Err, IfOk, IsErrOf, Some, IsSome};
+ghost use Rattle.std.specs.Prelude.{◌≡◌, ◌≤◌, ◌↔◌, ◌+◌, ℕ, List, drop, length, min, take, IfErr, IfOk, IsErrOf, IsTrue, Some, IsSome};
 ghost use Rattle.flume_host.specs.Causes.{Rose};
 ghost use Rattle.flume_host.specs.Told.{WhereTold};
 ghost use Rattle.flume_host.specs.declared.names.FileName.TheVariants.{Log};
 ghost use Rattle.record_form.specs.declared.record.Pointer as pointers;
-ghost use Rattle.channel_log.specs.Pointers.{FoundAt, IsDamageOf, IsEventOf};
+ghost use Rattle.record_form.specs.Grammar.{read_of};
+ghost use Rattle.record_form.specs.Record.{IsWithinLimits};
+ghost use Rattle.record_form.specs.declared.record.Read.TheVariants.{Part};
+ghost use Rattle.channel_log.specs.Pointers.{FoundAt, IsEventOf, IsNoDamage, IsOfLength};
 
-use event_core::{Event, NoMemory};
+use event_core::Event;
 use flume_host::{Disk, FileName};
 use record_form::{MAX_PUT_SIZE, Pointer, Read, Rec, read_record, rec_of};
 use std::alloc::Global;
@@ -36,6 +39,7 @@ pub(crate) fn put_length(length: u32) -> usize
 
 // The event of a PUT, if it has this length.
 fn event_of(rec: Rec, length: u32) -> Result<Event, ReadRefused>
+    requires { IsWithinLimits rec }
     ensures { IsEventOf rec length result }
 {
     let found = match rec {
@@ -52,7 +56,7 @@ fn event_of(rec: Rec, length: u32) -> Result<Event, ReadRefused>
 // The event of the PUT that a front of the bytes spells, if it has this length.
 pub(crate) fn event_in(alloc: Global, bytes: &[u8], length: u32) -> Result<Event, ReadRefused>
     ensures found { (p : pointers.Pointer) → p.at ≡ 0 → p.length ≡ length → FoundAt bytes.now p result }
-    ensures damage { IsDamageOf length result }
+    ensures length { IsOfLength length result }
     ensures read { IsErrOf result ReadRefused.ReadFault → ⊥ }
 {
     let Read::Whole { .. } = read_record(bytes) else {
@@ -67,12 +71,40 @@ pub(crate) fn event_in(alloc: Global, bytes: &[u8], length: u32) -> Result<Event
     }
 }
 
-// Room for the PUT of an event of this length, or for the greatest one.
-fn block_for(alloc: Global, size: u32) -> Result<Vec<u8>, NoMemory>
-    ensures { IfOk result (λ block. length block.items ≡ min size 1_048_576 + 13) }
+// How many bytes the PUT of the greatest event has.
+pub(crate) const GREATEST_PUT: usize = 1_048_589;
+
+// Whether a record that the bytes begin ends behind them.
+pub(crate) fn is_cut(bytes: &[u8]) -> bool
+    ensures { IsTrue result ↔ (read_of bytes.now ≡ Part) }
+{
+    matches!(read_record(bytes), Read::Part)
+}
+
+// The bytes of a pointer's file from its offset on, so many or as far as there are.
+fn read_block<D: Disk>(
+    alloc: Global,
+    disk: &mut D,
+    p: &Pointer,
+    size: usize,
+) -> Result<Vec<u8>, ReadRefused>
+    requires there { WhereTold (D.told disk.old) (λ t. IsSome (t.reads (Log p.now.file))) }
+    ensures read { IfOk result (λ block. WhereTold (D.told disk.old) (λ t. (bytes : List ℕ)
+        → t.reads (Log p.now.file) ≡ Some bytes → block.items ≡ take size (drop p.now.at bytes))) }
+    ensures plain { IfErr result (λ refused. IsNoDamage refused) }
+    ensures same { D.told disk.new ≡ D.told disk.old }
+    ensures fault { IsErrOf result ReadRefused.ReadFault → Rose (D.faults disk.old) (D.faults disk.new) }
+    ensures later { D.faults disk.old ≤ D.faults disk.new }
+    ensures well { (IsErrOf result ReadRefused.ReadFault → ⊥) → D.faults disk.new ≡ D.faults disk.old }
 {
     let mut block = Vec::new(alloc);
-    block.resize(put_length(size), 0)?;
+    if block.resize(size, 0).is_err() {
+        return Err(ReadRefused::NoMemory);
+    }
+    let Ok(filled) = disk.read(FileName::Log(p.file), p.at, &mut block) else {
+        return Err(ReadRefused::ReadFault);
+    };
+    block.truncate(filled);
     Ok(block)
 }
 
@@ -81,17 +113,16 @@ pub fn read_put<D: Disk>(alloc: Global, disk: &mut D, p: &Pointer) -> Result<Eve
     requires there { WhereTold (D.told disk.old) (λ t. IsSome (t.reads (Log p.now.file))) }
     ensures found { WhereTold (D.told disk.old) (λ t. (bytes : List ℕ)
         → t.reads (Log p.now.file) ≡ Some bytes → FoundAt bytes p.now result) }
-    ensures damage { IsDamageOf p.now.length result }
+    ensures length { IsOfLength p.now.length result }
     ensures same { D.told disk.new ≡ D.told disk.old }
     ensures fault { IsErrOf result ReadRefused.ReadFault → Rose (D.faults disk.old) (D.faults disk.new) }
     ensures later { D.faults disk.old ≤ D.faults disk.new }
     ensures well { (IsErrOf result ReadRefused.ReadFault → ⊥) → D.faults disk.new ≡ D.faults disk.old }
 {
-    let Ok(mut block) = block_for(alloc, p.length) else {
-        return Err(ReadRefused::NoMemory);
-    };
-    let Ok(filled) = disk.read(FileName::Log(p.file), p.at, &mut block) else {
-        return Err(ReadRefused::ReadFault);
-    };
-    event_in(alloc, &block[..filled], p.length)
+    let block = read_block(alloc, disk, p, put_length(p.length))?;
+    if !is_cut(&block) {
+        return event_in(alloc, &block, p.length);
+    }
+    let whole = read_block(alloc, disk, p, GREATEST_PUT)?;
+    event_in(alloc, &whole, p.length)
 }

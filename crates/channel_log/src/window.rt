@@ -3,18 +3,18 @@ ghost use Rattle.std.specs.Prelude.{◌≡◌, ◌↔◌, ◌<◌, ◌≤◌, �
 ghost use Rattle.flume_host.specs.Causes.{HasCause};
 ghost use Rattle.flume_host.specs.Told.{WhereTold};
 ghost use Rattle.flume_host.specs.declared.names.FileName.TheVariants.{Log};
+ghost use Rattle.channel_log.specs.Pointers.{IsSeen};
 ghost use Rattle.channel_log.specs.Window.{Covers, HasThere, IsBelow, IsPieceOf, most, nothing_kept};
 
+use crate::pointers::{GREATEST_PUT, is_cut, put_length};
 use event_core::NoMemory;
 use flume_host::{Disk, Failed, FileName};
+use record_form::Pointer;
 use std::alloc::Global;
 use std::marker::Model;
 
 // How many bytes are read at least.
 const BLOCK: usize = 65_536;
-
-// How many bytes there is room for: a PUT of the greatest event.
-const ROOM: usize = 1_048_589;
 
 // How many of so many bytes from an offset on stand below an end.
 fn below(n: usize, at: u64, end: u64) -> usize
@@ -68,7 +68,7 @@ impl Window {
         ensures { IfOk result (λ w. w ≡ nothing_kept) }
     {
         let mut block = Vec::new(alloc);
-        if block.resize(ROOM, 0).is_err() {
+        if block.resize(GREATEST_PUT, 0).is_err() {
             return Err(NoMemory);
         }
         Ok(Window {
@@ -135,7 +135,7 @@ impl Window {
 
         // What is kept is of the parts of the files that it was of, this file's up to the end.
         ensures found { IfOk result (λ place. WhereTold (D.told disk.old) (λ t. (part : ℕ → List ℕ) → IsPieceOf self.old part → IsBelow t file end (part file)
-            → IsPieceOf self.new part × (at + want ≤ length (part file) → HasThere self.new place (part file) at want))) }
+            → IsPieceOf self.new part × ((n : ℕ) → n ≤ want → at + n ≤ length (part file) → HasThere self.new place (part file) at n))) }
         ensures within { IfOk result (λ place. place ≤ length self.new.bytes) }
         ensures place { IfOk result (λ place. (self.new.file ≡ file) × (self.new.from + place ≡ at)) }
         ensures lost { OnErr result (self.new.bytes ≡ []) }
@@ -147,6 +147,34 @@ impl Window {
         }
         self.load(disk, file, at, want.max(BLOCK), end)?;
         Ok(0)
+    }
+
+    /// Has all of a PUT that stands at a pointer, of whichever length, and tells where that is in what is kept. Only what stands
+    /// below the end is kept.
+    pub(crate) fn find_put<D: Disk>(
+        &mut self,
+        disk: &mut D,
+        p: &Pointer,
+        end: u64,
+    ) -> Result<usize, Failed>
+        requires there { WhereTold (D.told disk.old) (λ t. IsSome (t.reads (Log p.now.file))) }
+
+        // What is kept is of the parts of the files that it was of, this file's up to the end.
+        ensures found { IfOk result (λ place. WhereTold (D.told disk.old) (λ t. (part : ℕ → List ℕ) → IsPieceOf self.old part
+            → IsBelow t p.now.file end (part p.now.file)
+            → IsPieceOf self.new part × IsSeen (part p.now.file) p.now (drop place self.new.bytes))) }
+        ensures within { IfOk result (λ place. place ≤ length self.new.bytes) }
+        ensures place { IfOk result (λ place. (self.new.file ≡ p.now.file) × (self.new.from + place ≡ p.now.at)) }
+        ensures lost { OnErr result (self.new.bytes ≡ []) }
+        ensures same { D.told disk.new ≡ D.told disk.old }
+        ensures cause { HasCause (D.faults disk.old) (D.faults disk.new) result }
+    {
+        let place = self.find(disk, p.file, p.at, put_length(p.length), end)?;
+        if !is_cut(self.bytes_from(place)) {
+            return Ok(place);
+        }
+        let whole = self.find(disk, p.file, p.at, GREATEST_PUT, end)?;
+        Ok(whole)
     }
 
     /// What is kept, from a place on.

@@ -7,12 +7,12 @@ ghost use Rattle.event_core.specs.Content.{size};
 ghost use Rattle.record_form.specs.Record.{IsWithinLimits, record_length, spelling};
 ghost use Rattle.record_form.specs.declared.record.Rec.{Rec};
 ghost use Rattle.record_form.specs.declared.record.Rec.TheVariants.{End, Put};
-ghost use Rattle.channel_log.specs.Frames.{IsFrame, IsNoEnd, frame_bytes, header};
-ghost use Rattle.channel_log.specs.Pointers.{FoundAt, IsDamageOf, IsWaiting, end_of, in_frame};
+ghost use Rattle.channel_log.specs.Frames.{IsBirth, IsFrame, IsNoEnd, frame_bytes, header};
+ghost use Rattle.channel_log.specs.Pointers.{FoundAt, IsOfLength, IsWaiting, end_of, in_frame};
 ghost use Rattle.channel_log.specs.Window.{IsBelow, IsPieceOf, nothing_kept};
 ghost use Rattle.channel_log.specs.Writer.{Appends, HasRoom, IsBlank, IsPending, IsReady, IsUnused, LacksOrHas, MustRoll};
 
-use crate::pointers::{ReadRefused, event_in, put_length};
+use crate::pointers::{ReadRefused, event_in};
 use crate::window::Window;
 use event_core::{Event, NoMemory};
 use flume_host::{Disk, Failed, FileName};
@@ -110,8 +110,7 @@ const FIRST_GATE: u64 = 16;
 // The room of a frame: its records, END and a commit byte.
 const FRAME_ROOM: usize = 2_097_152;
 
-/// Writes the frames of one log file. Records wait in a buffer of 2,097,152 bytes until a flush. After `begin` it takes no
-/// memory.
+/// Writes the frames of one log file, and reads events at pointers. Records wait in a buffer until a flush.
 #[derive(Drop)]
 pub struct LogWriter {
     number: u32,
@@ -158,8 +157,8 @@ fn buffers(alloc: Global) -> Result<(Vec<u8>, Window), NoMemory>
 }
 
 impl LogWriter {
-    /// Makes a log file of this number and birth, and its writer. The disk must have no log file of this number or of a
-    /// greater one.
+    /// Makes a log file of this number and birth, and its writer. The birth must be 1 or 2, and the disk must have no log file
+    /// of this number.
     pub fn begin<D: Disk>(
         alloc: Global,
         disk: &mut D,
@@ -167,7 +166,8 @@ impl LogWriter {
         birth: u16,
         max_file: u64,
     ) -> Result<LogWriter, LogBeginRefused>
-        requires { IsUnused (D.told disk.old) number }
+        requires birth { IsBirth birth }
+        requires unused { IsUnused (D.told disk.old) number }
         ensures writer { IfOk result (λ w. w ≡ record { file = number; gate = 16; max_file = max_file; started = false; bytes = []; count = 0; kept = nothing_kept }) }
         ensures any_moment { Tells (D.told disk.old) (D.told disk.new) (Changes (Log number) IsBlank 1) }
         ensures begun { OnOk result (IsReady (D.told disk.new) birth number 16 []) }
@@ -264,8 +264,7 @@ impl LogWriter {
             && self.number < LAST_FILE
     }
 
-    /// Begins the next file, of birth 2, in which the waiting records go on. It takes no memory. The disk must have no log file
-    /// of the next number or of a greater one.
+    /// Begins the next file, of birth 2, in which the waiting records go on. The disk must have no log file of the next number.
     pub fn roll<D: Disk>(&mut self, disk: &mut D) -> Result<(), LogRollRefused>
         requires { self.old.file < 4_294_967_295 → IsUnused (D.told disk.old) (self.old.file + 1) }
         ensures spent { IsErrOf result LogRollRefused.Spent ↔ (self.old.file ≡ 4_294_967_295) }
@@ -317,7 +316,7 @@ impl LogWriter {
     fn waiting(&self, alloc: Global, p: &Pointer) -> Result<Event, ReadRefused>
         requires { IsWaiting self.now p.now }
         ensures found { FoundAt self.now.bytes (in_frame self.now p.now) result }
-        ensures damage { IsDamageOf p.now.length result }
+        ensures length { IsOfLength p.now.length result }
         ensures read { IsErrOf result ReadRefused.ReadFault → ⊥ }
     {
         let place = p.at - (self.gate + 1);
@@ -339,7 +338,8 @@ impl LogWriter {
         p: &Pointer,
     ) -> Result<Event, ReadRefused>
         requires there { WhereTold (D.told disk.old) (λ t. IsSome (t.reads (Log p.now.file))) }
-        ensures waiting { IsWaiting self.old p.now → FoundAt self.old.bytes (in_frame self.old p.now) result }
+        ensures waiting { IsWaiting self.old p.now → FoundAt self.old.bytes (in_frame self.old p.now) result
+            × (IsErrOf result ReadRefused.ReadFault → ⊥) }
 
         // `part` is what each file has that no later call changes: what is kept is of that.
         ensures found { WhereTold (D.told disk.old) (λ t. (part : ℕ → List ℕ) → IsPieceOf self.old.kept part
@@ -347,7 +347,7 @@ impl LogWriter {
             → (IsWaiting self.old p.now → ⊥) → FoundAt (part p.now.file) p.now result) }
         ensures kept { WhereTold (D.told disk.old) (λ t. (part : ℕ → List ℕ) → IsPieceOf self.old.kept part
             → IsBelow t p.now.file (end_of self.old p.now.file) (part p.now.file) → IsPieceOf self.new.kept part) }
-        ensures damage { IsDamageOf p.now.length result }
+        ensures length { IsOfLength p.now.length result }
         ensures writer { self.new ≡ record self.old { kept = self.new.kept } }
         ensures same { D.told disk.new ≡ D.told disk.old }
         ensures fault { IsErrOf result ReadRefused.ReadFault → Rose (D.faults disk.old) (D.faults disk.new) }
@@ -358,10 +358,7 @@ impl LogWriter {
             return self.waiting(alloc, p);
         }
         let end = self.end_for(p.file);
-        let Ok(place) = self
-            .window
-            .find(disk, p.file, p.at, put_length(p.length), end)
-        else {
+        let Ok(place) = self.window.find_put(disk, p, end) else {
             return Err(ReadRefused::ReadFault);
         };
         event_in(alloc, self.window.bytes_from(place), p.length)

@@ -94,6 +94,18 @@ const ROWS: &[Row] = &[
     },
     Row {
         at: 17,
+        length: 8,
+        body: None,
+        found: Some(9),
+    },
+    Row {
+        at: 17,
+        length: 0,
+        body: None,
+        found: Some(9),
+    },
+    Row {
+        at: 17,
         length: 10,
         body: None,
         found: Some(9),

@@ -1,21 +1,19 @@
-use Rattle.std.proofs.Common.{◌≡◌, ◌+◌, ◌∙◌, List, ℕ, arith, drop, length, min, refl, subst, sym, take, ap}
-use Rattle.std.proofs.lemmas.List.{length-drop, with_items_is}
-use Rattle.flume_host.proofs.Telling.{some_same}
-use Rattle.channel_log.specs.Pointers.{PutAt}
-use Rattle.channel_log.proofs.Pointed.{found_back, front, piece_read, put_read_piece}
+use Rattle.std.proofs.Common.{◌∙◌, arith, refl, sym}
+use Rattle.channel_log.proofs.Pointed.{found_back, front, seen_greatest, seen_uncut, uncut, uncut_kept}
 use Rattle.channel_log.proofs.pointers.read_put.Goals as goal
+
+pub returns-then-not-is_cut-clause-found : goal.returns-then-not-is_cut-clause-found
+returns-then-not-is_cut-clause-found g c = λ t is bytes has.
+    let p = c.args.p.now in
+    let there = c.deref-then-not-is_cut.ensures.value ∙ c.in_ok-block.ensures.read t is bytes has in
+    found_back bytes c.deref-then-not-is_cut.result.now c.put_length.result p c.event_in.result there
+    (seen_uncut bytes c.deref-then-not-is_cut.result.now c.put_length.result p there (uncut_kept c.deref.result.now _ (c.deref.ensures.value ∙ sym c.deref-then-not-is_cut.ensures.value) (uncut c.is_cut.result c.if-not-is_cut.true c.is_cut.ensures)))
+    (c.event_in.ensures.found (front p) refl refl)
 
 pub returns-clause-found : goal.returns-clause-found
 returns-clause-found g c = λ t is bytes has.
     let p = c.args.p.now in
-    let r = c.in-Ok-read.ensures.bytes t is in
-    let size : ℕ = min p.length 1_048_576 + 13 in
-    let same : r.0 ≡ bytes = some_same r.0 bytes (sym r.1 ∙ has) in
-    let room : length c.deref_mut.result.now ≡ size = ap (λ (l : List ℕ). length l) c.deref_mut.ensures.value ∙ c.in-Ok.ensures in
-    let n : c.in-Ok-read.filled ≡ min size (length (drop p.at r.0)) = omega (arith, r.2, room, length-drop p.at r.0) in
-    let piece = piece_read size c.in-Ok-read.filled c.read.new.into (drop p.at r.0) c.deref_mut.result.now n r.3 in
-    let into : c.deref.result.now ≡ c.read.new.into = c.deref.ensures.value ∙ with_items_is c.in-Ok.block c.read.new.into (omega (arith, room)) in
-    let there = ap (λ (l : List ℕ). take c.in-Ok-read.filled l) into ∙ (piece ∙ ap (λ (b : List ℕ). take size (drop p.at b)) same) in
-    found_back bytes (take c.in-Ok-read.filled c.deref.result.now) size p c.event_in.result there
-    (λ event at. subst (λ (l : List ℕ). PutAt l (front p) event) (sym there) (put_read_piece bytes p event at))
-    (c.event_in.ensures.found (front p) refl refl)
+    let there = c.deref-2.ensures.value ∙ c.in_ok-whole.ensures.read t (c.in_ok-block.ensures.same ∙ is) bytes has in
+    found_back bytes c.deref-2.result.now 1_048_589 p c.event_in-2.result there
+    (seen_greatest bytes c.deref-2.result.now 1_048_589 p there (omega arith))
+    (c.event_in-2.ensures.found (front p) refl refl)

@@ -15,8 +15,8 @@ returns-in-Err-read_folder-clause-settled g c =
     let was = g.D.Disk.told c.args.disk.now in
     inr (refused_from was (g.D.Disk.told c.read_folder.new.disk) (has_settled was (g.D.Disk.told c.settle.new.self) (g.D.Disk.told c.read_folder.new.disk) c.in-Ok.ensures.done c.in-Err-read_folder.ensures.same))
 
-pub begin-requires : goal.begin-requires
-begin-requires g c =
+pub begin-requires-clause-unused : goal.begin-requires-clause-unused
+begin-requires-clause-unused g c =
     let was = g.D.Disk.told c.args.disk.now in
     let read = g.D.Disk.told c.read_folder.new.disk in
     is_unused was read c.in-Ok-read_folder.found.1 (has_settled was (g.D.Disk.told c.settle.new.self) read c.in-Ok.ensures.done c.in-Ok-read_folder.ensures.same) (rw (← c.in-Ok-read_folder.ensures.same) at c.in-Ok-read_folder.ensures.next)
