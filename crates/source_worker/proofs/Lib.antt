@@ -1,0 +1,2 @@
+mod Mended
+mod Works

@@ -1,0 +1,14 @@
+//! The worker of a netcat listener: it accepts one link after the other and serves the lines of each until it is told to stop,
+//! and mends its channels after each session.
+#![tactic(auto)]
+
+mod answers;
+mod begin;
+mod listens;
+mod mending;
+mod round;
+mod service;
+mod worker;
+mod working;
+
+pub use worker::ListenWorker;
