@@ -2,4 +2,6 @@ pub mod Moving
 pub mod Homing
 pub mod Tracking
 pub mod Telling
+pub mod Staying
+pub mod Listened
 mod Closing

@@ -50,14 +50,16 @@ matches_home home q n only took = record {
   within = took.seen.0;
 }
 
-prefix_short : (a b : List Step) → IsPrefix a b → length a ≤ length b
+-- a front is no longer than the whole
+pub prefix_short : (a b : List Step) → IsPrefix a b → length a ≤ length b
 prefix_short a b p = omega (arith, length-append a p.0, ap length p.1)
 
 -- the track before some calls
 abbrev pub back : Known → Track → Track
 back p t = record t { own = owned p.view }
 
-matches_back : (p q : Known) (t : Track) → Later p q → Matches q t → Matches p (back p t)
+-- a pass before some calls is where the track before them is
+pub matches_back : (p q : Known) (t : Track) → Later p q → Matches q t → Matches p (back p t)
 matches_back p q t later m = record { numbers = sym later.numbers ∙ m.numbers; start = sym later.base ∙ m.start; own = refl; within = prefix_then p.view.seen q.view.seen t.whole later.begins m.within }
 
 pub behind_self : (ts : List Track) → Zips IsBehind ts ts
@@ -73,7 +75,7 @@ behind_then (u ∷ us) (t ∷ ts) (w ∷ ws) f g = (f.0 ∙ ap (λ (x : Track). 
 
 module _ {F : Type 0} (pass : F → Known) (saw : F → List Own → State → Type 0) (kept : F → F → Type 0) (face : IsFace pass saw kept) where
   -- what a pass had seen stood in the whole history
-  stood : (q : F) (t : Track) → Matches (pass q) t → (own : List Own) (s : State) → saw q own s → Stood t own s
+  pub stood : (q : F) (t : Track) → Matches (pass q) t → (own : List Own) (s : State) → saw q own s → Stood t own s
   stood q t m own s seen =
       let told = face.saws q own s seen in (
         (pass q).view.seen,
@@ -107,7 +109,8 @@ module _ {F : Type 0} (pass : F → Known) (saw : F → List Own → State → T
     pub behind : Zips IsBehind us ts
     pub holds : P us
 
-  before_none : (ps : List F) (ts : List Track) (P : List Track → Type 0) → AllMatch ps ts → P ts → Before ps ts P
+  -- there was no call
+  pub before_none : (ps : List F) (ts : List Track) (P : List Track → Type 0) → AllMatch ps ts → P ts → Before ps ts P
   before_none ps ts P m holds = record { us = ts; all = m; behind = behind_self ts; holds = holds }
 
   tries : (events : List Content) (p q : F) (t : Track) (reply : Result (Unit {0}) FaceRefused) → Matches (pass q) t → Tries (PortPuts pass saw kept) events p q reply → (u : Track) × Matches (pass p) u × IsBehind u t × Tries Gave events u t reply
@@ -155,54 +158,6 @@ module _ {F : Type 0} (pass : F → Known) (saw : F → List Own → State → T
   judges selector (Err (stop.TooLarge size)) old new verdict ts m (is, same) = before_none old ts (λ us. Judges Gave selector (Err (stop.TooLarge size)) us ts verdict) (subst (λ (l : List F). AllMatch l ts) same m) (is, refl)
   judges selector (Err stop.NoMemory) old new verdict ts m (is, same) = before_none old ts (λ us. Judges Gave selector (Err stop.NoMemory) us ts verdict) (subst (λ (l : List F). AllMatch l ts) same m) (is, refl)
 
-  -- what never changes of the ports
-
-  abbrev pub AllLater : List F → List F → Type 0
-  AllLater ps qs = Zips (λ p q. Later (pass p) (pass q)) ps qs
-
-  all_later_self : (ps : List F) → AllLater ps ps
-  all_later_self [] = tt
-  all_later_self (p ∷ ps) = (later_none (pass p), all_later_self ps)
-
-  all_later_same : (ps qs : List F) → qs ≡ ps → AllLater ps qs
-  all_later_same ps qs same = subst (λ (l : List F). AllLater ps l) (sym same) (all_later_self ps)
-
-  all_later_then : (ps qs rs : List F) → AllLater ps qs → AllLater qs rs → AllLater ps rs
-  all_later_then [] [] rs f g = g
-  all_later_then [] (q ∷ qs) rs f g = absurd f
-  all_later_then (p ∷ ps) [] rs f g = absurd f
-  all_later_then (p ∷ ps) (q ∷ qs) [] f g = absurd g
-  all_later_then (p ∷ ps) (q ∷ qs) (r ∷ rs) f g = (later_then (pass p) (pass q) (pass r) f.0 g.0, all_later_then ps qs rs f.1 g.1)
-
-  tries_later : (events : List Content) (p q : F) (reply : Result (Unit {0}) FaceRefused) → Tries (PortPuts pass saw kept) events p q reply → Later (pass p) (pass q)
-  tries_later [] p q reply (is, same) = subst (λ (x : F). Later (pass p) (pass x)) (sym same) (later_none (pass p))
-  tries_later (event ∷ events) p q reply (result, put, is) = face.laters p q put.same
-
-  requires_later : (events : ℕ → List Content) (place : ℕ) (olds : List F) (refusal : Option Refusal) (news : List F) → Requires (PortPuts pass saw kept) events place olds refusal news → AllLater olds news
-  requires_later events place [] refusal news (is, none) = all_later_same [] news none
-  requires_later events place (old ∷ olds) refusal news (new, others, reply, split, tried, follows) =
-      subst (λ (l : List F). AllLater (old ∷ olds) l) (sym split) (tries_later (events place) old new reply tried, follow (λ more. requires_later events (suc place) olds refusal others more) reply follows)
-    where
-      follow : (Requires (PortPuts pass saw kept) events (suc place) olds refusal others → AllLater olds others) → (reply : Result (Unit {0}) FaceRefused) → Follows (PortPuts pass saw kept) reply place refusal olds others (Requires (PortPuts pass saw kept) events (suc place) olds refusal others) → AllLater olds others
-      follow go (Ok done) more = go more
-      follow go (Err cause) (is, same) = all_later_same olds others same
-
-  offers_later : (events : ℕ → List Content) (place : ℕ) (olds news : List F) → Offers (PortPuts pass saw kept) events place olds news → AllLater olds news
-  offers_later events place [] news none = all_later_same [] news none
-  offers_later events place (old ∷ olds) news (new, others, reply, split, tried, follows) =
-      subst (λ (l : List F). AllLater (old ∷ olds) l) (sym split) (tries_later (events place) old new reply tried, offers_later events (suc place) olds others follows)
-
-  ends_later : (refusal : Option Refusal) (optional : ℕ → List Content) (old new : List F) → Ends (PortPuts pass saw kept) refusal optional old new → AllLater old new
-  ends_later None optional old new offered = offers_later optional 0 old new offered
-  ends_later (Some refusal) optional old new same = all_later_same old new same
-
-  judges_later : (selector : Selector) (made : Result (List Content) Stopped) (old new : List F) (verdict : Verdict) → Judges (PortPuts pass saw kept) selector made old new verdict → AllLater old new
-  judges_later selector (Ok events) old new verdict (inl (refusal, (between, first, last), is)) =
-      all_later_then old between new (requires_later (events_for (required selector) events) 0 old refusal between first) (ends_later refusal (events_for (optional selector) events) between new last)
-  judges_later selector (Ok events) old new verdict (inr (is, same)) = all_later_same old new same
-  judges_later selector (Err (stop.TooLarge size)) old new verdict (is, same) = all_later_same old new same
-  judges_later selector (Err stop.NoMemory) old new verdict (is, same) = all_later_same old new same
-
   module _ {B : Type 0} (Means : Meaning B) (selector : Selector) (host : HostNames) (moment : ℕ) where
     -- a batch that went through ports is in their tracks
     pub accepts : (a b : Route F B) (batch : List Content) (verdict : Verdict) (ts : List Track) → AllMatch b.ports ts → Accepts (PortPuts pass saw kept) selector Means moment host a batch verdict b
@@ -210,10 +165,6 @@ module _ {F : Type 0} (pass : F → Known) (saw : F → List Own → State → T
     accepts a b batch verdict ts m (made, passed, judged) =
         let j = judges selector made a.ports b.ports verdict ts m judged in
         record { us = j.us; all = j.all; behind = j.behind; holds = (made, passed, j.holds) }
-
-    -- the ports are the same after it
-    pub accepts_later : (a b : Route F B) (batch : List Content) (verdict : Verdict) → Accepts (PortPuts pass saw kept) selector Means moment host a batch verdict b → AllLater a.ports b.ports
-    accepts_later a b batch verdict (made, passed, judged) = judges_later selector made a.ports b.ports verdict judged
 
   module _ {S : Type 0} (sink : Told S) (most : ℕ) (on_disk : F → Type 0) (steady : IsSteady kept on_disk) (D : Type 0) where
     abbrev pub PortTurns : Taking F S → Turn → Taking F S → Type 0

@@ -4,3 +4,4 @@ pub mod Places
 pub mod Closes
 pub mod Told
 pub mod Dealt
+pub mod Listening

@@ -3,6 +3,7 @@ ghost use Rattle.shared_channel.specs.Ports.{Later, Saw};
 ghost use Rattle.sink_worker.specs.Rounds.{told};
 ghost use Rattle.two_channels.specs.Ports.{IsOnDisk, LaterPort, SawIn};
 ghost use Rattle.run_tracks.specs.Dealt.{EveryNumberIsHome};
+ghost use Rattle.run_tracks.specs.Listening.{ListenedHome, ListenedInTracks};
 ghost use Rattle.run_tracks.specs.Told.{BatchIsInTracks, RoundsAreHome, RoundsAreInTrack};
 
 use channel_face::Channel;
@@ -40,4 +41,21 @@ pub fn batch_is_in_tracks<'a, R: Wait + 'a, A: Channel + 'a, B: Channel + 'a, I:
 /// at home have each number: all calls are theirs, and a close sees no other.
 pub fn every_number_is_home()
     ensures { EveryNumberIsHome }
+{}
+
+/// What a listener's worker did through its ports is, read backwards from the end, what it called in their whole histories:
+/// where the ports stand at the tracks after its rounds, there are tracks before them that differ in their own calls alone, and
+/// the rounds are from the ones to the others. So, once new passes are at home, it is all calls with their numbers in the whole
+/// histories of the channels. It is so of ports of channels on a disk, and of ports that may be of either kind.
+pub fn listening_is_in_tracks<'a, R: Wait + 'a, A: Channel + 'a, B: Channel + 'a, I: Interceptor>()
+    ensures port { ListenedInTracks ⟦<Port<'a, R, A> as Carries>⟧.pass
+        (λ p. Saw A.stands p.pass.view) (λ p q. Later p.pass q.pass)
+        (λ p. Unit {0}) I.intercepts }
+    ensures port_home { ListenedHome ⟦<Port<'a, R, A> as Carries>⟧.pass
+        (λ p. Saw A.stands p.pass.view) (λ p q. Later p.pass q.pass)
+        (λ p. Unit {0}) I.intercepts }
+    ensures either { ListenedInTracks ⟦<EitherPort<'a, R, A, B> as Carries>⟧.pass
+        (SawIn A.stands B.stands) LaterPort IsOnDisk I.intercepts }
+    ensures either_home { ListenedHome ⟦<EitherPort<'a, R, A, B> as Carries>⟧.pass
+        (SawIn A.stands B.stands) LaterPort IsOnDisk I.intercepts }
 {}

@@ -8,5 +8,7 @@ mod open;
 
 pub use bring::{bring_home, end_ports};
 pub use close::close_all;
-pub use laws::{batch_is_in_tracks, every_number_is_home, rounds_are_in_track};
+pub use laws::{
+    batch_is_in_tracks, every_number_is_home, listening_is_in_tracks, rounds_are_in_track,
+};
 pub use open::open_ports;
