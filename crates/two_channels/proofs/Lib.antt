@@ -1,1 +1,2 @@
 mod Memory
+mod Passes

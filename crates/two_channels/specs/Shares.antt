@@ -1,9 +1,11 @@
 -- A shared channel of either kind.
-use Rattle.std.specs.Prelude.{Bool, List, []}
+use Rattle.std.specs.Prelude.{◌≡◌, ℕ, Bool, false, List, [], Result, Ok}
 use Rattle.atomic_table.specs.Seated.{TableId}
 use Rattle.channel_face.specs.History.{Opening, Step}
+use Rattle.channel_face.specs.declared.replies.OpenCause.{OpenCause}
 use Rattle.shared_channel.specs.Calls.{Left, Looks}
 use Rattle.shared_channel.specs.Counting.{StandsAgreeing}
+use Rattle.shared_channel.specs.Durables.{Mends}
 use Rattle.shared_channel.specs.Passes.{Known}
 use Rattle.turn_passes.specs.Views.{View}
 use Rattle.two_channels.specs.Ports.{IsOnDisk}
@@ -48,3 +50,8 @@ module _ {A B : Type 0} where
   abbrev pub LooksIn : (A → Opening → List Step → Type 0) → (A → Bool) → (B → Opening → List Step → Type 0) → (B → Bool) → EitherShared A B → View → View → Type 0
   LooksIn disk tells memory tells' (share.Disk s) v w = Looks disk tells v w
   LooksIn disk tells memory tells' (share.Memory s) v w = Looks memory tells' v w
+
+  -- it was mended, or it is not on a disk, and nothing was called
+  abbrev pub MendsIn : (A → Opening → List Step → Type 0) → (A → Bool) → (A → ℕ) → EitherShared A B → View → ℕ → Result Bool OpenCause → View → Type 0
+  MendsIn disk tells moment (share.Disk s) v by result w = Mends disk tells moment v by result w
+  MendsIn disk tells moment (share.Memory s) v by result w = (w ≡ v) × (result ≡ Ok false)

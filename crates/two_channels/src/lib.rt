@@ -3,6 +3,7 @@
 #![tactic(auto)]
 
 mod keeping;
+mod mending;
 mod port;
 mod putting;
 mod shared;
