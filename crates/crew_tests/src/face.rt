@@ -1,5 +1,5 @@
 // A face over a channel in memory, which needs no mend. It tells nothing of its calls.
-use channel_face::{FaceRefused, MendFace, OpenCause, OwnFace, TakeFace, TakeTxn};
+use channel_face::{Channel, FaceRefused, MendFace, OpenCause, OwnFace, TakeFace, TakeTxn};
 use event_core::Event;
 use flume_host::Steps;
 use memory_channel::MemoryChannel;
@@ -60,6 +60,6 @@ impl MendFace for SilentFace {
     }
 
     fn size(&mut self) -> u64 {
-        0
+        self.face.channel.size()
     }
 }

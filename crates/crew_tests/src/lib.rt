@@ -1,10 +1,13 @@
 //! Tests of workers: that those in a row run beside each other, that a pause is made in pieces and ends at the stop, that a
 //! look at the stop finds it once it is set, that a drained input sets it, which runs a sink's worker makes until then, and
-//! which links a listener's worker serves.
+//! which links a listener's worker serves. Tests of the end of a run: that a sink empties its channel, what of a report is
+//! written, and the exit status.
 #![tactic(auto)]
 
 #[cfg(test)]
 mod drains;
+#[cfg(test)]
+mod ends;
 #[cfg(test)]
 mod face;
 #[cfg(test)]

@@ -13,9 +13,9 @@ use std::test::Fail;
 
 // Refuses its first deliveries, and counts the events of the others.
 #[derive(Drop)]
-struct CountingSink {
-    refuses: u64,
-    delivered: usize,
+pub struct CountingSink {
+    pub refuses: u64,
+    pub delivered: usize,
     faults: u64,
 }
 
@@ -59,7 +59,7 @@ fn channel_of_three(alloc: Global) -> Result<SilentFace, Fail> {
 }
 
 // Its worker, which takes two events at a time. Each moment of its clock is the number of the run.
-fn worker_of(
+pub fn worker_of(
     alloc: Global,
     refuses: u64,
 ) -> Result<SinkWorker<SilentFace, CountingSink, MemClock>, Fail> {

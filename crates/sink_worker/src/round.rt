@@ -11,8 +11,8 @@ use plug_in::EventSink;
 use sink_runner::{Turn, drain_turn};
 
 impl<F: TakeFace + MendFace, S: EventSink, C: Clock> SinkWorker<F, S, C> {
-    // One run of the sink at the next moment.
-    fn run_once(&mut self) -> Turn
+    /// One run of the sink at the next moment.
+    pub fn run_once(&mut self) -> Turn
         ensures turns { TurnsOnce
             (face ⟦<F as TakeFace>⟧.own ⟦<F as TakeFace>⟧.saw
             ⟦<F as TakeFace>⟧.seen ⟦<F as TakeFace>⟧.kept)
