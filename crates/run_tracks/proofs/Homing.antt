@@ -89,7 +89,7 @@ each_took_then a b c f g = record {
 pub took_at_later : (a b : List Known) (place : ℕ) (q : Known) → EachTook a b → TookAt a place q → TookAt b place q
 took_at_later a b place q f t = (let e = f.as_many in let l = t.0 in omega arith, λ d. took_then (get_or b place d) (get_or a place d) q (f.each place d t.0) (t.1 d))
 
-has_one : (n : ℕ) → has (n ∷ []) n ≡ true
+pub has_one : (n : ℕ) → has (n ∷ []) n ≡ true
 has_one n = search rules
 
 pub has_numbers : (home q : Known) (n : ℕ) → Took home q → q.view.numbers ≡ n ∷ [] → has home.view.numbers n ≡ true

@@ -5,3 +5,6 @@ pub mod Telling
 pub mod Staying
 pub mod Listened
 mod Closing
+pub mod Emptying
+mod Stopping
+mod Finding

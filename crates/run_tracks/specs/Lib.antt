@@ -5,3 +5,6 @@ pub mod Closes
 pub mod Told
 pub mod Dealt
 pub mod Listening
+pub mod Drained
+pub mod Found
+pub mod Stops

@@ -4,6 +4,8 @@ ghost use Rattle.sink_worker.specs.Rounds.{told};
 ghost use Rattle.two_channels.specs.Ports.{IsOnDisk, LaterPort, SawIn};
 ghost use Rattle.run_tracks.specs.Dealt.{EveryNumberIsHome};
 ghost use Rattle.run_tracks.specs.Listening.{ListenedHome, ListenedInTracks};
+ghost use Rattle.run_tracks.specs.Drained.{DrainIsInTrack, EmptiedLeavesNone};
+ghost use Rattle.run_tracks.specs.Found.{EmptyFoundNone};
 ghost use Rattle.run_tracks.specs.Told.{BatchIsInTracks, RoundsAreHome, RoundsAreInTrack};
 
 use channel_face::Channel;
@@ -26,6 +28,30 @@ pub fn rounds_are_in_track<'a, R: Wait + 'a, A: Channel + 'a, B: Channel + 'a, S
         (SawIn A.stands B.stands) LaterPort IsOnDisk (told S.delivers S.faults) }
     ensures either_home { RoundsAreHome ⟦<EitherPort<'a, R, A, B> as Carries>⟧.pass
         (SawIn A.stands B.stands) LaterPort IsOnDisk (told S.delivers S.faults) }
+{}
+
+/// What a sink did to empty its channel through a pass that has further numbers is, in each track at which the pass is, all calls
+/// with that number since the track before: its runs, in order and no others. Where it ended with an empty channel, no event is
+/// left in the state that the pass has seen. It is so of a port of a channel on a disk, and of one that may be of either kind.
+pub fn drain_is_in_track<'a, R: Wait + 'a, A: Channel + 'a, B: Channel + 'a, S: EventSink>()
+    ensures port { DrainIsInTrack ⟦<Port<'a, R, A> as Carries>⟧.pass
+        (λ p. Saw A.stands p.pass.view) (λ p q. Later p.pass q.pass) (told S.delivers S.faults) }
+    ensures port_none { EmptiedLeavesNone ⟦<Port<'a, R, A> as Carries>⟧.pass
+        (λ p. Saw A.stands p.pass.view) (λ p q. Later p.pass q.pass) (told S.delivers S.faults) }
+    ensures either { DrainIsInTrack ⟦<EitherPort<'a, R, A, B> as Carries>⟧.pass
+        (SawIn A.stands B.stands) LaterPort (told S.delivers S.faults) }
+    ensures either_none { EmptiedLeavesNone ⟦<EitherPort<'a, R, A, B> as Carries>⟧.pass
+        (SawIn A.stands B.stands) LaterPort (told S.delivers S.faults) }
+{}
+
+/// Where a sink's run through a pass that has each number found no event, each that was left before it was held by a transaction
+/// that was open, or staged and not settled; where none was held, none was left. It is so of a port of a channel on a disk, and of
+/// one that may be of either kind.
+pub fn empty_run_found_none<'a, R: Wait + 'a, A: Channel + 'a, B: Channel + 'a, S: EventSink>()
+    ensures port { EmptyFoundNone ⟦<Port<'a, R, A> as Carries>⟧.pass
+        (λ p. Saw A.stands p.pass.view) (λ p q. Later p.pass q.pass) (told S.delivers S.faults) }
+    ensures either { EmptyFoundNone ⟦<EitherPort<'a, R, A, B> as Carries>⟧.pass
+        (SawIn A.stands B.stands) LaterPort (told S.delivers S.faults) }
 {}
 
 /// What became of a batch at the ports of its channels is, read backwards from the end, what the worker called in their whole

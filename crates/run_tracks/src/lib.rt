@@ -5,10 +5,13 @@ mod bring;
 mod close;
 mod laws;
 mod open;
+mod stop;
 
 pub use bring::{bring_home, end_ports};
 pub use close::close_all;
 pub use laws::{
-    batch_is_in_tracks, every_number_is_home, listening_is_in_tracks, rounds_are_in_track,
+    batch_is_in_tracks, drain_is_in_track, empty_run_found_none, every_number_is_home,
+    listening_is_in_tracks, rounds_are_in_track,
 };
 pub use open::open_ports;
+pub use stop::{count_all, mend_all};
