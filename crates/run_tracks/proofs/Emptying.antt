@@ -10,14 +10,14 @@ use Rattle.channel_face.specs.History.{Step, opening, state_after}
 use Rattle.channel_face.specs.Machine.{State, after}
 use Rattle.shared_channel.specs.Calls.{state_seen}
 use Rattle.shared_channel.specs.Passes.{Known}
-use Rattle.shared_channel.specs.Ports.{AreUnder, Later, own_calls, own_if, owned}
+use Rattle.shared_channel.specs.Ports.{AreUnder, Later, later_none, later_then, own_calls, own_if, owned}
 use Rattle.shared_channel.proofs.Porting.{own-append}
 use Rattle.sink_runner.specs.declared.turn.Turn.{Turn}
 use Rattle.sink_runner.specs.declared.turn.Turn.TheVariants.{Delivered}
 use Rattle.sink_worker.specs.Rounds.{Taking, Told, TurnsOnce}
 use Rattle.turn_passes.specs.Calls.{calls_by, has, keep}
 use Rattle.turn_passes.proofs.Histories.{has_only}
-use Rattle.run_tracks.specs.Drained.{DrainIsInTrack, EmptiedLeavesNone, Looked, MatchesUnder, called_in}
+use Rattle.run_tracks.specs.Drained.{FaceDrains, DrainIsInTrack, EmptiedLeavesNone, Looked, MatchesUnder, called_in}
 use Rattle.run_tracks.specs.Told.{IsFace, as_face}
 use Rattle.run_tracks.specs.Tracks.{Stood, Track, Turned}
 use Rattle.run_tracks.proofs.Homing.{has_one, prefix_then}
@@ -161,7 +161,7 @@ module _ {F : Type 0} (pass : F → Known) (saw : F → List Own → State → T
     ended (Stopped turn) a b t m (undelivered, run) = let got = ran_on_events a b turn t m run in (got.0, (undelivered, got.1))
 
   pub drain_in_track : {S : Type 0} (sink : Told S) → DrainIsInTrack pass saw kept sink
-  drain_in_track sink batch end old new t m did =
+  drain_in_track sink batch end old new did t m =
       let last = ended sink batch end did.between new t m did.ends in
       let u = before (pass did.between.from) t in
       let first = delivered sink batch did.counts old did.between u last.0 did.deliveries in
@@ -177,3 +177,22 @@ module _ {F : Type 0} (pass : F → Known) (saw : F → List Own → State → T
       none_of : (items : List (ℕ × Content)) → 0 ≡ length items → items ≡ []
       none_of [] none = refl
       none_of (x ∷ items) none = absurd (cc)
+
+  -- the pass is the same after it
+
+  looked_later : {S : Type 0} (a b : Taking F S) (size : ℕ) → LooksOnce (as_face pass saw kept) a size b → Later (pass a.from) (pass b.from)
+  looked_later a b size once = face.laters a.from b.from once.same
+
+  ran_later : {S : Type 0} (sink : Told S) (batch : ℕ) (a b : Taking F S) (turn : Turn) → RunsOnEvents (TurnsOnce (as_face pass saw kept) sink batch) (LooksOnce (as_face pass saw kept)) a turn b → Later (pass a.from) (pass b.from)
+  ran_later sink batch a b turn (size, between, some, look, run) = later_then (pass a.from) (pass between.from) (pass b.from) (looked_later a between size look) (face.laters between.from b.from run.same)
+
+  delivered_later : {S : Type 0} (sink : Told S) (batch : ℕ) (counts : List ℕ) (a b : Taking F S) → Deliveries (TurnsOnce (as_face pass saw kept) sink batch) (LooksOnce (as_face pass saw kept)) counts a b → Later (pass a.from) (pass b.from)
+  delivered_later {S} sink batch [] a b none = subst (λ (x : Taking F S). Later (pass a.from) (pass x.from)) (sym none) (later_none (pass a.from))
+  delivered_later sink batch (count ∷ counts) a b (next, one, others) = later_then (pass a.from) (pass next.from) (pass b.from) (ran_later sink batch a next (Delivered count) one) (delivered_later sink batch counts next b others)
+
+  ended_later : {S : Type 0} (sink : Told S) (batch : ℕ) (end : ChannelDrain) (a b : Taking F S) → EndsDrain (TurnsOnce (as_face pass saw kept) sink batch) (LooksOnce (as_face pass saw kept)) end a b → Later (pass a.from) (pass b.from)
+  ended_later sink batch Emptied a b look = looked_later a b 0 look
+  ended_later sink batch (Stopped turn) a b (undelivered, run) = ran_later sink batch a b turn run
+
+  pub drain_later : {S : Type 0} (sink : Told S) (batch : ℕ) (end : ChannelDrain) (old new : Taking F S) → FaceDrains pass saw kept sink batch end old new → Later (pass old.from) (pass new.from)
+  drain_later sink batch end old new did = later_then (pass old.from) (pass did.between.from) (pass new.from) (delivered_later sink batch did.counts old did.between did.deliveries) (ended_later sink batch end did.between new did.ends)
