@@ -149,15 +149,15 @@ pub record SinkLinks (D L : Type 0) : Type 0 where
 module _ {D L : Type 0} (links : D → Option LinksTold) (troubles : D → ℕ)
     (told : L → Option LinkTold) (faults : L → ℕ) where
   -- the dialer took this link back, and no other is open
-  abbrev pub Back : D → L → SinkLinks D L → Type 0
-  Back dialer link new =
+  abbrev pub WentBack : D → L → SinkLinks D L → Type 0
+  WentBack dialer link new =
       (new.opened ≡ None) × (links new.dialer ≡ kept_in (links dialer) (told link))
       × (troubles new.dialer ≡ troubles dialer)
 
   -- the open link went back
-  abbrev pub Shuts : D → Option (Open L) → SinkLinks D L → Type 0
-  Shuts dialer None new = new ≡ record { dialer = dialer; opened = None }
-  Shuts dialer (Some open_link) new = Back dialer open_link.link new
+  abbrev pub OpenWentBack : D → Option (Open L) → SinkLinks D L → Type 0
+  OpenWentBack dialer None new = new ≡ record { dialer = dialer; opened = None }
+  OpenWentBack dialer (Some open_link) new = WentBack dialer open_link.link new
 
   -- the link on which a request goes: the open one, or a new one
   abbrev pub Connects : D → Option (Open L) → L → D → Type 0
@@ -174,10 +174,10 @@ module _ {D L : Type 0} (links : D → Option LinksTold) (troubles : D → ℕ)
     pub rose : Rose (troubles old.dialer) (troubles new.dialer)
 
   -- the link stays open, or goes back
-  abbrev pub Leaves : Bool → ℕ → D → L → SinkLinks D L → Type 0
-  Leaves true serial dialer link new =
+  abbrev pub StaysOrWentBack : Bool → ℕ → D → L → SinkLinks D L → Type 0
+  StaysOrWentBack true serial dialer link new =
       new ≡ record { dialer = dialer; opened = Some (record { link = link; serial = serial }) }
-  Leaves false serial dialer link new = Back dialer link new
+  StaysOrWentBack false serial dialer link new = WentBack dialer link new
 
   -- one request, under the serial behind the last one of its link
   pub record Requests (old : SinkLinks D L) (events : List Content)
@@ -190,7 +190,7 @@ module _ {D L : Type 0} (links : D → Option LinksTold) (troubles : D → ℕ)
     pub exchanged : (let serial = last_of old.opened + 1 in Exchanged (request_pack serial events)
         (serial == 1) serial answer (told link) (told now))
     pub fault : answer ≡ Err LinkFault → Rose (faults link) (faults now)
-    pub leaves : (let serial = last_of old.opened + 1 in Leaves (stays answer serial) serial dialer
+    pub leaves : (let serial = last_of old.opened + 1 in StaysOrWentBack (stays answer serial) serial dialer
         now new)
     pub says : result ≡ said answer
 
@@ -201,4 +201,4 @@ module _ {D L : Type 0} (links : D → Option LinksTold) (troubles : D → ℕ)
   Delivers old events result new =
       Requests old events result new
       ⊎ ((result ≡ Err LinkFault) × NoLink old new)
-      ⊎ ((result ≡ Err NoMemory) × Shuts old.dialer old.opened new)
+      ⊎ ((result ≡ Err NoMemory) × OpenWentBack old.dialer old.opened new)

@@ -4,13 +4,13 @@ ghost use Rattle.flume_host.specs.Causes.{Rose};
 ghost use Rattle.avro_hop.specs.Calls.{status_index};
 ghost use Rattle.avro_ends.specs.Deliveries.{Answered, Exchanged, Judges, request_pack};
 
-use crate::attempt::{Attempt, Decision};
 use crate::hear::hear;
 use crate::refused::DeliverRefused;
 use avro_frame::{MAX_BYTES, begin_pack, end_pack};
 use avro_hop::{Status, add_asking, read_reply};
 use event_core::{Batch, NoMemory};
 use flume_host::{Link, write_all};
+use hop_core::{Attempt, Decision};
 use std::alloc::Global;
 
 // The pack of a request, with no copy of its payload. One that fits no pack is want of memory.

@@ -3,7 +3,7 @@ ghost use Rattle.std.specs.Prelude.{◌≡◌, ◌+◌, ◌≤◌, ◌<◌, Some
 ghost use Rattle.flume_host.specs.Causes.{Rose};
 ghost use Rattle.flume_host.specs.Listens.{IsOwed, IsSettled, gave_one, kept_in, refused_link};
 ghost use Rattle.plug_in.specs.Sinks.{IsRefused};
-ghost use Rattle.avro_ends.specs.Deliveries.{Back, Connects, Delivers, HasBack, IsOut, Leaves, SinkLinks, Shuts, Stands, Stands-prop, last_of, said, sink_answer, stays};
+ghost use Rattle.avro_ends.specs.Deliveries.{WentBack, Connects, Delivers, HasBack, IsOut, StaysOrWentBack, SinkLinks, OpenWentBack, Stands, Stands-prop, last_of, said, sink_answer, stays};
 
 use crate::dials::Dials;
 use crate::exchange::{exchange, request_of};
@@ -28,7 +28,7 @@ fn last_of<L>(opened: &Option<Open<L>>) -> u32
 #[tactic(auto, using(crate::proofs::Delivering::settled_back, crate::proofs::Delivering::settled_refused, crate::proofs::Delivering::dialled_out))]
 fn shut<L: Link + Drop, D: Dials<L>>(dialer: &mut D, opened: &mut Option<Open<L>>)
     requires { Stands (D.told dialer.old) opened.old }
-    ensures shuts { Shuts D.told D.faults L.told L.faults dialer.old opened.old
+    ensures shuts { OpenWentBack D.told D.faults L.told L.faults dialer.old opened.old
         (record { dialer = dialer.new; opened = opened.new }) }
     ensures none { opened.new ≡ None }
     ensures back { HasBack (D.told dialer.old) opened.old → IsSettled (D.told dialer.new) }
@@ -83,7 +83,7 @@ fn leave<L: Link + Drop, D: Dials<L>>(
 )
     requires owed { IsOwed (D.told dialer.old) }
     requires none { opened.old ≡ None }
-    ensures leaves { Leaves D.told D.faults L.told L.faults (stays answer serial) serial dialer.old
+    ensures leaves { StaysOrWentBack D.told D.faults L.told L.faults (stays answer serial) serial dialer.old
         link (record { dialer = dialer.new; opened = opened.new }) }
     ensures stands { Stands (D.told dialer.new) opened.new }
     ensures back { IsOut (D.told dialer.old) → HasBack (D.told dialer.new) opened.new }
@@ -198,7 +198,7 @@ impl<D: Dialer + Drop> AvroSink<D> {
 
     /// Hands the dialer back, which has the open link back.
     pub fn close(self) -> D
-        ensures shuts { Shuts D.told D.faults D.Link.told D.Link.faults self.dialer self.opened
+        ensures shuts { OpenWentBack D.told D.faults D.Link.told D.Link.faults self.dialer self.opened
             (record { dialer = result; opened = None }) }
         ensures back { HasBack (D.told self.dialer) self.opened → IsSettled (D.told result) }
         ensures endpoint { D.endpoint result ≡ D.endpoint self.dialer }
@@ -216,13 +216,15 @@ impl<D: Dialer + Drop> AvroSink<D> {
 
 impl<D: Dialer + Drop> EventSink for AvroSink<D> {
     ghost use Rattle.std.specs.Prelude.{◌≡◌, Result};
-    ghost use Rattle.avro_ends.specs.Deliveries.{Delivers, SinkLinks, sink_answer};
+    ghost use Rattle.avro_ends.specs.Deliveries.{Delivers, HasBack, SinkLinks, sink_answer};
     ghost use Rattle.avro_ends.specs.declared.refused.DeliverRefused.{DeliverRefused};
 
     ghost delivers = { λ s batch moment result t. (answer : Result (Unit {0}) DeliverRefused)
         × (result ≡ sink_answer answer) × Delivers D.told D.faults D.Link.told D.Link.faults
         (record { dialer = s.dialer; opened = s.opened }) batch answer
-        (record { dialer = t.dialer; opened = t.opened }) };
+        (record { dialer = t.dialer; opened = t.opened })
+        × (D.endpoint t.dialer ≡ D.endpoint s.dialer)
+        × (HasBack (D.told s.dialer) s.opened → HasBack (D.told t.dialer) t.opened) };
 
     ghost faults = { λ s. s.faults };
 
