@@ -41,7 +41,8 @@ pub fn drain_channel<R: Wait, F: TakeFace + MendFace, S: EventSink, C: Clock>(
         (face ⟦<F as MendFace>⟧.own ⟦<F as MendFace>⟧.saw
         ⟦<F as MendFace>⟧.seen ⟦<F as MendFace>⟧.kept))
         result (taking C.moments worker.old) (taking C.moments worker.new) }
-    ensures same { (worker.new.channel ≡ worker.old.channel) × (worker.new.batch ≡ worker.old.batch) }
+    ensures same { (worker.new.channel ≡ worker.old.channel)
+        × (worker.new.batch ≡ worker.old.batch) }
 {
     for _ in rt.forever() {
         if worker.port.size() == 0 {

@@ -16,7 +16,8 @@ pub fn write_report<K: Sink>(
     channels: &[(String, Counts)],
     output: &mut K,
 ) -> Result<(), ReportRefused>
-    ensures { IsWritten K.took K.handed K.faults output.old output.new (report_text channels.now) result }
+    ensures { IsWritten K.took K.handed K.faults output.old output.new
+        (report_text channels.now) result }
 {
     let Ok(text) = report(alloc, channels) else {
         return Err(ReportRefused::NoMemory);

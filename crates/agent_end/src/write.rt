@@ -9,7 +9,8 @@ use flume_host::{Failed, Sink};
 /// Writes all of the bytes. In any case a front of them was taken.
 pub fn write_all<K: Sink>(output: &mut K, bytes: &[u8]) -> Result<(), Failed>
     ensures ok { OnOk result (Appends (K.took output.old) (K.took output.new) bytes.now) }
-    ensures front { Fronts (K.took output.old) (K.took output.new) (K.faults output.old) (K.faults output.new) bytes.now }
+    ensures front { Fronts (K.took output.old) (K.took output.new) (K.faults output.old)
+        (K.faults output.new) bytes.now }
     ensures cause { HasCause (K.faults output.old) (K.faults output.new) result }
 {
     let mut at = 0;
