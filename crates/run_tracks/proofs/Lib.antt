@@ -4,6 +4,7 @@ pub mod Tracking
 pub mod Telling
 pub mod Staying
 pub mod Listened
+pub mod Dealing
 mod Closing
 pub mod Emptying
 mod Stopping

@@ -4,6 +4,7 @@ pub mod Places
 pub mod Closes
 pub mod Told
 pub mod Dealt
+pub mod Dealing
 pub mod Listening
 pub mod Drained
 pub mod Found

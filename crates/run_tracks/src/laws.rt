@@ -3,6 +3,7 @@ ghost use Rattle.shared_channel.specs.Ports.{Later, Saw};
 ghost use Rattle.sink_worker.specs.Rounds.{told};
 ghost use Rattle.two_channels.specs.Ports.{IsOnDisk, LaterPort, SawIn};
 ghost use Rattle.run_tracks.specs.Dealt.{EveryNumberIsHome};
+ghost use Rattle.run_tracks.specs.Dealing.{DealingBegins, DealingEnds, DealingGoesOn, DealsOne};
 ghost use Rattle.run_tracks.specs.Listening.{ListenedHome, ListenedInTracks};
 ghost use Rattle.run_tracks.specs.Drained.{DrainIsInTrack, EmptiedLeavesNone};
 ghost use Rattle.run_tracks.specs.Found.{EmptyFoundNone};
@@ -84,4 +85,13 @@ pub fn listening_is_in_tracks<'a, R: Wait + 'a, A: Channel + 'a, B: Channel + 'a
         (SawIn A.stands B.stands) LaterPort IsOnDisk I.intercepts }
     ensures either_home { ListenedHome ⟦<EitherPort<'a, R, A, B> as Carries>⟧.pass
         (SawIn A.stands B.stands) LaterPort IsOnDisk I.intercepts }
+{}
+
+/// Where a channel's first pass stays at home and the others are dealt to workers one by one, each number is with the pass at
+/// home, with a worker, or with a pass that is still to be dealt; and so with one of the first two where none is left.
+pub fn passes_are_dealt()
+    ensures begins { DealingBegins }
+    ensures goes_on { DealingGoesOn }
+    ensures one { DealsOne }
+    ensures ends { DealingEnds }
 {}

@@ -13,7 +13,7 @@ pub use close::close_all;
 pub use drain::{DrainedSink, drain_home};
 pub use laws::{
     batch_is_in_tracks, drain_is_in_track, empty_run_found_none, every_number_is_home,
-    listening_is_in_tracks, rounds_are_in_track,
+    listening_is_in_tracks, passes_are_dealt, rounds_are_in_track,
 };
 pub use open::open_ports;
 pub use stop::{count_all, mend_all};
