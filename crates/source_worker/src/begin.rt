@@ -34,10 +34,14 @@ impl<F: PutFace + Drop, N, C, B: Interceptor> ListenWorker<F, N, C, B> {
     pub(crate) fn begin(&mut self) -> Service<F, B>
         requires { CanListen self.old }
         ensures ports { result.intake.ports ≡ self.old.ports.items }
-        ensures means { (result.intake.selector ≡ self.old.selector) × (result.intake.host ≡ self.old.host) }
-        ensures chain { result.built ≡ true → AreBuilt self.old.plan.items result.intake.chain.links.items }
+        ensures means { (result.intake.selector ≡ self.old.selector)
+            × (result.intake.host ≡ self.old.host) }
+        ensures chain { result.built ≡ true → AreBuilt self.old.plan.items
+            result.intake.chain.links.items }
         ensures due { result.due ≡ false }
-        ensures same { (self.new.channels ≡ self.old.channels) × (self.new.rules ≡ self.old.rules) × (self.new.listener ≡ self.old.listener) × (self.new.clock ≡ self.old.clock) }
+        ensures same { (self.new.channels ≡ self.old.channels)
+            × (self.new.rules ≡ self.old.rules) × (self.new.listener ≡ self.old.listener)
+            × (self.new.clock ≡ self.old.clock) }
     {
         let alloc = self.alloc;
         let (chain, built) = chain_of(alloc, mem::replace(&mut self.plan, Vec::new(alloc)));

@@ -22,11 +22,15 @@ pub trait Listens<L: Link> {
 
     // The next link of a peer, or none where none came for a while.
     fn next_link(&mut self) -> Result<Option<L>, Failed>
-        ensures given { IfOk result (λ found. MatchOption found (told self.new ≡ gave_none (told self.old))
-            (λ link. (told self.new ≡ gave_one (told self.old)) × (L.told link ≡ fresh_from (told self.old)))) }
+        ensures given { IfOk result (λ found. MatchOption found (told self.new ≡ gave_none (told
+            self.old))
+            (λ link. (told self.new ≡ gave_one (told self.old))
+            × (L.told link ≡ fresh_from (told self.old)))) }
         ensures refused { OnErr result (told self.new ≡ refused_link (told self.old)) }
-        ensures owed { IfOk result (λ found. MatchOption found (Unit {0}) (λ _. IsOwed (told self.new))) }
-        ensures waited { IfOk result (λ found. IfNone found (Rose (waits self.old) (waits self.new))) }
+        ensures owed { IfOk result (λ found. MatchOption found (Unit {0}) (λ _. IsOwed (told
+            self.new))) }
+        ensures waited { IfOk result (λ found. IfNone found (Rose (waits self.old) (waits
+            self.new))) }
         ensures waits { waits self.old ≤ waits self.new }
         ensures endpoint { endpoint self.new ≡ endpoint self.old }
         ensures cause { HasCause (faults self.old) (faults self.new) result };
@@ -35,7 +39,8 @@ pub trait Listens<L: Link> {
     fn take_back(&mut self, link: L)
         requires { IsOwed (told self.old) }
         ensures told { told self.new ≡ kept_in (told self.old) (L.told link) }
-        ensures same { (faults self.new ≡ faults self.old) × (waits self.new ≡ waits self.old) × (endpoint self.new ≡ endpoint self.old) };
+        ensures same { (faults self.new ≡ faults self.old) × (waits self.new ≡ waits self.old)
+            × (endpoint self.new ≡ endpoint self.old) };
 }
 
 impl<N: Listener> Listens<N::Link> for N {

@@ -31,12 +31,15 @@ impl<F: PutFace + Drop, B: Interceptor> Service<F, B> {
     ) -> SessionEnd
         requires { IsLineLimit rules.now.max }
         ensures session { Session rules.now.max rules.now.ack
-            (TakesLine (Puts F.own F.saw F.seen F.kept) self.old.intake.selector B.intercepts self.old.intake.host)
+            (TakesLine (Puts F.own F.saw F.seen F.kept) self.old.intake.selector B.intercepts
+            self.old.intake.host)
             (into_of self.old.intake (C.moments clock.old)) (L.told link.old) result
             (into_of self.new.intake (C.moments clock.new)) (L.told link.new) }
         ensures unserved { self.old.built ≡ false → result ≡ SessionEnd.NoMemory }
         ensures stop { RisesWhere (result ≡ SessionEnd.Stopped) (H.yes halt.old) (H.yes halt.new) }
-        ensures same { (self.new.intake.selector ≡ self.old.intake.selector) × (self.new.intake.host ≡ self.old.intake.host) × (self.new.built ≡ self.old.built) × (self.new.due ≡ self.old.due) }
+        ensures same { (self.new.intake.selector ≡ self.old.intake.selector)
+            × (self.new.intake.host ≡ self.old.intake.host) × (self.new.built ≡ self.old.built)
+            × (self.new.due ≡ self.old.due) }
     {
         if self.built {
             serve_netcat(alloc, link, rules, &mut self.intake, clock, halt)
@@ -56,14 +59,19 @@ impl<F: PutFace + Drop, B: Interceptor> Service<F, B> {
     ) -> Result<Option<SessionEnd>, Failed>
         requires { IsLineLimit rules.now.max }
         ensures serves { Serves
-            (Session rules.now.max rules.now.ack (TakesLine (Puts F.own F.saw F.seen F.kept) self.old.intake.selector B.intercepts self.old.intake.host)) result
-            (stood self.old.intake (C.moments clock.old) (heard_of N.told N.faults N.waits listener.old) self.old.due)
-            (stood self.new.intake (C.moments clock.new) (heard_of N.told N.faults N.waits listener.new) self.new.due) }
+            (Session rules.now.max rules.now.ack (TakesLine (Puts F.own F.saw F.seen F.kept)
+            self.old.intake.selector B.intercepts self.old.intake.host)) result
+            (stood self.old.intake (C.moments clock.old)
+            (heard_of N.told N.faults N.waits listener.old) self.old.due)
+            (stood self.new.intake (C.moments clock.new)
+            (heard_of N.told N.faults N.waits listener.new) self.new.due) }
         ensures unserved { self.old.built ≡ false → IsUnserved result }
         ensures settled { IsSettled (N.told listener.old) → IsSettled (N.told listener.new) }
         ensures endpoint { N.endpoint listener.new ≡ N.endpoint listener.old }
         ensures stop { RisesWhere (IsStopped result) (H.yes halt.old) (H.yes halt.new) }
-        ensures same { (self.new.intake.selector ≡ self.old.intake.selector) × (self.new.intake.host ≡ self.old.intake.host) × (self.new.built ≡ self.old.built) × (self.new.due ≡ self.old.due) }
+        ensures same { (self.new.intake.selector ≡ self.old.intake.selector)
+            × (self.new.intake.host ≡ self.old.intake.host) × (self.new.built ≡ self.old.built)
+            × (self.new.due ≡ self.old.due) }
     {
         match listener.next_link() {
             Ok(Some(link)) => {
@@ -92,18 +100,22 @@ impl<F: PutFace + MendFace + Drop, B: Interceptor> Service<F, B> {
         requires { IsLineLimit rules.now.max }
         ensures makes { (answers : List Answer) × Makes
             (Session rules.now.max rules.now.ack (TakesLine
-            (Puts ⟦<F as PutFace>⟧.own ⟦<F as PutFace>⟧.saw ⟦<F as PutFace>⟧.seen ⟦<F as PutFace>⟧.kept)
+            (Puts ⟦<F as PutFace>⟧.own ⟦<F as PutFace>⟧.saw ⟦<F as PutFace>⟧.seen
+            ⟦<F as PutFace>⟧.kept)
             self.old.intake.selector B.intercepts self.old.intake.host))
             (MendsInto (MendsPort ⟦<F as MendFace>⟧.own ⟦<F as MendFace>⟧.saw ⟦<F as MendFace>⟧.seen
             ⟦<F as MendFace>⟧.kept ⟦<F as MendFace>⟧.on_disk))
             (record { found = result; mends = answers })
-            (stood self.old.intake (C.moments clock.old) (heard_of N.told N.faults N.waits listener.old) self.old.due)
-            (stood self.new.intake (C.moments clock.new) (heard_of N.told N.faults N.waits listener.new) self.new.due) }
+            (stood self.old.intake (C.moments clock.old)
+            (heard_of N.told N.faults N.waits listener.old) self.old.due)
+            (stood self.new.intake (C.moments clock.new)
+            (heard_of N.told N.faults N.waits listener.new) self.new.due) }
         ensures unserved { self.old.built ≡ false → IsUnserved result }
         ensures settled { IsSettled (N.told listener.old) → IsSettled (N.told listener.new) }
         ensures endpoint { N.endpoint listener.new ≡ N.endpoint listener.old }
         ensures stop { RisesWhere (IsStopped result) (H.yes halt.old) (H.yes halt.new) }
-        ensures same { (self.new.intake.selector ≡ self.old.intake.selector) × (self.new.intake.host ≡ self.old.intake.host) × (self.new.built ≡ self.old.built) }
+        ensures same { (self.new.intake.selector ≡ self.old.intake.selector)
+            × (self.new.intake.host ≡ self.old.intake.host) × (self.new.built ≡ self.old.built) }
     {
         let found = self.serve(alloc, listener, rules, clock, halt);
         if is_due(self.due, &found) {

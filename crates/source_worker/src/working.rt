@@ -34,13 +34,16 @@ impl<F: PutFace + MendFace + Drop, B: Interceptor> Service<F, B> {
         requires { IsLineLimit rules.now.max }
         ensures works { WorksBy
             (Session rules.now.max rules.now.ack (TakesLine
-            (Puts ⟦<F as PutFace>⟧.own ⟦<F as PutFace>⟧.saw ⟦<F as PutFace>⟧.seen ⟦<F as PutFace>⟧.kept)
+            (Puts ⟦<F as PutFace>⟧.own ⟦<F as PutFace>⟧.saw ⟦<F as PutFace>⟧.seen
+            ⟦<F as PutFace>⟧.kept)
             self.old.intake.selector B.intercepts self.old.intake.host))
             (MendsInto (MendsPort ⟦<F as MendFace>⟧.own ⟦<F as MendFace>⟧.saw ⟦<F as MendFace>⟧.seen
             ⟦<F as MendFace>⟧.kept ⟦<F as MendFace>⟧.on_disk))
             self.old.built
-            (stood self.old.intake (C.moments clock.old) (heard_of N.told N.faults N.waits listener.old) self.old.due)
-            (stood self.new.intake (C.moments clock.new) (heard_of N.told N.faults N.waits listener.new) self.new.due) }
+            (stood self.old.intake (C.moments clock.old)
+            (heard_of N.told N.faults N.waits listener.old) self.old.due)
+            (stood self.new.intake (C.moments clock.new)
+            (heard_of N.told N.faults N.waits listener.new) self.new.due) }
         ensures settled { IsSettled (N.told listener.old) → IsSettled (N.told listener.new) }
         ensures endpoint { N.endpoint listener.new ≡ N.endpoint listener.old }
         ensures stop { Rose (H.yes halt.old) (H.yes halt.new) }
@@ -106,7 +109,8 @@ impl<F: PutFace + MendFace + Drop, N: Listener, C: Clock, B: Interceptor> Listen
         requires { CanListen self.old }
         ensures ran { ListenRan
             (Session self.old.rules.max self.old.rules.ack (TakesLine
-            (Puts ⟦<F as PutFace>⟧.own ⟦<F as PutFace>⟧.saw ⟦<F as PutFace>⟧.seen ⟦<F as PutFace>⟧.kept)
+            (Puts ⟦<F as PutFace>⟧.own ⟦<F as PutFace>⟧.saw ⟦<F as PutFace>⟧.seen
+            ⟦<F as PutFace>⟧.kept)
             self.old.selector B.intercepts self.old.host))
             (MendsInto (MendsPort ⟦<F as MendFace>⟧.own ⟦<F as MendFace>⟧.saw ⟦<F as MendFace>⟧.seen
             ⟦<F as MendFace>⟧.kept ⟦<F as MendFace>⟧.on_disk))
