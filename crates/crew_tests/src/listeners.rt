@@ -14,6 +14,7 @@ use source_put::HostNames;
 use source_worker::ListenWorker;
 use std::alloc::Global;
 use std::marker::PhantomData;
+use std::sync::Wait;
 use std::test::Fail;
 
 // Lets every event go on.
@@ -150,32 +151,65 @@ const ROWS: &[Row] = &[
     (5, 1, 9, &["a\n", "b\n"], "FAILED: channel in doubt\n;", 0),
 ];
 
+// What is seen of a worker that was run.
+#[derive(Drop)]
+struct Seen {
+    // What its links took, with a semicolon behind each.
+    took: Vec<u8>,
+    // How often it was told to stop.
+    stops: u64,
+    // How many mends reopened its channel, whose port came back.
+    mends: Option<u64>,
+}
+
+// Whether it is as a row says.
+fn is_as(seen: &Seen, row: &Row) -> bool {
+    let (_, _, _, _, took, mends) = row;
+    seen.took.as_slice() == took.as_bytes() && seen.stops == 1 && seen.mends == Some(*mends)
+}
+
+// Runs the worker of a row.
+fn seen_of<R: Wait>(rt: &R, alloc: Global, row: &Row) -> Result<Seen, Fail> {
+    let (after, doubtful, refuses, texts, _, _) = row;
+    let mut worker = worker_of(alloc, port_of(*doubtful, *refuses), texts)?;
+    let mut halt = MemHalt {
+        after: *after,
+        yes: 0,
+    };
+    worker.work_until(rt, &mut halt);
+    let ListenWorker {
+        ports,
+        listener,
+        ..
+    } = worker;
+    Ok(Seen {
+        took: taken(alloc, &listener)?,
+        stops: halt.yes,
+        mends: ports.first().map(|port| port.mends),
+    })
+}
+
 #[test]
 fn a_worker_serves_links_and_mends_until_it_is_told_to_stop(rt: HostRuntime) -> Result<(), Fail> {
-    let alloc = rt.alloc();
-    for (place, (after, doubtful, refuses, texts, took, mends)) in ROWS.iter().enumerate() {
-        let mut worker = worker_of(alloc, port_of(*doubtful, *refuses), texts)?;
-        let mut halt = MemHalt {
-            after: *after,
-            yes: 0,
-        };
-        worker.work_until(&rt, &mut halt);
-        let text = taken(alloc, &worker.listener)?;
-        assert!(rt; text.as_slice() == took.as_bytes(), "{place}");
-        assert!(rt; halt.yes == 1, "{place}");
-        assert!(rt; worker.ports.len() == 1, "{place}");
-        assert!(rt; worker.ports[0].mends == *mends, "{place}");
+    for (place, row) in ROWS.iter().enumerate() {
+        let seen = seen_of(&rt, rt.alloc(), row)?;
+        assert!(rt; is_as(&seen, row), "{place}");
     }
     Ok(())
 }
 
-#[test]
-fn a_worker_accepts_once_though_the_stop_is_set(rt: HostRuntime) -> Result<(), Fail> {
-    let alloc = rt.alloc();
+// Whether a worker that finds the stop set at once has asked for a link, and served none.
+fn accepts_once<R: Wait>(rt: &R, alloc: Global) -> Result<bool, Fail> {
     let mut worker = worker_of(alloc, port_of(0, 0), &["", "a\n"])?;
     let stop = Stop::new();
     stop.set();
-    worker.work(&rt, &stop);
-    assert!(rt; worker.listener.waits() == 1 && worker.listener.back().is_empty());
+    worker.work(rt, &stop);
+    Ok(worker.listener.waits() == 1 && worker.listener.back().is_empty())
+}
+
+#[test]
+fn a_worker_accepts_once_though_the_stop_is_set(rt: HostRuntime) -> Result<(), Fail> {
+    let once = accepts_once(&rt, rt.alloc())?;
+    assert!(rt; once);
     Ok(())
 }

@@ -46,7 +46,7 @@ const LIMITS: Limits = Limits {
 };
 
 // A channel of three events.
-fn channel_of_three(alloc: Global) -> Result<SilentFace, Fail> {
+pub fn channel_of_three(alloc: Global) -> Result<SilentFace, Fail> {
     let mut face = OwnFace::new(MemoryChannel::new(alloc, LIMITS)?);
     for byte in [b'a', b'b', b'c'] {
         let mut batch = Batch::new(alloc);
@@ -58,23 +58,43 @@ fn channel_of_three(alloc: Global) -> Result<SilentFace, Fail> {
     Ok(SilentFace { face })
 }
 
-// Its worker, which takes two events at a time. Each moment of its clock is the number of the run.
-pub fn worker_of(
+// The worker of this port, which takes two events at a time. Each moment of its clock is the number of the run.
+pub fn worker_over(
+    alloc: Global,
+    port: SilentFace,
+    sink: CountingSink,
+    clock: MemClock,
+) -> SinkWorker<SilentFace, CountingSink, MemClock> {
+    SinkWorker {
+        alloc,
+        port,
+        channel: 0,
+        sink,
+        batch: 2,
+        clock,
+    }
+}
+
+// A sink that refuses so many deliveries.
+pub fn refusing(refuses: u64) -> CountingSink {
+    CountingSink {
+        refuses,
+        delivered: 0,
+        faults: 0,
+    }
+}
+
+fn worker_of(
     alloc: Global,
     refuses: u64,
 ) -> Result<SinkWorker<SilentFace, CountingSink, MemClock>, Fail> {
-    Ok(SinkWorker {
+    let port = channel_of_three(alloc)?;
+    Ok(worker_over(
         alloc,
-        port: channel_of_three(alloc)?,
-        channel: 0,
-        sink: CountingSink {
-            refuses,
-            delivered: 0,
-            faults: 0,
-        },
-        batch: 2,
-        clock: MemClock { moment: 0, step: 1 },
-    })
+        port,
+        refusing(refuses),
+        MemClock { moment: 0, step: 1 },
+    ))
 }
 
 // How often the worker may go on and how many deliveries are refused, and how many runs it then made and how many events it
