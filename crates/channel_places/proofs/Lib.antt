@@ -1,0 +1,5 @@
+pub mod Looking
+pub mod Opening
+pub mod Putting
+pub mod Taking
+pub mod Ending

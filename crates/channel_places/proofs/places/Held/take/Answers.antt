@@ -1,0 +1,62 @@
+use Rattle.std.proofs.Common.{◌≡◌, ◌∙◌, ℕ, List, ap, arith, length, subst, sym, true}
+use Rattle.open_table.specs.Tables.{HasAt, added, open_at}
+use Rattle.open_table.specs.declared.opened.Item.TheVariants.{Take}
+use Rattle.event_ring.specs.Slots.{Index, Left, marked}
+use Rattle.channel_face.specs.Machine.{State, add_take, free, takes_of}
+use Rattle.channel_places.specs.Looks.{Looks, MayTake, Places, held_in}
+use Rattle.channel_places.specs.View.{places_of}
+use Rattle.channel_places.proofs.Looking.{rooms_stay}
+use Rattle.channel_places.proofs.Taking.{length-marked, none_number, relive, some_free, take_looks, take_none, take_within}
+use Rattle.channel_places.proofs.places.Held.take.Goals as goal
+
+pub mark-requires : goal.mark-requires
+mark-requires c =
+    let i = c.self.invariant in
+    (some_free i.known (held_in i.state) c.self.inside.ring.live i.state.items c.in-Some.number i.looks.left (sym c.first_free.ensures ∙ c.in-Some.is)).live_is
+
+pub invariant_of-self : goal.invariant_of-self
+invariant_of-self c =
+    let i = c.self.invariant in
+    let p : Places = places_of c.self.inside in
+    let token = c.args.txn.now in
+    let number = c.in-Some.number in
+    let may : MayTake p token = subst (λ (q : Places). MayTake q token) (sym c.self.view_is) c.requires in
+    let has = subst (λ (n : ℕ). HasAt n (added (Take number) (open_at p.opened n)) p.opened c.add.new.self) c.number.ensures c.add.ensures.added in
+    let first = sym c.first_free.ensures ∙ c.in-Some.is in
+    let live : c.mark.new.self.live ≡ marked number true p.live = ap (λ (x : Index). x.live) c.mark.ensures in
+    record {
+      known = i.known;
+      state = add_take i.state token.number (takes_of i.state token) (free i.state);
+      looks = relive i.known p _ _ c.add.new.self c.mark.new.self.live live (take_looks i.known p i.state c.add.new.self token number i.looks may.life may.room first has c.add.ensures.count);
+      open_are = omega (arith, i.open_are, c.add.ensures.count);
+      open_few = i.open_few;
+      lists = rooms_stay p.opened c.add.new.self token.number (added (Take number) (open_at p.opened token.number)) has (take_within number (open_at p.opened token.number) may.room) i.lists;
+      staged_puts_are = i.staged_puts_are;
+      slots_are = ap (λ (x : Index). x.slots) c.mark.ensures ∙ i.slots_are;
+      few = omega (arith, i.few, ap (λ (x : Index). x.slots) c.mark.ensures);
+      within = omega (arith, i.within, ap (λ (x : Index). x.slots) c.mark.ensures, ap (λ (l : List Left). length l) live, length-marked number true p.live);
+      below = omega (arith, i.below, ap (λ (x : Index). x.top) c.mark.ensures);
+      numbers = i.numbers;
+      fits = i.fits;
+    }
+
+pub returns-in-Some : goal.returns-in-Some
+returns-in-Some c = λ known s looks.
+    let p : Places = places_of c.self.inside in
+    let token = c.args.txn.now in
+    let number = c.in-Some.number in
+    let here : Looks known p s = subst (λ (q : Places). Looks known q s) (sym c.self.view_is) looks in
+    let may : MayTake p token = subst (λ (q : Places). MayTake q token) (sym c.self.view_is) c.requires in
+    let has = subst (λ (n : ℕ). HasAt n (added (Take number) (open_at p.opened n)) p.opened c.add.new.self) c.number.ensures c.add.ensures.added in
+    let first = sym c.first_free.ensures ∙ c.in-Some.is in
+    let live : c.mark.new.self.live ≡ marked number true p.live = ap (λ (x : Index). x.live) c.mark.ensures in
+    relive known p _ _ c.add.new.self c.mark.new.self.live live (take_looks known p s c.add.new.self token number here may.life may.room first has c.add.ensures.count)
+
+pub returns-in_default : goal.returns-in_default
+returns-in_default c = λ known s looks.
+    let p : Places = places_of c.self.inside in
+    let token = c.args.txn.now in
+    let here : Looks known p s = subst (λ (q : Places). Looks known q s) (sym c.self.view_is) looks in
+    let may : MayTake p token = subst (λ (q : Places). MayTake q token) (sym c.self.view_is) c.requires in
+    let none = sym c.first_free.ensures ∙ none_number c.first_free.result c.in_default.not-Some in
+    subst (λ (u : State). Looks known c.args.self.now u) (sym (take_none known p s token here may.life may.room none)) looks

@@ -1,0 +1,7 @@
+//! What a channel keeps of its events in memory: where they stand, and which transaction has which.
+#![tactic(auto)]
+
+mod places;
+mod staging;
+
+pub use places::Held;

@@ -1,0 +1,318 @@
+// The pointers of a channel's events, and each call of the channel on them that needs no disk.
+ghost use Rattle.std.specs.Prelude.{◌≡◌, ◌<◌, ◌≤◌, ◌+◌, ◌^◌, ◌++◌, ◌∷◌, [], ℕ, List, length, Some, None, IsSome, IfNone, IfOk, IfSome, OnOk, OnErr, true};
+ghost use Rattle.event_core.specs.Content.{Content};
+ghost use Rattle.event_core.specs.Content as contents;
+ghost use Rattle.event_core.specs.Journal.{IsBase};
+ghost use Rattle.channel_face.specs.History.{Opening, opening};
+ghost use Rattle.channel_face.specs.declared.replies.Kind.TheVariants.{File};
+ghost use Rattle.channel_face.specs.Machine as face;
+ghost use Rattle.channel_face.specs.Machine.{State, BeginPut, BeginTake, add_put, add_take, broken_state, close, entry_of, free, puts_of, takes_of};
+ghost use Rattle.open_table.specs.Tables.{MayAdd, is_open, open_at};
+ghost use Rattle.open_table.specs.declared.opened.Item.TheVariants.{Put, Take};
+ghost use Rattle.record_form.specs.declared.record.Pointer as pointers;
+ghost use Rattle.channel_places.specs.Looks.{IsFree, IsOpenFor, Known, LookLeft, Looks, MayPut, MayTake, Steps, puts_in, puts_of_open, with_begun};
+
+use crate::staging::{push_ended, put_count};
+use channel_face::{BeginRefused, Counter, Limits, PutRefused, PutTxn, TakeRefused, TakeTxn};
+use event_core::NoMemory;
+use event_ring::Ring;
+use open_table::{Ended, Item, OpenTable};
+use record_form::Pointer;
+use std::alloc::Global;
+use std::marker::Model;
+
+// The most transactions that are open at once.
+const MOST_OPEN: usize = 1024;
+
+// The largest event that a channel on a disk keeps, in bytes.
+const MAX_SIZE: u64 = 1_048_576;
+
+/// What a channel keeps of its events in memory: the ring of those that are left, the open transactions, and what is staged.
+/// Calls of a channel change it as steps of the channel's machine.
+#[derive(Drop)]
+pub struct Held {
+    ring: Ring,
+    table: OpenTable,
+    staged: Vec<Ended>,
+    limits: Limits,
+    first: u64,
+    txn: u64,
+    broken: bool,
+    life: u64,
+    frame: u64,
+    ends: Vec<u64>,
+    // how many transactions are open
+    open_txns: usize,
+    open_puts: usize,
+    staged_puts: usize,
+}
+
+impl Model for Held {
+    ghost use Rattle.channel_places.specs.Looks.{Places};
+    ghost use Rattle.channel_places.specs.View.{places_of, IsHeldInside};
+
+    ghost Value = { Places };
+
+    ghost view = { places_of };
+
+    ghost invariant = { IsHeldInside };
+}
+
+impl Held {
+    /// What a channel keeps when it is opened with these events left and these next numbers. No transaction is open.
+    pub fn open(
+        alloc: Global,
+        ring: Ring,
+        limits: Limits,
+        first: u64,
+        txn: u64,
+    ) -> Result<Held, NoMemory>
+        requires left { (known : Known) × (items : List (ℕ × Content))
+            × LookLeft known [] ring.live items × IsBase (record { items = items; first = first }) }
+        requires slots { ring.slots ≡ limits.capacity }
+        requires room { length ring.live ≤ limits.capacity }
+        requires below { ring.top ≤ first }
+        ensures { IfOk result (λ held. (known : Known) (o : Opening) → o.base.first ≡ first → o.txn ≡ txn
+            → o.rules ≡ record { kind = File; limits = limits } → LookLeft known [] ring.live o.base.items → IsBase o.base
+            → Looks known held (opening o)) }
+    {
+        let _ = limits.capacity;
+        let Ok(table) = OpenTable::new(alloc) else {
+            return Err(NoMemory);
+        };
+        Ok(Held {
+            ring,
+            table,
+            staged: Vec::new(alloc),
+            limits,
+            first,
+            txn,
+            broken: false,
+            life: 1,
+            frame: 1,
+            ends: Vec::new(alloc),
+            open_txns: 0,
+            open_puts: 0,
+            staged_puts: 0,
+        })
+    }
+
+    /// How many events are left.
+    pub fn size(&self) -> usize
+        ensures { (known : Known) (s : State) → Looks known self.now s → result ≡ length s.items }
+    {
+        self.ring.len()
+    }
+
+    /// Why a transaction can't begin.
+    pub fn begin_refusal(&self) -> Option<BeginRefused>
+        ensures refusal { (known : Known) (s : State) → Looks known self.now s → result ≡ face.begin_refusal s }
+        ensures number { IfNone result (self.now.numbers.txn < 18_446_744_073_709_551_615) }
+        ensures few { IfNone result (length self.now.opened < 1024) }
+    {
+        if self.broken {
+            return Some(BeginRefused::Broken);
+        }
+        if self.open_txns >= MOST_OPEN {
+            return Some(BeginRefused::TooManyOpen { held: 1024 });
+        }
+        if self.txn == u64::MAX {
+            return Some(BeginRefused::Spent {
+                counter: Counter::Txn,
+            });
+        }
+        None
+    }
+
+    // Adds an open transaction, and makes room for it among those that are staged.
+    fn add_open(&mut self, puts: bool) -> Result<(), NoMemory>
+        requires number { self.old.numbers.txn < 18_446_744_073_709_551_615 }
+        requires few { length self.old.opened < 1024 }
+        ensures ok { OnOk result ((known : Known) (s : State) → Looks known self.old s
+            → Looks known self.new (with_begun puts s)) }
+        ensures err { OnErr result (self.new ≡ self.old) }
+    {
+        self.staged.reserve(self.open_txns + 1)?;
+        match self.table.begin(self.txn, puts, self.limits.txn_capacity) {
+            Ok(()) => {
+                self.txn += 1;
+                self.open_txns += 1;
+                Ok(())
+            }
+            Err(_) => Err(NoMemory),
+        }
+    }
+
+    /// Begins a transaction of puts.
+    pub fn begin_put(&mut self) -> Result<PutTxn, BeginRefused>
+        ensures { Steps self.old (BeginPut result) self.new }
+    {
+        if let Some(refused) = self.begin_refusal() {
+            return Err(refused);
+        }
+        let number = self.txn;
+        match self.add_open(true) {
+            Ok(()) => Ok(PutTxn::new(self.life, number)),
+            Err(_) => Err(BeginRefused::NoMemory),
+        }
+    }
+
+    /// Begins a transaction of takes.
+    pub fn begin_take(&mut self) -> Result<TakeTxn, BeginRefused>
+        ensures { Steps self.old (BeginTake result) self.new }
+    {
+        if let Some(refused) = self.begin_refusal() {
+            return Err(refused);
+        }
+        let number = self.txn;
+        match self.add_open(false) {
+            Ok(()) => Ok(TakeTxn::new(self.life, number)),
+            Err(_) => Err(BeginRefused::NoMemory),
+        }
+    }
+
+    // How many puts the token's transaction has, unless the token is stale.
+    fn find_puts(&self, txn: &PutTxn) -> Option<usize>
+        ensures found { IfSome result (λ held. (known : Known) (s : State) → Looks known self.now s
+            → (events : List Content) × (puts_of s txn.now ≡ Some events) × (length events ≡ held)) }
+        ensures within { IfSome result (λ held. held ≤ self.now.numbers.rules.limits.txn_capacity) }
+        ensures may { IfSome result (λ held. held < self.now.numbers.rules.limits.txn_capacity
+            → IsOpenFor self.now txn.now (λ o. (pointer : pointers.Pointer) → MayAdd (Put pointer) o)) }
+        ensures stale { IfNone result ((known : Known) (s : State) → Looks known self.now s
+            → puts_of s txn.now ≡ None) }
+    {
+        if txn.life() != self.life || !self.table.has(txn.number(), true) {
+            return None;
+        }
+        Some(self.table.puts(txn.number()).len())
+    }
+
+    // How many takes the token's transaction has, unless the token is stale.
+    fn find_takes(&self, txn: &TakeTxn) -> Option<usize>
+        ensures found { IfSome result (λ held. (known : Known) (s : State) → Looks known self.now s
+            → (numbers : List ℕ) × (takes_of s txn.now ≡ Some numbers) × (length numbers ≡ held)) }
+        ensures within { IfSome result (λ held. held ≤ self.now.numbers.rules.limits.txn_capacity) }
+        ensures may { IfSome result (λ held. held < self.now.numbers.rules.limits.txn_capacity
+            → IsOpenFor self.now txn.now (λ o. MayAdd (Take 0) o)) }
+        ensures stale { IfNone result ((known : Known) (s : State) → Looks known self.now s
+            → takes_of s txn.now ≡ None) }
+    {
+        if txn.life() != self.life || !self.table.has(txn.number(), false) {
+            return None;
+        }
+        Some(self.table.takes(txn.number()).len())
+    }
+
+    /// Why an event of this size can't be put.
+    pub fn put_refusal(&self, txn: &PutTxn, size: u64) -> Option<PutRefused>
+        ensures refusal { (known : Known) (s : State) (event : Content) → Looks known self.now s
+            → contents.size event ≡ size → result ≡ face.put_refusal s (puts_of s txn.now) event }
+        ensures may { (pointer : pointers.Pointer) → IfNone result (MayPut self.now txn.now pointer) }
+    {
+        let Some(held) = self.find_puts(txn) else {
+            return Some(PutRefused::Stale);
+        };
+        if self.broken {
+            return Some(PutRefused::Broken);
+        }
+        if held >= self.limits.txn_capacity as usize {
+            return Some(PutRefused::TxnFull { count: held as u32 });
+        }
+        if size > MAX_SIZE {
+            return Some(PutRefused::TooLarge { size });
+        }
+        let count = self.ring.len() + self.open_puts + self.staged_puts;
+        if count >= self.limits.capacity as usize {
+            return Some(PutRefused::Full {
+                count: count as u32,
+            });
+        }
+        None
+    }
+
+    /// Adds the pointer of an event to a transaction's puts. It takes no memory.
+    pub fn put(&mut self, txn: &PutTxn, pointer: Pointer)
+        requires { MayPut self.old txn.now pointer }
+        ensures { (known : Known) (s : State) (event : Content) → Looks known self.old s
+            → Looks ((pointer, event) ∷ known) self.new (add_put s txn.now.number (puts_of s txn.now) event) }
+    {
+        self.table.add(txn.number(), Item::Put(pointer));
+        self.open_puts += 1;
+    }
+
+    /// Why nothing can be taken.
+    pub fn take_refusal(&self, txn: &TakeTxn) -> Option<TakeRefused>
+        ensures refusal { (known : Known) (s : State) → Looks known self.now s
+            → result ≡ face.take_refusal s (takes_of s txn.now) }
+        ensures may { IfNone result (MayTake self.now txn.now) }
+    {
+        let Some(held) = self.find_takes(txn) else {
+            return Some(TakeRefused::Stale);
+        };
+        if self.broken {
+            return Some(TakeRefused::Broken);
+        }
+        if held >= self.limits.txn_capacity as usize {
+            return Some(TakeRefused::TxnFull { count: held as u32 });
+        }
+        None
+    }
+
+    /// The number of the first event that no transaction takes, and where it stands. It takes no memory.
+    pub fn first_free(&self) -> Option<(u64, Pointer)>
+        ensures { (known : Known) (s : State) → Looks known self.now s → IsFree known result (free s) }
+    {
+        match self.ring.first_free() {
+            Some(number) => match self.ring.pointer(number) {
+                Some(pointer) => Some((number, pointer)),
+                None => None,
+            },
+            None => None,
+        }
+    }
+
+    /// Adds the number of the first free event to a transaction's takes. It takes no memory.
+    pub fn take(&mut self, txn: &TakeTxn)
+        requires { MayTake self.old txn.now }
+        ensures { (known : Known) (s : State) → Looks known self.old s
+            → Looks known self.new (add_take s txn.now.number (takes_of s txn.now) (free s)) }
+    {
+        if let Some(number) = self.ring.first_free() {
+            self.table.add(txn.number(), Item::Take(number));
+            self.ring.mark(number);
+        }
+    }
+
+    /// Takes a transaction that is open out of the open ones, and adds what it has to what is staged. It takes no memory.
+    pub fn stage(&mut self, number: u64)
+        requires open { IsSome (open_at self.old.opened number) }
+        requires numbers { self.old.numbers.first + puts_in self.old.staged
+            + puts_of_open (open_at self.old.opened number) < 2 ^ 64 }
+        ensures { (known : Known) (s : State) → Looks known self.old s
+            → Looks known self.new (face.stage number (entry_of number s.opened) s) }
+    {
+        let ended = self.table.end(number);
+        let puts = put_count(&ended);
+        self.open_txns -= 1;
+        self.open_puts -= puts;
+        self.staged_puts += puts;
+        push_ended(&mut self.staged, ended);
+    }
+
+    /// Takes a transaction of puts that is open out of the open ones. It takes no memory.
+    pub fn drop_puts(&mut self, number: u64)
+        requires { is_open true (open_at self.old.opened number) ≡ true }
+        ensures { (known : Known) (s : State) → Looks known self.old s → Looks known self.new (close number s) }
+    {
+        let ended = self.table.end(number);
+        self.open_txns -= 1;
+        self.open_puts -= put_count(&ended);
+    }
+
+    /// No call but a rollback goes on from now on.
+    pub fn set_broken(&mut self)
+        ensures { (known : Known) (s : State) → Looks known self.old s → Looks known self.new (broken_state s) }
+    {
+        self.broken = true;
+    }
+}
