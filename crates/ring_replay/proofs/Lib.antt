@@ -1,0 +1,12 @@
+pub mod RingLists
+pub mod TableLists
+pub mod Taken
+pub mod Going
+pub mod Ending
+pub mod RollingBack
+pub mod Looking
+pub mod Taking
+pub mod TakeGoes
+pub mod Committing
+pub mod Dropping
+pub mod Wider
