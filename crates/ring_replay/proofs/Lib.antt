@@ -10,3 +10,7 @@ pub mod TakeGoes
 pub mod Committing
 pub mod Dropping
 pub mod Wider
+pub mod Standing
+pub mod Files
+pub mod Folders
+pub mod Ends

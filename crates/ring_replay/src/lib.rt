@@ -1,7 +1,9 @@
 //! What the records of a log make of a ring of places and a table of what is open.
 #![tactic(auto)]
 
+mod folder;
 mod indexing;
 mod settling;
 
+pub use folder::{Replayed, replay};
 pub use indexing::Indexing;
