@@ -1,0 +1,3 @@
+pub mod Handled
+pub mod Sessions
+pub mod Parts
