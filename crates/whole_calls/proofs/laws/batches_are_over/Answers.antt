@@ -1,0 +1,9 @@
+use Rattle.whole_calls.proofs.Leaving.{either_face, port_face}
+use Rattle.whole_calls.proofs.Listening.{batches_over}
+use Rattle.whole_calls.proofs.laws.batches_are_over.Goals as goal
+
+pub returns-clause-port : goal.returns-clause-port
+returns-clause-port g c = batches_over _ _ _ (port_face _ g.A.Channel.stands) g.I.Interceptor.intercepts
+
+pub returns-clause-either : goal.returns-clause-either
+returns-clause-either g c = batches_over _ _ _ (either_face g.A.Channel.stands g.B.Channel.stands) g.I.Interceptor.intercepts

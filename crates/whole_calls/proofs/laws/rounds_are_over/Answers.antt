@@ -1,0 +1,9 @@
+use Rattle.sink_worker.specs.Rounds.{told}
+use Rattle.whole_calls.proofs.Leaving.{either_face, port_face, rounds_over}
+use Rattle.whole_calls.proofs.laws.rounds_are_over.Goals as goal
+
+pub returns-clause-port : goal.returns-clause-port
+returns-clause-port g c = rounds_over _ _ _ (port_face _ g.A.Channel.stands) (λ p. Unit {0}) (told g.S.EventSink.delivers g.S.EventSink.faults)
+
+pub returns-clause-either : goal.returns-clause-either
+returns-clause-either g c = rounds_over _ _ _ (either_face g.A.Channel.stands g.B.Channel.stands) _ (told g.S.EventSink.delivers g.S.EventSink.faults)
