@@ -132,7 +132,7 @@ puts_found known p s token found looks life is got =
     some_list : (a b : List Pointer) → Some a ≡ Some b → a ≡ b
     some_list a b is = cc
 
--- what D5 says of a put to a transaction that isn't full
+-- what the machine says of a put to a transaction that isn't full
 
 pub refuses_full : (s : State) (puts : Option (List Content)) (events : List Content) (event : Content) → puts ≡ Some events → s.rules.kind ≡ File → s.broken ≡ false → length events < s.rules.limits.txn_capacity → size event ≤ 1_048_576 → s.rules.limits.capacity ≤ count s
     → put_refusal s puts event ≡ Some (PutNo.Full (count s))
