@@ -13,4 +13,5 @@ pub use laws::{one_cut, pieces_cut};
 pub use lines::{Cut, Lines};
 pub use replies::{LineVerdict, TOO_LONG_REPLY, reply_to};
 pub use session::{LineRules, SessionEnd, serve_netcat};
+pub use take::{said_of, take_line};
 pub use worker::serve_link;

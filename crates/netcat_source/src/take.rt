@@ -41,8 +41,9 @@ fn batch_of(alloc: Global, line: &[u8]) -> Result<Batch, NoMemory>
     }
 }
 
-// Puts a line into the channels as one event, at the next moment of the clock.
-pub(crate) fn take_line<F: PutFace + Drop, B: Interceptor, C: Clock>(
+/// Puts a line into the channels as one event without headers, whose body is the line, at the next moment of the clock. It answers
+/// the verdict of the accepted batch, or want of memory.
+pub fn take_line<F: PutFace + Drop, B: Interceptor, C: Clock>(
     alloc: Global,
     intake: &mut Intake<F, B>,
     clock: &mut C,
@@ -60,8 +61,8 @@ pub(crate) fn take_line<F: PutFace + Drop, B: Interceptor, C: Clock>(
     intake.accept(batch, moment)
 }
 
-// What is said of a verdict.
-pub(crate) fn said_of(verdict: &Verdict) -> LineVerdict
+/// What is said of a verdict: in doubt is answered for that alone, each other refusal is one.
+pub fn said_of(verdict: &Verdict) -> LineVerdict
     ensures { result ≡ said_of verdict.now }
 {
     match verdict {

@@ -13,9 +13,9 @@ use source_put::{Chain, HostNames, Intake};
 use std::alloc::Global;
 use std::mem;
 
-// Builds a chain, and says whether there was memory for it; else it is empty. A text that is no pattern is found long before,
-// where the chain is built for the first time.
-fn chain_of<B: Drop>(alloc: Global, plan: Vec<LinkPlan<B>>) -> (Chain<B>, bool)
+/// Builds a chain, and says whether there was memory for it; else it is empty. A text that is no pattern is found long before,
+/// where the chain is built for the first time.
+pub fn chain_of<B: Drop>(alloc: Global, plan: Vec<LinkPlan<B>>) -> (Chain<B>, bool)
     ensures { result.1 ≡ true → AreBuilt plan.items result.0.links.items }
 {
     match build_chain(alloc, plan) {

@@ -11,4 +11,6 @@ mod service;
 mod worker;
 mod working;
 
+pub use begin::chain_of;
+pub use mending::mend_all;
 pub use worker::ListenWorker;

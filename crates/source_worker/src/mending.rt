@@ -7,7 +7,7 @@ use plug_in::Interceptor;
 use source_put::Intake;
 
 /// Mends each channel, in order, and says whether one was refused.
-pub(crate) fn mend_all<F: PutFace + MendFace + Drop, B: Interceptor>(
+pub fn mend_all<F: PutFace + MendFace + Drop, B: Interceptor>(
     intake: &mut Intake<F, B>,
 ) -> bool
     ensures mends { (answers : List Answer) × MendsEach
