@@ -30,6 +30,15 @@ impl<'a, R: Wait, C: Channel> Carries for Port<'a, R, C> {
     }
 }
 
+/// A pass carries itself: so a worker that never got its port gives its pass back as one that ran.
+impl Carries for Pass {
+    ghost pass = { λ p. p };
+
+    fn into_pass(self) -> Pass {
+        self
+    }
+}
+
 /// A shared channel, of whatever kind, whose passes can be joined.
 pub trait Joins {
     /// Its passes have this table.
