@@ -1,0 +1,3 @@
+mod Backing
+mod Ordering
+mod Opening

@@ -1,0 +1,89 @@
+-- Sinks in the order of their plans.
+use Rattle.std.proofs.Common.{◌≡◌, ◌∙◌, ◌<◌, ◌≤◌, ◌+◌, ℕ, List, [], ◌∷◌, ◌++◌, length, get_or, take, IsTrue, Option, refl, sym, ap, arith, append_assoc, string_bytes}
+use Rattle.std.proofs.lemmas.List.{append-nil, take_more}
+use Rattle.std.proofs.lemmas.List.Concat.{flat_map-append}
+use Rattle.flume_host.specs.HostState.{Folders}
+use Rattle.flume_host.specs.Rolled.{Rolled}
+use Rattle.flume_config.specs.declared.plan.SinkPlan.{SinkPlan}
+use Rattle.flume_config.specs.declared.plan.SinkKind.{SinkKind}
+use Rattle.flume_config.specs.declared.plan.SinkKind.TheVariants as plan
+use Rattle.agent_sinks.specs.declared.sink.AgentSink.{AgentSink}
+use Rattle.agent_sinks.specs.declared.sink.AgentSink.TheVariants.{Null, Roll, Avro, Boxed}
+use Rattle.agent_outside.specs.Backs.{RollBack, paths_of}
+use Rattle.agent_outside.specs.Sinks.{IsOfKind, AreOfPlans, IsNew, AreNew, back_of, backs_of, folder_of, folders_of}
+use Rattle.agent_outside.proofs.Backing.{paths_append}
+
+-- ---- the last of some sinks
+
+-- of sinks in order the last is of the plan at its place
+pub are_last : {R A B : Type 0} (f : Folders) (plans : List SinkPlan) (sinks : List (AgentSink R A B)) (sink : AgentSink R A B) (d : SinkPlan) → AreOfPlans f plans (sinks ++ sink ∷ [])
+    → AreOfPlans f plans sinks × (length sinks < length plans) × IsOfKind f (get_or plans (length sinks) d).kind sink
+are_last f [] [] sink d are = absurd are
+are_last f [] (s ∷ sinks) sink d are = absurd are
+are_last f (p ∷ plans) [] sink d are = (tt, omega arith, are.0)
+are_last f (p ∷ plans) (s ∷ sinks) sink d are =
+    let rest = are_last f plans sinks sink d are.1 in
+    ((are.0, rest.0), omega (arith, rest.1), rest.2)
+
+pub are_more : {R A B : Type 0} (f : Folders) (plans : List SinkPlan) (sinks : List (AgentSink R A B)) (sink : AgentSink R A B) (d : SinkPlan) → length sinks < length plans → AreOfPlans f plans sinks → IsOfKind f (get_or plans (length sinks) d).kind sink
+    → AreOfPlans f plans (sinks ++ sink ∷ [])
+are_more f [] sinks sink d below are is = absurd (omega (arith, below))
+are_more f (p ∷ plans) [] sink d below are is = (is, tt)
+are_more f (p ∷ plans) (s ∷ sinks) sink d below are is = (are.0, are_more f plans sinks sink d (omega (arith, below)) are.1 is)
+
+pub new_more : {R A B : Type 0} (faults : R → ℕ) (plans : List SinkPlan) (sinks : List (AgentSink R A B)) (sink : AgentSink R A B) (d : SinkPlan) → length sinks < length plans → AreNew faults plans sinks → IsNew faults (get_or plans (length sinks) d).kind sink
+    → AreNew faults plans (sinks ++ sink ∷ [])
+new_more faults [] sinks sink d below are is = absurd (omega (arith, below))
+new_more faults (p ∷ plans) [] sink d below are is = (is, tt)
+new_more faults (p ∷ plans) (s ∷ sinks) sink d below are is = (are.0, new_more faults plans sinks sink d (omega (arith, below)) are.1 is)
+
+pub backs_more : {R A B : Type 0} (rolled : R → Option Rolled) (plans : List SinkPlan) (sinks : List (AgentSink R A B)) (sink : AgentSink R A B) (d : SinkPlan) → length sinks < length plans
+    → backs_of rolled plans (sinks ++ sink ∷ []) ≡ backs_of rolled plans sinks ++ back_of rolled (get_or plans (length sinks) d).kind sink
+backs_more rolled [] sinks sink d below = absurd (omega (arith, below))
+backs_more rolled (p ∷ plans) [] sink d below = append-nil (back_of rolled p.kind sink)
+backs_more rolled (p ∷ plans) (s ∷ sinks) sink d below =
+    ap (λ (l : List RollBack). back_of rolled p.kind s ++ l) (backs_more rolled plans sinks sink d (omega (arith, below)))
+    ∙ sym (append_assoc (back_of rolled p.kind s) (backs_of rolled plans sinks) (back_of rolled (get_or plans (length sinks) d).kind sink))
+
+-- no more sinks than plans
+pub are_few : {R A B : Type 0} (f : Folders) (plans : List SinkPlan) (sinks : List (AgentSink R A B)) → AreOfPlans f plans sinks → length sinks ≤ length plans
+are_few f plans [] are = omega arith
+are_few f [] (s ∷ sinks) are = absurd are
+are_few f (p ∷ plans) (s ∷ sinks) are = omega (arith, are_few f plans sinks are.1)
+
+-- ---- a later moment
+
+kind_later : {R A B : Type 0} (f g : Folders) → ((p : List ℕ) → IsTrue (f.roll_opened p) → IsTrue (g.roll_opened p)) → (kind : SinkKind) (sink : AgentSink R A B) → IsOfKind f kind sink → IsOfKind g kind sink
+kind_later f g marks plan.Null (Null sink) is = tt
+kind_later f g marks (plan.Roll folder interval) (Roll sink) is = marks (string_bytes folder) is
+kind_later f g marks (plan.Avro host port) (Avro sink) is = tt
+kind_later f g marks (plan.Plugin name) (Boxed sink) is = tt
+kind_later f g marks kind sink is = absurd is
+
+pub are_later : {R A B : Type 0} (f g : Folders) → ((p : List ℕ) → IsTrue (f.roll_opened p) → IsTrue (g.roll_opened p)) → (plans : List SinkPlan) (sinks : List (AgentSink R A B)) → AreOfPlans f plans sinks → AreOfPlans g plans sinks
+are_later f g marks plans [] are = tt
+are_later f g marks [] (s ∷ sinks) are = absurd are
+are_later f g marks (p ∷ plans) (s ∷ sinks) are = (kind_later f g marks p.kind s are.0, are_later f g marks plans sinks are.1)
+
+-- ---- the paths of their folders
+
+pub kind_paths : {R A B : Type 0} (rolled : R → Option Rolled) (f : Folders) (kind : SinkKind) (sink : AgentSink R A B) → IsOfKind f kind sink → paths_of (back_of rolled kind sink) ≡ folder_of kind
+kind_paths rolled f plan.Null (Null sink) is = refl
+kind_paths rolled f (plan.Roll folder interval) (Roll sink) is = refl
+kind_paths rolled f (plan.Avro host port) (Avro sink) is = refl
+kind_paths rolled f (plan.Plugin name) (Boxed sink) is = refl
+kind_paths rolled f kind sink is = absurd is
+
+pub are_paths : {R A B : Type 0} (rolled : R → Option Rolled) (f : Folders) (plans : List SinkPlan) (sinks : List (AgentSink R A B)) → AreOfPlans f plans sinks → paths_of (backs_of rolled plans sinks) ≡ folders_of (take (length sinks) plans)
+are_paths rolled f plans [] are = refl
+are_paths rolled f [] (s ∷ sinks) are = absurd are
+are_paths rolled f (p ∷ plans) (s ∷ sinks) are =
+    paths_append (back_of rolled p.kind s) (backs_of rolled plans sinks)
+    ∙ ap (λ (l : List (List ℕ)). l ++ paths_of (backs_of rolled plans sinks)) (kind_paths rolled f p.kind s are.0)
+    ∙ ap (λ (l : List (List ℕ)). folder_of p.kind ++ l) (are_paths rolled f plans sinks are.1)
+
+-- one plan more
+pub folders_more : (plans : List SinkPlan) (i : ℕ) (d : SinkPlan) → i < length plans → folders_of (take (i + 1) plans) ≡ folders_of (take i plans) ++ folder_of (get_or plans i d).kind
+folders_more plans i d below =
+    ap folders_of (take_more plans i d below) ∙ flat_map-append (λ (plan : SinkPlan). folder_of plan.kind) (take i plans) (get_or plans i d ∷ [])
+    ∙ ap (λ (l : List (List ℕ)). folders_of (take i plans) ++ l) (append-nil (folder_of (get_or plans i d).kind))

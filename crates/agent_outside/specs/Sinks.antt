@@ -1,0 +1,98 @@
+-- The sinks of an agent, by their plans.
+use Rattle.std.specs.Prelude.{◌≡◌, ◌≤◌, ◌⊎◌, ℕ, List, [], ◌∷◌, ◌++◌, flat_map, take, Option, None, Result, Ok, Err, IsTrue, string_bytes}
+use Rattle.flume_host.specs.Causes.{Rose}
+use Rattle.flume_host.specs.HostState.{Folders, HostState}
+use Rattle.flume_host.specs.Rolled.{Rolled}
+use Rattle.flume_host.specs.declared.names.NameRefused.{NameRefused}
+use Rattle.flume_host.specs.declared.names.NameRefused.TheVariants.{Failed}
+use Rattle.flume_config.specs.declared.plan.SinkPlan.{SinkPlan}
+use Rattle.flume_config.specs.declared.plan.SinkKind.{SinkKind}
+use Rattle.flume_config.specs.declared.plan.SinkKind.TheVariants as plan
+use Rattle.roll_sink.specs.States.{state_of}
+use Rattle.agent_sinks.specs.declared.sink.AgentSink.{AgentSink}
+use Rattle.agent_sinks.specs.declared.sink.AgentSink.TheVariants.{Null, Roll, Avro, Boxed}
+use Rattle.agent_outside.specs.Backs.{Reopened, RollBack, RollsOut}
+
+-- it drops what it is handed, or writes rolled files
+abbrev pub IsPlain : SinkKind → Type 0
+IsPlain plan.Null = Unit {0}
+IsPlain (plan.Roll folder interval) = Unit {0}
+IsPlain (plan.Avro host port) = ⊥
+IsPlain (plan.Plugin name) = ⊥
+
+-- the path of its folder, if it has one
+abbrev pub folder_of : SinkKind → List (List ℕ)
+folder_of plan.Null = []
+folder_of (plan.Roll folder interval) = string_bytes folder ∷ []
+folder_of (plan.Avro host port) = []
+folder_of (plan.Plugin name) = []
+
+abbrev pub folders_of : List SinkPlan → List (List ℕ)
+folders_of plans = flat_map (λ (plan : SinkPlan). folder_of plan.kind) plans
+
+-- the sink is of the kind of its plan, and its folder was opened, so it can be given back
+abbrev pub IsOfKind : {R A B : Type 0} → Folders → SinkKind → AgentSink R A B → Type 0
+IsOfKind folders plan.Null (Null sink) = Unit {0}
+IsOfKind folders (plan.Roll folder interval) (Roll sink) = IsTrue (folders.roll_opened (string_bytes folder))
+IsOfKind folders (plan.Avro host port) (Avro sink) = Unit {0}
+IsOfKind folders (plan.Plugin name) (Boxed sink) = Unit {0}
+IsOfKind folders kind sink = ⊥
+
+-- these are the sinks of the first of these plans, in their order
+abbrev pub AreOfPlans : {R A B : Type 0} → Folders → List SinkPlan → List (AgentSink R A B) → Type 0
+AreOfPlans folders plans [] = Unit {0}
+AreOfPlans folders [] (sink ∷ sinks) = ⊥
+AreOfPlans folders (plan ∷ plans) (sink ∷ sinks) = IsOfKind folders plan.kind sink × AreOfPlans folders plans sinks
+
+-- the folder of a sink, if it has one
+abbrev pub back_of : {R A B : Type 0} → (R → Option Rolled) → SinkKind → AgentSink R A B → List RollBack
+back_of rolled (plan.Roll folder interval) (Roll sink) = record { path = string_bytes folder; told = rolled sink.dir } ∷ []
+back_of rolled kind sink = []
+
+-- the folders of the sinks of the first of these plans, in their order
+abbrev pub backs_of : {R A B : Type 0} → (R → Option Rolled) → List SinkPlan → List (AgentSink R A B) → List RollBack
+backs_of rolled plans [] = []
+backs_of rolled [] (sink ∷ sinks) = []
+backs_of rolled (plan ∷ plans) (sink ∷ sinks) = back_of rolled plan.kind sink ++ backs_of rolled plans sinks
+
+-- a sink of rolled files has the interval of its plan and delivered nothing, and its folder has counted no fault
+abbrev pub IsNew : {R A B : Type 0} → (R → ℕ) → SinkKind → AgentSink R A B → Type 0
+IsNew faults (plan.Roll folder interval) (Roll sink) = (state_of sink ≡ record { interval = interval; start = None; next = 1; begun = None }) × (faults sink.dir ≡ 0)
+IsNew faults kind sink = Unit {0}
+
+-- so are the sinks of the first of these plans
+abbrev pub AreNew : {R A B : Type 0} → (R → ℕ) → List SinkPlan → List (AgentSink R A B) → Type 0
+AreNew faults plans [] = Unit {0}
+AreNew faults [] (sink ∷ sinks) = ⊥
+AreNew faults (plan ∷ plans) (sink ∷ sinks) = IsNew faults plan.kind sink × AreNew faults plans sinks
+
+-- The sinks of the first of these plans were opened, and nothing else of the folders changed.
+pub record SinksOpened {R A B : Type 0} (rolled : R → Option Rolled) (faults : R → ℕ) (plans : List SinkPlan) (old new : Folders) (sinks : List (AgentSink R A B)) : Type 0 where
+  pub are : AreOfPlans new plans sinks
+  pub made : AreNew faults plans sinks
+  pub out : RollsOut (backs_of rolled plans sinks) old new
+
+-- The sink of a plan was opened, and added to these.
+pub record SinkAdded {R A B : Type 0} (rolled : R → Option Rolled) (faults : R → ℕ) (kind : SinkKind) (old new : Folders) (before after : List (AgentSink R A B)) : Type 0 where
+  pub sink : AgentSink R A B
+  pub is : after ≡ before ++ sink ∷ []
+  pub of : IsOfKind new kind sink
+  pub made : IsNew faults kind sink
+  pub out : RollsOut (back_of rolled kind sink) old new
+
+-- The sink of a plan was not opened, or came back unused.
+pub record SinkUnopened (kind : SinkKind) (old new : Folders) : Type 0 where
+  pub paths : List (List ℕ)
+  pub which : (paths ≡ []) ⊎ (paths ≡ folder_of kind)
+  pub back : Reopened paths old new
+
+-- The sinks of the first of these plans were opened and came back unused.
+pub record SinksRefused (plans : List SinkPlan) (old new : Folders) : Type 0 where
+  pub sinks : ℕ
+  pub back : Reopened (folders_of (take sinks plans)) old new
+
+-- What a host tells of itself after it opened something or failed to: its count of faults alone may have changed, and it
+-- rose where a fault is answered.
+abbrev pub OpensOrFails : {T : Type 0} → Result T NameRefused → HostState → HostState → Type 0
+OpensOrFails (Ok one) old new = new ≡ old
+OpensOrFails (Err refused) old new = (n : ℕ) × (new ≡ record old { faults = n }) × (old.faults ≤ n) × (refused ≡ Failed → Rose old.faults n)
