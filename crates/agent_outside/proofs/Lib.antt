@@ -1,3 +1,4 @@
 mod Backing
 mod Ordering
 mod Opening
+mod Ending

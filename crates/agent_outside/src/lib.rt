@@ -1,8 +1,11 @@
-//! What a run of an agent opens outside its channels, in order, and how all of it is given back: the folders of its sinks.
+//! What a run of an agent opens outside its channels, in order, and how all of it is given back: the folders of its sinks and
+//! the listeners of its sources.
 #![tactic(auto)]
 
 mod give;
+mod listener;
 mod sinks;
 
-pub use give::give_back_sinks;
+pub use give::{give_back_listeners, give_back_sinks};
+pub use listener::SourceListener;
 pub use sinks::open_sinks;
