@@ -2,3 +2,4 @@ mod Backing
 mod Ordering
 mod Opening
 mod Ending
+mod Listening

@@ -1,3 +1,4 @@
 pub mod Backs
 pub mod Sinks
 pub mod Ends
+pub mod Listening

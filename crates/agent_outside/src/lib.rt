@@ -4,8 +4,10 @@
 
 mod give;
 mod listener;
+mod listeners;
 mod sinks;
 
 pub use give::{give_back_listeners, give_back_sinks};
 pub use listener::SourceListener;
+pub use listeners::open_listeners;
 pub use sinks::open_sinks;
