@@ -13,10 +13,11 @@ use Rattle.channel_face.specs.Machine.{State, base_of, close, entries, entry_of,
 use Rattle.channel_face.proofs.Numbers.{Rising, among_times, distinct, distinct_times, rising_base, times, times-append}
 use Rattle.channel_face.proofs.Opened.{entry_times, opened-without, opened_times, times-push}
 use Rattle.channel_places.specs.Looks.{Known, LookLeft, LookStaged, Looks, LooksListed, LooksOpen, Places, held_in, puts_in, puts_of_open, staged_of}
+use Rattle.channel_places.specs.Ends.{one_if_staged}
 use Rattle.channel_places.proofs.Looking.{puts_length}
 use Rattle.channel_places.proofs.Opening.{entry_of_without, entry_of_without-other, length-without, rise-without, size-without, size_put}
 
-among_same : (xs ys : List ℕ) (m : ℕ) → times m ys ≡ times m xs → is_among ys m ≡ is_among xs m
+pub among_same : (xs ys : List ℕ) (m : ℕ) → times m ys ≡ times m xs → is_among ys m ≡ is_among xs m
 among_same xs ys m is = from (among_times m xs) (among_times m ys)
   where
     from : ((is_among xs m ≡ true) × (1 ≤ times m xs)) ⊎ ((is_among xs m ≡ false) × (times m xs ≡ 0)) → ((is_among ys m ≡ true) × (1 ≤ times m ys)) ⊎ ((is_among ys m ≡ false) × (times m ys ≡ 0)) → is_among ys m ≡ is_among xs m
@@ -25,11 +26,23 @@ among_same xs ys m is = from (among_times m xs) (among_times m ys)
     from (inr a) (inl b) = absurd (omega (arith, a.1, b.1, is))
     from (inr a) (inr b) = b.0 ∙ sym a.0
 
-left_same : (known : Known) (xs ys : List ℕ) (live : List Left) (items : List (ℕ × Content)) → ((m : ℕ) → is_among ys m ≡ is_among xs m) → LookLeft known xs live items → LookLeft known ys live items
+pub left_same : (known : Known) (xs ys : List ℕ) (live : List Left) (items : List (ℕ × Content)) → ((m : ℕ) → is_among ys m ≡ is_among xs m) → LookLeft known xs live items → LookLeft known ys live items
 left_same known xs ys [] [] same look = tt
 left_same known xs ys [] (x ∷ items) same look = absurd look
 left_same known xs ys (l ∷ live) [] same look = absurd look
 left_same known xs ys (l ∷ live) (x ∷ items) same look = ((look.0.0, look.0.1 ∙ sym (same x.0), look.0.2), left_same known xs ys live items same look.1)
+
+-- the open transactions, of which one is open no more
+pub opened_gone : (known : Known) (p : Places) (s : State) (t : Table) (n : ℕ) → Looks known p s → HasAt n None p.opened t → (m : ℕ) → LooksOpen known s.rules.limits.txn_capacity (open_at t m) (entry_of m (without_entry n s.opened))
+opened_gone known p s t n looks has m = from (eqb_tells m n)
+  where
+    cap : ℕ
+    cap = s.rules.limits.txn_capacity
+
+    from : ((m == n) ≡ true) × (m ≡ n) ⊎ ((m == n) ≡ false) × (m ≢ n) → LooksOpen known cap (open_at t m) (entry_of m (without_entry n s.opened))
+    from (inl here) =
+        subst (λ (k : ℕ). LooksOpen known cap (open_at t k) (entry_of k (without_entry n s.opened))) (sym here.1) (rw (has.here_is, entry_of_without 0 s.txn n s.opened looks.sound.opened) tt)
+    from (inr other) = rw (has.others m other.1, entry_of_without-other m n s.opened other.1) (looks.opened m)
 
 -- A transaction is open no more, and these are staged: what is held is the same.
 pub gone_looks : (known : Known) (p : Places) (s : State) (t : Table) (n : ℕ) (e : Entry) (listed : List Listed) (staged : List Entry) (open_puts : ℕ) → Looks known p s → entry_of n s.opened ≡ Some e → HasAt n None p.opened t → length t + 1 ≡ length p.opened
@@ -43,7 +56,7 @@ gone_looks known p s t n e listed staged open_puts looks is has many look journa
     staged = journal;
   };
   left = left_same known (held_in s) held p.live s.items (λ m. among_same (held_in s) held m (all_same m)) looks.left;
-  opened = each;
+  opened = opened_gone known p s t n looks has;
   as_many = omega (arith, many, looks.as_many, length-without n s.opened e is);
   open_puts = omega (arith, looks.open_puts, puts, size-without n s.opened e is);
   staged = look;
@@ -63,17 +76,6 @@ gone_looks known p s t n e listed staged open_puts looks is has many look journa
       times-append m (taken_numbers (entries (without_entry n s.opened))) (taken_numbers staged),
       times-append m (taken_numbers (entries s.opened)) (taken_numbers s.staged),
     )
-
-    cap : ℕ
-    cap = s.rules.limits.txn_capacity
-
-    each : (m : ℕ) → LooksOpen known cap (open_at t m) (entry_of m (without_entry n s.opened))
-    each m = from (eqb_tells m n)
-      where
-        from : ((m == n) ≡ true) × (m ≡ n) ⊎ ((m == n) ≡ false) × (m ≢ n) → LooksOpen known cap (open_at t m) (entry_of m (without_entry n s.opened))
-        from (inl here) =
-            subst (λ (k : ℕ). LooksOpen known cap (open_at t k) (entry_of k (without_entry n s.opened))) (sym here.1) (rw (has.here_is, entry_of_without 0 s.txn n s.opened looks.sound.opened) tt)
-        from (inr other) = rw (has.others m other.1, entry_of_without-other m n s.opened other.1) (looks.opened m)
 
 -- What a transaction that is open has, by pointers and by events.
 pub record HasBoth (known : Known) (listed : Listed) (e : Option Entry) : Type 0 where
@@ -165,6 +167,13 @@ one_staged (Puts []) = omega arith
 one_staged (Puts (p ∷ pointers)) = omega arith
 one_staged (Takes []) = omega arith
 one_staged (Takes (n ∷ numbers)) = omega arith
+
+pub one_more : (staged : List Listed) (l : Listed) → one_if_staged (staged ++ staged_of l) ≤ one_if_staged staged + 1
+one_more (x ∷ staged) l = omega arith
+one_more [] (Puts []) = omega arith
+one_more [] (Puts (p ∷ pointers)) = omega arith
+one_more [] (Takes []) = omega arith
+one_more [] (Takes (n ∷ numbers)) = omega arith
 
 -- a transaction of puts is dropped
 pub drop_looks : (known : Known) (p : Places) (s : State) (t : Table) (n : ℕ) (l : Listed) (open_puts : ℕ) → Looks known p s → HasBoth known l (entry_of n s.opened) → is_puts l ≡ true → HasAt n None p.opened t → length t + 1 ≡ length p.opened

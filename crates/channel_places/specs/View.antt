@@ -4,6 +4,7 @@ use Rattle.open_table.specs.Tables.{listed_of, open_at}
 use Rattle.channel_face.specs.Machine.{State}
 use Rattle.channel_face.specs.declared.replies.Kind.TheVariants.{File}
 use Rattle.channel_places.specs.Looks.{IsWithinRoom, Known, Looks, Places, count_in, puts_in}
+use Rattle.channel_places.specs.Ends.{one_if_staged}
 use Rattle.channel_places.specs.declared.places.Held.TheInside.{Inside}
 
 abbrev pub places_of : Inside → Places
@@ -38,6 +39,8 @@ pub record IsHeld (p : Places) (slots top open_txns staged_puts room : ℕ) : Ty
   pub below : top ≤ p.numbers.first
   pub numbers : p.numbers.first + staged_puts < 2 ^ 64
   pub fits : length p.staged + open_txns ≤ room
+  -- each frame of this life, from 1 on, had a transaction of its own
+  pub frames : p.numbers.frame + one_if_staged p.staged + length p.opened ≤ p.numbers.txn
 
 abbrev pub IsHeldInside : Inside → Type 0
 IsHeldInside h = IsHeld (places_of h) h.ring.slots h.ring.top h.open_txns h.staged_puts (vec_capacity h.staged)

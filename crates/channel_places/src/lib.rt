@@ -2,6 +2,7 @@
 #![tactic(auto)]
 
 mod places;
+mod settling;
 mod staging;
 
 pub use places::Held;

@@ -1,5 +1,5 @@
 // The pointers of a channel's events, and each call of the channel on them that needs no disk.
-ghost use Rattle.std.specs.Prelude.{◌≡◌, ◌<◌, ◌≤◌, ◌+◌, ◌^◌, ◌++◌, ◌∷◌, [], ℕ, List, length, Some, None, IsSome, IfNone, IfOk, IfSome, OnOk, OnErr, true};
+ghost use Rattle.std.specs.Prelude.{◌≡◌, ◌<◌, ◌≤◌, ◌+◌, ◌^◌, ◌++◌, ◌∷◌, [], ℕ, List, length, Some, None, IsSome, IfNone, IfOk, IfSome, OnOk, OnErr, true, false};
 ghost use Rattle.event_core.specs.Content.{Content};
 ghost use Rattle.event_core.specs.Content as contents;
 ghost use Rattle.event_core.specs.Journal.{IsBase};
@@ -12,6 +12,7 @@ ghost use Rattle.open_table.specs.declared.opened.Item.TheVariants.{Put, Take};
 ghost use Rattle.record_form.specs.declared.record.Pointer as pointers;
 ghost use Rattle.channel_places.specs.Looks.{IsFree, IsOpenFor, Known, LookLeft, Looks, MayPut, MayTake, Steps, puts_in, puts_of_open, with_begun};
 
+use crate::settling::{append_staged, free_takes, one_if_staged, remove_staged};
 use crate::staging::{push_ended, put_count};
 use channel_face::{BeginRefused, Counter, Limits, PutRefused, PutTxn, TakeRefused, TakeTxn};
 use event_core::NoMemory;
@@ -72,6 +73,7 @@ impl Held {
         requires slots { ring.slots ≡ limits.capacity }
         requires room { length ring.live ≤ limits.capacity }
         requires below { ring.top ≤ first }
+        requires txn { 1 ≤ txn }
         ensures { IfOk result (λ held. (known : Known) (o : Opening) → o.base.first ≡ first → o.txn ≡ txn
             → o.rules ≡ record { kind = File; limits = limits } → LookLeft known [] ring.live o.base.items → IsBase o.base
             → Looks known held (opening o)) }
@@ -307,6 +309,28 @@ impl Held {
         let ended = self.table.end(number);
         self.open_txns -= 1;
         self.open_puts -= put_count(&ended);
+    }
+
+    /// Takes a transaction of takes that is open out of the open ones: what it took is free again, in its place. It takes no memory.
+    pub fn drop_takes(&mut self, number: u64)
+        requires { is_open false (open_at self.old.opened number) ≡ true }
+        ensures { (known : Known) (s : State) → Looks known self.old s → Looks known self.new (close number s) }
+    {
+        let ended = self.table.end(number);
+        self.open_txns -= 1;
+        free_takes(&mut self.ring, &ended);
+    }
+
+    /// What is staged counts from now on: the events that were taken leave, and behind the others come those that were put, with
+    /// the next numbers. It takes no memory.
+    pub fn settle(&mut self)
+        ensures { (known : Known) (s : State) → Looks known self.old s → Looks known self.new (face.settle s) }
+    {
+        self.frame += one_if_staged(&self.staged);
+        remove_staged(&mut self.ring, &self.staged);
+        self.first = append_staged(&mut self.ring, &self.staged, self.first);
+        self.staged.clear();
+        self.staged_puts = 0;
     }
 
     /// No call but a rollback goes on from now on.

@@ -2,6 +2,7 @@ use Rattle.std.proofs.Common.{◌≡◌, ◌++◌, ◌∷◌, [], ◌+◌, List,
 use Rattle.std.proofs.lemmas.List.{length-map}
 use Rattle.open_table.specs.Tables.{Listed, listed_of}
 use Rattle.open_table.specs.declared.opened.Ended.{Ended}
+use Rattle.channel_places.specs.Ends.{one_if_staged}
 use Rattle.channel_places.specs.Looks.{Looks, Places, no_entry, puts_in}
 use Rattle.channel_places.specs.View.{places_of}
 use Rattle.channel_places.proofs.Looking.{begun_looks, begun_within, next_not_open, restaged, rooms_stay}
@@ -30,6 +31,7 @@ invariant_of-self-in-Ok c =
       below = i.below;
       numbers = i.numbers;
       fits = omega (arith, c.in_ok-reserve.ensures.ok, c.reserve.ensures.items, length-map c.reserve.new.self.items listed_of);
+      frames = omega (arith, i.frames, c.in-Ok.ensures.begun.1, ap (λ (l : List Listed). one_if_staged l) staged);
     }
 
 pub returns-in-Ok-clause-ok : goal.returns-in-Ok-clause-ok

@@ -38,6 +38,7 @@ invariant_of-self c =
       below = i.below;
       numbers = i.numbers;
       fits = omega (arith, i.fits);
+      frames = omega (arith, i.frames, c.end-ended.ensures.count);
     }
 
 pub returns : goal.returns

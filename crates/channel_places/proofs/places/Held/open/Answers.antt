@@ -3,6 +3,7 @@ use Rattle.open_table.specs.Tables.{Listed, Table, listed_of, open_at}
 use Rattle.open_table.specs.declared.opened.Ended.{Ended}
 use Rattle.channel_face.specs.History.{Opening, opening}
 use Rattle.channel_face.specs.declared.replies.Kind.TheVariants.{File}
+use Rattle.channel_places.specs.Ends.{one_if_staged}
 use Rattle.channel_places.specs.Looks.{IsWithinRoom, puts_in}
 use Rattle.channel_places.proofs.Looking.{opened_looks}
 use Rattle.channel_places.proofs.places.Held.open.Goals as goal
@@ -34,4 +35,5 @@ invariant_of-result c =
       below = c.requires.below;
       numbers = omega (arith, c.ranges.first.fits);
       fits = omega (arith, ap (λ (l : List Listed). length l) staged);
+      frames = omega (arith, c.requires.txn, ap (λ (l : List Listed). one_if_staged l) staged, ap (λ (t : Table). length t) c.in-Ok.ensures);
     }

@@ -31,6 +31,7 @@ invariant_of-self c =
       below = i.below;
       numbers = i.numbers;
       fits = i.fits;
+      frames = omega (arith, i.frames, c.add.ensures.count);
     }
 
 pub returns : goal.returns

@@ -22,6 +22,7 @@ invariant_of-self c =
       below = i.below;
       numbers = i.numbers;
       fits = i.fits;
+      frames = i.frames;
     }
 
 pub returns : goal.returns

@@ -1,10 +1,11 @@
 use Rattle.std.proofs.Common.{◌≡◌, ◌+◌, ◌-◌, ◌<◌, ◌^◌, List, None, ap, arith, length, length-append, map, subst, sym}
 use Rattle.open_table.specs.Tables.{Listed, listed_of, open_at}
 use Rattle.channel_face.specs.Machine.{entry_of, stage}
+use Rattle.channel_places.specs.Ends.{one_if_staged}
 use Rattle.channel_places.specs.Looks.{Looks, Places, puts_in, puts_of_open, staged_of}
 use Rattle.channel_places.specs.View.{places_of}
 use Rattle.channel_places.proofs.Looking.{rooms_stay}
-use Rattle.channel_places.proofs.Ending.{both_of, one_staged, open_fits, open_size, puts_in-append, puts_in-staged, stage_looks}
+use Rattle.channel_places.proofs.Ending.{both_of, one_more, one_staged, open_fits, open_size, puts_in-append, puts_in-staged, stage_looks}
 use Rattle.channel_places.proofs.places.Held.stage.Goals as goal
 
 pub overflow_sub-self-2 : goal.overflow_sub-self-2
@@ -42,6 +43,7 @@ invariant_of-self c =
       below = i.below;
       numbers = omega (arith, below, i.staged_puts_are, open_size (open_at p.opened n) l c.end-ended.ensures.ended, c.put_count-puts.ensures);
       fits = omega (arith, i.fits, i.open_are, c.end-ended.ensures.count, c.push_ended.ensures.room, one_staged l, length-append p.staged (staged_of l), ap (λ (x : List Listed). length x) c.push_ended.ensures.items);
+      frames = omega (arith, i.frames, c.end-ended.ensures.count, ap (λ (x : List Listed). one_if_staged x) c.push_ended.ensures.items, one_more p.staged l);
     }
 
 pub returns : goal.returns

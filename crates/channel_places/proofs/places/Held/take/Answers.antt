@@ -38,6 +38,7 @@ invariant_of-self c =
       below = omega (arith, i.below, ap (λ (x : Index). x.top) c.mark.ensures);
       numbers = i.numbers;
       fits = i.fits;
+      frames = omega (arith, i.frames, c.add.ensures.count);
     }
 
 pub returns-in-Some : goal.returns-in-Some

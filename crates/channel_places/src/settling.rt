@@ -1,0 +1,109 @@
+// What the end of transactions does to a ring. Nothing here takes memory.
+ghost use Rattle.std.specs.Prelude.{◌≡◌, ◌<◌, ◌≤◌, ◌+◌, ◌^◌, length, map};
+ghost use Rattle.open_table.specs.Tables.{listed_of, puts_of, takes_of};
+ghost use Rattle.channel_places.specs.Ends.{AreApart, AreLive, IsAppended, freed, lacking, one_if_staged, pointers_in, takes_in};
+
+use event_ring::Ring;
+use open_table::Ended;
+use record_form::Pointer;
+
+// Holds events no longer.
+fn free_all(ring: &mut Ring, numbers: &[u64])
+    requires { AreLive ring.old.live numbers.now }
+    ensures { ring.new ≡ record ring.old { live = freed numbers.now ring.old.live } }
+{
+    for place in 0..numbers.len() {
+        ring.free(numbers[place]);
+    }
+}
+
+// Takes events out.
+fn remove_all(ring: &mut Ring, numbers: &[u64])
+    requires { AreApart ring.old.live numbers.now }
+    ensures { ring.new ≡ record ring.old { live = lacking numbers.now ring.old.live } }
+{
+    for place in 0..numbers.len() {
+        ring.gone(numbers[place]);
+    }
+}
+
+// Adds events at these pointers, with numbers from this one on.
+fn append(ring: &mut Ring, pointers: &[Pointer], first: u64)
+    requires above { ring.old.top ≤ first }
+    requires low { first + length pointers.now < 2 ^ 64 }
+    requires room { length ring.old.live + length pointers.now ≤ ring.old.slots }
+    ensures { IsAppended first pointers.now ring.old ring.new }
+{
+    for place in 0..pointers.len() {
+        ring.push(first + place as u64, pointers[place]);
+    }
+}
+
+// Holds what a transaction takes no longer.
+pub(crate) fn free_takes(ring: &mut Ring, ended: &Ended)
+    requires { AreLive ring.old.live (takes_of (listed_of ended.now)) }
+    ensures { ring.new ≡ record ring.old { live = freed (takes_of (listed_of ended.now)) ring.old.live } }
+{
+    if let Ended::Takes(numbers) = ended {
+        free_all(ring, numbers);
+    }
+}
+
+// Takes out what a transaction takes.
+fn remove_takes(ring: &mut Ring, ended: &Ended)
+    requires { AreApart ring.old.live (takes_of (listed_of ended.now)) }
+    ensures { ring.new ≡ record ring.old { live = lacking (takes_of (listed_of ended.now)) ring.old.live } }
+{
+    if let Ended::Takes(numbers) = ended {
+        remove_all(ring, numbers);
+    }
+}
+
+// Adds the puts of a transaction, with numbers from this one on. The number behind them.
+fn append_puts(ring: &mut Ring, ended: &Ended, first: u64) -> u64
+    requires above { ring.old.top ≤ first }
+    requires low { first + length (puts_of (listed_of ended.now)) < 2 ^ 64 }
+    requires room { length ring.old.live + length (puts_of (listed_of ended.now)) ≤ ring.old.slots }
+    ensures appended { IsAppended first (puts_of (listed_of ended.now)) ring.old ring.new }
+    ensures next { result ≡ first + length (puts_of (listed_of ended.now)) }
+{
+    match ended {
+        Ended::Puts(pointers) => {
+            append(ring, pointers, first);
+            first + pointers.len() as u64
+        }
+        Ended::Takes(_) => first,
+    }
+}
+
+// Takes out what staged transactions take.
+pub(crate) fn remove_staged(ring: &mut Ring, staged: &[Ended])
+    requires { AreApart ring.old.live (takes_in (map listed_of staged.now)) }
+    ensures { ring.new ≡ record ring.old { live = lacking (takes_in (map listed_of staged.now)) ring.old.live } }
+{
+    for place in 0..staged.len() {
+        remove_takes(ring, &staged[place]);
+    }
+}
+
+// Adds the puts of staged transactions, with numbers from this one on. The number behind them.
+pub(crate) fn append_staged(ring: &mut Ring, staged: &[Ended], first: u64) -> u64
+    requires above { ring.old.top ≤ first }
+    requires low { first + length (pointers_in (map listed_of staged.now)) < 2 ^ 64 }
+    requires room { length ring.old.live + length (pointers_in (map listed_of staged.now)) ≤ ring.old.slots }
+    ensures appended { IsAppended first (pointers_in (map listed_of staged.now)) ring.old ring.new }
+    ensures next { result ≡ first + length (pointers_in (map listed_of staged.now)) }
+{
+    let mut next = first;
+    for place in 0..staged.len() {
+        next = append_puts(ring, &staged[place], next);
+    }
+    next
+}
+
+// 1 where something is staged.
+pub(crate) fn one_if_staged(staged: &[Ended]) -> u64
+    ensures { result ≡ one_if_staged (map listed_of staged.now) }
+{
+    if staged.is_empty() { 0 } else { 1 }
+}
