@@ -62,6 +62,19 @@ fn move_pointers(pointers: &mut [Pointer], file: u32, at: u64, to_file: u32, to_
     }
 }
 
+impl Ended {
+    /// Moves its pointers into a file at this offset or behind it to another file. It takes no memory.
+    pub fn move_puts(&mut self, file: u32, at: u64, to_file: u32, to_at: u64)
+        requires { MayMove file at to_at (listed_of self.old) }
+        ensures moved { listed_of self.new ≡ moved file at to_file to_at (listed_of self.old) }
+        ensures room { capacity_of self.new ≡ capacity_of self.old }
+    {
+        if let Ended::Puts(pointers) = self {
+            move_pointers(pointers, file, at, to_file, to_at);
+        }
+    }
+}
+
 // The most puts or takes for which more room can be made.
 const MOST_WIDENED: usize = 0x7fff_ffff;
 
@@ -154,9 +167,7 @@ impl Opened {
         requires { MayMove file at to_at self.old.listed }
         ensures { self.new ≡ record self.old { listed = moved file at to_file to_at self.old.listed } }
     {
-        if let Ended::Puts(pointers) = &mut self.list {
-            move_pointers(pointers, file, at, to_file, to_at);
-        }
+        self.list.move_puts(file, at, to_file, to_at);
     }
 
     /// Whether it has puts.
