@@ -5,7 +5,7 @@ use Rattle.open_table.specs.Tables.{listed_of}
 use Rattle.open_table.specs.declared.opened.Ended.{Ended}
 use Rattle.record_form.specs.declared.record.Pointer.{Pointer}
 use Rattle.event_ring.specs.Slots.{Index, IsLive, Left, lasting, marked}
-use Rattle.channel_places.specs.Ends.{AreApart, AreLive, IsAppended, freed, lacking, placed}
+use Rattle.channel_places.specs.Ends.{AreApart, AreLive, IsAppended, lacking, placed}
 
 live_marked : (n m : ℕ) (live : List Left) → IsLive live m → IsLive (marked n false live) m
 live_marked n m [] is = is

@@ -3,17 +3,16 @@ use Rattle.std.proofs.Common.{◌⊎◌, inl, inr, ◌≡◌, ◌≢◌, ◌≤�
 use Rattle.std.specs.Prelude.{◌||◌}
 use Rattle.std.proofs.lemmas.Bool.Decides.{eqb_tells}
 use Rattle.event_core.specs.Content.{Content}
-use Rattle.event_core.specs.Journal.{AreDistinctOf, IsBase, is_among, left, next, numbered, put_events, taken_numbers, without}
+use Rattle.event_core.specs.Journal.{is_among, left, numbered, put_events, taken_numbers, without}
 use Rattle.event_core.specs.declared.journal.Entry.{Entry}
 use Rattle.event_core.specs.declared.journal.Entry.TheVariants as entry
 use Rattle.record_form.specs.declared.record.Pointer.{Pointer}
-use Rattle.open_table.specs.Tables.{Listed, Puts, Takes, puts_of, takes_of}
-use Rattle.event_ring.specs.Slots.{IsLive, Left, lasting}
+use Rattle.open_table.specs.Tables.{Listed, Puts, Takes, puts_of}
+use Rattle.event_ring.specs.Slots.{Left, lasting}
 use Rattle.channel_face.specs.Machine.{State, base_of, entries, is_none_staged, settle}
 use Rattle.channel_face.proofs.Numbers.{Rising, among_times, base_rising, distinct, distinct_times, number_high, number_of, number_of-append, number_of-without, number_once, other_number, rising-left, rising_base, same_number, times, times-append, without-append, without-both, without_above, without_none}
 use Rattle.channel_places.specs.Ends.{AreApart, lacking, one_if_staged, placed, pointers_in, takes_in}
-use Rattle.channel_places.specs.Looks.{Known, LookLeft, LookPuts, LookStaged, Looks, Numbers, Places, StandsIn, held_in, numbers_of, puts_in}
-use Rattle.channel_places.proofs.Batches.{length_placed}
+use Rattle.channel_places.specs.Looks.{Known, LookLeft, LookPuts, LookStaged, Looks, Numbers, Places, held_in, numbers_of, puts_in}
 use Rattle.channel_places.proofs.Ending.{among_same}
 use Rattle.channel_places.proofs.Freeing.{left_live}
 

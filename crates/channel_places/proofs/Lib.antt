@@ -6,3 +6,5 @@ pub mod Ending
 pub mod Batches
 pub mod Freeing
 pub mod Leaving
+pub mod Renewing
+pub mod Moved

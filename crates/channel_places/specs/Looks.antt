@@ -5,7 +5,7 @@ use Rattle.event_core.specs.Journal.{AreDistinctOf, IsBase, IsJournal, is_among,
 use Rattle.event_core.specs.declared.journal.Entry.{Entry}
 use Rattle.event_core.specs.declared.journal.Entry.TheVariants as entry
 use Rattle.record_form.specs.declared.record.Pointer.{Pointer}
-use Rattle.open_table.specs.Tables.{Listed, Puts, Takes, Open, Table, MayAdd, open_at, puts_of, size}
+use Rattle.open_table.specs.Tables.{Listed, Puts, Takes, Open, Table, MayAdd, moved_pointer, open_at, puts_of, size}
 use Rattle.open_table.specs.declared.opened.Item.TheVariants.{Put, Take}
 use Rattle.event_ring.specs.Slots.{Left}
 use Rattle.channel_face.specs.Machine.{Call, Rules, State, Admits, after, base_of, entries, entry_of}
@@ -150,6 +150,10 @@ staged_of listed = listed ∷ []
 abbrev pub puts_of_open : Option Open → ℕ
 puts_of_open None = 0
 puts_of_open (Some o) = length (puts_of o.listed)
+
+-- each event that is known to stand at a pointer is known to stand where that pointer was moved
+abbrev pub Moves : ℕ → ℕ → ℕ → ℕ → Known → Known → Type 0
+Moves file at to_file to_at known more = (p : Pointer) (event : Content) → StandsIn known p event → StandsIn more (moved_pointer file at to_file to_at p) event
 
 -- the first free event, with its pointer
 abbrev pub IsFree : Known → Option (ℕ × Pointer) → List (ℕ × Content) → Type 0

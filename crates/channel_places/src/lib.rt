@@ -1,6 +1,7 @@
 //! What a channel keeps of its events in memory: where they stand, and which transaction has which.
 #![tactic(auto)]
 
+mod moving;
 mod places;
 mod settling;
 mod staging;

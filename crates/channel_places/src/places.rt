@@ -1,18 +1,20 @@
 // The pointers of a channel's events, and each call of the channel on them that needs no disk.
-ghost use Rattle.std.specs.Prelude.{◌≡◌, ◌<◌, ◌≤◌, ◌+◌, ◌^◌, ◌++◌, ◌∷◌, [], ℕ, List, length, Some, None, IsSome, IfNone, IfOk, IfSome, OnOk, OnErr, true, false};
+ghost use Rattle.std.specs.Prelude.{◌≡◌, ◌<◌, ◌≤◌, ◌+◌, ◌^◌, ◌++◌, ◌∷◌, ◌-◌, [], ℕ, List, length, Some, None, Ok, IsSome, IfNone, IfOk, IfSome, OnOk, OnErr, MatchOption, true, false};
+ghost use Rattle.std.specs.List.{AllByRecursion};
 ghost use Rattle.event_core.specs.Content.{Content};
 ghost use Rattle.event_core.specs.Content as contents;
 ghost use Rattle.event_core.specs.Journal.{IsBase};
 ghost use Rattle.channel_face.specs.History.{Opening, opening};
 ghost use Rattle.channel_face.specs.declared.replies.Kind.TheVariants.{File};
 ghost use Rattle.channel_face.specs.Machine as face;
-ghost use Rattle.channel_face.specs.Machine.{State, BeginPut, BeginTake, add_put, add_take, broken_state, close, entry_of, free, puts_of, takes_of};
-ghost use Rattle.open_table.specs.Tables.{MayAdd, is_open, open_at};
+ghost use Rattle.channel_face.specs.Machine.{Reopened, State, BeginPut, BeginTake, add_put, add_take, after_reopen, broken_state, close, entry_of, free, kept_base, puts_of, takes_of};
+ghost use Rattle.open_table.specs.Tables.{MayAdd, MayMove, is_open, open_at};
 ghost use Rattle.open_table.specs.declared.opened.Item.TheVariants.{Put, Take};
 ghost use Rattle.record_form.specs.declared.record.Pointer as pointers;
-ghost use Rattle.channel_places.specs.Looks.{IsFree, IsOpenFor, Known, LookLeft, Looks, MayPut, MayTake, Steps, puts_in, puts_of_open, with_begun};
+ghost use Rattle.channel_places.specs.Looks.{IsFree, IsOpenFor, Known, LookLeft, Looks, MayPut, MayTake, Moves, Steps, held_in, puts_in, puts_of_open, with_begun};
 
-use crate::settling::{append_staged, free_takes, one_if_staged, remove_staged};
+use crate::moving::move_staged;
+use crate::settling::{append_staged, end_all, free_takes, one_if_staged, remove_staged};
 use crate::staging::{push_ended, put_count};
 use channel_face::{BeginRefused, Counter, Limits, PutRefused, PutTxn, TakeRefused, TakeTxn};
 use event_core::NoMemory;
@@ -338,5 +340,63 @@ impl Held {
         ensures { (known : Known) (s : State) → Looks known self.old s → Looks known self.new (broken_state s) }
     {
         self.broken = true;
+    }
+
+    /// Each put that is open or staged and stands in `file` at the offset `at` or behind it is known to stand in `to_file` from now on,
+    /// as far behind `to_at`. Events that are left stay where they are. It takes no memory.
+    pub fn moved(&mut self, file: u32, at: u64, to_file: u32, to_at: u64)
+        requires opened { (txn : ℕ) → MatchOption (open_at self.old.opened txn) (Unit {0})
+            (λ o. MayMove file at to_at o.listed) }
+        requires staged { AllByRecursion (λ listed. MayMove file at to_at listed) self.old.staged }
+        ensures { (known more : Known) (s : State) → Looks known self.old s → Moves file at to_file to_at known more
+            → LookLeft more (held_in s) self.old.live s.items → Looks more self.new s }
+    {
+        self.table.moved(file, at, to_file, to_at);
+        move_staged(&mut self.staged, file, at, to_file, to_at);
+    }
+
+    /// In which of its lives the channel is, from 1 on.
+    pub fn life(&self) -> u64
+        ensures { result ≡ self.now.numbers.life }
+    {
+        self.life
+    }
+
+    /// The frames that the lives so far end with, should this one end now.
+    pub fn next_ends(&self) -> Result<Vec<u64>, NoMemory>
+        ensures { IfOk result (λ ends. ends.items ≡ self.now.numbers.ends ++ self.now.numbers.frame ∷ []) }
+    {
+        let mut ends = self.ends.clone()?;
+        ends.push(self.frame)?;
+        Ok(ends)
+    }
+
+    /// A new life of the channel, with the events that this ring has and these next numbers: nothing is open or staged. `ends` are
+    /// those that [`Held::next_ends`] gave. It takes no memory.
+    pub fn renew(&mut self, ends: Vec<u64>, ring: Ring, first: u64, txn: u64)
+        requires ends { ends.items ≡ self.old.numbers.ends ++ self.old.numbers.frame ∷ [] }
+        requires left { (known : Known) × (items : List (ℕ × Content))
+            × LookLeft known [] ring.live items × IsBase (record { items = items; first = first }) }
+        requires slots { ring.slots ≡ self.old.numbers.rules.limits.capacity }
+        requires room { length ring.live ≤ self.old.numbers.rules.limits.capacity }
+        requires below { ring.top ≤ first }
+        requires txn { 1 ≤ txn }
+        requires life { self.old.numbers.life < 2 ^ 64 - 1 }
+        ensures { (old known : Known) (s : State) (r : Reopened) → Looks old self.old s → r.txn ≡ txn
+            → (kept_base s r.kept).first ≡ first → LookLeft known [] ring.live (kept_base s r.kept).items
+            → IsBase (kept_base s r.kept) → Looks known self.new (after_reopen s (Ok r)) }
+    {
+        end_all(&mut self.table);
+        self.ring = ring;
+        self.staged.clear();
+        self.first = first;
+        self.txn = txn;
+        self.broken = false;
+        self.life += 1;
+        self.frame = 1;
+        self.ends = ends;
+        self.open_txns = 0;
+        self.open_puts = 0;
+        self.staged_puts = 0;
     }
 }

@@ -1,10 +1,10 @@
 // What the end of transactions does to a ring. Nothing here takes memory.
-ghost use Rattle.std.specs.Prelude.{◌≡◌, ◌<◌, ◌≤◌, ◌+◌, ◌^◌, length, map};
+ghost use Rattle.std.specs.Prelude.{◌≡◌, ◌<◌, ◌≤◌, ◌+◌, ◌^◌, [], length, map};
 ghost use Rattle.open_table.specs.Tables.{listed_of, puts_of, takes_of};
 ghost use Rattle.channel_places.specs.Ends.{AreApart, AreLive, IsAppended, freed, lacking, one_if_staged, pointers_in, takes_in};
 
 use event_ring::Ring;
-use open_table::Ended;
+use open_table::{Ended, OpenTable};
 use record_form::Pointer;
 
 // Holds events no longer.
@@ -106,4 +106,13 @@ pub(crate) fn one_if_staged(staged: &[Ended]) -> u64
     ensures { result ≡ one_if_staged (map listed_of staged.now) }
 {
     if staged.is_empty() { 0 } else { 1 }
+}
+
+// Ends all open transactions.
+pub(crate) fn end_all(table: &mut OpenTable)
+    ensures { table.new ≡ [] }
+{
+    while let Some(txn) = table.next_txn(None) {
+        let _ended = table.end(txn);
+    }
 }

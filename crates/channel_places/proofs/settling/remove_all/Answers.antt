@@ -1,4 +1,4 @@
-use Rattle.std.proofs.Common.{◌≡◌, ◌∙◌, ◌∷◌, ◌+◌, ℕ, List, ap, drop, subst, sym, slice_index_or}
+use Rattle.std.proofs.Common.{◌≡◌, ◌+◌, ℕ, List, drop, subst, sym}
 use Rattle.std.proofs.lemmas.List.{drop_more}
 use Rattle.event_ring.specs.Slots.{Index}
 use Rattle.channel_places.specs.Ends.{AreApart, lacking}

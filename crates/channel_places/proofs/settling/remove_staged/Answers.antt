@@ -1,4 +1,4 @@
-use Rattle.std.proofs.Common.{◌≡◌, ◌++◌, ◌+◌, ℕ, List, ap, drop, length, map, subst, sym}
+use Rattle.std.proofs.Common.{◌≡◌, ◌+◌, ℕ, List, drop, map, subst, sym}
 use Rattle.open_table.specs.Tables.{Listed, listed_of, takes_of}
 use Rattle.open_table.specs.declared.opened.Ended.{Ended}
 use Rattle.event_ring.specs.Slots.{Index, Left}

@@ -2,7 +2,6 @@ use Rattle.std.proofs.Common.{◌≡◌, ◌∙◌, None, List, ap, arith, lengt
 use Rattle.open_table.specs.Tables.{Listed, is_open, listed_of, open_at, takes_of}
 use Rattle.event_ring.specs.Slots.{Index, Left}
 use Rattle.channel_face.specs.Machine.{close, entry_of}
-use Rattle.channel_places.specs.Ends.{freed}
 use Rattle.channel_places.specs.Looks.{Looks, Places}
 use Rattle.channel_places.specs.View.{places_of}
 use Rattle.channel_places.proofs.Looking.{rooms_stay}

@@ -3,7 +3,7 @@ use Rattle.open_table.specs.Tables.{Listed, listed_of}
 use Rattle.open_table.specs.declared.opened.Ended.{Ended}
 use Rattle.event_ring.specs.Slots.{Index, Left}
 use Rattle.channel_face.specs.Machine as face
-use Rattle.channel_places.specs.Ends.{AreApart, lacking, one_if_staged, placed, pointers_in, takes_in}
+use Rattle.channel_places.specs.Ends.{AreApart, one_if_staged, placed, pointers_in, takes_in}
 use Rattle.channel_places.specs.Looks.{Looks, Places, puts_in}
 use Rattle.channel_places.specs.View.{places_of}
 use Rattle.channel_places.proofs.Batches.{length_placed}

@@ -1,0 +1,139 @@
+-- Puts that go from one file to another.
+use Rattle.std.proofs.Common.{inl, inr, ◌≡◌, ◌<◌, ◌+◌, ◌++◌, ◌∷◌, [], ℕ, zero, suc, List, length, take, drop, map, get_or, set, Option, Some, None, refl, sym, ◌∙◌, ap, subst, arith}
+use Rattle.std.specs.Prelude.{option_map}
+use Rattle.std.specs.List.{AllByRecursion}
+use Rattle.std.proofs.lemmas.List.{take_more, take_more_set, map-append, get_or-drop, drop-set-lt}
+use Rattle.std.proofs.lemmas.Grind.{drop_more_same}
+use Rattle.event_core.specs.Content.{Content}
+use Rattle.event_core.specs.declared.journal.Entry.{Entry}
+use Rattle.event_core.specs.declared.journal.Entry.TheVariants as entry
+use Rattle.record_form.specs.declared.record.Pointer.{Pointer}
+use Rattle.event_ring.specs.Slots.{Left}
+use Rattle.open_table.specs.Tables.{Listed, Open, Puts, Table, Takes, listed_of, moved, moved_open, moved_pointer, open_at, puts_of, size}
+use Rattle.open_table.specs.declared.opened.Ended.{Ended}
+use Rattle.channel_face.specs.Machine.{State, entry_of}
+use Rattle.channel_places.specs.Ends.{one_if_staged}
+use Rattle.channel_places.specs.Looks.{IsWithinRoom, Known, LookLeft, LookPuts, LookStaged, Looks, LooksListed, LooksOpen, Moves, Places, StandsIn, held_in, puts_in}
+use Rattle.channel_places.proofs.Opening.{left_grows}
+
+-- staged transactions, one after another
+
+pub same_here : (xs ys : List Ended) (i : ℕ) (d : Ended) → drop i xs ≡ drop i ys → get_or xs i d ≡ get_or ys i d
+same_here xs ys i d same =
+    let at : i + 0 ≡ i = omega arith in
+    sym (ap (λ (k : ℕ). get_or xs k d) at) ∙ (sym (get_or-drop i xs 0 d) ∙ (ap (λ (l : List Ended). get_or l 0 d) same ∙ (get_or-drop i ys 0 d ∙ ap (λ (k : ℕ). get_or ys k d) at)))
+
+pub front_more : (f : Listed → Listed) (xs ys : List Ended) (i : ℕ) (d y : Ended) → i < length xs → i < length ys → map listed_of (take i xs) ≡ map f (map listed_of (take i ys)) → drop i xs ≡ drop i ys → listed_of y ≡ f (listed_of (get_or xs i d))
+    → map listed_of (take (i + 1) (set xs i y)) ≡ map f (map listed_of (take (i + 1) ys))
+front_more f xs ys i d y below other front rest is =
+    let last : listed_of y ≡ f (listed_of (get_or ys i d)) = is ∙ ap (λ (e : Ended). f (listed_of e)) (same_here xs ys i d rest) in
+    ap (λ (l : List Ended). map listed_of l) (take_more_set xs i y below)
+    ∙ (map-append listed_of (take i xs) (y ∷ [])
+    ∙ (ap (λ (l : List Listed). l ++ listed_of y ∷ []) front
+    ∙ (ap (λ (l : Listed). map f (map listed_of (take i ys)) ++ l ∷ []) last
+    ∙ (sym (map-append f (map listed_of (take i ys)) (listed_of (get_or ys i d) ∷ []))
+    ∙ (ap (λ (l : List Listed). map f l) (sym (map-append listed_of (take i ys) (get_or ys i d ∷ [])))
+    ∙ sym (ap (λ (l : List Ended). map f (map listed_of l)) (take_more ys i d other)))))))
+
+pub rest_more : (xs ys : List Ended) (i : ℕ) (y : Ended) → drop i xs ≡ drop i ys → drop (i + 1) (set xs i y) ≡ drop (i + 1) ys
+rest_more xs ys i y rest = drop-set-lt (i + 1) xs i y (omega arith) ∙ drop_more_same xs ys i rest
+
+pub all_here : (P : Listed → Type 0) (ys : List Ended) (i : ℕ) (d : Ended) → AllByRecursion P (map listed_of ys) → i < length ys → P (listed_of (get_or ys i d))
+all_here P [] i d all less = absurd (omega (arith, less))
+all_here P (y ∷ ys) zero d all less = all.0
+all_here P (y ∷ ys) (suc i) d all less = all_here P ys i d all.1 (omega (arith, less))
+
+-- what looks like a state still does
+
+puts_moved : (known more : Known) (f : Pointer → Pointer) (pointers : List Pointer) (events : List Content) → ((p : Pointer) (event : Content) → StandsIn known p event → StandsIn more (f p) event) → LookPuts known pointers events → LookPuts more (map f pointers) events
+puts_moved known more f [] [] moves look = tt
+puts_moved known more f [] (e ∷ events) moves look = absurd look
+puts_moved known more f (p ∷ pointers) [] moves look = absurd look
+puts_moved known more f (p ∷ pointers) (e ∷ events) moves look = (moves p e look.0, puts_moved known more f pointers events moves look.1)
+
+listed_moved : (known more : Known) (file at to_file to_at : ℕ) (l : Listed) (e : Entry) → Moves file at to_file to_at known more → LooksListed known l e → LooksListed more (moved file at to_file to_at l) e
+listed_moved known more file at to_file to_at (Puts pointers) (entry.Puts events) moves look = puts_moved known more (moved_pointer file at to_file to_at) pointers events moves look
+listed_moved known more file at to_file to_at (Puts pointers) (entry.Takes numbers) moves look = absurd look
+listed_moved known more file at to_file to_at (Takes numbers) (entry.Puts events) moves look = absurd look
+listed_moved known more file at to_file to_at (Takes numbers) (entry.Takes taken) moves look = look
+
+open_moved : (known more : Known) (file at to_file to_at room : ℕ) (o : Option Open) (e : Option Entry) → Moves file at to_file to_at known more → LooksOpen known room o e → LooksOpen more room (option_map (moved_open file at to_file to_at) o) e
+open_moved known more file at to_file to_at room None None moves look = tt
+open_moved known more file at to_file to_at room None (Some e) moves look = absurd look
+open_moved known more file at to_file to_at room (Some o) None moves look = absurd look
+open_moved known more file at to_file to_at room (Some o) (Some e) moves look = (listed_moved known more file at to_file to_at o.listed e moves look.0, look.1)
+
+staged_moved : (known more : Known) (file at to_file to_at : ℕ) (listed : List Listed) (staged : List Entry) → Moves file at to_file to_at known more → LookStaged known listed staged → LookStaged more (map (moved file at to_file to_at) listed) staged
+staged_moved known more file at to_file to_at [] [] moves look = tt
+staged_moved known more file at to_file to_at [] (e ∷ staged) moves look = absurd look
+staged_moved known more file at to_file to_at (l ∷ listed) [] moves look = absurd look
+staged_moved known more file at to_file to_at (l ∷ listed) (e ∷ staged) moves look =
+    (listed_moved known more file at to_file to_at l e moves look.0, staged_moved known more file at to_file to_at listed staged moves look.1)
+
+pub moved_looks : (known more : Known) (file at to_file to_at : ℕ) (p : Places) (s : State) (t : Table) (staged : List Listed) → Looks known p s → Moves file at to_file to_at known more → LookLeft more (held_in s) p.live s.items
+    → ((n : ℕ) → open_at t n ≡ option_map (moved_open file at to_file to_at) (open_at p.opened n)) → length t ≡ length p.opened → staged ≡ map (moved file at to_file to_at) p.staged → Looks more (record p { opened = t; staged = staged }) s
+moved_looks known more file at to_file to_at p s t staged looks moves left opened many staged_is = record {
+  sound = looks.sound;
+  left = left;
+  opened = λ n. subst (λ (o : Option Open). LooksOpen more s.rules.limits.txn_capacity o (entry_of n s.opened)) (sym (opened n)) (open_moved known more file at to_file to_at s.rules.limits.txn_capacity (open_at p.opened n) (entry_of n s.opened) moves (looks.opened n));
+  as_many = many ∙ looks.as_many;
+  open_puts = looks.open_puts;
+  staged = subst (λ (l : List Listed). LookStaged more l s.staged) (sym staged_is) (staged_moved known more file at to_file to_at p.staged s.staged moves looks.staged);
+  numbers = looks.numbers;
+}
+
+-- what is known where they were, and where they are
+abbrev pub both_known : ℕ → ℕ → ℕ → ℕ → Known → Known
+both_known file at to_file to_at known = map (λ (k : Pointer × Content). (moved_pointer file at to_file to_at k.0, k.1)) known ++ known
+
+stands_front : (a b : Known) (p : Pointer) (event : Content) → StandsIn a p event → StandsIn (a ++ b) p event
+stands_front [] b p event stands = absurd stands
+stands_front (k ∷ a) b p event (inl here) = inl here
+stands_front (k ∷ a) b p event (inr there) = inr (stands_front a b p event there)
+
+stands_behind : (a b : Known) (p : Pointer) (event : Content) → StandsIn b p event → StandsIn (a ++ b) p event
+stands_behind [] b p event stands = stands
+stands_behind (k ∷ a) b p event stands = inr (stands_behind a b p event stands)
+
+stands_moved : (f : Pointer → Pointer) (known : Known) (p : Pointer) (event : Content) → StandsIn known p event → StandsIn (map (λ (k : Pointer × Content). (f k.0, k.1)) known) (f p) event
+stands_moved f [] p event stands = absurd stands
+stands_moved f (k ∷ known) p event (inl here) = inl (ap (λ (k : Pointer × Content). (f k.0, k.1)) here)
+stands_moved f (k ∷ known) p event (inr there) = inr (stands_moved f known p event there)
+
+pub moves_both : (file at to_file to_at : ℕ) (known : Known) → Moves file at to_file to_at known (both_known file at to_file to_at known)
+moves_both file at to_file to_at known p event stands =
+    stands_front (map (λ (k : Pointer × Content). (moved_pointer file at to_file to_at k.0, k.1)) known) known (moved_pointer file at to_file to_at p) event (stands_moved (moved_pointer file at to_file to_at) known p event stands)
+
+pub left_both : (file at to_file to_at : ℕ) (known : Known) (held : List ℕ) (live : List Left) (items : List (ℕ × Content)) → LookLeft known held live items → LookLeft (both_known file at to_file to_at known) held live items
+left_both file at to_file to_at known held live items look =
+    left_grows known (both_known file at to_file to_at known) held live items (λ p event stands. stands_behind (map (λ (k : Pointer × Content). (moved_pointer file at to_file to_at k.0, k.1)) known) known p event stands) look
+
+-- counts stay
+
+map_length : (f : Pointer → Pointer) (pointers : List Pointer) → length (map f pointers) ≡ length pointers
+map_length f [] = refl
+map_length f (p ∷ pointers) = omega (arith, map_length f pointers)
+
+moved_size : (file at to_file to_at : ℕ) (l : Listed) → size (moved file at to_file to_at l) ≡ size l
+moved_size file at to_file to_at (Puts pointers) = map_length (moved_pointer file at to_file to_at) pointers
+moved_size file at to_file to_at (Takes numbers) = refl
+
+moved_puts : (file at to_file to_at : ℕ) (l : Listed) → length (puts_of (moved file at to_file to_at l)) ≡ length (puts_of l)
+moved_puts file at to_file to_at (Puts pointers) = map_length (moved_pointer file at to_file to_at) pointers
+moved_puts file at to_file to_at (Takes numbers) = refl
+
+pub moved_within : (file at to_file to_at : ℕ) (o : Option Open) → IsWithinRoom o → IsWithinRoom (option_map (moved_open file at to_file to_at) o)
+moved_within file at to_file to_at None within = tt
+moved_within file at to_file to_at (Some o) within = omega (arith, within, moved_size file at to_file to_at o.listed)
+
+pub puts_in-moved : (file at to_file to_at : ℕ) (staged : List Listed) → puts_in (map (moved file at to_file to_at) staged) ≡ puts_in staged
+puts_in-moved file at to_file to_at [] = refl
+puts_in-moved file at to_file to_at (l ∷ staged) = omega (arith, moved_puts file at to_file to_at l, puts_in-moved file at to_file to_at staged)
+
+pub one_if-moved : (file at to_file to_at : ℕ) (staged : List Listed) → one_if_staged (map (moved file at to_file to_at) staged) ≡ one_if_staged staged
+one_if-moved file at to_file to_at [] = refl
+one_if-moved file at to_file to_at (l ∷ staged) = refl
+
+pub length-moved : (file at to_file to_at : ℕ) (staged : List Listed) → length (map (moved file at to_file to_at) staged) ≡ length staged
+length-moved file at to_file to_at [] = refl
+length-moved file at to_file to_at (l ∷ staged) = omega (arith, length-moved file at to_file to_at staged)
