@@ -1,5 +1,5 @@
 -- What a channel keeps of its events in memory, and the state of the machine that it looks like.
-use Rattle.std.specs.Prelude.{◌≡◌, ◌⊎◌, ◌<◌, ◌≤◌, ◌+◌, ℕ, List, [], ◌∷◌, ◌++◌, length, Option, Some, None, Bool, true, false}
+use Rattle.std.specs.Prelude.{◌≡◌, ◌⊎◌, ◌<◌, ◌≤◌, ◌+◌, ◌^◌, ℕ, List, [], ◌∷◌, ◌++◌, length, Option, Some, None, IsSome, Bool, true, false}
 use Rattle.event_core.specs.Content.{Content}
 use Rattle.event_core.specs.Journal.{AreDistinctOf, IsBase, IsJournal, is_among, put_events, taken_numbers}
 use Rattle.event_core.specs.declared.journal.Entry.{Entry}
@@ -31,6 +31,10 @@ pub record Numbers : Type 0 where
 
 abbrev pub numbers_of : State → Numbers
 numbers_of s = record { rules = s.rules; first = s.first; txn = s.txn; broken = s.broken; life = s.life; frame = s.frame; ends = s.ends }
+
+-- the state of these numbers that has no event
+abbrev pub eventless : Numbers → State
+eventless n = record { rules = n.rules; items = []; first = n.first; txn = n.txn; opened = []; staged = []; broken = n.broken; life = n.life; frame = n.frame; ends = n.ends }
 
 -- What a channel keeps in memory: the events that are left, the open transactions, what is staged, how many puts are open, and numbers.
 pub record Places : Type 0 where
@@ -141,15 +145,20 @@ pub record MayTake (p : Places) (token : Token) : Type 0 where
   pub life : token.life ≡ p.numbers.life
   pub room : MayAdd (Take 0) (open_at p.opened token.number)
 
+abbrev pub puts_of_open : Option Open → ℕ
+puts_of_open None = 0
+puts_of_open (Some o) = length (puts_of o.listed)
+
+-- this transaction is open, and there are numbers for its puts behind those that are staged
+pub record MayStage (p : Places) (number : ℕ) : Type 0 where
+  pub there : IsSome (open_at p.opened number)
+  pub numbers : p.numbers.first + puts_in p.staged + puts_of_open (open_at p.opened number) < 2 ^ 64
+
 -- what is staged of a transaction: nothing, where it has nothing
 abbrev pub staged_of : Listed → List Listed
 staged_of (Puts []) = []
 staged_of (Takes []) = []
 staged_of listed = listed ∷ []
-
-abbrev pub puts_of_open : Option Open → ℕ
-puts_of_open None = 0
-puts_of_open (Some o) = length (puts_of o.listed)
 
 -- each event that is known to stand at a pointer is known to stand where that pointer was moved
 abbrev pub Moves : ℕ → ℕ → ℕ → ℕ → Known → Known → Type 0

@@ -1,5 +1,5 @@
 // The pointers of a channel's events, and each call of the channel on them that needs no disk.
-ghost use Rattle.std.specs.Prelude.{◌≡◌, ◌<◌, ◌≤◌, ◌+◌, ◌^◌, ◌++◌, ◌∷◌, ◌-◌, [], ℕ, List, length, Some, None, Ok, IsSome, IfNone, IfOk, IfSome, OnOk, OnErr, MatchOption, true, false};
+ghost use Rattle.std.specs.Prelude.{◌≡◌, ◌<◌, ◌≤◌, ◌+◌, ◌^◌, ◌++◌, ◌∷◌, ◌-◌, [], ℕ, List, length, Some, None, Ok, IsSome, IsTrue, IfNone, IfOk, IfSome, OnOk, OnErr, MatchOption, true, false};
 ghost use Rattle.std.specs.List.{AllByRecursion};
 ghost use Rattle.event_core.specs.Content.{Content};
 ghost use Rattle.event_core.specs.Content as contents;
@@ -11,12 +11,15 @@ ghost use Rattle.channel_face.specs.Machine.{Reopened, State, BeginPut, BeginTak
 ghost use Rattle.open_table.specs.Tables.{MayAdd, MayMove, is_open, open_at};
 ghost use Rattle.open_table.specs.declared.opened.Item.TheVariants.{Put, Take};
 ghost use Rattle.record_form.specs.declared.record.Pointer as pointers;
-ghost use Rattle.channel_places.specs.Looks.{IsFree, IsOpenFor, Known, LookLeft, Looks, MayPut, MayTake, Moves, Steps, held_in, puts_in, puts_of_open, with_begun};
+ghost use Rattle.channel_places.specs.Looks.{IsFree, IsOpenFor, Known, LookLeft, Looks, MayPut, MayStage, MayTake, Moves, Steps, eventless, held_in, puts_in, puts_of_open, with_begun};
 
 use crate::moving::move_staged;
 use crate::settling::{append_staged, end_all, free_takes, one_if_staged, remove_staged};
 use crate::staging::{push_ended, put_count};
-use channel_face::{BeginRefused, Counter, Limits, PutRefused, PutTxn, TakeRefused, TakeTxn};
+use channel_face::{
+    BeginRefused, Counter, Limits, PutRefused, PutTxn, Settled, StageCause, TakeRefused, TakeTxn,
+    Ticket,
+};
 use event_core::NoMemory;
 use event_ring::Ring;
 use open_table::{Ended, Item, OpenTable};
@@ -182,6 +185,8 @@ impl Held {
         ensures within { IfSome result (λ held. held ≤ self.now.numbers.rules.limits.txn_capacity) }
         ensures may { IfSome result (λ held. held < self.now.numbers.rules.limits.txn_capacity
             → IsOpenFor self.now txn.now (λ o. (pointer : pointers.Pointer) → MayAdd (Put pointer) o)) }
+        ensures open { IfSome result (λ held. (is_open true (open_at self.now.opened txn.now.number) ≡ true)
+            × (puts_of_open (open_at self.now.opened txn.now.number) ≡ held)) }
         ensures stale { IfNone result ((known : Known) (s : State) → Looks known self.now s
             → puts_of s txn.now ≡ None) }
     {
@@ -198,6 +203,8 @@ impl Held {
         ensures within { IfSome result (λ held. held ≤ self.now.numbers.rules.limits.txn_capacity) }
         ensures may { IfSome result (λ held. held < self.now.numbers.rules.limits.txn_capacity
             → IsOpenFor self.now txn.now (λ o. MayAdd (Take 0) o)) }
+        ensures open { IfSome result (λ held. (is_open false (open_at self.now.opened txn.now.number) ≡ true)
+            × (puts_of_open (open_at self.now.opened txn.now.number) ≡ 0)) }
         ensures stale { IfNone result ((known : Known) (s : State) → Looks known self.now s
             → takes_of s txn.now ≡ None) }
     {
@@ -287,11 +294,108 @@ impl Held {
         }
     }
 
+    /// Why a transaction of puts can't be staged.
+    pub fn stage_put_refusal(&self, txn: &PutTxn) -> Option<StageCause>
+        ensures refusal { (known : Known) (s : State) → Looks known self.now s
+            → result ≡ face.stage_put_refusal s (puts_of s txn.now) }
+        ensures may { IfNone result (MayStage self.now txn.now.number) }
+    {
+        let Some(held) = self.find_puts(txn) else {
+            return Some(StageCause::Stale);
+        };
+        if self.broken {
+            return Some(StageCause::Broken);
+        }
+        if held as u64 > u64::MAX - self.next_number() {
+            return Some(StageCause::Spent {
+                counter: Counter::Number,
+            });
+        }
+        None
+    }
+
+    /// Why a transaction of takes can't be staged.
+    pub fn stage_take_refusal(&self, txn: &TakeTxn) -> Option<StageCause>
+        ensures refusal { (known : Known) (s : State) → Looks known self.now s
+            → result ≡ face.stage_take_refusal s (takes_of s txn.now) }
+        ensures may { IfNone result (MayStage self.now txn.now.number) }
+    {
+        if self.find_takes(txn).is_none() {
+            return Some(StageCause::Stale);
+        }
+        if self.broken {
+            return Some(StageCause::Broken);
+        }
+        None
+    }
+
+    // The number of the next event to be staged.
+    fn next_number(&self) -> u64
+        ensures number { result ≡ self.now.numbers.first + puts_in self.now.staged }
+        ensures next { (known : Known) (s : State) → Looks known self.now s → result ≡ face.next_number s }
+    {
+        self.first + self.staged_puts as u64
+    }
+
+    // The ticket of a transaction of this size, to be staged now.
+    fn ticket(&self, first: u64, held: usize) -> Ticket
+        requires { held < 2 ^ 32 }
+        ensures { (known : Known) (s : State) → Looks known self.now s → result ≡ face.ticket s first held }
+    {
+        let frame = if held == 0 { 0 } else { self.frame };
+        Ticket {
+            life: self.life,
+            frame,
+            first,
+            count: held as u32,
+        }
+    }
+
+    // How many puts the token's transaction has, or none where the token is stale.
+    fn size_of_puts(&self, txn: &PutTxn) -> usize
+        ensures size { (known : Known) (s : State) → Looks known self.now s
+            → result ≡ face.size_of_list (puts_of s txn.now) }
+        ensures small { result < 2 ^ 32 }
+    {
+        let _most = self.limits.txn_capacity;
+        match self.find_puts(txn) {
+            Some(held) => held,
+            None => 0,
+        }
+    }
+
+    // How many takes the token's transaction has, or none where the token is stale.
+    fn size_of_takes(&self, txn: &TakeTxn) -> usize
+        ensures size { (known : Known) (s : State) → Looks known self.now s
+            → result ≡ face.size_of_list (takes_of s txn.now) }
+        ensures small { result < 2 ^ 32 }
+    {
+        let _most = self.limits.txn_capacity;
+        match self.find_takes(txn) {
+            Some(held) => held,
+            None => 0,
+        }
+    }
+
+    /// The ticket that a transaction of puts gets, if it is staged now.
+    pub fn put_ticket(&self, txn: &PutTxn) -> Ticket
+        ensures { (known : Known) (s : State) → Looks known self.now s
+            → result ≡ face.ticket s (face.next_number s) (face.size_of_list (puts_of s txn.now)) }
+    {
+        self.ticket(self.next_number(), self.size_of_puts(txn))
+    }
+
+    /// The ticket that a transaction of takes gets, if it is staged now.
+    pub fn take_ticket(&self, txn: &TakeTxn) -> Ticket
+        ensures { (known : Known) (s : State) → Looks known self.now s
+            → result ≡ face.ticket s 0 (face.size_of_list (takes_of s txn.now)) }
+    {
+        self.ticket(0, self.size_of_takes(txn))
+    }
+
     /// Takes a transaction that is open out of the open ones, and adds what it has to what is staged. It takes no memory.
     pub fn stage(&mut self, number: u64)
-        requires open { IsSome (open_at self.old.opened number) }
-        requires numbers { self.old.numbers.first + puts_in self.old.staged
-            + puts_of_open (open_at self.old.opened number) < 2 ^ 64 }
+        requires { MayStage self.old number }
         ensures { (known : Known) (s : State) → Looks known self.old s
             → Looks known self.new (face.stage number (entry_of number s.opened) s) }
     {
@@ -301,6 +405,24 @@ impl Held {
         self.open_puts -= puts;
         self.staged_puts += puts;
         push_ended(&mut self.staged, ended);
+    }
+
+    /// Whether a transaction of puts is open.
+    pub fn has_puts(&self, txn: &PutTxn) -> bool
+        ensures tells { (known : Known) (s : State) → Looks known self.now s
+            → result ≡ face.is_some_of (puts_of s txn.now) }
+        ensures open { IsTrue result → is_open true (open_at self.now.opened txn.now.number) ≡ true }
+    {
+        self.find_puts(txn).is_some()
+    }
+
+    /// Whether a transaction of takes is open.
+    pub fn has_takes(&self, txn: &TakeTxn) -> bool
+        ensures tells { (known : Known) (s : State) → Looks known self.now s
+            → result ≡ face.is_some_of (takes_of s txn.now) }
+        ensures open { IsTrue result → is_open false (open_at self.now.opened txn.now.number) ≡ true }
+    {
+        self.find_takes(txn).is_some()
     }
 
     /// Takes a transaction of puts that is open out of the open ones. It takes no memory.
@@ -353,6 +475,45 @@ impl Held {
     {
         self.table.moved(file, at, to_file, to_at);
         move_staged(&mut self.staged, file, at, to_file, to_at);
+    }
+
+    // Whether what the ticket stands for is settled, by numbers alone.
+    fn settled_by_numbers(&self, ticket: &Ticket) -> Settled
+        ensures { result ≡ face.settled (eventless self.now.numbers) ticket.now }
+    {
+        if ticket.frame == 0 {
+            return Settled::Yes;
+        }
+        if ticket.life == self.life {
+            if ticket.frame < self.frame {
+                return Settled::Yes;
+            }
+            if ticket.frame == self.frame && !self.broken {
+                return Settled::No;
+            }
+            return Settled::InDoubt;
+        }
+        if ticket.life > 0 && ticket.life < self.life {
+            let place = ticket.life - 1;
+            if place < self.ends.len() as u64 && ticket.frame < self.ends[place as usize] {
+                return Settled::Yes;
+            }
+        }
+        Settled::InDoubt
+    }
+
+    /// Whether what the ticket stands for is settled.
+    pub fn settled(&self, ticket: &Ticket) -> Settled
+        ensures { (known : Known) (s : State) → Looks known self.now s → result ≡ face.settled s ticket.now }
+    {
+        self.settled_by_numbers(ticket)
+    }
+
+    /// Whether the channel is broken.
+    pub fn is_broken(&self) -> bool
+        ensures { result ≡ self.now.numbers.broken }
+    {
+        self.broken
     }
 
     /// In which of its lives the channel is, from 1 on.
