@@ -3,6 +3,8 @@
 
 mod moving;
 mod places;
+#[cfg(test)]
+mod rows;
 mod settling;
 mod staging;
 

@@ -1,6 +1,5 @@
 // The pointers of a channel's events, and each call of the channel on them that needs no disk.
-ghost use Rattle.std.specs.Prelude.{◌≡◌, ◌<◌, ◌≤◌, ◌+◌, ◌^◌, ◌++◌, ◌∷◌, ◌-◌, [], ℕ, List, length, Some, None, Ok, IsSome, IsTrue, IfNone, IfOk, IfSome, OnOk, OnErr, MatchOption, true, false};
-ghost use Rattle.std.specs.List.{AllByRecursion};
+ghost use Rattle.std.specs.Prelude.{◌≡◌, ◌<◌, ◌≤◌, ◌+◌, ◌^◌, ◌++◌, ◌∷◌, ◌-◌, [], ℕ, List, length, Some, None, Ok, IsSome, IsTrue, IfNone, IfOk, IfSome, OnOk, OnErr, true, false};
 ghost use Rattle.event_core.specs.Content.{Content};
 ghost use Rattle.event_core.specs.Content as contents;
 ghost use Rattle.event_core.specs.Journal.{IsBase};
@@ -8,10 +7,10 @@ ghost use Rattle.channel_face.specs.History.{Opening, opening};
 ghost use Rattle.channel_face.specs.declared.replies.Kind.TheVariants.{File};
 ghost use Rattle.channel_face.specs.Machine as face;
 ghost use Rattle.channel_face.specs.Machine.{Reopened, State, BeginPut, BeginTake, add_put, add_take, after_reopen, broken_state, close, entry_of, free, kept_base, puts_of, takes_of};
-ghost use Rattle.open_table.specs.Tables.{MayAdd, MayMove, is_open, open_at};
+ghost use Rattle.open_table.specs.Tables.{MayAdd, is_open, open_at};
 ghost use Rattle.open_table.specs.declared.opened.Item.TheVariants.{Put, Take};
 ghost use Rattle.record_form.specs.declared.record.Pointer as pointers;
-ghost use Rattle.channel_places.specs.Looks.{IsFree, IsOpenFor, Known, LookLeft, Looks, MayPut, MayStage, MayTake, Moves, Steps, eventless, held_in, puts_in, puts_of_open, with_begun};
+ghost use Rattle.channel_places.specs.Looks.{IsFree, IsOpenFor, Known, LookLeft, Looks, MayMoveKnown, MayPut, MayStage, MayTake, Moves, Steps, eventless, held_in, puts_in, puts_of_open, with_begun};
 
 use crate::moving::move_staged;
 use crate::settling::{append_staged, end_all, free_takes, one_if_staged, remove_staged};
@@ -467,9 +466,7 @@ impl Held {
     /// Each put that is open or staged and stands in `file` at the offset `at` or behind it is known to stand in `to_file` from now on,
     /// as far behind `to_at`. Events that are left stay where they are. It takes no memory.
     pub fn moved(&mut self, file: u32, at: u64, to_file: u32, to_at: u64)
-        requires opened { (txn : ℕ) → MatchOption (open_at self.old.opened txn) (Unit {0})
-            (λ o. MayMove file at to_at o.listed) }
-        requires staged { AllByRecursion (λ listed. MayMove file at to_at listed) self.old.staged }
+        requires { (known : Known) × (s : State) × Looks known self.old s × MayMoveKnown file at to_at known }
         ensures { (known more : Known) (s : State) → Looks known self.old s → Moves file at to_file to_at known more
             → LookLeft more (held_in s) self.old.live s.items → Looks more self.new s }
     {

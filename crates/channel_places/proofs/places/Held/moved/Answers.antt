@@ -1,15 +1,23 @@
 use Rattle.std.proofs.Common.{◌≡◌, ℕ, List, ap, arith, length, map, subst, sym}
-use Rattle.std.specs.Prelude.{MatchOption}
 use Rattle.open_table.specs.Tables.{Listed, MayMove, listed_of, moved, open_at}
+use Rattle.channel_face.specs.Machine.{entry_of}
 use Rattle.channel_places.specs.Ends.{one_if_staged}
 use Rattle.channel_places.specs.Looks.{IsWithinRoom, LookLeft, Looks, Places, held_in, puts_in}
 use Rattle.channel_places.specs.View.{places_of}
-use Rattle.channel_places.proofs.Moved.{both_known, left_both, length-moved, moved_looks, moved_within, moves_both, one_if-moved, puts_in-moved}
+use Rattle.channel_places.proofs.Moved.{both_known, left_both, length-moved, moved_looks, moved_within, moves_both, one_if-moved, open_may, puts_in-moved, staged_may}
 use Rattle.channel_places.proofs.places.Held.moved.Goals as goal
 
 pub moved-requires : goal.moved-requires
-moved-requires c =
-    subst (λ (q : Places). (txn : ℕ) → MatchOption (open_at q.opened txn) (Unit {0}) (λ o. MayMove c.args.file c.args.at c.args.to_at o.listed)) (sym c.self.view_is) c.requires.opened
+moved-requires c = λ txn.
+    let given = c.requires in
+    let here = subst (λ (q : Places). Looks given.0 q given.1) (sym c.self.view_is) given.2 in
+    open_may given.0 c.args.file c.args.at c.args.to_at given.1.rules.limits.txn_capacity (open_at c.self.inside.table txn) (entry_of txn given.1.opened) given.3 (here.opened txn)
+
+pub move_staged-requires : goal.move_staged-requires
+move_staged-requires c =
+    let given = c.requires in
+    let here = subst (λ (q : Places). Looks given.0 q given.1) (sym c.self.view_is) given.2 in
+    staged_may given.0 c.args.file c.args.at c.args.to_at (map listed_of c.self.inside.staged.items) given.1.staged given.3 here.staged
 
 pub invariant_of-self : goal.invariant_of-self
 invariant_of-self c =
