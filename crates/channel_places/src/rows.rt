@@ -267,14 +267,17 @@ fn answer(held: &mut Held, step: Step, ticket: &mut Ticket) -> Said {
 }
 
 // What an empty channel of this capacity keeps.
-fn fresh(alloc: Global, capacity: u32) -> Result<Held, NoMemory> {
+fn fresh(alloc: Global, capacity: u32) -> Result<Held, NoMemory>
+    ensures { IfOk result (λ held. (held.numbers.rules.limits.capacity ≡ capacity) × (held.numbers.life ≡ 1)) }
+{
     let limits = Limits {
         capacity,
         txn_capacity: 10,
         max_file: 1_000,
     };
     let ring = Ring::make(alloc, capacity)?;
-    Held::open(alloc, ring, limits, 0, 1)
+    let held = Held::open(alloc, ring, limits, 0, 1)?;
+    Ok(held)
 }
 
 struct Example {
@@ -320,5 +323,37 @@ fn calls_answer_as_the_rows_say(rt: HostRuntime) -> Result<(), Fail> {
             );
         }
     }
+    Ok(())
+}
+
+// What a channel keeps in its second life, in which the event of number 4 is left.
+fn second_life(alloc: Global) -> Result<Held, NoMemory> {
+    let mut held = fresh(alloc, 2)?;
+    let mut ring = Ring::make(alloc, 2)?;
+    ring.push(
+        4,
+        Pointer {
+            file: 1,
+            at: 30,
+            length: 9,
+        },
+    );
+    let ends = held.next_ends()?;
+    held.renew(ends, ring, 5, 9);
+    Ok(held)
+}
+
+#[test]
+fn a_new_life_has_what_its_ring_has(rt: HostRuntime) -> Result<(), Fail> {
+    let mut held = second_life(rt.alloc())?;
+    assert!(rt; held.life() == 2 && held.size() == 1);
+    let old = PutTxn::new(1, 1);
+    assert!(rt; put(&mut held, &old, 60) == Said::Stale);
+    let _numbers = old.into_numbers();
+    assert!(rt; begin_take(&mut held) == Said::Token(9));
+    let new = TakeTxn::new(2, 9);
+    assert!(rt; take(&mut held, &new) == Said::Event(4, 30));
+    assert!(rt; take(&mut held, &new) == Said::NoEvent);
+    let _numbers = new.into_numbers();
     Ok(())
 }

@@ -30,7 +30,7 @@ invariant_of-self-in-Ok c =
       within = omega (arith, i.within, ap (λ (l : List Listed). puts_in l) staged);
       below = i.below;
       numbers = i.numbers;
-      fits = omega (arith, c.in_ok-reserve.ensures.ok, c.reserve.ensures.items, length-map c.reserve.new.self.items listed_of);
+      fits = omega (arith, c.in_ok-reserve.ensures.ok, length-map c.reserve.new.self.items listed_of);
       frames = omega (arith, i.frames, c.in-Ok.ensures.begun.1, ap (λ (l : List Listed). one_if_staged l) staged);
     }
 

@@ -1,5 +1,5 @@
-use Rattle.std.proofs.Common.{◌≡◌, ℕ, List, ap, arith, length, map, subst, sym}
-use Rattle.open_table.specs.Tables.{Listed, MayMove, listed_of, moved, open_at}
+use Rattle.std.proofs.Common.{◌≡◌, List, ap, arith, length, map, subst, sym}
+use Rattle.open_table.specs.Tables.{Listed, listed_of, moved, open_at}
 use Rattle.channel_face.specs.Machine.{entry_of}
 use Rattle.channel_places.specs.Ends.{one_if_staged}
 use Rattle.channel_places.specs.Looks.{IsWithinRoom, LookLeft, Looks, Places, held_in, puts_in}
