@@ -1,0 +1,4 @@
+pub mod Opened
+pub mod Ends
+pub mod Runs
+pub mod Histories
