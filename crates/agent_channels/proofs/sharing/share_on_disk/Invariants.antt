@@ -1,0 +1,4 @@
+use Rattle.agent_channels.proofs.sharing.share_on_disk.Given as goal
+
+abbrev pub ghost-share : goal.ghost-share
+ghost-share g a = g.start
