@@ -7,9 +7,7 @@ use plug_in::Interceptor;
 use source_put::Intake;
 
 /// Mends each channel, in order, and says whether one was refused.
-pub fn mend_all<F: PutFace + MendFace + Drop, B: Interceptor>(
-    intake: &mut Intake<F, B>,
-) -> bool
+pub fn mend_all<F: PutFace + MendFace + Drop, B: Interceptor>(intake: &mut Intake<F, B>) -> bool
     ensures mends { (answers : List Answer) × MendsEach
         (MendsPort ⟦<F as MendFace>⟧.own ⟦<F as MendFace>⟧.saw ⟦<F as MendFace>⟧.seen
         ⟦<F as MendFace>⟧.kept ⟦<F as MendFace>⟧.on_disk)
