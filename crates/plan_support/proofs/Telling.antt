@@ -1,0 +1,98 @@
+-- What it tells that there is no least line.
+use Rattle.std.proofs.Common.{◌≡◌, ◌++◌, ℕ, min, List, [], ◌∷◌, Bool, true, false, cond, All, map, flat_map, fold, take, Option, Some, None, IfNone, refl, sym, subst, true≢false}
+use Rattle.std.proofs.lemmas.List.Elements.{All-cons, All-nil}
+use Rattle.flume_config.specs.declared.plan.Plan.{Plan}
+use Rattle.flume_config.specs.declared.plan.SourcePlan.{SourcePlan}
+use Rattle.flume_config.specs.declared.plan.SourceKind.{SourceKind}
+use Rattle.flume_config.specs.declared.plan.SourceKind.TheVariants.{Netcat, Avro, Stdin}
+use Rattle.flume_config.specs.declared.plan.StepPlan.{StepPlan}
+use Rattle.flume_config.specs.declared.plan.StepPlan.TheVariants.{Step, Regex, Plugin}
+use Rattle.flume_config.specs.declared.plan.SinkPlan.{SinkPlan}
+use Rattle.flume_config.specs.declared.plan.GroupPlan.{GroupPlan}
+use Rattle.plan_support.specs.Least.{HasNoPlugin, HasOwnSteps, IsOwn, IsSupported, TakesLines, first_plugin, group_lines, is_avro, is_plugin, line_at, nearer, plugin_lines, sink_avro_lines, sink_plugin_lines, source_avro_lines, source_plugin_lines, takes_avro, unsupported}
+
+-- ---- lists
+
+abbrev IsNil : {A : Type 0} → List A → Type 0
+IsNil [] = Unit {0}
+IsNil (x ∷ xs) = ⊥
+
+abbrev IsNothing : {A : Type 0} → Option A → Type 0
+IsNothing None = Unit {0}
+IsNothing (Some x) = ⊥
+
+no_cons : {A : Type 0} (x : A) (xs : List A) → x ∷ xs ≡ [] → ⊥
+no_cons x xs is = subst IsNil (sym is) tt
+
+nil_front : {A : Type 0} (xs ys : List A) → xs ++ ys ≡ [] → xs ≡ []
+nil_front [] ys is = refl
+nil_front (x ∷ xs) ys is = absurd (no_cons x (xs ++ ys) is)
+
+nil_back : {A : Type 0} (xs ys : List A) → xs ++ ys ≡ [] → ys ≡ []
+nil_back [] ys is = is
+nil_back (x ∷ xs) ys is = absurd (no_cons x (xs ++ ys) is)
+
+-- a line stays
+goes_on : (lines : List ℕ) (line : ℕ) → fold nearer (Some line) lines ≡ None → ⊥
+goes_on [] line is = subst IsNothing (sym is) tt
+goes_on (other ∷ lines) line is = goes_on lines (min line other) is
+
+no_lines : (lines : List ℕ) → fold nearer None lines ≡ None → lines ≡ []
+no_lines [] is = refl
+no_lines (line ∷ lines) is = absurd (goes_on lines line is)
+
+each_none : {A : Type 0} (f : A → List ℕ) (P : A → Type 0) → ((x : A) → f x ≡ [] → P x) → (xs : List A) → flat_map f xs ≡ [] → All P xs
+each_none f P says [] is = All-nil P
+each_none f P says (x ∷ xs) is =
+    All-cons P x xs (says x (nil_front (f x) (flat_map f xs) is)) (each_none f P says xs (nil_back (f x) (flat_map f xs) is))
+
+untold : (b : Bool) (line : ℕ) → cond b (line ∷ []) [] ≡ [] → b ≡ false
+untold true line is = absurd (no_cons line [] is)
+untold false line is = refl
+
+pub if_none : (o : Option ℕ) (P : Type 0) → (o ≡ None → P) → IfNone o P
+if_none None P is = is refl
+if_none (Some line) P is = tt
+
+-- ---- what is handed in
+
+own : (step : StepPlan) → plugin_lines step ≡ [] → IsOwn step
+own (Step one) is = tt
+own (Regex keys line) is = tt
+own (Plugin name line) is = absurd (no_cons line [] is)
+
+own_steps : (source : SourcePlan) → source_plugin_lines source ≡ [] → HasOwnSteps source
+own_steps source is = each_none plugin_lines IsOwn own source.steps.items is
+
+pub no_plugin : (plan : Plan) → first_plugin plan ≡ None → HasNoPlugin plan
+no_plugin plan is =
+    let none = no_lines (flat_map source_plugin_lines plan.sources.items ++ flat_map sink_plugin_lines plan.sinks.items) is in
+    record {
+      steps = each_none source_plugin_lines HasOwnSteps own_steps plan.sources.items (nil_front (flat_map source_plugin_lines plan.sources.items) (flat_map sink_plugin_lines plan.sinks.items) none);
+      sinks = each_none sink_plugin_lines (λ (s : SinkPlan). is_plugin s.kind ≡ false) (λ s no. untold (is_plugin s.kind) s.line no) plan.sinks.items
+          (nil_back (flat_map source_plugin_lines plan.sources.items) (flat_map sink_plugin_lines plan.sinks.items) none);
+    }
+
+-- ---- what an agent does not run yet
+
+takes_lines : (kind : SourceKind) → takes_avro kind ≡ false → TakesLines kind
+takes_lines (Netcat bind port max_line ack threads) is = tt
+takes_lines (Avro bind port threads) is = absurd (true≢false is)
+takes_lines (Stdin max_line ack) is = tt
+
+no_member : (sinks : List SinkPlan) (places : List ℕ) → map (line_at sinks) (take 1 places) ≡ [] → places ≡ []
+no_member sinks [] is = refl
+no_member sinks (place ∷ places) is = absurd (no_cons (line_at sinks place) (map (line_at sinks) (take 0 places)) is)
+
+pub none_unsupported : (plan : Plan) → unsupported plan ≡ None → IsSupported plan
+none_unsupported plan is =
+    let sources = flat_map source_avro_lines plan.sources.items in
+    let sinks = flat_map sink_avro_lines plan.sinks.items in
+    let groups = flat_map (group_lines plan.sinks.items) plan.groups.items in
+    let none = no_lines (sources ++ (sinks ++ groups)) is in
+    let behind = nil_back sources (sinks ++ groups) none in
+    record {
+      sources = each_none source_avro_lines (λ (s : SourcePlan). TakesLines s.kind) (λ s no. takes_lines s.kind (untold (takes_avro s.kind) s.line no)) plan.sources.items (nil_front sources (sinks ++ groups) none);
+      sinks = each_none sink_avro_lines (λ (s : SinkPlan). is_avro s.kind ≡ false) (λ s no. untold (is_avro s.kind) s.line no) plan.sinks.items (nil_front sinks groups behind);
+      groups = each_none (group_lines plan.sinks.items) (λ (g : GroupPlan). g.sinks.items ≡ []) (λ g no. no_member plan.sinks.items g.sinks.items no) plan.groups.items (nil_back sinks groups behind);
+    }

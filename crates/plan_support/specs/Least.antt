@@ -1,0 +1,101 @@
+-- The least line of what an agent does not run.
+use Rattle.std.specs.Prelude.{◌≡◌, ◌++◌, ℕ, min, Bool, true, false, List, [], ◌∷◌, All, map, flat_map, fold, take, slice_index, if◌then◌else◌, Option, Some, None}
+use Rattle.flume_config.specs.declared.plan.Plan.{Plan}
+use Rattle.flume_config.specs.declared.plan.SourcePlan.{SourcePlan}
+use Rattle.flume_config.specs.declared.plan.SourceKind.{SourceKind}
+use Rattle.flume_config.specs.declared.plan.SourceKind.TheVariants as source
+use Rattle.flume_config.specs.declared.plan.StepPlan.{StepPlan}
+use Rattle.flume_config.specs.declared.plan.StepPlan.TheVariants as step
+use Rattle.flume_config.specs.declared.plan.SinkPlan.{SinkPlan}
+use Rattle.flume_config.specs.declared.plan.SinkKind.{SinkKind}
+use Rattle.flume_config.specs.declared.plan.SinkKind.TheVariants.{Null, Roll, Avro, Plugin}
+use Rattle.flume_config.specs.declared.plan.GroupPlan.{GroupPlan}
+
+abbrev pub nearer : Option ℕ → ℕ → Option ℕ
+nearer None line = Some line
+nearer (Some first) line = Some (min first line)
+
+-- ---- what is handed in
+
+-- the line of an interceptor that is handed in
+abbrev pub plugin_lines : StepPlan → List ℕ
+plugin_lines (step.Step one) = []
+plugin_lines (step.Regex keys line) = []
+plugin_lines (step.Plugin name line) = line ∷ []
+
+-- and those of a source's
+abbrev pub source_plugin_lines : SourcePlan → List ℕ
+source_plugin_lines s = flat_map plugin_lines s.steps.items
+
+abbrev pub is_plugin : SinkKind → Bool
+is_plugin Null = false
+is_plugin (Roll folder interval) = false
+is_plugin (Avro host port) = false
+is_plugin (Plugin name) = true
+
+abbrev pub sink_plugin_lines : SinkPlan → List ℕ
+sink_plugin_lines s = if is_plugin s.kind then s.line ∷ [] else []
+
+-- the least of the lines of what is handed in
+abbrev pub first_plugin : Plan → Option ℕ
+first_plugin p = fold nearer None (flat_map source_plugin_lines p.sources.items ++ flat_map sink_plugin_lines p.sinks.items)
+
+-- the interceptor is not handed in
+abbrev pub IsOwn : StepPlan → Type 0
+IsOwn (step.Step one) = Unit {0}
+IsOwn (step.Regex keys line) = Unit {0}
+IsOwn (step.Plugin name line) = ⊥
+
+abbrev pub HasOwnSteps : SourcePlan → Type 0
+HasOwnSteps s = All IsOwn s.steps.items
+
+-- no interceptor and no sink is handed in
+pub record HasNoPlugin (p : Plan) : Type 0 where
+  pub steps : All HasOwnSteps p.sources.items
+  pub sinks : All (λ s. is_plugin s.kind ≡ false) p.sinks.items
+
+-- ---- what an agent does not run yet
+
+-- it takes Avro calls
+abbrev pub takes_avro : SourceKind → Bool
+takes_avro (source.Netcat bind port max_line ack threads) = false
+takes_avro (source.Avro bind port threads) = true
+takes_avro (source.Stdin max_line ack) = false
+
+abbrev pub source_avro_lines : SourcePlan → List ℕ
+source_avro_lines s = if takes_avro s.kind then s.line ∷ [] else []
+
+-- it makes Avro calls
+abbrev pub is_avro : SinkKind → Bool
+is_avro Null = false
+is_avro (Roll folder interval) = false
+is_avro (Avro host port) = true
+is_avro (Plugin name) = false
+
+abbrev pub sink_avro_lines : SinkPlan → List ℕ
+sink_avro_lines s = if is_avro s.kind then s.line ∷ [] else []
+
+-- the line of the sink at a place, which is one of these, and else 0
+abbrev pub line_at : List SinkPlan → ℕ → ℕ
+line_at sinks place = slice_index (map (λ (s : SinkPlan). s.line) sinks) place
+
+-- the line of the first sink of a group, which has no line of its own
+abbrev pub group_lines : List SinkPlan → GroupPlan → List ℕ
+group_lines sinks g = map (line_at sinks) (take 1 g.sinks.items)
+
+-- the least of those lines
+abbrev pub unsupported : Plan → Option ℕ
+unsupported p = fold nearer None (flat_map source_avro_lines p.sources.items
+    ++ (flat_map sink_avro_lines p.sinks.items ++ flat_map (group_lines p.sinks.items) p.groups.items))
+
+-- it takes lines
+abbrev pub TakesLines : SourceKind → Type 0
+TakesLines (source.Netcat bind port max_line ack threads) = Unit {0}
+TakesLines (source.Avro bind port threads) = ⊥
+TakesLines (source.Stdin max_line ack) = Unit {0}
+
+-- each source takes lines, no sink makes Avro calls, and no group has a sink
+pub record IsSupported (p : Plan) : Type 0 where
+  pub sources : All (λ s. TakesLines s.kind) p.sources.items
+  pub sinks : All (λ s. is_avro s.kind ≡ false) p.sinks.items
+  pub groups : All (λ g. g.sinks.items ≡ []) p.groups.items
