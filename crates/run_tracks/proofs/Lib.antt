@@ -5,6 +5,7 @@ pub mod Telling
 pub mod Staying
 pub mod Listened
 pub mod Dealing
+pub mod Handing
 mod Closing
 pub mod Emptying
 mod Stopping

@@ -9,3 +9,4 @@ pub mod Listening
 pub mod Drained
 pub mod Found
 pub mod Stops
+pub mod Deals
