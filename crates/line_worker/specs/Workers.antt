@@ -2,6 +2,7 @@
 use Rattle.std.specs.Prelude.{◌≡◌, ◌≢◌, ◌<◌, ◌^◌, ℕ, List, length, Bool, true, false, Option, Some, None}
 use Rattle.netcat_source.specs.Lines.{IsLineLimit}
 use Rattle.netcat_source.specs.declared.replies.LineVerdict.{LineVerdict}
+use Rattle.netcat_source.specs.declared.replies.LineVerdict.TheVariants as verdicts
 use Rattle.source_put.specs.Accepts.{NamesBelow}
 use Rattle.source_put.specs.Into.{Into, into_of}
 use Rattle.source_put.specs.declared.intake.Intake.{Intake}
@@ -20,9 +21,10 @@ pub record CanServe {F I O C B : Type 0} (w : LineWorker F I O C B) : Type 0 whe
   pub named : NamesBelow w.selector (length w.ports.items)
   pub timed : w.clock ≢ None
 
--- no verdict ends a session of a worker
-abbrev pub never : LineVerdict → Bool
-never verdict = false
+-- a line for which there was no memory ends a session of a worker, and no other does
+abbrev pub ends_session : LineVerdict → Bool
+ends_session verdicts.NoMemory = true
+ends_session verdict = false
 
 -- where lines go, and whether a mend was refused
 abbrev pub fed : {F B : Type 0} → Intake F B → Option (ℕ → ℕ) → Bool → Feeding (Into F B)
@@ -63,7 +65,7 @@ talk_of left reads took handed writes input output = record {
 module _ (max : ℕ) (ack : Bool) {S : Type 0} (Turns : Feeding S → List ℕ → LineVerdict → Feeding S → Type 0) where
   -- One session on an input and an output. Where there was no chain, none began, and nothing was read.
   pub record Session (built : Bool) (end : SessionEnd) (old new : Feeding S) (before after : Talk) : Type 0 where
-    pub served : Served max ack never Turns (ends_of before.left old before.took) (ends_of after.left new after.took) end
+    pub served : Served max ack ends_session Turns (ends_of before.left old before.took) (ends_of after.left new after.took) end
     pub cause : HasCauseOf end before.reads after.reads before.writes after.writes
     pub handed : built ≡ true → end ≢ WriteFault → after.handed ≡ after.took
     pub unserved : built ≡ false → end ≡ NoMemory

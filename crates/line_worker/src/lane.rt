@@ -4,7 +4,7 @@ ghost use Rattle.source_put.specs.Tries.{Puts};
 ghost use Rattle.netcat_source.specs.Into.{TakesLine};
 ghost use Rattle.source_worker.specs.Rounds.{Answer, MendsInto, MendsPort, any_refused};
 ghost use Rattle.line_worker.specs.Turns.{MendsWhere, TakesTurn, is_due};
-ghost use Rattle.line_worker.specs.Workers.{fed, never};
+ghost use Rattle.line_worker.specs.Workers.{fed, ends_session};
 ghost use Rattle.source_put.specs.Into.{into_of};
 
 use crate::answers::is_due;
@@ -86,7 +86,7 @@ impl<F: PutFace + MendFace + Drop, B: Interceptor, C: Clock, H: Halt> LineStore
 
     ghost ready = { λ lane. Unit {0} };
 
-    ghost stops = { never };
+    ghost stops = { ends_session };
 
     fn take_line(&mut self, line: &[u8]) -> LineVerdict {
         self.mend_again();
@@ -95,7 +95,7 @@ impl<F: PutFace + MendFace + Drop, B: Interceptor, C: Clock, H: Halt> LineStore
         said_of(&verdict)
     }
 
-    fn is_last(&self, _verdict: LineVerdict) -> bool {
-        false
+    fn is_last(&self, verdict: LineVerdict) -> bool {
+        matches!(verdict, LineVerdict::NoMemory)
     }
 }

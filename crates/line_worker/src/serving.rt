@@ -6,7 +6,7 @@ ghost use Rattle.netcat_source.specs.Lines.{IsLineLimit};
 ghost use Rattle.line_session.specs.Sessions.{HasCauseOf, Served, ends_of};
 ghost use Rattle.source_worker.specs.Rounds.{MendsInto, MendsPort};
 ghost use Rattle.line_worker.specs.Turns.{TakesTurn};
-ghost use Rattle.line_worker.specs.Workers.{Session, fed, never, talk_of};
+ghost use Rattle.line_worker.specs.Workers.{Session, fed, ends_session, talk_of};
 
 use crate::lane::Lane;
 use channel_face::{MendFace, PutFace};
@@ -24,7 +24,7 @@ impl<F: PutFace + MendFace + Drop, B: Interceptor, C: Clock, H: Halt> Lane<F, B,
         rules: &LineRules,
     ) -> SessionEnd
         requires { IsLineLimit rules.now.max }
-        ensures served { Served rules.now.max rules.now.ack never
+        ensures served { Served rules.now.max rules.now.ack ends_session
             (TakesTurn (TakesLine
             (Puts ⟦<F as PutFace>⟧.own ⟦<F as PutFace>⟧.saw ⟦<F as PutFace>⟧.seen
             ⟦<F as PutFace>⟧.kept)
