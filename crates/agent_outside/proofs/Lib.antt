@@ -1,5 +1,8 @@
 mod Backing
-mod Ordering
+pub mod Ordering
 mod Opening
 mod Ending
 mod Listening
+pub mod Placing
+pub mod Zips
+mod Telling

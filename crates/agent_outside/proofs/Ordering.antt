@@ -1,5 +1,5 @@
 -- Sinks in the order of their plans.
-use Rattle.std.proofs.Common.{◌≡◌, ◌∙◌, ◌<◌, ◌≤◌, ◌+◌, ℕ, List, [], ◌∷◌, ◌++◌, length, get_or, take, IsTrue, Option, refl, sym, ap, arith, append_assoc, string_bytes}
+use Rattle.std.proofs.Common.{◌≡◌, ◌∙◌, ◌<◌, ◌≤◌, ◌+◌, ℕ, List, [], ◌∷◌, ◌++◌, length, get_or, take, zero, suc, IsTrue, Option, refl, sym, ap, arith, append_assoc, string_bytes}
 use Rattle.std.proofs.lemmas.List.{append-nil, take_more}
 use Rattle.std.proofs.lemmas.List.Concat.{flat_map-append}
 use Rattle.flume_host.specs.HostState.{Folders}
@@ -10,20 +10,10 @@ use Rattle.flume_config.specs.declared.plan.SinkKind.TheVariants as plan
 use Rattle.agent_sinks.specs.declared.sink.AgentSink.{AgentSink}
 use Rattle.agent_sinks.specs.declared.sink.AgentSink.TheVariants.{Null, Roll, Avro, Boxed}
 use Rattle.agent_outside.specs.Backs.{RollBack, paths_of}
-use Rattle.agent_outside.specs.Sinks.{IsOfKind, AreOfPlans, IsNew, AreNew, back_of, backs_of, folder_of, folders_of}
+use Rattle.agent_outside.specs.Sinks.{IsOfKind, AreOfPlans, IsOpened, AreOpened, IsNew, AreNew, back_of, backs_of, folder_of, folders_of}
 use Rattle.agent_outside.proofs.Backing.{paths_append}
 
 -- ---- the last of some sinks
-
--- of sinks in order the last is of the plan at its place
-pub are_last : {R A B : Type 0} (f : Folders) (plans : List SinkPlan) (sinks : List (AgentSink R A B)) (sink : AgentSink R A B) (d : SinkPlan) → AreOfPlans f plans (sinks ++ sink ∷ [])
-    → AreOfPlans f plans sinks × (length sinks < length plans) × IsOfKind f (get_or plans (length sinks) d).kind sink
-are_last f [] [] sink d are = absurd are
-are_last f [] (s ∷ sinks) sink d are = absurd are
-are_last f (p ∷ plans) [] sink d are = (tt, omega arith, are.0)
-are_last f (p ∷ plans) (s ∷ sinks) sink d are =
-    let rest = are_last f plans sinks sink d are.1 in
-    ((are.0, rest.0), omega (arith, rest.1), rest.2)
 
 pub are_more : {R A B : Type 0} (f : Folders) (plans : List SinkPlan) (sinks : List (AgentSink R A B)) (sink : AgentSink R A B) (d : SinkPlan) → length sinks < length plans → AreOfPlans f plans sinks → IsOfKind f (get_or plans (length sinks) d).kind sink
     → AreOfPlans f plans (sinks ++ sink ∷ [])
@@ -45,11 +35,46 @@ backs_more rolled (p ∷ plans) (s ∷ sinks) sink d below =
     ap (λ (l : List RollBack). back_of rolled p.kind s ++ l) (backs_more rolled plans sinks sink d (omega (arith, below)))
     ∙ sym (append_assoc (back_of rolled p.kind s) (backs_of rolled plans sinks) (back_of rolled (get_or plans (length sinks) d).kind sink))
 
--- no more sinks than plans
-pub are_few : {R A B : Type 0} (f : Folders) (plans : List SinkPlan) (sinks : List (AgentSink R A B)) → AreOfPlans f plans sinks → length sinks ≤ length plans
-are_few f plans [] are = omega arith
-are_few f [] (s ∷ sinks) are = absurd are
-are_few f (p ∷ plans) (s ∷ sinks) are = omega (arith, are_few f plans sinks are.1)
+-- ---- their folders were opened
+
+-- of the kind of its plan: so its folder was opened
+pub kind_opened : {R A B : Type 0} (f : Folders) (kind : SinkKind) (sink : AgentSink R A B) → IsOfKind f kind sink → IsOpened f kind
+kind_opened f plan.Null (Null sink) is = tt
+kind_opened f (plan.Roll folder interval) (Roll sink) is = is
+kind_opened f (plan.Avro host port) (Avro sink) is = tt
+kind_opened f (plan.Plugin name) (Boxed sink) is = tt
+kind_opened f kind sink is = absurd is
+
+pub are_opened : {R A B : Type 0} (f : Folders) (plans : List SinkPlan) (sinks : List (AgentSink R A B)) → AreOfPlans f plans sinks → AreOpened f plans (length sinks)
+are_opened f plans [] are = tt
+are_opened f [] (s ∷ sinks) are = absurd are
+are_opened f (p ∷ plans) (s ∷ sinks) are = (kind_opened f p.kind s are.0, are_opened f plans sinks are.1)
+
+-- of so many and one more
+pub opened_last : (f : Folders) (plans : List SinkPlan) (many : ℕ) (d : SinkPlan) → AreOpened f plans (suc many)
+    → AreOpened f plans many × (many < length plans) × IsOpened f (get_or plans many d).kind
+opened_last f [] many d are = absurd are
+opened_last f (p ∷ plans) zero d are = (tt, omega arith, are.0)
+opened_last f (p ∷ plans) (suc many) d are =
+    let rest = opened_last f plans many d are.1 in
+    ((are.0, rest.0), omega (arith, rest.1), rest.2)
+
+-- no more than the plans
+pub opened_few : (f : Folders) (plans : List SinkPlan) (many : ℕ) → AreOpened f plans many → many ≤ length plans
+opened_few f plans zero are = omega arith
+opened_few f [] (suc many) are = absurd are
+opened_few f (p ∷ plans) (suc many) are = omega (arith, opened_few f plans many are.1)
+
+one_opened_later : (f g : Folders) → ((p : List ℕ) → IsTrue (f.roll_opened p) → IsTrue (g.roll_opened p)) → (kind : SinkKind) → IsOpened f kind → IsOpened g kind
+one_opened_later f g marks plan.Null is = tt
+one_opened_later f g marks (plan.Roll folder interval) is = marks (string_bytes folder) is
+one_opened_later f g marks (plan.Avro host port) is = tt
+one_opened_later f g marks (plan.Plugin name) is = tt
+
+pub opened_later : (f g : Folders) → ((p : List ℕ) → IsTrue (f.roll_opened p) → IsTrue (g.roll_opened p)) → (plans : List SinkPlan) (many : ℕ) → AreOpened f plans many → AreOpened g plans many
+opened_later f g marks plans zero are = tt
+opened_later f g marks [] (suc many) are = absurd are
+opened_later f g marks (p ∷ plans) (suc many) are = (one_opened_later f g marks p.kind are.0, opened_later f g marks plans many are.1)
 
 -- ---- a later moment
 

@@ -38,11 +38,14 @@ ListensAt [] place = ⊥
 ListensAt (source ∷ sources) zero = Listens source.kind
 ListensAt (source ∷ sources) (suc place) = ListensAt sources place
 
--- The place of the source of each listener, in order: that of each source as often as it has listeners. The first of these
--- sources has this place.
+-- The place of each source, in order, as often as it has something by its kind. The first of these sources has this place.
+abbrev pub places_by : (SourceKind → ℕ) → ℕ → List SourcePlan → List ℕ
+places_by many place [] = []
+places_by many place (source ∷ sources) = replicate (many source.kind) place ++ places_by many (place + 1) sources
+
+-- the place of the source of each listener
 abbrev pub places : ℕ → List SourcePlan → List ℕ
-places place [] = []
-places place (source ∷ sources) = replicate (listeners_of source.kind) place ++ places (place + 1) sources
+places place sources = places_by listeners_of place sources
 
 -- how many of these are at this address and port
 abbrev pub is_end : List ℕ → ℕ → Endpoint → Bool

@@ -2,3 +2,4 @@ pub mod Backs
 pub mod Sinks
 pub mod Ends
 pub mod Listening
+pub mod Names

@@ -1,5 +1,5 @@
 -- The sinks of an agent, by their plans.
-use Rattle.std.specs.Prelude.{◌≡◌, ◌≤◌, ◌⊎◌, ℕ, List, [], ◌∷◌, ◌++◌, flat_map, take, Option, None, Result, Ok, Err, IsTrue, string_bytes}
+use Rattle.std.specs.Prelude.{◌≡◌, ◌≤◌, ◌⊎◌, ℕ, zero, suc, List, [], ◌∷◌, ◌++◌, flat_map, take, Option, None, Result, Ok, Err, IsTrue, string_bytes}
 use Rattle.flume_host.specs.Causes.{Rose}
 use Rattle.flume_host.specs.HostState.{Folders, HostState}
 use Rattle.flume_host.specs.Rolled.{Rolled}
@@ -43,6 +43,19 @@ abbrev pub AreOfPlans : {R A B : Type 0} → Folders → List SinkPlan → List 
 AreOfPlans folders plans [] = Unit {0}
 AreOfPlans folders [] (sink ∷ sinks) = ⊥
 AreOfPlans folders (plan ∷ plans) (sink ∷ sinks) = IsOfKind folders plan.kind sink × AreOfPlans folders plans sinks
+
+-- the folder was opened, if it has one
+abbrev pub IsOpened : Folders → SinkKind → Type 0
+IsOpened folders plan.Null = Unit {0}
+IsOpened folders (plan.Roll folder interval) = IsTrue (folders.roll_opened (string_bytes folder))
+IsOpened folders (plan.Avro host port) = Unit {0}
+IsOpened folders (plan.Plugin name) = Unit {0}
+
+-- there are so many plans at least, and the folders of the first so many were opened
+abbrev pub AreOpened : Folders → List SinkPlan → ℕ → Type 0
+AreOpened folders plans zero = Unit {0}
+AreOpened folders [] (suc many) = ⊥
+AreOpened folders (plan ∷ plans) (suc many) = IsOpened folders plan.kind × AreOpened folders plans many
 
 -- the folder of a sink, if it has one
 abbrev pub back_of : {R A B : Type 0} → (R → Option Rolled) → SinkKind → AgentSink R A B → List RollBack

@@ -1,9 +1,9 @@
 // What was opened is given back.
-ghost use Rattle.std.specs.Prelude.{◌≡◌, [], ◌∷◌};
+ghost use Rattle.std.specs.Prelude.{◌≡◌, [], ◌∷◌, length};
 ghost use Rattle.flume_host.specs.HandedOut.{IsOut};
 ghost use Rattle.flume_host.specs.Listens.{IsFrom};
 ghost use Rattle.agent_outside.specs.Backs.{RollsBack};
-ghost use Rattle.agent_outside.specs.Sinks.{AreOfPlans, IsOfKind, back_of, backs_of};
+ghost use Rattle.agent_outside.specs.Sinks.{AreOpened, IsOpened, back_of, backs_of};
 ghost use Rattle.agent_outside.specs.Ends.{AreOfSources, AreOut, ListenersBack, Listens, ListensAt, comes_back, come_back, end_at, end_back, end_of, ends_of};
 
 use crate::listener::SourceListener;
@@ -11,13 +11,13 @@ use agent_sinks::AgentSink;
 use flume_config::{SinkKind, SinkPlan, SourceKind, SourcePlan};
 use flume_host::Host;
 
-// Gives the folder of a sink back, if it has one.
+// Gives the folder of a sink back, if it has one by its plan.
 pub(crate) fn give_back_sink<H: Host, A: Drop, B: Drop>(
     host: &mut H,
     plan: &SinkPlan,
     sink: AgentSink<H::Roll, A, B>,
 )
-    requires { IsOfKind (H.folders host.old) plan.now.kind sink }
+    requires { IsOpened (H.folders host.old) plan.now.kind }
     ensures folders { RollsBack (back_of H.Roll.rolled plan.now.kind sink) (H.folders host.old) (H.folders host.new) }
     ensures state { H.state host.new ≡ H.state host.old }
 {
@@ -27,20 +27,20 @@ pub(crate) fn give_back_sink<H: Host, A: Drop, B: Drop>(
                 folder,
                 interval: _,
             } => host.keep_roll(folder.as_str(), sink.close()),
-            _ => unreachable!(),
+            SinkKind::Null | SinkKind::Avro { .. } | SinkKind::Plugin { .. } => (),
         },
         AgentSink::Null(_) | AgentSink::Avro(_) | AgentSink::Boxed(_) => (),
     }
 }
 
-/// Gives back the folders of the sinks of the first of these plans, the last of them first, and drops the sinks. It takes no
-/// memory and can't fail.
+/// Gives back the folders of the sinks of the first of these plans, the last of them first, and drops the sinks. A sink that
+/// isn't of the kind of its plan gives nothing back. It takes no memory and can't fail.
 pub fn give_back_sinks<H: Host, A: Drop, B: Drop>(
     host: &mut H,
     plans: &[SinkPlan],
     sinks: Vec<AgentSink<H::Roll, A, B>>,
 )
-    requires { AreOfPlans (H.folders host.old) plans.now sinks.items }
+    requires { AreOpened (H.folders host.old) plans.now (length sinks.items) }
     ensures folders { RollsBack (backs_of H.Roll.rolled plans.now sinks.items) (H.folders host.old) (H.folders host.new) }
     ensures state { H.state host.new ≡ H.state host.old }
 {

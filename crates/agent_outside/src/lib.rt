@@ -6,10 +6,12 @@ mod give;
 mod listener;
 mod listeners;
 mod names;
+mod places;
 mod sinks;
 
 pub use give::{give_back_listeners, give_back_sinks};
 pub use listener::SourceListener;
 pub use listeners::open_listeners;
-pub use names::host_names;
+pub use names::{hosts_are_right, names_of, source_names};
+pub use places::{listeners_of, listening_places};
 pub use sinks::open_sinks;

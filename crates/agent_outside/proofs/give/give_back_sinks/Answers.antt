@@ -1,14 +1,14 @@
-use Rattle.std.proofs.Common.{◌≡◌, ◌∙◌, ℕ, List, [], ◌++◌, length, get_or, sym, ap, subst, arith, rules}
+use Rattle.std.proofs.Common.{◌≡◌, ◌∙◌, ℕ, suc, List, [], ◌∷◌, ◌++◌, length, length-append, get_or, sym, ap, subst, arith, rules}
 use Rattle.flume_config.specs.declared.plan.SinkPlan.{SinkPlan}
 use Rattle.agent_sinks.specs.declared.sink.AgentSink.{AgentSink}
 use Rattle.agent_outside.specs.Backs.{RollBack, RollsBack}
-use Rattle.agent_outside.specs.Sinks.{AreOfPlans, IsOfKind, back_of, backs_of}
+use Rattle.agent_outside.specs.Sinks.{AreOpened, IsOpened, back_of, backs_of}
 use Rattle.agent_outside.proofs.Backing.{back_marks, back_none, back_then}
-use Rattle.agent_outside.proofs.Ordering.{are_few, are_last, are_later, backs_more}
+use Rattle.agent_outside.proofs.Ordering.{backs_more, opened_few, opened_last, opened_later}
 use Rattle.agent_outside.proofs.give.give_back_sinks.Goals as goal
 
 pub loop-sink-init : goal.loop-sink-init
-loop-sink-init g c = record { are = c.requires; few = are_few (g.H.Host.folders c.args.host.now) c.args.plans.now c.args.sinks.items c.requires; rest = λ end back. back; state = λ i. g.H.Host.state c.args.host.now }
+loop-sink-init g c = record { are = c.requires; few = opened_few (g.H.Host.folders c.args.host.now) c.args.plans.now (length c.args.sinks.items) c.requires; rest = λ end back. back; state = λ i. g.H.Host.state c.args.host.now }
 
 pub give_back_sink-requires-after_bounds : goal.give_back_sink-requires-after_bounds
 give_back_sink-requires-after_bounds g c κs within =
@@ -16,9 +16,10 @@ give_back_sink-requires-after_bounds g c κs within =
     let plans = c.args.plans.now in
     let folders = g.H.Host.folders c.loop-sink.host in
     let plan = c.index-plans-len.result in
-    let last = are_last folders plans c.pop.new.self.items c.in-Some.sink plan
-    (subst (λ (l : List (AgentSink g.row.H-Roll.Denot g.row.A.Denot g.row.B.Denot)). AreOfPlans folders plans l) c.in-Some.ensures.items c.loop-sink.invariant.are) in
-    subst (λ (p : SinkPlan). IsOfKind folders p.kind c.in-Some.sink) (ap (λ (n : ℕ). get_or plans n plan) (sym at) ∙ sym c.index-plans-len.is) last.2
+    let more : length c.loop-sink.left.items ≡ suc (length c.pop.new.self.items) = let e = ap length c.in-Some.ensures.items ∙ length-append c.pop.new.self.items (c.in-Some.sink ∷ []) in omega (arith, e) in
+    let last = opened_last folders plans (length c.pop.new.self.items) plan
+    (subst (λ (n : ℕ). AreOpened folders plans n) more c.loop-sink.invariant.are) in
+    subst (λ (p : SinkPlan). IsOpened folders p.kind) (ap (λ (n : ℕ). get_or plans n plan) (sym at) ∙ sym c.index-plans-len.is) last.2
 
 pub loop-sink-preserved : goal.loop-sink-preserved
 loop-sink-preserved g c =
@@ -31,12 +32,12 @@ loop-sink-preserved g c =
     let rolled = g.H.Roll.RollDir.rolled in
     let old = g.H.Host.folders c.loop-sink.host in
     let new = g.H.Host.folders c.give_back_sink.new.host in
-    let last = are_last old plans left sink plan
-    (subst (λ (l : List (AgentSink g.row.H-Roll.Denot g.row.A.Denot g.row.B.Denot)). AreOfPlans old plans l) c.in-Some.ensures.items inv.are) in
+    let more : length c.loop-sink.left.items ≡ suc (length left) = let e = ap length c.in-Some.ensures.items ∙ length-append left (sink ∷ []) in omega (arith, e) in
+    let last = opened_last old plans (length left) plan (subst (λ (n : ℕ). AreOpened old plans n) more inv.are) in
     let is : get_or plans (length left) plan ≡ plan = ap (λ (n : ℕ). get_or plans n plan) (sym at) ∙ sym c.index-plans-len.is in
     let split = ap (backs_of rolled plans) c.in-Some.ensures.items ∙ backs_more rolled plans left sink plan last.1 ∙ ap (λ (p : SinkPlan). backs_of rolled plans left ++ back_of rolled p.kind sink) is in
     record {
-      are = are_later old new (back_marks (back_of rolled plan.kind sink) old new c.give_back_sink.ensures.folders) plans left last.0;
+      are = opened_later old new (back_marks (back_of rolled plan.kind sink) old new c.give_back_sink.ensures.folders) plans (length left) last.0;
       few = let below = last.1 in omega arith;
       rest = λ end back. inv.rest end (subst (λ (l : List RollBack). RollsBack l old end) (sym split) (back_then (back_of rolled plan.kind sink) (backs_of rolled plans left) old new end c.give_back_sink.ensures.folders back));
       state = c.give_back_sink.ensures.state ∙ inv.state;

@@ -2,9 +2,9 @@ use Rattle.std.proofs.Common.{◌≡◌, ◌<◌, ◌∙◌, ℕ, List, [], ◌�
 use Rattle.flume_config.specs.declared.plan.SinkPlan.{SinkPlan}
 use Rattle.agent_sinks.specs.declared.sink.AgentSink.{AgentSink}
 use Rattle.agent_outside.specs.Backs.{RollsBack}
-use Rattle.agent_outside.specs.Sinks.{AreOfPlans, SinkAdded, SinkUnopened, backs_of}
+use Rattle.agent_outside.specs.Sinks.{AreOpened, SinkAdded, SinkUnopened, backs_of}
 use Rattle.agent_outside.proofs.Backing.{reopened_marks}
-use Rattle.agent_outside.proofs.Ordering.{are_later}
+use Rattle.agent_outside.proofs.Ordering.{are_later, are_opened}
 use Rattle.agent_outside.proofs.Opening.{opened_more, refused_at}
 use Rattle.agent_outside.proofs.sinks.open_sinks.Goals as goal
 
@@ -14,8 +14,9 @@ give_back_sinks-requires-after_bounds g c κs within =
     let old = g.H.Host.folders c.loop-plan.host in
     let new = g.H.Host.folders c.add_sink.new.host in
     let un = c.in-Err.ensures.refused in
-    subst (λ (l : List (AgentSink g.row.H-Roll.Denot g.row.A.Denot g.row.B.Denot)). AreOfPlans new plans l) (sym c.in-Err.ensures.same)
-    (are_later old new (reopened_marks un.paths old new un.back) plans c.loop-plan.sinks.items c.loop-plan.invariant.opened.are)
+    subst (λ (l : List (AgentSink g.row.H-Roll.Denot g.row.A.Denot g.row.B.Denot)). AreOpened new plans (length l)) (sym c.in-Err.ensures.same)
+    (are_opened new plans c.loop-plan.sinks.items
+    (are_later old new (reopened_marks un.paths old new un.back) plans c.loop-plan.sinks.items c.loop-plan.invariant.opened.are))
 
 pub returns-in-Err-clause-refused : goal.returns-in-Err-clause-refused
 returns-in-Err-clause-refused g c =
