@@ -1,1 +1,5 @@
 mod Opening
+mod Backing
+mod Joining
+mod InOrder
+mod Sparing

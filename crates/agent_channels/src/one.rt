@@ -111,7 +111,7 @@ fn open_in_memory<D: Disk + Drop>(
     ensures refused { IfErr result (λ cause. cause ≡ OpenCause.NoMemory) }
 {
     match MemoryChannel::new(alloc, limits) {
-        Ok(channel) => share_in_memory(alloc, channel, limits, users),
+        Ok(channel) => share_in_memory(alloc, channel, users),
         Err(_) => Err(OpenCause::NoMemory),
     }
 }

@@ -8,7 +8,7 @@ ghost use Rattle.two_channels.specs.Shares.{IsDisk, table_of};
 ghost use Rattle.txn_core.specs.Counted.{StandsAs};
 
 use crate::opened::OpenedChannel;
-use channel_face::{Channel, Limits, OpenCause};
+use channel_face::{Channel, OpenCause};
 use file_channel::{FileChannel, OpenRefused};
 use flume_host::Disk;
 use memory_channel::MemoryChannel;
@@ -98,7 +98,6 @@ pub(crate) fn share_on_disk<D: Disk + Drop>(
 pub(crate) fn share_in_memory<D: Disk + Drop>(
     alloc: Global,
     channel: MemoryChannel,
-    limits: Limits,
     users: u32,
 ) -> Result<OpenedChannel<FileChannel<D>, MemoryChannel>, OpenCause>
     ghost start: { Opening }
@@ -109,7 +108,6 @@ pub(crate) fn share_in_memory<D: Disk + Drop>(
         (λ c. c.home ∷ c.others.items ≡ new_passes (table_of c.share) start (users + 1) (users + 1)) }
     ensures back { IfErr result (λ cause. cause ≡ OpenCause.NoMemory) }
 {
-    let _ = limits;
     match share(alloc, channel, users) {
         Ok(
             Parts {

@@ -2,4 +2,4 @@ use Rattle.agent_channels.specs.Openings.{in_memory}
 use Rattle.agent_channels.proofs.one.open_in_memory.Given as goal
 
 abbrev pub ghost-share_in_memory : goal.ghost-share_in_memory
-ghost-share_in_memory g a = in_memory a.limits
+ghost-share_in_memory g a = in_memory a.channel.state.rules.limits

@@ -1,0 +1,5 @@
+use Rattle.std.proofs.Common.{length}
+use Rattle.agent_channels.proofs.several.+add_all.Given as goal
+
+abbrev pub decreases-add_all : goal.decreases-add_all
+decreases-add_all g l = length l.wishes.now
