@@ -1,0 +1,78 @@
+-- A draft has what its worker asks for.
+use Rattle.std.proofs.Common.{◌≡◌, ◌<◌, ◌≤◌, ℕ, List, [], ◌∷◌, All, length, get_or, map, sym, ap, subst, arith, false, true≢false}
+use Rattle.std.proofs.lemmas.List.Elements.{All-cons, All-head, All-map, All-nil, All-tail}
+use Rattle.netcat_source.specs.Lines.{IsLineLimit}
+use Rattle.netcat_source.specs.declared.session.LineRules.{LineRules}
+use Rattle.selectors.specs.declared.selector.Selector.{Selector}
+use Rattle.selectors.specs.declared.selector.Selector.TheVariants.{Replicating, Multiplexing}
+use Rattle.source_put.specs.Accepts.{NamesBelow}
+use Rattle.source_put.specs.declared.chain.HostNames.{HostNames}
+use Rattle.flume_config.specs.Values.{seen_pair}
+use Rattle.flume_config.specs.declared.plan.SourcePlan.{SourcePlan}
+use Rattle.flume_config.specs.declared.plan.SourceKind.{SourceKind}
+use Rattle.flume_config.specs.declared.plan.SourceKind.TheVariants.{Netcat, Avro, Stdin}
+use Rattle.flume_config.specs.declared.plan.SinkKind.{SinkKind}
+use Rattle.flume_config.specs.declared.plan.SinkKind.TheVariants.{Null, Roll, Avro as Avro', Plugin}
+use Rattle.agent_outside.specs.Sinks.{IsPlain}
+use Rattle.plan_laws.specs.Limits.{IsSourceLimited}
+use Rattle.plan_laws.specs.Names.{IsWithin}
+use Rattle.agent_drafts.specs.declared.draft.SourceDraft.{SourceDraft}
+use Rattle.agent_drafts.specs.Copies.{IsSameSelector}
+use Rattle.agent_drafts.specs.Drafts.{AreRules, IsDraft, IsDraftAt}
+use Rattle.agent_drafts.specs.Fits.{IsFit}
+use Rattle.plan_support.specs.Least.{is_avro, is_plugin}
+
+-- ---- what is true of what is seen of each item
+
+unmapped : {A V : Type 0} (seen : A → V) (P : V → Type 0) (xs : List A) → All P (map seen xs) → All (λ x. P (seen x)) xs
+unmapped seen P [] all = All-nil (λ x. P (seen x))
+unmapped seen P (x ∷ xs) all =
+    All-cons (λ x. P (seen x)) x xs (All-head P (seen x) (map seen xs) all) (unmapped seen P xs (All-tail P (seen x) (map seen xs) all))
+
+same_each : {A V : Type 0} (seen : A → V) (P : V → Type 0) (xs ys : List A) → map seen ys ≡ map seen xs → All (λ x. P (seen x)) xs → All (λ y. P (seen y)) ys
+same_each seen P xs ys same all = unmapped seen P ys (subst (All P) (sym same) (All-map P seen xs all))
+
+-- ---- selectors
+
+same_named : (s t : Selector) (count : ℕ) → IsSameSelector s t → NamesBelow s count → NamesBelow t count
+same_named (Replicating channels optional) (Replicating other copies) count is named =
+    (subst (λ (n : ℕ). n ≤ count) (sym is.0) named.0, subst (All (λ (n : ℕ). n < count)) (sym is.1) named.1)
+same_named (Replicating channels optional) (Multiplexing header mapping default others) count is named = absurd is
+same_named (Multiplexing header mapping default others) (Replicating channels optional) count is named = absurd is
+same_named (Multiplexing header mapping default optional) (Multiplexing copy maps rest others) count is named =
+    let P = λ (pair : List ℕ × List ℕ). All (λ (n : ℕ). n < count) pair.1 in (
+      same_each seen_pair P mapping.items maps.items is.1 named.0,
+      subst (All (λ (n : ℕ). n < count)) (sym is.2) named.1,
+      same_each seen_pair P optional.items others.items is.3 named.2,
+    )
+
+-- ---- rules
+
+limited : (kind : SourceKind) (rules : LineRules) → AreRules kind rules → IsSourceLimited kind → IsLineLimit rules.max
+limited (Netcat bind port max_line ack threads) rules is limits = subst (λ (r : LineRules). IsLineLimit r.max) (sym is) (let low = limits.1.0 in omega arith, limits.1.1)
+limited (Avro bind port threads) rules is limits = absurd is
+limited (Stdin max_line ack) rules is limits = subst (λ (r : LineRules). IsLineLimit r.max) (sym is) (let low = limits.0 in omega arith, limits.1)
+
+-- ---- drafts
+
+module _ {B : Type 0} (count : ℕ) (draft : SourceDraft B) where
+  fits : (source : SourcePlan) (names : HostNames) → IsDraft source names draft → IsWithin count source → IsSourceLimited source.kind → IsFit count draft
+  fits source names is within limits = record {
+    max = limited source.kind draft.rules is.rules limits;
+    few = is.few;
+    there = subst (All (λ (n : ℕ). n < count)) (sym is.channels) within.0;
+    named = subst (NamesBelow draft.selector) (sym (ap length is.channels)) (same_named source.selector draft.selector (length source.channels.items) is.selector within.1);
+  }
+
+  pub fits_at : (sources : List SourcePlan) (names : List HostNames) → IsDraftAt sources names draft → All (IsWithin count) sources → All (λ (s : SourcePlan). IsSourceLimited s.kind) sources → IsFit count draft
+  fits_at [] names is within limits = absurd (omega (arith, is.there))
+  fits_at (s ∷ sources) names is within limits =
+      fits (get_or (s ∷ sources) draft.source s) (get_or names draft.source draft.host) (is.is s draft.host) (within draft.source s is.there) (limits draft.source s is.there)
+
+-- ---- sinks
+
+pub plain : (kind : SinkKind) → is_plugin kind ≡ false → is_avro kind ≡ false → IsPlain kind
+plain Null own is = tt
+plain (Roll folder interval) own is = tt
+plain (Avro' host port) own is = absurd (true≢false is)
+plain (Plugin name) own is = absurd (true≢false own)

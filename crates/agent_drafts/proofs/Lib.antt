@@ -1,0 +1,4 @@
+mod Copying
+mod Ordered
+mod Fitting
+mod Meaning

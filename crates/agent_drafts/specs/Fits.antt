@@ -1,0 +1,30 @@
+-- What a draft of a source has of what its worker asks for.
+use Rattle.std.specs.Prelude.{◌<◌, ◌^◌, ℕ, List, All, length, Ok}
+use Rattle.prop_text.specs.Pairs.{Pair}
+use Rattle.flume_config.specs.declared.plan.Plan.{Plan}
+use Rattle.flume_config.specs.Plans.{Plans}
+use Rattle.netcat_source.specs.Lines.{IsLineLimit}
+use Rattle.source_put.specs.Accepts.{NamesBelow}
+use Rattle.source_put.specs.declared.chain.HostNames.{HostNames}
+use Rattle.agent_drafts.specs.declared.draft.SourceDraft.{SourceDraft}
+use Rattle.agent_outside.specs.Sinks.{IsPlain}
+use Rattle.agent_drafts.specs.Drafts.{IsDraftAt}
+use Rattle.plan_support.specs.Least.{HasNoPlugin, IsSupported}
+
+-- Its rules are rules of lines, its channels are some of so many, and its selector names its channels.
+pub record IsFit {B : Type 0} (count : ℕ) (draft : SourceDraft B) : Type 0 where
+  pub max : IsLineLimit draft.rules.max
+  pub few : length draft.channels.items < 2 ^ 32
+  pub there : All (λ place. place < count) draft.channels.items
+  pub named : NamesBelow draft.selector (length draft.channels.items)
+
+-- So is each draft of a source of a plan that may be answered, over the plan's channels.
+abbrev pub DraftsFit : Type 0 → Type 0
+DraftsFit B =
+    (pairs : List Pair) (agent : List ℕ) (plan : Plan) → Plans pairs agent (Ok plan)
+    → (names : List HostNames) (draft : SourceDraft B) → IsDraftAt plan.sources.items names draft
+    → IsFit (length plan.channels.items) draft
+
+-- the sinks of a plan are those that a run opens
+abbrev pub SinksArePlain : Type 0
+SinksArePlain = (plan : Plan) → HasNoPlugin plan → IsSupported plan → All (λ sink. IsPlain sink.kind) plan.sinks.items

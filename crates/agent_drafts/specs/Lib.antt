@@ -1,0 +1,4 @@
+pub mod Copies
+pub mod Drafts
+pub mod Fits
+pub mod Means
