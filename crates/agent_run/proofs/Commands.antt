@@ -21,13 +21,12 @@ agent_letter words name file is = ap second is.1
 load_letter : (words : List (List ℕ)) (n : ℕ) (dir : List ℕ) → IsLoad words n dir → second words ≡ get_or (codes "load") 1 0
 load_letter words n dir is = ap second is.1
 
-pub agent_does_not_run : (words : List (List ℕ)) (name file : List ℕ) → IsAgent words name file → IsNoCommand words
-agent_does_not_run words name file is =
-    let a = agent_letter words name file is in
-    record {
-      no_pipe = λ dir p. let b = pipe_letter words dir p in omega (arith, a, b);
-      no_check = λ name' file' c. let b = check_letter words name' file' c in omega (arith, a, b);
-    }
+-- words of a run are no other command
+pub agent_is_no_pipe : (words : List (List ℕ)) (name file dir : List ℕ) → IsAgent words name file → IsPipe words dir → ⊥
+agent_is_no_pipe words name file dir is p = let a = agent_letter words name file is in let b = pipe_letter words dir p in omega (arith, a, b)
+
+pub agent_is_no_check : (words : List (List ℕ)) (name file name' file' : List ℕ) → IsAgent words name file → IsCheck words name' file' → ⊥
+agent_is_no_check words name file name' file' is c = let a = agent_letter words name file is in let b = check_letter words name' file' c in omega (arith, a, b)
 
 pub load_does_not_run : (words : List (List ℕ)) (n : ℕ) (dir : List ℕ) → IsLoad words n dir → IsNoCommand words
 load_does_not_run words n dir is =
@@ -35,10 +34,11 @@ load_does_not_run words n dir is =
     record {
       no_pipe = λ other p. let b = pipe_letter words other p in omega (arith, a, b);
       no_check = λ name file c. let b = check_letter words name file c in omega (arith, a, b);
+      no_agent = λ name file g. let b = agent_letter words name file g in omega (arith, a, b);
     }
 
 pub none_runs : (words : List (List ℕ)) → IsNone words → IsNoCommand words
-none_runs words is = record { no_pipe = is.pipe; no_check = is.check }
+none_runs words is = record { no_pipe = is.pipe; no_check = is.check; no_agent = is.agent }
 
 -- what was read of the words
 pub read_some : (words : List (List ℕ)) (found : Option Command) (first command : Command) → MatchOption found (IsNone words) (λ c. IsCommand words c) → found ≡ Some first → first ≡ command → IsCommand words command

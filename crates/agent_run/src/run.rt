@@ -1,28 +1,31 @@
 // The top call.
-ghost use Rattle.std.specs.Prelude.{◌≡◌, ◌⊎◌, List, ℕ, IfOk, MatchOption};
+ghost use Rattle.std.specs.Prelude.{◌≡◌, ◌⊎◌, List, ℕ};
 ghost use Rattle.flume_host.specs.HostState.{ButDisk};
-ghost use Rattle.agent_words.specs.Commands.{IsPipe, IsCheck};
+ghost use Rattle.agent_words.specs.Commands.{IsAgent, IsCheck, IsPipe};
 ghost use Rattle.agent_words.specs.Statuses.{status_of};
 ghost use Rattle.agent_words.specs.Words.{texts};
+ghost use Rattle.agent_run.specs.Named.{AgentEnds};
+ghost use Rattle.agent_run.specs.Through.{AgentRan};
 ghost use Rattle.agent_run.specs.Words.{IsNoCommand};
-ghost use Rattle.agent_run.specs.Checked.{Checked, IsCheckStatus};
-ghost use Rattle.agent_run.specs.Piped.{Piped, IsPipeStatus, cause_status, pipe_status};
+ghost use Rattle.agent_commands.specs.Checked.{Checked, IsCheckStatus};
+ghost use Rattle.agent_commands.specs.Piped.{Piped, IsPipeStatus};
 
-use crate::channel_store::default_limits;
-use crate::check::check;
-use crate::pipe::{PipeEnd, pipe};
-use crate::session::SessionEnd;
+use crate::agent::{Ended, run_named};
+use crate::through::{NoStep, RunOf, Runs};
+use agent_commands::{run_check, run_pipe, say_error};
 use agent_words::{Command, RunError, read_words};
-use channel_face::OpenCause;
 use flume_host::Host;
-use std::alloc::{AllocError, Global};
+use plug_in::Plugins;
+use std::alloc::Global;
+use std::sync::Wait;
+use std::thread::Threads;
 
 /// What a run ended with.
 #[derive(Clone, Copy, Debug, PartialEq, Eq)]
 pub struct Outcome {
     /// The exit status.
     pub status: u8,
-    /// How many lines of standard input were accepted: their transactions are acknowledged.
+    /// How many lines of standard input `pipe` accepted: their transactions are acknowledged. 0 for each other command.
     pub accepted: u64,
 }
 
@@ -38,107 +41,25 @@ impl Outcome {
     }
 }
 
-// Says why a run ended.
-fn say_error<H: Host>(alloc: Global, host: &mut H, error: &RunError)
-    ensures state { H.state host.new ≡ H.state host.old }
-    ensures folders { H.folders host.new ≡ H.folders host.old }
+// `agent -n NAME -f FILE`, and what is said of its end.
+fn run_configured<'a, R: Threads + Wait + Sync + 'a, H: Host + 'a>(
+    rt: &'a R,
+    alloc: Global,
+    agent: &str,
+    file: &str,
+    host: &mut H,
+) -> u8
+    ensures ends { AgentEnds ((H.state host.old).files file.now) agent.now result }
+    ensures ran { result ≡ 0 → AgentRan ⟦<RunOf<'a, R, H, NoStep> as Runs>⟧.ran
+        ((H.state host.old).files file.now) agent.now
+        (record { state = H.state host.old; folders = H.folders host.old })
+        (record { state = H.state host.new; folders = H.folders host.new }) }
 {
-    match format!(in alloc; "{error}") {
-        Ok(line) => host.say(line.as_str()),
-        Err(_) => host.say("flume: no memory"),
+    let Ended { status, error } = run_named::<R, H, NoStep>(rt, alloc, agent, file, host);
+    if let Some(error) = error {
+        say_error(alloc, host, &error);
     }
-}
-
-// Why a run of `pipe` did not end well, if it did not.
-fn pipe_error(alloc: Global, dir: &str, end: PipeEnd) -> Result<Option<RunError>, AllocError>
-    ensures { IfOk result (λ error. MatchOption error (pipe_status end ≡ 0) (λ e. status_of e ≡ pipe_status end)) }
-{
-    let error = match end {
-        PipeEnd::Served(SessionEnd::End) => return Ok(None),
-        PipeEnd::Served(SessionEnd::LongLine) => RunError::LineTooLong,
-        PipeEnd::Served(SessionEnd::Full) => RunError::InputTooLong,
-        PipeEnd::Served(SessionEnd::NoMemory) => RunError::NoMemory,
-        PipeEnd::Served(SessionEnd::InDoubt | SessionEnd::ReadFault | SessionEnd::WriteFault) =>
-            RunError::Fault,
-        PipeEnd::Unopened(cause) => unopened(String::from_str(alloc, dir)?, cause),
-    };
-    Ok(Some(error))
-}
-
-// Why a folder was not opened.
-fn unopened(dir: String, cause: OpenCause) -> RunError
-    ensures { status_of result ≡ cause_status cause }
-{
-    match cause {
-        OpenCause::DiskFault => RunError::Fault,
-        OpenCause::BadCheck { file, at } => RunError::BadCheckpoint { dir, file, at },
-        OpenCause::BadLog { file, at } => RunError::BadLog { dir, file, at },
-        OpenCause::OverCapacity { count } => RunError::OverCapacity {
-            dir,
-            count,
-            capacity: default_limits().capacity,
-        },
-        OpenCause::Spent { .. } => RunError::Spent { dir },
-        OpenCause::NoMemory => RunError::NoMemory,
-    }
-}
-
-// The exit status of a run of `pipe`.
-fn pipe_status(end: PipeEnd) -> u8
-    ensures { result ≡ pipe_status end }
-{
-    match end {
-        PipeEnd::Served(SessionEnd::End) => 0,
-        PipeEnd::Served(SessionEnd::LongLine) => 7,
-        PipeEnd::Served(SessionEnd::Full) => 6,
-        PipeEnd::Served(SessionEnd::NoMemory) => 5,
-        PipeEnd::Served(SessionEnd::InDoubt | SessionEnd::ReadFault | SessionEnd::WriteFault) => 3,
-        PipeEnd::Unopened(OpenCause::DiskFault) => 3,
-        PipeEnd::Unopened(OpenCause::NoMemory) => 5,
-        PipeEnd::Unopened(_) => 4,
-    }
-}
-
-// Says why a run of `pipe` ended.
-fn say_end<H: Host>(alloc: Global, dir: &str, host: &mut H, end: PipeEnd)
-    ensures state { H.state host.new ≡ H.state host.old }
-    ensures folders { H.folders host.new ≡ H.folders host.old }
-{
-    match pipe_error(alloc, dir, end) {
-        Ok(None) => {}
-        Ok(Some(error)) => say_error(alloc, host, &error),
-        Err(_) => host.say("flume: no memory"),
-    }
-}
-
-// `pipe DIR`, and what is said of its end.
-fn run_pipe<H: Host>(alloc: Global, dir: &str, host: &mut H) -> Outcome
-    ensures piped { Piped (H.state host.old) (H.state host.new) ((H.folders host.old).disks dir.now) ((H.folders host.new).disks dir.now) (H.state host.old).disk_faults (H.state host.new).disk_faults result.status result.accepted }
-    ensures status { IsPipeStatus result.status }
-    ensures others { ButDisk dir.now (H.folders host.old) (H.folders host.new) }
-{
-    let run = pipe(alloc, dir, host);
-    say_end(alloc, dir, host, run.end);
-    Outcome {
-        status: pipe_status(run.end),
-        accepted: run.accepted,
-    }
-}
-
-// `check -n NAME -f FILE`, and what is said of its end.
-fn run_check<H: Host>(alloc: Global, agent: &str, file: &str, host: &mut H) -> Outcome
-    ensures checked { Checked ((H.state host.old).files file.now) agent.now (H.state host.old) (H.state host.new) result.status }
-    ensures status { IsCheckStatus result.status }
-    ensures folders { H.folders host.new ≡ H.folders host.old }
-    ensures none { result.accepted ≡ 0 }
-{
-    match check(alloc, agent, file, host) {
-        Ok(()) => Outcome::ended(0),
-        Err(error) => {
-            say_error(alloc, host, &error);
-            Outcome::ended(error.status())
-        }
-    }
+    status
 }
 
 // Says why nothing was done.
@@ -156,8 +77,15 @@ fn refuse<H: Host>(alloc: Global, host: &mut H, error: &RunError) -> Outcome
 ///
 /// `pipe DIR` makes each line of standard input one transaction of the file channel in the folder `DIR`, which it opens, and
 /// answers `OK` for it once it is on the disk. `check -n NAME -f FILE` reads the configuration file `FILE`, plans the agent `NAME` in it and prints
-/// how many components it has. Each other status than 0 has its line on standard error.
-pub fn run_agent<H: Host>(alloc: Global, words: &[String], host: &mut H) -> Outcome
+/// how many components it has. `agent -n NAME -f FILE` runs that agent: its sources, channels and sinks, each worker in a thread of its
+/// own, until standard input has ended. Each other status than 0 has its line on standard error. What was handed in is dropped.
+pub fn run_agent<'a, R: Threads + Wait + Sync + 'a, H: Host + 'a>(
+    rt: &'a R,
+    alloc: Global,
+    words: &[String],
+    host: &mut H,
+    plugins: Plugins,
+) -> Outcome
     // The words are a command that runs, or the status is 1 and nothing was touched; want of memory may come before.
     ensures usage { result.status ≡ 1 → IsNoCommand (texts words.now) }
     ensures no_command { IsNoCommand (texts words.now) → (result.status ≡ 1) ⊎ (result.status ≡ 5) }
@@ -177,15 +105,35 @@ pub fn run_agent<H: Host>(alloc: Global, words: &[String], host: &mut H) -> Outc
     ensures none { (agent file : List ℕ) → IsCheck (texts words.now) agent file → result.accepted ≡ 0 }
     ensures unopened { (agent file : List ℕ) → IsCheck (texts words.now) agent file → H.folders host.new ≡ H.folders host.old }
 
-    // No folder of rolled files was opened, and each is as before.
-    ensures rolls { ((H.folders host.new).rolls ≡ (H.folders host.old).rolls) × ((H.folders host.new).roll_opened ≡ (H.folders host.old).roll_opened) }
+    // What the configuration file of `agent` holds where the status is 2, and which statuses come.
+    ensures agent { (name file : List ℕ) → IsAgent (texts words.now) name file
+        → AgentEnds ((H.state host.old).files file) name result.status }
+
+    // What `agent` did where the status is 0.
+    ensures agent_ran { (name file : List ℕ) → IsAgent (texts words.now) name file → result.status ≡ 0
+        → AgentRan ⟦<RunOf<'a, R, H, NoStep> as Runs>⟧.ran ((H.state host.old).files file) name
+        (record { state = H.state host.old; folders = H.folders host.old })
+        (record { state = H.state host.new; folders = H.folders host.new }) }
+
+    // But by `agent` no folder of rolled files was opened, and each is as before.
+    ensures rolls { ((name file : List ℕ) → ¬ IsAgent (texts words.now) name file)
+        → ((H.folders host.new).rolls ≡ (H.folders host.old).rolls) × ((H.folders host.new).roll_opened ≡ (H.folders host.old).roll_opened) }
 {
+    drop(plugins);
     match read_words(alloc, words) {
-        Ok(Some(Command::Pipe { dir })) => run_pipe(alloc, dir.as_str(), host),
-        Ok(Some(Command::Check { name, file })) => {
-            run_check(alloc, name.as_str(), file.as_str(), host)
+        Ok(Some(Command::Pipe { dir })) => {
+            let ended = run_pipe(alloc, dir.as_str(), host);
+            Outcome {
+                status: ended.status,
+                accepted: ended.accepted,
+            }
         }
-        Ok(Some(Command::Agent { .. })) => refuse(alloc, host, &RunError::Usage),
+        Ok(Some(Command::Check { name, file })) => {
+            Outcome::ended(run_check(alloc, name.as_str(), file.as_str(), host))
+        }
+        Ok(Some(Command::Agent { name, file })) => {
+            Outcome::ended(run_configured(rt, alloc, name.as_str(), file.as_str(), host))
+        }
         Ok(Some(Command::Load { .. })) => refuse(alloc, host, &RunError::Usage),
         Ok(None) => refuse(alloc, host, &RunError::Usage),
         Err(_) => refuse(alloc, host, &RunError::NoMemory),

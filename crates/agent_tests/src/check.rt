@@ -2,7 +2,9 @@
 use crate::pipe::{run, written};
 use host_memory::{MemDisk, MemHost, MemSink, MemSource, Named};
 use std::alloc::{AllocError, Global};
+use std::sync::Wait;
 use std::test::Fail;
+use std::thread::Threads;
 use test_fixtures::WORKED;
 
 // A host with one file, `x.conf`.
@@ -32,9 +34,15 @@ fn add_words(host: &MemHost, text: &mut Vec<u8>) -> Result<(), AllocError> {
 }
 
 // Whether a run tells this: its status as a digit, a space, what it printed and what it said.
-fn is_told(alloc: Global, words: &[&str], host: MemHost, want: &str) -> Result<bool, AllocError> {
+fn is_told<R: Threads + Wait + Sync>(
+    rt: &R,
+    alloc: Global,
+    words: &[&str],
+    host: MemHost,
+    want: &str,
+) -> Result<bool, AllocError> {
     let mut host = host;
-    let (status, _accepted) = run(alloc, words, &mut host)?;
+    let (status, _accepted) = run(rt, alloc, words, &mut host)?;
     let mut text = vec![in alloc; b'0'.saturating_add(status), b' ']?;
     add_words(&host, &mut text)?;
     Ok(text.as_slice() == want.as_bytes())
@@ -61,16 +69,22 @@ const COUNTED: [(&str, &[&str], &str); 4] = [
     ("c2.type = file", &["check", "-n", "a1"], USAGE),
 ];
 
-fn is_counted(alloc: Global, given: &str, words: &[&str], want: &str) -> Result<bool, AllocError> {
+fn is_counted<R: Threads + Wait + Sync>(
+    rt: &R,
+    alloc: Global,
+    given: &str,
+    words: &[&str],
+    want: &str,
+) -> Result<bool, AllocError> {
     let text = WORKED.replace(alloc, "c2.type = file", given)?;
-    is_told(alloc, words, host(alloc, text.as_str())?, want)
+    is_told(rt, alloc, words, host(alloc, text.as_str())?, want)
 }
 
 #[test]
 fn a_configuration_is_counted(rt: HostRuntime) -> Result<(), Fail> {
     for case in &COUNTED {
         let (given, words, want) = *case;
-        let is_so = is_counted(rt.alloc(), given, words, want)?;
+        let is_so = is_counted(&rt, rt.alloc(), given, words, want)?;
         assert!(rt; is_so, "{given} {words:?}");
     }
     Ok(())
@@ -99,15 +113,20 @@ const FAULTS: [(&str, &str); 7] = [
     ),
 ];
 
-fn is_told_of(alloc: Global, text: &str, want: &str) -> Result<bool, AllocError> {
-    is_told(alloc, &A1, host(alloc, text)?, want)
+fn is_told_of<R: Threads + Wait + Sync>(
+    rt: &R,
+    alloc: Global,
+    text: &str,
+    want: &str,
+) -> Result<bool, AllocError> {
+    is_told(rt, alloc, &A1, host(alloc, text)?, want)
 }
 
 #[test]
 fn faults_are_told(rt: HostRuntime) -> Result<(), Fail> {
     for case in &FAULTS {
         let (text, want) = *case;
-        let is_so = is_told_of(rt.alloc(), text, want)?;
+        let is_so = is_told_of(&rt, rt.alloc(), text, want)?;
         assert!(rt; is_so, "at {text:?}");
     }
     Ok(())
@@ -131,25 +150,30 @@ const SIZES: [(usize, &str); 2] = [
     (1_048_577, "2 flume: configuration too large"),
 ];
 
-fn is_told_of_size(alloc: Global, size: usize, want: &str) -> Result<bool, AllocError> {
+fn is_told_of_size<R: Threads + Wait + Sync>(
+    rt: &R,
+    alloc: Global,
+    size: usize,
+    want: &str,
+) -> Result<bool, AllocError> {
     let text = filled(alloc, size)?;
-    is_told_of(alloc, text.as_str(), want)
+    is_told_of(rt, alloc, text.as_str(), want)
 }
 
 // Whether a file that is not read is a fault outside.
-fn is_unread(alloc: Global) -> Result<bool, AllocError> {
+fn is_unread<R: Threads + Wait + Sync>(rt: &R, alloc: Global) -> Result<bool, AllocError> {
     let host = host(alloc, WORKED)?.failing_opens(vec![in alloc; 0]?);
-    is_told(alloc, &A1, host, "3 flume: fault outside")
+    is_told(rt, alloc, &A1, host, "3 flume: fault outside")
 }
 
 #[test]
 fn a_file_too_large_or_unread(rt: HostRuntime) -> Result<(), Fail> {
     for case in &SIZES {
         let (size, want) = *case;
-        let is_so = is_told_of_size(rt.alloc(), size, want)?;
+        let is_so = is_told_of_size(&rt, rt.alloc(), size, want)?;
         assert!(rt; is_so, "{size}");
     }
-    let is_so = is_unread(rt.alloc())?;
+    let is_so = is_unread(&rt, rt.alloc())?;
     assert!(rt; is_so, "unread");
     Ok(())
 }
@@ -163,16 +187,21 @@ const OUTPUTS: [(u64, &str); 2] = [
     ),
 ];
 
-fn is_fault(alloc: Global, call: u64, want: &str) -> Result<bool, AllocError> {
+fn is_fault<R: Threads + Wait + Sync>(
+    rt: &R,
+    alloc: Global,
+    call: u64,
+    want: &str,
+) -> Result<bool, AllocError> {
     let sink = MemSink::new(alloc).failing_at(vec![in alloc; call]?);
-    is_told(alloc, &A1, host_with(alloc, WORKED, sink)?, want)
+    is_told(rt, alloc, &A1, host_with(alloc, WORKED, sink)?, want)
 }
 
 #[test]
 fn an_output_that_fails_is_a_fault(rt: HostRuntime) -> Result<(), Fail> {
     for case in &OUTPUTS {
         let (call, want) = *case;
-        let is_so = is_fault(rt.alloc(), call, want)?;
+        let is_so = is_fault(&rt, rt.alloc(), call, want)?;
         assert!(rt; is_so, "call {call}");
     }
     Ok(())

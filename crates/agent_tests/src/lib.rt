@@ -1,12 +1,16 @@
 //! Tests of the top call over a host in memory: the worked examples of the format and of the dialogue, failing objects,
-//! and folders that were written before.
+//! folders that were written before, and runs of agents.
 #![tactic(auto)]
 
+#[cfg(test)]
+mod agent;
 #[cfg(test)]
 mod check;
 #[cfg(test)]
 mod left;
 #[cfg(test)]
 mod pipe;
+#[cfg(test)]
+mod sessions;
 #[cfg(test)]
 mod written;

@@ -2,8 +2,11 @@
 use agent_run::run_agent;
 use flume_host::FileName;
 use host_memory::{DiskFault, MemDisk, MemHost, MemSink, MemSource, Named, Part};
+use plug_in::Plugins;
 use std::alloc::{AllocError, Global};
+use std::sync::Wait;
 use std::test::Fail;
+use std::thread::Threads;
 use test_fixtures::owned;
 
 // A header, two frames of one transaction each, and a closed commit byte.
@@ -43,9 +46,14 @@ pub fn host(alloc: Global, outside: Outside) -> Result<MemHost, AllocError> {
 }
 
 /// The status and the count of accepted lines of a run.
-pub fn run(alloc: Global, words: &[&str], host: &mut MemHost) -> Result<(u8, u64), AllocError> {
+pub fn run<R: Threads + Wait + Sync>(
+    rt: &R,
+    alloc: Global,
+    words: &[&str],
+    host: &mut MemHost,
+) -> Result<(u8, u64), AllocError> {
     let words = owned(alloc, words)?;
-    let outcome = run_agent(alloc, &words, host);
+    let outcome = run_agent(rt, alloc, &words, host, Plugins::new(alloc));
     Ok((outcome.status, outcome.accepted))
 }
 
@@ -66,13 +74,14 @@ pub fn is_said(host: &MemHost, line: &str) -> bool {
 }
 
 /// Whether `pipe d` ends with this status, this count of accepted lines and these answers.
-pub fn is_piped(
+pub fn is_piped<R: Threads + Wait + Sync>(
+    rt: &R,
     alloc: Global,
     host: &mut MemHost,
     outcome: (u8, u64),
     answers: &[u8],
 ) -> Result<bool, AllocError> {
-    Ok(run(alloc, &["pipe", "d"], host)? == outcome && written(host) == answers)
+    Ok(run(rt, alloc, &["pipe", "d"], host)? == outcome && written(host) == answers)
 }
 
 /// A file of the folder `d`.
@@ -92,17 +101,21 @@ const LOGS: [Log; 2] = [
 ];
 
 // Whether a run on the input is as the row says, and nothing is said.
-fn is_logged(alloc: Global, row: &Log) -> Result<bool, AllocError> {
+fn is_logged<R: Threads + Wait + Sync>(
+    rt: &R,
+    alloc: Global,
+    row: &Log,
+) -> Result<bool, AllocError> {
     let (input, outcome, answers, log) = *row;
     let mut host = host(alloc, given_lines(alloc, input)?)?;
-    let is_so = is_piped(alloc, &mut host, outcome, answers)?;
+    let is_so = is_piped(rt, alloc, &mut host, outcome, answers)?;
     Ok(is_so && file_of(&host, FileName::Log(1)) == Some(log) && is_said(&host, ""))
 }
 
 #[test]
 fn each_line_makes_a_frame(rt: HostRuntime) -> Result<(), Fail> {
     for row in &LOGS {
-        let is_so = is_logged(rt.alloc(), row)?;
+        let is_so = is_logged(&rt, rt.alloc(), row)?;
         assert!(rt; is_so, "{:?}", row.0);
     }
     assert!(rt; TWO_LINES.len() == 115);
@@ -188,27 +201,32 @@ const LINES: [Lines; 8] = [
 ];
 
 // Whether the lines are answered so, where the input comes in pieces of this length, and the output takes two bytes at a time.
-fn is_answered(alloc: Global, lines: &Lines, piece: usize) -> Result<bool, AllocError> {
+fn is_answered<R: Threads + Wait + Sync>(
+    rt: &R,
+    alloc: Global,
+    lines: &Lines,
+    piece: usize,
+) -> Result<bool, AllocError> {
     let input = long_line(alloc, lines.front, lines.count, lines.end)?;
     let mut given = given_lines(alloc, &input)?;
     given.source = given.source.in_pieces(vec![in alloc; piece]?);
     given.sink = given.sink.in_pieces(vec![in alloc; 2]?);
     let mut host = host(alloc, given)?;
-    is_piped(alloc, &mut host, lines.outcome, lines.answers)
+    is_piped(rt, alloc, &mut host, lines.outcome, lines.answers)
 }
 
 #[test]
 fn every_line_has_its_answer_in_any_pieces(rt: HostRuntime) -> Result<(), Fail> {
     for (row, lines) in LINES.iter().enumerate() {
         for piece in [1, 3, 512, 10_000] {
-            let is_so = is_answered(rt.alloc(), lines, piece)?;
+            let is_so = is_answered(&rt, rt.alloc(), lines, piece)?;
             assert!(rt; is_so, "row {row}, pieces of {piece}");
         }
     }
     Ok(())
 }
 
-const OTHER_WORDS: [&[&str]; 9] = [
+const OTHER_WORDS: [&[&str]; 8] = [
     &[],
     &["pipe"],
     &["pipe", ""],
@@ -216,7 +234,6 @@ const OTHER_WORDS: [&[&str]; 9] = [
     &["pipe", "d", "e"],
     &["Pipe", "d"],
     &["--help"],
-    &["agent", "-n", "a", "-f", "f"],
     &["load", "1", "d"],
 ];
 
@@ -224,9 +241,13 @@ const USAGE: &str =
     "usage: flume pipe DIR | agent -n NAME -f FILE | check -n NAME -f FILE | load N DIR";
 
 // Whether the words are no command: nothing is read, written or logged.
-fn is_no_command(alloc: Global, words: &[&str]) -> Result<bool, AllocError> {
+fn is_no_command<R: Threads + Wait + Sync>(
+    rt: &R,
+    alloc: Global,
+    words: &[&str],
+) -> Result<bool, AllocError> {
     let mut host = host(alloc, given_lines(alloc, b"a\n")?)?;
-    let outcome = run(alloc, words, &mut host)?;
+    let outcome = run(rt, alloc, words, &mut host)?;
     let is_kept = written(&host).is_empty() && file_of(&host, FileName::Log(1)).is_none();
     Ok(outcome == (1, 0) && is_kept && is_said(&host, USAGE))
 }
@@ -235,7 +256,7 @@ fn is_no_command(alloc: Global, words: &[&str]) -> Result<bool, AllocError> {
 fn other_words_are_no_command(rt: HostRuntime) -> Result<(), Fail> {
     for words in &OTHER_WORDS {
         let words = *words;
-        let is_so = is_no_command(rt.alloc(), words)?;
+        let is_so = is_no_command(&rt, rt.alloc(), words)?;
         assert!(rt; is_so, "{words:?}");
     }
     Ok(())
@@ -252,12 +273,16 @@ fn after_failing_call(call: u64) -> ((u8, u64), &'static [u8]) {
 }
 
 // Whether a run on a disk that fails at this call ends as it has to.
-fn is_in_doubt(alloc: Global, fault: DiskFault) -> Result<bool, AllocError> {
+fn is_in_doubt<R: Threads + Wait + Sync>(
+    rt: &R,
+    alloc: Global,
+    fault: DiskFault,
+) -> Result<bool, AllocError> {
     let (outcome, answers) = after_failing_call(fault.call);
     let mut given = given_lines(alloc, b"a\nb\n")?;
     given.disk = given.disk.failing_at(vec![in alloc; fault]?);
     let mut host = host(alloc, given)?;
-    let is_so = is_piped(alloc, &mut host, outcome, answers)?;
+    let is_so = is_piped(rt, alloc, &mut host, outcome, answers)?;
     Ok(is_so && (outcome.0 != 3 || is_said(&host, "flume: fault outside")))
 }
 
@@ -265,7 +290,7 @@ fn is_in_doubt(alloc: Global, fault: DiskFault) -> Result<bool, AllocError> {
 fn a_failing_disk_leaves_the_line_in_doubt(rt: HostRuntime) -> Result<(), Fail> {
     for call in 0..16 {
         for part in [Part::Nothing, Part::Front(1)] {
-            let is_so = is_in_doubt(rt.alloc(), DiskFault { call, part })?;
+            let is_so = is_in_doubt(&rt, rt.alloc(), DiskFault { call, part })?;
             assert!(rt; is_so, "call {call}, {part:?}");
         }
     }
@@ -284,7 +309,8 @@ const OUTPUTS: [(u64, (u8, u64), &[u8]); 6] = [
 ];
 
 // Whether a run whose output fails at this call ends so.
-fn is_cut(
+fn is_cut<R: Threads + Wait + Sync>(
+    rt: &R,
     alloc: Global,
     call: u64,
     outcome: (u8, u64),
@@ -293,37 +319,40 @@ fn is_cut(
     let mut given = given_lines(alloc, b"a\nb\n")?;
     given.sink = given.sink.failing_at(vec![in alloc; call]?);
     let mut host = host(alloc, given)?;
-    is_piped(alloc, &mut host, outcome, answers)
+    is_piped(rt, alloc, &mut host, outcome, answers)
 }
 
 #[test]
 fn a_failing_output_cuts_the_answers(rt: HostRuntime) -> Result<(), Fail> {
     for case in &OUTPUTS {
         let (call, outcome, answers) = *case;
-        let is_so = is_cut(rt.alloc(), call, outcome, answers)?;
+        let is_so = is_cut(&rt, rt.alloc(), call, outcome, answers)?;
         assert!(rt; is_so, "call {call}");
     }
     Ok(())
 }
 
 // Whether a run ends with a fault after the first line, where the input comes in pieces of two bytes, and the second fails.
-fn is_cut_off(alloc: Global) -> Result<bool, AllocError> {
+fn is_cut_off<R: Threads + Wait + Sync>(rt: &R, alloc: Global) -> Result<bool, AllocError> {
     let mut given = given_lines(alloc, b"a\nb\n")?;
     let source = given.source.in_pieces(vec![in alloc; 2]?);
     given.source = source.failing_at(vec![in alloc; 1]?);
     let mut host = host(alloc, given)?;
-    is_piped(alloc, &mut host, (3, 1), b"OK\n")
+    is_piped(rt, alloc, &mut host, (3, 1), b"OK\n")
 }
 
 // Whether a run ends with a fault where the folder is not opened.
-fn is_not_opened(alloc: Global) -> Result<bool, AllocError> {
+fn is_not_opened<R: Threads + Wait + Sync>(rt: &R, alloc: Global) -> Result<bool, AllocError> {
     let mut host = host(alloc, given_lines(alloc, b"a\n")?)?.failing_opens(vec![in alloc; 0]?);
-    is_piped(alloc, &mut host, (3, 0), b"")
+    is_piped(rt, alloc, &mut host, (3, 0), b"")
 }
 
 #[test]
 fn a_failing_input_or_opening_ends_with_a_fault(rt: HostRuntime) -> Result<(), Fail> {
-    let is_so = (is_cut_off(rt.alloc())?, is_not_opened(rt.alloc())?);
+    let is_so = (
+        is_cut_off(&rt, rt.alloc())?,
+        is_not_opened(&rt, rt.alloc())?,
+    );
     assert!(rt; is_so == (true, true));
     Ok(())
 }

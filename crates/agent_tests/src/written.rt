@@ -4,7 +4,9 @@ use crate::pipe::{BEGUN, TWO_LINES, file_of, given_lines, host, is_piped, is_sai
 use flume_host::FileName;
 use host_memory::{MemDisk, MemFile, MemHost, Part, Stood};
 use std::alloc::{AllocError, Global};
+use std::sync::Wait;
 use std::test::Fail;
+use std::thread::Threads;
 use test_fixtures::disk_failing_at;
 
 // The second log file, with one frame of the third transaction.
@@ -72,9 +74,13 @@ const RERUNS: [Rerun; 2] = [
 ];
 
 // The host of the second run, on what the first left, if that ended as it has to.
-fn second_host(alloc: Global, case: &Rerun) -> Result<MemHost, Fail> {
+fn second_host<R: Threads + Wait + Sync>(
+    rt: &R,
+    alloc: Global,
+    case: &Rerun,
+) -> Result<MemHost, Fail> {
     let mut first = given(alloc, MemDisk::new(alloc), case.first)?;
-    if run(alloc, &["pipe", "d"], &mut first)? != case.first_outcome {
+    if run(rt, alloc, &["pipe", "d"], &mut first)? != case.first_outcome {
         return Err("the first run")?;
     }
     Ok(given(alloc, as_is(&first)?, case.second)?)
@@ -92,9 +98,9 @@ fn leaves(alloc: Global, host: &MemHost, bodies: &[u8]) -> Result<bool, Fail> {
 }
 
 // Whether the second run ends as it has to.
-fn is_rerun(alloc: Global, case: &Rerun) -> Result<bool, Fail> {
-    let mut host = second_host(alloc, case)?;
-    if !is_piped(alloc, &mut host, case.second_outcome, case.answers)? {
+fn is_rerun<R: Threads + Wait + Sync>(rt: &R, alloc: Global, case: &Rerun) -> Result<bool, Fail> {
+    let mut host = second_host(rt, alloc, case)?;
+    if !is_piped(rt, alloc, &mut host, case.second_outcome, case.answers)? {
         return Ok(false);
     }
     Ok(is_said(&host, "") && has_logs(&host, &case.logs) && leaves(alloc, &host, case.left)?)
@@ -103,7 +109,7 @@ fn is_rerun(alloc: Global, case: &Rerun) -> Result<bool, Fail> {
 #[test]
 fn lines_follow_those_of_an_earlier_run(rt: HostRuntime) -> Result<(), Fail> {
     for case in &RERUNS {
-        let is_so = is_rerun(rt.alloc(), case)?;
+        let is_so = is_rerun(&rt, rt.alloc(), case)?;
         assert!(rt; is_so, "{:?}", case.first);
     }
     assert!(rt; THIRD_LINE.len() == 66);
@@ -132,37 +138,47 @@ const STOPS: [(u64, Stood, bool); 11] = [
 ];
 
 // The host of a run of one line.
-fn ran_once(alloc: Global) -> Result<MemHost, Fail> {
+fn ran_once<R: Threads + Wait + Sync>(rt: &R, alloc: Global) -> Result<MemHost, Fail> {
     let mut host = given(alloc, MemDisk::new(alloc), b"a\n")?;
-    if run(alloc, &["pipe", "d"], &mut host)? != (0, 1) {
+    if run(rt, alloc, &["pipe", "d"], &mut host)? != (0, 1) {
         return Err("the first run")?;
     }
     Ok(host)
 }
 
 // Whether a run on what a crash left ends well and finds the line, or not.
-fn is_found(alloc: Global, disk: MemDisk, there: bool) -> Result<bool, Fail> {
+fn is_found<R: Threads + Wait + Sync>(
+    rt: &R,
+    alloc: Global,
+    disk: MemDisk,
+    there: bool,
+) -> Result<bool, Fail> {
     let want: &[u8] = if there { b"a\nz\n" } else { b"z\n" };
     let mut host = given(alloc, disk, b"z\n")?;
-    Ok(is_piped(alloc, &mut host, (0, 1), b"OK\n")? && leaves(alloc, &host, want)?)
+    Ok(is_piped(rt, alloc, &mut host, (0, 1), b"OK\n")? && leaves(alloc, &host, want)?)
 }
 
 #[test]
 fn a_crash_leaves_a_line_or_not(rt: HostRuntime) -> Result<(), Fail> {
-    let first = ran_once(rt.alloc())?;
+    let first = ran_once(&rt, rt.alloc())?;
     for case in &STOPS {
         let (moment, stood, there) = *case;
-        let is_so = is_found(rt.alloc(), stopped(&first, moment, stood)?, there)?;
+        let is_so = is_found(&rt, rt.alloc(), stopped(&first, moment, stood)?, there)?;
         assert!(rt; is_so, "moment {moment}, {stood:?}");
     }
     Ok(())
 }
 
 // What a crash leaves of a run on two lines of which this call of the disk failed, which ends with a fault.
-fn left_after_fault(alloc: Global, call: u64, stood: Stood) -> Result<Vec<u8>, Fail> {
+fn left_after_fault<R: Threads + Wait + Sync>(
+    rt: &R,
+    alloc: Global,
+    call: u64,
+    stood: Stood,
+) -> Result<Vec<u8>, Fail> {
     let disk = disk_failing_at(alloc, call, Part::Front(1))?;
     let mut host = given(alloc, disk, b"a\nb\n")?;
-    if run(alloc, &["pipe", "d"], &mut host)?.0 != 3 {
+    if run(rt, alloc, &["pipe", "d"], &mut host)?.0 != 3 {
         return Err("no fault")?;
     }
     match host.disk("d") {
@@ -179,7 +195,7 @@ fn what_was_answered_is_left_after_a_fault(rt: HostRuntime) -> Result<(), Fail> 
         let sure: &[u8] = if call < 11 { b"" } else { b"a\n" };
         let more: &[u8] = if call < 11 { b"a\n" } else { b"a\nb\n" };
         for stood in [Stood::Old, Stood::New, Stood::Garbage(1)] {
-            let found = left_after_fault(rt.alloc(), call, stood)?;
+            let found = left_after_fault(&rt, rt.alloc(), call, stood)?;
             let is_so = found.as_slice() == sure || found.as_slice() == more;
             assert!(rt; is_so, "call {call}, {stood:?}");
         }
@@ -243,7 +259,11 @@ fn host_on_file(
 }
 
 // Whether a folder of one file is refused with this line, or taken where there is none, and the file stays as it is.
-fn is_refused(alloc: Global, folder: &Folder) -> Result<bool, AllocError> {
+fn is_refused<R: Threads + Wait + Sync>(
+    rt: &R,
+    alloc: Global,
+    folder: &Folder,
+) -> Result<bool, AllocError> {
     let (name, bytes, line) = *folder;
     let mut host = host_on_file(alloc, name, bytes, b"a\n")?;
     let (outcome, answers): ((u8, u64), &[u8]) = if line.is_empty() {
@@ -251,14 +271,14 @@ fn is_refused(alloc: Global, folder: &Folder) -> Result<bool, AllocError> {
     } else {
         ((4, 0), b"")
     };
-    let is_so = is_piped(alloc, &mut host, outcome, answers)?;
+    let is_so = is_piped(rt, alloc, &mut host, outcome, answers)?;
     Ok(is_so && is_said(&host, line) && file_of(&host, name) == Some(bytes))
 }
 
 #[test]
 fn a_folder_is_refused_for_what_it_holds(rt: HostRuntime) -> Result<(), Fail> {
     for (row, folder) in FOLDERS.iter().enumerate() {
-        let is_so = is_refused(rt.alloc(), folder)?;
+        let is_so = is_refused(&rt, rt.alloc(), folder)?;
         assert!(rt; is_so, "row {row}");
     }
     Ok(())
@@ -281,7 +301,7 @@ fn lines_are_refused_once_a_number_is_at_its_end(rt: HostRuntime) -> Result<(), 
     let alloc = rt.alloc();
     let mut host = host_on_file(alloc, FileName::Log(1), NUMBERS, b"b\nc\nd\n")?;
     let answers = b"OK\nFAILED: channel refused\nFAILED: channel refused\n";
-    let is_so = is_piped(alloc, &mut host, (0, 1), answers)?;
+    let is_so = is_piped(&rt, alloc, &mut host, (0, 1), answers)?;
     assert!(rt; is_so && is_said(&host, ""));
     assert!(rt; file_of(&host, FileName::Log(2)) == Some(LAST_NUMBER));
     Ok(())

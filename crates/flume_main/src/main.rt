@@ -3,6 +3,7 @@
 
 use agent_run::run_agent;
 use host_real::RealHost;
+use plug_in::Plugins;
 use std::env;
 use std::fs::File;
 use std::process::ExitCode;
@@ -28,7 +29,7 @@ fn main(rt: HostRuntime) -> ExitCode {
         return ExitCode::from(5);
     };
     let mut host = RealHost::new(rt);
-    let outcome = run_agent(rt.alloc(), &words, &mut host);
+    let outcome = run_agent(&rt, rt.alloc(), &words, &mut host, Plugins::new(rt.alloc()));
     drop(streams);
     ExitCode::from(outcome.status)
 }

@@ -1,13 +1,16 @@
-use Rattle.std.proofs.Common.{◌≡◌, List, ℕ, Option, codes, inr, ap, sym, subst, ◌∙◌, arith}
+use Rattle.std.proofs.Common.{◌≡◌, List, ℕ, codes, inr, ap, sym, subst, ◌∙◌, arith}
 use Rattle.flume_host.specs.HostState.{Folders, HostState}
 use Rattle.flume_host.proofs.Folders.{but_same}
 use Rattle.agent_words.specs.Words.{texts}
 use Rattle.agent_words.proofs.Unique.{one_asked}
-use Rattle.agent_run.specs.Checked.{Checked}
-use Rattle.agent_run.proofs.Commands.{agent_does_not_run, load_does_not_run, none_runs, read_none, read_some}
-use Rattle.flume_host.specs.Told.{Tells, Told}
-use Rattle.agent_run.specs.Stored.{IsUnopened}
-use Rattle.agent_run.proofs.Outcomes.{early, untouched}
+use Rattle.agent_commands.specs.Checked.{Checked}
+use Rattle.agent_run.specs.Named.{AgentEnds}
+use Rattle.agent_run.specs.declared.run.Outcome.{Outcome}
+use Rattle.agent_run.proofs.Answering.{agent_named, never_one}
+use Rattle.agent_run.proofs.Commands.{agent_is_no_check, agent_is_no_pipe, load_does_not_run, none_runs, read_none, read_some}
+use Rattle.flume_host.specs.Told.{Tells}
+use Rattle.agent_commands.specs.Stored.{IsUnopened}
+use Rattle.agent_commands.proofs.Outcomes.{early, untouched}
 use Rattle.agent_run.proofs.run.run_agent.Goals as goal
 
 pub returns-in-Ok-Some-Check-clause-no_command : goal.returns-in-Ok-Some-Check-clause-no_command
@@ -21,14 +24,9 @@ returns-in-Ok-Some-Check-clause-checked g c = λ agent file is.
     let same = one_asked (texts c.args.words.now) (codes "check") _ _ agent file (read_some _ _ _ _ c.in-Ok-Some-Check.ensures c.in-Ok-Some-Check.field-0-is c.in-Ok-Some-Check.field-0-0-is) is in
     let n : c.as_str-in-Ok-Some-Check.result.now ≡ agent = c.as_str-in-Ok-Some-Check.ensures.value ∙ same.0 in
     let f : c.as_str-in-Ok-Some-Check-2.result.now ≡ file = c.as_str-in-Ok-Some-Check-2.ensures.value ∙ same.1 in
-    let C : List ℕ × List ℕ → Type 0 = λ x. Checked ((g.H.Host.state c.args.host.now).files x.1) x.0 (g.H.Host.state c.args.host.now) (g.H.Host.state c.run_check.new.host) c.run_check.result.status in
-    subst C (λ i. (n i, f i)) c.run_check.ensures.checked
-
-pub returns-in-Ok-Some-Agent-clause-usage : goal.returns-in-Ok-Some-Agent-clause-usage
-returns-in-Ok-Some-Agent-clause-usage g c = λ one. agent_does_not_run _ _ _ (read_some _ _ _ _ c.in-Ok-Some-Agent.ensures c.in-Ok-Some-Agent.field-0-is c.in-Ok-Some-Agent.field-0-0-is)
-
-pub returns-in-Ok-Some-Agent-clause-check_statuses : goal.returns-in-Ok-Some-Agent-clause-check_statuses
-returns-in-Ok-Some-Agent-clause-check_statuses g c = λ agent file is. absurd ((agent_does_not_run _ _ _ (read_some _ _ _ _ c.in-Ok-Some-Agent.ensures c.in-Ok-Some-Agent.field-0-is c.in-Ok-Some-Agent.field-0-0-is)).no_check agent file is)
+    let status : c.run_check.result ≡ c.ended.result.status = sym (ap (λ (o : Outcome). o.status) c.ended.ensures) in
+    let C : List ℕ × (List ℕ × ℕ) → Type 0 = λ x. Checked ((g.H.Host.state c.args.host.now).files x.1.0) x.0 (g.H.Host.state c.args.host.now) (g.H.Host.state c.run_check.new.host) x.1.1 in
+    subst C (λ i. (n i, (f i, status i))) c.run_check.ensures.checked
 
 pub returns-in-Ok-Some-Load-clause-usage : goal.returns-in-Ok-Some-Load-clause-usage
 returns-in-Ok-Some-Load-clause-usage g c = λ one. load_does_not_run _ _ _ (read_some _ _ _ _ c.in-Ok-Some-Load.ensures c.in-Ok-Some-Load.field-0-is c.in-Ok-Some-Load.field-0-0-is)
@@ -51,14 +49,64 @@ returns-clause-piped g c = λ dir is.
 pub returns-in-Ok-Some-Check-clause-others : goal.returns-in-Ok-Some-Check-clause-others
 returns-in-Ok-Some-Check-clause-others g c = λ dir is. but_same _ _ _ c.run_check.ensures.folders
 
-pub returns-in-Ok-Some-Agent-clause-others : goal.returns-in-Ok-Some-Agent-clause-others
-returns-in-Ok-Some-Agent-clause-others g c = λ dir is. but_same _ _ _ c.refuse.ensures.folders
-
 pub returns-in-Ok-Some-Load-clause-others : goal.returns-in-Ok-Some-Load-clause-others
-returns-in-Ok-Some-Load-clause-others g c = λ dir is. but_same _ _ _ c.refuse-in-Ok-Some-Load.ensures.folders
+returns-in-Ok-Some-Load-clause-others g c = λ dir is. but_same _ _ _ c.refuse.ensures.folders
 
 pub returns-in-Ok-None-clause-others : goal.returns-in-Ok-None-clause-others
 returns-in-Ok-None-clause-others g c = λ dir is. but_same _ _ _ c.refuse-in-Ok-None.ensures.folders
 
 pub returns-clause-others : goal.returns-clause-others
 returns-clause-others g c = λ dir is. but_same _ _ _ c.refuse-in-Err.ensures.folders
+
+pub returns-in-Ok-Some-Agent-clause-usage : goal.returns-in-Ok-Some-Agent-clause-usage
+returns-in-Ok-Some-Agent-clause-usage g c = λ one. absurd (never_one c.run_configured.result c.run_configured.ensures.ends.which (sym (ap (λ (o : Outcome). o.status) c.ended-in-Ok-Some-Agent.ensures) ∙ one))
+
+pub returns-in-Ok-Some-Agent-clause-no_command : goal.returns-in-Ok-Some-Agent-clause-no_command
+returns-in-Ok-Some-Agent-clause-no_command g c = λ none. absurd (none.no_agent _ _ (read_some _ _ _ _ c.in-Ok-Some-Agent.ensures c.in-Ok-Some-Agent.field-0-is c.in-Ok-Some-Agent.field-0-0-is))
+
+pub returns-in-Ok-Some-Agent-clause-nothing : goal.returns-in-Ok-Some-Agent-clause-nothing
+returns-in-Ok-Some-Agent-clause-nothing g c = λ none. absurd (none.no_agent _ _ (read_some _ _ _ _ c.in-Ok-Some-Agent.ensures c.in-Ok-Some-Agent.field-0-is c.in-Ok-Some-Agent.field-0-0-is))
+
+pub returns-in-Ok-Some-Agent-clause-nothing_opened : goal.returns-in-Ok-Some-Agent-clause-nothing_opened
+returns-in-Ok-Some-Agent-clause-nothing_opened g c = λ none. absurd (none.no_agent _ _ (read_some _ _ _ _ c.in-Ok-Some-Agent.ensures c.in-Ok-Some-Agent.field-0-is c.in-Ok-Some-Agent.field-0-0-is))
+
+pub returns-in-Ok-Some-Agent-clause-piped : goal.returns-in-Ok-Some-Agent-clause-piped
+returns-in-Ok-Some-Agent-clause-piped g c = λ dir is. absurd (agent_is_no_pipe _ _ _ dir (read_some _ _ _ _ c.in-Ok-Some-Agent.ensures c.in-Ok-Some-Agent.field-0-is c.in-Ok-Some-Agent.field-0-0-is) is)
+
+pub returns-in-Ok-Some-Agent-clause-pipe_statuses : goal.returns-in-Ok-Some-Agent-clause-pipe_statuses
+returns-in-Ok-Some-Agent-clause-pipe_statuses g c = λ dir is. absurd (agent_is_no_pipe _ _ _ dir (read_some _ _ _ _ c.in-Ok-Some-Agent.ensures c.in-Ok-Some-Agent.field-0-is c.in-Ok-Some-Agent.field-0-0-is) is)
+
+pub returns-in-Ok-Some-Agent-clause-others : goal.returns-in-Ok-Some-Agent-clause-others
+returns-in-Ok-Some-Agent-clause-others g c = λ dir is. absurd (agent_is_no_pipe _ _ _ dir (read_some _ _ _ _ c.in-Ok-Some-Agent.ensures c.in-Ok-Some-Agent.field-0-is c.in-Ok-Some-Agent.field-0-0-is) is)
+
+pub returns-in-Ok-Some-Agent-clause-checked : goal.returns-in-Ok-Some-Agent-clause-checked
+returns-in-Ok-Some-Agent-clause-checked g c = λ agent file is. absurd (agent_is_no_check _ _ _ agent file (read_some _ _ _ _ c.in-Ok-Some-Agent.ensures c.in-Ok-Some-Agent.field-0-is c.in-Ok-Some-Agent.field-0-0-is) is)
+
+pub returns-in-Ok-Some-Agent-clause-check_statuses : goal.returns-in-Ok-Some-Agent-clause-check_statuses
+returns-in-Ok-Some-Agent-clause-check_statuses g c = λ agent file is. absurd (agent_is_no_check _ _ _ agent file (read_some _ _ _ _ c.in-Ok-Some-Agent.ensures c.in-Ok-Some-Agent.field-0-is c.in-Ok-Some-Agent.field-0-0-is) is)
+
+pub returns-in-Ok-Some-Agent-clause-unopened : goal.returns-in-Ok-Some-Agent-clause-unopened
+returns-in-Ok-Some-Agent-clause-unopened g c = λ agent file is. absurd (agent_is_no_check _ _ _ agent file (read_some _ _ _ _ c.in-Ok-Some-Agent.ensures c.in-Ok-Some-Agent.field-0-is c.in-Ok-Some-Agent.field-0-0-is) is)
+
+pub returns-in-Ok-Some-Agent-clause-agent : goal.returns-in-Ok-Some-Agent-clause-agent
+returns-in-Ok-Some-Agent-clause-agent g c = λ name file is.
+    let same = one_asked (texts c.args.words.now) (codes "agent") _ _ name file (read_some _ _ _ _ c.in-Ok-Some-Agent.ensures c.in-Ok-Some-Agent.field-0-is c.in-Ok-Some-Agent.field-0-0-is) is in
+    let n : c.as_str-in-Ok-Some-Agent.result.now ≡ name = c.as_str-in-Ok-Some-Agent.ensures.value ∙ same.0 in
+    let f : c.as_str-in-Ok-Some-Agent-2.result.now ≡ file = c.as_str-in-Ok-Some-Agent-2.ensures.value ∙ same.1 in
+    let status : c.run_configured.result ≡ c.ended-in-Ok-Some-Agent.result.status = sym (ap (λ (o : Outcome). o.status) c.ended-in-Ok-Some-Agent.ensures) in
+    let C : List ℕ × (List ℕ × ℕ) → Type 0 = λ x. AgentEnds ((g.H.Host.state c.args.host.now).files x.1.0) x.0 x.1.1 in
+    subst C (λ i. (n i, (f i, status i))) c.run_configured.ensures.ends
+
+pub returns-in-Ok-Some-Agent-clause-rolls : goal.returns-in-Ok-Some-Agent-clause-rolls
+returns-in-Ok-Some-Agent-clause-rolls g c = λ none. absurd (none _ _ (read_some _ _ _ _ c.in-Ok-Some-Agent.ensures c.in-Ok-Some-Agent.field-0-is c.in-Ok-Some-Agent.field-0-0-is))
+
+pub returns-in-Ok-None-clause-agent : goal.returns-in-Ok-None-clause-agent
+returns-in-Ok-None-clause-agent g c = λ name file is. absurd ((read_none _ _ c.in-Ok-None.ensures c.in-Ok-None.field-0-is).agent name file is)
+
+pub returns-in-Ok-Some-Agent-clause-agent_ran : goal.returns-in-Ok-Some-Agent-clause-agent_ran
+returns-in-Ok-Some-Agent-clause-agent_ran g c = λ name file is zero.
+    let same = one_asked (texts c.args.words.now) (codes "agent") _ _ name file (read_some _ _ _ _ c.in-Ok-Some-Agent.ensures c.in-Ok-Some-Agent.field-0-is c.in-Ok-Some-Agent.field-0-0-is) is in
+    let n : c.as_str-in-Ok-Some-Agent.result.now ≡ name = c.as_str-in-Ok-Some-Agent.ensures.value ∙ same.0 in
+    let f : c.as_str-in-Ok-Some-Agent-2.result.now ≡ file = c.as_str-in-Ok-Some-Agent-2.ensures.value ∙ same.1 in
+    let status : c.run_configured.result ≡ c.ended-in-Ok-Some-Agent.result.status = sym (ap (λ (o : Outcome). o.status) c.ended-in-Ok-Some-Agent.ensures) in
+    agent_named (g.H.Host.state c.args.host.now).files f n (c.run_configured.ensures.ran (status ∙ zero))

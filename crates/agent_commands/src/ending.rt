@@ -1,0 +1,133 @@
+// How a command ends: its exit status, and what is said of it.
+ghost use Rattle.std.specs.Prelude.{◌≡◌, ◌⊎◌, List, ℕ, IfOk, MatchOption};
+ghost use Rattle.flume_host.specs.HostState.{ButDisk};
+ghost use Rattle.agent_words.specs.Statuses.{status_of};
+ghost use Rattle.agent_commands.specs.Checked.{Checked, IsCheckStatus};
+ghost use Rattle.agent_commands.specs.Piped.{Piped, IsPipeStatus, cause_status, pipe_status};
+
+use crate::channel_store::default_limits;
+use crate::check::check;
+use crate::pipe::{PipeEnd, pipe};
+use crate::session::SessionEnd;
+use agent_words::RunError;
+use channel_face::OpenCause;
+use flume_host::Host;
+use std::alloc::{AllocError, Global};
+
+/// What a run of `pipe` ended with.
+#[derive(Clone, Copy, Debug, PartialEq, Eq)]
+pub struct PipeEnded {
+    /// The exit status.
+    pub status: u8,
+    /// How many lines of standard input were accepted: their transactions are acknowledged.
+    pub accepted: u64,
+}
+
+/// Writes the line of an error to standard error. Where there is no memory for it, it says so.
+pub fn say_error<H: Host>(alloc: Global, host: &mut H, error: &RunError)
+    ensures state { H.state host.new ≡ H.state host.old }
+    ensures folders { H.folders host.new ≡ H.folders host.old }
+{
+    match format!(in alloc; "{error}") {
+        Ok(line) => host.say(line.as_str()),
+        Err(_) => host.say("flume: no memory"),
+    }
+}
+
+// Why a run of `pipe` did not end well, if it did not.
+fn pipe_error(alloc: Global, dir: &str, end: PipeEnd) -> Result<Option<RunError>, AllocError>
+    ensures { IfOk result (λ error. MatchOption error (pipe_status end ≡ 0) (λ e. status_of e ≡ pipe_status end)) }
+{
+    let error = match end {
+        PipeEnd::Served(SessionEnd::End) => return Ok(None),
+        PipeEnd::Served(SessionEnd::LongLine) => RunError::LineTooLong,
+        PipeEnd::Served(SessionEnd::Full) => RunError::InputTooLong,
+        PipeEnd::Served(SessionEnd::NoMemory) => RunError::NoMemory,
+        PipeEnd::Served(SessionEnd::InDoubt | SessionEnd::ReadFault | SessionEnd::WriteFault) =>
+            RunError::Fault,
+        PipeEnd::Unopened(cause) => {
+            unopened(
+                String::from_str(alloc, dir)?,
+                default_limits().capacity,
+                cause,
+            )
+        }
+    };
+    Ok(Some(error))
+}
+
+/// What is said of a channel in this folder, of this capacity, that was not opened.
+pub fn unopened(dir: String, capacity: u32, cause: OpenCause) -> RunError
+    ensures { status_of result ≡ cause_status cause }
+{
+    match cause {
+        OpenCause::DiskFault => RunError::Fault,
+        OpenCause::BadCheck { file, at } => RunError::BadCheckpoint { dir, file, at },
+        OpenCause::BadLog { file, at } => RunError::BadLog { dir, file, at },
+        OpenCause::OverCapacity { count } => RunError::OverCapacity {
+            dir,
+            count,
+            capacity,
+        },
+        OpenCause::Spent { .. } => RunError::Spent { dir },
+        OpenCause::NoMemory => RunError::NoMemory,
+    }
+}
+
+// The exit status of a run of `pipe`.
+fn pipe_status(end: PipeEnd) -> u8
+    ensures { result ≡ pipe_status end }
+{
+    match end {
+        PipeEnd::Served(SessionEnd::End) => 0,
+        PipeEnd::Served(SessionEnd::LongLine) => 7,
+        PipeEnd::Served(SessionEnd::Full) => 6,
+        PipeEnd::Served(SessionEnd::NoMemory) => 5,
+        PipeEnd::Served(SessionEnd::InDoubt | SessionEnd::ReadFault | SessionEnd::WriteFault) => 3,
+        PipeEnd::Unopened(OpenCause::DiskFault) => 3,
+        PipeEnd::Unopened(OpenCause::NoMemory) => 5,
+        PipeEnd::Unopened(_) => 4,
+    }
+}
+
+// Says why a run of `pipe` ended.
+fn say_end<H: Host>(alloc: Global, dir: &str, host: &mut H, end: PipeEnd)
+    ensures state { H.state host.new ≡ H.state host.old }
+    ensures folders { H.folders host.new ≡ H.folders host.old }
+{
+    match pipe_error(alloc, dir, end) {
+        Ok(None) => {}
+        Ok(Some(error)) => say_error(alloc, host, &error),
+        Err(_) => host.say("flume: no memory"),
+    }
+}
+
+/// `pipe DIR`, and the line on standard error that tells why it ended, unless all went well.
+pub fn run_pipe<H: Host>(alloc: Global, dir: &str, host: &mut H) -> PipeEnded
+    ensures piped { Piped (H.state host.old) (H.state host.new) ((H.folders host.old).disks dir.now) ((H.folders host.new).disks dir.now) (H.state host.old).disk_faults (H.state host.new).disk_faults result.status result.accepted }
+    ensures status { IsPipeStatus result.status }
+    ensures others { ButDisk dir.now (H.folders host.old) (H.folders host.new) }
+{
+    let run = pipe(alloc, dir, host);
+    say_end(alloc, dir, host, run.end);
+    PipeEnded {
+        status: pipe_status(run.end),
+        accepted: run.accepted,
+    }
+}
+
+/// `check -n NAME -f FILE`, and the line on standard error that tells why it ended, unless all went well. It answers the exit
+/// status.
+pub fn run_check<H: Host>(alloc: Global, agent: &str, file: &str, host: &mut H) -> u8
+    ensures checked { Checked ((H.state host.old).files file.now) agent.now (H.state host.old) (H.state host.new) result }
+    ensures status { IsCheckStatus result }
+    ensures folders { H.folders host.new ≡ H.folders host.old }
+{
+    match check(alloc, agent, file, host) {
+        Ok(()) => 0,
+        Err(error) => {
+            say_error(alloc, host, &error);
+            error.status()
+        }
+    }
+}

@@ -1,4 +1,0 @@
-pub mod Opened
-pub mod Ends
-pub mod Runs
-pub mod Histories

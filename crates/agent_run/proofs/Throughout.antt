@@ -1,0 +1,66 @@
+-- What is so of a run over equal lists.
+use Rattle.std.proofs.Common.{◌≡◌, ℕ, List, Bool, Option, Result, String, subst}
+use Rattle.std.specs.declared.alloc.Global.{Global}
+use Rattle.agent_channels.specs.Openings.{HostTold}
+use Rattle.agent_channels.specs.declared.wish.ChannelWish.{ChannelWish}
+use Rattle.agent_end.specs.declared.draining.ChannelDrain.{ChannelDrain}
+use Rattle.agent_end.specs.declared.ends.ReportRefused.{ReportRefused}
+use Rattle.agent_sinks.specs.declared.sink.AgentSink.{AgentSink}
+use Rattle.channel_face.specs.declared.replies.Counts.{Counts}
+use Rattle.channel_face.specs.declared.replies.OpenCause.{OpenCause}
+use Rattle.crew.specs.declared.draining.DrainWorker.{DrainWorker}
+use Rattle.file_channel.specs.Stands.{FileState}
+use Rattle.flume_config.specs.declared.plan.SinkPlan.{SinkPlan}
+use Rattle.flume_config.specs.declared.plan.SourcePlan.{SourcePlan}
+use Rattle.flume_host.specs.HostState.{Folders, HostState}
+use Rattle.flume_host.specs.Listens.{LinksTold}
+use Rattle.flume_host.specs.Rolled.{Rolled}
+use Rattle.flume_host.specs.Told.{Told as DiskTold}
+use Rattle.memory_channel.specs.declared.channel.MemoryChannel.{MemoryChannel}
+use Rattle.shared_channel.specs.Passes.{Known}
+use Rattle.sink_worker.specs.Rounds.{Told}
+use Rattle.sink_worker.specs.declared.worker.SinkWorker.{SinkWorker}
+use Rattle.source_put.specs.Chains.{Meaning}
+use Rattle.source_worker.specs.Rounds.{Heard}
+use Rattle.two_channels.specs.declared.port.EitherPort.{EitherPort}
+use Rattle.two_channels.specs.declared.shared.EitherClosed.{EitherClosed}
+use Rattle.two_channels.specs.declared.shared.EitherShared.{EitherShared}
+use Rattle.agent_run.specs.Joined.{HaveReturned, IsJoined}
+use Rattle.agent_run.specs.Outside.{AreBack}
+use Rattle.agent_run.specs.Run.{IsGivenBack}
+use Rattle.agent_run.specs.Runs.{Runs}
+use Rattle.agent_run.specs.Settling.{AreSettled}
+use Rattle.agent_run.specs.declared.homes.AtHome.{AtHome}
+use Rattle.agent_run.specs.declared.homes.LineEnded.{LineEnded}
+use Rattle.agent_run.specs.declared.joined.Joined.{Joined}
+use Rattle.agent_run.specs.declared.settle.Settled.{Settled}
+use Rattle.agent_run.specs.declared.workers.Workers.{Workers}
+
+-- the workers came back over the same sources, places and channels
+pub joined_same : {R A B S N I O C K : Type 0} (runs : Runs (EitherPort R A B) S N I O C K) (sink : Told S) (Means : Meaning K) (moments : C → Option (ℕ → ℕ)) (heard : N → Heard)
+    (Drained : DrainWorker I → HostState → HostState → Type 0) (Talked : LineEnded I O → HostState → HostState → Type 0)
+    (told : N → Option LinksTold) (waits faults : N → ℕ) (homes : List Known) (jobs : Workers Known S N I O C K) (joined : Joined S C) (a b : HostState)
+    (sources sources' : List SourcePlan) (places places' : List ℕ) (shares shares' : List (EitherShared A B)) → sources ≡ sources' → places ≡ places' → shares ≡ shares'
+    → IsJoined (λ returned. HaveReturned runs sink Means moments heard shares homes jobs returned) Drained Talked (AreBack told waits faults sources places) joined a b
+    → IsJoined (λ returned. HaveReturned runs sink Means moments heard shares' homes jobs returned) Drained Talked (AreBack told waits faults sources' places') joined a b
+joined_same {R} {A} {B} runs sink Means moments heard Drained Talked told waits faults homes jobs joined a b sources sources' places places' shares shares' e f h is =
+    subst (λ (x : List SourcePlan × List ℕ × List (EitherShared A B)).
+    IsJoined (λ returned. HaveReturned runs sink Means moments heard x.2 homes jobs returned) Drained Talked (AreBack told waits faults x.0 x.1) joined a b)
+    (λ i. (e i, f i, h i)) is
+
+-- the channels were settled through the same passes at home
+pub settled_same : {A B S C : Type 0} (Drained : SinkWorker AtHome S C → List Known → ChannelDrain → S → List Known → Type 0)
+    (Mended : EitherShared A B → Known → Result Bool OpenCause → Known → Type 0) (Closed : EitherShared A B → Known → EitherClosed A B → Type 0)
+    (shares : List (EitherShared A B)) (workers : List (SinkWorker AtHome S C)) (names : List (String Global × Counts)) (s : Settled S A B) (homes homes' : List Known) → homes ≡ homes'
+    → AreSettled Drained Mended Closed shares homes workers names s → AreSettled Drained Mended Closed shares homes' workers names s
+settled_same Drained Mended Closed shares workers names s homes homes' e is =
+    subst (λ (l : List Known). AreSettled Drained Mended Closed shares l workers names s) e is
+
+-- all was given back, by the same plans and folders
+pub back_same : {R D A B : Type 0} (rolled : R → Option Rolled) (told : D → Option DiskTold) (faults : D → ℕ) (wishes : List ChannelWish)
+    (settled : Settled (AgentSink R A B) (D × FileState) MemoryChannel) (failed : Bool) (answer : Result (Unit {0}) ReportRefused) (state : HostState) (new : HostTold)
+    (plans plans' : List SinkPlan) (folders folders' : Folders) → plans ≡ plans' → folders ≡ folders'
+    → IsGivenBack rolled told faults plans wishes settled failed answer (record { state = state; folders = folders }) new
+    → IsGivenBack rolled told faults plans' wishes settled failed answer (record { state = state; folders = folders' }) new
+back_same rolled told faults wishes settled failed answer state new plans plans' folders folders' e f is =
+    subst (λ (x : List SinkPlan × Folders). IsGivenBack rolled told faults x.0 wishes settled failed answer (record { state = state; folders = x.1 }) new) (λ i. (e i, f i)) is

@@ -1,0 +1,206 @@
+use Rattle.std.proofs.Common.{◌≡◌, ◌∙◌, ◌≤◌, ℕ, List, Option, All, length, map, sym, ap, subst}
+use Rattle.std.specs.Vec.{vec_capacity, with_items}
+use Rattle.std.specs.declared.alloc.Global.{Global}
+use Rattle.std.specs.declared.vec.Vec.{Vec}
+use Rattle.std.proofs.lemmas.List.{with_items_is}
+use Rattle.agent_channels.specs.Closings.{AreOut}
+use Rattle.agent_outside.specs.Ends.{AreOut as EndsOut, ListensAt, end_at}
+use Rattle.agent_outside.specs.Sinks.{AreOpened}
+use Rattle.agent_outside.specs.declared.listener.SourceListener.{SourceListener}
+use Rattle.flume_config.specs.declared.plan.SinkPlan.{SinkPlan}
+use Rattle.flume_config.specs.declared.plan.SourcePlan.{SourcePlan}
+use Rattle.flume_host.specs.HandedOut.{HandedOut}
+use Rattle.flume_host.specs.HostState.{Folders, HostState}
+use Rattle.run_tracks.specs.Dealt.{AreDealt}
+use Rattle.run_tracks.specs.Homes.{AreHomes, EachTook}
+use Rattle.shared_channel.specs.Passes.{Known}
+use Rattle.turn_passes.specs.Turns.{HasAll}
+use Rattle.two_channels.specs.Shares.{table_of}
+use Rattle.two_channels.specs.declared.shared.EitherShared.{EitherShared}
+use Rattle.file_channel.specs.Stands.{FileState}
+use Rattle.memory_channel.specs.declared.channel.MemoryChannel.{MemoryChannel}
+use Rattle.agent_run.specs.Draining.{HasOwn, IsSinkHome}
+use Rattle.agent_run.specs.Lists.{IsEmptyFor}
+use Rattle.agent_run.specs.Opened.{HasRoom}
+use Rattle.agent_run.specs.Opening.{CanBeManned, IsManned}
+use Rattle.agent_run.specs.Outside.{AreFrom}
+use Rattle.agent_run.specs.Runs.{AreWorkers, owners_of}
+use Rattle.agent_run.specs.declared.settle.Settled.{Settled}
+use Rattle.agent_run.proofs.Closing.{closed_of}
+use Rattle.agent_run.proofs.Manning.{room_for}
+use Rattle.agent_run.proofs.Owning.{own_kept}
+use Rattle.agent_run.proofs.Resting.{closed_of_wishes, drained_many, from_many, homes_many, names_many, passes_fit}
+use Rattle.agent_run.proofs.Joining.{zips_long}
+use Rattle.agent_run.proofs.Throughout.{back_same, joined_same, settled_same}
+use Rattle.agent_run.specs.Staff.{IsSinkOf}
+use Rattle.agent_run.proofs.agent.run_opened.Goals as goal
+
+pub man-crew-requires-clause-can : goal.man-crew-requires-clause-can
+man-crew-requires-clause-can g c κs within =
+    subst (λ (p : List SinkPlan). CanBeManned p c.args.opening) (sym c.as_slice.ensures.value) c.requires.can
+
+pub run_crew-sinks-requires-clause-homes : goal.run_crew-sinks-requires-clause-homes
+run_crew-sinks-requires-clause-homes g c κs within =
+    let is = c.man-crew.ensures.manned in
+    subst (λ (x : List (EitherShared (g.row.H-Disk.Denot × FileState) MemoryChannel) × List Known). AreHomes table_of x.0 x.1)
+    (λ i. (sym c.as_slice-4.ensures.value i, sym c.as_mut_slice.ensures.value i)) is.homes
+
+pub run_crew-sinks-requires-clause-jobs : goal.run_crew-sinks-requires-clause-jobs
+run_crew-sinks-requires-clause-jobs g c κs within =
+    let is = c.man-crew.ensures.manned in
+    subst (λ (s : List (EitherShared (g.row.H-Disk.Denot × FileState) MemoryChannel)). AreWorkers table_of s (λ (p : Known). p) c.man-crew.result.crew.jobs) (sym c.as_slice-4.ensures.value) is.workers
+
+pub run_crew-sinks-requires-clause-from : goal.run_crew-sinks-requires-clause-from
+run_crew-sinks-requires-clause-from g c κs within =
+    let is = c.man-crew.ensures.manned in
+    let places : c.as_slice-3.result.now ≡ c.args.opening.prepared.places.items = c.as_slice-3.ensures.value ∙ ap (λ (v : Vec ℕ Global). v.items) is.places in
+    subst (λ (x : List SourcePlan × List ℕ × List g.row.H-Listener.Denot). AreFrom g.H.Listener.Listener.endpoint x.0 x.1 x.2)
+    (λ i. (sym c.as_slice-2.ensures.value i, sym places i, sym is.own_listeners i)) c.requires.listen.from
+
+pub run_crew-sinks-requires-clause-listen : goal.run_crew-sinks-requires-clause-listen
+run_crew-sinks-requires-clause-listen g c κs within =
+    let is = c.man-crew.ensures.manned in
+    let places : c.as_slice-3.result.now ≡ c.args.opening.prepared.places.items = c.as_slice-3.ensures.value ∙ ap (λ (v : Vec ℕ Global). v.items) is.places in
+    subst (λ (x : List SourcePlan × List ℕ). All (ListensAt x.0) x.1) (λ i. (sym c.as_slice-2.ensures.value i, sym places i)) c.requires.listen.listen
+
+pub run_crew-sinks-requires-clause-out : goal.run_crew-sinks-requires-clause-out
+run_crew-sinks-requires-clause-out g c κs within =
+    let is = c.man-crew.ensures.manned in
+    let places : c.as_slice-3.result.now ≡ c.args.opening.prepared.places.items = c.as_slice-3.ensures.value ∙ ap (λ (v : Vec ℕ Global). v.items) is.places in
+    subst (λ (x : List SourcePlan × List ℕ × Option HandedOut). EndsOut (map (end_at x.0) x.1) x.2)
+    (λ i. (sym c.as_slice-2.ensures.value i, sym places i, sym (ap (λ (s : HostState). s.listeners) c.man-crew.ensures.rest) i)) c.requires.listen.out
+
+pub run_crew-sinks-requires-clause-named : goal.run_crew-sinks-requires-clause-named
+run_crew-sinks-requires-clause-named g c κs within =
+    let can = c.requires.can in
+    let is = c.man-crew.ensures.manned in
+    let places : c.as_slice-3.result.now ≡ c.args.opening.prepared.places.items = c.as_slice-3.ensures.value ∙ ap (λ (v : Vec ℕ Global). v.items) is.places in
+    let from = from_many g.H.Listener.Listener.endpoint c.args.plan.now.sources.items c.args.opening.prepared.places.items c.args.opening.outside.listeners.items c.requires.listen.from in
+    let many : length c.as_slice-3.result.now ≡ length c.args.opening.prepared.listeners.items = ap length places ∙ sym from ∙ can.hearers in
+    subst (λ (v : Vec (SourceListener g.row.H-Listener.Denot) Global). IsEmptyFor (length c.as_slice-3.result.now) v) (sym is.named)
+    (can.workers.named.0, subst (λ (n : ℕ). n ≤ vec_capacity c.args.opening.workers.named) (sym many) can.workers.named.1)
+
+pub settle-settled-requires-clause-homes : goal.settle-settled-requires-clause-homes
+settle-settled-requires-clause-homes g c =
+    let homes = c.man-crew.result.crew.homes in
+    let size : length c.run_crew-sinks.new.homes ≡ homes.len = c.run_crew-sinks.ensures.kept.as_many ∙ ap length c.as_mut_slice.ensures.value ∙ sym homes.ok.0 in
+    subst (λ (x : List (EitherShared (g.row.H-Disk.Denot × FileState) MemoryChannel) × List Known). AreHomes table_of x.0 x.1)
+    (λ i. (c.as_slice-4.ensures.value i, sym (with_items_is homes c.run_crew-sinks.new.homes size) i)) c.run_crew-sinks.ensures.homes
+
+pub settle-settled-requires-clause-all : goal.settle-settled-requires-clause-all
+settle-settled-requires-clause-all g c =
+    let is = c.man-crew.ensures.manned in
+    let homes = c.man-crew.result.crew.homes in
+    let size : length c.run_crew-sinks.new.homes ≡ homes.len = c.run_crew-sinks.ensures.kept.as_many ∙ ap length c.as_mut_slice.ensures.value ∙ sym homes.ok.0 in
+    let dealt = subst (λ (l : List Known). AreDealt l (owners_of c.man-crew.result.crew.jobs)) (sym c.as_mut_slice.ensures.value) is.dealt in
+    subst (λ (l : List Known). All (λ (p : Known). HasAll p.view) l) (sym (with_items_is homes c.run_crew-sinks.new.homes size)) (c.run_crew-sinks.ensures.all dealt)
+
+pub settle-settled-requires-clause-own : goal.settle-settled-requires-clause-own
+settle-settled-requires-clause-own g c =
+    let is = c.man-crew.ensures.manned in
+    let homes = c.man-crew.result.crew.homes in
+    let size : length c.run_crew-sinks.new.homes ≡ homes.len = c.run_crew-sinks.ensures.kept.as_many ∙ ap length c.as_mut_slice.ensures.value ∙ sym homes.ok.0 in
+    let own = subst (λ (l : List Known). All HasOwn l) (sym c.as_mut_slice.ensures.value) is.own in
+    subst (λ (l : List Known). All HasOwn l) (sym (with_items_is homes c.run_crew-sinks.new.homes size)) (own_kept c.as_mut_slice.result.now c.run_crew-sinks.new.homes c.run_crew-sinks.ensures.kept own)
+
+pub settle-settled-requires-clause-sinks : goal.settle-settled-requires-clause-sinks
+settle-settled-requires-clause-sinks g c =
+    let homes = c.man-crew.result.crew.homes in
+    let size : length c.run_crew-sinks.new.homes ≡ homes.len = c.run_crew-sinks.ensures.kept.as_many ∙ ap length c.as_mut_slice.ensures.value ∙ sym homes.ok.0 in
+    subst (λ (l : List Known). All (IsSinkHome l) c.run_crew-sinks.result.sinks.items) (sym (with_items_is homes c.run_crew-sinks.new.homes size)) c.run_crew-sinks.ensures.home
+
+pub settle-settled-requires-clause-ends : goal.settle-settled-requires-clause-ends
+settle-settled-requires-clause-ends g c =
+    let is = c.man-crew.ensures.manned in
+    let many = c.run_crew-sinks.ensures.many ∙ zips_long IsSinkOf c.as_slice.result.now c.man-crew.result.crew.jobs.sinks.items is.sinks ∙ ap length c.as_slice.ensures.value in
+    subst (λ (r : Settled _ _ _). HasRoom c.run_crew-sinks.result.sinks.items r.ends) (sym is.settled)
+    (c.requires.settle.ends.0, room_for _ _ _ many c.requires.settle.ends.1)
+
+pub settle-settled-requires-clause-back : goal.settle-settled-requires-clause-back
+settle-settled-requires-clause-back g c =
+    let is = c.man-crew.ensures.manned in
+    let many = c.run_crew-sinks.ensures.many ∙ zips_long IsSinkOf c.as_slice.result.now c.man-crew.result.crew.jobs.sinks.items is.sinks ∙ ap length c.as_slice.ensures.value in
+    subst (λ (r : Settled _ _ _). HasRoom c.run_crew-sinks.result.sinks.items r.sinks) (sym is.settled)
+    (c.requires.settle.sinks.0, room_for _ _ _ many c.requires.settle.sinks.1)
+
+pub settle-settled-requires-clause-mends : goal.settle-settled-requires-clause-mends
+settle-settled-requires-clause-mends g c =
+    let is = c.man-crew.ensures.manned in
+    let homes = c.man-crew.result.crew.homes in
+    let size : length c.run_crew-sinks.new.homes ≡ homes.len = c.run_crew-sinks.ensures.kept.as_many ∙ ap length c.as_mut_slice.ensures.value ∙ sym homes.ok.0 in
+    let many : length homes.items ≡ length c.args.plan.now.channels.items = homes_many c.as_slice.result.now c.args.opening c.man-crew.result (subst (λ (p : List SinkPlan). CanBeManned p c.args.opening) (sym c.as_slice.ensures.value) c.requires.can) is ∙ c.requires.many in
+    let all : length (with_items homes c.run_crew-sinks.new.homes).items ≡ length c.args.plan.now.channels.items = ap length (with_items_is homes c.run_crew-sinks.new.homes size) ∙ size ∙ homes.ok.0 ∙ many in
+    ap (λ (r : Settled _ _ _). length r.mends.items) is.settled ∙ c.requires.settle.mends ∙ sym all
+
+pub settle-settled-requires-clause-report : goal.settle-settled-requires-clause-report
+settle-settled-requires-clause-report g c =
+    let is = c.man-crew.ensures.manned in
+    let homes = c.man-crew.result.crew.homes in
+    let size : length c.run_crew-sinks.new.homes ≡ homes.len = c.run_crew-sinks.ensures.kept.as_many ∙ ap length c.as_mut_slice.ensures.value ∙ sym homes.ok.0 in
+    let many : length homes.items ≡ length c.args.plan.now.channels.items = homes_many c.as_slice.result.now c.args.opening c.man-crew.result (subst (λ (p : List SinkPlan). CanBeManned p c.args.opening) (sym c.as_slice.ensures.value) c.requires.can) is ∙ c.requires.many in
+    let all : length (with_items homes c.run_crew-sinks.new.homes).items ≡ length c.args.plan.now.channels.items = ap length (with_items_is homes c.run_crew-sinks.new.homes size) ∙ size ∙ homes.ok.0 ∙ many in
+    ap (λ (r : Settled _ _ _). length r.report.items) is.settled ∙ names_many c.args.plan.now.channels.items c.args.opening.settled.report.items c.requires.settle.report ∙ sym all
+
+pub settle-settled-requires-clause-closed : goal.settle-settled-requires-clause-closed
+settle-settled-requires-clause-closed g c =
+    let is = c.man-crew.ensures.manned in
+    let homes = c.man-crew.result.crew.homes in
+    let size : length c.run_crew-sinks.new.homes ≡ homes.len = c.run_crew-sinks.ensures.kept.as_many ∙ ap length c.as_mut_slice.ensures.value ∙ sym homes.ok.0 in
+    let many : length homes.items ≡ length c.args.plan.now.channels.items = homes_many c.as_slice.result.now c.args.opening c.man-crew.result (subst (λ (p : List SinkPlan). CanBeManned p c.args.opening) (sym c.as_slice.ensures.value) c.requires.can) is ∙ c.requires.many in
+    let all : length (with_items homes c.run_crew-sinks.new.homes).items ≡ length c.args.plan.now.channels.items = ap length (with_items_is homes c.run_crew-sinks.new.homes size) ∙ size ∙ homes.ok.0 ∙ many in
+    subst (λ (r : Settled _ _ _). HasRoom (with_items homes c.run_crew-sinks.new.homes).items r.closed) (sym is.settled)
+    (c.requires.settle.closed.0, room_for _ _ _ all c.requires.settle.closed.1)
+
+pub give_rest-requires-clause-sinks : goal.give_rest-requires-clause-sinks
+give_rest-requires-clause-sinks g c κs within =
+    let is = c.man-crew.ensures.manned in
+    let did = c.settle-settled.ensures.settled in
+    let many = drained_many _ c.run_crew-sinks.result.sinks.items _ c.settle-settled.result.ends.items c.settle-settled.result.sinks.items did.drained did.drains
+    ∙ c.run_crew-sinks.ensures.many ∙ zips_long IsSinkOf c.as_slice.result.now c.man-crew.result.crew.jobs.sinks.items is.sinks ∙ ap length c.as_slice.ensures.value in
+    let folders = c.run_crew-sinks.ensures.folders ∙ c.man-crew.ensures.folders in
+    subst (λ (x : Folders × List SinkPlan × ℕ). AreOpened x.0 x.1 x.2) (λ i. (sym folders i, sym c.as_slice-5.ensures.value i, sym many i)) c.requires.sinks
+
+pub give_rest-requires-clause-of : goal.give_rest-requires-clause-of
+give_rest-requires-clause-of g c κs within =
+    let is = c.man-crew.ensures.manned in
+    let did = c.settle-settled.ensures.settled in
+    let folders = c.run_crew-sinks.ensures.folders ∙ c.man-crew.ensures.folders in
+    closed_of_wishes c.as_slice.result.now c.args.opening c.man-crew.result (subst (λ (p : List SinkPlan). CanBeManned p c.args.opening) (sym c.as_slice.ensures.value) c.requires.can) is c.closed_channels_fit.ensures.fit (g.H.Host.folders c.run_crew-sinks.new.host) c.settle-settled.result.closed.items
+    (closed_of _ _ _ _ c.closed_channels_fit.ensures.left c.man-crew.result.crew.shares.items did.counted c.settle-settled.result.closed.items did.closed)
+    (subst (λ (f : Folders). AreOut f c.args.opening.prepared.wishes.items) (sym folders) c.requires.disks)
+
+pub give_rest-requires-clause-room : goal.give_rest-requires-clause-room
+give_rest-requires-clause-room g c κs within =
+    let is = c.man-crew.ensures.manned in
+    let did = c.settle-settled.ensures.settled in
+    passes_fit c.as_slice.result.now c.args.opening c.man-crew.result (subst (λ (p : List SinkPlan). CanBeManned p c.args.opening) (sym c.as_slice.ensures.value) c.requires.can) is c.settle-settled.result.closed.items
+    (closed_of _ _ _ _ c.closed_channels_fit.ensures.left c.man-crew.result.crew.shares.items did.counted c.settle-settled.result.closed.items did.closed)
+
+pub returns : goal.returns
+returns g c =
+    let is = c.man-crew.ensures.manned in
+    let homes = c.man-crew.result.crew.homes in
+    let size : length c.run_crew-sinks.new.homes ≡ homes.len = c.run_crew-sinks.ensures.kept.as_many ∙ ap length c.as_mut_slice.ensures.value ∙ sym homes.ok.0 in
+    let dealt = subst (λ (l : List Known). AreDealt l (owners_of c.man-crew.result.crew.jobs)) (sym c.as_mut_slice.ensures.value) is.dealt in
+    record {
+      manned = c.man-crew.result;
+      is_manned = subst (λ (p : List SinkPlan). IsManned p c.args.opening c.man-crew.result) c.as_slice.ensures.value is;
+      begun = g.H.Host.state c.man-crew.new.host;
+      taken = c.man-crew.ensures.rest;
+      homes = c.run_crew-sinks.new.homes;
+      took = subst (λ (l : List Known). EachTook l c.run_crew-sinks.new.homes) c.as_mut_slice.ensures.value c.run_crew-sinks.ensures.kept;
+      all = c.run_crew-sinks.ensures.all dealt;
+      joined = c.run_crew-sinks.result;
+      behind = g.H.Host.state c.run_crew-sinks.new.host;
+      joins = joined_same _ _ _ _ _ _ _ _ _ _ c.run_crew-sinks.new.homes c.man-crew.result.crew.jobs c.run_crew-sinks.result _ _ _ _ _ _ _ _
+          c.as_slice-2.ensures.value c.as_slice-3.ensures.value c.as_slice-4.ensures.value c.run_crew-sinks.ensures.joined;
+      rest = c.run_crew-sinks.ensures.rest;
+      home = c.run_crew-sinks.ensures.home;
+      settled = c.settle-settled.result;
+      settles = settled_same _ _ _ c.man-crew.result.crew.shares.items c.run_crew-sinks.result.sinks.items c.man-crew.result.settled.report.items c.settle-settled.result _ _
+          (with_items_is homes c.run_crew-sinks.new.homes size) c.settle-settled.ensures.settled;
+      back = back_same _ _ _ c.man-crew.result.wishes.items c.settle-settled.result _ _ _ _ _ _ _ _ c.as_slice-5.ensures.value (c.run_crew-sinks.ensures.folders ∙ c.man-crew.ensures.folders) c.give_rest.ensures.back;
+      input = c.give_rest.ensures.input;
+      drains = c.give_rest.ensures.drains;
+      mends = c.give_rest.ensures.mends;
+    }

@@ -1,0 +1,42 @@
+use Rattle.std.proofs.Common.{refl}
+use Rattle.run_tracks.specs.Deals.{hands_of}
+use Rattle.agent_run.proofs.Assembling.{lines_enough, listeners_enough, none_left, sinks_enough}
+use Rattle.agent_run.proofs.assemble.assemble.Goals as goal
+
+pub staff_sinks-requires-clause-enough : goal.staff_sinks-requires-clause-enough
+staff_sinks-requires-clause-enough g c =
+    sinks_enough c.args.plans.now c.args.parts.listeners.items c.args.parts.lines.items (hands_of c.args.hands.now) c.requires.hands
+
+pub staff_listeners-requires-clause-enough : goal.staff_listeners-requires-clause-enough
+staff_listeners-requires-clause-enough g c =
+    listeners_enough c.args.plans.now c.args.parts.listeners.items c.args.parts.lines.items (hands_of c.args.hands.now) c.requires.hands
+    c.staff_sinks.new.jobs.items (hands_of c.staff_sinks.new.hands) c.staff_sinks.ensures.of c.staff_sinks.ensures.dealt
+
+pub staff_lines-requires-clause-enough : goal.staff_lines-requires-clause-enough
+staff_lines-requires-clause-enough g c =
+    lines_enough c.args.plans.now c.args.parts.listeners.items c.args.parts.lines.items (hands_of c.args.hands.now) c.requires.hands
+    c.staff_sinks.new.jobs.items (hands_of c.staff_sinks.new.hands) c.staff_sinks.ensures.of c.staff_sinks.ensures.dealt
+    c.staff_listeners.new.jobs.items (hands_of c.staff_listeners.new.hands) c.staff_listeners.ensures.of c.staff_listeners.ensures.dealt
+
+pub returns : goal.returns
+returns g c = record {
+  staff = record {
+    sinks = c.staff_sinks.ensures.of;
+    own_sinks = c.staff_sinks.ensures.sinks;
+    listeners = c.staff_listeners.ensures.of;
+    own_listeners = c.staff_listeners.ensures.listeners;
+    lines = c.staff_lines.ensures.of;
+    drains = refl;
+    behind_sinks = hands_of c.staff_sinks.new.hands;
+    behind_listeners = hands_of c.staff_listeners.new.hands;
+    last = hands_of c.staff_lines.new.hands;
+    deals_sinks = c.staff_sinks.ensures.dealt;
+    deals_listeners = c.staff_listeners.ensures.dealt;
+    deals_lines = c.staff_lines.ensures.dealt;
+    none_left =
+        none_left c.args.plans.now c.args.parts.listeners.items c.args.parts.lines.items (hands_of c.args.hands.now) c.requires.hands
+        c.staff_sinks.new.jobs.items (hands_of c.staff_sinks.new.hands) c.staff_sinks.ensures.of c.staff_sinks.ensures.dealt
+        c.staff_listeners.new.jobs.items (hands_of c.staff_listeners.new.hands) c.staff_listeners.ensures.of c.staff_listeners.ensures.dealt
+        c.staff_lines.new.jobs.items (hands_of c.staff_lines.new.hands) c.staff_lines.ensures.of c.staff_lines.ensures.dealt;
+  };
+}

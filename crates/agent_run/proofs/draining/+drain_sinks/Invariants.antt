@@ -1,0 +1,5 @@
+use Rattle.std.proofs.Common.{length}
+use Rattle.agent_run.proofs.draining.+drain_sinks.Given as goal
+
+abbrev pub decreases-drain_sinks : goal.decreases-drain_sinks
+decreases-drain_sinks g l = length l.sinks.items

@@ -1,0 +1,52 @@
+-- What the workers of a run called, in the whole histories of their channels.
+use Rattle.std.specs.Prelude.{◌≡◌, ◌<◌, ℕ, List, length, map, Bool, true, false, Option, slice_index_or}
+use Rattle.std.specs.List.{AllByRecursion}
+use Rattle.shared_channel.specs.Passes.{Known}
+use Rattle.sink_runner.specs.declared.turn.Turn.{Turn}
+use Rattle.sink_worker.specs.Rounds.{Rounds as SinkRounds, Told}
+use Rattle.sink_worker.specs.declared.worker.SinkWorker.{SinkWorker}
+use Rattle.source_put.specs.Chains.{Meaning}
+use Rattle.source_put.specs.declared.chain.ChainLink.{ChainLink}
+use Rattle.chain_plan.specs.Builds.{AreBuilt}
+use Rattle.netcat_source.specs.Into.{TakesLine}
+use Rattle.source_worker.specs.Rounds.{Heard, IsUnserved, Round, Rounds, Session}
+use Rattle.source_worker.specs.declared.worker.ListenWorker.{ListenWorker}
+use Rattle.two_channels.specs.Shares.{IsDisk}
+use Rattle.two_channels.specs.declared.shared.EitherShared.{EitherShared}
+use Rattle.run_tracks.specs.Listening.{MendedInto, home_tracks}
+use Rattle.run_tracks.specs.Tracks.{Gave, Mended, Turned, ended, track_of}
+use Rattle.agent_run.specs.declared.homes.AtHome.{AtHome}
+
+-- Its rounds, in order, are all calls with the number of its pass in the history that the pass at home has seen.
+pub record IsSinkTold {A B S C : Type 0} (sink : Told S) (moments : C → Option (ℕ → ℕ)) (shares : List (EitherShared A B)) (homes : List Known)
+    (job : SinkWorker Known S C) (back : SinkWorker AtHome S C) : Type 0 where
+  pub turns : List Turn
+  pub rounds : (share : EitherShared A B) (home : Known)
+      → let track = track_of (slice_index_or homes job.channel home) job.port.number in
+      SinkRounds (Turned sink job.batch) (Mended (IsDisk (slice_index_or shares job.channel share))) turns
+      (record { from = track; sink = job.sink; moments = moments job.clock })
+      (record { from = ended track; sink = back.sink; moments = moments back.clock })
+  pub number : back.port.number ≡ job.port.number
+  pub channel : back.channel ≡ job.channel
+  pub batch : back.batch ≡ job.batch
+
+-- the channel at this place among a worker's is on a disk
+abbrev pub IsDiskOf : {A B : Type 0} → List (EitherShared A B) → List ℕ → EitherShared A B → ℕ → Type 0
+IsDiskOf shares channels share i = (i < length channels) × IsDisk (slice_index_or shares (slice_index_or channels i 0) share)
+
+-- It built the chain that was planned, or there was no memory for it. Its rounds, in order, the batch of each line and each mend,
+-- are all calls with the numbers of its passes in the histories that the passes at home have seen.
+pub record IsListenTold {A B N C K : Type 0} (Means : Meaning K) (moments : C → Option (ℕ → ℕ)) (heard : N → Heard) (shares : List (EitherShared A B))
+    (homes : List Known) (job : ListenWorker Known N C K) (listener : N) : Type 0 where
+  pub built : Bool
+  pub before : List (ChainLink K)
+  pub chain : built ≡ true → AreBuilt job.plan.items before
+  pub after : List (ChainLink K)
+  pub later : Option (ℕ → ℕ)
+  pub due : Bool
+  pub made : List Round
+  pub unserved : built ≡ false → AllByRecursion (λ round. IsUnserved round.found) made
+  pub rounds : (share : EitherShared A B) → let tracks = home_tracks (λ (p : Known). p) homes job.channels.items job.ports.items in
+      Rounds (Session job.rules.max job.rules.ack (TakesLine Gave job.selector Means job.host)) (MendedInto (IsDiskOf shares job.channels.items share)) made
+      (record { into = record { route = record { links = before; ports = tracks }; moments = moments job.clock }; heard = heard job.listener; due = false })
+      (record { into = record { route = record { links = after; ports = map ended tracks }; moments = later }; heard = heard listener; due = due })

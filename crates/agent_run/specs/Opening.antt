@@ -1,0 +1,51 @@
+-- What a run of an agent has from its opening to the join of its workers.
+use Rattle.std.specs.Prelude.{◌≡◌, ◌≤◌, List, All, length, map}
+use Rattle.flume_config.specs.declared.plan.SinkPlan.{SinkPlan}
+use Rattle.shared_channel.specs.Passes.{Known}
+use Rattle.two_channels.specs.Shares.{table_of}
+use Rattle.agent_channels.specs.Several.{WereOpened}
+use Rattle.agent_channels.specs.declared.opened.OpenedChannel.{OpenedChannel}
+use Rattle.run_tracks.specs.Dealt.{AreDealt}
+use Rattle.run_tracks.specs.Homes.{AreHomes}
+use Rattle.run_tracks.specs.Places.{Zips}
+use Rattle.agent_run.specs.Assembled.{AreUsed}
+use Rattle.agent_run.specs.Draining.{HasOwn}
+use Rattle.agent_run.specs.Lists.{HaveChannelLists, HaveWorkerLists}
+use Rattle.agent_run.specs.Prepared.{IsSeat, uses_of}
+use Rattle.agent_run.specs.Runs.{AreNew, AreWorkers, CanRun, HaveRoom, owners_of}
+use Rattle.agent_run.specs.Staff.{IsSinkOf}
+use Rattle.agent_run.specs.declared.opening.Manned.{Manned}
+use Rattle.agent_run.specs.declared.opening.Opening.{Opening}
+
+-- All that workers are made of is there, and room for them: the channels were opened for what was wanted, each with as many passes as
+-- it has users.
+pub record CanBeManned {A B S N I O C K : Type 0} (plans : List SinkPlan) (o : Opening A B S N I O C K) : Type 0 where
+  pub opened : WereOpened o.prepared.wishes.items o.opened.items
+  pub used : AreUsed o.prepared.wishes.items (uses_of plans o.prepared.listeners.items o.prepared.lines.items)
+  pub some : All (λ (plan : SinkPlan). 1 ≤ plan.batch) plans
+  pub sinks : length o.outside.sinks.items ≡ length plans
+  pub clocks : length o.prepared.clocks.items ≡ length plans
+  pub hearers : length o.outside.listeners.items ≡ length o.prepared.listeners.items
+  pub listeners : All (IsSeat (length o.prepared.wishes.items)) o.prepared.listeners.items
+  pub lines : All (IsSeat (length o.prepared.wishes.items)) o.prepared.lines.items
+  pub channels : HaveChannelLists (length o.prepared.wishes.items) o.channels
+  pub workers : HaveWorkerLists (length plans) (length o.prepared.listeners.items) (length o.prepared.lines.items) o.workers
+
+-- The workers can run over the channels, and there is room for what comes back of them.
+pub record IsManned {A B S N I O C K : Type 0} (plans : List SinkPlan) (o : Opening A B S N I O C K) (m : Manned A B S N I O C K) : Type 0 where
+  pub shares : m.crew.shares.items ≡ map (λ (c : OpenedChannel A B). c.share) o.opened.items
+  pub homes : AreHomes table_of m.crew.shares.items m.crew.homes.items
+  pub own : All HasOwn m.crew.homes.items
+  pub dealt : AreDealt m.crew.homes.items (owners_of m.crew.jobs)
+  pub workers : AreWorkers table_of m.crew.shares.items (λ (pass : Known). pass) m.crew.jobs
+  pub new_ones : AreNew m.crew.jobs
+  pub fit : CanRun m.crew.jobs
+  pub room : HaveRoom m.crew.jobs m.returned
+  pub sinks : Zips IsSinkOf plans m.crew.jobs.sinks.items
+  pub own_sinks : map (λ job. job.sink) m.crew.jobs.sinks.items ≡ o.outside.sinks.items
+  pub own_listeners : map (λ job. job.listener) m.crew.jobs.listeners.items ≡ o.outside.listeners.items
+  pub wishes : m.wishes ≡ o.prepared.wishes
+  pub places : m.places ≡ o.prepared.places
+  pub passes : m.passes ≡ o.channels.passes
+  pub named : m.named ≡ o.workers.named
+  pub settled : m.settled ≡ o.settled

@@ -1,0 +1,54 @@
+-- What a run opens outside its channels.
+use Rattle.std.specs.Prelude.{◌≡◌, ◌≤◌, ℕ, List, length, map, Option}
+use Rattle.flume_host.specs.Causes.{Rose}
+use Rattle.flume_host.specs.HandedOut.{HandedOut}
+use Rattle.flume_host.specs.HostState.{Folders, HostState}
+use Rattle.flume_host.specs.Listens.{Endpoint, IsFrom, LinksTold}
+use Rattle.flume_host.specs.Rolled.{Rolled}
+use Rattle.flume_host.specs.declared.names.NameRefused.{NameRefused}
+use Rattle.flume_host.specs.declared.names.NameRefused.TheVariants.{Failed, NoMemory}
+use Rattle.flume_config.specs.declared.plan.Plan.{Plan}
+use Rattle.flume_config.specs.declared.plan.SourcePlan.{SourcePlan}
+use Rattle.agent_sinks.specs.declared.sink.AgentSink.{AgentSink}
+use Rattle.agent_channels.specs.Openings.{HostTold}
+use Rattle.agent_outside.specs.Ends.{ListenersBack, come_back, end_at}
+use Rattle.agent_outside.specs.Listening.{ListenersOpened}
+use Rattle.agent_outside.specs.Sinks.{SinksOpened}
+use Rattle.agent_outside.specs.declared.listener.SourceListener.{SourceListener}
+use Rattle.run_tracks.specs.Places.{Zips}
+
+-- each listener with the place of its source, in order
+pub record WithPlaces {N : Type 0} (places : List ℕ) (bare : List N) (named : List (SourceListener N)) : Type 0 where
+  pub sources : map (λ (l : SourceListener N). l.source) named ≡ places
+  pub listeners : map (λ (l : SourceListener N). l.listener) named ≡ bare
+
+-- the host handed each listener out for the address and port of its source
+abbrev pub AreFrom : {N : Type 0} → (N → Option Endpoint) → List SourcePlan → List ℕ → List N → Type 0
+AreFrom endpoint sources places listeners =
+    Zips (λ place listener. IsFrom (end_at sources place).host (end_at sources place).port (endpoint listener)) places listeners
+
+-- no folder of a channel is touched
+pub record LeavesDisks (old new : Folders) : Type 0 where
+  pub disks : new.disks ≡ old.disks
+  pub opened : new.disk_opened ≡ old.disk_opened
+
+-- `Failed` comes only where the count of faults rose
+abbrev pub FailsBy : NameRefused → ℕ → ℕ → Type 0
+FailsBy Failed old new = Rose old new
+FailsBy NoMemory old new = old ≤ new
+
+-- The sinks of a plan were opened, and then its listeners, of the sources at these places.
+pub record IsOutside {R A B N : Type 0} (rolled : R → Option Rolled) (faults : R → ℕ) (Fresh : Endpoint → Option HandedOut → N → Type 0)
+    (plan : Plan) (places : List ℕ) (a b : HostTold) (all : List (AgentSink R A B)) (bare : List N) : Type 0 where
+  pub many : length all ≡ length plan.sinks.items
+  pub sinks : SinksOpened rolled faults plan.sinks.items a.folders b.folders all
+  pub named : List (SourceListener N)
+  pub with_places : WithPlaces places bare named
+  pub opened : ListenersOpened Fresh plan.sources.items places a.state b.state named
+
+-- These listeners came back, of the sources at these places.
+pub record AreBack {N : Type 0} (told : N → Option LinksTold) (waits faults : N → ℕ) (sources : List SourcePlan) (places : List ℕ)
+    (bare : List N) (old new : HostState) : Type 0 where
+  pub named : List (SourceListener N)
+  pub with_places : WithPlaces places bare named
+  pub back : ListenersBack (come_back told waits faults sources named) old new

@@ -1,0 +1,63 @@
+-- What a run of an agent is made of, before anything of it is opened.
+use Rattle.std.specs.Prelude.{◌≡◌, ◌⊎◌, ◌++◌, ℕ, List, All, length, map, flat_map, Option, Ok}
+use Rattle.std.specs.List.{AllZip}
+use Rattle.flume_host.specs.Causes.{Rose}
+use Rattle.flume_host.specs.HostState.{HostState}
+use Rattle.flume_host.specs.declared.names.NameRefused.{NameRefused}
+use Rattle.flume_host.specs.declared.names.NameRefused.TheVariants.{Failed, NoMemory}
+use Rattle.prop_text.specs.Pairs.{Pair}
+use Rattle.flume_config.specs.Plans.{Plans}
+use Rattle.flume_config.specs.declared.plan.Plan.{Plan}
+use Rattle.flume_config.specs.declared.plan.SinkPlan.{SinkPlan}
+use Rattle.agent_words.specs.declared.error.RunError.{RunError}
+use Rattle.agent_words.specs.declared.error.RunError.TheVariants as errors
+use Rattle.source_put.specs.declared.chain.HostNames.{HostNames}
+use Rattle.agent_outside.specs.Ends.{ListensAt, listeners_of, places}
+use Rattle.agent_outside.specs.Names.{AreTold}
+use Rattle.agent_drafts.specs.Drafts.{AreDrafts, inputs_of}
+use Rattle.agent_drafts.specs.Fits.{IsFit}
+use Rattle.agent_run.specs.Staff.{IsRoomy, seat_channels}
+use Rattle.agent_run.specs.Wishes.{AreWishes}
+use Rattle.agent_run.specs.declared.prepare.Prepared.{Prepared}
+use Rattle.agent_run.specs.declared.seats.Seat.{Seat}
+
+-- what is said where something was not handed out by its name
+abbrev pub error_of : NameRefused → RunError
+error_of Failed = errors.Fault
+error_of NoMemory = errors.NoMemory
+
+-- it is a plan that some properties text may have
+abbrev pub IsPlanned : Plan → Type 0
+IsPlanned plan = (pairs : List Pair) × (agent : List ℕ) × Plans pairs agent (Ok plan)
+
+-- the channels that workers use, each as often as it is used: those of the sinks, of the listeners and of the lines
+abbrev pub uses_of : {K C : Type 0} → List SinkPlan → List (Seat K C) → List (Seat K C) → List ℕ
+uses_of sinks listeners lines =
+    map (λ (plan : SinkPlan). plan.channel) sinks ++ (flat_map seat_channels listeners ++ flat_map seat_channels lines)
+
+-- the worker has all that it asks for, over so many channels, and room for its passes
+abbrev pub IsSeat : {K C : Type 0} → ℕ → Seat K C → Type 0
+IsSeat count seat = IsFit count seat.draft × IsRoomy seat
+
+-- All that a run of this plan needs before anything is opened.
+pub record IsPrepared {K C : Type 0} (plan : Plan) (p : Prepared K C) : Type 0 where
+  pub wishes : AreWishes (uses_of plan.sinks.items p.listeners.items p.lines.items) plan.channels.items p.wishes.items
+  pub listeners : All (IsSeat (length plan.channels.items)) p.listeners.items
+  pub lines : All (IsSeat (length plan.channels.items)) p.lines.items
+  pub places : p.places.items ≡ places 0 plan.sources.items
+  pub sources : map (λ (seat : Seat K C). seat.draft.source) p.listeners.items ≡ p.places.items
+  pub listen : All (ListensAt plan.sources.items) p.places.items
+  pub clocks : length p.clocks.items ≡ length plan.sinks.items
+
+-- Its workers are those that the plan has: drafts of as many session workers of each source, in order, whose interceptors are told of
+-- the host by this name and address.
+pub record IsDrafted {K C : Type 0} (name address : Option (List ℕ)) (plan : Plan) (p : Prepared K C) : Type 0 where
+  pub names : List HostNames
+  pub told : AllZip (AreTold name address) plan.sources.items names
+  pub listeners : AreDrafts listeners_of plan.sources.items names (map (λ (seat : Seat K C). seat.draft) p.listeners.items)
+  pub lines : AreDrafts inputs_of plan.sources.items names (map (λ (seat : Seat K C). seat.draft) p.lines.items)
+
+-- Why a run could not be prepared: a fault outside that was counted, or want of memory. Nothing but the count of faults changed.
+pub record IsUnprepared (error : RunError) (old new : HostState) : Type 0 where
+  pub why : ((error ≡ errors.Fault) × Rose old.faults new.faults) ⊎ (error ≡ errors.NoMemory)
+  pub state : new ≡ record old { faults = new.faults }

@@ -1,0 +1,52 @@
+-- A run of an agent, by what its plan asks for.
+use Rattle.std.specs.Prelude.{◌≡◌, ◌≢◌, ℕ, Bool, List, All, map, Option, Some, Result}
+use Rattle.flume_host.specs.HandedOut.{HandedOut}
+use Rattle.flume_host.specs.Listens.{Endpoint}
+use Rattle.flume_host.specs.Rolled.{Rolled}
+use Rattle.flume_host.specs.Told.{Told}
+use Rattle.flume_config.specs.declared.plan.Plan.{Plan}
+use Rattle.flume_config.specs.declared.plan.SinkPlan.{SinkPlan}
+use Rattle.flume_config.specs.declared.plan.SourcePlan.{SourcePlan}
+use Rattle.plan_refused.specs.declared.refused.PlanRefused.TheVariants.{Unsupported}
+use Rattle.plan_support.specs.Least.{unsupported}
+use Rattle.agent_words.specs.Report.{report_text}
+use Rattle.agent_words.specs.Statuses.{status_of}
+use Rattle.agent_words.specs.declared.error.RunError.{RunError}
+use Rattle.agent_words.specs.declared.error.RunError.TheVariants as errors
+use Rattle.agent_end.specs.declared.ends.ReportRefused.{ReportRefused}
+use Rattle.agent_sinks.specs.declared.sink.AgentSink.{AgentSink}
+use Rattle.agent_outside.specs.Backs.{RollsBack}
+use Rattle.agent_outside.specs.Ends.{AreOut, ListensAt, end_at}
+use Rattle.agent_outside.specs.Sinks.{backs_of as rolls_of}
+use Rattle.agent_channels.specs.Closings.{DisksBack, backs_of as disks_of}
+use Rattle.agent_channels.specs.Openings.{HostTold}
+use Rattle.agent_channels.specs.declared.wish.ChannelWish.{ChannelWish}
+use Rattle.file_channel.specs.Stands.{FileState}
+use Rattle.memory_channel.specs.declared.channel.MemoryChannel.{MemoryChannel}
+use Rattle.agent_run.specs.Outside.{AreFrom}
+use Rattle.agent_run.specs.Streams.{IsReported}
+use Rattle.agent_run.specs.declared.settle.Settled.{Settled}
+
+-- The sources at these places listen, and each listener was handed out for the address and port of its source.
+pub record CanListenAt {N : Type 0} (endpoint : N → Option Endpoint) (sources : List SourcePlan) (places : List ℕ) (listeners : List N)
+    (all : Option HandedOut) : Type 0 where
+  pub listen : All (ListensAt sources) places
+  pub from : AreFrom endpoint sources places listeners
+  pub out : AreOut (map (end_at sources) places) all
+
+-- Why a run of a plan did not begin: a component is not supported, or a channel, a folder, a listener or a name was refused.
+abbrev pub IsRunRefused : Plan → RunError → Type 0
+IsRunRefused plan (errors.Plan (Unsupported line)) = unsupported plan ≡ Some line
+IsRunRefused plan error = status_of error ≢ 2 × (status_of error ≢ 1)
+
+-- Behind a run the sinks' folders came back, then the channels' disks, and then the report was written, unless the output had failed.
+pub record IsGivenBack {R D A B : Type 0} (rolled : R → Option Rolled) (told : D → Option Told) (faults : D → ℕ) (plans : List SinkPlan)
+    (wishes : List ChannelWish) (settled : Settled (AgentSink R A B) (D × FileState) MemoryChannel) (failed : Bool)
+    (answer : Result (Unit {0}) ReportRefused) (old new : HostTold) : Type 0 where
+  pub behind_sinks : HostTold
+  pub behind_disks : HostTold
+  pub state : behind_sinks.state ≡ old.state
+  pub rolls : RollsBack (rolls_of rolled plans settled.sinks.items) old.folders behind_sinks.folders
+  pub disks : DisksBack (disks_of told faults wishes settled.closed.items) behind_sinks behind_disks
+  pub folders : new.folders ≡ behind_disks.folders
+  pub report : IsReported failed (report_text settled.report.items) answer behind_disks.state new.state

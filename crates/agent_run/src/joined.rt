@@ -1,0 +1,152 @@
+// The workers of a run, up to their join.
+ghost use Rattle.std.specs.Prelude.{◌≡◌, All, length, map};
+ghost use Rattle.agent_outside.specs.Ends.{AreOut, ListensAt, end_at};
+ghost use Rattle.run_tracks.specs.Dealt.{AreDealt};
+ghost use Rattle.run_tracks.specs.Homes.{AreHomes, EachTook};
+ghost use Rattle.run_tracks.specs.Places.{Zips};
+ghost use Rattle.sink_worker.specs.Rounds.{told};
+ghost use Rattle.source_worker.specs.Workers.{heard_of};
+ghost use Rattle.turn_passes.specs.Turns.{HasAll};
+ghost use Rattle.two_channels.specs.Shares.{table_of};
+ghost use Rattle.agent_run.specs.Draining.{IsSinkHome};
+ghost use Rattle.agent_run.specs.Joined.{HaveReturned, IsButStreams, IsJoined, IsSameEnd};
+ghost use Rattle.agent_run.specs.Lists.{IsEmptyFor};
+ghost use Rattle.agent_run.specs.Outside.{AreBack, AreFrom};
+ghost use Rattle.agent_run.specs.Streams.{DrainKept, TalkKept};
+ghost use Rattle.agent_run.specs.Runs.{AreNew, AreWorkers, CanRun, HaveRoom, owners_of, runs};
+
+use crate::homes::AtHome;
+use crate::outside::give_listeners;
+use crate::running::run_workers;
+use crate::streams::{StreamsEnded, keep_streams};
+use crate::workers::{Returned, Workers};
+use agent_outside::SourceListener;
+use channel_face::{Channel, Reopen};
+use crew::{DrainWorker, Work};
+use flume_config::SourcePlan;
+use flume_host::{Clock, Host, Listener, Sink, Source};
+use line_worker::LineWorker;
+use plug_in::{EventSink, Interceptor};
+use shared_channel::Pass;
+use sink_worker::SinkWorker;
+use source_worker::ListenWorker;
+use std::alloc::Global;
+use std::sync::Wait;
+use std::thread::Threads;
+use two_channels::{EitherPort, EitherShared};
+
+/// The sinks of a run behind it, and what ended the reading of standard input.
+#[derive(Drop)]
+pub(crate) struct Joined<S, C> {
+    /// The sinks, each with the number of its pass.
+    pub sinks: Vec<SinkWorker<AtHome, S, C>>,
+    /// What ended the reading of standard input.
+    pub streams: StreamsEnded,
+}
+
+// Runs the workers. Where there is no memory for it, all come back as they were. Each listener that comes back is of the address
+// and port of its worker's, and as many sinks come back as there were.
+fn run_jobs<
+    'a,
+    R: Threads + Wait + Sync + 'a,
+    A: Reopen + Drop + Send + 'a,
+    B: Channel + Drop + Send + 'a,
+    S: EventSink + Send,
+    N: Listener + Send + Drop,
+    I: Source + Send + Drop,
+    O: Sink + Send + Drop,
+    C: Clock + Send + Drop,
+    K: Interceptor + Send,
+>(
+    rt: &'a R,
+    alloc: Global,
+    shares: &'a [EitherShared<A, B>],
+    homes: &mut [Pass],
+    jobs: Workers<Pass, S, N, I, O, C, K>,
+    returned: Returned<S, N, I, O, C>,
+) -> Returned<S, N, I, O, C>
+    requires homes { AreHomes table_of shares.now homes.old }
+    requires jobs { AreWorkers table_of shares.now (λ pass. pass) jobs }
+    requires fit { CanRun jobs }
+    requires new { AreNew jobs }
+    requires room { HaveRoom jobs returned }
+    ensures homes { AreHomes table_of shares.now homes.new }
+    ensures kept { EachTook homes.old homes.new }
+    ensures all { AreDealt homes.old (owners_of jobs) → All (λ p. HasAll p.view) homes.new }
+    ensures home { All (IsSinkHome homes.new) result.sinks.items }
+    ensures many { length result.sinks.items ≡ length jobs.sinks.items }
+    ensures back { HaveReturned
+        (runs ⟦<SinkWorker<EitherPort<'a, R, A, B>, S, C> as Work>⟧.ran
+        ⟦<ListenWorker<EitherPort<'a, R, A, B>, N, C, K> as Work>⟧.ran
+        ⟦<DrainWorker<I> as Work>⟧.ran
+        ⟦<LineWorker<EitherPort<'a, R, A, B>, I, O, C, K> as Work>⟧.ran)
+        (told S.delivers S.faults) K.intercepts C.moments (heard_of N.told N.faults N.waits)
+        shares.now homes.new jobs result }
+    ensures ends { Zips (IsSameEnd N.endpoint) jobs.listeners.items result.listeners.items }
+{
+    let mut back = returned;
+    let _ = run_workers(rt, alloc, shares, homes, jobs, &mut back);
+    back
+}
+
+/// Runs the workers, and gives back what they had of the streams and the listeners: those of the sources at these places. The lists
+/// have room. Where there is no memory for the run, all come back as they were.
+pub(crate) fn run_crew<
+    'a,
+    R: Threads + Wait + Sync + 'a,
+    H: Host,
+    A: Reopen + Drop + Send + 'a,
+    B: Channel + Drop + Send + 'a,
+    S: EventSink + Send,
+    K: Interceptor + Send,
+>(
+    rt: &'a R,
+    alloc: Global,
+    host: &mut H,
+    sources: &[SourcePlan],
+    places: &[usize],
+    shares: &'a [EitherShared<A, B>],
+    homes: &mut [Pass],
+    jobs: Workers<Pass, S, H::Listener, H::Source, H::Sink, H::Clock, K>,
+    returned: Returned<S, H::Listener, H::Source, H::Sink, H::Clock>,
+    named: Vec<SourceListener<H::Listener>>,
+) -> Joined<S, H::Clock>
+    requires homes { AreHomes table_of shares.now homes.old }
+    requires jobs { AreWorkers table_of shares.now (λ pass. pass) jobs }
+    requires fit { CanRun jobs }
+    requires new { AreNew jobs }
+    requires room { HaveRoom jobs returned }
+    requires from { AreFrom H.Listener.endpoint sources.now places.now
+        (map (λ job. job.listener) jobs.listeners.items) }
+    requires listen { All (ListensAt sources.now) places.now }
+    requires out { AreOut (map (end_at sources.now) places.now) (H.state host.old).listeners }
+    requires named { IsEmptyFor (length places.now) named }
+    ensures homes { AreHomes table_of shares.now homes.new }
+    ensures kept { EachTook homes.old homes.new }
+    ensures all { AreDealt homes.old (owners_of jobs) → All (λ p. HasAll p.view) homes.new }
+    ensures home { All (IsSinkHome homes.new) result.sinks.items }
+    ensures many { length result.sinks.items ≡ length jobs.sinks.items }
+    ensures joined { IsJoined (λ returned. HaveReturned
+        (runs ⟦<SinkWorker<EitherPort<'a, R, A, B>, S, H::Clock> as Work>⟧.ran
+        ⟦<ListenWorker<EitherPort<'a, R, A, B>, H::Listener, H::Clock, K> as Work>⟧.ran
+        ⟦<DrainWorker<H::Source> as Work>⟧.ran
+        ⟦<LineWorker<EitherPort<'a, R, A, B>, H::Source, H::Sink, H::Clock, K> as Work>⟧.ran)
+        (told S.delivers S.faults) K.intercepts H.Clock.moments
+        (heard_of H.Listener.told H.Listener.faults H.Listener.waits) shares.now homes.new jobs returned)
+        (DrainKept H.Source.left H.Source.faults)
+        (TalkKept H.Source.left H.Source.faults H.Sink.took H.Sink.handed H.Sink.faults)
+        (AreBack H.Listener.told H.Listener.waits H.Listener.faults sources.now places.now)
+        result (H.state host.old) (H.state host.new) }
+    ensures rest { IsButStreams (H.state host.old) (H.state host.new) }
+    ensures folders { H.folders host.new ≡ H.folders host.old }
+{
+    let Returned {
+        sinks,
+        listeners,
+        drains,
+        lines,
+    } = run_jobs(rt, alloc, shares, homes, jobs, returned);
+    let streams = keep_streams(host, drains, lines);
+    give_listeners(host, sources, places, listeners, named);
+    Joined { sinks, streams }
+}

@@ -1,0 +1,129 @@
+// What a run opens outside its channels.
+ghost use Rattle.std.specs.Prelude.{◌≡◌, ◌≤◌, [], All, IfErr, IfOk, length, map};
+ghost use Rattle.std.specs.Vec.{vec_capacity};
+ghost use Rattle.agent_outside.specs.Ends.{AreOut, ListensAt, end_at};
+ghost use Rattle.agent_outside.specs.Listening.{IsFresh};
+ghost use Rattle.agent_outside.specs.Sinks.{IsPlain};
+ghost use Rattle.agent_run.specs.Lists.{IsEmptyFor};
+ghost use Rattle.agent_run.specs.Outside.{AreBack, AreFrom, FailsBy, IsOutside, LeavesDisks, WithPlaces};
+
+use agent_outside::{
+    SourceListener, give_back_listeners, give_back_sinks, open_listeners, open_sinks,
+};
+use agent_sinks::AgentSink;
+use flume_config::{Plan, SourcePlan};
+use flume_host::{Host, NameRefused};
+use sink_runner::NullSink;
+use std::alloc::Global;
+
+/// The sinks of a run, and its listeners.
+#[derive(Drop)]
+pub(crate) struct Outside<S, N> {
+    /// The sinks, in the order of the plan.
+    pub sinks: Vec<S>,
+    /// The listeners, in the order of their sources.
+    pub listeners: Vec<N>,
+}
+
+// Takes the listeners out of those of sources, in order. The list has room for them.
+fn bare<N: Drop>(named: Vec<SourceListener<N>>, listeners: &mut Vec<N>)
+    requires none { listeners.old.items ≡ [] }
+    requires room { length named.items ≤ vec_capacity listeners.old }
+    ensures bare { listeners.new.items ≡ map (λ l. l.listener) named.items }
+    ensures room { vec_capacity listeners.old ≤ vec_capacity listeners.new }
+{
+    let mut others = named;
+    let Some(
+        SourceListener {
+            source: _,
+            listener,
+        },
+    ) = others.pop()
+    else {
+        return;
+    };
+    bare(others, listeners);
+    listeners.push_reserved(listener);
+}
+
+// Puts each listener together with the place of its source, in order. The list has room for them.
+fn with_places<N: Drop>(places: &[usize], listeners: Vec<N>, named: &mut Vec<SourceListener<N>>)
+    requires many { length listeners.items ≡ length places.now }
+    requires none { named.old.items ≡ [] }
+    requires room { length listeners.items ≤ vec_capacity named.old }
+    ensures with { WithPlaces places.now listeners.items named.new.items }
+    ensures room { vec_capacity named.old ≤ vec_capacity named.new }
+{
+    let mut others = listeners;
+    let Some(listener) = others.pop() else {
+        return;
+    };
+    let Some((source, front)) = places.split_last() else {
+        return;
+    };
+    with_places(front, others, named);
+    named.push_reserved(SourceListener {
+        source: *source,
+        listener,
+    });
+}
+
+/// Opens the sinks of a plan, and then its listeners, of the sources at these places. At a refusal all that was opened is given
+/// back. The list has room for the listeners.
+pub(crate) fn open_outside<H: Host>(
+    alloc: Global,
+    host: &mut H,
+    plan: &Plan,
+    places: &[usize],
+    room: Vec<H::Listener>,
+) -> Result<Outside<AgentSink<H::Roll, NullSink, NullSink>, H::Listener>, NameRefused>
+    requires plain { All (λ sink. IsPlain sink.kind) plan.now.sinks.items }
+    requires listen { All (ListensAt plan.now.sources.items) places.now }
+    requires room { IsEmptyFor (length places.now) room }
+    ensures opened { IfOk result (λ outside. IsOutside H.Roll.rolled H.Roll.faults
+        (IsFresh H.Listener.told H.Listener.endpoint H.Listener.waits H.Listener.faults)
+        plan.now places.now
+        (record { state = H.state host.old; folders = H.folders host.old })
+        (record { state = H.state host.new; folders = H.folders host.new })
+        outside.sinks.items outside.listeners.items) }
+    ensures refused { IfErr result (λ refused. FailsBy refused (H.state host.old).faults (H.state host.new).faults) }
+    ensures disks { LeavesDisks (H.folders host.old) (H.folders host.new) }
+{
+    let plans = plan.sinks.as_slice();
+    let sinks = match open_sinks(alloc, host, plans) {
+        Ok(sinks) => sinks,
+        Err(refused) => return Err(refused),
+    };
+    match open_listeners(alloc, host, plan.sources.as_slice(), places) {
+        Ok(named) => {
+            let mut listeners = room;
+            bare(named, &mut listeners);
+            Ok(Outside { sinks, listeners })
+        }
+        Err(refused) => {
+            give_back_sinks(host, plans, sinks);
+            Err(refused)
+        }
+    }
+}
+
+/// Gives the listeners of the sources at these places back. The list has room for them.
+pub(crate) fn give_listeners<H: Host>(
+    host: &mut H,
+    sources: &[SourcePlan],
+    places: &[usize],
+    listeners: Vec<H::Listener>,
+    room: Vec<SourceListener<H::Listener>>,
+)
+    requires from { AreFrom H.Listener.endpoint sources.now places.now listeners.items }
+    requires listen { All (ListensAt sources.now) places.now }
+    requires out { AreOut (map (end_at sources.now) places.now) (H.state host.old).listeners }
+    requires room { IsEmptyFor (length places.now) room }
+    ensures back { AreBack H.Listener.told H.Listener.waits H.Listener.faults sources.now places.now
+        listeners.items (H.state host.old) (H.state host.new) }
+    ensures folders { H.folders host.new ≡ H.folders host.old }
+{
+    let mut named = room;
+    with_places(places, listeners, &mut named);
+    give_back_listeners(host, sources, named);
+}

@@ -1,0 +1,93 @@
+// What a run of an agent is made of, before anything of it is opened.
+ghost use Rattle.std.specs.Prelude.{◌≡◌, IfErr, IfOk, OnOk, length};
+ghost use Rattle.plan_support.specs.Least.{HasNoPlugin, IsSupported};
+ghost use Rattle.agent_run.specs.Prepared.{IsDrafted, IsPlanned, IsPrepared, IsUnprepared, error_of};
+
+use crate::seats::{Seat, seats_of};
+use crate::wishes::{uses_of, wishes_of};
+use agent_channels::ChannelWish;
+use agent_drafts::{draft_lines, draft_listeners, drafts_can_serve};
+use agent_outside::{listening_places, names_of};
+use agent_words::RunError;
+use flume_config::Plan;
+use flume_host::{Host, NameRefused};
+use std::alloc::{AllocError, Global};
+
+/// What a run of an agent is made of.
+#[derive(Drop)]
+pub(crate) struct Prepared<K, C> {
+    /// The channels that it wants.
+    pub wishes: Vec<ChannelWish>,
+    /// The workers of its listeners.
+    pub listeners: Vec<Seat<K, C>>,
+    /// The workers of the lines of standard input.
+    pub lines: Vec<Seat<K, C>>,
+    /// The place of the source of each listener.
+    pub places: Vec<usize>,
+    /// The clocks of its sinks.
+    pub clocks: Vec<C>,
+}
+
+/// Why something that is handed out by its name was not.
+pub(crate) fn name_error(refused: NameRefused) -> RunError
+    ensures { result ≡ error_of refused }
+{
+    match refused {
+        NameRefused::Failed => RunError::Fault,
+        NameRefused::NoMemory => RunError::NoMemory,
+    }
+}
+
+// So many clocks.
+fn clocks_of<H: Host>(alloc: Global, host: &mut H, many: usize) -> Result<Vec<H::Clock>, AllocError>
+    ensures many { IfOk result (λ clocks. length clocks.items ≡ many) }
+    ensures state { H.state host.new ≡ H.state host.old }
+    ensures folders { H.folders host.new ≡ H.folders host.old }
+{
+    let mut clocks = Vec::with_capacity(alloc, many)?;
+    while clocks.len() < many {
+        clocks.push_reserved(host.clock());
+    }
+    Ok(clocks)
+}
+
+/// Makes all that a run of this plan needs before anything is opened. The host is asked for its names where interceptors are told
+/// them.
+pub(crate) fn prepare<H: Host, K: Drop>(
+    alloc: Global,
+    host: &mut H,
+    plan: &Plan,
+) -> Result<Prepared<K, H::Clock>, RunError>
+    requires planned { IsPlanned plan.now }
+    requires supported { IsSupported plan.now }
+    requires none { HasNoPlugin plan.now }
+    ensures prepared { IfOk result (IsPrepared plan.now) }
+    ensures drafted { IfOk result
+        (IsDrafted (H.state host.old).name (H.state host.old).address plan.now) }
+    ensures same { OnOk result (H.state host.new ≡ H.state host.old) }
+    ensures refused { IfErr result
+        (λ error. IsUnprepared error (H.state host.old) (H.state host.new)) }
+    ensures folders { H.folders host.new ≡ H.folders host.old }
+{
+    let names = match names_of(alloc, host, plan.sources.as_slice()) {
+        Ok(names) => names,
+        Err(refused) => return Err(name_error(refused)),
+    };
+    let listeners = draft_listeners(alloc, plan, names.as_slice())?;
+    let lines = draft_lines(alloc, plan, names.as_slice())?;
+    let listeners = seats_of(alloc, host, listeners)?;
+    let lines = seats_of(alloc, host, lines)?;
+    let sinks = plan.sinks.as_slice();
+    let uses = uses_of(alloc, sinks, listeners.as_slice(), lines.as_slice())?;
+    let wishes = wishes_of(alloc, plan.channels.as_slice(), uses.as_slice())?;
+    let places = listening_places(alloc, plan.sources.as_slice())?;
+    let clocks = clocks_of(alloc, host, sinks.len())?;
+    drafts_can_serve::<K>();
+    Ok(Prepared {
+        wishes,
+        listeners,
+        lines,
+        places,
+        clocks,
+    })
+}
