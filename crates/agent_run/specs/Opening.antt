@@ -13,7 +13,7 @@ use Rattle.agent_run.specs.Draining.{HasOwn}
 use Rattle.agent_run.specs.Lists.{HaveChannelLists, HaveWorkerLists}
 use Rattle.agent_run.specs.Prepared.{IsSeat, uses_of}
 use Rattle.agent_run.specs.Runs.{AreNew, AreWorkers, CanRun, HaveRoom, owners_of}
-use Rattle.agent_run.specs.Staff.{IsSinkOf}
+use Rattle.agent_run.specs.Staff.{IsLineOf, IsListenOf, IsSinkOf}
 use Rattle.agent_run.specs.declared.opening.Manned.{Manned}
 use Rattle.agent_run.specs.declared.opening.Opening.{Opening}
 
@@ -31,7 +31,7 @@ pub record CanBeManned {A B S N I O C K : Type 0} (plans : List SinkPlan) (o : O
   pub channels : HaveChannelLists (length o.prepared.wishes.items) o.channels
   pub workers : HaveWorkerLists (length plans) (length o.prepared.listeners.items) (length o.prepared.lines.items) o.workers
 
--- The workers can run over the channels, and there is room for what comes back of them.
+-- The workers are those of the plan's sinks and sources and can run over the channels, and there is room for what comes back of them.
 pub record IsManned {A B S N I O C K : Type 0} (plans : List SinkPlan) (o : Opening A B S N I O C K) (m : Manned A B S N I O C K) : Type 0 where
   pub shares : m.crew.shares.items ≡ map (λ (c : OpenedChannel A B). c.share) o.opened.items
   pub homes : AreHomes table_of m.crew.shares.items m.crew.homes.items
@@ -43,7 +43,9 @@ pub record IsManned {A B S N I O C K : Type 0} (plans : List SinkPlan) (o : Open
   pub room : HaveRoom m.crew.jobs m.returned
   pub sinks : Zips IsSinkOf plans m.crew.jobs.sinks.items
   pub own_sinks : map (λ job. job.sink) m.crew.jobs.sinks.items ≡ o.outside.sinks.items
+  pub listeners : Zips IsListenOf o.prepared.listeners.items m.crew.jobs.listeners.items
   pub own_listeners : map (λ job. job.listener) m.crew.jobs.listeners.items ≡ o.outside.listeners.items
+  pub lines : Zips IsLineOf o.prepared.lines.items m.crew.jobs.lines.items
   pub wishes : m.wishes ≡ o.prepared.wishes
   pub places : m.places ≡ o.prepared.places
   pub passes : m.passes ≡ o.channels.passes

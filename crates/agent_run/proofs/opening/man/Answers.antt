@@ -65,7 +65,9 @@ returns-clause-manned g c =
       };
       sinks = is.sinks;
       own_sinks = is.own_sinks;
+      listeners = is.listeners;
       own_listeners = is.own_listeners;
+      lines = is.lines;
       wishes = refl;
       places = refl;
       passes = refl;
