@@ -2,8 +2,10 @@
 ghost use Rattle.std.specs.Prelude.{◌≡◌, ◌<◌, ◌≤◌, ◌+◌, ◌^◌, ◌++◌, ◌∷◌, ◌-◌, [], ℕ, List, length, Some, None, Ok, IsSome, IsTrue, IfNone, IfOk, IfSome, OnOk, OnErr, true, false};
 ghost use Rattle.event_core.specs.Content.{Content};
 ghost use Rattle.event_core.specs.Content as contents;
-ghost use Rattle.event_core.specs.Journal.{IsBase};
+ghost use Rattle.event_core.specs.Journal.{IsBase, put_events, taken_numbers};
+ghost use Rattle.channel_face.specs.Counters.{capped};
 ghost use Rattle.channel_face.specs.History.{Opening, opening};
+ghost use Rattle.channel_face.specs.Token.{Token};
 ghost use Rattle.channel_face.specs.declared.replies.Kind.TheVariants.{File};
 ghost use Rattle.channel_face.specs.Machine as face;
 ghost use Rattle.channel_face.specs.Machine.{Reopened, State, BeginPut, BeginTake, add_put, add_take, after_reopen, broken_state, close, entry_of, free, kept_base, puts_of, takes_of};
@@ -14,7 +16,7 @@ ghost use Rattle.channel_places.specs.Looks.{IsFree, IsOpenFor, Known, LookLeft,
 
 use crate::moving::move_staged;
 use crate::settling::{append_staged, end_all, free_takes, one_if_staged, remove_staged};
-use crate::staging::{push_ended, put_count};
+use crate::staging::{count_takes, push_ended, put_count};
 use channel_face::{
     BeginRefused, Counter, Limits, PutRefused, PutTxn, Settled, StageCause, TakeRefused, TakeTxn,
     Ticket,
@@ -350,8 +352,8 @@ impl Held {
         }
     }
 
-    // How many puts the token's transaction has, or none where the token is stale.
-    fn size_of_puts(&self, txn: &PutTxn) -> usize
+    /// How many puts the token's transaction has, or none where the token is stale.
+    pub fn size_of_puts(&self, txn: &PutTxn) -> usize
         ensures size { (known : Known) (s : State) → Looks known self.now s
             → result ≡ face.size_of_list (puts_of s txn.now) }
         ensures small { result < 2 ^ 32 }
@@ -363,8 +365,8 @@ impl Held {
         }
     }
 
-    // How many takes the token's transaction has, or none where the token is stale.
-    fn size_of_takes(&self, txn: &TakeTxn) -> usize
+    /// How many takes the token's transaction has, or none where the token is stale.
+    pub fn size_of_takes(&self, txn: &TakeTxn) -> usize
         ensures size { (known : Known) (s : State) → Looks known self.now s
             → result ≡ face.size_of_list (takes_of s txn.now) }
         ensures small { result < 2 ^ 32 }
@@ -447,7 +449,9 @@ impl Held {
     /// What is staged counts from now on: the events that were taken leave, and behind the others come those that were put, with
     /// the next numbers. It takes no memory.
     pub fn settle(&mut self)
-        ensures { (known : Known) (s : State) → Looks known self.old s → Looks known self.new (face.settle s) }
+        ensures step { (known : Known) (s : State) → Looks known self.old s → Looks known self.new (face.settle s) }
+        ensures put { (token : Token) (pointer : pointers.Pointer) → MayPut self.old token pointer → MayPut self.new token pointer }
+        ensures take { (token : Token) → MayTake self.old token → MayTake self.new token }
     {
         self.frame += one_if_staged(&self.staged);
         remove_staged(&mut self.ring, &self.staged);
@@ -504,6 +508,34 @@ impl Held {
         ensures { (known : Known) (s : State) → Looks known self.now s → result ≡ face.settled s ticket.now }
     {
         self.settled_by_numbers(ticket)
+    }
+
+    /// The most events.
+    pub fn capacity(&self) -> u32
+        ensures { result ≡ self.now.numbers.rules.limits.capacity }
+    {
+        self.limits.capacity
+    }
+
+    /// The length at which a log file is left.
+    pub fn max_file(&self) -> u64
+        ensures { result ≡ self.now.numbers.rules.limits.max_file }
+    {
+        self.limits.max_file
+    }
+
+    /// How many puts are staged.
+    pub fn puts_staged(&self) -> u64
+        ensures { (known : Known) (s : State) → Looks known self.now s → result ≡ length (put_events s.staged) }
+    {
+        self.staged_puts as u64
+    }
+
+    /// How many takes are staged, up to 2^64 - 1.
+    pub fn takes_staged(&self) -> u64
+        ensures { (known : Known) (s : State) → Looks known self.now s → result ≡ capped (length (taken_numbers s.staged)) }
+    {
+        count_takes(&self.staged)
     }
 
     /// Whether the channel is broken.

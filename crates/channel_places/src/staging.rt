@@ -1,6 +1,8 @@
 // What a transaction had open when it ended, among what is staged.
 ghost use Rattle.std.specs.Prelude.{◌≡◌, ◌<◌, ◌≤◌, ◌++◌, length, map, vec_capacity, vec_len};
-ghost use Rattle.open_table.specs.Tables.{listed_of, puts_of};
+ghost use Rattle.channel_face.specs.Counters.{capped};
+ghost use Rattle.open_table.specs.Tables.{listed_of, puts_of, takes_of};
+ghost use Rattle.channel_places.specs.Ends.{takes_in};
 ghost use Rattle.channel_places.specs.Looks.{staged_of};
 
 use open_table::Ended;
@@ -26,4 +28,25 @@ pub(crate) fn push_ended(staged: &mut Vec<Ended>, ended: Ended)
         Ended::Takes(numbers) if numbers.is_empty() => {}
         _ => staged.push_reserved(ended),
     }
+}
+
+// How many takes it had.
+fn take_count(ended: &Ended) -> usize
+    ensures { result ≡ length (takes_of (listed_of ended.now)) }
+{
+    match ended {
+        Ended::Puts(_) => 0,
+        Ended::Takes(numbers) => numbers.len(),
+    }
+}
+
+// How many takes staged transactions had, up to 2^64 - 1.
+pub(crate) fn count_takes(staged: &[Ended]) -> u64
+    ensures { result ≡ capped (length (takes_in (map listed_of staged.now))) }
+{
+    let mut count = 0u64;
+    for place in 0..staged.len() {
+        count = count.saturating_add(take_count(&staged[place]) as u64);
+    }
+    count
 }

@@ -277,7 +277,7 @@ still_broken s (Reopen (Err e)) may broken = none_staged s (Reopen (Err e)) refl
 
 -- what a call did to what the disk tells
 
-abbrev Touched : Option Told → Option Told → State → Type 0
+abbrev pub Touched : Option Told → Option Told → State → Type 0
 Touched told told' s = (told' ≡ told) ⊎ Tells told told' (λ t u. Flushed s t u)
 
 told_same : (told told' : Option Told) (s : State) → Touched told told' s → is_some_of told' ≡ is_some_of told
@@ -298,7 +298,7 @@ told_before : (told told' : Option Told) (s : State) → Touched told told' s �
 told_before told told' s (inl same) u is = (u, sym same ∙ is, inl refl)
 told_before told told' s (inr tells) u is = let old = back told told' (λ t v. Flushed s t v) tells u is in (old.0, old.1, inr old.2)
 
-may_loosely : (tells : Bool) (s : State) (call : Call) → Admits true s call → Admits tells s call
+pub may_loosely : (tells : Bool) (s : State) (call : Call) → Admits true s call → Admits tells s call
 may_loosely true s call may = may
 may_loosely false s call may = loose s call may
 
@@ -422,11 +422,11 @@ adds_with told told' f f' old call new moves count waits up cause still tells ri
       new_is = moves.state;
     }
 
--- a call of the machine adds itself
-pub adds_over : (told told' : Option Told) (f f' : ℕ) (old : FileState) (call : Call) (new : FileState) → Makes (counted_of old) call (counted_of new) → new.waiting ≡ waiting_after old.state call old.waiting → f ≤ f' → (is_fault call ≡ true → Rose f f') → (is_fault call ≡ false → f' ≡ f) → Touched told told' old.state → Rests told' new.state
+-- a call of the machine adds itself, also over a disk that does not tell
+pub adds_loosely : (told told' : Option Told) (f f' : ℕ) (old : FileState) (call : Call) (new : FileState) → Moves (is_some_of told) old.state call new.state → new.tally ≡ counted old.state call old.tally → new.waiting ≡ waiting_after old.state call old.waiting → f ≤ f' → (is_fault call ≡ true → Rose f f') → (is_fault call ≡ false → f' ≡ f) → Touched told told' old.state → Rests told' new.state
     → AddsOne (StandsOver told f old) (StandsOver told' f' new) call (moment_of told')
-adds_over told told' f f' old call new makes waits up cause still touched rests =
-    adds_with told told' f f' old call new (record { admitted = may_loosely (is_some_of told) old.state call makes.moves.admitted; state = makes.moves.state }) makes.tally waits up cause still
+adds_loosely told told' f f' old call new moves count waits up cause still touched rests =
+    adds_with told told' f f' old call new moves count waits up cause still
     (told_same told told' old.state touched) (moment_rises told told' old.state touched) images (λ u is. let was = told_before told told' old.state touched u is in (was.0, was.1))
   where
     images : (start : Opening) (h : List Step) (step : Step) (t u : Told) → told ≡ Some t → told' ≡ Some u → step.moment ≡ clock u → Adds t start h step old.state new.state → step.call ≡ call → EachMoment start.from (λ m image. MayFind start (until m (h ++ step ∷ [])) image) u
@@ -443,6 +443,12 @@ adds_over told told' f f' old call new makes waits up cause still touched rests 
         from (b, old_is, inr flushed) =
             let here : Flushed old.state t u = subst (λ (v : Told). Flushed old.state v u) (some_same b t (sym old_is ∙ was)) flushed in
             images_run t u start h step old.state new.state adds here.images (λ image found. finds_either start h old.state image adds.base adds.run adds.state here.whole found) at rest
+
+-- a call of the machine adds itself
+pub adds_over : (told told' : Option Told) (f f' : ℕ) (old : FileState) (call : Call) (new : FileState) → Makes (counted_of old) call (counted_of new) → new.waiting ≡ waiting_after old.state call old.waiting → f ≤ f' → (is_fault call ≡ true → Rose f f') → (is_fault call ≡ false → f' ≡ f) → Touched told told' old.state → Rests told' new.state
+    → AddsOne (StandsOver told f old) (StandsOver told' f' new) call (moment_of told')
+adds_over told told' f f' old call new makes waits up cause still touched rests =
+    adds_loosely told told' f f' old call new (record { admitted = may_loosely (is_some_of told) old.state call makes.moves.admitted; state = makes.moves.state }) makes.tally waits up cause still touched rests
 
 -- a reopen
 
@@ -512,7 +518,7 @@ pub record Did (told told' : Option Told) (f f' : ℕ) (old : FileState) (call :
   pub flushed : flushes call ≡ true → Tells told told' (λ t u. Flushed old.state t u)
   pub rests : Rests told' new.state
 
-touched_by : (told told' : Option Told) (s : State) (call : Call) → (flushes call ≡ false → told' ≡ told) → (flushes call ≡ true → Tells told told' (λ t u. Flushed s t u)) → Touched told told' s
+pub touched_by : (told told' : Option Told) (s : State) (call : Call) → (flushes call ≡ false → told' ≡ told) → (flushes call ≡ true → Tells told told' (λ t u. Flushed s t u)) → Touched told told' s
 touched_by told told' s call quiet flushed = from (flushes call) refl
   where
     from : (b : Bool) → flushes call ≡ b → Touched told told' s

@@ -1,12 +1,15 @@
 // The log of a channel as it is written: each change of the channel's state has its record.
 ghost use Rattle.std.specs.Prelude.{◌≡◌, ◌<◌, ◌≤◌, ◌+◌, ◌-◌, ◌*◌, ◌^◌, ◌++◌, ◌∷◌, [], ◌↔◌, ◌==◌, ℕ, List, length, Some, None, OnOk, OnErr, IsOk, IsTrue, if◌then◌else◌, false, true};
 ghost use Rattle.flume_host.specs.Causes.{HasCause};
-ghost use Rattle.flume_host.specs.Told.{LeavesOnly, Tells};
+ghost use Rattle.flume_host.specs.Told.{Changes, LeavesOnly, Tells};
+ghost use Rattle.flume_host.specs.declared.names.FileName.TheVariants.{Log};
 ghost use Rattle.event_core.specs.Content.{Content, size};
 ghost use Rattle.event_core.specs.Journal.{is_among, taken_numbers};
 ghost use Rattle.event_core.specs.declared.journal.Entry.{Entry};
 ghost use Rattle.channel_face.specs.Machine.{State, close, entry_of, free, next_number, settle, stage, with_entry};
-ghost use Rattle.channel_log.specs.Writer.{HasRoom};
+ghost use Rattle.record_form.specs.declared.record.Rec as recs;
+ghost use Rattle.record_form.specs.declared.record.Rec.TheVariants as records;
+ghost use Rattle.channel_log.specs.Writer.{Appends, HasRoom, IsPending, IsReady, LacksOrHas};
 ghost use Rattle.channel_replay.specs.StartLaws.{done_of};
 ghost use Rattle.file_channel.specs.Touches.{WritesLast};
 ghost use Rattle.file_channel.specs.Written.{IsLogged, MayRecover, kept};
@@ -22,17 +25,17 @@ const END_ROOM: u64 = 21;
 
 /// A disk with the log that a channel writes on it.
 #[derive(Drop)]
-pub(crate) struct Writing<D: Disk + Drop> {
-    pub(crate) alloc: Global,
-    pub(crate) disk: D,
-    pub(crate) log: LogWriter,
+pub struct Writing<D: Disk + Drop> {
+    pub alloc: Global,
+    pub disk: D,
+    pub log: LogWriter,
     /// How many open transactions have records in the log.
-    pub(crate) busy: u64,
+    pub busy: u64,
 }
 
 impl<D: Disk + Drop> Writing<D> {
     /// Whether the frame has room for a record of this length, the first one of its transaction or a later one.
-    pub(crate) fn has_room(&self, length: u64, first: bool) -> bool
+    pub fn has_room(&self, length: u64, first: bool) -> bool
         requires { self.now.busy ≤ 1024 }
         ensures { IsTrue result ↔ HasRoom self.now.log (length + kept self.now.busy first) }
     {
@@ -41,10 +44,11 @@ impl<D: Disk + Drop> Writing<D> {
     }
 
     /// Adds the record of a put.
-    pub(crate) fn add_put(&mut self, txn: u64, event: &Event, first: bool)
+    pub fn add_put(&mut self, txn: u64, event: &Event, first: bool)
         requires limit { size event.now ≤ MAX_PUT_SIZE }
         requires room { HasRoom self.old.log (size event.now + 13 + kept self.old.busy first) }
         requires few { self.old.busy ≤ 1024 }
+        ensures log { Appends self.old.log self.new.log (records.Put txn event.now) }
         ensures logged { (s : State) (events : List Content)
             → IsLogged (D.told self.old.disk) self.old.log self.old.busy s
             → entry_of txn s.opened ≡ Some (Entry.Puts events) → first ≡ (length events == 0)
@@ -64,9 +68,10 @@ impl<D: Disk + Drop> Writing<D> {
     }
 
     /// Adds the record of a take.
-    pub(crate) fn add_take(&mut self, txn: u64, number: u64, first: bool)
+    pub fn add_take(&mut self, txn: u64, number: u64, first: bool)
         requires room { HasRoom self.old.log (17 + kept self.old.busy first) }
         requires few { self.old.busy ≤ 1024 }
+        ensures log { Appends self.old.log self.new.log (records.Take txn number) }
         ensures logged { (s : State) (numbers : List ℕ) (event : Content)
             (rest : List (ℕ × Content))
             → IsLogged (D.told self.old.disk) self.old.log self.old.busy s
@@ -84,10 +89,11 @@ impl<D: Disk + Drop> Writing<D> {
     }
 
     /// Adds the record of a transaction that is given up, which did something.
-    pub(crate) fn add_rollback(&mut self, txn: u64)
+    pub fn add_rollback(&mut self, txn: u64)
         requires { (s : State) × (entry : Entry)
             × IsLogged (D.told self.old.disk) self.old.log self.old.busy s
             × (entry_of txn s.opened ≡ Some entry) × (done_of (Some entry) ≡ Some entry) }
+        ensures log { Appends self.old.log self.new.log (records.Rollback txn) }
         ensures logged { (s : State) (entry : Entry)
             → IsLogged (D.told self.old.disk) self.old.log self.old.busy s
             → entry_of txn s.opened ≡ Some entry → done_of (Some entry) ≡ Some entry
@@ -100,11 +106,12 @@ impl<D: Disk + Drop> Writing<D> {
     }
 
     /// Adds the record of puts that are staged.
-    pub(crate) fn add_commit_put(&mut self, txn: u64, first: u64, count: u32)
+    pub fn add_commit_put(&mut self, txn: u64, first: u64, count: u32)
         requires some { 1 ≤ count }
         requires logged { (s : State) × (events : List Content)
             × IsLogged (D.told self.old.disk) self.old.log self.old.busy s
             × (entry_of txn s.opened ≡ Some (Entry.Puts events)) × (count ≡ length events) }
+        ensures log { Appends self.old.log self.new.log (records.CommitPut txn first count) }
         ensures logged { (s : State) (events : List Content)
             → IsLogged (D.told self.old.disk) self.old.log self.old.busy s
             → entry_of txn s.opened ≡ Some (Entry.Puts events) → count ≡ length events
@@ -119,11 +126,12 @@ impl<D: Disk + Drop> Writing<D> {
     }
 
     /// Adds the record of takes that are staged.
-    pub(crate) fn add_commit_take(&mut self, txn: u64, count: u32)
+    pub fn add_commit_take(&mut self, txn: u64, count: u32)
         requires some { 1 ≤ count }
         requires logged { (s : State) × (numbers : List ℕ)
             × IsLogged (D.told self.old.disk) self.old.log self.old.busy s
             × (entry_of txn s.opened ≡ Some (Entry.Takes numbers)) × (count ≡ length numbers) }
+        ensures log { Appends self.old.log self.new.log (records.CommitTake txn count) }
         ensures logged { (s : State) (numbers : List ℕ)
             → IsLogged (D.told self.old.disk) self.old.log self.old.busy s
             → entry_of txn s.opened ≡ Some (Entry.Takes numbers) → count ≡ length numbers
@@ -138,7 +146,7 @@ impl<D: Disk + Drop> Writing<D> {
 
     /// Writes the waiting records as a frame. A stop at any moment of the call leaves what is settled, or that with what is
     /// staged.
-    pub(crate) fn flush(&mut self) -> Result<(), Failed>
+    pub fn flush(&mut self) -> Result<(), Failed>
         requires { (s : State) × IsLogged (D.told self.old.disk) self.old.log self.old.busy s
             × (s.broken ≡ false) }
         ensures any_moment { (s : State)
@@ -151,6 +159,18 @@ impl<D: Disk + Drop> Writing<D> {
             → IsLogged (D.told self.old.disk) self.old.log self.old.busy s → s.broken ≡ false
             → ((n : ℕ) → next_number s ≤ n → is_among (taken_numbers s.staged) n ≡ false)
             → IsLogged (D.told self.new.disk) self.new.log self.new.busy (settle s)) }
+        ensures changes { (frames : List (List recs.Rec)) (waits : List recs.Rec)
+            → IsReady (D.told self.old.disk) 1 self.old.log.file self.old.log.gate frames
+            → IsPending self.old.log waits → 1 ≤ length waits
+            → Tells (D.told self.old.disk) (D.told self.new.disk)
+            (Changes (Log self.old.log.file) (LacksOrHas 1 self.old.log.file frames waits) 2) }
+        ensures flushed { OnOk result ((frames : List (List recs.Rec)) (waits : List recs.Rec)
+            → IsReady (D.told self.old.disk) 1 self.old.log.file self.old.log.gate frames
+            → IsPending self.old.log waits → 1 ≤ length waits
+            → IsReady (D.told self.new.disk) 1 self.old.log.file self.new.log.gate
+            (frames ++ waits ∷ [])) }
+        ensures same { OnOk result (self.old.log.count ≡ 0 → (self.new.log ≡ self.old.log)
+            × (D.told self.new.disk ≡ D.told self.old.disk)) }
         ensures moved { OnOk result (1 ≤ self.old.log.count
             → self.new.log ≡ record self.old.log {
               gate = self.old.log.gate + length self.old.log.bytes + 6;

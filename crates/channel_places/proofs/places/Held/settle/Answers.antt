@@ -4,7 +4,7 @@ use Rattle.open_table.specs.declared.opened.Ended.{Ended}
 use Rattle.event_ring.specs.Slots.{Index, Left}
 use Rattle.channel_face.specs.Machine as face
 use Rattle.channel_places.specs.Ends.{AreApart, one_if_staged, placed, pointers_in, takes_in}
-use Rattle.channel_places.specs.Looks.{Looks, Places, puts_in}
+use Rattle.channel_places.specs.Looks.{Looks, MayPut, MayTake, Places, puts_in}
 use Rattle.channel_places.specs.View.{places_of}
 use Rattle.channel_places.proofs.Batches.{length_placed}
 use Rattle.channel_places.proofs.Leaving.{lacking_length, pointers_length, replaced, settle_looks, settled_same, staged_apart}
@@ -78,8 +78,8 @@ invariant_of-self c =
       frames = omega (arith, i.frames, c.one_if_staged.ensures, ap (λ (l : List Listed). one_if_staged l) counted, ap (λ (l : List Listed). one_if_staged l) cleared);
     }
 
-pub returns : goal.returns
-returns c = λ known s looks.
+pub returns-clause-step : goal.returns-clause-step
+returns-clause-step c = λ known s looks.
     let p : Places = places_of c.self.inside in
     let here : Looks known p s = subst (λ (q : Places). Looks known q s) (sym c.self.view_is) looks in
     let counted : map listed_of c.deref.result.now ≡ p.staged = ap (λ (l : List Ended). map listed_of l) c.deref.ensures.value in
@@ -88,3 +88,31 @@ returns c = λ known s looks.
     let cleared : map listed_of c.clear.new.self.items ≡ Rattle.std.proofs.Common.[] = ap (λ (l : List Ended). map listed_of l) c.clear.ensures.items in
     let same = settled_same p _ _ _ _ _ _ _ _ counted removed added cleared (ap (λ (r : Index). r.live) c.remove_staged.ensures) c.append_staged-self-inside.ensures.appended.live c.append_staged-self-inside.ensures.next c.one_if_staged.ensures in
     replaced known _ _ _ same (settle_looks known p s here)
+
+pub returns-clause-put : goal.returns-clause-put
+returns-clause-put c = λ token pointer may.
+    let p : Places = places_of c.self.inside in
+    let old : MayPut p token pointer = subst (λ (q : Places). MayPut q token pointer) (sym c.self.view_is) may in
+    let added : map listed_of c.deref-3.result.now ≡ p.staged = ap (λ (l : List Ended). map listed_of l) c.deref-3.ensures.value in
+    let cleared : map listed_of c.clear.new.self.items ≡ Rattle.std.proofs.Common.[] = ap (λ (l : List Ended). map listed_of l) c.clear.ensures.items in
+    let many : length (pointers_in (map listed_of c.deref-3.result.now)) ≡ puts_in p.staged = ap (λ (l : List Listed). length (pointers_in l)) added ∙ pointers_length p.staged in
+    record {
+      life = old.life;
+      room = old.room;
+      few = omega (
+        arith,
+        old.few,
+        ap (λ (l : List Left). length l) c.append_staged-self-inside.ensures.appended.live,
+        length-append c.remove_staged.new.ring.live (placed c.self.inside.first (pointers_in (map listed_of c.deref-3.result.now))),
+        length_placed c.self.inside.first (pointers_in (map listed_of c.deref-3.result.now)),
+        ap (λ (r : Index). length r.live) c.remove_staged.ensures,
+        lacking_length (takes_in (map listed_of c.deref-2.result.now)) p.live,
+        many,
+        ap (λ (l : List Listed). puts_in l) cleared,
+      );
+    }
+
+pub returns-clause-take : goal.returns-clause-take
+returns-clause-take c = λ token may.
+    let old : MayTake (places_of c.self.inside) token = subst (λ (q : Places). MayTake q token) (sym c.self.view_is) may in
+    record { life = old.life; room = old.room }

@@ -55,3 +55,6 @@ pub returns-in-Err-clause-nothing : goal.returns-in-Err-clause-nothing
 returns-in-Err-clause-nothing g c = λ none.
     let empty = c.flush.ensures.empty (none_waits (g.D.Disk.told c.args.self.now.disk) c.args.self.now.log c.requires.0 (c.requires.1.waits c.requires.2) none) in
     no_ok (sym (ap (λ r. is_ok r) c.in-Err.is) ∙ empty.0)
+
+pub returns-in-Ok-clause-flushed : goal.returns-in-Ok-clause-flushed
+returns-in-Ok-clause-flushed g c = λ frames waits ready pending some. c.in-Ok.ensures.flushed 1 frames waits ready pending some
