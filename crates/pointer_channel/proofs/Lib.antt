@@ -1,0 +1,5 @@
+pub mod Placing
+pub mod Stepping
+pub mod Adding
+pub mod Calls
+pub mod Standing
