@@ -1,8 +1,13 @@
 -- What a channel that keeps pointers stands for.
-use Rattle.std.specs.Prelude.{ℕ, List, Option}
+use Rattle.std.specs.Prelude.{ℕ, List, Option, Result, Ok, Err, Bool, true, false}
 use Rattle.flume_host.specs.Told.{Told}
 use Rattle.channel_face.specs.Counters.{Tally}
 use Rattle.channel_face.specs.History.{Opening, Step, opening, state_after}
+use Rattle.channel_face.specs.declared.replies.FlushRefused.{FlushRefused}
+use Rattle.channel_face.specs.declared.replies.Put.{Put}
+use Rattle.channel_face.specs.declared.replies.PutRefused.{PutRefused}
+use Rattle.channel_face.specs.declared.replies.TakeRefused.{TakeRefused}
+use Rattle.channel_face.specs.declared.replies.Taken.{Taken}
 use Rattle.file_channel.specs.Stands as files
 use Rattle.pointer_channel.specs.Placed.{IsStateOf, Logged}
 
@@ -20,3 +25,17 @@ pub record StandsOver (told : Option Told) (faults : ℕ) (c : ChannelState) (st
 -- There are an opening and calls for which a channel stands.
 abbrev pub IsStanding : Option Told → ℕ → ChannelState → Type 0
 IsStanding told faults c = (start : Opening) × (h : List Step) × StandsOver told faults c start h
+
+-- whether a call settled what was staged
+
+abbrev pub put_spills : Result Put PutRefused → Bool
+put_spills (Ok done) = done.spilled
+put_spills (Err e) = false
+
+abbrev pub take_spills : Result Taken TakeRefused → Bool
+take_spills (Ok taken) = taken.spilled
+take_spills (Err e) = false
+
+abbrev pub flush_settles : Result (Unit {0}) FlushRefused → Bool
+flush_settles (Ok done) = true
+flush_settles (Err e) = false

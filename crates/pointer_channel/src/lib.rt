@@ -1,8 +1,10 @@
 //! A channel on a disk that keeps pointers to its events, and no bodies.
 #![tactic(auto)]
 
+mod channel;
 mod logged;
 mod reading;
 mod records;
 
+pub use channel::LogChannel;
 pub use logged::LoggedPlaces;

@@ -1,0 +1,63 @@
+use Rattle.std.proofs.Common.{rules, ◌≡◌, ◌∙◌, ◌⊎◌, length, Err, false, true, ap, arith, refl, sym}
+use Rattle.channel_face.specs.Machine.{State, Flush}
+use Rattle.flume_host.specs.Told.{Tells}
+use Rattle.file_channel.specs.Touches.{Flushed, flushes}
+use Rattle.file_channel.proofs.Standing.{flush_fault}
+use Rattle.pointer_channel.specs.Placed.{IsStateOf}
+use Rattle.pointer_channel.specs.Stands.{ChannelState}
+use Rattle.txn_core.specs.Counted.{tally_of}
+use Rattle.pointer_channel.proofs.Standing.{Did, adds_did, shows_each, standing_on, flush_tally}
+use Rattle.pointer_channel.proofs.channel.LogChannelChannel.flush.Goals as goal
+
+pub returns-clause-step : goal.returns-clause-step
+returns-clause-step g c =
+    let m = c.self.inside in
+    let told = g.D.Disk.told m.logged.0 in
+    let told' = g.D.Disk.told c.flush-result.new.self.0 in
+    let f = g.D.Disk.faults m.logged.0 in
+    let f' = g.D.Disk.faults c.flush-result.new.self.0 in
+    let old : ChannelState = record { logged = m.logged.1; tally = tally_of m.counts; waiting = length m.logged.1.log.bytes } in
+    let new : ChannelState = record { logged = c.flush-result.new.self.1; tally = tally_of c.note.new.counts; waiting = length c.flush-result.new.self.1.log.bytes } in
+    let did : (s : State) → IsStateOf told old.logged s → Did told told' f f' old new (Flush c.flush-result.result) s = λ s is. record {
+      steps = c.flush-result.ensures.step s is;
+      tally = flush_tally m.counts c.note.new.counts c.flush_reply-reply.result c.staged-staged.result.0 c.staged-staged.result.1 s c.flush-result.result c.note.ensures.noted c.flush_reply-reply.ensures.puts c.flush_reply-reply.ensures.takes (c.staged-staged.ensures.puts s is) (c.staged-staged.ensures.takes s is);
+      waits = (c.flush-result.ensures.step s is).waits;
+      up = c.flush-result.ensures.later;
+      cause = λ fault. c.flush-result.ensures.fault (flush_fault c.flush-result.result fault);
+      still = c.flush-result.ensures.well;
+      quiet = λ none. ap g.D.Disk.told (c.flush-result.ensures.quiet none);
+      flushed = c.flush-result.ensures.any_moment s is;
+    } in
+    rw (← c.self.view_is) (adds_did told told' f f' old new (Flush c.flush-result.result) did)
+
+pub invariant_of-self : goal.invariant_of-self
+invariant_of-self g c =
+    let m = c.self.inside in
+    let told = g.D.Disk.told m.logged.0 in
+    let told' = g.D.Disk.told c.flush-result.new.self.0 in
+    let f = g.D.Disk.faults m.logged.0 in
+    let f' = g.D.Disk.faults c.flush-result.new.self.0 in
+    let old : ChannelState = record { logged = m.logged.1; tally = tally_of m.counts; waiting = length m.logged.1.log.bytes } in
+    let new : ChannelState = record { logged = c.flush-result.new.self.1; tally = tally_of c.note.new.counts; waiting = length c.flush-result.new.self.1.log.bytes } in
+    let did : (s : State) → IsStateOf told old.logged s → Did told told' f f' old new (Flush c.flush-result.result) s = λ s is. record {
+      steps = c.flush-result.ensures.step s is;
+      tally = flush_tally m.counts c.note.new.counts c.flush_reply-reply.result c.staged-staged.result.0 c.staged-staged.result.1 s c.flush-result.result c.note.ensures.noted c.flush_reply-reply.ensures.puts c.flush_reply-reply.ensures.takes (c.staged-staged.ensures.puts s is) (c.staged-staged.ensures.takes s is);
+      waits = (c.flush-result.ensures.step s is).waits;
+      up = c.flush-result.ensures.later;
+      cause = λ fault. c.flush-result.ensures.fault (flush_fault c.flush-result.result fault);
+      still = c.flush-result.ensures.well;
+      quiet = λ none. ap g.D.Disk.told (c.flush-result.ensures.quiet none);
+      flushed = c.flush-result.ensures.any_moment s is;
+    } in
+    standing_on told told' f f' old new (Flush c.flush-result.result) _ c.self.invariant (adds_did told told' f f' old new (Flush c.flush-result.result) did)
+
+pub returns-clause-any_moment : goal.returns-clause-any_moment
+returns-clause-any_moment g c =
+    let m = c.self.inside in
+    let told = g.D.Disk.told m.logged.0 in
+    let told' = g.D.Disk.told c.flush-result.new.self.0 in
+    let f = g.D.Disk.faults m.logged.0 in
+    let f' = g.D.Disk.faults c.flush-result.new.self.0 in
+    let old : ChannelState = record { logged = m.logged.1; tally = tally_of m.counts; waiting = length m.logged.1.log.bytes } in
+    let new : ChannelState = record { logged = c.flush-result.new.self.1; tally = tally_of c.note.new.counts; waiting = length c.flush-result.new.self.1.log.bytes } in
+    rw (← c.self.view_is) (shows_each told f old (λ s. flushes (Flush c.flush-result.result) ≡ true → Tells told told' (Flushed s)) c.flush-result.ensures.any_moment)

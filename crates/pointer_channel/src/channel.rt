@@ -1,0 +1,368 @@
+// A channel on a disk that keeps pointers to its events.
+ghost use Rattle.std.specs.Prelude.{◌↔◌, ◌≡◌, ◌≤◌, ◌+◌, Bool, Err, IsSome, IfOk, IfErr, IsErrOf, false, true, if◌then◌else◌};
+ghost use Rattle.flume_host.specs.Causes.{Rose};
+ghost use Rattle.flume_host.specs.Told.{Tells, WhereTold, moment_of};
+ghost use Rattle.event_core.specs.Content.{size};
+ghost use Rattle.channel_face.specs.Calls.{cause_of};
+ghost use Rattle.channel_face.specs.History.{AddsOne, Shows};
+ghost use Rattle.channel_face.specs.Machine as Face;
+ghost use Rattle.channel_face.specs.Machine.{BeginPut, BeginTake, Flush, RollbackPut, RollbackTake, StagePut, StageTake, puts_of, size_of_list, takes_of};
+ghost use Rattle.channel_face.specs.declared.replies.FlushRefused.{FlushRefused};
+ghost use Rattle.channel_face.specs.declared.replies.Counter.TheVariants.{File};
+ghost use Rattle.channel_face.specs.declared.replies.PutRefused.{PutRefused};
+ghost use Rattle.channel_face.specs.declared.replies.TakeRefused.{TakeRefused};
+ghost use Rattle.file_channel.specs.Stands.{is_fault};
+ghost use Rattle.file_channel.specs.Touches.{Flushed, HadNoRoom, HasNoRoom, IsSpentLog, Rests, flushes, room_of};
+ghost use Rattle.pointer_channel.specs.Stands.{IsStanding, StandsOver, flush_settles, put_spills, take_spills};
+
+use crate::logged::LoggedPlaces;
+use channel_face::{
+    BeginRefused, Channel, Counts, FlushRefused, Put, PutRefused, PutTxn, Settled, StageRefused,
+    TakeRefused, TakeTxn, Taken, Ticket,
+};
+use event_core::Event;
+use flume_host::Disk;
+use std::marker::Model;
+use txn_core::{Call, Reply, note};
+
+/// A channel in a folder of a disk that keeps no bodies of events in memory (Flume User Guide, "File Channel"). Each change has
+/// its record in a log file, an event is read there when it is taken, and what a flush settled a stop leaves there.
+#[derive(Drop)]
+pub struct LogChannel<D: Disk + Drop> {
+    logged: LoggedPlaces<D>,
+    counts: Counts,
+}
+
+impl<D: Disk + Drop> Model for LogChannel<D> {
+    ghost use Rattle.std.specs.Prelude.{length};
+    ghost use Rattle.txn_core.specs.Counted.{tally_of};
+    ghost use Rattle.pointer_channel.specs.Stands.{ChannelState, IsStanding};
+
+    // The disk, and what the channel has beside it.
+    ghost Value = { D × ChannelState };
+
+    ghost view = { λ c. (
+      c.logged.0,
+      record {
+        logged = c.logged.1;
+        tally = tally_of c.counts;
+        waiting = length c.logged.1.log.bytes;
+      },
+    ) };
+
+    // It stands for an opening and calls.
+    ghost invariant = { λ c. IsStanding (D.told c.logged.0) (D.faults c.logged.0) (record {
+      logged = c.logged.1;
+      tally = tally_of c.counts;
+      waiting = length c.logged.1.log.bytes;
+    }) };
+}
+
+// What is counted of a call that settled so many events of puts and of takes, if it flushed.
+fn reply_of(done: bool, flushed: bool, staged: (u64, u64)) -> Reply
+    ensures puts { result.settled_puts ≡ (if flushed then staged.0 else 0) }
+    ensures takes { result.settled_takes ≡ (if flushed then staged.1 else 0) }
+{
+    if !flushed {
+        return Reply::quiet(done);
+    }
+    Reply {
+        done,
+        settled_puts: staged.0,
+        settled_takes: staged.1,
+    }
+}
+
+// What is counted of a put.
+fn put_reply(done: &Result<Put, PutRefused>, staged: (u64, u64)) -> Reply
+    ensures puts { result.settled_puts ≡ (if put_spills done.now then staged.0 else 0) }
+    ensures takes { result.settled_takes ≡ (if put_spills done.now then staged.1 else 0) }
+{
+    match done {
+        Ok(put) => reply_of(true, put.spilled, staged),
+        Err(_) => Reply::quiet(false),
+    }
+}
+
+// What is counted of a take.
+fn take_reply(done: &Result<Taken, TakeRefused>, staged: (u64, u64)) -> Reply
+    ensures puts { result.settled_puts ≡ (if take_spills done.now then staged.0 else 0) }
+    ensures takes { result.settled_takes ≡ (if take_spills done.now then staged.1 else 0) }
+{
+    match done {
+        Ok(taken) => reply_of(true, taken.spilled, staged),
+        Err(_) => Reply::quiet(false),
+    }
+}
+
+// What is counted of a flush.
+fn flush_reply(done: &Result<(), FlushRefused>, staged: (u64, u64)) -> Reply
+    ensures puts { result.settled_puts ≡ (if flush_settles done.now then staged.0 else 0) }
+    ensures takes { result.settled_takes ≡ (if flush_settles done.now then staged.1 else 0) }
+{
+    match done {
+        Ok(()) => reply_of(true, true, staged),
+        Err(_) => Reply::quiet(false),
+    }
+}
+
+impl<D: Disk + Drop> LogChannel<D> {
+    /// Between two calls, whatever a crash leaves recovers to just what is settled, unless the channel is broken.
+    pub fn rests(&self)
+        ensures { Shows (StandsOver (D.told self.now.0) (D.faults self.now.0) self.now.1)
+            (Rests (D.told self.now.0)) }
+    {
+        let _ = &self.logged;
+    }
+
+    /// There are an opening and calls for which the channel stands. So what a clause says of each of them is said of some, also
+    /// of a channel that is lent without its history.
+    pub fn stands(&self)
+        ensures { IsStanding (D.told self.now.0) (D.faults self.now.0) self.now.1 }
+    {
+        let _ = &self.logged;
+    }
+
+    /// Hands the disk back. It touches no device. Whatever a stop now leaves recovers to just what is settled, unless the channel was broken.
+    pub fn close(self) -> D
+        ensures disk { result ≡ self.0 }
+        ensures settled { Shows (StandsOver (D.told self.0) (D.faults self.0) self.1)
+            (Rests (D.told result)) }
+    {
+        let LogChannel { logged, counts: _ } = self;
+        logged.close()
+    }
+}
+
+impl<D: Disk + Drop> Channel for LogChannel<D> {
+    ghost use Rattle.flume_host.specs.Told.{moment_of};
+    ghost use Rattle.channel_face.specs.Machine.{is_some_of};
+    ghost use Rattle.pointer_channel.specs.Stands.{StandsOver};
+
+    ghost stands = { λ c. StandsOver (D.told c.0) (D.faults c.0) c.1 };
+
+    ghost tells = { λ c. is_some_of (D.told c.0) };
+
+    ghost moment = { λ c. moment_of (D.told c.0) };
+
+    ghost faults = { λ c. D.faults c.0 };
+
+    /// It touches no device.
+    fn begin_put(&mut self) -> Result<PutTxn, BeginRefused>
+        ensures step { AddsOne (StandsOver (D.told self.old.0) (D.faults self.old.0) self.old.1)
+            (StandsOver (D.told self.new.0) (D.faults self.new.0) self.new.1) (BeginPut result)
+            (moment_of (D.told self.new.0)) }
+        ensures told { D.told self.new.0 ≡ D.told self.old.0 }
+        ensures faults { D.faults self.new.0 ≡ D.faults self.old.0 }
+    {
+        let result = self.logged.begin_put();
+        let reply = Reply::quiet(result.is_ok());
+        note(&mut self.counts, Call::BeginPut, reply);
+        result
+    }
+
+    /// It touches no device.
+    fn begin_take(&mut self) -> Result<TakeTxn, BeginRefused>
+        ensures step { AddsOne (StandsOver (D.told self.old.0) (D.faults self.old.0) self.old.1)
+            (StandsOver (D.told self.new.0) (D.faults self.new.0) self.new.1) (BeginTake result)
+            (moment_of (D.told self.new.0)) }
+        ensures told { D.told self.new.0 ≡ D.told self.old.0 }
+        ensures faults { D.faults self.new.0 ≡ D.faults self.old.0 }
+    {
+        let result = self.logged.begin_take();
+        let reply = Reply::quiet(result.is_ok());
+        note(&mut self.counts, Call::BeginTake, reply);
+        result
+    }
+
+    /// Where the frame has no room for the event's record, it flushes first, with at most two syncs. A stop at any moment of
+    /// the call leaves what is settled, or that with what is staged.
+    fn put(&mut self, txn: &mut PutTxn, event: &Event) -> Result<Put, PutRefused>
+        ensures step { AddsOne (StandsOver (D.told self.old.0) (D.faults self.old.0) self.old.1)
+            (StandsOver (D.told self.new.0) (D.faults self.new.0) self.new.1)
+            (Face.Put txn.old event.now result) (moment_of (D.told self.new.0)) }
+        ensures same { txn.new ≡ txn.old }
+        ensures spent { Shows (StandsOver (D.told self.old.0) (D.faults self.old.0) self.old.1)
+            (λ s. s.broken ≡ false → IsSome (puts_of s txn.old)
+            → WhereTold (D.told self.old.0) (λ t. (result ≡ Err (PutRefused.Spent File))
+            ↔ IsSpentLog t s.rules.limits.max_file)) }
+        ensures quiet { flushes (Face.Put txn.old event.now result) ≡ false
+            → D.told self.new.0 ≡ D.told self.old.0 }
+        ensures any_moment { Shows (StandsOver (D.told self.old.0) (D.faults self.old.0) self.old.1)
+            (λ s. flushes (Face.Put txn.old event.now result) ≡ true
+            → Tells (D.told self.old.0) (D.told self.new.0) (Flushed s)) }
+        ensures room { Shows (StandsOver (D.told self.old.0) (D.faults self.old.0) self.old.1)
+            (λ s. IfOk result (λ done. (done.spilled ≡ true)
+            ↔ HasNoRoom self.old.1.waiting
+            (room_of s (size event.now + 13) (size_of_list (puts_of s txn.old))))) }
+        ensures full { Shows (StandsOver (D.told self.old.0) (D.faults self.old.0) self.old.1)
+            (λ s. IfOk result (λ done. done.spilled ≡ true
+            → Tells (D.told self.old.0) (D.told self.new.0)
+            (HadNoRoom (room_of s (size event.now + 13) (size_of_list (puts_of s txn.old)))))) }
+        ensures later { D.faults self.old.0 ≤ D.faults self.new.0 }
+        ensures well { is_fault (Face.Put txn.old event.now result) ≡ false
+            → D.faults self.new.0 ≡ D.faults self.old.0 }
+        ensures fault { IsErrOf result PutRefused.DiskFault
+            → Rose (D.faults self.old.0) (D.faults self.new.0) }
+        ensures no_room { Shows (StandsOver (D.told self.old.0) (D.faults self.old.0) self.old.1)
+            (λ s. IsErrOf result PutRefused.DiskFault
+            → HasNoRoom self.old.1.waiting
+            (room_of s (size event.now + 13) (size_of_list (puts_of s txn.old)))) }
+    {
+        let staged = self.logged.staged();
+        let result = self.logged.put(txn, event);
+        let reply = put_reply(&result, staged);
+        note(&mut self.counts, Call::Put, reply);
+        result
+    }
+
+    /// Where the frame has no room for the record, it flushes first, as a put does.
+    fn take(&mut self, txn: &mut TakeTxn) -> Result<Taken, TakeRefused>
+        ensures step { AddsOne (StandsOver (D.told self.old.0) (D.faults self.old.0) self.old.1)
+            (StandsOver (D.told self.new.0) (D.faults self.new.0) self.new.1)
+            (Face.Take txn.old result) (moment_of (D.told self.new.0)) }
+        ensures same { txn.new ≡ txn.old }
+        ensures spent { Shows (StandsOver (D.told self.old.0) (D.faults self.old.0) self.old.1)
+            (λ s. s.broken ≡ false → IsSome (takes_of s txn.old)
+            → WhereTold (D.told self.old.0) (λ t. (result ≡ Err (TakeRefused.Spent File))
+            ↔ IsSpentLog t s.rules.limits.max_file)) }
+        ensures quiet { flushes (Face.Take txn.old result) ≡ false
+            → D.told self.new.0 ≡ D.told self.old.0 }
+        ensures any_moment { Shows (StandsOver (D.told self.old.0) (D.faults self.old.0) self.old.1)
+            (λ s. flushes (Face.Take txn.old result) ≡ true
+            → Tells (D.told self.old.0) (D.told self.new.0) (Flushed s)) }
+        ensures room { Shows (StandsOver (D.told self.old.0) (D.faults self.old.0) self.old.1)
+            (λ s. IfOk result (λ taken. (taken.spilled ≡ true) ↔ IsSome taken.event
+            × HasNoRoom self.old.1.waiting (room_of s 17 (size_of_list (takes_of s txn.old))))) }
+        ensures full { Shows (StandsOver (D.told self.old.0) (D.faults self.old.0) self.old.1)
+            (λ s. IfOk result (λ taken. taken.spilled ≡ true
+            → Tells (D.told self.old.0) (D.told self.new.0)
+            (HadNoRoom (room_of s 17 (size_of_list (takes_of s txn.old)))))) }
+        ensures later { D.faults self.old.0 ≤ D.faults self.new.0 }
+        ensures well { is_fault (Face.Take txn.old result) ≡ false
+            → D.faults self.new.0 ≡ D.faults self.old.0 }
+        ensures read { IsErrOf result TakeRefused.ReadFault
+            → Rose (D.faults self.old.0) (D.faults self.new.0) }
+        ensures fault { IsErrOf result TakeRefused.DiskFault
+            → Rose (D.faults self.old.0) (D.faults self.new.0) }
+        ensures no_room { Shows (StandsOver (D.told self.old.0) (D.faults self.old.0) self.old.1)
+            (λ s. IsErrOf result TakeRefused.DiskFault
+            → HasNoRoom self.old.1.waiting (room_of s 17 (size_of_list (takes_of s txn.old)))) }
+    {
+        let staged = self.logged.staged();
+        let result = self.logged.take(txn);
+        let reply = take_reply(&result, staged);
+        note(&mut self.counts, Call::Take, reply);
+        result
+    }
+
+    /// It touches no device.
+    fn stage_put(&mut self, txn: PutTxn) -> Result<Ticket, StageRefused<PutTxn>>
+        ensures step { AddsOne (StandsOver (D.told self.old.0) (D.faults self.old.0) self.old.1)
+            (StandsOver (D.told self.new.0) (D.faults self.new.0) self.new.1)
+            (StagePut txn (cause_of result)) (moment_of (D.told self.new.0)) }
+        ensures back { IfErr result (λ refused. refused.txn ≡ txn) }
+        ensures told { D.told self.new.0 ≡ D.told self.old.0 }
+        ensures faults { D.faults self.new.0 ≡ D.faults self.old.0 }
+    {
+        let result = self.logged.stage_put(txn);
+        let reply = Reply::quiet(result.is_ok());
+        note(&mut self.counts, Call::StagePut, reply);
+        result
+    }
+
+    /// It touches no device.
+    fn stage_take(&mut self, txn: TakeTxn) -> Result<Ticket, StageRefused<TakeTxn>>
+        ensures step { AddsOne (StandsOver (D.told self.old.0) (D.faults self.old.0) self.old.1)
+            (StandsOver (D.told self.new.0) (D.faults self.new.0) self.new.1)
+            (StageTake txn (cause_of result)) (moment_of (D.told self.new.0)) }
+        ensures back { IfErr result (λ refused. refused.txn ≡ txn) }
+        ensures told { D.told self.new.0 ≡ D.told self.old.0 }
+        ensures faults { D.faults self.new.0 ≡ D.faults self.old.0 }
+    {
+        let result = self.logged.stage_take(txn);
+        let reply = Reply::quiet(result.is_ok());
+        note(&mut self.counts, Call::StageTake, reply);
+        result
+    }
+
+    /// At most two syncs. A stop at any moment of the call leaves what is settled, or that with what is staged. A broken
+    /// channel's flush touches no device.
+    fn flush(&mut self) -> Result<(), FlushRefused>
+        ensures step { AddsOne (StandsOver (D.told self.old.0) (D.faults self.old.0) self.old.1)
+            (StandsOver (D.told self.new.0) (D.faults self.new.0) self.new.1) (Flush result)
+            (moment_of (D.told self.new.0)) }
+        ensures nothing { self.old.1.waiting ≡ 0 → (D.told self.new.0 ≡ D.told self.old.0)
+            × (D.faults self.new.0 ≡ D.faults self.old.0) }
+        ensures quiet { flushes (Flush result) ≡ false → D.told self.new.0 ≡ D.told self.old.0 }
+        ensures any_moment { Shows (StandsOver (D.told self.old.0) (D.faults self.old.0) self.old.1)
+            (λ s. flushes (Flush result) ≡ true
+            → Tells (D.told self.old.0) (D.told self.new.0) (Flushed s)) }
+        ensures later { D.faults self.old.0 ≤ D.faults self.new.0 }
+        ensures well { is_fault (Flush result) ≡ false → D.faults self.new.0 ≡ D.faults self.old.0 }
+        ensures fault { IsErrOf result FlushRefused.DiskFault
+            → Rose (D.faults self.old.0) (D.faults self.new.0) }
+    {
+        let staged = self.logged.staged();
+        let result = self.logged.flush();
+        let reply = flush_reply(&result, staged);
+        note(&mut self.counts, Call::Flush, reply);
+        result
+    }
+
+    /// It touches no device.
+    fn rollback_put(&mut self, txn: PutTxn) -> bool
+        ensures step { AddsOne (StandsOver (D.told self.old.0) (D.faults self.old.0) self.old.1)
+            (StandsOver (D.told self.new.0) (D.faults self.new.0) self.new.1)
+            (RollbackPut txn result) (moment_of (D.told self.new.0)) }
+        ensures told { D.told self.new.0 ≡ D.told self.old.0 }
+        ensures faults { D.faults self.new.0 ≡ D.faults self.old.0 }
+    {
+        let ended = self.logged.rollback_put(txn);
+        let reply = Reply::quiet(ended);
+        note(&mut self.counts, Call::RollbackPut, reply);
+        ended
+    }
+
+    /// It touches no device.
+    fn rollback_take(&mut self, txn: TakeTxn) -> bool
+        ensures step { AddsOne (StandsOver (D.told self.old.0) (D.faults self.old.0) self.old.1)
+            (StandsOver (D.told self.new.0) (D.faults self.new.0) self.new.1)
+            (RollbackTake txn result) (moment_of (D.told self.new.0)) }
+        ensures told { D.told self.new.0 ≡ D.told self.old.0 }
+        ensures faults { D.faults self.new.0 ≡ D.faults self.old.0 }
+    {
+        let ended = self.logged.rollback_take(txn);
+        let reply = Reply::quiet(ended);
+        note(&mut self.counts, Call::RollbackTake, reply);
+        ended
+    }
+
+    fn settled(&self, ticket: &Ticket) -> Settled {
+        self.logged.settled(ticket)
+    }
+
+    fn size(&self) -> u64 {
+        self.logged.size()
+    }
+
+    fn capacity(&self) -> u64 {
+        self.logged.capacity()
+    }
+
+    fn counts(&self) -> Counts {
+        Counts {
+            size: self.logged.size(),
+            capacity: self.logged.capacity(),
+            ..self.counts
+        }
+    }
+
+    fn is_broken(&self) -> bool {
+        self.logged.is_broken()
+    }
+
+    ghost is_run = { λ c start h stands. stands.over.run };
+
+    ghost tells_as_opened = { λ c start h stands. stands.over.tells };
+}
