@@ -1,25 +1,23 @@
 -- What is put, taken and settled fits places and log to the state after it.
-use Rattle.std.proofs.Common.{◌⊎◌, inl, inr, ◌≡◌, ◌<◌, ◌≤◌, ◌+◌, ◌++◌, ◌∷◌, [], ℕ, List, length, Option, Some, None, Ok, Err, Result, Bool, true, false, refl, sym, ◌∙◌, ap, subst, arith}
+use Rattle.std.proofs.Common.{◌⊎◌, inl, inr, ◌≡◌, ◌≤◌, ◌+◌, ◌++◌, ◌∷◌, [], ℕ, List, length, Option, Some, None, true, false, sym, ◌∙◌, subst, arith}
 use Rattle.flume_host.specs.Told.{Changes, LeavesOnly, Tells, Told}
 use Rattle.flume_host.specs.declared.names.FileName.TheVariants.{Log}
 use Rattle.flume_host.proofs.Telling.{back}
 use Rattle.event_core.specs.Content.{Content, size}
-use Rattle.event_core.specs.declared.journal.Entry.TheVariants.{Puts, Takes}
 use Rattle.record_form.specs.declared.record.Pointer.{Pointer}
 use Rattle.record_form.specs.declared.record.Rec.{Rec}
 use Rattle.record_form.specs.declared.record.Rec.TheVariants.{Put, Take}
 use Rattle.channel_log.specs.Writer.{Appends, IsPending, IsReady, LacksOrHas, Writer}
 use Rattle.channel_face.specs.Token.{Token}
 use Rattle.channel_face.specs.Machine.{State, add_put, add_take, broken_state, free, puts_of, settle, takes_of}
-use Rattle.channel_places.specs.Looks.{Known, Looks, Places}
+use Rattle.channel_places.specs.Looks.{Known, Looks}
 use Rattle.file_channel.specs.Touches.{Flushed, WritesLast}
-use Rattle.file_channel.specs.Whole.{IsWhole}
 use Rattle.file_channel.specs.Written.{IsLogged, MayRecover, Waits}
 use Rattle.file_channel.proofs.Flushing.{ready_frames}
 use Rattle.file_channel.proofs.Freeing.{take_in}
 use Rattle.file_channel.proofs.Putting.{put_in}
 use Rattle.file_channel.proofs.Whole.{failed_whole, rests_over}
-use Rattle.pointer_channel.specs.Placed.{ArePlaced, Fits, IsStateOf, Logged}
+use Rattle.pointer_channel.specs.Placed.{Fits, IsStateOf, Logged}
 use Rattle.pointer_channel.proofs.Placing.{Grows, frame_grows, next_place, placed_appends, placed_grows, placed_put, same_grows}
 
 -- a put

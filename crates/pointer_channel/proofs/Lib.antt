@@ -2,4 +2,5 @@ pub mod Placing
 pub mod Stepping
 pub mod Adding
 pub mod Calls
+pub mod Replaying
 pub mod Standing

@@ -1,19 +1,18 @@
 -- Events stand at their pointers, whatever is appended, flushed or read.
-use Rattle.std.proofs.Common.{◌⊎◌, inl, inr, ◌≡◌, ◌≢◌, ◌<◌, ◌≤◌, ◌+◌, ◌-◌, ◌^◌, ◌++◌, ◌∷◌, [], ℕ, List, length, length-append, take, Option, Some, None, Result, Ok, Err, Bool, true, false, ◌==◌, refl, sym, ◌∙◌, ap, subst, append_assoc, arith}
+use Rattle.std.proofs.Common.{◌⊎◌, inl, inr, ◌≡◌, ◌≢◌, ◌+◌, ◌-◌, ◌^◌, ◌++◌, ◌∷◌, [], ℕ, List, length, length-append, take, Option, Some, None, Result, Ok, Err, true, false, ◌==◌, refl, sym, ◌∙◌, ap, subst, append_assoc, arith}
 use Rattle.std.specs.Prelude.{IsSome, IsErrOf}
 use Rattle.std.proofs.lemmas.Bool.Decides.{eqb_tells}
 use Rattle.std.proofs.lemmas.List.{append-nil, length-take, take_at}
 use Rattle.flume_host.specs.Told.{Changes, Told, WhereTold}
 use Rattle.flume_host.specs.declared.names.FileName.TheVariants.{Log}
-use Rattle.flume_host.proofs.Telling.{some_same}
 use Rattle.event_core.specs.Content.{Content, size}
 use Rattle.record_form.specs.declared.record.Pointer.{Pointer}
 use Rattle.record_form.specs.declared.record.Rec.{Rec}
 use Rattle.record_form.specs.declared.record.Rec.TheVariants.{End, Put}
 use Rattle.record_form.specs.Record.{spelling}
-use Rattle.channel_log.specs.Frames.{frame_bytes, header, opened, record_bytes}
+use Rattle.channel_log.specs.Frames.{frame_bytes, opened, record_bytes}
 use Rattle.channel_log.specs.Window.{IsBelow, IsPieceOf}
-use Rattle.channel_log.specs.Writer.{Appends, IsAtRest, IsPending, LacksOrHas, Writer, file_of}
+use Rattle.channel_log.specs.Writer.{Appends, IsAtRest, IsPending, LacksOrHas, Writer}
 use Rattle.channel_log.specs.Pointers.{FoundAt, IsOfLength, IsWaiting, PutAt, end_of, in_frame, settled_part}
 use Rattle.channel_log.specs.declared.pointers.ReadRefused.{ReadRefused}
 use Rattle.channel_log.specs.declared.pointers.ReadRefused.TheVariants.{Damaged, NoMemory, ReadFault}
@@ -50,16 +49,19 @@ pub place_is : (w : Writer) (file at long n : ℕ) → file ≡ w.file → at �
 place_is w file at long n file_is at_is long_is = rw (file_is, at_is, long_is) refl
 
 waits_there : (t : Told) (w w' : Writer) (txn : ℕ) (event : Content) → Appends w w' (Put txn event) → IsThere t w' (next_place w (size event)) event
-waits_there t w w' txn event adds = subst (λ (v : Writer). IsThere t v (next_place w (size event)) event) (sym adds.is) (inr ((refl, omega arith), record {
-  txn = txn;
-  before = w.bytes;
-  behind = [];
-  split = ap (λ (l : List ℕ). w.bytes ++ l) (sym (append-nil (spelling (Put txn event))));
-  place = omega arith;
-  long = refl;
-  fields = adds.framed.fields;
-  limits = adds.framed.limits;
-}))
+waits_there t w w' txn event adds = subst (λ (v : Writer). IsThere t v (next_place w (size event)) event) (sym adds.is) (inr (
+  (refl, omega arith),
+  record {
+    txn = txn;
+    before = w.bytes;
+    behind = [];
+    split = ap (λ (l : List ℕ). w.bytes ++ l) (sym (append-nil (spelling (Put txn event))));
+    place = omega arith;
+    long = refl;
+    fields = adds.framed.fields;
+    limits = adds.framed.limits;
+  },
+))
 
 -- the PUT of an event more
 pub placed_put : (told : Option Told) (w w' : Writer) (txn : ℕ) (event : Content) (p : Pointer) (known : Known) → Appends w w' (Put txn event) → p ≡ next_place w (size event) → ArePlaced told w known → ArePlaced told w' ((p, event) ∷ known)

@@ -19,7 +19,7 @@ use Rattle.txn_core.specs.Noted.{noted, one_for_put, one_for_take, quiet}
 use Rattle.txn_core.specs.declared.calls.Call.{Call as Noting}
 use Rattle.txn_core.specs.declared.calls.Call.TheVariants as notes
 use Rattle.txn_core.specs.declared.calls.Reply.{Reply}
-use Rattle.channel_face.specs.History.{AddsOne, Moves, Opening, Shows, Step, opening, settled_by, state_after}
+use Rattle.channel_face.specs.History.{AddsOne, Moves, Shows, Step, opening, settled_by, state_after}
 use Rattle.channel_face.specs.Machine.{State, Call, Flush as FlushCall, Put as PutCall, Take as TakeCall, after, is_some_of}
 use Rattle.channel_face.proofs.Adding.{state-push}
 use Rattle.file_channel.specs.Stands as files

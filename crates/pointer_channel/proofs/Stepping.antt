@@ -1,26 +1,24 @@
 -- Calls that begin, stage or give up a transaction, as steps of the machine.
-use Rattle.std.proofs.Common.{◌⊎◌, inl, inr, ◌≡◌, ◌<◌, ◌≤◌, ◌+◌, ◌==◌, [], ℕ, List, length, Option, Some, None, Ok, Err, Result, Bool, true, false, cond, refl, sym, ◌∙◌, ap, subst, arith}
+use Rattle.std.proofs.Common.{◌≡◌, ◌<◌, ◌+◌, [], ℕ, List, length, Option, Some, None, Ok, Err, Result, Bool, true, false, refl, ◌∙◌, ap, arith}
 use Rattle.flume_host.specs.Told.{Told}
-use Rattle.event_core.specs.Content.{Content}
 use Rattle.event_core.specs.declared.journal.Entry.{Entry}
 use Rattle.event_core.specs.declared.journal.Entry.TheVariants.{Puts, Takes}
 use Rattle.record_form.specs.declared.record.Rec.{Rec}
-use Rattle.channel_log.specs.Writer.{Appends, Writer}
+use Rattle.channel_log.specs.Writer.{Appends}
 use Rattle.channel_face.specs.Token.{Token}
 use Rattle.channel_face.specs.History.{Moves}
-use Rattle.channel_face.specs.Machine.{State, Call, BeginPut, BeginTake, RollbackPut, RollbackTake, StagePut, StageTake, Admits, after, after_begin, close, entry_of, is_some_of, next_number, puts_of, size_of_list, stage, stage_put_refusal, stage_take_refusal, takes_of, ticket}
+use Rattle.channel_face.specs.Machine.{State, BeginPut, BeginTake, RollbackPut, RollbackTake, StagePut, StageTake, after, after_begin, close, is_some_of, next_number, puts_of, size_of_list, stage, stage_put_refusal, stage_take_refusal, takes_of, ticket}
 use Rattle.channel_face.specs.declared.replies.BeginRefused.{BeginRefused}
 use Rattle.channel_face.specs.declared.replies.StageCause.{StageCause}
 use Rattle.channel_face.specs.declared.replies.Ticket.{Ticket}
 use Rattle.channel_places.specs.Looks as looks
 use Rattle.channel_places.specs.Looks.{Known, Looks, Numbers, Places}
-use Rattle.channel_replay.specs.StartLaws.{done_of}
 use Rattle.file_channel.specs.Waiting.{rollback_length}
 use Rattle.file_channel.specs.Whole.{IsWhole}
 use Rattle.file_channel.specs.Written.{IsLogged}
 use Rattle.file_channel.proofs.Rooms.{none, positive, rolled_none, rolled_some, staged_none, staged_some}
-use Rattle.file_channel.proofs.Whole.{DidPut, DidTake, StagedPuts, StagedTakes, begun_whole, did_put, did_take, put_was_done, rollback_put_broken, rollback_put_idle, rollback_put_whole, rollback_take_broken, rollback_take_idle, rollback_take_whole, sound_then, stage_puts_idle, stage_takes_idle, stage_whole, staged_puts, staged_takes, take_was_done}
-use Rattle.pointer_channel.specs.Placed.{ArePlaced, IsStateOf, Logged}
+use Rattle.file_channel.proofs.Whole.{StagedPuts, StagedTakes, begun_whole, did_put, did_take, rollback_put_broken, rollback_put_idle, rollback_put_whole, rollback_take_broken, rollback_take_idle, rollback_take_whole, sound_then, stage_puts_idle, stage_takes_idle, stage_whole, staged_puts, staged_takes}
+use Rattle.pointer_channel.specs.Placed.{IsStateOf, Logged}
 use Rattle.pointer_channel.specs.Stepped.{Steps}
 use Rattle.pointer_channel.proofs.Placing.{placed_appends}
 

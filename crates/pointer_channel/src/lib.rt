@@ -3,8 +3,10 @@
 
 mod channel;
 mod logged;
+mod opening;
 mod reading;
 mod records;
 
 pub use channel::LogChannel;
 pub use logged::LoggedPlaces;
+pub use opening::held_of;

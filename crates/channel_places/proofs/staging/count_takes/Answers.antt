@@ -1,4 +1,4 @@
-use Rattle.std.proofs.Common.{◌≡◌, ◌+◌, ◌++◌, [], ℕ, List, ap, arith, drop, length, length-append, map}
+use Rattle.std.proofs.Common.{◌≡◌, ◌+◌, ◌++◌, ℕ, List, ap, arith, drop, length, length-append, map}
 use Rattle.std.proofs.lemmas.List.{drop_all}
 use Rattle.open_table.specs.Tables.{Listed, listed_of, takes_of}
 use Rattle.open_table.specs.declared.opened.Ended.{Ended}

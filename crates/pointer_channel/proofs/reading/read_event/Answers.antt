@@ -1,4 +1,3 @@
-use Rattle.std.proofs.Common.{◌≡◌, ap, refl}
 use Rattle.pointer_channel.proofs.Placing.{file_there, placed_reads, reads_as}
 use Rattle.pointer_channel.proofs.reading.read_event.Goals as goal
 

@@ -1,10 +1,10 @@
-use Rattle.std.proofs.Common.{◌≡◌, ◌∙◌, ℕ, List, [], ◌∷◌, ◌++◌, Option, Some, ap, subst, sym, refl, false}
+use Rattle.std.proofs.Common.{◌≡◌, ◌∙◌, ℕ, [], ◌∷◌, ◌++◌, Option, Some, ap, subst, sym, false}
 use Rattle.flume_host.specs.Told.{Told}
-use Rattle.event_core.specs.Content.{Content, size}
+use Rattle.event_core.specs.Content.{size}
 use Rattle.event_core.specs.declared.journal.Entry.TheVariants.{Puts}
 use Rattle.record_form.specs.declared.record.Pointer.{Pointer}
 use Rattle.record_form.specs.declared.record.Rec.TheVariants.{Put}
-use Rattle.channel_face.specs.Machine.{State, entry_of, with_entry}
+use Rattle.channel_face.specs.Machine.{entry_of, with_entry}
 use Rattle.channel_face.proofs.Opened.{puts_of-some}
 use Rattle.channel_log.specs.Writer.{Appends}
 use Rattle.file_channel.specs.Written.{IsLogged}

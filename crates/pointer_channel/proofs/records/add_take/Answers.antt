@@ -1,8 +1,8 @@
-use Rattle.std.proofs.Common.{◌≡◌, ◌∙◌, ◌∷◌, ◌++◌, [], ℕ, List, Option, Some, ap, subst, sym, refl, false}
+use Rattle.std.proofs.Common.{◌≡◌, ◌∙◌, ◌∷◌, ◌++◌, [], ℕ, Option, Some, ap, subst, sym, false}
 use Rattle.flume_host.specs.Told.{Told}
 use Rattle.event_core.specs.declared.journal.Entry.TheVariants.{Takes}
 use Rattle.record_form.specs.declared.record.Rec.TheVariants.{Take}
-use Rattle.channel_face.specs.Machine.{State, entry_of, with_entry}
+use Rattle.channel_face.specs.Machine.{entry_of, with_entry}
 use Rattle.channel_face.proofs.Opened.{takes_of-some}
 use Rattle.channel_log.specs.Writer.{Appends}
 use Rattle.file_channel.specs.Written.{IsLogged}

@@ -1,4 +1,3 @@
-use Rattle.std.proofs.Common.{◌≡◌, ◌∙◌, ◌≤◌, ap, subst, sym, refl}
 use Rattle.file_channel.proofs.Whole.{staged_below}
 use Rattle.pointer_channel.specs.Placed.{Logged}
 use Rattle.pointer_channel.proofs.Adding.{failed_state, flush_grows, flushed_both, settle_fits}

@@ -1,6 +1,5 @@
-use Rattle.std.proofs.Common.{rules, ◌≡◌, ◌∙◌, ◌≤◌, ◌+◌, ◌==◌, ◌∷◌, [], ℕ, List, length, Option, Ok, Some, false, true, ap, arith, subst, sym}
+use Rattle.std.proofs.Common.{rules, ◌≡◌, ◌∙◌, ◌≤◌, ◌+◌, ◌==◌, ℕ, List, length, Option, false, true, ap, arith, subst, sym}
 use Rattle.flume_host.specs.Told.{Tells, Told}
-use Rattle.event_core.specs.Content.{Content}
 use Rattle.channel_log.specs.Writer.{HasRoom}
 use Rattle.channel_face.specs.Machine.{State, settle, size_of_list, takes_of}
 use Rattle.file_channel.specs.Touches.{Flushed, HadNoRoom, room_of}
@@ -9,7 +8,7 @@ use Rattle.file_channel.proofs.Freeing.{free_after, take_in, take_room}
 use Rattle.file_channel.proofs.Putting.{busy_few}
 use Rattle.file_channel.proofs.Whole.{had_no_room}
 use Rattle.pointer_channel.specs.Placed.{Fits, Logged}
-use Rattle.pointer_channel.proofs.Calls.{MayBeTaken, may_be_taken, room_is, state_fits, take_faults, take_steps}
+use Rattle.pointer_channel.proofs.Calls.{MayBeTaken, may_be_taken, room_is, state_fits, take_steps}
 use Rattle.pointer_channel.proofs.records.take_read.Goals as goal
 
 pub has_room-requires : goal.has_room-requires

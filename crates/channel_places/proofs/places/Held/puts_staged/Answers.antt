@@ -1,4 +1,4 @@
-use Rattle.std.proofs.Common.{◌≡◌, ◌∙◌, ap, subst, sym}
+use Rattle.std.proofs.Common.{◌∙◌, subst, sym}
 use Rattle.channel_places.specs.Looks.{Looks, Places}
 use Rattle.channel_places.specs.View.{places_of}
 use Rattle.channel_places.proofs.Looking.{staged_length}

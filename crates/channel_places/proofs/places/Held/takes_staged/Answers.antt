@@ -1,4 +1,4 @@
-use Rattle.std.proofs.Common.{◌≡◌, ◌∙◌, ℕ, List, ap, length, map, subst, sym}
+use Rattle.std.proofs.Common.{◌∙◌, ℕ, List, ap, length, map, subst, sym}
 use Rattle.channel_face.specs.Counters.{capped}
 use Rattle.open_table.specs.Tables.{listed_of}
 use Rattle.open_table.specs.declared.opened.Ended.{Ended}

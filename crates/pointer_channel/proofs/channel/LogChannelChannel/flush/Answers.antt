@@ -1,4 +1,4 @@
-use Rattle.std.proofs.Common.{rules, ◌≡◌, ◌∙◌, ◌⊎◌, length, Err, false, true, ap, arith, refl, sym}
+use Rattle.std.proofs.Common.{◌≡◌, length, true, ap}
 use Rattle.channel_face.specs.Machine.{State, Flush}
 use Rattle.flume_host.specs.Told.{Tells}
 use Rattle.file_channel.specs.Touches.{Flushed, flushes}

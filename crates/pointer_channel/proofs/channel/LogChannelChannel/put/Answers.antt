@@ -1,4 +1,4 @@
-use Rattle.std.proofs.Common.{rules, ◌≡◌, ◌∙◌, ◌⊎◌, length, Err, false, true, ap, arith, refl, sym}
+use Rattle.std.proofs.Common.{◌≡◌, length, Err, false, true}
 use Rattle.channel_face.specs.Machine.{State, Put, puts_of, size_of_list}
 use Rattle.std.specs.Prelude.{◌↔◌, ◌+◌, IfOk, IsErrOf, IsSome}
 use Rattle.flume_host.specs.Told.{Tells, WhereTold}

@@ -1,4 +1,4 @@
-use Rattle.std.proofs.Common.{rules, ◌≡◌, ◌∙◌, ◌⊎◌, length, Err, false, true, ap, arith, refl, sym}
+use Rattle.std.proofs.Common.{length, ap, refl}
 use Rattle.channel_face.specs.Machine.{State, RollbackTake}
 use Rattle.txn_core.specs.declared.calls.Call.TheVariants as notes
 use Rattle.pointer_channel.specs.Placed.{IsStateOf}

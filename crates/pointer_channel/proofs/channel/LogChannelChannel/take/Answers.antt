@@ -1,4 +1,4 @@
-use Rattle.std.proofs.Common.{rules, ◌≡◌, ◌∙◌, ◌⊎◌, length, Err, false, true, ap, arith, refl, sym}
+use Rattle.std.proofs.Common.{◌≡◌, length, Err, false, true}
 use Rattle.channel_face.specs.Machine.{State, Take, size_of_list, takes_of}
 use Rattle.std.proofs.Common.{inl, inr}
 use Rattle.std.specs.Prelude.{◌↔◌, IfOk, IsErrOf, IsSome}

@@ -1,4 +1,3 @@
-use Rattle.std.proofs.Common.{sym, subst}
 use Rattle.channel_face.specs.Machine.{BeginTake, after}
 use Rattle.pointer_channel.specs.Placed.{Logged}
 use Rattle.pointer_channel.proofs.Stepping.{begun_take}

@@ -1,4 +1,4 @@
-use Rattle.std.proofs.Common.{rules, ◌≡◌, ◌∙◌, ◌≤◌, ◌+◌, ◌==◌, [], ℕ, List, length, Option, Err, Ok, Some, None, false, true, ap, arith, refl, subst, sym}
+use Rattle.std.proofs.Common.{rules, ◌≡◌, ◌∙◌, ◌≤◌, ◌+◌, ◌==◌, ℕ, List, length, Option, Err, Ok, Some, None, false, true, ap, arith, subst, sym}
 use Rattle.std.specs.Prelude.{◌↔◌}
 use Rattle.flume_host.specs.Told.{Tells, Told}
 use Rattle.event_core.specs.Content.{Content, size}

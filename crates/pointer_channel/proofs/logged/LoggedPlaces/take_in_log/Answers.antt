@@ -1,4 +1,4 @@
-use Rattle.std.proofs.Common.{◌≡◌, ◌∙◌, ◌∷◌, ℕ, List, length, Option, Err, None, Some, true, ap, subst, sym}
+use Rattle.std.proofs.Common.{◌≡◌, ◌∙◌, ℕ, List, length, Option, Err, None, Some, true, ap, subst, sym}
 use Rattle.std.specs.Prelude.{◌↔◌, IfOk, IsErrOf, IsSome}
 use Rattle.flume_host.specs.Told.{Tells, Told}
 use Rattle.record_form.specs.declared.record.Pointer.{Pointer}
