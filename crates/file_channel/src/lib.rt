@@ -15,4 +15,5 @@ pub use laws::{
     a_staged_take_is_mirrored, a_take_is_mirrored, an_end_is_mirrored, frames_recover,
     starts_leave_the_same,
 };
+pub use open::{first_check, last_log, of_replay};
 pub use writing::Writing;

@@ -32,8 +32,8 @@ const LAST_FILE: u32 = u32::MAX;
 /// The birth of a log file that an opening begins.
 const BEGUN: u16 = 1;
 
-// The least number of a checkpoint, if there is one.
-fn first_check<D: Disk>(disk: &mut D) -> Result<Option<u32>, Failed>
+/// The least number of a checkpoint, if there is one.
+pub fn first_check<D: Disk>(disk: &mut D) -> Result<Option<u32>, Failed>
     ensures some { IfOk result
         (λ check. IfSome check
         (λ number. WhereTold (D.told disk.old) (λ t. IsFirstCheck t.reads number))) }
@@ -60,8 +60,8 @@ fn log_name(number: Option<u32>) -> Option<FileName>
     }
 }
 
-// The greatest number of a log file, if there is one.
-fn last_log<D: Disk>(disk: &mut D) -> Result<Option<u32>, Failed>
+/// The greatest number of a log file, if there is one.
+pub fn last_log<D: Disk>(disk: &mut D) -> Result<Option<u32>, Failed>
     ensures last { IfOk result (λ last. WhereTold (D.told disk.old) (λ t. IsLastLog t.reads last)) }
     ensures same { D.told disk.new ≡ D.told disk.old }
     ensures cause { HasCause (D.faults disk.old) (D.faults disk.new) result }
@@ -77,8 +77,8 @@ fn last_log<D: Disk>(disk: &mut D) -> Result<Option<u32>, Failed>
     }
 }
 
-// The refusal of a folder that was not replayed.
-fn of_replay(refused: ReplayRefused) -> OpenCause
+/// The refusal of a folder that was not replayed.
+pub fn of_replay(refused: ReplayRefused) -> OpenCause
     ensures { result ≡ as_cause refused }
 {
     match refused {

@@ -4,3 +4,4 @@ pub mod Adding
 pub mod Calls
 pub mod Replaying
 pub mod Standing
+pub mod Measuring

@@ -1,5 +1,5 @@
 -- What a replay left stands at the PUTs of the lines that were replayed.
-use Rattle.std.proofs.Common.{◌⊎◌, inl, inr, ◌≡◌, ◌+◌, ◌++◌, ◌∷◌, [], ℕ, List, length, length-append, ◌==◌, Option, Some, None, Result, Ok, Err, Bool, true, false, cond, refl, sym, ◌∙◌, ap, subst, append_assoc, arith}
+use Rattle.std.proofs.Common.{◌⊎◌, inl, inr, ◌≡◌, ◌+◌, ◌^◌, ◌++◌, ◌∷◌, [], ℕ, List, length, length-append, ◌==◌, Option, Some, None, Result, Ok, Err, Bool, true, false, cond, refl, sym, ◌∙◌, ap, subst, append_assoc, arith}
 use Rattle.std.specs.Prelude.{IfOk, IsSomeAnd}
 use Rattle.std.specs.List.{AllByRecursion}
 use Rattle.flume_host.specs.Folder.{Files}
@@ -21,8 +21,11 @@ use Rattle.channel_log.specs.Reader.{frame_items, record_items}
 use Rattle.channel_face.proofs.Numbers.{Rising, base_rising, rising_base}
 use Rattle.channel_replay.specs.declared.line.Line.{Line}
 use Rattle.channel_replay.specs.declared.line.Line.TheVariants.{Begins, Faulty, Stands}
-use Rattle.channel_replay.specs.Recover.{AreLogs, LogFile, fault_lines, file_lines, lines, record_lines}
-use Rattle.ring_replay.specs.Folder.{puts_of}
+use Rattle.channel_replay.specs.Recover.{AreLogs, LogFile, Recovers, StandsFor, fault_lines, file_lines, lines, record_lines}
+use Rattle.channel_places.proofs.Looking.{left_length}
+use Rattle.channel_replay.proofs.OneList.{one_list}
+use Rattle.ring_replay.specs.Folder.{AreReplayed, puts_of}
+use Rattle.ring_replay.specs.declared.folder.Replayed.{Replayed}
 use Rattle.ring_replay.specs.Indexing.{HasItems, IsPlaced, Places, place_of}
 
 -- a record that stands at its place is known there
@@ -235,3 +238,10 @@ logs_stand files from to (log ∷ logs) p event are is = either (in_lines (file_
 pub ok_maps : {T E : Type 0} (r : Result T E) (P Q : T → Type 0) → ((x : T) → P x → Q x) → IfOk r P → IfOk r Q
 ok_maps (Ok x) P Q maps is = maps x is
 ok_maps (Err e) P Q maps is = tt
+
+-- a folder recovers to what a replay of its log files left
+pub replay_recovers : (files : Files) (logs : List LogFile) (r : Replayed) (is : AreReplayed logs r) → AreLogs files 0 (2 ^ 32) logs → Recovers files is.left r.next.txn
+replay_recovers files logs r is are others are_too = subst (λ (l : List LogFile). StandsFor l is.left r.next.txn) (one_list files 0 (2 ^ 32) logs others are are_too) is.stands
+
+pub as_many : (places : Places) (live : List Left) (items : List (ℕ × Content)) → HasItems places live items → AllByRecursion (λ (l : Left). l.held ≡ false) live → length live ≡ length items
+as_many places live items has free = left_length places [] live items (items_look places live items has free)

@@ -1,3 +1,4 @@
 pub mod Placed
 pub mod Stepped
 pub mod Stands
+pub mod Opened

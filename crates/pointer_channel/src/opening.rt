@@ -1,6 +1,12 @@
-// The places of a channel's events, from what the replay of its folder left.
-ghost use Rattle.std.specs.Prelude.{◌≡◌, ℕ, List, [], IfOk};
-ghost use Rattle.event_core.specs.Journal.{Base};
+// What the replay of a folder leaves to a channel.
+ghost use Rattle.std.specs.Prelude.{◌≡◌, ◌<◌, ◌≤◌, ◌+◌, IfErr, IfOk, IsErrOf, List, OnOk};
+ghost use Rattle.flume_host.specs.Causes.{HasCause, Rose};
+ghost use Rattle.flume_host.specs.Told.{WhereTold};
+ghost use Rattle.channel_face.specs.declared.replies.OpenCause.{OpenCause};
+ghost use Rattle.channel_replay.specs.Recover.{WhereLogs, lines};
+ghost use Rattle.channel_replay.specs.Replay.{record_count};
+ghost use Rattle.file_channel.specs.Folders.{IsNextFile, IsOfFile, Refuses, log_name};
+ghost use Rattle.pointer_channel.specs.Opened.{AreShort, ReplaysTo};
 ghost use Rattle.channel_face.specs.History.{Opening, opening};
 ghost use Rattle.channel_face.specs.declared.replies.Kind.TheVariants.{File};
 ghost use Rattle.channel_places.specs.Looks.{Looks};
@@ -8,11 +14,98 @@ ghost use Rattle.ring_replay.specs.Folder.{IsReady, IsReplayed, puts_of};
 ghost use Rattle.channel_replay.specs.Start.{Start};
 ghost use Rattle.channel_replay.specs.declared.line.Line as line;
 
-use channel_face::Limits;
+use channel_face::{Counter, Limits, OpenCause};
 use channel_places::Held;
 use event_core::NoMemory;
-use ring_replay::Replayed;
+use file_channel::{first_check, last_log, of_replay};
+use flume_host::{Disk, Failed, FileName, Steps};
+use ring_replay::{Replayed, replay};
 use std::alloc::Global;
+use std::sync::ledger::Ledger;
+
+/// The last number of a log file.
+const LAST_FILE: u32 = u32::MAX;
+
+// The log file of this number.
+fn log_name(number: Option<u32>) -> Option<FileName>
+    ensures { result ≡ log_name number }
+{
+    match number {
+        Some(number) => Some(FileName::Log(number)),
+        None => None,
+    }
+}
+
+// Measures each log file.
+fn measure_logs<D: Disk>(disk: &mut D) -> Result<(), Failed>
+    ensures short { OnOk result (WhereTold (D.told disk.old) (λ t. AreShort t.reads)) }
+    ensures same { D.told disk.new ≡ D.told disk.old }
+    ensures cause { HasCause (D.faults disk.old) (D.faults disk.new) result }
+{
+    let mut last = None;
+    loop {
+        match disk.next_name(log_name(last)) {
+            Ok(Some(FileName::Log(number))) => match disk.len(FileName::Log(number)) {
+                Ok(_) => last = Some(number),
+                Err(failed) => return Err(failed),
+            },
+            Ok(Some(FileName::Check(_))) => return Ok(()),
+            Ok(None) => return Ok(()),
+            Err(failed) => return Err(failed),
+        }
+    }
+}
+
+/// What a folder leaves, by the places of its events, and the number of the log file behind those that are there.
+pub fn read_folder<D: Disk, L: Ledger>(
+    alloc: Global,
+    disk: &mut D,
+    capacity: u32,
+    steps: &mut Steps<L>,
+) -> Result<(Replayed, u32), OpenCause>
+    ensures replays { IfOk result
+        (λ found. WhereTold (D.told disk.old) (λ t. ReplaysTo t.reads found.0)) }
+    ensures next { IfOk result
+        (λ found. WhereTold (D.told disk.old) (λ t. IsNextFile t.reads found.1)) }
+    ensures ready { IfOk result (λ found. IsReady capacity found.0) }
+    ensures refused { IfErr result
+        (λ cause. WhereTold (D.told disk.old) (λ t. Refuses t.reads capacity cause)) }
+    ensures counter { IfErr result IsOfFile }
+    ensures ticks { WhereTold (D.told disk.old)
+        (λ t. WhereLogs t.reads (λ logs. steps.new ≤ steps.old + record_count (lines logs))) }
+    ensures same { D.told disk.new ≡ D.told disk.old }
+    ensures fault { IsErrOf result OpenCause.DiskFault
+        → Rose (D.faults disk.old) (D.faults disk.new) }
+    ensures later { D.faults disk.old ≤ D.faults disk.new }
+    ensures well { (IsErrOf result OpenCause.DiskFault → ⊥)
+        → D.faults disk.new ≡ D.faults disk.old }
+{
+    match first_check(disk) {
+        Ok(None) => {}
+        Ok(Some(file)) => return Err(OpenCause::BadCheck { file, at: 0 }),
+        Err(_) => return Err(OpenCause::DiskFault),
+    }
+    let replayed = match replay(alloc, disk, capacity, steps) {
+        Ok(replayed) => replayed,
+        Err(refused) => return Err(of_replay(refused)),
+    };
+    match measure_logs(disk) {
+        Ok(()) => {}
+        Err(_) => return Err(OpenCause::DiskFault),
+    }
+    match last_log(disk) {
+        Ok(None) => Ok((replayed, 1)),
+        Ok(Some(last)) => {
+            if last == LAST_FILE {
+                return Err(OpenCause::Spent {
+                    counter: Counter::File,
+                });
+            }
+            Ok((replayed, last + 1))
+        }
+        Err(_) => Err(OpenCause::DiskFault),
+    }
+}
 
 /// What a channel keeps of the events that a replay left: each of them is known to stand at its PUT among the lines that were
 /// replayed.
