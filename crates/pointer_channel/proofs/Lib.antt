@@ -5,3 +5,4 @@ pub mod Calls
 pub mod Replaying
 pub mod Standing
 pub mod Measuring
+pub mod Images

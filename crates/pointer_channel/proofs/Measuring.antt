@@ -1,8 +1,8 @@
 -- The log files of a folder, measured one after another.
-use Rattle.std.proofs.Common.{◌⊎◌, inl, inr, ◌≡◌, ◌<◌, ◌≤◌, ◌+◌, ◌^◌, ℕ, List, length, Option, Some, None, Bool, true, false, refl, sym, ◌∙◌, ap, arith}
+use Rattle.std.proofs.Common.{◌⊎◌, inl, inr, ◌≡◌, ◌<◌, ◌≤◌, ◌^◌, ℕ, List, length, Option, Some, None, true, sym, ◌∙◌, ap, arith}
 use Rattle.std.proofs.lemmas.Bool.Decides.{nat_tests}
 use Rattle.flume_host.specs.Folder.{Files, IsAbove, IsNext, name_below}
-use Rattle.flume_host.specs.declared.names.FileName.TheVariants.{Check, Log}
+use Rattle.flume_host.specs.declared.names.FileName.TheVariants.{Log}
 use Rattle.file_channel.specs.Folders.{log_name}
 use Rattle.file_channel.proofs.Opening.{floor_of}
 use Rattle.pointer_channel.specs.Opened.{AreShort}

@@ -2,3 +2,4 @@ pub mod Placed
 pub mod Stepped
 pub mod Stands
 pub mod Opened
+pub mod Images

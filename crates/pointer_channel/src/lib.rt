@@ -2,11 +2,13 @@
 #![tactic(auto)]
 
 mod channel;
+mod laws;
 mod logged;
 mod opening;
 mod reading;
 mod records;
 
 pub use channel::LogChannel;
+pub use laws::an_event_stands_in_each_image;
 pub use logged::LoggedPlaces;
-pub use opening::held_of;
+pub use opening::{held_of, read_folder};
