@@ -12,8 +12,6 @@ ghost use Rattle.channel_face.specs.declared.replies.TakeRefused.{TakeRefused};
 ghost use Rattle.channel_places.specs.Looks.{MayPut, MayTake};
 ghost use Rattle.file_channel.specs.Written.{kept};
 ghost use Rattle.file_channel.specs.Touches.{Flushed, HadNoRoom, HasNoRoom, flushes, room_of};
-ghost use Rattle.file_channel.proofs.Putting.{put_in};
-ghost use Rattle.file_channel.proofs.Freeing.{take_in};
 ghost use Rattle.pointer_channel.specs.Placed.{Fits, IsStateOf};
 ghost use Rattle.pointer_channel.specs.Stepped.{Steps};
 
@@ -45,7 +43,7 @@ pub(crate) fn add_put<D: Disk + Drop>(
         → puts_of s txn.now ≡ Some events → first ≡ (length events == 0)
         → Fits (D.told writing.new.disk)
         (record { places = held.new; log = writing.new.log; busy = writing.new.busy })
-        (put_in s false txn.now.number events event.now) }
+        (Face.add_put s txn.now.number (Some events) event.now) }
     ensures waits { length writing.new.log.bytes
         ≡ length writing.old.log.bytes + (size event.now + 13) }
     ensures disk { writing.new.disk ≡ writing.old.disk }
@@ -77,7 +75,7 @@ pub(crate) fn add_take<D: Disk + Drop>(
         → first ≡ (length numbers == 0)
         → Fits (D.told writing.new.disk)
         (record { places = held.new; log = writing.new.log; busy = writing.new.busy })
-        (take_in s false txn.now.number numbers number) }
+        (Face.add_take s txn.now.number (Some numbers) ((number, event) ∷ rest)) }
     ensures waits { length writing.new.log.bytes ≡ length writing.old.log.bytes + 17 }
     ensures disk { writing.new.disk ≡ writing.old.disk }
 {
