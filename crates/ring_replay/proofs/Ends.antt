@@ -76,6 +76,7 @@ replayed_ready now dropped capacity r kept drops ring next_is few =
         base_rising (after_journal s.base (journal past)) (rising-left s.base (journal past) (rising_base s.base keeps.taken.base)),
         subst (λ (l : List Left). HasItems places l (left s.base (journal past))) (sym live) keeps.items,
         sym (ap (λ (n : Next). n.number) next_is ∙ keeps.number),
+        kept.4,
       );
     }
 

@@ -186,6 +186,6 @@ pub folders_none : (was : Option Told) (faulty : ℕ) (now : Indexing) (none : �
 folders_none was faulty now none keeps = record {
   same = refl;
   well = refl;
-  kept = ([], empty_start, [], keeps []);
+  kept = ([], empty_start, [], keeps [], tt);
   on = λ t is logs are. record { done = []; rest = logs; split = refl; are = are; sound = tt; keeps = λ places stand. keeps places; ticks = omega arith };
 }

@@ -1,5 +1,5 @@
 -- What is kept over some places is kept over more of them.
-use Rattle.std.proofs.Common.{inl, inr, ◌≡◌, ◌∷◌, [], ℕ, List, Option, Some, None, Bool, true, false, refl}
+use Rattle.std.proofs.Common.{inl, inr, ◌≡◌, ◌∷◌, [], ℕ, List, Option, Some, None, Bool, true, false, refl, sym}
 use Rattle.event_core.specs.Content.{Content}
 use Rattle.event_core.specs.Journal.{left}
 use Rattle.event_core.specs.declared.journal.Entry.{Entry}
@@ -12,7 +12,7 @@ use Rattle.open_table.specs.Tables.{Listed, Open, Puts, Takes, open_at}
 use Rattle.channel_replay.specs.Marks.{Past, journal, opened}
 use Rattle.channel_replay.specs.Start.{Start}
 use Rattle.ring_replay.specs.declared.indexing.Indexing.{Indexing}
-use Rattle.ring_replay.specs.Indexing.{ArePlaced, GoesOn, HasEntry, HasItems, IsKept, IsListed, Keeps, Places, StandsAt}
+use Rattle.ring_replay.specs.Indexing.{ArePlaced, AreSized, GoesOn, HasEntry, HasItems, IsKept, IsListed, Keeps, Places, StandsAt, event_length}
 
 are_wider : (q : Pointer × Content) (places : Places) (pointers : List Pointer) (events : List Content) → ArePlaced places pointers events → ArePlaced (q ∷ places) pointers events
 are_wider q places [] [] are = tt
@@ -57,18 +57,19 @@ record HasPlace (P : Places → Type 0) (s : Start) (past : Past) (r : Indexing)
   pub places : Places
   pub keeps : Keeps places s past r
   pub stands : P places
+  pub sized : AreSized places
 
-rec_stands : (place : Pointer) (rec : Rec) (places : Places) (s : Start) (past : Past) (r : Indexing) → Keeps places s past r → HasPlace (λ more. StandsAt more place rec) s past r
-rec_stands place (Put txn event) places s past r keeps = record { places = (place, event) ∷ places; keeps = keeps_wider (place, event) places s past r keeps; stands = inl (refl, refl) }
-rec_stands place (Take txn number) places s past r keeps = record { places = places; keeps = keeps; stands = tt }
-rec_stands place (Rollback txn) places s past r keeps = record { places = places; keeps = keeps; stands = tt }
-rec_stands place (CommitPut txn first count) places s past r keeps = record { places = places; keeps = keeps; stands = tt }
-rec_stands place (CommitTake txn count) places s past r keeps = record { places = places; keeps = keeps; stands = tt }
-rec_stands place (End count) places s past r keeps = record { places = places; keeps = keeps; stands = tt }
+rec_stands : (place : Pointer) (rec : Rec) (places : Places) (s : Start) (past : Past) (r : Indexing) → Keeps places s past r → AreSized places → place.length ≡ event_length rec → HasPlace (λ more. StandsAt more place rec) s past r
+rec_stands place (Put txn event) places s past r keeps sized long = record { places = (place, event) ∷ places; keeps = keeps_wider (place, event) places s past r keeps; stands = inl (refl, refl); sized = (sym long, sized) }
+rec_stands place (Take txn number) places s past r keeps sized long = record { places = places; keeps = keeps; stands = tt; sized = sized }
+rec_stands place (Rollback txn) places s past r keeps sized long = record { places = places; keeps = keeps; stands = tt; sized = sized }
+rec_stands place (CommitPut txn first count) places s past r keeps sized long = record { places = places; keeps = keeps; stands = tt; sized = sized }
+rec_stands place (CommitTake txn count) places s past r keeps sized long = record { places = places; keeps = keeps; stands = tt; sized = sized }
+rec_stands place (End count) places s past r keeps sized long = record { places = places; keeps = keeps; stands = tt; sized = sized }
 
 -- What a legal record leads to is kept of some marks again.
-pub rec_kept : (legal : Bool) (place : Pointer) (rec : Rec) (old new : Indexing) → IsKept old → GoesOn legal old place rec new → legal ≡ true → IsKept new
-rec_kept true place rec old new kept goes is =
-    let h = rec_stands place rec kept.0 kept.1 kept.2 old kept.3 in
-    (h.places, kept.1, _, (goes h.places kept.1 kept.2 h.stands h.keeps).1)
-rec_kept false place rec old new kept goes is = absurd (let e : false ≡ true = is in cc)
+pub rec_kept : (legal : Bool) (place : Pointer) (rec : Rec) (old new : Indexing) → IsKept old → place.length ≡ event_length rec → GoesOn legal old place rec new → legal ≡ true → IsKept new
+rec_kept true place rec old new kept long goes is =
+    let h = rec_stands place rec kept.0 kept.1 kept.2 old kept.3 kept.4 long in
+    (h.places, kept.1, _, (goes h.places kept.1 kept.2 h.stands h.keeps).1, h.sized)
+rec_kept false place rec old new kept long goes is = absurd (let e : false ≡ true = is in cc)

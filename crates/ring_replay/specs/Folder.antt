@@ -10,7 +10,7 @@ use Rattle.channel_replay.specs.Recover.{HasFault, LogFile, StandsFrom, empty_st
 use Rattle.channel_replay.specs.Start.{Start}
 use Rattle.ring_replay.specs.declared.folder.Replayed.{Replayed}
 use Rattle.ring_replay.specs.declared.indexing.Indexing.{Indexing}
-use Rattle.ring_replay.specs.Indexing.{HasItems, Keeps, LinesStand, Places, place_of}
+use Rattle.ring_replay.specs.Indexing.{AreSized, HasItems, Keeps, LinesStand, Places, place_of}
 
 -- whatever marks it was kept of, the first fault of the lines behind these has this file and offset
 abbrev pub StopsIn : List Line → Indexing → ℕ → ℕ → Type 0
@@ -35,11 +35,12 @@ pub record IsReplayed (s : Start) (found : List Line) (r : Replayed) : Type 0 wh
 abbrev pub AreReplayed : List LogFile → Replayed → Type 0
 AreReplayed logs r = IsReplayed empty_start (lines_of logs) r
 
--- The ring has so many slots, what is left is free and has numbers that rise below the next one, and transactions have numbers from 1 on.
+-- The ring has so many slots, what is left is free and has numbers that rise below the next one, each pointer has the length of some event, and transactions
+-- have numbers from 1 on.
 pub record IsReady (capacity : ℕ) (r : Replayed) : Type 0 where
   pub slots : r.ring.slots ≡ capacity
   pub within : length r.ring.live ≤ capacity
   pub top : r.ring.top ≤ r.next.number
   pub free : AllByRecursion (λ l. l.held ≡ false) r.ring.live
   pub txn : 1 ≤ r.next.txn
-  pub base : (places : Places) × (left : Base) × IsBase left × HasItems places r.ring.live left.items × (left.first ≡ r.next.number)
+  pub base : (places : Places) × (left : Base) × IsBase left × HasItems places r.ring.live left.items × (left.first ≡ r.next.number) × AreSized places

@@ -76,9 +76,14 @@ pub record Keeps (places : Places) (s : Start) (past : Past) (r : Indexing) : Ty
   pub as_many : length r.table ≡ length (open_txns past)
   pub taken : AreTaken s past
 
+-- each place has its event's length
+abbrev pub AreSized : Places → Type 0
+AreSized [] = Unit {0}
+AreSized (p ∷ places) = (contents.size p.1 ≡ p.0.length) × AreSized places
+
 -- some marks behind some start lead to it
 abbrev pub IsKept : Indexing → Type 0
-IsKept r = (places : Places) × (s : Start) × (past : Past) × Keeps places s past r
+IsKept r = (places : Places) × (s : Start) × (past : Past) × Keeps places s past r × AreSized places
 
 -- a PUT stands at its place, and other records stand anywhere
 abbrev pub StandsAt : Places → Pointer → Rec → Type 0

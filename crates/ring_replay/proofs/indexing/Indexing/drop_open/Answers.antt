@@ -8,4 +8,4 @@ pub returns-clause-dropped : goal.returns-clause-dropped
 returns-clause-dropped c = down_all c.args.self.now c.loop-txn.self (λ txn above. c.in_default.ensures txn tt) c.loop-txn.invariant
 
 pub returns-clause-kept : goal.returns-clause-kept
-returns-clause-kept c = (c.requires.0, c.requires.1, _, down_all c.args.self.now c.loop-txn.self (λ txn above. c.in_default.ensures txn tt) c.loop-txn.invariant c.requires.0 c.requires.1 c.requires.2 c.requires.3)
+returns-clause-kept c = (c.requires.0, c.requires.1, _, down_all c.args.self.now c.loop-txn.self (λ txn above. c.in_default.ensures txn tt) c.loop-txn.invariant c.requires.0 c.requires.1 c.requires.2 c.requires.3, c.requires.4)
