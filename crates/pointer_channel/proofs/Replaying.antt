@@ -4,7 +4,7 @@ use Rattle.std.specs.Prelude.{IfOk, IsSomeAnd}
 use Rattle.std.specs.List.{AllByRecursion}
 use Rattle.flume_host.specs.Folder.{Files}
 use Rattle.flume_host.specs.declared.names.FileName.TheVariants.{Log}
-use Rattle.event_core.specs.Content.{Content}
+use Rattle.event_core.specs.Content.{Content, size}
 use Rattle.event_core.specs.Journal.{Base, IsBase}
 use Rattle.event_core.specs.Numbers.{u16_bytes, u32_bytes}
 use Rattle.record_form.specs.declared.record.Pointer.{Pointer}
@@ -26,7 +26,7 @@ use Rattle.channel_places.proofs.Looking.{left_length}
 use Rattle.channel_replay.proofs.OneList.{one_list}
 use Rattle.ring_replay.specs.Folder.{AreReplayed, puts_of}
 use Rattle.ring_replay.specs.declared.folder.Replayed.{Replayed}
-use Rattle.ring_replay.specs.Indexing.{HasItems, IsPlaced, Places, place_of}
+use Rattle.ring_replay.specs.Indexing.{AreSized, HasItems, IsPlaced, Places, place_of}
 
 -- a record that stands at its place is known there
 pub placed_known : (places : Places) (p : Pointer) (event : Content) → IsPlaced places p event → StandsIn places p event
@@ -245,3 +245,9 @@ replay_recovers files logs r is are others are_too = subst (λ (l : List LogFile
 
 pub as_many : (places : Places) (live : List Left) (items : List (ℕ × Content)) → HasItems places live items → AllByRecursion (λ (l : Left). l.held ≡ false) live → length live ≡ length items
 as_many places live items has free = left_length places [] live items (items_look places live items has free)
+
+-- each place of sized ones has its event's length
+pub are_long : (places : Places) → AreSized places → (p : Pointer) (event : Content) → StandsIn places p event → size event ≡ p.length
+are_long [] sized p event is = absurd is
+are_long (k ∷ places) sized p event (inl same) = subst (λ (pair : Pointer × Content). size pair.1 ≡ pair.0.length) same sized.0
+are_long (k ∷ places) sized p event (inr older) = are_long places sized.1 p event older

@@ -9,7 +9,10 @@ ghost use Rattle.file_channel.specs.Folders.{IsNextFile, IsOfFile, Refuses, log_
 ghost use Rattle.pointer_channel.specs.Opened.{AreShort, ReplaysTo};
 ghost use Rattle.channel_face.specs.History.{Opening, opening};
 ghost use Rattle.channel_face.specs.declared.replies.Kind.TheVariants.{File};
-ghost use Rattle.channel_places.specs.Looks.{Looks};
+ghost use Rattle.event_core.specs.Content.{Content, size};
+ghost use Rattle.event_core.specs.Journal.{Base, IsBase};
+ghost use Rattle.record_form.specs.declared.record.Pointer as pointers;
+ghost use Rattle.channel_places.specs.Looks.{Known, Looks, StandsIn};
 ghost use Rattle.ring_replay.specs.Folder.{IsReady, IsReplayed, puts_of};
 ghost use Rattle.channel_replay.specs.Start.{Start};
 ghost use Rattle.channel_replay.specs.declared.line.Line as line;
@@ -111,10 +114,17 @@ pub fn read_folder<D: Disk, L: Ledger>(
 /// replayed.
 pub fn held_of(alloc: Global, replayed: Replayed, limits: Limits) -> Result<Held, NoMemory>
     requires { IsReady limits.capacity replayed }
-    ensures { IfOk result (λ held. (s : Start) (found : List line.Line) (o : Opening)
+    ensures stands { IfOk result (λ held. (s : Start) (found : List line.Line) (o : Opening)
         → (is : IsReplayed s found replayed) → o.base ≡ is.left → o.txn ≡ replayed.next.txn
         → o.rules ≡ record { kind = File; limits = limits }
         → Looks (puts_of found) held (opening o)) }
+
+    // Also where the disk tells nothing there are some events at its pointers, each of its pointer's length.
+    ensures some { IfOk result (λ held. (known : Known) × (base : Base) × IsBase base
+        × ((p : pointers.Pointer) (event : Content) → StandsIn known p event
+        → size event ≡ p.length)
+        × ((o : Opening) → o.base ≡ base → o.txn ≡ replayed.next.txn
+        → o.rules ≡ record { kind = File; limits = limits } → Looks known held (opening o))) }
 {
     let Replayed { ring, next } = replayed;
     Held::open(alloc, ring, limits, next.number, next.txn)
