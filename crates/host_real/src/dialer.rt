@@ -3,6 +3,7 @@ ghost use Rattle.std.specs.Prelude.{◌≡◌, ◌≤◌, None};
 ghost use Rattle.flume_host.specs.Causes.{HasCause};
 
 use crate::link::RealLink;
+use crate::teller::Teller;
 use flume_host::{Dialer, Failed};
 use std::io;
 use std::io::ErrorKind;
@@ -15,7 +16,7 @@ const DIAL_SECONDS: u64 = 20;
 /// A dialer. Each dial looks the host's addresses up, and tries them in turn.
 #[derive(Drop)]
 pub struct RealDialer {
-    rt: HostRuntime,
+    teller: Teller,
     host: String,
     port: u16,
     pub faults: u64,
@@ -27,7 +28,7 @@ impl RealDialer {
         ensures { result.faults ≡ 0 }
     {
         RealDialer {
-            rt,
+            teller: Teller::new(rt),
             host,
             port,
             faults: 0,
@@ -57,9 +58,10 @@ impl Dialer for RealDialer {
     ghost faults = { λ d. d.faults };
 
     fn dial(&mut self) -> Result<RealLink, Failed> {
-        match connect(self.rt, self.host.as_str(), self.port) {
+        match connect(self.teller.rt, self.host.as_str(), self.port) {
             Ok(link) => Ok(link),
-            Err(_) => {
+            Err(e) => {
+                self.teller.failed_at(self.host.as_str(), self.port, &e);
                 self.faults = self.faults.saturating_add(1);
                 Err(Failed)
             }

@@ -3,6 +3,7 @@ ghost use Rattle.std.specs.Prelude.{◌≡◌, ◌≤◌, ◌<◌, ◌+◌, ◌^
 ghost use Rattle.flume_host.specs.Causes.{HasCause};
 ghost use Rattle.flume_host.specs.Folder.{IsAbove, name_below};
 
+use crate::teller::Teller;
 use flume_host::{Disk, Failed, FileName};
 use std::fs::{File, OpenOptions};
 use std::io::ErrorKind;
@@ -22,7 +23,7 @@ struct OpenFile {
 /// A folder, in which log file 7 is `log-7` and checkpoint 3 is `checkpoint-3`. Its other files are no files of the disk.
 #[derive(Drop)]
 pub struct RealDisk {
-    rt: HostRuntime,
+    teller: Teller,
     path: String,
     // the file that was used last
     kept: Option<OpenFile>,
@@ -203,7 +204,7 @@ impl RealDisk {
         let lock = File::open(&rt, path.as_str())?;
         lock.try_lock()?;
         Ok(RealDisk {
-            rt,
+            teller: Teller::new(rt),
             path,
             kept: None,
             lock,
@@ -211,14 +212,15 @@ impl RealDisk {
         })
     }
 
-    // A call's answer, where a failure is counted.
+    // A call's answer, where a failure is counted and told.
     fn counted<T>(&mut self, answer: io::Result<T>) -> Result<T, Failed>
         ensures cause { HasCause self.old.faults self.new.faults result }
         ensures same { IfOk result (λ value. answer ≡ Ok value) }
     {
         match answer {
             Ok(value) => Ok(value),
-            Err(_) => {
+            Err(e) => {
+                self.teller.failed(self.path.as_str(), &e);
                 self.faults = self.faults.saturating_add(1);
                 Err(Failed)
             }
@@ -234,11 +236,11 @@ impl RealDisk {
         {
             return Ok(file);
         }
-        let path = file_path(&self.rt, self.path.as_str(), name)?;
+        let path = file_path(&self.teller.rt, self.path.as_str(), name)?;
         OpenOptions::new()
             .read(true)
             .write(true)
-            .open(&self.rt, path.as_str())
+            .open(&self.teller.rt, path.as_str())
     }
 
     fn keep_file(&mut self, name: FileName, file: File)
@@ -251,9 +253,9 @@ impl RealDisk {
     fn make_file(&mut self, name: FileName) -> io::Result<()>
         ensures { self.new.faults ≡ self.old.faults }
     {
-        let path = file_path(&self.rt, self.path.as_str(), name)?;
-        let file = File::create_new(&self.rt, path.as_str())?;
-        sync_folder(&self.rt, self.path.as_str())?;
+        let path = file_path(&self.teller.rt, self.path.as_str(), name)?;
+        let file = File::create_new(&self.teller.rt, path.as_str())?;
+        sync_folder(&self.teller.rt, self.path.as_str())?;
         self.keep_file(name, file);
         Ok(())
     }
@@ -308,9 +310,9 @@ impl RealDisk {
         ensures { self.new.faults ≡ self.old.faults }
     {
         self.kept = None;
-        let path = file_path(&self.rt, self.path.as_str(), name)?;
-        fs::remove_file(&self.rt, path.as_str())?;
-        sync_folder(&self.rt, self.path.as_str())
+        let path = file_path(&self.teller.rt, self.path.as_str(), name)?;
+        fs::remove_file(&self.teller.rt, path.as_str())?;
+        sync_folder(&self.teller.rt, self.path.as_str())
     }
 }
 
@@ -353,7 +355,7 @@ impl Disk for RealDisk {
     }
 
     fn settle(&mut self) -> Result<(), Failed> {
-        let settled = settle_all(&self.rt, self.path.as_str());
+        let settled = settle_all(&self.teller.rt, self.path.as_str());
         self.counted(settled)
     }
 
@@ -363,7 +365,7 @@ impl Disk for RealDisk {
     }
 
     fn next_name(&mut self, after: Option<FileName>) -> Result<Option<FileName>, Failed> {
-        let next = least_above(&self.rt, self.path.as_str(), after);
+        let next = least_above(&self.teller.rt, self.path.as_str(), after);
         self.counted(next)
     }
 }

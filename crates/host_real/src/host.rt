@@ -8,6 +8,7 @@ use crate::listener::RealListener;
 use crate::roll::RealRoll;
 use crate::sockets::Sockets;
 use crate::stream::{RealSink, RealSource};
+use crate::teller::Teller;
 use crate::times::{RealClock, RealRandom};
 use flume_host::{FileRefused, Host, NameRefused, NoMemory};
 use std::fs::File;
@@ -18,7 +19,7 @@ use std::net::ToSocketAddrs;
 /// The host that a program runs in. It tells nothing of contents.
 #[derive(Drop)]
 pub struct RealHost {
-    rt: HostRuntime,
+    teller: Teller,
     sockets: Sockets,
     faults: u64,
     disk_faults: u64,
@@ -30,7 +31,7 @@ impl RealHost {
         ensures { (result.faults ≡ 0) × (result.disk_faults ≡ 0) }
     {
         RealHost {
-            rt,
+            teller: Teller::new(rt),
             sockets: Sockets::new(rt),
             faults: 0,
             disk_faults: 0,
@@ -69,11 +70,12 @@ const NAME_FILE: &str = "/proc/sys/kernel/hostname";
 const NAME_LIMIT: usize = 1_024;
 
 // The host's name.
-fn name_of(rt: &HostRuntime) -> Result<String, NameRefused> {
+fn name_of(teller: &Teller) -> Result<String, NameRefused> {
     let mut bytes = [0u8; NAME_LIMIT];
-    let Ok(_) = read_front(rt, NAME_FILE, &mut bytes) else {
+    if let Err(e) = read_front(&teller.rt, NAME_FILE, &mut bytes) {
+        teller.failed(NAME_FILE, &e);
         return Err(NameRefused::Failed);
-    };
+    }
     let front = match bytes.iter().position(|b| *b == b'\n') {
         Some(end) => &bytes[..end],
         None => return Err(NameRefused::Failed),
@@ -81,21 +83,25 @@ fn name_of(rt: &HostRuntime) -> Result<String, NameRefused> {
     let Ok(name) = str::from_utf8(front) else {
         return Err(NameRefused::Failed);
     };
-    match String::from_str(rt.alloc(), name) {
+    match String::from_str(teller.rt.alloc(), name) {
         Ok(name) => Ok(name),
         Err(_) => Err(NameRefused::NoMemory),
     }
 }
 
 // The first address that looking a name up gives, as text.
-fn address_of(rt: &HostRuntime, name: &str) -> Result<String, NameRefused> {
-    let Ok(mut addresses) = (name, 0).to_socket_addrs(rt) else {
-        return Err(NameRefused::Failed);
+fn address_of(teller: &Teller, name: &str) -> Result<String, NameRefused> {
+    let mut addresses = match (name, 0).to_socket_addrs(&teller.rt) {
+        Ok(addresses) => addresses,
+        Err(e) => {
+            teller.failed(name, &e);
+            return Err(NameRefused::Failed);
+        }
     };
     let Some(address) = addresses.next() else {
         return Err(NameRefused::Failed);
     };
-    match format!(in rt.alloc(); "{}", address.ip()) {
+    match format!(in teller.rt.alloc(); "{}", address.ip()) {
         Ok(text) => Ok(text),
         Err(_) => Err(NameRefused::NoMemory),
     }
@@ -134,7 +140,7 @@ impl Host for RealHost {
     ghost folders = { λ _. record { disks = λ _. None; rolls = λ _. None; disk_opened = λ _. true; roll_opened = λ _. true } };
 
     fn take_input(&mut self) -> RealSource {
-        RealSource::new(self.rt)
+        RealSource::new(self.teller.rt)
     }
 
     fn keep_input(&mut self, input: RealSource) {
@@ -142,7 +148,7 @@ impl Host for RealHost {
     }
 
     fn take_output(&mut self) -> RealSink {
-        RealSink::new(self.rt)
+        RealSink::new(self.teller.rt)
     }
 
     fn keep_output(&mut self, output: RealSink) {
@@ -150,16 +156,20 @@ impl Host for RealHost {
     }
 
     fn say(&mut self, line: &str) {
-        let _ = self.rt.eprintln(line);
+        let _ = self.teller.rt.eprintln(line);
     }
 
     fn open_disk(&mut self, path: &str) -> Result<RealDisk, NameRefused> {
-        let Ok(own) = String::from_str(self.rt.alloc(), path) else {
+        let Ok(own) = String::from_str(self.teller.rt.alloc(), path) else {
             return Err(NameRefused::NoMemory);
         };
-        match RealDisk::open(self.rt, own) {
-            Ok(disk) => Ok(disk),
-            Err(_) => {
+        match RealDisk::open(self.teller.rt, own) {
+            Ok(disk) => {
+                self.teller.opened(path);
+                Ok(disk)
+            }
+            Err(e) => {
+                self.teller.failed(path, &e);
                 self.faults = self.faults.saturating_add(1);
                 Err(NameRefused::Failed)
             }
@@ -171,12 +181,13 @@ impl Host for RealHost {
     }
 
     fn read_file(&mut self, path: &str) -> Result<Vec<u8>, FileRefused> {
-        let Ok(mut bytes) = vec![in self.rt.alloc(); 0u8; FILE_LIMIT + 1] else {
+        let Ok(mut bytes) = vec![in self.teller.rt.alloc(); 0u8; FILE_LIMIT + 1] else {
             return Err(FileRefused::NoMemory);
         };
-        let size = match read_front(&self.rt, path, &mut bytes) {
+        let size = match read_front(&self.teller.rt, path, &mut bytes) {
             Ok(size) => size,
-            Err(_) => {
+            Err(e) => {
+                self.teller.failed(path, &e);
                 self.faults = self.faults.saturating_add(1);
                 return Err(FileRefused::Failed);
             }
@@ -189,12 +200,16 @@ impl Host for RealHost {
     }
 
     fn open_roll(&mut self, path: &str) -> Result<RealRoll, NameRefused> {
-        let Ok(own) = String::from_str(self.rt.alloc(), path) else {
+        let Ok(own) = String::from_str(self.teller.rt.alloc(), path) else {
             return Err(NameRefused::NoMemory);
         };
-        match RealRoll::open(self.rt, own) {
-            Ok(roll) => Ok(roll),
-            Err(_) => {
+        match RealRoll::open(self.teller.rt, own) {
+            Ok(roll) => {
+                self.teller.opened(path);
+                Ok(roll)
+            }
+            Err(e) => {
+                self.teller.failed(path, &e);
                 self.faults = self.faults.saturating_add(1);
                 Err(NameRefused::Failed)
             }
@@ -219,8 +234,8 @@ impl Host for RealHost {
     }
 
     fn dialer(&mut self, host: &str, port: u16) -> Result<RealDialer, NoMemory> {
-        match String::from_str(self.rt.alloc(), host) {
-            Ok(host) => Ok(RealDialer::new(self.rt, host, port)),
+        match String::from_str(self.teller.rt.alloc(), host) {
+            Ok(host) => Ok(RealDialer::new(self.teller.rt, host, port)),
             Err(_) => Err(NoMemory),
         }
     }
@@ -228,8 +243,8 @@ impl Host for RealHost {
     fn keep_dialer(&mut self, _host: &str, _port: u16, _dialer: RealDialer) {}
 
     fn host_name(&mut self, use_ip: bool) -> Result<String, NameRefused> {
-        let named = match name_of(&self.rt) {
-            Ok(name) if use_ip => address_of(&self.rt, &name),
+        let named = match name_of(&self.teller) {
+            Ok(name) if use_ip => address_of(&self.teller, &name),
             named => named,
         };
         match named {
@@ -243,11 +258,11 @@ impl Host for RealHost {
     }
 
     fn clock(&mut self) -> RealClock {
-        RealClock { rt: self.rt }
+        RealClock { rt: self.teller.rt }
     }
 
     fn random(&mut self) -> RealRandom {
-        RealRandom { rt: self.rt }
+        RealRandom { rt: self.teller.rt }
     }
 
     fn faults(&self) -> u64 {

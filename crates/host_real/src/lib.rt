@@ -10,6 +10,7 @@ mod listener;
 mod roll;
 mod sockets;
 mod stream;
+mod teller;
 mod times;
 
 pub use dialer::RealDialer;

@@ -3,6 +3,7 @@ ghost use Rattle.std.specs.Prelude.{◌≡◌, ◌≤◌, ◌<◌, None, length}
 ghost use Rattle.std.specs.Io.{ReadsAtMost, WritesAtMost};
 ghost use Rattle.flume_host.specs.Causes.{HasCause};
 
+use crate::teller::Teller;
 use flume_host::{Failed, Link, LinkRead};
 use std::io;
 use std::io::{ErrorKind, Read, Write};
@@ -26,7 +27,7 @@ const CLOSE_MILLIS: u64 = 200;
 /// A connection: a read waits 200 ms at most, and a write 10 s.
 #[derive(Drop)]
 pub struct RealLink {
-    rt: HostRuntime,
+    teller: Teller,
     stream: TcpStream,
     // a write lasted too long
     slow: bool,
@@ -78,7 +79,7 @@ impl RealLink {
         stream.set_write_timeout(Some(Duration::from_secs(WRITE_SECONDS)))?;
         stream.set_nodelay(true)?;
         Ok(RealLink {
-            rt,
+            teller: Teller::new(rt),
             stream,
             slow: false,
             waits: 0,
@@ -89,18 +90,18 @@ impl RealLink {
     /// Ends the connection. What was written is sent, and some of what the peer still sends is read and dropped, so that
     /// the system sends no reset that overtakes it.
     pub fn close(self) {
-        let RealLink { rt, stream, .. } = self;
+        let RealLink { teller, stream, .. } = self;
         if stream.shutdown(Shutdown::Write).is_err() {
             return;
         }
-        let began = Instant::now(&rt);
+        let began = Instant::now(&teller.rt);
         let mut piece = [0u8; CLOSE_PIECE];
         for _ in 0..CLOSE_READS {
             match read_some(&stream, &mut piece) {
                 Ok(n) if n > 0 => {}
                 _ => return,
             }
-            if has_passed(&rt, &began, Duration::from_millis(CLOSE_MILLIS)) {
+            if has_passed(&teller.rt, &began, Duration::from_millis(CLOSE_MILLIS)) {
                 return;
             }
         }
@@ -122,7 +123,8 @@ impl Link for RealLink {
                 self.waits = self.waits.saturating_add(1);
                 Ok(LinkRead::Quiet)
             }
-            Err(_) => {
+            Err(e) => {
+                self.teller.failed_with(self.stream.peer_addr(), &e);
                 self.faults = self.faults.saturating_add(1);
                 Err(Failed)
             }
@@ -134,12 +136,17 @@ impl Link for RealLink {
             self.faults = self.faults.saturating_add(1);
             return Err(Failed);
         }
-        let began = Instant::now(&self.rt);
+        let began = Instant::now(&self.teller.rt);
         let written = write_some(&self.stream, bytes);
-        self.slow = has_passed(&self.rt, &began, Duration::from_secs(WRITE_SECONDS));
+        self.slow = has_passed(&self.teller.rt, &began, Duration::from_secs(WRITE_SECONDS));
         match written {
             Ok(n) if n > 0 || bytes.is_empty() => Ok(n),
-            _ => {
+            Ok(_) => {
+                self.faults = self.faults.saturating_add(1);
+                Err(Failed)
+            }
+            Err(e) => {
+                self.teller.failed_with(self.stream.peer_addr(), &e);
                 self.faults = self.faults.saturating_add(1);
                 Err(Failed)
             }

@@ -3,6 +3,7 @@ ghost use Rattle.std.specs.Prelude.{◌≡◌, ◌≤◌, Ok, None, IfOk};
 ghost use Rattle.flume_host.specs.Causes.{HasCause};
 
 use crate::link::{RealLink, WAIT_MILLIS};
+use crate::teller::Teller;
 use flume_host::{Failed, Listener};
 use std::io;
 use std::io::ErrorKind;
@@ -13,7 +14,7 @@ use std::time::Duration;
 /// A listener. Several of one address share its port, and each link is given by one of them.
 #[derive(Drop)]
 pub struct RealListener {
-    rt: HostRuntime,
+    teller: Teller,
     socket: TcpListener,
     pub waits: u64,
     pub faults: u64,
@@ -48,7 +49,7 @@ impl RealListener {
     {
         let socket = socket.try_clone()?;
         Ok(RealListener {
-            rt,
+            teller: Teller::new(rt),
             socket,
             waits: 0,
             faults: 0,
@@ -84,14 +85,15 @@ impl Listener for RealListener {
 
     fn accept(&mut self) -> Result<Option<RealLink>, Failed> {
         match accept_some(&self.socket) {
-            Ok((stream, _)) => match RealLink::new(self.rt, stream) {
+            Ok((stream, _)) => match RealLink::new(self.teller.rt, stream) {
                 Ok(link) => Ok(Some(link)),
                 Err(_) => self.wait_over(),
             },
             Err(e)
                 if e.kind() == ErrorKind::WouldBlock || e.kind() == ErrorKind::ConnectionAborted =>
                 { self.wait_over() }
-            Err(_) => {
+            Err(e) => {
+                self.teller.failed_with(self.socket.local_addr(), &e);
                 self.faults = self.faults.saturating_add(1);
                 Err(Failed)
             }

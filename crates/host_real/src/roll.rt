@@ -1,9 +1,10 @@
 // A folder of the file system as a folder of rolled files.
-ghost use Rattle.std.specs.Prelude.{◌≡◌, None, IfOk};
+ghost use Rattle.std.specs.Prelude.{◌≡◌, ◌≤◌, None, IfOk, IsErr};
 ghost use Rattle.std.specs.Io.{WritesAtMost};
-ghost use Rattle.flume_host.specs.Causes.{HasCause};
+ghost use Rattle.flume_host.specs.Causes.{HasCause, Rose};
 
 use crate::disk::{make_folder, sync_folder};
+use crate::teller::Teller;
 use flume_host::{Failed, RollDir};
 use std::fs::File;
 use std::io;
@@ -12,7 +13,7 @@ use std::io::{ErrorKind, Write};
 /// A folder of rolled files. Its other files are left alone.
 #[derive(Drop)]
 pub struct RealRoll {
-    rt: HostRuntime,
+    teller: Teller,
     path: String,
     // the file that gets what is written
     file: Option<File>,
@@ -39,7 +40,7 @@ impl RealRoll {
     {
         make_folder(&rt, path.as_str())?;
         Ok(RealRoll {
-            rt,
+            teller: Teller::new(rt),
             path,
             file: None,
             faults: 0,
@@ -52,11 +53,21 @@ impl RealRoll {
     {
         self.file = None;
         let folder = self.path.as_str();
-        let path = format!(in self.rt.alloc(); "{folder}/{name}")?;
-        let file = File::create_new(&self.rt, path.as_str())?;
-        sync_folder(&self.rt, folder)?;
+        let path = format!(in self.teller.rt.alloc(); "{folder}/{name}")?;
+        let file = File::create_new(&self.teller.rt, path.as_str())?;
+        sync_folder(&self.teller.rt, folder)?;
         self.file = Some(file);
         Ok(())
+    }
+
+    // A failure, counted and told.
+    fn fail<T>(&mut self, error: &io::Error) -> Result<T, Failed>
+        ensures counted { Rose self.old.faults self.new.faults × (self.old.faults ≤ self.new.faults) }
+        ensures failed { IsErr result }
+    {
+        self.teller.failed(self.path.as_str(), error);
+        self.faults = self.faults.saturating_add(1);
+        Err(Failed)
     }
 }
 
@@ -68,35 +79,31 @@ impl RollDir for RealRoll {
     fn begin(&mut self, name: &str) -> Result<(), Failed> {
         match self.make_file(name) {
             Ok(()) => Ok(()),
-            Err(_) => {
-                self.faults = self.faults.saturating_add(1);
-                Err(Failed)
-            }
+            Err(e) => self.fail(&e),
         }
     }
 
     fn write(&mut self, bytes: &[u8]) -> Result<usize, Failed> {
-        if let Some(file) = &mut self.file
-            && let Ok(n) = write_some(file, bytes)
-            && (n > 0 || bytes.is_empty())
-        {
-            return Ok(n);
+        let Some(file) = &mut self.file else {
+            return self.fail(&io::Error::from(ErrorKind::NotFound));
+        };
+        match write_some(file, bytes) {
+            Ok(n) if n > 0 || bytes.is_empty() => Ok(n),
+            Ok(_) => self.fail(&io::Error::from(ErrorKind::WriteZero)),
+            Err(e) => self.fail(&e),
         }
-        self.faults = self.faults.saturating_add(1);
-        Err(Failed)
     }
 
     // What a delivery was answered for stays when the machine stops.
     fn flush(&mut self) -> Result<(), Failed> {
         let synced = match &self.file {
-            Some(file) => file.sync_all().is_ok(),
-            None => true,
+            Some(file) => file.sync_all(),
+            None => Ok(()),
         };
-        if synced {
-            return Ok(());
+        match synced {
+            Ok(()) => Ok(()),
+            Err(e) => self.fail(&e),
         }
-        self.faults = self.faults.saturating_add(1);
-        Err(Failed)
     }
 
     fn faults(&self) -> u64 {

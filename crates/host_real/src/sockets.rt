@@ -2,7 +2,9 @@
 ghost use Rattle.std.specs.Prelude.{◌≡◌, ◌<◌, IfOk, IfSome, length};
 
 use crate::listener::{RealListener, bind};
+use crate::teller::Teller;
 use flume_host::NameRefused;
+use std::io;
 use std::net::TcpListener;
 
 // An address and a port, its socket, and how many listeners of it are out.
@@ -17,7 +19,7 @@ struct OpenSocket {
 /// The sockets of the ports of which a listener is out.
 #[derive(Drop)]
 pub struct Sockets {
-    rt: HostRuntime,
+    teller: Teller,
     sockets: Vec<OpenSocket>,
 }
 
@@ -25,7 +27,7 @@ impl Sockets {
     /// None yet.
     pub fn new(rt: HostRuntime) -> Sockets {
         Sockets {
-            rt,
+            teller: Teller::new(rt),
             sockets: Vec::new(rt.alloc()),
         }
     }
@@ -42,22 +44,33 @@ impl Sockets {
         None
     }
 
+    // A failure, which is told.
+    fn refused(&self, address: &str, port: u16, error: &io::Error) -> NameRefused
+        ensures { result ≡ NameRefused.Failed }
+    {
+        self.teller.failed_at(address, port, error);
+        NameRefused::Failed
+    }
+
     // Begins to listen at an address and a port, where there is memory to note it.
     fn open(&mut self, address: &str, port: u16) -> Result<RealListener, NameRefused>
         ensures { IfOk result (λ listener. (listener.waits ≡ 0) × (listener.faults ≡ 0)) }
     {
-        let Ok(own) = String::from_str(self.rt.alloc(), address) else {
+        let Ok(own) = String::from_str(self.teller.rt.alloc(), address) else {
             return Err(NameRefused::NoMemory);
         };
         if self.sockets.reserve(1).is_err() {
             return Err(NameRefused::NoMemory);
         }
-        let Ok(socket) = bind(&self.rt, address, port) else {
-            return Err(NameRefused::Failed);
+        let socket = match bind(&self.teller.rt, address, port) {
+            Ok(socket) => socket,
+            Err(e) => return Err(self.refused(address, port, &e)),
         };
-        let Ok(listener) = RealListener::of(self.rt, &socket) else {
-            return Err(NameRefused::Failed);
+        let listener = match RealListener::of(self.teller.rt, &socket) {
+            Ok(listener) => listener,
+            Err(e) => return Err(self.refused(address, port, &e)),
         };
+        self.teller.listens(address, port);
         let opened = OpenSocket {
             bind: own,
             port,
@@ -77,12 +90,12 @@ impl Sockets {
         let Some(index) = self.place_of(address, port) else {
             return self.open(address, port);
         };
-        match RealListener::of(self.rt, &self.sockets[index].socket) {
+        match RealListener::of(self.teller.rt, &self.sockets[index].socket) {
             Ok(listener) => {
                 self.sockets[index].out = self.sockets[index].out.saturating_add(1);
                 Ok(listener)
             }
-            Err(_) => Err(NameRefused::Failed),
+            Err(e) => Err(self.refused(address, port, &e)),
         }
     }
 

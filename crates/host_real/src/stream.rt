@@ -3,6 +3,7 @@ ghost use Rattle.std.specs.Prelude.{◌≡◌, None};
 ghost use Rattle.std.specs.Io.{ReadsAtMost, WritesAtMost};
 ghost use Rattle.flume_host.specs.Causes.{HasCause};
 
+use crate::teller::Teller;
 use flume_host::{Failed, Sink, Source};
 use std::io;
 use std::io::{ErrorKind, Read};
@@ -10,7 +11,7 @@ use std::io::{ErrorKind, Read};
 /// Standard input, with no buffer.
 #[derive(Drop)]
 pub struct RealSource {
-    rt: HostRuntime,
+    teller: Teller,
     pub faults: u64,
 }
 
@@ -18,7 +19,10 @@ impl RealSource {
     pub fn new(rt: HostRuntime) -> Self
         ensures { result.faults ≡ 0 }
     {
-        RealSource { rt, faults: 0 }
+        RealSource {
+            teller: Teller::new(rt),
+            faults: 0,
+        }
     }
 }
 
@@ -41,9 +45,10 @@ impl Source for RealSource {
     ghost faults = { λ s. s.faults };
 
     fn read(&mut self, into: &mut [u8]) -> Result<usize, Failed> {
-        match read_some(&self.rt, into) {
+        match read_some(&self.teller.rt, into) {
             Ok(n) => Ok(n),
-            Err(_) => {
+            Err(e) => {
+                self.teller.failed("standard input", &e);
                 self.faults = self.faults.saturating_add(1);
                 Err(Failed)
             }
@@ -58,7 +63,7 @@ impl Source for RealSource {
 /// Standard output, with no buffer.
 #[derive(Drop)]
 pub struct RealSink {
-    rt: HostRuntime,
+    teller: Teller,
     pub faults: u64,
 }
 
@@ -66,7 +71,10 @@ impl RealSink {
     pub fn new(rt: HostRuntime) -> Self
         ensures { result.faults ≡ 0 }
     {
-        RealSink { rt, faults: 0 }
+        RealSink {
+            teller: Teller::new(rt),
+            faults: 0,
+        }
     }
 }
 
@@ -91,9 +99,14 @@ impl Sink for RealSink {
     ghost faults = { λ s. s.faults };
 
     fn write(&mut self, bytes: &[u8]) -> Result<usize, Failed> {
-        match write_some(&self.rt, bytes) {
+        match write_some(&self.teller.rt, bytes) {
             Ok(n) if n > 0 || bytes.is_empty() => Ok(n),
-            _ => {
+            Ok(_) => {
+                self.faults = self.faults.saturating_add(1);
+                Err(Failed)
+            }
+            Err(e) => {
+                self.teller.failed("standard output", &e);
                 self.faults = self.faults.saturating_add(1);
                 Err(Failed)
             }
