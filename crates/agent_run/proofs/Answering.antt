@@ -1,5 +1,7 @@
 -- The statuses of a run of `agent`.
-use Rattle.std.proofs.Common.{◌≡◌, inl, inr, ℕ, List, Bool, true, false, cond, Option, IfOk, Result, Ok, Err, refl, sym, subst, arith}
+use Rattle.std.proofs.Common.{◌≡◌, ◌⊎◌, ◌<◌, ◌≤◌, inl, inr, ℕ, List, [], Bool, true, false, cond, Option, IfOk, Result, Ok, Err, refl, sym, subst, arith}
+use Rattle.std.specs.declared.alloc.Global.{Global}
+use Rattle.std.specs.declared.vec.Vec.{Vec}
 use Rattle.prop_text.specs.declared.fault.PropRefused.TheVariants as text
 use Rattle.flume_config.specs.declared.plan.Plan.{Plan}
 use Rattle.plan_refused.specs.declared.refused.PlanRefused.TheVariants as plan
@@ -16,8 +18,10 @@ use Rattle.flume_host.specs.Rolled.{Rolled}
 use Rattle.agent_sinks.specs.declared.sink.AgentSink.{AgentSink}
 use Rattle.agent_run.specs.Outside.{IsOutside}
 use Rattle.agent_channels.specs.Openings.{HostTold}
+use Rattle.agent_end.specs.Statuses.{run_status}
 use Rattle.agent_end.specs.declared.ends.RunEnds.{RunEnds}
-use Rattle.agent_run.specs.Through.{AgentRan, WellRan}
+use Rattle.agent_run.specs.Through.{AgentEndsAs, CameTo, DidNotBegin, EndsAs}
+use Rattle.agent_run.specs.declared.outcome.ChannelEnd.{ChannelEnd}
 use Rattle.agent_run.specs.Errors.{IsRunStatus}
 use Rattle.agent_run.specs.Named.{AgentEnds, IsAgentStatus, PlanEnds}
 use Rattle.agent_run.specs.Prepared.{IsPlanned}
@@ -56,20 +60,20 @@ pub ended : (p : Plan) (status n : ℕ) → status ≡ n → IsRunStatus n → P
 ended p status n same is = subst (PlanEnds p) (sym same) (by_run p n is)
 
 pub refused : (p : Plan) (e : RunError) → IsRunRefused p e → PlanEnds p (status_of e)
-refused p Usage is = absurd (is.1 refl)
-refused p FileTooLarge is = absurd (is.0 refl)
-refused p (Text (text.NotUtf8 at)) is = absurd (is.0 refl)
-refused p (Text (text.BadEscape line)) is = absurd (is.0 refl)
+refused p Usage is = absurd (omega (arith, is.0))
+refused p FileTooLarge is = absurd (omega (arith, is.0))
+refused p (Text (text.NotUtf8 at)) is = absurd (omega (arith, is.0))
+refused p (Text (text.BadEscape line)) is = absurd (omega (arith, is.0))
 refused p (Text text.NoMemory) is = by_run p 5 (inr (inr (inr (inl refl))))
-refused p (NoAgent name) is = absurd (is.0 refl)
-refused p (Plan' plan.NoAgent) is = absurd (is.0 refl)
-refused p (Plan' (plan.UnknownType line)) is = absurd (is.0 refl)
-refused p (Plan' (plan.UnknownName line)) is = absurd (is.0 refl)
-refused p (Plan' (plan.BadNumber line)) is = absurd (is.0 refl)
-refused p (Plan' (plan.BadPattern line)) is = absurd (is.0 refl)
+refused p (NoAgent name) is = absurd (omega (arith, is.0))
+refused p (Plan' plan.NoAgent) is = absurd (omega (arith, is.0))
+refused p (Plan' (plan.UnknownType line)) is = absurd (omega (arith, is.0))
+refused p (Plan' (plan.UnknownName line)) is = absurd (omega (arith, is.0))
+refused p (Plan' (plan.BadNumber line)) is = absurd (omega (arith, is.0))
+refused p (Plan' (plan.BadPattern line)) is = absurd (omega (arith, is.0))
 refused p (Plan' (plan.Unsupported line)) is = record { which = inl refl; fault = λ two. (line, is) }
-refused p (Plan' (plan.Clash line)) is = absurd (is.0 refl)
-refused p (Plan' (plan.Missing key)) is = absurd (is.0 refl)
+refused p (Plan' (plan.Clash line)) is = absurd (omega (arith, is.0))
+refused p (Plan' (plan.Missing key)) is = absurd (omega (arith, is.0))
 refused p (Plan' plan.NoMemory) is = by_run p 5 (inr (inr (inr (inl refl))))
 refused p Fault is = by_run p 3 (inr (inl refl))
 refused p (BadCheckpoint dir file at) is = by_run p 4 (inr (inr (inl refl)))
@@ -78,8 +82,43 @@ refused p (OverCapacity dir count capacity) is = by_run p 4 (inr (inr (inl refl)
 refused p (Spent dir) is = by_run p 4 (inr (inr (inl refl)))
 refused p (Damaged dir) is = by_run p 4 (inr (inr (inl refl)))
 refused p NoMemory is = by_run p 5 (inr (inr (inr (inl refl))))
-refused p InputTooLong is = by_run p 6 (inr (inr (inr (inr (inl refl)))))
-refused p LineTooLong is = by_run p 7 (inr (inr (inr (inr (inr refl)))))
+refused p InputTooLong is = absurd (omega (arith, is.1))
+refused p LineTooLong is = absurd (omega (arith, is.1))
+
+-- a status with which a run does not begin
+abbrev pub IsRefusal : ℕ → Type 0
+IsRefusal status = (2 ≤ status) × (status < 6)
+
+pub refusal : (p : Plan) (e : RunError) → IsRunRefused p e → IsRefusal (status_of e)
+refusal p (Plan' (plan.Unsupported line)) is = (omega arith, omega arith)
+refusal p Usage is = (omega (arith, is.0), is.1)
+refusal p FileTooLarge is = (omega (arith, is.0), is.1)
+refusal p (Text (text.NotUtf8 at)) is = (omega (arith, is.0), is.1)
+refusal p (Text (text.BadEscape line)) is = (omega (arith, is.0), is.1)
+refusal p (Text text.NoMemory) is = (omega (arith, is.0), is.1)
+refusal p (NoAgent name) is = (omega (arith, is.0), is.1)
+refusal p (Plan' plan.NoAgent) is = (omega (arith, is.0), is.1)
+refusal p (Plan' (plan.UnknownType line)) is = (omega (arith, is.0), is.1)
+refusal p (Plan' (plan.UnknownName line)) is = (omega (arith, is.0), is.1)
+refusal p (Plan' (plan.BadNumber line)) is = (omega (arith, is.0), is.1)
+refusal p (Plan' (plan.BadPattern line)) is = (omega (arith, is.0), is.1)
+refusal p (Plan' (plan.Clash line)) is = (omega (arith, is.0), is.1)
+refusal p (Plan' (plan.Missing key)) is = (omega (arith, is.0), is.1)
+refusal p (Plan' plan.NoMemory) is = (omega (arith, is.0), is.1)
+refusal p Fault is = (omega (arith, is.0), is.1)
+refusal p (BadCheckpoint dir file at) is = (omega (arith, is.0), is.1)
+refusal p (BadLog dir file at) is = (omega (arith, is.0), is.1)
+refusal p (OverCapacity dir count capacity) is = (omega (arith, is.0), is.1)
+refusal p (Spent dir) is = (omega (arith, is.0), is.1)
+refusal p (Damaged dir) is = (omega (arith, is.0), is.1)
+refusal p NoMemory is = (omega (arith, is.0), is.1)
+refusal p InputTooLong is = (omega (arith, is.0), is.1)
+refusal p LineTooLong is = (omega (arith, is.0), is.1)
+
+pub unplanned : (n : ℕ) → (n ≡ 2) ⊎ ((n ≡ 3) ⊎ (n ≡ 5)) → IsRefusal n
+unplanned n (inl two) = (omega (arith, two), omega (arith, two))
+unplanned n (inr (inl three)) = (omega (arith, three), omega (arith, three))
+unplanned n (inr (inr five)) = (omega (arith, five), omega (arith, five))
 
 -- the plan was found in the file, and run
 pub named : (file : Option (List ℕ)) (agent : List ℕ) (p : Plan) (status : ℕ) → IsPlanOf file agent p → PlanEnds p status → AgentEnds file agent status
@@ -136,16 +175,31 @@ nonzero NoMemory zero = omega arith
 nonzero InputTooLong zero = omega arith
 nonzero LineTooLong zero = omega arith
 
--- what a run did, from the same to the same
-pub ran_same : {Ran : Plan → RunEnds → HostTold → HostTold → Type 0} {p : Plan} {a a' b : HostTold} → a ≡ a' → WellRan Ran p a b → WellRan Ran p a' b
-ran_same {Ran = Ran} {p = p} {b = b} first ran = subst (λ (x : HostTold). WellRan Ran p x b) first ran
+-- a run that was refused did not begin
+pub not_begun : {status : ℕ} {channels : List ChannelEnd} (n : ℕ) → status ≡ n → IsRefusal n → channels ≡ [] → DidNotBegin status channels
+not_begun n same is none = record { from = omega (arith, same, is.0); below = omega (arith, same, is.1); none = none }
 
-pub agent_same : {Ran : Plan → RunEnds → HostTold → HostTold → Type 0} {file : Option (List ℕ)} {agent : List ℕ} {a b b' : HostTold} → b ≡ b' → AgentRan Ran file agent a b → AgentRan Ran file agent a b'
-agent_same {Ran = Ran} {file = file} {agent = agent} {a = a} last ran = subst (λ (x : HostTold). AgentRan Ran file agent a x) last ran
+-- a run that began came to the channels that are handed on
+pub came_with : {Ran : Plan → RunEnds → List ChannelEnd → HostTold → HostTold → Type 0} {p : Plan} {status : ℕ} {a b : HostTold} (ends : RunEnds) (before after : Vec ChannelEnd Global)
+    → after ≡ before → run_status ends ≡ status → Ran p ends before.items a b → EndsAs Ran p status after.items a b
+came_with {Ran = Ran} {p = p} {a = a} {b = b} ends before after same well ran =
+    inl (record { ends = ends; by_ends = well; ran = subst (λ (v : Vec ChannelEnd Global). Ran p ends v.items a b) (sym same) ran })
 
-pub agent_named : {Ran : Plan → RunEnds → HostTold → HostTold → Type 0} (files : List ℕ → Option (List ℕ)) {file file' agent agent' : List ℕ} {a b : HostTold} → file ≡ file' → agent ≡ agent'
-    → AgentRan Ran (files file) agent a b → AgentRan Ran (files file') agent' a b
-agent_named {Ran = Ran} files {a = a} {b = b} f n ran = subst (λ (x : List ℕ × List ℕ). AgentRan Ran (files x.0) x.1 a b) (λ i. (f i, n i)) ran
+-- how a run of this kind ended, from the same to the same
+module _ {Ran : Plan → RunEnds → List ChannelEnd → HostTold → HostTold → Type 0} {status : ℕ} {channels : List ChannelEnd} where
+  -- a run of the agent's plan in a file came to what the run of that plan came to
+  pub of_plan : {file : Option (List ℕ)} {agent : List ℕ} {p : Plan} {a a' b : HostTold} → a ≡ a' → IsPlanOf file agent p
+      → EndsAs Ran p status channels a b → AgentEndsAs Ran file agent status channels a' b
+  of_plan {p = p} {b = b} first of (inl ran) = inl (record { plan = p; of = of; ran = subst (λ (x : HostTold). CameTo Ran p status channels x b) first ran })
+  of_plan first of (inr none) = inr none
+
+  pub agent_same : {file : Option (List ℕ)} {agent : List ℕ} {a b b' : HostTold} → b ≡ b'
+      → AgentEndsAs Ran file agent status channels a b → AgentEndsAs Ran file agent status channels a b'
+  agent_same {file = file} {agent = agent} {a = a} last ran = subst (λ (x : HostTold). AgentEndsAs Ran file agent status channels a x) last ran
+
+  pub agent_named : (files : List ℕ → Option (List ℕ)) {file file' agent agent' : List ℕ} {a b : HostTold} → file ≡ file' → agent ≡ agent'
+      → AgentEndsAs Ran (files file) agent status channels a b → AgentEndsAs Ran (files file') agent' status channels a b
+  agent_named files {a = a} {b = b} f n ran = subst (λ (x : List ℕ × List ℕ). AgentEndsAs Ran (files x.0) x.1 status channels a b) (λ i. (f i, n i)) ran
 
 -- what comes with an answer comes with what follows of it
 pub if_ok : {T E : Type 0} (r : Result T E) (P Q : T → Type 0) → ((t : T) → P t → Q t) → IfOk r P → IfOk r Q

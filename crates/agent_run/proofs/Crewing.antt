@@ -33,8 +33,10 @@ use Rattle.run_tracks.specs.Places.{Zips}
 use Rattle.run_tracks.specs.Told.{IsNew}
 use Rattle.run_tracks.proofs.Dealing.{ends}
 use Rattle.run_tracks.proofs.Handing.{count_joined}
+use Rattle.agent_run.specs.Alone.{AreAlone}
 use Rattle.agent_run.specs.Assembled.{AreFit, AreUsed, IsCrew, IsStaff}
 use Rattle.agent_run.specs.Draining.{HasOwn}
+use Rattle.agent_run.specs.Prepared.{uses_of}
 use Rattle.agent_run.specs.Ends.{AreLinePorts, AreListenPorts, IsSinkPort}
 use Rattle.agent_run.specs.Runs.{AreNew, AreWorkers, CanRun, owners_at, owners_of}
 use Rattle.agent_run.specs.Staff.{IsLineOf, IsListenOf, line_channels, line_ports, listen_channels, listen_ports, sink_channels, sink_ports}
@@ -42,8 +44,10 @@ use Rattle.agent_run.specs.declared.assemble.Crew.{Crew}
 use Rattle.agent_run.specs.declared.assemble.Parts.{Parts}
 use Rattle.agent_run.specs.declared.seats.Seat.{Seat}
 use Rattle.agent_run.specs.declared.workers.Workers.{Workers}
+use Rattle.agent_run.proofs.Alone.{are_alone}
+use Rattle.agent_run.proofs.Numbering.{staff_numbered}
 use Rattle.agent_run.proofs.Dealt.{each_in, each_owned}
-use Rattle.agent_run.proofs.Fresh.{AreFresh, InHands, are_fresh, dealt_but, fresh_many, hand_many, hand_none, homes, homes_are, hands, in_hands, own_are, shares}
+use Rattle.agent_run.proofs.Fresh.{AreFresh, InHands, are_fresh, dealt_but, fresh_many, hand_many, hand_none, homes, homes_are, hands, in_hands, in_order, own_are, shares}
 
 -- ---- how often a channel is used
 
@@ -192,14 +196,18 @@ pub freshly : {A B : Type 0} (wishes : List ChannelWish) (cs : List (OpenedChann
 freshly wishes cs opened = are_fresh wishes cs opened.0 opened.1 opened.2
 
 module _ {A B S N I O C K : Type 0} (plans : List SinkPlan) (wishes : List ChannelWish) (cs : List (OpenedChannel A B)) (parts : Parts S N I O C K)
-    (opened : WereOpened wishes cs) (fit : AreFit (length wishes) parts) (crew : Crew A B S N I O C K) where
+    (opened : WereOpened wishes cs) (used : AreUsed wishes (uses_of plans parts.listeners.items parts.lines.items)) (fit : AreFit (length wishes) parts) (crew : Crew A B S N I O C K) where
   pub is_crew : crew.shares.items ≡ shares wishes cs (freshly wishes cs opened) → crew.homes.items ≡ homes wishes cs (freshly wishes cs opened) → IsStaff plans parts (hands wishes cs (freshly wishes cs opened)) crew.jobs
       → IsCrew plans cs parts crew
   is_crew same_shares same_homes staff = record {
     shares = same_shares;
     homes = subst (λ (x : List (EitherShared A B) × List Known). AreHomes table_of x.0 x.1) (λ i. (sym same_shares i, sym same_homes i)) (homes_are wishes cs (freshly wishes cs opened));
+    at_home = same_homes;
     own = subst (λ (l : List Known). All HasOwn l) (sym same_homes) (own_are wishes cs (freshly wishes cs opened));
     dealt = are_dealt plans parts (hands wishes cs (freshly wishes cs opened)) crew.jobs staff crew.homes.items (subst (λ (l : List Known). AreDealtBut l [] (hands wishes cs (freshly wishes cs opened))) (sym same_homes) (dealt_but wishes cs (freshly wishes cs opened)));
+    alone = subst (λ (l : List Known). AreAlone l (owners_of crew.jobs)) (sym same_homes) (are_alone wishes cs (freshly wishes cs opened) plans parts crew.jobs staff);
+    numbers = staff_numbered plans parts (hands wishes cs (freshly wishes cs opened)) crew.jobs staff (in_order wishes cs (freshly wishes cs opened))
+        (undealt wishes cs (freshly wishes cs opened) (uses_of plans parts.listeners.items parts.lines.items) used);
     workers = are_workers crew.shares.items plans parts (hands wishes cs (freshly wishes cs opened)) crew.jobs staff held;
     new_ones = are_new crew.shares.items plans parts (hands wishes cs (freshly wishes cs opened)) crew.jobs staff held;
     fit = can_run (length wishes) plans parts (hands wishes cs (freshly wishes cs opened)) crew.jobs fit staff;
@@ -208,6 +216,7 @@ module _ {A B S N I O C K : Type 0} (plans : List SinkPlan) (wishes : List Chann
     listeners = staff.listeners;
     own_listeners = staff.own_listeners;
     lines = staff.lines;
+    own_talks = staff.own_talks;
     drains = staff.drains;
   }
     where

@@ -2,10 +2,11 @@
 use Rattle.std.proofs.Common.{◌≡◌, ◌∙◌, ◌<◌, ◌≤◌, ◌+◌, ◌++◌, ℕ, zero, suc, List, [], ◌∷◌, length, map, get_or, refl, sym, ap, subst, arith}
 use mathlib.Core.Logic.{dite}
 use Rattle.std.proofs.Math.Decide.{dec_lt}
+use native.Mathlib.Decide.{ℕ_discrete}
 use Rattle.std.specs.List.{AllByRecursion}
 use Rattle.std.specs.declared.alloc.Global.{Global}
 use Rattle.std.specs.declared.vec.Vec.{Vec}
-use Rattle.std.proofs.lemmas.List.{get_or-map, get_or_past, length-append, length-map}
+use Rattle.std.proofs.lemmas.List.{get_or-map, get_or_append_left, get_or_past, get_or_push, length-append, length-map}
 use Rattle.atomic_table.specs.Seated.{TableId}
 use Rattle.channel_face.specs.History.{Opening}
 use Rattle.shared_channel.specs.Passes.{Known, new_pass, new_passes}
@@ -42,6 +43,22 @@ many_new table start passes (suc k) =
     let rest = many_new table start passes k in
     let one = length-append (new_passes table start passes k) (new_pass table start passes k ∷ []) in
     omega (arith, rest, one)
+
+-- they have the numbers from 0 on, in order, and each knows how many there are
+abbrev IsNumbered : ℕ → ℕ → Known → Type 0
+IsNumbered passes n p = (p.number ≡ n) × (p.view.passes ≡ passes)
+
+numbered_new : (table : TableId) (start : Opening) (passes k i : ℕ) (d : Known) → i < k → IsNumbered passes i (get_or (new_passes table start passes k) i d)
+numbered_new table start passes zero i d below = absurd (omega (arith, below))
+numbered_new table start passes (suc k) i d below =
+    let front = new_passes table start passes k in
+    let last = new_pass table start passes k in
+    let many = many_new table start passes k in
+    dite (ℕ_discrete i k)
+    (λ same. subst (λ (p : Known). IsNumbered passes i p) (sym (get_or_push front last d i (many ∙ sym same))) (sym same, refl))
+    (λ other.
+    subst (λ (p : Known). IsNumbered passes i p) (sym (get_or_append_left front (last ∷ []) d i (omega (arith, below, other, many))))
+    (numbered_new table start passes k i d (omega (arith, below, other))))
 
 -- What holds of a channel that was opened, by its passes: those at home and in hand are all new, and as many are in hand as it has users.
 pub record IsFreshAt {A B : Type 0} (wish : ChannelWish) (c : OpenedChannel A B) : Type 0 where
@@ -88,6 +105,10 @@ fresh_at (wish ∷ wishes) (c ∷ cs) all (suc place) w d below = fresh_at wishe
 -- what each pass that is still to be dealt fulfils, by the place of its channel
 abbrev pub InHands : (ℕ → Known → Type 0) → List (List Known) → Type 0
 InHands P hands = (place : ℕ) → AllByRecursion (P place) (hand_at hands place)
+
+-- the passes of each channel that are still to be dealt have the numbers from 1 on, in order
+abbrev pub AreInOrder : List (List Known) → Type 0
+AreInOrder hands = (place i : ℕ) (d : Known) → i < length (hand_at hands place) → (get_or (hand_at hands place) i d).number ≡ suc i
 
 module _ {A B : Type 0} (wishes : List ChannelWish) (cs : List (OpenedChannel A B)) (fresh : AreFresh wishes cs) where
   abbrev pub shares : List (EitherShared A B)
@@ -192,3 +213,36 @@ module _ {A B : Type 0} (wishes : List ChannelWish) (cs : List (OpenedChannel A 
       (each_at place below (get_or cs place (some place below)).others.items (here place below).others))
       (λ beyond.
       subst (AllByRecursion (λ (p : Known). IsAt table_of shares place p × IsNew p)) (sym (no_hand place (omega (arith, beyond)))) tt)
+
+  -- the numbers of a channel's passes, of which the first is at home
+  numbered_at : (place : ℕ) (below : place < length cs) (i : ℕ) (d : Known) → let c = get_or cs place (some place below) in
+      i < suc (length c.others.items) → IsNumbered (suc (length c.others.items)) i (get_or (c.home ∷ c.others.items) i d)
+  numbered_at place below i d lt =
+      let c = get_or cs place (some place below) in
+      let f = here place below in
+      let n = (get_or wishes place (wish_there place below)).users + 1 in
+      let many = f.many in
+      let same : n ≡ suc (length c.others.items) = omega (arith, many) in
+      subst (λ (x : ℕ × List Known). IsNumbered x.0 i (get_or x.1 i d)) (λ j. (same j, f.all j)) (numbered_new (table_of c.share) f.start n n i d (omega (arith, lt, same)))
+
+  pub in_order : AreInOrder hands
+  in_order place i d lt =
+      dite (dec_lt place (length cs))
+      (λ below.
+      let hand = hand_of place (some place below) below in
+      subst (λ (l : List Known). (get_or l i d).number ≡ suc i) (sym hand) (numbered_at place below (suc i) d (omega (arith, lt, ap length hand))).0)
+      (λ beyond. absurd (omega (arith, lt, hand_none place (omega (arith, beyond)))))
+
+  -- the pass at home carries the first number, and knows how many there are
+  pub home_numbered : (place : ℕ) (d : Known) → place < length homes → ((get_or homes place d).number ≡ 0) × ((get_or homes place d).view.passes ≡ suc (length (hand_at hands place)))
+  home_numbered place d below =
+      let low : place < length cs = omega (arith, below, many_homes) in
+      subst (λ (x : Known × List Known). (x.0.number ≡ 0) × (x.0.view.passes ≡ suc (length x.1))) (λ j. (sym (home_of place (some place low) d low) j, sym (hand_of place (some place low) low) j))
+      (numbered_at place low 0 d (omega arith))
+
+  -- where some are left of a channel, there is a pass of it at home
+  pub home_there : (place : ℕ) → 0 < length (hand_at hands place) → place < length homes
+  home_there place left =
+      dite (dec_lt place (length cs))
+      (λ below. omega (arith, below, many_homes))
+      (λ beyond. absurd (omega (arith, left, hand_none place (omega (arith, beyond)))))

@@ -7,6 +7,8 @@ use Rattle.shared_channel.specs.Passes.{Known}
 use Rattle.source_put.specs.Chains.{Meaning}
 use Rattle.source_worker.specs.Rounds.{Heard}
 use Rattle.source_worker.specs.declared.worker.ListenWorker.{ListenWorker}
+use Rattle.line_worker.specs.Workers.{Talk}
+use Rattle.line_worker.specs.declared.worker.LineWorker.{LineWorker}
 use Rattle.turn_passes.specs.Calls.{calls_by, has}
 use Rattle.two_channels.specs.Ports.{pass_of}
 use Rattle.two_channels.specs.declared.port.EitherPort.{EitherPort}
@@ -16,13 +18,14 @@ use Rattle.run_tracks.specs.Places.{TookEach, Zips}
 use Rattle.run_tracks.specs.Told.{IsNew}
 use Rattle.run_tracks.proofs.Homing.{prefix_then}
 use Rattle.agent_run.specs.Draining.{EachGoesOn, GoesOn}
-use Rattle.agent_run.specs.Ends.{IsListenEnded}
-use Rattle.agent_run.specs.Histories.{IsListenTold}
-use Rattle.agent_run.specs.Opened.{IsListenOpened}
+use Rattle.agent_run.specs.Ends.{IsLineEnded, IsListenEnded}
+use Rattle.agent_run.specs.Histories.{IsLineTold, IsListenTold}
+use Rattle.agent_run.specs.Opened.{IsLineOpened, IsListenOpened}
 use Rattle.agent_run.specs.Wholes.{AreSilentAt, IsSilent}
-use Rattle.agent_run.proofs.Behind.{ListenRuns, listen_same}
+use Rattle.agent_run.specs.declared.homes.LineEnded.{LineEnded}
+use Rattle.agent_run.proofs.Behind.{LineRuns, ListenRuns, line_same, listen_same}
 use Rattle.agent_run.proofs.Same.{Same}
-use Rattle.agent_run.proofs.Telling.{listen_told}
+use Rattle.agent_run.proofs.Telling.{line_told, listen_told}
 
 -- a pass with one number that is silent
 took_silent : (home last q : Known) (n : ℕ) → q.view.numbers ≡ n ∷ [] → GoesOn home last → IsSilent n home last → Took home q → Took last q
@@ -44,7 +47,7 @@ module _ {F : Type 0} (pass : F → Known) (homes last : List Known) (on : EachG
     λ d. took_silent (get_or homes place d) (get_or last place d) q p.number (same.numbers ∙ new.0) (on.each place d took.0) (silent d) (took.1 d),
   )
 
-  took_each_silent : (places : List ℕ) (passes : List Known) (ports : List F) → Zips (λ p port. Same p (pass port)) passes ports → All IsNew passes → AreSilentAt homes last places passes
+  pub took_each_silent : (places : List ℕ) (passes : List Known) (ports : List F) → Zips (λ p port. Same p (pass port)) passes ports → All IsNew passes → AreSilentAt homes last places passes
       → TookEach homes pass places ports → TookEach last pass places ports
   took_each_silent [] passes [] same new silent took = tt
   took_each_silent [] passes (q ∷ ports) same new silent took = absurd took
@@ -70,3 +73,15 @@ module _ {R A B : Type 0} (disk : A → Opening → List Step → Type 0) (memor
       let later = took_each_silent pass_of homes last on job.channels.items job.ports.items w.ports.items same.ports' new silent took in
       listen_told disk memory Means moments heard stands shares last job v w listener new opened ran
       (record { took = subst (λ (l : List ℕ). TookEach last pass_of l w.ports.items) (sym same.channels') later; same = gone.same })
+
+module _ {R A B : Type 0} (disk : A → Opening → List Step → Type 0) (memory : B → Opening → List Step → Type 0)
+    {I O C K : Type 0} (Means : Meaning K) (moments : C → Option (ℕ → ℕ)) (talk : I → O → Talk) where
+  pub line_stays : (shares : List (EitherShared A B)) (homes last : List Known) → EachGoesOn homes last → (job : LineWorker Known I O C K) (v w : LineWorker (EitherPort R A B) I O C K) (back : LineEnded I O)
+      → All IsNew job.ports.items → AreSilentAt homes last job.channels.items job.ports.items → IsLineOpened shares job v → LineRuns disk memory Means moments talk v w
+      → IsLineEnded pass_of homes w back → IsLineTold Means moments talk shares last job back
+  line_stays shares homes last on job v w back new silent opened ran gone =
+      let same = line_same disk memory Means moments talk shares job v w opened ran in
+      let took : TookEach homes pass_of job.channels.items w.ports.items = subst (λ (l : List ℕ). TookEach homes pass_of l w.ports.items) same.channels' gone.took in
+      let later = took_each_silent pass_of homes last on job.channels.items job.ports.items w.ports.items same.ports' new silent took in
+      line_told disk memory Means moments talk shares last job v w back new opened ran
+      (record { took = subst (λ (l : List ℕ). TookEach last pass_of l w.ports.items) (sym same.channels') later; input = gone.input; output = gone.output; end = gone.end })

@@ -17,6 +17,7 @@ use Rattle.agent_channels.specs.declared.wish.ChannelPlace.TheVariants.{Folder, 
 use Rattle.agent_channels.specs.declared.wish.ChannelWish.{ChannelWish}
 use Rattle.agent_outside.specs.declared.listener.SourceListener.{SourceListener}
 use Rattle.run_tracks.specs.Deals.{count_of}
+use Rattle.agent_run.specs.Labels.{users_of}
 use Rattle.agent_run.specs.Lists.{HaveChannelLists, HaveWorkerLists}
 use Rattle.agent_run.specs.Opening.{CanBeManned}
 use Rattle.agent_run.specs.Outside.{LeavesDisks, WithPlaces}
@@ -25,6 +26,7 @@ use Rattle.agent_run.specs.Staff.{seat_channels}
 use Rattle.agent_run.specs.Wishes.{AreWishes}
 use Rattle.agent_run.specs.declared.opening.Opening.{Opening}
 use Rattle.agent_run.specs.declared.seats.Seat.{Seat}
+use Rattle.agent_run.proofs.Labelling.{labels_many}
 
 -- ---- the channels are used as they were wanted
 
@@ -96,6 +98,7 @@ can_be_manned {A} {B} {S} {N} {I} {O} {C} {K} plan o named names limits planned 
       hearers = as_many p.places.items o.outside.listeners.items named p.listeners.items w is.sources;
       listeners = subst (λ (n : ℕ). All (IsSeat n) p.listeners.items) many is.listeners;
       lines = subst (λ (n : ℕ). All (IsSeat n) p.lines.items) many is.lines;
+      labels = labels_many (users_of plan p.listeners.items p.lines.items) 0 plan.channels.items p.labels.items is.labels ∙ many;
       channels = subst (λ (n : ℕ). HaveChannelLists n o.channels) many channels;
       workers = workers;
     }

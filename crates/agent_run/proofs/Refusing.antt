@@ -1,5 +1,5 @@
 -- Why a run does not begin.
-use Rattle.std.proofs.Common.{◌≡◌, ◌≢◌, ◌∙◌, ◌<◌, ◌⊎◌, inl, inr, ℕ, List, ◌∷◌, length, None, Result, Ok, Err, IfErr, OnOk, refl, ap, arith}
+use Rattle.std.proofs.Common.{◌≡◌, ◌∙◌, ◌<◌, ◌⊎◌, inl, inr, ℕ, List, ◌∷◌, length, None, Result, Ok, Err, IfErr, OnOk, ap, arith}
 use Rattle.std.proofs.lemmas.List.{length-append}
 use Rattle.channel_face.specs.declared.replies.OpenCause.{OpenCause}
 use Rattle.channel_face.specs.declared.replies.OpenCause.TheVariants as causes
@@ -23,19 +23,19 @@ use Rattle.agent_run.specs.Run.{IsRunRefused}
 
 -- ---- by its status
 
-by_status : (plan : Plan) (error : RunError) → status_of error ≢ 2 → status_of error ≢ 1 → IsRunRefused plan error
-by_status plan (errors.Plan (Unsupported line)) not_two not_one = absurd (not_two refl)
-by_status plan error not_two not_one = (not_two, not_one)
+by_status : (plan : Plan) (error : RunError) → 2 < status_of error → status_of error < 6 → IsRunRefused plan error
+by_status plan (errors.Plan (Unsupported line)) later below = absurd (omega (arith, later))
+by_status plan error later below = (later, below)
 
--- a status from 3 on
-later_status : (plan : Plan) (error : RunError) (n : ℕ) → status_of error ≡ n → 2 < n → IsRunRefused plan error
-later_status plan error n is later = by_status plan error (λ two. omega (arith, is, two, later)) (λ one. omega (arith, is, one, later))
+-- a status from 3 to 5
+later_status : (plan : Plan) (error : RunError) (n : ℕ) → status_of error ≡ n → 2 < n → n < 6 → IsRunRefused plan error
+later_status plan error n is later below = by_status plan error (omega (arith, is, later)) (omega (arith, is, below))
 
 pub by_memory : (plan : Plan) (error : RunError) → error ≡ errors.NoMemory → IsRunRefused plan error
-by_memory plan error is = later_status plan error 5 (ap status_of is) (omega arith)
+by_memory plan error is = later_status plan error 5 (ap status_of is) (omega arith) (omega arith)
 
 pub by_fault : (plan : Plan) (error : RunError) → (error ≡ errors.Fault) ⊎ (error ≡ errors.NoMemory) → IsRunRefused plan error
-by_fault plan error (inl is) = later_status plan error 3 (ap status_of is) (omega arith)
+by_fault plan error (inl is) = later_status plan error 3 (ap status_of is) (omega arith) (omega arith)
 by_fault plan error (inr is) = by_memory plan error is
 
 pub of_name : (refused : NameRefused) (error : RunError) → error ≡ error_of refused → (error ≡ errors.Fault) ⊎ (error ≡ errors.NoMemory)
@@ -52,9 +52,17 @@ cause_later (causes.OverCapacity count) = omega arith
 cause_later (causes.Spent counter) = omega arith
 cause_later causes.NoMemory = omega arith
 
+cause_below : (cause : OpenCause) → cause_status cause < 6
+cause_below causes.DiskFault = omega arith
+cause_below (causes.BadCheck file at) = omega arith
+cause_below (causes.BadLog file at) = omega arith
+cause_below (causes.OverCapacity count) = omega arith
+cause_below (causes.Spent counter) = omega arith
+cause_below causes.NoMemory = omega arith
+
 pub by_cause : (plan : Plan) (kind : ChannelKind) (cause : OpenCause) (error : RunError) → IsCauseError kind cause error → IsRunRefused plan error
 by_cause plan Memory cause error is = by_memory plan error is
-by_cause plan (File folder max_file interval on_close) cause error (inl is) = later_status plan error (cause_status cause) is (cause_later cause)
+by_cause plan (File folder max_file interval on_close) cause error (inl is) = later_status plan error (cause_status cause) is (cause_later cause) (cause_below cause)
 by_cause plan (File folder max_file interval on_close) cause error (inr none) = by_memory plan error none
 
 -- the channel that was refused is one of those that were wanted

@@ -1,5 +1,5 @@
 -- What a run still has behind its workers, and what it has room for.
-use Rattle.std.proofs.Common.{◌≡◌, ◌∙◌, ◌≤◌, ◌+◌, ℕ, Bool, suc, List, [], ◌∷◌, Option, String, length, refl, sym, ap, subst, arith}
+use Rattle.std.proofs.Common.{◌≡◌, ◌∙◌, ◌≤◌, ◌+◌, ◌++◌, ℕ, Bool, suc, List, [], ◌∷◌, Option, String, length, map, refl, sym, ap, subst, arith}
 use Rattle.std.proofs.lemmas.List.{length-map}
 use Rattle.std.specs.Prelude.{string_bytes}
 use Rattle.std.specs.Vec.{vec_capacity}
@@ -13,6 +13,7 @@ use Rattle.flume_config.specs.declared.plan.SourcePlan.{SourcePlan}
 use Rattle.flume_host.specs.HostState.{Folders}
 use Rattle.flume_host.specs.Listens.{Endpoint}
 use Rattle.shared_channel.specs.Passes.{Known}
+use Rattle.two_channels.specs.Shares.{pass_of}
 use Rattle.two_channels.specs.declared.shared.EitherClosed.{EitherClosed}
 use Rattle.two_channels.specs.declared.shared.EitherClosed.TheVariants as closed
 use Rattle.two_channels.specs.declared.shared.EitherShared.{EitherShared}
@@ -23,11 +24,13 @@ use Rattle.agent_channels.specs.declared.wish.ChannelPlace.TheVariants.{Memory, 
 use Rattle.agent_channels.specs.declared.wish.ChannelWish.{ChannelWish}
 use Rattle.agent_channels.specs.Several.{ClosedFit}
 use Rattle.agent_run.specs.Draining.{AreDrained}
-use Rattle.agent_run.specs.Lists.{NamesOf}
+use Rattle.agent_run.specs.Lists.{IsEmptyFor, NamesOf}
 use Rattle.agent_run.specs.Opening.{CanBeManned, IsManned}
 use Rattle.agent_run.specs.Outside.{AreFrom}
+use Rattle.agent_run.specs.declared.labels.ChannelLabel.{ChannelLabel}
 use Rattle.agent_run.specs.declared.opening.Manned.{Manned}
 use Rattle.agent_run.specs.declared.opening.Opening.{Opening}
+use Rattle.agent_run.specs.declared.outcome.ChannelEnd.{ChannelEnd}
 use Rattle.agent_run.proofs.Crewing.{freshly}
 use Rattle.agent_run.proofs.Fresh.{fresh_many}
 
@@ -91,6 +94,27 @@ module _ {A B S N I O C K : Type 0} (plans : List SinkPlan) (o : Opening A B S N
   passes_fit ends all =
       subst (λ (p : Vec Known Global). length p.items + length ends ≤ vec_capacity p) (sym is.passes)
       (let none = ap length can.channels.passes.0 in let fits = can.channels.passes.1 in let many = closed_many m.crew.shares.items ends all in let shared = shares_many in omega (arith, none, fits, many, shared))
+
+  -- those are then the passes of the channels that were closed
+  pub only_passes : (ends : List (EitherClosed A B)) (passes : List Known) → passes ≡ m.passes.items ++ map (λ (c : EitherClosed A B). pass_of c) ends
+      → passes ≡ map (λ (c : EitherClosed A B). pass_of c) ends
+  only_passes ends passes are =
+      are ∙ ap (λ (l : List Known). l ++ map (λ (c : EitherClosed A B). pass_of c) ends) (ap (λ (v : Vec Known Global). v.items) is.passes ∙ can.channels.passes.0)
+
+  labels_long : length m.labels.items ≡ length o.prepared.wishes.items
+  labels_long = ap (λ (v : Vec ChannelLabel Global). length v.items) is.labels ∙ can.labels
+
+  -- there is a label for each of them
+  pub labels_fit : (ends : List (EitherClosed A B)) (passes : List Known) → AreClosedOf m.crew.shares.items ends
+      → passes ≡ m.passes.items ++ map (λ (c : EitherClosed A B). pass_of c) ends → length m.labels.items ≡ length passes
+  labels_fit ends passes all are =
+      labels_long ∙ sym shares_many ∙ sym (closed_many m.crew.shares.items ends all) ∙ sym (length-map ends (λ (c : EitherClosed A B). pass_of c)) ∙ sym (ap length (only_passes ends passes are))
+
+  -- and there is room for the channels with their passes
+  pub ends_fit : IsEmptyFor (length m.labels.items) m.ends
+  ends_fit =
+      subst (λ (v : Vec ChannelEnd Global). IsEmptyFor (length m.labels.items) v) (sym is.ends)
+      (can.channels.ends.0, subst (λ (n : ℕ). n ≤ vec_capacity o.channels.ends) (sym labels_long) can.channels.ends.1)
 
 -- as many entries as channels
 pub names_many : (plans : List ChannelPlan) (report : List (String Global × Counts)) → NamesOf plans report → length report ≡ length plans

@@ -1,4 +1,4 @@
--- The rounds of a sink are in the history of its channel.
+-- What the workers of a run called is in the histories of their channels.
 use Rattle.std.proofs.Common.{◌≡◌, ◌∙◌, ℕ, zero, suc, List, [], ◌∷◌, ◌++◌, map, length, All, Bool, true, false, Option, Result, get_or, refl, sym, ap, subst, arith}
 use Rattle.std.proofs.lemmas.List.Elements.{All-head, All-tail}
 use Rattle.std.specs.List.{AllByRecursion}
@@ -18,6 +18,9 @@ use Rattle.source_put.specs.Into.{Into}
 use Rattle.source_worker.specs.Rounds.{Answer, Heard, MendsIf, Round, Rounds as ListenRounds, Serving, Session, is_due}
 use Rattle.source_worker.specs.Workers.{serving}
 use Rattle.source_worker.specs.declared.worker.ListenWorker.{ListenWorker}
+use Rattle.line_worker.specs.Turns.{TakesTurn}
+use Rattle.line_worker.specs.Workers.{Session as LineSession, Talk, feeding, told_by}
+use Rattle.line_worker.specs.declared.worker.LineWorker.{LineWorker}
 use Rattle.event_core.specs.Content.{Content}
 use Rattle.channel_face.specs.Faces.{Own}
 use Rattle.channel_face.specs.History.{Opening, Step}
@@ -41,12 +44,14 @@ use Rattle.run_tracks.proofs.Moving.{mend}
 use Rattle.run_tracks.proofs.Telling.{either_face, either_steady}
 use Rattle.run_tracks.proofs.Tracking.{matches_home, rounds}
 use Rattle.agent_run.specs.Draining.{IsSinkHome}
-use Rattle.agent_run.specs.Ends.{IsListenEnded, IsSinkEnded}
-use Rattle.agent_run.specs.Histories.{IsDiskOf, IsListenTold, IsSinkTold}
-use Rattle.agent_run.specs.Opened.{IsListenOpened, IsSinkOpened}
+use Rattle.agent_run.specs.Ends.{IsLineEnded, IsListenEnded, IsSinkEnded}
+use Rattle.agent_run.specs.Histories.{IsDiskOf, IsLineTold, IsListenTold, IsSinkTold, MendedOver}
+use Rattle.agent_run.specs.Opened.{IsLineOpened, IsListenOpened, IsSinkOpened}
 use Rattle.agent_run.specs.declared.homes.AtHome.{AtHome}
-use Rattle.agent_run.proofs.Behind.{ListenRuns, Saws, SinkRuns}
+use Rattle.agent_run.specs.declared.homes.LineEnded.{LineEnded}
+use Rattle.agent_run.proofs.Behind.{LineRuns, ListenRuns, Saws, SinkRuns}
 use Rattle.agent_run.proofs.Going.{sink_later}
+use Rattle.agent_run.proofs.Lined.{are_disks, session_home}
 use Rattle.agent_run.proofs.Owning.{ended_home}
 
 module _ {R A B : Type 0} (disk : A → Opening → List Step → Type 0) (memory : B → Opening → List Step → Type 0)
@@ -180,4 +185,37 @@ module _ {R A B : Type 0} (disk : A → Opening → List Step → Type 0) (memor
             (record { into = record { route = record { links = ran.before; ports = x.3 }; moments = moments x.4 }; heard = heard x.5; due = false })
             (record { into = record { route = record { links = ran.after; ports = map ended x.3 }; moments = moments w.clock }; heard = heard x.6; due = ran.due }))
             (λ i. (opened.rules i, opened.selector i, opened.host i, same i, opened.clock i, opened.listener i, sym gone.same i)) got);
+      }
+
+module _ {R A B : Type 0} (disk : A → Opening → List Step → Type 0) (memory : B → Opening → List Step → Type 0)
+    {I O C K : Type 0} (Means : Meaning K) (moments : C → Option (ℕ → ℕ)) (talk : I → O → Talk) where
+  pub line_told : (shares : List (EitherShared A B)) (homes : List Known) (job : LineWorker Known I O C K) (v w : LineWorker (EitherPort R A B) I O C K)
+      (back : LineEnded I O) → All IsNew job.ports.items → IsLineOpened shares job v → LineRuns disk memory Means moments talk v w
+      → IsLineEnded pass_of homes w back → IsLineTold Means moments talk shares homes job back
+  line_told shares homes job v w back fresh opened ran gone =
+      let saws = Saws {R = R} disk memory in
+      let cs = job.channels.items in
+      let channels : w.channels.items ≡ cs = ap (λ (c : Vec ℕ Global). c.items) (ran.channels ∙ opened.channels) in
+      let took : TookEach homes pass_of cs w.ports.items = subst (λ (l : List ℕ). TookEach homes pass_of l w.ports.items) channels gone.took in
+      let same = tracks_same homes cs job.ports.items v.ports.items opened.passes in
+      record {
+        built = ran.built;
+        before = ran.before;
+        chain = λ yes. subst (λ (plan : Vec (LinkPlan K) Global). AreBuilt plan.items ran.before) opened.plan (ran.chain yes);
+        after = ran.after;
+        later = told_by moments w.clock;
+        due = ran.due;
+        end = ran.end;
+        noted = gone.end ∙ ran.noted;
+        session =
+            let D = IsDiskOf shares cs in
+            let got = session_home pass_of saws LaterPort (either_face disk memory) IsOnDisk either_steady Means v.selector v.host D v.rules.max v.rules.ack ran.built ran.end
+            (feeding moments v ran.before false) (feeding moments w ran.after ran.due) (talk v.input v.output) (talk w.input w.output) homes cs
+            (λ share. are_disks pass_of saws LaterPort (either_face disk memory) IsOnDisk either_steady (D share) v.ports.items (disks_at shares share cs v.ports.items opened.kinds)) (new_ports job.ports.items v.ports.items fresh opened.passes) took ran.session in
+            subst (λ (x : LineRules × Selector × HostNames × List Track × Option C × I × O × I × O).
+            LineSession x.0.max x.0.ack (TakesTurn (TakesLine Gave x.1 Means x.2) (MendedOver shares cs)) ran.built ran.end
+            (record { into = record { route = record { links = ran.before; ports = x.3 }; moments = told_by moments x.4 }; due = false })
+            (record { into = record { route = record { links = ran.after; ports = map ended x.3 }; moments = told_by moments w.clock }; due = ran.due })
+            (talk x.5 x.6) (talk x.7 x.8))
+            (λ i. (opened.rules i, opened.selector i, opened.host i, same i, opened.clock i, opened.input i, opened.output i, sym gone.input i, sym gone.output i)) got;
       }

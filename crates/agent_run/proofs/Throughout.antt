@@ -22,6 +22,7 @@ use Rattle.sink_worker.specs.Rounds.{Told}
 use Rattle.sink_worker.specs.declared.worker.SinkWorker.{SinkWorker}
 use Rattle.source_put.specs.Chains.{Meaning}
 use Rattle.source_worker.specs.Rounds.{Heard}
+use Rattle.line_worker.specs.Workers.{Talk}
 use Rattle.two_channels.specs.declared.port.EitherPort.{EitherPort}
 use Rattle.two_channels.specs.declared.shared.EitherClosed.{EitherClosed}
 use Rattle.two_channels.specs.declared.shared.EitherShared.{EitherShared}
@@ -37,15 +38,15 @@ use Rattle.agent_run.specs.declared.settle.Settled.{Settled}
 use Rattle.agent_run.specs.declared.workers.Workers.{Workers}
 
 -- the workers came back over the same sources, places and channels
-pub joined_same : {R A B S N I O C K : Type 0} (runs : Runs (EitherPort R A B) S N I O C K) (sink : Told S) (Means : Meaning K) (moments : C → Option (ℕ → ℕ)) (heard : N → Heard)
+pub joined_same : {R A B S N I O C K : Type 0} (runs : Runs (EitherPort R A B) S N I O C K) (sink : Told S) (Means : Meaning K) (moments : C → Option (ℕ → ℕ)) (heard : N → Heard) (talk : I → O → Talk)
     (Drained : DrainWorker I → HostState → HostState → Type 0) (Talked : LineEnded I O → HostState → HostState → Type 0)
     (told : N → Option LinksTold) (waits faults : N → ℕ) (homes : List Known) (jobs : Workers Known S N I O C K) (joined : Joined S C) (a b : HostState)
     (sources sources' : List SourcePlan) (places places' : List ℕ) (shares shares' : List (EitherShared A B)) → sources ≡ sources' → places ≡ places' → shares ≡ shares'
-    → IsJoined (λ returned. HaveReturned runs sink Means moments heard shares homes jobs returned) Drained Talked (AreBack told waits faults sources places) joined a b
-    → IsJoined (λ returned. HaveReturned runs sink Means moments heard shares' homes jobs returned) Drained Talked (AreBack told waits faults sources' places') joined a b
-joined_same {R} {A} {B} runs sink Means moments heard Drained Talked told waits faults homes jobs joined a b sources sources' places places' shares shares' e f h is =
+    → IsJoined (λ returned. HaveReturned runs sink Means moments heard talk shares homes jobs returned) Drained Talked (AreBack told waits faults sources places) joined a b
+    → IsJoined (λ returned. HaveReturned runs sink Means moments heard talk shares' homes jobs returned) Drained Talked (AreBack told waits faults sources' places') joined a b
+joined_same {R} {A} {B} runs sink Means moments heard talk Drained Talked told waits faults homes jobs joined a b sources sources' places places' shares shares' e f h is =
     subst (λ (x : List SourcePlan × List ℕ × List (EitherShared A B)).
-    IsJoined (λ returned. HaveReturned runs sink Means moments heard x.2 homes jobs returned) Drained Talked (AreBack told waits faults x.0 x.1) joined a b)
+    IsJoined (λ returned. HaveReturned runs sink Means moments heard talk x.2 homes jobs returned) Drained Talked (AreBack told waits faults x.0 x.1) joined a b)
     (λ i. (e i, f i, h i)) is
 
 -- the channels were settled through the same passes at home

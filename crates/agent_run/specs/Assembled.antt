@@ -10,11 +10,13 @@ use Rattle.run_tracks.specs.Dealt.{AreDealt}
 use Rattle.run_tracks.specs.Homes.{AreHomes}
 use Rattle.run_tracks.specs.Deals.{DealsEach, count_of, hand_at}
 use Rattle.run_tracks.specs.Places.{Zips}
+use Rattle.agent_run.specs.Alone.{AreAlone}
 use Rattle.agent_run.specs.Draining.{HasOwn}
+use Rattle.agent_run.specs.Labels.{numbered}
 use Rattle.agent_run.specs.Lists.{IsEmptyFor}
 use Rattle.agent_run.specs.Prepared.{uses_of}
 use Rattle.agent_run.specs.Runs.{AreNew, AreWorkers, CanRun, owners_of}
-use Rattle.agent_run.specs.Staff.{IsLineOf, IsListenOf, IsRoomy, IsSinkOf, line_channels, line_ports, listen_channels, listen_ports, sink_channels, sink_ports}
+use Rattle.agent_run.specs.Staff.{IsLineOf, IsListenOf, IsRoomy, IsSinkOf, line_channels, line_ports, listen_channels, listen_ports, own_talk, sink_channels, sink_ports}
 use Rattle.agent_run.specs.declared.assemble.Crew.{Crew}
 use Rattle.agent_run.specs.declared.assemble.Parts.{Parts}
 use Rattle.agent_run.specs.declared.workers.Workers.{Workers}
@@ -45,6 +47,7 @@ pub record IsStaff {S N I O C K : Type 0} (plans : List SinkPlan) (parts : Parts
   pub listeners : Zips IsListenOf parts.listeners.items jobs.listeners.items
   pub own_listeners : map (λ job. job.listener) jobs.listeners.items ≡ parts.outside.listeners.items
   pub lines : Zips IsLineOf parts.lines.items jobs.lines.items
+  pub own_talks : map (λ job. own_talk job) jobs.lines.items ≡ parts.talks.items
   pub drains : jobs.drains ≡ parts.room.drains
   pub behind_sinks : List (List Known)
   pub behind_listeners : List (List Known)
@@ -65,13 +68,16 @@ pub record AreFit {S N I O C K : Type 0} (count : ℕ) (parts : Parts S N I O C 
   pub lines : All (λ seat. IsFit count seat.draft) parts.lines.items
 
 -- The channels that were opened are shared among workers that can run. Each number of a channel is with its pass at home or with one
--- worker, and none has made a call.
+-- worker, and none has made a call. No worker has the number of another or of the pass at home.
 pub record IsCrew {A B S N I O C K : Type 0} (plans : List SinkPlan) (opened : List (OpenedChannel A B)) (parts : Parts S N I O C K)
     (crew : Crew A B S N I O C K) : Type 0 where
   pub shares : crew.shares.items ≡ map (λ (c : OpenedChannel A B). c.share) opened
   pub homes : AreHomes table_of crew.shares.items crew.homes.items
+  pub at_home : crew.homes.items ≡ map (λ (c : OpenedChannel A B). c.home) opened
   pub own : All HasOwn crew.homes.items
   pub dealt : AreDealt crew.homes.items (owners_of crew.jobs)
+  pub alone : AreAlone crew.homes.items (owners_of crew.jobs)
+  pub numbers : owners_of crew.jobs ≡ numbered (uses_of plans parts.listeners.items parts.lines.items)
   pub workers : AreWorkers table_of crew.shares.items (λ (pass : Known). pass) crew.jobs
   pub new_ones : AreNew crew.jobs
   pub fit : CanRun crew.jobs
@@ -80,4 +86,5 @@ pub record IsCrew {A B S N I O C K : Type 0} (plans : List SinkPlan) (opened : L
   pub listeners : Zips IsListenOf parts.listeners.items crew.jobs.listeners.items
   pub own_listeners : map (λ job. job.listener) crew.jobs.listeners.items ≡ parts.outside.listeners.items
   pub lines : Zips IsLineOf parts.lines.items crew.jobs.lines.items
+  pub own_talks : map (λ job. own_talk job) crew.jobs.lines.items ≡ parts.talks.items
   pub drains : crew.jobs.drains ≡ parts.room.drains

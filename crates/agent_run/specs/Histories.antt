@@ -1,21 +1,27 @@
 -- What the workers of a run called, in the whole histories of their channels.
-use Rattle.std.specs.Prelude.{◌≡◌, ◌<◌, ℕ, List, length, map, Bool, true, false, Option, slice_index_or}
+use Rattle.std.specs.Prelude.{◌≡◌, ◌<◌, ℕ, List, length, map, Bool, true, false, Option, Some, slice_index_or}
 use Rattle.std.specs.List.{AllByRecursion}
 use Rattle.shared_channel.specs.Passes.{Known}
 use Rattle.sink_runner.specs.declared.turn.Turn.{Turn}
 use Rattle.sink_worker.specs.Rounds.{Rounds as SinkRounds, Told}
 use Rattle.sink_worker.specs.declared.worker.SinkWorker.{SinkWorker}
 use Rattle.source_put.specs.Chains.{Meaning}
+use Rattle.source_put.specs.Into.{Into}
 use Rattle.source_put.specs.declared.chain.ChainLink.{ChainLink}
 use Rattle.chain_plan.specs.Builds.{AreBuilt}
 use Rattle.netcat_source.specs.Into.{TakesLine}
-use Rattle.source_worker.specs.Rounds.{Heard, IsUnserved, Round, Rounds, Session}
+use Rattle.source_worker.specs.Rounds.{Answer, Heard, IsUnserved, Round, Rounds, Session}
 use Rattle.source_worker.specs.declared.worker.ListenWorker.{ListenWorker}
+use Rattle.line_session.specs.declared.session.SessionEnd.{SessionEnd}
+use Rattle.line_worker.specs.Turns.{TakesTurn}
+use Rattle.line_worker.specs.Workers.{Session as LineSession, Talk, told_by}
+use Rattle.line_worker.specs.declared.worker.LineWorker.{LineWorker}
 use Rattle.two_channels.specs.Shares.{IsDisk}
 use Rattle.two_channels.specs.declared.shared.EitherShared.{EitherShared}
 use Rattle.run_tracks.specs.Listening.{MendedInto, home_tracks}
-use Rattle.run_tracks.specs.Tracks.{Gave, Mended, Turned, ended, track_of}
+use Rattle.run_tracks.specs.Tracks.{Gave, Mended, Track, Turned, ended, track_of}
 use Rattle.agent_run.specs.declared.homes.AtHome.{AtHome}
+use Rattle.agent_run.specs.declared.homes.LineEnded.{LineEnded}
 
 -- Its rounds, in order, are all calls with the number of its pass in the history that the pass at home has seen.
 pub record IsSinkTold {A B S C : Type 0} (sink : Told S) (moments : C → Option (ℕ → ℕ)) (shares : List (EitherShared A B)) (homes : List Known)
@@ -50,3 +56,26 @@ pub record IsListenTold {A B N C K : Type 0} (Means : Meaning K) (moments : C �
       Rounds (Session job.rules.max job.rules.ack (TakesLine Gave job.selector Means job.host)) (MendedInto (IsDiskOf shares job.channels.items share)) made
       (record { into = record { route = record { links = before; ports = tracks }; moments = moments job.clock }; heard = heard job.listener; due = false })
       (record { into = record { route = record { links = after; ports = map ended tracks }; moments = later }; heard = heard listener; due = due })
+
+-- mends of a worker's channels, in order, of which those are on a disk that are among these
+abbrev pub MendedOver : {A B K : Type 0} → List (EitherShared A B) → List ℕ → Into Track K → List Answer → Into Track K → Type 0
+MendedOver {A} {B} shares channels old answers new = (share : EitherShared A B) → MendedInto (IsDiskOf shares channels share) old answers new
+
+-- It built the chain that was planned, or there was no memory for it. Then it served one session, of which it noted the end: it read
+-- lines and wrote the answers of their verdicts. Those lines, in order, the batch of each and each mend, are all calls with the numbers
+-- of its passes in the histories that the passes at home have seen.
+pub record IsLineTold {A B I O C K : Type 0} (Means : Meaning K) (moments : C → Option (ℕ → ℕ)) (talk : I → O → Talk) (shares : List (EitherShared A B))
+    (homes : List Known) (job : LineWorker Known I O C K) (back : LineEnded I O) : Type 0 where
+  pub built : Bool
+  pub before : List (ChainLink K)
+  pub chain : built ≡ true → AreBuilt job.plan.items before
+  pub after : List (ChainLink K)
+  pub later : Option (ℕ → ℕ)
+  pub due : Bool
+  pub end : SessionEnd
+  pub noted : back.end ≡ Some end
+  pub session : let tracks = home_tracks (λ (p : Known). p) homes job.channels.items job.ports.items in
+      LineSession job.rules.max job.rules.ack (TakesTurn (TakesLine Gave job.selector Means job.host) (MendedOver shares job.channels.items)) built end
+      (record { into = record { route = record { links = before; ports = tracks }; moments = told_by moments job.clock }; due = false })
+      (record { into = record { route = record { links = after; ports = map ended tracks }; moments = later }; due = due })
+      (talk job.input job.output) (talk back.input back.output)

@@ -9,9 +9,10 @@ use Rattle.sink_worker.specs.Rounds.{Told}
 use Rattle.source_put.specs.Chains.{Meaning}
 use Rattle.source_worker.specs.Rounds.{Heard}
 use Rattle.source_worker.specs.declared.worker.ListenWorker.{ListenWorker}
+use Rattle.line_worker.specs.Workers.{Talk}
 use Rattle.two_channels.specs.declared.port.EitherPort.{EitherPort}
 use Rattle.two_channels.specs.declared.shared.EitherShared.{EitherShared}
-use Rattle.agent_run.specs.Histories.{IsListenTold, IsSinkTold}
+use Rattle.agent_run.specs.Histories.{IsLineTold, IsListenTold, IsSinkTold}
 use Rattle.agent_run.specs.Runs.{AreEnded, HaveRun, Runs}
 use Rattle.agent_run.specs.Streams.{InTurn, ended_of}
 use Rattle.agent_run.specs.declared.homes.LineEnded.{LineEnded}
@@ -40,15 +41,17 @@ pub record IsJoined {S N I O C : Type 0} (Back : Returned S N I O C → Type 0) 
 abbrev pub IsSameEnd : {N C K : Type 0} → (N → Option Endpoint) → ListenWorker Known N C K → N → Type 0
 IsSameEnd endpoint job listener = endpoint listener ≡ endpoint job.listener
 
--- The workers ran, and their sinks and listeners are told of in the histories that the passes at home have seen.
+-- The workers ran, and their sinks, listeners and workers of lines are told of in the histories that the passes at home have seen.
 pub record AreTold {R A B S N I O C K : Type 0} (runs : Runs (EitherPort R A B) S N I O C K) (sink : Told S) (Means : Meaning K) (moments : C → Option (ℕ → ℕ))
-    (heard : N → Heard) (shares : List (EitherShared A B)) (homes : List Known) (jobs : Workers Known S N I O C K) (returned : Returned S N I O C) : Type 0 where
+    (heard : N → Heard) (talk : I → O → Talk) (shares : List (EitherShared A B)) (homes : List Known) (jobs : Workers Known S N I O C K)
+    (returned : Returned S N I O C) : Type 0 where
   pub ran : HaveRun runs shares homes jobs returned
   pub sinks : Zips (IsSinkTold sink moments shares homes) jobs.sinks.items returned.sinks.items
   pub listeners : Zips (IsListenTold Means moments heard shares homes) jobs.listeners.items returned.listeners.items
+  pub lines : Zips (IsLineTold Means moments talk shares homes) jobs.lines.items returned.lines.items
 
 -- So it is, or there was no memory for a run, and each came back as it was.
 abbrev pub HaveReturned : {R A B S N I O C K : Type 0} → Runs (EitherPort R A B) S N I O C K → Told S → Meaning K → (C → Option (ℕ → ℕ)) → (N → Heard)
-    → List (EitherShared A B) → List Known → Workers Known S N I O C K → Returned S N I O C → Type 0
-HaveReturned runs sink Means moments heard shares homes jobs returned =
-    AreTold runs sink Means moments heard shares homes jobs returned ⊎ AreEnded (λ pass. pass) homes jobs returned
+    → (I → O → Talk) → List (EitherShared A B) → List Known → Workers Known S N I O C K → Returned S N I O C → Type 0
+HaveReturned runs sink Means moments heard talk shares homes jobs returned =
+    AreTold runs sink Means moments heard talk shares homes jobs returned ⊎ AreEnded (λ pass. pass) homes jobs returned

@@ -4,6 +4,7 @@ pub mod Ends
 pub mod Runs
 pub mod Histories
 pub mod Staff
+pub mod Labels
 pub mod Wishes
 pub mod Lists
 pub mod Draining
@@ -13,9 +14,17 @@ pub mod Outside
 pub mod Streams
 pub mod Settling
 pub mod Joined
+pub mod Dialogue
 pub mod Errors
+pub mod Alone
 pub mod Assembled
 pub mod Opening
 pub mod Run
 pub mod Named
 pub mod Through
+pub mod Finals
+pub mod FoldersTold
+pub mod ReportTold
+pub mod DrainedTold
+pub mod RunLeft
+pub mod RunDid

@@ -25,6 +25,7 @@ pub record HaveChannelLists {A B : Type 0} (many : ℕ) (lists : ChannelLists A 
   pub homes : IsEmptyFor many lists.homes
   pub hands : IsEmptyFor many lists.hands
   pub passes : IsEmptyFor many lists.passes
+  pub ends : IsEmptyFor many lists.ends
 
 -- room for what the settling of these channels leaves, and of so many sinks
 pub record HasSettleRoom {S A B : Type 0} (plans : List ChannelPlan) (many : ℕ) (room : Settled S A B) : Type 0 where

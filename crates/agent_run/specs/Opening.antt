@@ -8,8 +8,10 @@ use Rattle.agent_channels.specs.declared.opened.OpenedChannel.{OpenedChannel}
 use Rattle.run_tracks.specs.Dealt.{AreDealt}
 use Rattle.run_tracks.specs.Homes.{AreHomes}
 use Rattle.run_tracks.specs.Places.{Zips}
+use Rattle.agent_run.specs.Alone.{AreAlone}
 use Rattle.agent_run.specs.Assembled.{AreUsed}
 use Rattle.agent_run.specs.Draining.{HasOwn}
+use Rattle.agent_run.specs.Labels.{numbered}
 use Rattle.agent_run.specs.Lists.{HaveChannelLists, HaveWorkerLists}
 use Rattle.agent_run.specs.Prepared.{IsSeat, uses_of}
 use Rattle.agent_run.specs.Runs.{AreNew, AreWorkers, CanRun, HaveRoom, owners_of}
@@ -28,6 +30,7 @@ pub record CanBeManned {A B S N I O C K : Type 0} (plans : List SinkPlan) (o : O
   pub hearers : length o.outside.listeners.items ≡ length o.prepared.listeners.items
   pub listeners : All (IsSeat (length o.prepared.wishes.items)) o.prepared.listeners.items
   pub lines : All (IsSeat (length o.prepared.wishes.items)) o.prepared.lines.items
+  pub labels : length o.prepared.labels.items ≡ length o.prepared.wishes.items
   pub channels : HaveChannelLists (length o.prepared.wishes.items) o.channels
   pub workers : HaveWorkerLists (length plans) (length o.prepared.listeners.items) (length o.prepared.lines.items) o.workers
 
@@ -35,8 +38,11 @@ pub record CanBeManned {A B S N I O C K : Type 0} (plans : List SinkPlan) (o : O
 pub record IsManned {A B S N I O C K : Type 0} (plans : List SinkPlan) (o : Opening A B S N I O C K) (m : Manned A B S N I O C K) : Type 0 where
   pub shares : m.crew.shares.items ≡ map (λ (c : OpenedChannel A B). c.share) o.opened.items
   pub homes : AreHomes table_of m.crew.shares.items m.crew.homes.items
+  pub at_home : m.crew.homes.items ≡ map (λ (c : OpenedChannel A B). c.home) o.opened.items
   pub own : All HasOwn m.crew.homes.items
   pub dealt : AreDealt m.crew.homes.items (owners_of m.crew.jobs)
+  pub alone : AreAlone m.crew.homes.items (owners_of m.crew.jobs)
+  pub numbers : owners_of m.crew.jobs ≡ numbered (uses_of plans o.prepared.listeners.items o.prepared.lines.items)
   pub workers : AreWorkers table_of m.crew.shares.items (λ (pass : Known). pass) m.crew.jobs
   pub new_ones : AreNew m.crew.jobs
   pub fit : CanRun m.crew.jobs
@@ -48,6 +54,8 @@ pub record IsManned {A B S N I O C K : Type 0} (plans : List SinkPlan) (o : Open
   pub lines : Zips IsLineOf o.prepared.lines.items m.crew.jobs.lines.items
   pub wishes : m.wishes ≡ o.prepared.wishes
   pub places : m.places ≡ o.prepared.places
+  pub labels : m.labels ≡ o.prepared.labels
   pub passes : m.passes ≡ o.channels.passes
+  pub ends : m.ends ≡ o.channels.ends
   pub named : m.named ≡ o.workers.named
   pub settled : m.settled ≡ o.settled

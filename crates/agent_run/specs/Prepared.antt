@@ -16,6 +16,7 @@ use Rattle.agent_outside.specs.Ends.{ListensAt, listeners_of, places}
 use Rattle.agent_outside.specs.Names.{AreTold}
 use Rattle.agent_drafts.specs.Drafts.{AreDrafts, inputs_of}
 use Rattle.agent_drafts.specs.Fits.{IsFit}
+use Rattle.agent_run.specs.Labels.{AreLabels, users_of}
 use Rattle.agent_run.specs.Staff.{IsRoomy, seat_channels}
 use Rattle.agent_run.specs.Wishes.{AreWishes}
 use Rattle.agent_run.specs.declared.prepare.Prepared.{Prepared}
@@ -48,6 +49,7 @@ pub record IsPrepared {K C : Type 0} (plan : Plan) (p : Prepared K C) : Type 0 w
   pub sources : map (λ (seat : Seat K C). seat.draft.source) p.listeners.items ≡ p.places.items
   pub listen : All (ListensAt plan.sources.items) p.places.items
   pub clocks : length p.clocks.items ≡ length plan.sinks.items
+  pub labels : AreLabels (users_of plan p.listeners.items p.lines.items) 0 plan.channels.items p.labels.items
 
 -- Its workers are those that the plan has: drafts of as many session workers of each source, in order, whose interceptors are told of
 -- the host by this name and address.

@@ -1,5 +1,5 @@
 -- A run of an agent, by what its plan asks for.
-use Rattle.std.specs.Prelude.{◌≡◌, ◌≢◌, ℕ, Bool, List, All, map, Option, Some, Result}
+use Rattle.std.specs.Prelude.{◌≡◌, ◌<◌, ℕ, Bool, List, All, map, Option, Some, Result}
 use Rattle.flume_host.specs.HandedOut.{HandedOut}
 use Rattle.flume_host.specs.Listens.{Endpoint}
 use Rattle.flume_host.specs.Rolled.{Rolled}
@@ -22,7 +22,10 @@ use Rattle.agent_channels.specs.Closings.{DisksBack, backs_of as disks_of}
 use Rattle.agent_channels.specs.Openings.{HostTold}
 use Rattle.agent_channels.specs.declared.wish.ChannelWish.{ChannelWish}
 use Rattle.file_channel.specs.Stands.{FileState}
+use Rattle.file_channel.specs.Touches.{Rests}
 use Rattle.memory_channel.specs.declared.channel.MemoryChannel.{MemoryChannel}
+use Rattle.two_channels.specs.declared.shared.EitherClosed.{EitherClosed}
+use Rattle.two_channels.specs.declared.shared.EitherClosed.TheVariants as closed
 use Rattle.agent_run.specs.Outside.{AreFrom}
 use Rattle.agent_run.specs.Streams.{IsReported}
 use Rattle.agent_run.specs.declared.settle.Settled.{Settled}
@@ -34,10 +37,16 @@ pub record CanListenAt {N : Type 0} (endpoint : N → Option Endpoint) (sources 
   pub from : AreFrom endpoint sources places listeners
   pub out : AreOut (map (end_at sources) places) all
 
--- Why a run of a plan did not begin: a component is not supported, or a channel, a folder, a listener or a name was refused.
+-- Why a run of a plan did not begin: a component is not supported, or a channel, a folder, a listener or a name was refused, with one of
+-- the statuses 3 to 5.
 abbrev pub IsRunRefused : Plan → RunError → Type 0
 IsRunRefused plan (errors.Plan (Unsupported line)) = unsupported plan ≡ Some line
-IsRunRefused plan error = status_of error ≢ 2 × (status_of error ≢ 1)
+IsRunRefused plan error = (2 < status_of error) × (status_of error < 6)
+
+-- Unless a closed channel is broken, whatever a stop now leaves of its folder opens to just what is settled.
+abbrev pub IsAtRest : {D B : Type 0} → (D → Option Told) → EitherClosed (D × FileState) B → Type 0
+IsAtRest told (closed.Disk c) = Rests (told c.channel.0) c.channel.1.state
+IsAtRest told (closed.Memory c) = Unit {0}
 
 -- Behind a run the sinks' folders came back, then the channels' disks, and then the report was written, unless the output had failed.
 pub record IsGivenBack {R D A B : Type 0} (rolled : R → Option Rolled) (told : D → Option Told) (faults : D → ℕ) (plans : List SinkPlan)
@@ -47,6 +56,7 @@ pub record IsGivenBack {R D A B : Type 0} (rolled : R → Option Rolled) (told :
   pub behind_disks : HostTold
   pub state : behind_sinks.state ≡ old.state
   pub rolls : RollsBack (rolls_of rolled plans settled.sinks.items) old.folders behind_sinks.folders
+  pub rests : All (IsAtRest told) settled.closed.items
   pub disks : DisksBack (disks_of told faults wishes settled.closed.items) behind_sinks behind_disks
   pub folders : new.folders ≡ behind_disks.folders
   pub report : IsReported failed (report_text settled.report.items) answer behind_disks.state new.state

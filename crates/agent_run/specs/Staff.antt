@@ -6,6 +6,7 @@ use Rattle.flume_config.specs.declared.plan.SinkPlan.{SinkPlan}
 use Rattle.sink_worker.specs.declared.worker.SinkWorker.{SinkWorker}
 use Rattle.source_worker.specs.declared.worker.ListenWorker.{ListenWorker}
 use Rattle.line_worker.specs.declared.worker.LineWorker.{LineWorker}
+use Rattle.agent_run.specs.declared.homes.LineEnded.{LineEnded}
 use Rattle.agent_run.specs.declared.seats.Seat.{Seat}
 
 -- the channels that a worker uses, and its passes of them, in the same order
@@ -26,6 +27,10 @@ line_channels job = job.channels.items
 
 abbrev pub line_ports : {I O C K : Type 0} → LineWorker Known I O C K → List Known
 line_ports job = job.ports.items
+
+-- its input and output, and what ended its session
+abbrev pub own_talk : {I O C K : Type 0} → LineWorker Known I O C K → LineEnded I O
+own_talk job = record { input = job.input; output = job.output; end = job.end }
 
 abbrev pub seat_channels : {K C : Type 0} → Seat K C → List ℕ
 seat_channels seat = seat.draft.channels.items

@@ -1,5 +1,5 @@
 -- Standard input and output of a run.
-use Rattle.std.specs.Prelude.{◌≡◌, ℕ, Bool, true, false, List, [], ◌∷◌, map, Option, Some, None, Result, Ok, Err}
+use Rattle.std.specs.Prelude.{◌≡◌, ℕ, Bool, true, false, List, [], ◌∷◌, length, map, Option, Some, None, Result, Ok, Err}
 use Rattle.std.specs.Io.KnownBytes.{Appends}
 use Rattle.flume_host.specs.Causes.{Counts, Rose}
 use Rattle.flume_host.specs.HostState.{HostState}
@@ -68,6 +68,13 @@ InTurn Step [] old new = new ≡ old
 InTurn Step (a ∷ more) old new = (between : HostState) × Step a old between × InTurn Step more between new
 
 module _ {I : Type 0} (left : I → Option (List ℕ)) (read_faults : I → ℕ) where
+  -- the host handed out standard input to be drained
+  pub record DrainTaken (worker : DrainWorker I) (old new : HostState) : Type 0 where
+    pub left_there : left worker.input ≡ old.input
+    pub read_well : read_faults worker.input ≡ 0
+    pub none : worker.end ≡ None
+    pub state : new ≡ record old { input = None }
+
   -- the host took back what was drained
   pub record DrainKept (worker : DrainWorker I) (old new : HostState) : Type 0 where
     pub state : new ≡ record old { input = left worker.input; faults = new.faults }
@@ -82,6 +89,14 @@ module _ {I : Type 0} (left : I → Option (List ℕ)) (read_faults : I → ℕ)
       pub wrote_well : write_faults talk.output ≡ 0
       pub none : talk.end ≡ None
       pub state : new ≡ record old { input = None; output = None; handed = None }
+
+    -- It handed them out to the workers of lines, in order; where there is none, it handed standard input to one that drains it.
+    pub record AreTaken (talks : List (LineEnded I O)) (workers : List (DrainWorker I)) (old new : HostState) : Type 0 where
+      pub between : HostState
+      pub lines : InTurn TalkTaken talks old between
+      pub drains : InTurn DrainTaken workers between new
+      pub undrained : (talks ≡ [] → ⊥) → workers ≡ []
+      pub drained : talks ≡ [] → length workers ≡ 1
 
     -- the host took them back, and with them their faults
     pub record TalkKept (talk : LineEnded I O) (old new : HostState) : Type 0 where

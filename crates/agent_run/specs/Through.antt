@@ -1,5 +1,5 @@
 -- A run of what was opened, to its end.
-use Rattle.std.specs.Prelude.{◌≡◌, ℕ, Bool, List, All, Option, Result, String}
+use Rattle.std.specs.Prelude.{◌≡◌, ◌⊎◌, ◌<◌, ◌≤◌, ℕ, Bool, List, [], All, map, Option, Result, String, length}
 use Rattle.std.specs.declared.alloc.Global.{Global}
 use Rattle.agent_channels.specs.Openings.{HostTold}
 use Rattle.agent_channels.specs.Several.{AreOpened}
@@ -10,6 +10,7 @@ use Rattle.agent_end.specs.Statuses.{run_status}
 use Rattle.agent_end.specs.declared.ends.RunEnds.{RunEnds}
 use Rattle.channel_face.specs.declared.replies.Counts.{Counts}
 use Rattle.agent_commands.specs.Checked.{IsPlanOf}
+use Rattle.flume_config.specs.declared.plan.ChannelPlan.{ChannelPlan}
 use Rattle.flume_config.specs.declared.plan.Plan.{Plan}
 use Rattle.flume_config.specs.declared.plan.SinkPlan.{SinkPlan}
 use Rattle.flume_host.specs.HostState.{HostState}
@@ -17,9 +18,13 @@ use Rattle.run_tracks.specs.Homes.{EachTook}
 use Rattle.shared_channel.specs.Passes.{Known}
 use Rattle.sink_worker.specs.declared.worker.SinkWorker.{SinkWorker}
 use Rattle.turn_passes.specs.Turns.{HasAll}
+use Rattle.two_channels.specs.Shares.{pass_of}
+use Rattle.two_channels.specs.declared.shared.EitherClosed.{EitherClosed}
 use Rattle.two_channels.specs.declared.shared.EitherShared.{EitherShared}
 use Rattle.agent_run.specs.Draining.{IsSinkHome}
 use Rattle.agent_run.specs.Joined.{IsButStreams}
+use Rattle.agent_run.specs.Labels.{label_of}
+use Rattle.agent_run.specs.Lists.{NamesOf}
 use Rattle.agent_run.specs.Opening.{IsManned}
 use Rattle.agent_run.specs.Prepared.{IsPrepared}
 use Rattle.agent_run.specs.Streams.{IsButTaken}
@@ -27,21 +32,24 @@ use Rattle.agent_run.specs.declared.homes.AtHome.{AtHome}
 use Rattle.agent_run.specs.declared.joined.Joined.{Joined}
 use Rattle.agent_run.specs.declared.opening.Manned.{Manned}
 use Rattle.agent_run.specs.declared.opening.Opening.{Opening}
+use Rattle.agent_run.specs.declared.outcome.ChannelEnd.{ChannelEnd}
 use Rattle.agent_run.specs.declared.outside.Outside.{Outside}
 use Rattle.agent_run.specs.declared.prepare.Prepared.{Prepared}
 use Rattle.agent_run.specs.declared.settle.Settled.{Settled}
 
--- The workers were made of what was opened, ran and came back; then each sink emptied its channel, and each channel was mended,
--- counted and closed; then all was given back, and what the run came to was handed on.
+-- The workers were made of what was opened and of the streams that they took, ran and came back; then each sink emptied its channel,
+-- and each channel was mended, counted and closed; then all was given back, and what the run came to was handed on.
 pub record RanThrough {A B S N I O C K : Type 0} (plans : List SinkPlan) (o : Opening A B S N I O C K)
+    (Takes : Manned A B S N I O C K → HostState → HostState → Type 0)
     (Joins : Manned A B S N I O C K → List Known → Joined S C → HostState → HostState → Type 0)
     (Settles : List (EitherShared A B) → List Known → List (SinkWorker AtHome S C) → List (String Global × Counts) → Settled S A B → Type 0)
     (Back : List ChannelWish → Settled S A B → Bool → Result (Unit {0}) ReportRefused → HostTold → HostTold → Type 0)
-    (ends : RunEnds) (a b : HostTold) : Type 0 where
+    (ends : RunEnds) (channels : List ChannelEnd) (a b : HostTold) : Type 0 where
   pub manned : Manned A B S N I O C K
   pub is_manned : IsManned plans o manned
   pub begun : HostState
   pub taken : IsButTaken a.state begun
+  pub takes : Takes manned a.state begun
   pub homes : List Known
   pub took : EachTook manned.crew.homes.items homes
   pub all : All (λ (p : Known). HasAll p.view) homes
@@ -50,44 +58,66 @@ pub record RanThrough {A B S N I O C K : Type 0} (plans : List SinkPlan) (o : Op
   pub joins : Joins manned homes joined begun behind
   pub rest : IsButStreams begun behind
   pub home : All (IsSinkHome homes) joined.sinks.items
+  pub named : length manned.settled.report.items ≡ length homes
   pub settled : Settled S A B
   pub settles : Settles manned.crew.shares.items homes joined.sinks.items manned.settled.report.items settled
   pub back : Back manned.wishes.items settled joined.streams.output_failed ends.report (record { state = behind; folders = a.folders }) b
   pub input : ends.input ≡ joined.streams.input
   pub drains : ends.drains ≡ settled.ends
   pub mends : ends.mends ≡ settled.mends
+  pub passes : map (λ (end : ChannelEnd). end.pass) channels ≡ map (λ (c : EitherClosed A B). pass_of c) settled.closed.items
+  pub labels : map label_of channels ≡ o.prepared.labels.items
 
--- What a run needs outside its channels was opened, and the run went through.
-pub record OpenedAndRan {A B S N I O C K : Type 0} (channels : List (OpenedChannel A B)) (made : Prepared K C)
-    (Opens : HostTold → HostTold → Outside S N → Type 0) (Goes : Opening A B S N I O C K → RunEnds → HostTold → HostTold → Type 0)
-    (ends : RunEnds) (a b : HostTold) : Type 0 where
+-- What a run needs outside its channels was opened, and the run went through. Its report is of the plan's channels, by their names.
+pub record OpenedAndRan {A B S N I O C K : Type 0} (plans : List ChannelPlan) (channels : List (OpenedChannel A B)) (made : Prepared K C)
+    (Opens : HostTold → HostTold → Outside S N → Type 0)
+    (Goes : Opening A B S N I O C K → RunEnds → List ChannelEnd → HostTold → HostTold → Type 0)
+    (ends : RunEnds) (channel_ends : List ChannelEnd) (a b : HostTold) : Type 0 where
   pub opening : Opening A B S N I O C K
   pub same_channels : opening.opened.items ≡ channels
   pub same_made : opening.prepared ≡ made
+  pub names : NamesOf plans opening.settled.report.items
   pub between : HostTold
   pub opens : Opens a between opening.outside
-  pub goes : Goes opening ends between b
+  pub goes : Goes opening ends channel_ends between b
 
 -- A run of a plan: it was prepared, its channels were opened in order, then what it needs outside them, and it went through.
 pub record PlanRan {A B S N I O C K : Type 0} (plan : Plan) (Drafted : Prepared K C → Type 0)
-    (Opens : Prepared K C → HostTold → HostTold → Outside S N → Type 0) (Goes : Opening A B S N I O C K → RunEnds → HostTold → HostTold → Type 0)
-    (ends : RunEnds) (a b : HostTold) : Type 0 where
+    (Opens : Prepared K C → HostTold → HostTold → Outside S N → Type 0)
+    (Goes : Opening A B S N I O C K → RunEnds → List ChannelEnd → HostTold → HostTold → Type 0)
+    (ends : RunEnds) (channel_ends : List ChannelEnd) (a b : HostTold) : Type 0 where
   pub made : Prepared K C
   pub is_prepared : IsPrepared plan made
   pub drafted : Drafted made
   pub channels : List (OpenedChannel A B)
   pub behind : HostTold
   pub opened : AreOpened made.wishes.items channels a behind
-  pub ran : OpenedAndRan channels made (Opens made) Goes ends behind b
+  pub ran : OpenedAndRan plan.channels.items channels made (Opens made) Goes ends channel_ends behind b
 
--- A run of the plan came to ends whose status is 0.
-pub record WellRan (Ran : Plan → RunEnds → HostTold → HostTold → Type 0) (plan : Plan) (a b : HostTold) : Type 0 where
+-- A run of the plan came to ends with this status, and to these channels.
+pub record CameTo (Ran : Plan → RunEnds → List ChannelEnd → HostTold → HostTold → Type 0) (plan : Plan) (status : ℕ) (channels : List ChannelEnd)
+    (a b : HostTold) : Type 0 where
   pub ends : RunEnds
-  pub well : run_status ends ≡ 0
-  pub ran : Ran plan ends a b
+  pub by_ends : run_status ends ≡ status
+  pub ran : Ran plan ends channels a b
 
--- So did a run of the agent's plan in this file.
-pub record AgentRan (Ran : Plan → RunEnds → HostTold → HostTold → Type 0) (file : Option (List ℕ)) (agent : List ℕ) (a b : HostTold) : Type 0 where
+-- The run did not begin: the status is one of 2 to 5, and no channel comes back.
+pub record DidNotBegin (status : ℕ) (channels : List ChannelEnd) : Type 0 where
+  pub from : 2 ≤ status
+  pub below : status < 6
+  pub none : channels ≡ []
+
+-- A run of the plan came to this status and these channels, or did not begin.
+abbrev pub EndsAs : (Plan → RunEnds → List ChannelEnd → HostTold → HostTold → Type 0) → Plan → ℕ → List ChannelEnd → HostTold → HostTold → Type 0
+EndsAs Ran plan status channels a b = CameTo Ran plan status channels a b ⊎ DidNotBegin status channels
+
+-- A run of the agent's plan in this file came to this status and these channels.
+pub record AgentRan (Ran : Plan → RunEnds → List ChannelEnd → HostTold → HostTold → Type 0) (file : Option (List ℕ)) (agent : List ℕ) (status : ℕ)
+    (channels : List ChannelEnd) (a b : HostTold) : Type 0 where
   pub plan : Plan
   pub of : IsPlanOf file agent plan
-  pub ran : WellRan Ran plan a b
+  pub ran : CameTo Ran plan status channels a b
+
+-- It did, or the run did not begin.
+abbrev pub AgentEndsAs : (Plan → RunEnds → List ChannelEnd → HostTold → HostTold → Type 0) → Option (List ℕ) → List ℕ → ℕ → List ChannelEnd → HostTold → HostTold → Type 0
+AgentEndsAs Ran file agent status channels a b = AgentRan Ran file agent status channels a b ⊎ DidNotBegin status channels

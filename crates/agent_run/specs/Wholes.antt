@@ -14,6 +14,7 @@ use Rattle.sink_worker.specs.Rounds.{Rounds, Taking, Told}
 use Rattle.sink_worker.specs.declared.worker.SinkWorker.{SinkWorker}
 use Rattle.source_put.specs.Chains.{Meaning}
 use Rattle.source_worker.specs.Rounds.{Heard}
+use Rattle.line_worker.specs.Workers.{Talk}
 use Rattle.turn_passes.specs.Calls.{calls_by}
 use Rattle.two_channels.specs.Shares.{IsDisk}
 use Rattle.two_channels.specs.declared.port.EitherPort.{EitherPort}
@@ -25,7 +26,7 @@ use Rattle.run_tracks.specs.Stops.{AreCounted, AreMended, IsMended}
 use Rattle.run_tracks.specs.Tracks.{Mended, Track, Turned, ended, track_of}
 use Rattle.agent_run.specs.declared.homes.AtHome.{AtHome}
 use Rattle.agent_run.specs.Draining.{AreDrained, EachGoesOn, IsDrainedAt, IsSinkHome}
-use Rattle.agent_run.specs.Histories.{IsListenTold, IsSinkTold}
+use Rattle.agent_run.specs.Histories.{IsLineTold, IsListenTold, IsSinkTold}
 use Rattle.agent_run.specs.Runs.{AreNew, HaveRun, Runs}
 use Rattle.agent_run.specs.declared.workers.Returned.{Returned}
 use Rattle.agent_run.specs.declared.workers.Workers.{Workers}
@@ -114,6 +115,15 @@ ListenersStayTold {R} {A} {B} {S} {N} {I} {O} {C} {K} runs Means moments heard =
     → AreNew jobs → HaveRun runs shares homes jobs returned → EachGoesOn homes last
     → All (λ job. AreSilentAt homes last job.channels.items job.ports.items) jobs.listeners.items
     → Zips (IsListenTold Means moments heard shares last) jobs.listeners.items returned.listeners.items
+
+-- Where they go on with no further calls with the numbers of the passes of workers of lines, these are told of in what those have then
+-- seen.
+abbrev pub LinesStayTold : {R A B S N I O C K : Type 0} → Runs (EitherPort R A B) S N I O C K → Meaning K → (C → Option (ℕ → ℕ)) → (I → O → Talk) → Type 0
+LinesStayTold {R} {A} {B} {S} {N} {I} {O} {C} {K} runs Means moments talk =
+    (shares : List (EitherShared A B)) (homes last : List Known) (jobs : Workers Known S N I O C K) (returned : Returned S N I O C)
+    → AreNew jobs → HaveRun runs shares homes jobs returned → EachGoesOn homes last
+    → All (λ job. AreSilentAt homes last job.channels.items job.ports.items) jobs.lines.items
+    → Zips (IsLineTold Means moments talk shares last) jobs.lines.items returned.lines.items
 
 -- Drainings are silent of each number that is none of the sinks' own.
 abbrev pub DrainsAreSilent : {S C : Type 0} → Told S → (C → Option (ℕ → ℕ)) → Type 0

@@ -1,5 +1,6 @@
 // The run of an agent.
-ghost use Rattle.std.specs.Prelude.{◌≡◌, ◌⊎◌, ◌+◌, ◌≤◌, All, IfErr, IfOk, None, OnOk, Some, length};
+ghost use Rattle.std.specs.Prelude.{◌≡◌, ◌⊎◌, ◌+◌, ◌++◌, ◌≤◌, [], All, IfErr, IfOk, None, OnOk, Some, length, map};
+ghost use Rattle.two_channels.specs.Shares.{pass_of};
 ghost use Rattle.std.specs.Vec.{vec_capacity};
 ghost use Rattle.agent_channels.specs.Closings.{AreOfWishes, AreOut};
 ghost use Rattle.agent_channels.specs.Several.{WereOpened};
@@ -8,33 +9,28 @@ ghost use Rattle.agent_outside.specs.Sinks.{AreOpened, IsPlain};
 ghost use Rattle.agent_words.specs.Statuses.{status_of};
 ghost use Rattle.agent_words.specs.declared.error.RunError.TheVariants as errors;
 ghost use Rattle.plan_support.specs.Least.{HasNoPlugin, unsupported};
-ghost use Rattle.run_tracks.specs.Closes.{IsClosed};
-ghost use Rattle.run_tracks.specs.Stops.{IsMended};
-ghost use Rattle.sink_worker.specs.Rounds.{told};
-ghost use Rattle.source_worker.specs.Workers.{heard_of};
-ghost use Rattle.agent_run.specs.Draining.{IsDrainedAt};
-ghost use Rattle.agent_run.specs.Joined.{HaveReturned, IsJoined};
 ghost use Rattle.agent_run.specs.Lists.{HasRoomFor, HasSettleRoom};
 ghost use Rattle.agent_run.specs.Opening.{CanBeManned};
 ghost use Rattle.agent_run.specs.Named.{AgentEnds, PlanEnds};
 ghost use Rattle.agent_run.specs.Prepared.{IsPlanned, IsPrepared};
 ghost use Rattle.agent_outside.specs.Listening.{IsFresh};
-ghost use Rattle.agent_run.specs.Outside.{AreBack, IsOutside};
+ghost use Rattle.agent_run.specs.Outside.{IsOutside};
 ghost use Rattle.agent_run.specs.Run.{CanListenAt, IsGivenBack, IsRunRefused};
-ghost use Rattle.agent_run.specs.Runs.{runs};
-ghost use Rattle.agent_run.specs.Settling.{AreSettled};
-ghost use Rattle.agent_run.specs.Streams.{DrainKept, TalkKept};
-ghost use Rattle.agent_run.specs.Through.{AgentRan, OpenedAndRan, RanThrough, WellRan};
+ghost use Rattle.agent_run.specs.Through.{AgentEndsAs, EndsAs, OpenedAndRan};
 ghost use Rattle.agent_run.specs.Errors.{IsBrokenCause, IsBrokenError, IsCauseError, IsRunStatus, IsSaid};
 
 use crate::assemble::Crew;
 use crate::joined::{Joined, run_crew};
+use crate::labels::add_ends;
 use crate::opening::{Manned, Opening, Room, man, room_of};
+use crate::outcome::ChannelEnd;
 use crate::outside::open_outside;
 use crate::prepare::{Prepared, name_error, prepare};
+use crate::rests::channels_rest;
 use crate::settle::{Settled, settle};
 use crate::streams::{StreamsEnded, report_on};
-use crate::through::{RunOf, Runs};
+use crate::through::{Goes, OpeningOf, RunOf, Runs, SinkOf, Steps};
+use crate::told::steps_are_told;
 use agent_channels::{
     ChannelRefused, ChannelWish, OpenedChannel, close_channels, closed_channels_fit,
     give_all_unused, open_channels,
@@ -43,27 +39,20 @@ use agent_commands::{plan_agent, unopened};
 use agent_drafts::sinks_are_plain;
 use agent_end::RunEnds;
 use agent_outside::give_back_sinks;
-use agent_sinks::AgentSink;
 use agent_words::RunError;
-use channel_face::{Channel, OpenCause};
-use crew::{DrainWorker, Work};
+use channel_face::OpenCause;
 use file_channel::FileChannel;
 use flume_config::{ChannelKind, ChannelPlan, Plan, SinkPlan};
 use flume_host::Host;
-use line_worker::LineWorker;
 use memory_channel::MemoryChannel;
 use plan_laws::{numbers_are_limited, sinks_name_what_is_there};
 use plan_refused::PlanRefused;
 use plan_support::unsupported;
-use plug_in::{EventSink, Interceptor};
+use plug_in::Interceptor;
 use shared_channel::Pass;
-use sink_runner::NullSink;
-use sink_worker::SinkWorker;
-use source_worker::ListenWorker;
 use std::alloc::{AllocError, Global};
 use std::sync::Wait;
 use std::thread::Threads;
-use two_channels::EitherPort;
 
 // Why a channel of a plan was not opened.
 fn cause_error(alloc: Global, plan: &ChannelPlan, cause: OpenCause) -> RunError
@@ -83,61 +72,45 @@ fn cause_error(alloc: Global, plan: &ChannelPlan, cause: OpenCause) -> RunError
     }
 }
 
+/// What a run came to.
+#[derive(Drop)]
+pub(crate) struct Ran {
+    /// What its parts came to.
+    pub ends: RunEnds,
+    /// Its channels.
+    pub channels: Vec<ChannelEnd>,
+}
+
 // Runs what was opened, to its end.
 fn run_opened<'a, R: Threads + Wait + Sync + 'a, H: Host + 'a, K: Interceptor + Send + Drop>(
     rt: &'a R,
     alloc: Global,
     host: &mut H,
     plan: &Plan,
-    opening: Opening<
-        FileChannel<H::Disk>,
-        MemoryChannel,
-        AgentSink<H::Roll, NullSink, NullSink>,
-        H::Listener,
-        H::Source,
-        H::Sink,
-        H::Clock,
-        K,
-    >,
-) -> RunEnds
+    opening: OpeningOf<H, K>,
+) -> Ran
     requires can { CanBeManned plan.now.sinks.items opening }
-    requires listen { CanListenAt H.Listener.endpoint plan.now.sources.items opening.prepared.places.items
-        opening.outside.listeners.items (H.state host.old).listeners }
-    requires sinks { AreOpened (H.folders host.old) plan.now.sinks.items (length plan.now.sinks.items) }
+    requires listen { CanListenAt H.Listener.endpoint plan.now.sources.items
+        opening.prepared.places.items opening.outside.listeners.items
+        (H.state host.old).listeners }
+    requires sinks { AreOpened (H.folders host.old) plan.now.sinks.items
+        (length plan.now.sinks.items) }
     requires disks { AreOut (H.folders host.old) opening.prepared.wishes.items }
-    requires settle { HasSettleRoom plan.now.channels.items (length plan.now.sinks.items) opening.settled }
+    requires settle { HasSettleRoom plan.now.channels.items (length plan.now.sinks.items)
+        opening.settled }
     requires many { length opening.prepared.wishes.items ≡ length plan.now.channels.items }
-    ensures { RanThrough plan.now.sinks.items opening
-        (λ manned homes. IsJoined (λ returned. HaveReturned
-        (runs
-        ⟦<SinkWorker<EitherPort<'a, R, FileChannel<H::Disk>, MemoryChannel>, AgentSink<H::Roll, NullSink, NullSink>, H::Clock> as Work>⟧.ran
-        ⟦<ListenWorker<EitherPort<'a, R, FileChannel<H::Disk>, MemoryChannel>, H::Listener, H::Clock, K> as Work>⟧.ran
-        ⟦<DrainWorker<H::Source> as Work>⟧.ran
-        ⟦<LineWorker<EitherPort<'a, R, FileChannel<H::Disk>, MemoryChannel>, H::Source, H::Sink, H::Clock, K> as Work>⟧.ran)
-        (told ⟦<AgentSink<H::Roll, NullSink, NullSink> as EventSink>⟧.delivers
-        ⟦<AgentSink<H::Roll, NullSink, NullSink> as EventSink>⟧.faults)
-        K.intercepts H.Clock.moments
-        (heard_of H.Listener.told H.Listener.faults H.Listener.waits)
-        manned.crew.shares.items homes manned.crew.jobs returned)
-        (DrainKept H.Source.left H.Source.faults)
-        (TalkKept H.Source.left H.Source.faults H.Sink.took H.Sink.handed H.Sink.faults)
-        (AreBack H.Listener.told H.Listener.waits H.Listener.faults
-        plan.now.sources.items manned.places.items))
-        (AreSettled (IsDrainedAt (told ⟦<AgentSink<H::Roll, NullSink, NullSink> as EventSink>⟧.delivers
-        ⟦<AgentSink<H::Roll, NullSink, NullSink> as EventSink>⟧.faults) H.Clock.moments)
-        (IsMended ⟦<FileChannel<H::Disk> as Channel>⟧.stands ⟦<FileChannel<H::Disk> as Channel>⟧.tells
-        ⟦<FileChannel<H::Disk> as Channel>⟧.moment)
-        (IsClosed ⟦<FileChannel<H::Disk> as Channel>⟧.stands ⟦<FileChannel<H::Disk> as Channel>⟧.tells
-        ⟦<MemoryChannel as Channel>⟧.stands ⟦<MemoryChannel as Channel>⟧.tells))
-        (IsGivenBack H.Roll.rolled H.Disk.told H.Disk.faults plan.now.sinks.items)
-        result (record { state = H.state host.old; folders = H.folders host.old })
+    ensures { ⟦<RunOf<'a, R, H, K> as Goes<OpeningOf<H, K>>>⟧.goes plan.now opening
+        result.ends result.channels.items
+        (record { state = H.state host.old; folders = H.folders host.old })
         (record { state = H.state host.new; folders = H.folders host.new }) }
 {
     let Manned {
         crew,
         wishes,
         places,
-        passes,
+        labels,
+        mut passes,
+        ends: mut channels,
         returned,
         named,
         settled,
@@ -161,15 +134,17 @@ fn run_opened<'a, R: Threads + Wait + Sync + 'a, H: Host + 'a, K: Interceptor + 
     );
     let settled = settle(rt, shares, homes, sinks, settled);
     closed_channels_fit::<FileChannel<H::Disk>, MemoryChannel>();
-    give_rest(
+    let ends = give_rest(
         alloc,
         host,
         plan.sinks.as_slice(),
         wishes,
-        passes,
+        &mut passes,
         settled,
         streams,
-    )
+    );
+    add_ends(labels, passes, &mut channels);
+    Ran { ends, channels }
 }
 
 // Gives the sinks and the channels back behind a run, and writes the report.
@@ -178,13 +153,16 @@ fn give_rest<H: Host>(
     host: &mut H,
     plans: &[SinkPlan],
     wishes: Vec<ChannelWish>,
-    passes: Vec<Pass>,
-    settled: Settled<AgentSink<H::Roll, NullSink, NullSink>, FileChannel<H::Disk>, MemoryChannel>,
+    passes: &mut Vec<Pass>,
+    settled: Settled<SinkOf<H>, FileChannel<H::Disk>, MemoryChannel>,
     streams: StreamsEnded,
 ) -> RunEnds
     requires sinks { AreOpened (H.folders host.old) plans.now (length settled.sinks.items) }
     requires of { AreOfWishes (H.folders host.old) wishes.items settled.closed.items }
-    requires room { length passes.items + length settled.closed.items ≤ vec_capacity passes }
+    requires room { length passes.old.items + length settled.closed.items
+        ≤ vec_capacity passes.old }
+    ensures passes { passes.new.items
+        ≡ passes.old.items ++ map (λ c. pass_of c) settled.closed.items }
     ensures input { result.input ≡ streams.input }
     ensures drains { result.drains ≡ settled.ends }
     ensures mends { result.mends ≡ settled.mends }
@@ -200,9 +178,9 @@ fn give_rest<H: Host>(
         report,
         closed,
     } = settled;
-    let mut passes = passes;
+    channels_rest(closed.as_slice());
     give_back_sinks(host, plans, sinks);
-    close_channels(host, wishes.as_slice(), closed, &mut passes);
+    close_channels(host, wishes.as_slice(), closed, passes);
     let report = report_on(alloc, host, streams.output_failed, report.as_slice());
     RunEnds {
         input: streams.input,
@@ -221,7 +199,7 @@ fn run_channels<'a, R: Threads + Wait + Sync + 'a, H: Host + 'a, K: Interceptor 
     opened: Vec<OpenedChannel<FileChannel<H::Disk>, MemoryChannel>>,
     prepared: Prepared<K, H::Clock>,
     room: Room<
-        AgentSink<H::Roll, NullSink, NullSink>,
+        SinkOf<H>,
         FileChannel<H::Disk>,
         MemoryChannel,
         H::Listener,
@@ -230,7 +208,7 @@ fn run_channels<'a, R: Threads + Wait + Sync + 'a, H: Host + 'a, K: Interceptor 
         H::Clock,
         K,
     >,
-) -> Result<RunEnds, RunError>
+) -> Result<Ran, RunError>
     requires prepared { IsPrepared plan.now prepared }
     requires planned { IsPlanned plan.now }
     requires plain { All (λ sink. IsPlain sink.kind) plan.now.sinks.items }
@@ -238,34 +216,13 @@ fn run_channels<'a, R: Threads + Wait + Sync + 'a, H: Host + 'a, K: Interceptor 
     requires out { AreOut (H.folders host.old) prepared.wishes.items }
     requires room { HasRoomFor plan.now (length prepared.listeners.items) (length prepared.lines.items) room }
     ensures refused { IfErr result (λ error. (error ≡ errors.Fault) ⊎ (error ≡ errors.NoMemory)) }
-    ensures ran { IfOk result (λ ends. OpenedAndRan opened.items prepared
+    ensures ran { IfOk result (λ run. OpenedAndRan plan.now.channels.items opened.items prepared
         (λ old new outside. IsOutside H.Roll.rolled H.Roll.faults
         (IsFresh H.Listener.told H.Listener.endpoint H.Listener.waits H.Listener.faults)
         plan.now prepared.places.items old new outside.sinks.items outside.listeners.items)
-        (λ opening. RanThrough plan.now.sinks.items opening
-        (λ manned homes. IsJoined (λ returned. HaveReturned
-        (runs
-        ⟦<SinkWorker<EitherPort<'a, R, FileChannel<H::Disk>, MemoryChannel>, AgentSink<H::Roll, NullSink, NullSink>, H::Clock> as Work>⟧.ran
-        ⟦<ListenWorker<EitherPort<'a, R, FileChannel<H::Disk>, MemoryChannel>, H::Listener, H::Clock, K> as Work>⟧.ran
-        ⟦<DrainWorker<H::Source> as Work>⟧.ran
-        ⟦<LineWorker<EitherPort<'a, R, FileChannel<H::Disk>, MemoryChannel>, H::Source, H::Sink, H::Clock, K> as Work>⟧.ran)
-        (told ⟦<AgentSink<H::Roll, NullSink, NullSink> as EventSink>⟧.delivers
-        ⟦<AgentSink<H::Roll, NullSink, NullSink> as EventSink>⟧.faults)
-        K.intercepts H.Clock.moments
-        (heard_of H.Listener.told H.Listener.faults H.Listener.waits)
-        manned.crew.shares.items homes manned.crew.jobs returned)
-        (DrainKept H.Source.left H.Source.faults)
-        (TalkKept H.Source.left H.Source.faults H.Sink.took H.Sink.handed H.Sink.faults)
-        (AreBack H.Listener.told H.Listener.waits H.Listener.faults
-        plan.now.sources.items manned.places.items))
-        (AreSettled (IsDrainedAt (told ⟦<AgentSink<H::Roll, NullSink, NullSink> as EventSink>⟧.delivers
-        ⟦<AgentSink<H::Roll, NullSink, NullSink> as EventSink>⟧.faults) H.Clock.moments)
-        (IsMended ⟦<FileChannel<H::Disk> as Channel>⟧.stands ⟦<FileChannel<H::Disk> as Channel>⟧.tells
-        ⟦<FileChannel<H::Disk> as Channel>⟧.moment)
-        (IsClosed ⟦<FileChannel<H::Disk> as Channel>⟧.stands ⟦<FileChannel<H::Disk> as Channel>⟧.tells
-        ⟦<MemoryChannel as Channel>⟧.stands ⟦<MemoryChannel as Channel>⟧.tells))
-        (IsGivenBack H.Roll.rolled H.Disk.told H.Disk.faults plan.now.sinks.items))
-        ends (record { state = H.state host.old; folders = H.folders host.old })
+        (⟦<RunOf<'a, R, H, K> as Goes<OpeningOf<H, K>>>⟧.goes plan.now)
+        run.ends run.channels.items
+        (record { state = H.state host.old; folders = H.folders host.old })
         (record { state = H.state host.new; folders = H.folders host.new })) }
 {
     let Room {
@@ -303,11 +260,12 @@ pub(crate) fn run_plan<
     R: Threads + Wait + Sync + 'a,
     H: Host + 'a,
     K: Interceptor + Send + Drop,
->(rt: &'a R, alloc: Global, host: &mut H, plan: &Plan) -> Result<RunEnds, RunError>
+>(rt: &'a R, alloc: Global, host: &mut H, plan: &Plan) -> Result<Ran, RunError>
     requires planned { IsPlanned plan.now }
     requires own { HasNoPlugin plan.now }
     ensures refused { IfErr result (IsRunRefused plan.now) }
-    ensures ran { IfOk result (λ ends. ⟦<RunOf<'a, R, H, K> as Runs>⟧.ran plan.now ends
+    ensures ran { IfOk result (λ run. ⟦<RunOf<'a, R, H, K> as Steps>⟧.steps plan.now
+        run.ends run.channels.items
         (record { state = H.state host.old; folders = H.folders host.old })
         (record { state = H.state host.new; folders = H.folders host.new })) }
     ensures supported { OnOk result (unsupported plan.now ≡ None) }
@@ -333,30 +291,37 @@ pub(crate) struct Ended {
     pub status: u8,
     /// Why it is not 0.
     pub error: Option<RunError>,
+    /// The channels of a run that began.
+    pub channels: Vec<ChannelEnd>,
 }
 
 impl Ended {
     // The end of a run that was refused.
-    fn refused(error: RunError) -> Ended
+    fn refused(alloc: Global, error: RunError) -> Ended
         ensures status { result.status ≡ status_of error }
         ensures error { result.error ≡ Some error }
+        ensures none { result.channels.items ≡ [] }
     {
         let status = error.status();
         Ended {
             status,
             error: Some(error),
+            channels: Vec::new(alloc),
         }
     }
 
     // The end of a run whose parts came to this. The status is theirs also where there is no memory for the name of a folder.
-    fn of(alloc: Global, plans: &[ChannelPlan], ends: &RunEnds) -> Ended
-        ensures status { result.status ≡ run_status ends.now }
-        ensures error { IsSaid plans.now ends.now.mends.items (run_status ends.now) result.error }
+    fn of(alloc: Global, plans: &[ChannelPlan], run: Ran) -> Ended
+        ensures status { result.status ≡ run_status run.ends }
+        ensures error { IsSaid plans.now run.ends.mends.items (run_status run.ends) result.error }
+        ensures channels { result.channels ≡ run.channels }
     {
+        let Ran { ends, channels } = run;
         let status = ends.status();
         Ended {
             status,
             error: end_error(alloc, plans, ends.mends.as_slice(), status),
+            channels,
         }
     }
 }
@@ -417,13 +382,15 @@ fn end_plan<'a, R: Threads + Wait + Sync + 'a, H: Host + 'a, K: Interceptor + Se
     requires planned { IsPlanned plan.now }
     requires own { HasNoPlugin plan.now }
     ensures ends { PlanEnds plan.now result.status }
-    ensures ran { result.status ≡ 0 → WellRan ⟦<RunOf<'a, R, H, K> as Runs>⟧.ran plan.now
+    ensures ran { EndsAs ⟦<RunOf<'a, R, H, K> as Runs>⟧.ran plan.now
+        result.status result.channels.items
         (record { state = H.state host.old; folders = H.folders host.old })
         (record { state = H.state host.new; folders = H.folders host.new }) }
 {
+    steps_are_told::<'a, R, H, K>();
     match run_plan::<R, H, K>(rt, alloc, host, plan) {
-        Ok(ends) => Ended::of(alloc, plan.channels.as_slice(), &ends),
-        Err(error) => Ended::refused(error),
+        Ok(done) => Ended::of(alloc, plan.channels.as_slice(), done),
+        Err(error) => Ended::refused(alloc, error),
     }
 }
 
@@ -435,13 +402,13 @@ pub(crate) fn run_named<
     K: Interceptor + Send + Drop,
 >(rt: &'a R, alloc: Global, agent: &str, file: &str, host: &mut H) -> Ended
     ensures ends { AgentEnds ((H.state host.old).files file.now) agent.now result.status }
-    ensures ran { result.status ≡ 0 → AgentRan ⟦<RunOf<'a, R, H, K> as Runs>⟧.ran
-        ((H.state host.old).files file.now) agent.now
+    ensures ran { AgentEndsAs ⟦<RunOf<'a, R, H, K> as Runs>⟧.ran
+        ((H.state host.old).files file.now) agent.now result.status result.channels.items
         (record { state = H.state host.old; folders = H.folders host.old })
         (record { state = H.state host.new; folders = H.folders host.new }) }
 {
     match plan_agent(alloc, agent, file, host) {
         Ok(plan) => end_plan::<R, H, K>(rt, alloc, host, &plan),
-        Err(error) => Ended::refused(error),
+        Err(error) => Ended::refused(alloc, error),
     }
 }

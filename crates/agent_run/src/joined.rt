@@ -6,6 +6,7 @@ ghost use Rattle.run_tracks.specs.Homes.{AreHomes, EachTook};
 ghost use Rattle.run_tracks.specs.Places.{Zips};
 ghost use Rattle.sink_worker.specs.Rounds.{told};
 ghost use Rattle.source_worker.specs.Workers.{heard_of};
+ghost use Rattle.line_worker.specs.Workers.{talk_of};
 ghost use Rattle.turn_passes.specs.Turns.{HasAll};
 ghost use Rattle.two_channels.specs.Shares.{table_of};
 ghost use Rattle.agent_run.specs.Draining.{IsSinkHome};
@@ -81,7 +82,7 @@ fn run_jobs<
         ⟦<DrainWorker<I> as Work>⟧.ran
         ⟦<LineWorker<EitherPort<'a, R, A, B>, I, O, C, K> as Work>⟧.ran)
         (told S.delivers S.faults) K.intercepts C.moments (heard_of N.told N.faults N.waits)
-        shares.now homes.new jobs result }
+        (talk_of I.left I.faults O.took O.handed O.faults) shares.now homes.new jobs result }
     ensures ends { Zips (IsSameEnd N.endpoint) jobs.listeners.items result.listeners.items }
 {
     let mut back = returned;
@@ -132,7 +133,9 @@ pub(crate) fn run_crew<
         ⟦<DrainWorker<H::Source> as Work>⟧.ran
         ⟦<LineWorker<EitherPort<'a, R, A, B>, H::Source, H::Sink, H::Clock, K> as Work>⟧.ran)
         (told S.delivers S.faults) K.intercepts H.Clock.moments
-        (heard_of H.Listener.told H.Listener.faults H.Listener.waits) shares.now homes.new jobs returned)
+        (heard_of H.Listener.told H.Listener.faults H.Listener.waits)
+        (talk_of H.Source.left H.Source.faults H.Sink.took H.Sink.handed H.Sink.faults)
+        shares.now homes.new jobs returned)
         (DrainKept H.Source.left H.Source.faults)
         (TalkKept H.Source.left H.Source.faults H.Sink.took H.Sink.handed H.Sink.faults)
         (AreBack H.Listener.told H.Listener.waits H.Listener.faults sources.now places.now)

@@ -1,9 +1,12 @@
 // Laws of passes at home, and of what a run's workers called in whole histories.
 ghost use Rattle.sink_worker.specs.Rounds.{told};
 ghost use Rattle.source_worker.specs.Workers.{heard_of};
+ghost use Rattle.line_worker.specs.Workers.{talk_of};
+ghost use Rattle.agent_run.specs.Dialogue.{EndsAtEnd, EndsWell, LinesAreAnswered, RanUnlessNoMemory};
 ghost use Rattle.agent_run.specs.Draining.{FirstHasOwn, OwnIsKept};
+ghost use Rattle.agent_run.specs.Finals.{RunsAreTold};
 ghost use Rattle.agent_run.specs.Runs.{runs};
-ghost use Rattle.agent_run.specs.Wholes.{CountsAreSilent, DrainsAreSilent, ListenersStayTold, MendsAreSilent, OthersStay, SinksAreWhole};
+ghost use Rattle.agent_run.specs.Wholes.{CountsAreSilent, DrainsAreSilent, LinesStayTold, ListenersStayTold, MendsAreSilent, OthersStay, SinksAreWhole};
 
 use channel_face::{Channel, Reopen};
 use crew::{DrainWorker, Work};
@@ -52,6 +55,82 @@ pub fn listeners_stay_told<
         K.intercepts C.moments (heard_of N.told N.faults N.waits) }
 {}
 
+/// What is told of each worker of lines behind a run, the calls of its session with what it read and wrote, stays told in what the
+/// passes at home have seen in the end, where no call with a number of its passes came behind the run.
+pub fn lines_stay_told<
+    'a,
+    R: Wait + 'a,
+    A: Reopen + Drop + Send + 'a,
+    B: Channel + Drop + Send + 'a,
+    S: EventSink + Send,
+    N: Listener + Send + Drop,
+    I: Source + Send + Drop,
+    O: Sink + Send + Drop,
+    C: Clock + Send + Drop,
+    K: Interceptor + Send,
+>()
+    ensures { LinesStayTold
+        (runs ⟦<SinkWorker<EitherPort<'a, R, A, B>, S, C> as Work>⟧.ran
+        ⟦<ListenWorker<EitherPort<'a, R, A, B>, N, C, K> as Work>⟧.ran
+        ⟦<DrainWorker<I> as Work>⟧.ran
+        ⟦<LineWorker<EitherPort<'a, R, A, B>, I, O, C, K> as Work>⟧.ran)
+        K.intercepts C.moments (talk_of I.left I.faults O.took O.handed O.faults) }
+{}
+
+/// Where a run has one worker of lines, standard input and output have had its dialogue: what the host had of the input was read as
+/// lines, the batch of each is in the histories, and the replies stand behind what the output had taken. It is so in whatever histories
+/// the worker is told of, in those behind the run or in those at the end. Where the input was read to its end, so ended the session.
+pub fn lines_are_answered<
+    'a,
+    R: Wait + 'a,
+    A: Reopen + Drop + Send + 'a,
+    B: Channel + Drop + Send + 'a,
+    S: EventSink + Send,
+    N: Listener + Send + Drop,
+    I: Source + Send + Drop,
+    O: Sink + Send + Drop,
+    C: Clock + Send + Drop,
+    K: Interceptor + Send,
+>()
+    ensures answered { LinesAreAnswered
+        (runs ⟦<SinkWorker<EitherPort<'a, R, A, B>, S, C> as Work>⟧.ran
+        ⟦<ListenWorker<EitherPort<'a, R, A, B>, N, C, K> as Work>⟧.ran
+        ⟦<DrainWorker<I> as Work>⟧.ran
+        ⟦<LineWorker<EitherPort<'a, R, A, B>, I, O, C, K> as Work>⟧.ran)
+        K.intercepts C.moments I.left I.faults O.took O.handed O.faults }
+    ensures ends { EndsAtEnd }
+{}
+
+/// Where the reading of standard input did not end for want of memory, there was memory for the run, and the workers ran. So they did
+/// where the run's status is 0; and a worker of lines then had its dialogue to the end of standard input.
+pub fn workers_ran<
+    'a,
+    R: Wait + 'a,
+    A: Reopen + Drop + Send + 'a,
+    B: Channel + Drop + Send + 'a,
+    S: EventSink + Send,
+    N: Listener + Send + Drop,
+    I: Source + Send + Drop,
+    O: Sink + Send + Drop,
+    C: Clock + Send + Drop,
+    K: Interceptor + Send,
+>()
+    ensures ran { RanUnlessNoMemory
+        (runs ⟦<SinkWorker<EitherPort<'a, R, A, B>, S, C> as Work>⟧.ran
+        ⟦<ListenWorker<EitherPort<'a, R, A, B>, N, C, K> as Work>⟧.ran
+        ⟦<DrainWorker<I> as Work>⟧.ran
+        ⟦<LineWorker<EitherPort<'a, R, A, B>, I, O, C, K> as Work>⟧.ran)
+        (told S.delivers S.faults) K.intercepts C.moments (heard_of N.told N.faults N.waits)
+        I.left I.faults O.took O.handed O.faults }
+    ensures well { EndsWell
+        (runs ⟦<SinkWorker<EitherPort<'a, R, A, B>, S, C> as Work>⟧.ran
+        ⟦<ListenWorker<EitherPort<'a, R, A, B>, N, C, K> as Work>⟧.ran
+        ⟦<DrainWorker<I> as Work>⟧.ran
+        ⟦<LineWorker<EitherPort<'a, R, A, B>, I, O, C, K> as Work>⟧.ran)
+        (told S.delivers S.faults) K.intercepts C.moments (heard_of N.told N.faults N.waits)
+        I.left I.faults O.took O.handed O.faults }
+{}
+
 /// Behind a run a number of a worker's pass stays silent: while sinks that have not this number in this channel empty their channels,
 /// while channels are mended through passes at home that carry another number, and while they are counted.
 pub fn silence_is_kept<A: Reopen, B: Channel, S: EventSink, C: Clock>()
@@ -59,3 +138,31 @@ pub fn silence_is_kept<A: Reopen, B: Channel, S: EventSink, C: Clock>()
     ensures mends { MendsAreSilent A B A.stands A.tells A.moment }
     ensures counts { CountsAreSilent }
 {}
+
+/// What the workers of a run called is told of in all that the passes of its channels had seen when these were closed. The rounds of
+/// each sink and then its draining, in order, are all calls with its worker's number, and what is told of each listener and of each
+/// worker of lines are all calls with the numbers of its worker. So it is too where there was no memory for the run, and each worker
+/// came back as it was.
+pub fn runs_are_told<
+    'a,
+    R: Wait + 'a,
+    A: Reopen + Drop + Send + 'a,
+    B: Channel + Drop + Send + 'a,
+    S: EventSink + Send,
+    N: Listener + Send + Drop,
+    I: Source + Send + Drop,
+    O: Sink + Send + Drop,
+    C: Clock + Send + Drop,
+    K: Interceptor + Send,
+>()
+    ensures { RunsAreTold
+        (runs ⟦<SinkWorker<EitherPort<'a, R, A, B>, S, C> as Work>⟧.ran
+        ⟦<ListenWorker<EitherPort<'a, R, A, B>, N, C, K> as Work>⟧.ran
+        ⟦<DrainWorker<I> as Work>⟧.ran
+        ⟦<LineWorker<EitherPort<'a, R, A, B>, I, O, C, K> as Work>⟧.ran)
+        (told S.delivers S.faults) K.intercepts C.moments (heard_of N.told N.faults N.waits)
+        (talk_of I.left I.faults O.took O.handed O.faults) A.stands A.tells A.moment B.stands B.tells }
+{
+    listeners_stay_told::<'a, R, A, B, S, N, I, O, C, K>();
+    lines_stay_told::<'a, R, A, B, S, N, I, O, C, K>();
+}

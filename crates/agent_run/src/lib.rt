@@ -6,12 +6,15 @@ mod assemble;
 mod draining;
 mod homes;
 mod joined;
+mod labels;
 mod laws;
 mod lists;
 mod opening;
+mod outcome;
 mod outside;
 mod ports;
 mod prepare;
+mod rests;
 mod rooms;
 mod rows;
 mod run;
@@ -21,13 +24,19 @@ mod settle;
 mod staff;
 mod streams;
 mod through;
+mod told;
 mod wishes;
 mod workers;
 
 pub use draining::drain_sinks;
 pub use homes::{AtHome, LineEnded, end_lines, end_listeners, end_sinks};
-pub use laws::{listeners_stay_told, own_numbers_are_kept, silence_is_kept, sinks_are_whole};
-pub use run::{Outcome, run_agent};
+pub use laws::{
+    lines_are_answered, lines_stay_told, listeners_stay_told, own_numbers_are_kept, runs_are_told,
+    silence_is_kept, sinks_are_whole, workers_ran,
+};
+pub use outcome::{ChannelEnd, Outcome, Worker};
+pub use run::run_agent;
 pub use running::run_workers;
-pub use through::{NoStep, RunOf, Runs};
+pub use through::{NoStep, RunOf, Runs, Steps};
+pub use told::{folders_are_apart, steps_are_told};
 pub use workers::{Returned, Workers};

@@ -3,6 +3,7 @@ ghost use Rattle.std.specs.Prelude.{IfOk};
 ghost use Rattle.agent_run.specs.Lists.{HasSettleRoom, HaveChannelLists, HaveWorkerLists, IsEmptyFor, NamesOf};
 
 use crate::homes::LineEnded;
+use crate::outcome::ChannelEnd;
 use crate::settle::Settled;
 use crate::workers::{Returned, Workers};
 use agent_outside::SourceListener;
@@ -23,6 +24,8 @@ pub(crate) struct ChannelLists<A: Channel, B: Channel> {
     pub hands: Vec<Vec<Pass>>,
     /// The passes of the channels once they are closed.
     pub passes: Vec<Pass>,
+    /// The channels with their passes and workers, behind the run.
+    pub ends: Vec<ChannelEnd>,
 }
 
 // The channels' names, and no count.
@@ -55,11 +58,13 @@ pub(crate) fn channel_lists<A: Channel + Drop, B: Channel + Drop>(
     let homes = Vec::with_capacity(alloc, many)?;
     let hands = Vec::with_capacity(alloc, many)?;
     let passes = Vec::with_capacity(alloc, many)?;
+    let ends = Vec::with_capacity(alloc, many)?;
     Ok(ChannelLists {
         shares,
         homes,
         hands,
         passes,
+        ends,
     })
 }
 

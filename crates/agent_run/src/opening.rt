@@ -1,12 +1,15 @@
 // What a run of an agent has from its opening to the join of its workers.
-ghost use Rattle.std.specs.Prelude.{◌≡◌, IfOk, length};
+ghost use Rattle.std.specs.Prelude.{◌≡◌, IfOk, length, map};
 ghost use Rattle.agent_run.specs.Lists.{HasRoomFor, IsEmptyFor};
 ghost use Rattle.agent_run.specs.Opening.{CanBeManned, IsManned};
-ghost use Rattle.agent_run.specs.Streams.{IsButTaken};
+ghost use Rattle.agent_run.specs.Staff.{own_talk};
+ghost use Rattle.agent_run.specs.Streams.{AreTaken, IsButTaken};
 
 use crate::assemble::{Crew, Parts, crew_of};
 use crate::homes::LineEnded;
+use crate::labels::ChannelLabel;
 use crate::lists::{ChannelLists, WorkerLists, channel_lists, settle_room, worker_lists};
+use crate::outcome::ChannelEnd;
 use crate::outside::Outside;
 use crate::prepare::Prepared;
 use crate::settle::Settled;
@@ -91,8 +94,12 @@ pub(crate) struct Manned<A: Channel, B: Channel, S, N, I, O, C, K> {
     pub wishes: Vec<ChannelWish>,
     /// The places of the sources of its listeners.
     pub places: Vec<usize>,
+    /// The channels by name, with the workers that use each.
+    pub labels: Vec<ChannelLabel>,
     /// Room for the passes of the channels once they are closed.
     pub passes: Vec<Pass>,
+    /// Room for the channels with their passes and workers, behind the run.
+    pub ends: Vec<ChannelEnd>,
     /// Room for what comes back of the workers.
     pub returned: Returned<S, N, I, O, C>,
     /// Room for the listeners with the places of their sources.
@@ -111,6 +118,8 @@ fn take_streams<H: Host>(
     requires talks { IsEmptyFor lines talks.old }
     requires drains { IsEmptyFor 1 drains.old }
     ensures talks { length talks.new.items ≡ lines }
+    ensures taken { AreTaken H.Source.left H.Source.faults H.Sink.took H.Sink.handed H.Sink.faults
+        talks.new.items drains.new.items (H.state host.old) (H.state host.new) }
     ensures folders { H.folders host.new ≡ H.folders host.old }
     ensures rest { IsButTaken (H.state host.old) (H.state host.new) }
 {
@@ -132,6 +141,9 @@ pub(crate) fn man<H: Host, A: Channel + Drop, B: Channel + Drop, S: Drop, K: Dro
 ) -> Manned<A, B, S, H::Listener, H::Source, H::Sink, H::Clock, K>
     requires can { CanBeManned plans.now opening }
     ensures manned { IsManned plans.now opening result }
+    ensures taken { AreTaken H.Source.left H.Source.faults H.Sink.took H.Sink.handed H.Sink.faults
+        (map (λ job. own_talk job) result.crew.jobs.lines.items) result.crew.jobs.drains.items
+        (H.state host.old) (H.state host.new) }
     ensures folders { H.folders host.new ≡ H.folders host.old }
     ensures rest { IsButTaken (H.state host.old) (H.state host.new) }
 {
@@ -148,6 +160,7 @@ pub(crate) fn man<H: Host, A: Channel + Drop, B: Channel + Drop, S: Drop, K: Dro
         homes,
         hands,
         passes,
+        ends,
     } = channels;
     let WorkerLists {
         jobs,
@@ -161,6 +174,7 @@ pub(crate) fn man<H: Host, A: Channel + Drop, B: Channel + Drop, S: Drop, K: Dro
         lines,
         places,
         clocks,
+        labels,
     } = prepared;
     let Workers {
         sinks: sink_jobs,
@@ -197,7 +211,9 @@ pub(crate) fn man<H: Host, A: Channel + Drop, B: Channel + Drop, S: Drop, K: Dro
         crew,
         wishes,
         places,
+        labels,
         passes,
+        ends,
         returned,
         named,
         settled,

@@ -3,6 +3,7 @@ ghost use Rattle.std.specs.Prelude.{◌≡◌, IfErr, IfOk, OnOk, length};
 ghost use Rattle.plan_support.specs.Least.{HasNoPlugin, IsSupported};
 ghost use Rattle.agent_run.specs.Prepared.{IsDrafted, IsPlanned, IsPrepared, IsUnprepared, error_of};
 
+use crate::labels::{ChannelLabel, labels_of};
 use crate::seats::{Seat, seats_of};
 use crate::wishes::{uses_of, wishes_of};
 use agent_channels::ChannelWish;
@@ -26,6 +27,8 @@ pub(crate) struct Prepared<K, C> {
     pub places: Vec<usize>,
     /// The clocks of its sinks.
     pub clocks: Vec<C>,
+    /// Its channels by name, with the workers that use each.
+    pub labels: Vec<ChannelLabel>,
 }
 
 /// Why something that is handed out by its name was not.
@@ -82,6 +85,7 @@ pub(crate) fn prepare<H: Host, K: Drop>(
     let wishes = wishes_of(alloc, plan.channels.as_slice(), uses.as_slice())?;
     let places = listening_places(alloc, plan.sources.as_slice())?;
     let clocks = clocks_of(alloc, host, sinks.len())?;
+    let labels = labels_of(alloc, plan, listeners.as_slice(), lines.as_slice())?;
     drafts_can_serve::<K>();
     Ok(Prepared {
         wishes,
@@ -89,5 +93,6 @@ pub(crate) fn prepare<H: Host, K: Drop>(
         lines,
         places,
         clocks,
+        labels,
     })
 }

@@ -1,16 +1,17 @@
 // The top call.
-ghost use Rattle.std.specs.Prelude.{◌≡◌, ◌⊎◌, List, ℕ};
+ghost use Rattle.std.specs.Prelude.{◌≡◌, ◌⊎◌, List, [], ℕ};
 ghost use Rattle.flume_host.specs.HostState.{ButDisk};
 ghost use Rattle.agent_words.specs.Commands.{IsAgent, IsCheck, IsPipe};
 ghost use Rattle.agent_words.specs.Statuses.{status_of};
 ghost use Rattle.agent_words.specs.Words.{texts};
 ghost use Rattle.agent_run.specs.Named.{AgentEnds};
-ghost use Rattle.agent_run.specs.Through.{AgentRan};
+ghost use Rattle.agent_run.specs.Through.{AgentEndsAs};
 ghost use Rattle.agent_run.specs.Words.{IsNoCommand};
 ghost use Rattle.agent_commands.specs.Checked.{Checked, IsCheckStatus};
 ghost use Rattle.agent_commands.specs.Piped.{Piped, IsPipeStatus};
 
 use crate::agent::{Ended, run_named};
+use crate::outcome::Outcome;
 use crate::through::{NoStep, RunOf, Runs};
 use agent_commands::{run_check, run_pipe, say_error};
 use agent_words::{Command, RunError, read_words};
@@ -20,24 +21,13 @@ use std::alloc::Global;
 use std::sync::Wait;
 use std::thread::Threads;
 
-/// What a run ended with.
-#[derive(Clone, Copy, Debug, PartialEq, Eq)]
-pub struct Outcome {
-    /// The exit status.
-    pub status: u8,
-    /// How many lines of standard input `pipe` accepted: their transactions are acknowledged. 0 for each other command.
-    pub accepted: u64,
-}
-
-impl Outcome {
-    /// An end before any line.
-    pub(crate) fn ended(status: u8) -> Outcome
-        ensures { result ≡ record { status = status; accepted = 0 } }
-    {
-        Outcome {
-            status,
-            accepted: 0,
-        }
+// Says why a run did not end well, if it did not.
+fn say_end<H: Host>(alloc: Global, host: &mut H, error: Option<RunError>)
+    ensures state { H.state host.new ≡ H.state host.old }
+    ensures folders { H.folders host.new ≡ H.folders host.old }
+{
+    if let Some(error) = error {
+        say_error(alloc, host, &error);
     }
 }
 
@@ -48,18 +38,25 @@ fn run_configured<'a, R: Threads + Wait + Sync + 'a, H: Host + 'a>(
     agent: &str,
     file: &str,
     host: &mut H,
-) -> u8
-    ensures ends { AgentEnds ((H.state host.old).files file.now) agent.now result }
-    ensures ran { result ≡ 0 → AgentRan ⟦<RunOf<'a, R, H, NoStep> as Runs>⟧.ran
-        ((H.state host.old).files file.now) agent.now
+) -> Outcome
+    ensures ends { AgentEnds ((H.state host.old).files file.now) agent.now result.status }
+    ensures none { result.accepted ≡ 0 }
+    ensures ran { AgentEndsAs ⟦<RunOf<'a, R, H, NoStep> as Runs>⟧.ran
+        ((H.state host.old).files file.now) agent.now result.status result.channels.items
         (record { state = H.state host.old; folders = H.folders host.old })
         (record { state = H.state host.new; folders = H.folders host.new }) }
 {
-    let Ended { status, error } = run_named::<R, H, NoStep>(rt, alloc, agent, file, host);
-    if let Some(error) = error {
-        say_error(alloc, host, &error);
+    let Ended {
+        status,
+        error,
+        channels,
+    } = run_named::<R, H, NoStep>(rt, alloc, agent, file, host);
+    say_end(alloc, host, error);
+    Outcome {
+        status,
+        accepted: 0,
+        channels,
     }
-    status
 }
 
 // Says why nothing was done.
@@ -68,9 +65,10 @@ fn refuse<H: Host>(alloc: Global, host: &mut H, error: &RunError) -> Outcome
     ensures state { H.state host.new ≡ H.state host.old }
     ensures folders { H.folders host.new ≡ H.folders host.old }
     ensures none { result.accepted ≡ 0 }
+    ensures channels { result.channels.items ≡ [] }
 {
     say_error(alloc, host, error);
-    Outcome::ended(error.status())
+    Outcome::ended(alloc, error.status())
 }
 
 /// All that the program does: takes the words after its name, and answers the exit status.
@@ -94,7 +92,9 @@ pub fn run_agent<'a, R: Threads + Wait + Sync + 'a, H: Host + 'a>(
 
     // What `pipe` read, wrote and stored, and when each status comes.
     ensures piped { (dir : List ℕ) → IsPipe (texts words.now) dir
-        → Piped (H.state host.old) (H.state host.new) ((H.folders host.old).disks dir) ((H.folders host.new).disks dir) (H.state host.old).disk_faults (H.state host.new).disk_faults result.status result.accepted }
+        → Piped (H.state host.old) (H.state host.new)
+        ((H.folders host.old).disks dir) ((H.folders host.new).disks dir)
+        (H.state host.old).disk_faults (H.state host.new).disk_faults result.status result.accepted }
     ensures pipe_statuses { (dir : List ℕ) → IsPipe (texts words.now) dir → IsPipeStatus result.status }
     ensures others { (dir : List ℕ) → IsPipe (texts words.now) dir → ButDisk dir (H.folders host.old) (H.folders host.new) }
 
@@ -103,17 +103,24 @@ pub fn run_agent<'a, R: Threads + Wait + Sync + 'a, H: Host + 'a>(
         → Checked ((H.state host.old).files file) agent (H.state host.old) (H.state host.new) result.status }
     ensures check_statuses { (agent file : List ℕ) → IsCheck (texts words.now) agent file → IsCheckStatus result.status }
     ensures none { (agent file : List ℕ) → IsCheck (texts words.now) agent file → result.accepted ≡ 0 }
+    ensures agent_none { (name file : List ℕ) → IsAgent (texts words.now) name file → result.accepted ≡ 0 }
     ensures unopened { (agent file : List ℕ) → IsCheck (texts words.now) agent file → H.folders host.new ≡ H.folders host.old }
 
     // What the configuration file of `agent` holds where the status is 2, and which statuses come.
     ensures agent { (name file : List ℕ) → IsAgent (texts words.now) name file
         → AgentEnds ((H.state host.old).files file) name result.status }
 
-    // What `agent` did where the status is 0.
-    ensures agent_ran { (name file : List ℕ) → IsAgent (texts words.now) name file → result.status ≡ 0
-        → AgentRan ⟦<RunOf<'a, R, H, NoStep> as Runs>⟧.ran ((H.state host.old).files file) name
+    // What `agent` did, where its run began, and what that comes to: at status 0 what is in each folder, what the report says, what each
+    // sink took and delivered, and what each session and standard input brought in.
+    ensures agent_ran { (name file : List ℕ) → IsAgent (texts words.now) name file
+        → AgentEndsAs ⟦<RunOf<'a, R, H, NoStep> as Runs>⟧.ran ((H.state host.old).files file) name
+        result.status result.channels.items
         (record { state = H.state host.old; folders = H.folders host.old })
         (record { state = H.state host.new; folders = H.folders host.new }) }
+
+    // But by `agent` no channel comes back.
+    ensures channels { ((name file : List ℕ) → ¬ IsAgent (texts words.now) name file)
+        → result.channels.items ≡ [] }
 
     // But by `agent` no folder of rolled files was opened, and each is as before.
     ensures rolls { ((name file : List ℕ) → ¬ IsAgent (texts words.now) name file)
@@ -126,13 +133,14 @@ pub fn run_agent<'a, R: Threads + Wait + Sync + 'a, H: Host + 'a>(
             Outcome {
                 status: ended.status,
                 accepted: ended.accepted,
+                channels: Vec::new(alloc),
             }
         }
         Ok(Some(Command::Check { name, file })) => {
-            Outcome::ended(run_check(alloc, name.as_str(), file.as_str(), host))
+            Outcome::ended(alloc, run_check(alloc, name.as_str(), file.as_str(), host))
         }
         Ok(Some(Command::Agent { name, file })) => {
-            Outcome::ended(run_configured(rt, alloc, name.as_str(), file.as_str(), host))
+            run_configured(rt, alloc, name.as_str(), file.as_str(), host)
         }
         Ok(Some(Command::Load { .. })) => refuse(alloc, host, &RunError::Usage),
         Ok(None) => refuse(alloc, host, &RunError::Usage),

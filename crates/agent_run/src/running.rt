@@ -7,8 +7,9 @@ ghost use Rattle.two_channels.specs.Shares.{table_of};
 ghost use Rattle.sink_worker.specs.Rounds.{told};
 ghost use Rattle.run_tracks.specs.Places.{Zips};
 ghost use Rattle.agent_run.specs.Draining.{IsSinkHome};
-ghost use Rattle.agent_run.specs.Histories.{IsListenTold, IsSinkTold};
+ghost use Rattle.agent_run.specs.Histories.{IsLineTold, IsListenTold, IsSinkTold};
 ghost use Rattle.source_worker.specs.Workers.{heard_of};
+ghost use Rattle.line_worker.specs.Workers.{talk_of};
 ghost use Rattle.agent_run.specs.Runs.{AreEnded, AreNew, AreOpened, AreWorkers, CanRun, HaveRoom, HaveRooms, HaveRun, owners_of, runs};
 
 use crate::homes::{end_lines, end_listeners, end_sinks};
@@ -141,6 +142,8 @@ fn run_in<
     ensures home { All (IsSinkHome homes.new) returned.new.sinks.items }
     ensures listeners { Zips (IsListenTold K.intercepts C.moments (heard_of N.told N.faults N.waits)
         shares.now homes.new) jobs.listeners.items returned.new.listeners.items }
+    ensures lines { Zips (IsLineTold K.intercepts C.moments (talk_of I.left I.faults O.took O.handed O.faults)
+        shares.now homes.new) jobs.lines.items returned.new.lines.items }
 {
     let Workers {
         mut sinks,
@@ -169,8 +172,9 @@ fn run_in<
 /// Runs workers over shared channels: each gets ports of its channels with the passes that it holds, all run beside one another,
 /// and then their passes are taken in at home, and they come back in their order. With those at home, each number that was dealt
 /// to a worker is at home again. The rounds of each sink are then, in order, all calls with the number of its pass in the history
-/// that the pass at home has seen, and so are the lines and mends of each listener. Where there is no memory for the ports, nothing
-/// runs, and all come back as they were. Each sink's channel then has a pass at home that has the number of the sink's pass.
+/// that the pass at home has seen, and so are the lines and mends of each listener and of each worker of lines. Where there is no
+/// memory for the ports, nothing runs, and all come back as they were. Each sink's channel then has a pass at home that has the number
+/// of the sink's pass.
 pub fn run_workers<
     'a,
     R: Threads + Wait + Sync + 'a,
@@ -208,6 +212,9 @@ pub fn run_workers<
         jobs.sinks.items returned.new.sinks.items) }
     ensures listeners { OnOk result (Zips (IsListenTold K.intercepts C.moments (heard_of N.told N.faults N.waits)
         shares.now homes.new) jobs.listeners.items returned.new.listeners.items) }
+    ensures lines { OnOk result (Zips (IsLineTold K.intercepts C.moments
+        (talk_of I.left I.faults O.took O.handed O.faults)
+        shares.now homes.new) jobs.lines.items returned.new.lines.items) }
     ensures home { All (IsSinkHome homes.new) returned.new.sinks.items }
     ensures idle { OnErr result (AreEnded (λ pass. pass) homes.new jobs returned.new) }
 {

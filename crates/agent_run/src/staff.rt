@@ -3,7 +3,7 @@ ghost use Rattle.std.specs.Prelude.{◌≡◌, ◌≤◌, [], All, flat_map, len
 ghost use Rattle.std.specs.Vec.{vec_capacity};
 ghost use Rattle.run_tracks.specs.Deals.{Deals, DealsEach, Suffice, hands_of};
 ghost use Rattle.run_tracks.specs.Places.{Zips};
-ghost use Rattle.agent_run.specs.Staff.{IsLineOf, IsListenOf, IsRoomy, IsSinkOf, line_channels, line_ports, listen_channels, listen_ports, seat_channels, sink_channels, sink_ports};
+ghost use Rattle.agent_run.specs.Staff.{IsLineOf, IsListenOf, IsRoomy, IsSinkOf, line_channels, line_ports, listen_channels, listen_ports, own_talk, seat_channels, sink_channels, sink_ports};
 
 use crate::homes::LineEnded;
 use crate::seats::Seat;
@@ -146,6 +146,7 @@ fn staff_line<I: Drop, O: Drop, C: Drop, K: Drop>(
     requires enough { Suffice (hands_of hands.old) (seat_channels seat) }
     ensures dealt { Deals (hands_of hands.old) (line_channels result) (line_ports result) (hands_of hands.new) }
     ensures of { IsLineOf seat result }
+    ensures talk { own_talk result ≡ talk }
 {
     let Seat {
         draft,
@@ -196,6 +197,7 @@ pub(crate) fn staff_lines<I: Drop, O: Drop, C: Drop, K: Drop>(
     requires room { length seats.items ≤ vec_capacity jobs.old }
     ensures dealt { DealsEach line_channels line_ports (hands_of hands.old) jobs.new.items (hands_of hands.new) }
     ensures of { Zips IsLineOf seats.items jobs.new.items }
+    ensures talks { map (λ job. own_talk job) jobs.new.items ≡ talks.items }
     ensures room { vec_capacity jobs.old ≤ vec_capacity jobs.new }
 {
     let mut others = seats;

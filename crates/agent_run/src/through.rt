@@ -4,10 +4,14 @@ ghost use Rattle.run_tracks.specs.Closes.{IsClosed};
 ghost use Rattle.run_tracks.specs.Stops.{IsMended};
 ghost use Rattle.sink_worker.specs.Rounds.{told};
 ghost use Rattle.source_worker.specs.Workers.{heard_of};
+ghost use Rattle.line_worker.specs.Workers.{talk_of};
 ghost use Rattle.agent_channels.specs.Openings.{HostTold};
 ghost use Rattle.flume_config.specs.declared.plan.Plan.{Plan};
 ghost use Rattle.agent_end.specs.declared.ends.RunEnds.{RunEnds};
+ghost use Rattle.agent_run.specs.declared.outcome.ChannelEnd.{ChannelEnd};
+ghost use Rattle.std.specs.Prelude.{List};
 
+use crate::opening::Opening;
 use agent_sinks::AgentSink;
 use channel_face::Channel;
 use crew::{DrainWorker, Work};
@@ -25,10 +29,22 @@ use std::sync::Wait;
 use std::thread::Threads;
 use two_channels::EitherPort;
 
-/// What a run does: which plans came to which ends, from what the host told before to what it told behind it.
+/// What a run does: which plans came to which ends and channels, from what the host told before to what it told behind it.
 pub trait Runs {
-    /// A run of this plan came to these ends.
-    ghost ran: { Plan → RunEnds → HostTold → HostTold → Type 0 };
+    /// A run of this plan came to these ends and channels: its steps, and what they come to.
+    ghost ran: { Plan → RunEnds → List ChannelEnd → HostTold → HostTold → Type 0 };
+}
+
+/// The steps of a run, one after the other.
+pub trait Steps {
+    /// A run of this plan made its steps, to these ends and channels.
+    ghost steps: { Plan → RunEnds → List ChannelEnd → HostTold → HostTold → Type 0 };
+}
+
+/// How a run goes on once all of it is opened, `P`.
+pub(crate) trait Goes<P> {
+    /// The run of this plan went on from what was opened to these ends and channels.
+    ghost goes: { Plan → P → RunEnds → List ChannelEnd → HostTold → HostTold → Type 0 };
 }
 
 /// Runs over a runtime and a host, with interceptors of a kind. There is none of it: it names what their contracts say.
@@ -38,46 +54,109 @@ pub struct RunOf<'a, R, H, K> {
     steps: PhantomData<K>,
 }
 
-impl<'a, R: Threads + Wait + Sync + 'a, H: Host + 'a, K: Interceptor + Send + Drop> Runs
-    for RunOf<'a, R, H, K> {
+/// The sinks of a run.
+pub(crate) type SinkOf<H> = AgentSink<<H as Host>::Roll, NullSink, NullSink>;
+
+/// The ports of a run's channels.
+pub(crate) type PortOf<'a, R, H> = EitherPort<'a, R, FileChannel<<H as Host>::Disk>, MemoryChannel>;
+
+/// What a run has once all is opened.
+pub(crate) type OpeningOf<H, K> = Opening<
+    FileChannel<<H as Host>::Disk>,
+    MemoryChannel,
+    SinkOf<H>,
+    <H as Host>::Listener,
+    <H as Host>::Source,
+    <H as Host>::Sink,
+    <H as Host>::Clock,
+    K,
+>;
+
+impl<'a, R: Threads + Wait + Sync + 'a, H: Host + 'a, K: Interceptor + Send + Drop> Goes<
+    OpeningOf<H, K>,
+> for RunOf<'a, R, H, K> {
     ghost use Rattle.agent_run.specs.Draining.{IsDrainedAt};
     ghost use Rattle.agent_run.specs.Joined.{HaveReturned, IsJoined};
-    ghost use Rattle.agent_run.specs.Outside.{AreBack, IsOutside};
-    ghost use Rattle.agent_run.specs.Prepared.{IsDrafted};
+    ghost use Rattle.agent_run.specs.Outside.{AreBack};
     ghost use Rattle.agent_run.specs.Run.{IsGivenBack};
     ghost use Rattle.agent_run.specs.Runs.{runs};
     ghost use Rattle.agent_run.specs.Settling.{AreSettled};
-    ghost use Rattle.agent_run.specs.Streams.{DrainKept, TalkKept};
-    ghost use Rattle.agent_run.specs.Through.{PlanRan, RanThrough};
+    ghost use Rattle.agent_run.specs.Staff.{own_talk};
+    ghost use Rattle.agent_run.specs.Streams.{AreTaken, DrainKept, TalkKept};
+    ghost use Rattle.agent_run.specs.Through.{RanThrough};
+    ghost use Rattle.std.specs.Prelude.{map};
 
-    ghost ran = { λ plan ends a b. PlanRan plan (IsDrafted a.state.name a.state.address plan)
-        (λ prepared old new outside. IsOutside H.Roll.rolled H.Roll.faults
-        (IsFresh H.Listener.told H.Listener.endpoint H.Listener.waits H.Listener.faults)
-        plan prepared.places.items old new outside.sinks.items outside.listeners.items)
-        (λ opening. RanThrough plan.sinks.items opening
+    ghost goes = { λ plan opening. RanThrough plan.sinks.items opening
+        (λ manned. AreTaken H.Source.left H.Source.faults H.Sink.took H.Sink.handed H.Sink.faults
+        (map (λ job. own_talk job) manned.crew.jobs.lines.items) manned.crew.jobs.drains.items)
         (λ manned homes. IsJoined (λ returned. HaveReturned
-        (runs
-        ⟦<SinkWorker<EitherPort<'a, R, FileChannel<H::Disk>, MemoryChannel>, AgentSink<H::Roll, NullSink, NullSink>, H::Clock> as Work>⟧.ran
-        ⟦<ListenWorker<EitherPort<'a, R, FileChannel<H::Disk>, MemoryChannel>, H::Listener, H::Clock, K> as Work>⟧.ran
+        (runs ⟦<SinkWorker<PortOf<'a, R, H>, SinkOf<H>, H::Clock> as Work>⟧.ran
+        ⟦<ListenWorker<PortOf<'a, R, H>, H::Listener, H::Clock, K> as Work>⟧.ran
         ⟦<DrainWorker<H::Source> as Work>⟧.ran
-        ⟦<LineWorker<EitherPort<'a, R, FileChannel<H::Disk>, MemoryChannel>, H::Source, H::Sink, H::Clock, K> as Work>⟧.ran)
-        (told ⟦<AgentSink<H::Roll, NullSink, NullSink> as EventSink>⟧.delivers
-        ⟦<AgentSink<H::Roll, NullSink, NullSink> as EventSink>⟧.faults)
+        ⟦<LineWorker<PortOf<'a, R, H>, H::Source, H::Sink, H::Clock, K> as Work>⟧.ran)
+        (told ⟦<SinkOf<H> as EventSink>⟧.delivers ⟦<SinkOf<H> as EventSink>⟧.faults)
         K.intercepts H.Clock.moments
         (heard_of H.Listener.told H.Listener.faults H.Listener.waits)
+        (talk_of H.Source.left H.Source.faults H.Sink.took H.Sink.handed H.Sink.faults)
         manned.crew.shares.items homes manned.crew.jobs returned)
         (DrainKept H.Source.left H.Source.faults)
         (TalkKept H.Source.left H.Source.faults H.Sink.took H.Sink.handed H.Sink.faults)
         (AreBack H.Listener.told H.Listener.waits H.Listener.faults
         plan.sources.items manned.places.items))
-        (AreSettled (IsDrainedAt (told ⟦<AgentSink<H::Roll, NullSink, NullSink> as EventSink>⟧.delivers
-        ⟦<AgentSink<H::Roll, NullSink, NullSink> as EventSink>⟧.faults) H.Clock.moments)
-        (IsMended ⟦<FileChannel<H::Disk> as Channel>⟧.stands ⟦<FileChannel<H::Disk> as Channel>⟧.tells
-        ⟦<FileChannel<H::Disk> as Channel>⟧.moment)
-        (IsClosed ⟦<FileChannel<H::Disk> as Channel>⟧.stands ⟦<FileChannel<H::Disk> as Channel>⟧.tells
+        (AreSettled (IsDrainedAt
+        (told ⟦<SinkOf<H> as EventSink>⟧.delivers ⟦<SinkOf<H> as EventSink>⟧.faults)
+        H.Clock.moments)
+        (IsMended ⟦<FileChannel<H::Disk> as Channel>⟧.stands
+        ⟦<FileChannel<H::Disk> as Channel>⟧.tells ⟦<FileChannel<H::Disk> as Channel>⟧.moment)
+        (IsClosed ⟦<FileChannel<H::Disk> as Channel>⟧.stands
+        ⟦<FileChannel<H::Disk> as Channel>⟧.tells
         ⟦<MemoryChannel as Channel>⟧.stands ⟦<MemoryChannel as Channel>⟧.tells))
-        (IsGivenBack H.Roll.rolled H.Disk.told H.Disk.faults plan.sinks.items))
-        ends a b };
+        (IsGivenBack H.Roll.rolled H.Disk.told H.Disk.faults plan.sinks.items) };
+}
+
+impl<'a, R: Threads + Wait + Sync + 'a, H: Host + 'a, K: Interceptor + Send + Drop> Steps
+    for RunOf<'a, R, H, K> {
+    ghost use Rattle.agent_run.specs.Outside.{IsOutside};
+    ghost use Rattle.agent_run.specs.Prepared.{IsDrafted};
+    ghost use Rattle.agent_run.specs.Through.{PlanRan};
+
+    ghost steps = { λ plan ends channels a b.
+        PlanRan plan (IsDrafted a.state.name a.state.address plan)
+        (λ prepared old new outside. IsOutside H.Roll.rolled H.Roll.faults
+        (IsFresh H.Listener.told H.Listener.endpoint H.Listener.waits H.Listener.faults)
+        plan prepared.places.items old new outside.sinks.items outside.listeners.items)
+        (⟦<RunOf<'a, R, H, K> as Goes<OpeningOf<H, K>>>⟧.goes plan)
+        ends channels a b };
+}
+
+impl<'a, R: Threads + Wait + Sync + 'a, H: Host + 'a, K: Interceptor + Send + Drop> Runs
+    for RunOf<'a, R, H, K> {
+    ghost use Rattle.agent_run.specs.Outside.{AreBack, IsOutside};
+    ghost use Rattle.agent_run.specs.Prepared.{IsDrafted};
+    ghost use Rattle.agent_run.specs.Run.{IsGivenBack};
+    ghost use Rattle.agent_run.specs.RunDid.{RunDid};
+    ghost use Rattle.agent_run.specs.Runs.{runs};
+
+    ghost ran = { λ plan ends channels a b. RunDid
+        (runs ⟦<SinkWorker<PortOf<'a, R, H>, SinkOf<H>, H::Clock> as Work>⟧.ran
+        ⟦<ListenWorker<PortOf<'a, R, H>, H::Listener, H::Clock, K> as Work>⟧.ran
+        ⟦<DrainWorker<H::Source> as Work>⟧.ran
+        ⟦<LineWorker<PortOf<'a, R, H>, H::Source, H::Sink, H::Clock, K> as Work>⟧.ran)
+        (told ⟦<SinkOf<H> as EventSink>⟧.delivers ⟦<SinkOf<H> as EventSink>⟧.faults)
+        K.intercepts H.Clock.moments
+        (heard_of H.Listener.told H.Listener.faults H.Listener.waits)
+        H.Source.left H.Source.faults H.Sink.took H.Sink.handed H.Sink.faults
+        ⟦<FileChannel<H::Disk> as Channel>⟧.stands ⟦<FileChannel<H::Disk> as Channel>⟧.tells
+        ⟦<FileChannel<H::Disk> as Channel>⟧.moment
+        ⟦<MemoryChannel as Channel>⟧.stands ⟦<MemoryChannel as Channel>⟧.tells
+        plan (IsDrafted a.state.name a.state.address plan)
+        (λ prepared old new outside. IsOutside H.Roll.rolled H.Roll.faults
+        (IsFresh H.Listener.told H.Listener.endpoint H.Listener.waits H.Listener.faults)
+        plan prepared.places.items old new outside.sinks.items outside.listeners.items)
+        (λ manned. AreBack H.Listener.told H.Listener.waits H.Listener.faults
+        plan.sources.items manned.places.items)
+        (IsGivenBack H.Roll.rolled H.Disk.told H.Disk.faults plan.sinks.items)
+        ends channels a b };
 }
 
 /// An interceptor that was handed in. There is none yet: a plan that names one is refused.

@@ -7,6 +7,8 @@ mod agent;
 #[cfg(test)]
 mod check;
 #[cfg(test)]
+mod ends;
+#[cfg(test)]
 mod left;
 #[cfg(test)]
 mod pipe;

@@ -45,7 +45,7 @@ fn link(alloc: Global) -> Result<MemLink, AllocError> {
 }
 
 // A listener of the source's port, whose accepts do this.
-fn placed(alloc: Global, offers: Vec<Offer>) -> Result<Placed<MemListener>, AllocError> {
+pub fn placed(alloc: Global, offers: Vec<Offer>) -> Result<Placed<MemListener>, AllocError> {
     let host = String::from_str(alloc, "localhost")?;
     Ok(Placed::new(host, 44444, MemListener::new(alloc, offers)))
 }

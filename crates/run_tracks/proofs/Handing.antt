@@ -1,5 +1,5 @@
 -- Passes are dealt one by one.
-use Rattle.std.proofs.Common.{◌≡◌, ◌∙◌, ◌≢◌, ◌<◌, ◌≤◌, ◌+◌, ◌==◌, ℕ, List, [], ◌∷◌, ◌++◌, true, false, cond, length, length-append, map, get_or, set, refl, sym, ap, subst, eq-eqb, arith}
+use Rattle.std.proofs.Common.{◌≡◌, ◌∙◌, ◌<◌, ◌+◌, ◌==◌, ℕ, List, [], ◌∷◌, ◌++◌, true, false, cond, length, length-append, get_or, set, refl, sym, ap, eq-eqb, arith}
 use mathlib.Core.Logic.{dite}
 use native.Mathlib.Decide.{ℕ_discrete}
 use Rattle.std.proofs.Math.Decide.{dec_lt}
@@ -9,7 +9,7 @@ use Rattle.std.proofs.lemmas.List.{get_or-map, get_or-set_other, get_or-set_same
 use Rattle.std.specs.declared.alloc.Global.{Global}
 use Rattle.std.specs.declared.vec.Vec.{Vec}
 use Rattle.shared_channel.specs.Passes.{Known}
-use Rattle.run_tracks.specs.Deals.{Deals, Draws, Suffice, count_of, hand_at, hands_of}
+use Rattle.run_tracks.specs.Deals.{Draws, Suffice, count_of, hand_at, hands_of}
 
 one_yes : (n : ℕ) → count_of n (n ∷ []) ≡ 1
 one_yes n = let is : (n == n) ≡ true = eq-eqb n n refl in rw is refl

@@ -30,10 +30,12 @@ module _ {F : Type 0} (pass : F → Known) (saw : F → List Own → State → T
   abbrev pub SameDisk : F → F → Type 0
   SameDisk p q = (on_disk p → on_disk q) × (on_disk q → on_disk p)
 
-  disk_self : (p : F) → SameDisk p p
+  -- it is so of a port itself
+  pub disk_self : (p : F) → SameDisk p p
   disk_self p = (λ x. x, λ x. x)
 
-  disk_then : (p q r : F) → SameDisk p q → SameDisk q r → SameDisk p r
+  -- and of one port after the other
+  pub disk_then : (p q r : F) → SameDisk p q → SameDisk q r → SameDisk p r
   disk_then p q r f g = (λ x. g.0 (f.0 x), λ x. f.1 (g.1 x))
 
   -- each port is on a disk exactly where D says so of its place
@@ -45,13 +47,15 @@ module _ {F : Type 0} (pass : F → Known) (saw : F → List Own → State → T
   disks_self [] = tt
   disks_self (p ∷ ps) = ((λ x. x, λ x. x), disks_self ps)
 
-  disks_later : (D : ℕ → Type 0) (ps qs : List F) → Zips SameDisk ps qs → AreDisks D ps → AreDisks D qs
+  -- ports that are on a disk exactly where others were
+  pub disks_later : (D : ℕ → Type 0) (ps qs : List F) → Zips SameDisk ps qs → AreDisks D ps → AreDisks D qs
   disks_later D [] [] all same = tt
   disks_later D [] (q ∷ qs) all same = absurd all
   disks_later D (p ∷ ps) [] all same = absurd all
   disks_later D (p ∷ ps) (q ∷ qs) all same = ((λ x. same.0.0 (all.0.1 x), λ d. all.0.0 (same.0.1 d)), disks_later (λ place. D (suc place)) ps qs all.1 same.1)
 
-  mend_one : (D : Type 0) → (p q : F) → (on_disk p → D) → (D → on_disk p) → (answer : Answer) (t : Track) → Matches (pass q) t → PortMends pass saw kept on_disk p answer q → Matches (pass p) (back (pass p) t) × MendedPort D (back (pass p) t) answer t
+  -- a mend through a port is in its track
+  pub mend_one : (D : Type 0) → (p q : F) → (on_disk p → D) → (D → on_disk p) → (answer : Answer) (t : Track) → Matches (pass q) t → PortMends pass saw kept on_disk p answer q → Matches (pass p) (back (pass p) t) × MendedPort D (back (pass p) t) answer t
   mend_one D p q to from answer t m once =
       let own = owned (pass p).view in
       let at = once.calls (pass p).view.base [] own (refl, refl, refl) in
@@ -87,10 +91,11 @@ module _ {F : Type 0} (pass : F → Known) (saw : F → List Own → State → T
     LineIn = TakesLine Gave selector Means host
 
     -- nothing was done
-    same_in : (a b : Into F B) (ts : List Track) (P : List Track → Type 0) → AllMatch pass saw kept face b.route.ports ts → b ≡ a → P ts → Before pass saw kept face a.route.ports ts P
+    pub same_in : (a b : Into F B) (ts : List Track) (P : List Track → Type 0) → AllMatch pass saw kept face b.route.ports ts → b ≡ a → P ts → Before pass saw kept face a.route.ports ts P
     same_in a b ts P m same holds = before_none pass saw kept face a.route.ports ts P (subst (λ (x : Into F B). AllMatch pass saw kept face x.route.ports ts) same m) holds
 
-    line_in : (a b : Into F B) (line : List ℕ) (verdict : Verdict) (ts : List Track) → AllMatch pass saw kept face b.route.ports ts → Line a line verdict b → Before pass saw kept face a.route.ports ts (λ us. LineIn (along us a) line verdict (along ts b))
+    -- the batch of a line that went through ports is in their tracks
+    pub line_in : (a b : Into F B) (line : List ℕ) (verdict : Verdict) (ts : List Track) → AllMatch pass saw kept face b.route.ports ts → Line a line verdict b → Before pass saw kept face a.route.ports ts (λ us. LineIn (along us a) line verdict (along ts b))
     line_in a b line verdict ts m (inl (moment, next, accepted)) =
         let g = accepts pass saw kept face Means selector host moment a.route b.route (event_of line ∷ []) verdict ts m accepted in
         record { us = g.us; all = g.all; behind = g.behind; holds = inl (moment, next, g.holds) }
@@ -169,7 +174,7 @@ module _ {F : Type 0} (pass : F → Known) (saw : F → List Own → State → T
   StaysLater p q = Later (pass p) (pass q)
 
   -- ports whose passes were taken in stand where their tracks end
-  all_home : (homes : List Known) (channels : List ℕ) (ps qs : List F) → Zips StaysLater ps qs → AllByRecursion (λ (p : F). IsNew (pass p)) ps → Zips (λ place q. TookAt homes place (pass q)) channels qs
+  pub all_home : (homes : List Known) (channels : List ℕ) (ps qs : List F) → Zips StaysLater ps qs → AllByRecursion (λ (p : F). IsNew (pass p)) ps → Zips (λ place q. TookAt homes place (pass q)) channels qs
       → AllMatch pass saw kept face qs (map ended (home_tracks pass homes channels ps))
   all_home homes [] [] [] later fresh took = tt
   all_home homes [] (p ∷ ps) [] later fresh took = absurd later
@@ -182,7 +187,7 @@ module _ {F : Type 0} (pass : F → Known) (saw : F → List Own → State → T
   )
 
   -- and new ones where they begin
-  all_new : (homes : List Known) (channels : List ℕ) (ps : List F) (us : List Track) → AllMatch pass saw kept face ps us → Zips IsBehind us (map ended (home_tracks pass homes channels ps)) → AllByRecursion (λ (p : F). IsNew (pass p)) ps
+  pub all_new : (homes : List Known) (channels : List ℕ) (ps : List F) (us : List Track) → AllMatch pass saw kept face ps us → Zips IsBehind us (map ended (home_tracks pass homes channels ps)) → AllByRecursion (λ (p : F). IsNew (pass p)) ps
       → us ≡ home_tracks pass homes channels ps
   all_new homes [] ps [] m behind fresh = refl
   all_new homes [] ps (u ∷ us) m behind fresh = absurd behind

@@ -32,7 +32,8 @@ module _ {F : Type 0} (R : F → F → Type 0) (self : (p : F) → R p p) (trans
   stay_same : (ps qs : List F) → qs ≡ ps → AllStay ps qs
   stay_same ps qs same = subst (λ (l : List F). AllStay ps l) (sym same) (stay_self ps)
 
-  stay_then : (ps qs rs : List F) → AllStay ps qs → AllStay qs rs → AllStay ps rs
+  -- one step after the other
+  pub stay_then : (ps qs rs : List F) → AllStay ps qs → AllStay qs rs → AllStay ps rs
   stay_then [] [] rs f g = g
   stay_then [] (q ∷ qs) rs f g = absurd f
   stay_then (p ∷ ps) [] rs f g = absurd f
@@ -77,10 +78,12 @@ module _ {F : Type 0} (R : F → F → Type 0) (self : (p : F) → R p p) (trans
       abbrev pub Line : Into F B → List ℕ → Verdict → Into F B → Type 0
       Line = TakesLine Put selector Means host
 
-      into_same : (a b : Into F B) → b ≡ a → AllStay a.route.ports b.route.ports
+      -- nothing was done
+      pub into_same : (a b : Into F B) → b ≡ a → AllStay a.route.ports b.route.ports
       into_same a b same = stay_same a.route.ports b.route.ports (λ i. (same i).route.ports)
 
-      line_stays : (a b : Into F B) (line : List ℕ) (verdict : Verdict) → Line a line verdict b → AllStay a.route.ports b.route.ports
+      -- the ports are the same after a line
+      pub line_stays : (a b : Into F B) (line : List ℕ) (verdict : Verdict) → Line a line verdict b → AllStay a.route.ports b.route.ports
       line_stays a b line verdict (inl (moment, next, accepted)) = accepts_stay moment a.route b.route (event_of line ∷ []) verdict accepted
       line_stays a b line verdict (inr (is, same)) = into_same a b same
 

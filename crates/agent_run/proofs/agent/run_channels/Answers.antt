@@ -72,6 +72,7 @@ returns-in-Ok-clause-ran g c = record {
   };
   same_channels = refl;
   same_made = refl;
+  names = c.requires.room.settled.report;
   between = record { state = g.H.Host.state c.open_outside.new.host; folders = g.H.Host.folders c.open_outside.new.host };
   opens = outside_at c.as_slice.ensures.value c.in-Ok.ensures.opened;
   goes = c.run_opened.ensures;

@@ -1,5 +1,6 @@
-use Rattle.std.proofs.Common.{◌∙◌, sym}
-use Rattle.agent_run.proofs.Answering.{has_no_plugin, named, nonzero, ran_same}
+use Rattle.std.proofs.Common.{inr}
+use Rattle.agent_words.specs.Statuses.{status_of}
+use Rattle.agent_run.proofs.Answering.{has_no_plugin, named, not_begun, of_plan, unplanned}
 use Rattle.agent_run.proofs.agent.run_named.Goals as goal
 
 pub end_plan-requires-clause-own : goal.end_plan-requires-clause-own
@@ -9,11 +10,8 @@ pub returns-in-Ok-clause-ends : goal.returns-in-Ok-clause-ends
 returns-in-Ok-clause-ends g c = named _ _ _ _ c.in-Ok.ensures.planned.0 c.end_plan.ensures.ends
 
 pub returns-in-Ok-clause-ran : goal.returns-in-Ok-clause-ran
-returns-in-Ok-clause-ran g c = λ zero. record {
-  plan = c.in-Ok.plan;
-  of = c.in-Ok.ensures.planned.0;
-  ran = ran_same (λ i. record { state = c.in-Ok.ensures.planned.1 i; folders = c.plan_agent.ensures.folders i }) (c.end_plan.ensures.ran zero);
-}
+returns-in-Ok-clause-ran g c =
+    of_plan (λ i. record { state = c.in-Ok.ensures.planned.1 i; folders = c.plan_agent.ensures.folders i }) c.in-Ok.ensures.planned.0 c.end_plan.ensures.ran
 
 pub returns-in-Err-clause-ran : goal.returns-in-Err-clause-ran
-returns-in-Err-clause-ran g c = λ zero. absurd (nonzero c.in-Err.error (sym c.refused.ensures.status ∙ zero))
+returns-in-Err-clause-ran g c = inr (not_begun (status_of c.in-Err.error) c.refused.ensures.status (unplanned (status_of c.in-Err.error) c.in-Err.ensures.planned.which) c.refused.ensures.none)

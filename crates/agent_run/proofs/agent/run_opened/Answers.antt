@@ -25,11 +25,12 @@ use Rattle.agent_run.specs.Opened.{HasRoom}
 use Rattle.agent_run.specs.Opening.{CanBeManned, IsManned}
 use Rattle.agent_run.specs.Outside.{AreFrom}
 use Rattle.agent_run.specs.Runs.{AreWorkers, owners_of}
+use Rattle.agent_run.specs.declared.labels.ChannelLabel.{ChannelLabel}
 use Rattle.agent_run.specs.declared.settle.Settled.{Settled}
 use Rattle.agent_run.proofs.Closing.{closed_of}
 use Rattle.agent_run.proofs.Manning.{room_for}
 use Rattle.agent_run.proofs.Owning.{own_kept}
-use Rattle.agent_run.proofs.Resting.{closed_of_wishes, drained_many, from_many, homes_many, names_many, passes_fit}
+use Rattle.agent_run.proofs.Resting.{closed_of_wishes, drained_many, ends_fit, from_many, homes_many, labels_fit, names_many, only_passes, passes_fit}
 use Rattle.agent_run.proofs.Joining.{zips_long}
 use Rattle.agent_run.proofs.Throughout.{back_same, joined_same, settled_same}
 use Rattle.agent_run.specs.Staff.{IsSinkOf}
@@ -151,8 +152,8 @@ settle-settled-requires-clause-closed g c =
     subst (λ (r : Settled _ _ _). HasRoom (with_items homes c.run_crew-sinks.new.homes).items r.closed) (sym is.settled)
     (c.requires.settle.closed.0, room_for _ _ _ all c.requires.settle.closed.1)
 
-pub give_rest-requires-clause-sinks : goal.give_rest-requires-clause-sinks
-give_rest-requires-clause-sinks g c κs within =
+pub give_rest-ends-requires-clause-sinks : goal.give_rest-ends-requires-clause-sinks
+give_rest-ends-requires-clause-sinks g c κs within =
     let is = c.man-crew.ensures.manned in
     let did = c.settle-settled.ensures.settled in
     let many = drained_many _ c.run_crew-sinks.result.sinks.items _ c.settle-settled.result.ends.items c.settle-settled.result.sinks.items did.drained did.drains
@@ -160,8 +161,8 @@ give_rest-requires-clause-sinks g c κs within =
     let folders = c.run_crew-sinks.ensures.folders ∙ c.man-crew.ensures.folders in
     subst (λ (x : Folders × List SinkPlan × ℕ). AreOpened x.0 x.1 x.2) (λ i. (sym folders i, sym c.as_slice-5.ensures.value i, sym many i)) c.requires.sinks
 
-pub give_rest-requires-clause-of : goal.give_rest-requires-clause-of
-give_rest-requires-clause-of g c κs within =
+pub give_rest-ends-requires-clause-of : goal.give_rest-ends-requires-clause-of
+give_rest-ends-requires-clause-of g c κs within =
     let is = c.man-crew.ensures.manned in
     let did = c.settle-settled.ensures.settled in
     let folders = c.run_crew-sinks.ensures.folders ∙ c.man-crew.ensures.folders in
@@ -169,12 +170,24 @@ give_rest-requires-clause-of g c κs within =
     (closed_of _ _ _ _ c.closed_channels_fit.ensures.left c.man-crew.result.crew.shares.items did.counted c.settle-settled.result.closed.items did.closed)
     (subst (λ (f : Folders). AreOut f c.args.opening.prepared.wishes.items) (sym folders) c.requires.disks)
 
-pub give_rest-requires-clause-room : goal.give_rest-requires-clause-room
-give_rest-requires-clause-room g c κs within =
+pub give_rest-ends-requires-clause-room : goal.give_rest-ends-requires-clause-room
+give_rest-ends-requires-clause-room g c κs within =
     let is = c.man-crew.ensures.manned in
     let did = c.settle-settled.ensures.settled in
     passes_fit c.as_slice.result.now c.args.opening c.man-crew.result (subst (λ (p : List SinkPlan). CanBeManned p c.args.opening) (sym c.as_slice.ensures.value) c.requires.can) is c.settle-settled.result.closed.items
     (closed_of _ _ _ _ c.closed_channels_fit.ensures.left c.man-crew.result.crew.shares.items did.counted c.settle-settled.result.closed.items did.closed)
+
+pub add_ends-requires-clause-many : goal.add_ends-requires-clause-many
+add_ends-requires-clause-many g c =
+    let did = c.settle-settled.ensures.settled in
+    labels_fit c.as_slice.result.now c.args.opening c.man-crew.result (subst (λ (p : List SinkPlan). CanBeManned p c.args.opening) (sym c.as_slice.ensures.value) c.requires.can) c.man-crew.ensures.manned
+    c.settle-settled.result.closed.items _
+    (closed_of _ _ _ _ c.closed_channels_fit.ensures.left c.man-crew.result.crew.shares.items did.counted c.settle-settled.result.closed.items did.closed)
+    c.give_rest-ends.ensures.passes
+
+pub add_ends-requires-clause-room : goal.add_ends-requires-clause-room
+add_ends-requires-clause-room g c =
+    ends_fit c.as_slice.result.now c.args.opening c.man-crew.result (subst (λ (p : List SinkPlan). CanBeManned p c.args.opening) (sym c.as_slice.ensures.value) c.requires.can) c.man-crew.ensures.manned
 
 pub returns : goal.returns
 returns g c =
@@ -182,25 +195,31 @@ returns g c =
     let homes = c.man-crew.result.crew.homes in
     let size : length c.run_crew-sinks.new.homes ≡ homes.len = c.run_crew-sinks.ensures.kept.as_many ∙ ap length c.as_mut_slice.ensures.value ∙ sym homes.ok.0 in
     let dealt = subst (λ (l : List Known). AreDealt l (owners_of c.man-crew.result.crew.jobs)) (sym c.as_mut_slice.ensures.value) is.dealt in
+    let can = subst (λ (p : List SinkPlan). CanBeManned p c.args.opening) (sym c.as_slice.ensures.value) c.requires.can in
+    let many : length homes.items ≡ length c.args.plan.now.channels.items = homes_many c.as_slice.result.now c.args.opening c.man-crew.result (subst (λ (p : List SinkPlan). CanBeManned p c.args.opening) (sym c.as_slice.ensures.value) c.requires.can) is ∙ c.requires.many in
     record {
       manned = c.man-crew.result;
       is_manned = subst (λ (p : List SinkPlan). IsManned p c.args.opening c.man-crew.result) c.as_slice.ensures.value is;
       begun = g.H.Host.state c.man-crew.new.host;
       taken = c.man-crew.ensures.rest;
+      takes = c.man-crew.ensures.taken;
       homes = c.run_crew-sinks.new.homes;
       took = subst (λ (l : List Known). EachTook l c.run_crew-sinks.new.homes) c.as_mut_slice.ensures.value c.run_crew-sinks.ensures.kept;
       all = c.run_crew-sinks.ensures.all dealt;
       joined = c.run_crew-sinks.result;
       behind = g.H.Host.state c.run_crew-sinks.new.host;
-      joins = joined_same _ _ _ _ _ _ _ _ _ _ c.run_crew-sinks.new.homes c.man-crew.result.crew.jobs c.run_crew-sinks.result _ _ _ _ _ _ _ _
+      joins = joined_same _ _ _ _ _ _ _ _ _ _ _ c.run_crew-sinks.new.homes c.man-crew.result.crew.jobs c.run_crew-sinks.result _ _ _ _ _ _ _ _
           c.as_slice-2.ensures.value c.as_slice-3.ensures.value c.as_slice-4.ensures.value c.run_crew-sinks.ensures.joined;
       rest = c.run_crew-sinks.ensures.rest;
       home = c.run_crew-sinks.ensures.home;
+      named = ap (λ (r : Settled _ _ _). length r.report.items) is.settled ∙ names_many c.args.plan.now.channels.items c.args.opening.settled.report.items c.requires.settle.report ∙ sym (size ∙ homes.ok.0 ∙ many);
       settled = c.settle-settled.result;
       settles = settled_same _ _ _ c.man-crew.result.crew.shares.items c.run_crew-sinks.result.sinks.items c.man-crew.result.settled.report.items c.settle-settled.result _ _
           (with_items_is homes c.run_crew-sinks.new.homes size) c.settle-settled.ensures.settled;
-      back = back_same _ _ _ c.man-crew.result.wishes.items c.settle-settled.result _ _ _ _ _ _ _ _ c.as_slice-5.ensures.value (c.run_crew-sinks.ensures.folders ∙ c.man-crew.ensures.folders) c.give_rest.ensures.back;
-      input = c.give_rest.ensures.input;
-      drains = c.give_rest.ensures.drains;
-      mends = c.give_rest.ensures.mends;
+      back = back_same _ _ _ c.man-crew.result.wishes.items c.settle-settled.result _ _ _ _ _ _ _ _ c.as_slice-5.ensures.value (c.run_crew-sinks.ensures.folders ∙ c.man-crew.ensures.folders) c.give_rest-ends.ensures.back;
+      input = c.give_rest-ends.ensures.input;
+      drains = c.give_rest-ends.ensures.drains;
+      mends = c.give_rest-ends.ensures.mends;
+      passes = c.add_ends.ensures.passes ∙ only_passes c.as_slice.result.now c.args.opening c.man-crew.result can c.man-crew.ensures.manned c.settle-settled.result.closed.items _ c.give_rest-ends.ensures.passes;
+      labels = c.add_ends.ensures.labels ∙ ap (λ (v : Vec ChannelLabel Global). v.items) is.labels;
     }

@@ -26,6 +26,7 @@ returns g c = record {
     listeners = c.staff_listeners.ensures.of;
     own_listeners = c.staff_listeners.ensures.listeners;
     lines = c.staff_lines.ensures.of;
+    own_talks = c.staff_lines.ensures.talks;
     drains = refl;
     behind_sinks = hands_of c.staff_sinks.new.hands;
     behind_listeners = hands_of c.staff_listeners.new.hands;

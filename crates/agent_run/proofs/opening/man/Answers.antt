@@ -1,6 +1,11 @@
-use Rattle.std.proofs.Common.{rules, ◌≡◌, length, refl, sym, ap, arith}
+use Rattle.std.proofs.Common.{rules, ◌≡◌, List, length, refl, sym, ap, subst, arith}
 use Rattle.run_tracks.proofs.Homing.{zips_length}
+use Rattle.std.specs.declared.alloc.Global.{Global}
+use Rattle.std.specs.declared.vec.Vec.{Vec}
+use Rattle.crew.specs.declared.draining.DrainWorker.{DrainWorker}
 use Rattle.agent_run.specs.Staff.{IsLineOf, IsListenOf, IsSinkOf}
+use Rattle.agent_run.specs.Streams.{AreTaken}
+use Rattle.agent_run.specs.declared.homes.LineEnded.{LineEnded}
 use Rattle.agent_run.proofs.Crewing.{freshly}
 use Rattle.agent_run.proofs.Fresh.{fresh_many}
 use Rattle.agent_run.proofs.Manning.{parts_fit, room_for, seats_roomy}
@@ -53,8 +58,11 @@ returns-clause-manned g c =
     record {
       shares = is.shares;
       homes = is.homes;
+      at_home = is.at_home;
       own = is.own;
       dealt = is.dealt;
+      alone = is.alone;
+      numbers = is.numbers;
       workers = is.workers;
       new_ones = is.new_ones;
       fit = is.fit;
@@ -70,7 +78,16 @@ returns-clause-manned g c =
       lines = is.lines;
       wishes = refl;
       places = refl;
+      labels = refl;
       passes = refl;
+      ends = refl;
       named = refl;
       settled = refl;
     }
+
+pub returns-clause-taken : goal.returns-clause-taken
+returns-clause-taken g c =
+    let is = c.crew_of-crew.ensures.crew in
+    subst (λ (x : List (LineEnded g.row.H-Source.Denot g.row.H-Sink.Denot) × Vec (DrainWorker g.row.H-Source.Denot) Global).
+    AreTaken g.H.Source.Source.left g.H.Source.Source.faults g.H.Sink.Sink.took g.H.Sink.Sink.handed g.H.Sink.Sink.faults x.0 x.1.items (g.H.Host.state c.args.host.now) (g.H.Host.state c.take_streams.new.host))
+    (λ i. (sym is.own_talks i, sym is.drains i)) c.take_streams.ensures.taken

@@ -7,6 +7,7 @@ use Rattle.agent_outside.specs.Ends.{ListensAt, listeners_of, places}
 use Rattle.agent_outside.specs.Names.{AreTold}
 use Rattle.agent_drafts.specs.Drafts.{AreDrafts, IsDraftAt, inputs_of}
 use Rattle.agent_drafts.specs.declared.draft.SourceDraft.{SourceDraft}
+use Rattle.agent_run.specs.Labels.{AreLabels, users_of}
 use Rattle.agent_run.specs.Prepared.{IsSeat, uses_of}
 use Rattle.agent_run.specs.Staff.{IsRoomy}
 use Rattle.agent_run.specs.Wishes.{AreWishes}
@@ -40,6 +41,8 @@ returns-clause-prepared g c =
       sources = draft_sources listeners ∙ ap (map (λ (draft : D). draft.source)) c.in_ok-listeners-2.ensures.drafts ∙ c.in_ok-listeners.ensures.order ∙ sym at;
       listen = subst (λ (l : List SourcePlan). All (ListensAt l) found) c.as_slice-8.ensures.value c.in_ok-places.ensures.listen;
       clocks = c.in_ok-clocks.ensures.many ∙ ap length c.as_slice-sinks.ensures.value;
+      labels = subst (λ (x : List S × List S). AreLabels (users_of plan x.0 x.1) 0 plan.channels.items c.in_ok-labels.labels.items)
+          (λ i. (c.as_slice-9.ensures.value i, c.as_slice-10.ensures.value i)) c.in_ok-labels.ensures;
     }
 
 pub returns-clause-drafted : goal.returns-clause-drafted

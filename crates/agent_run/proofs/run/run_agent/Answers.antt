@@ -5,7 +5,6 @@ use Rattle.agent_words.specs.Words.{texts}
 use Rattle.agent_words.proofs.Unique.{one_asked}
 use Rattle.agent_commands.specs.Checked.{Checked}
 use Rattle.agent_run.specs.Named.{AgentEnds}
-use Rattle.agent_run.specs.declared.run.Outcome.{Outcome}
 use Rattle.agent_run.proofs.Answering.{agent_named, never_one}
 use Rattle.agent_run.proofs.Commands.{agent_is_no_check, agent_is_no_pipe, load_does_not_run, none_runs, read_none, read_some}
 use Rattle.flume_host.specs.Told.{Tells}
@@ -24,7 +23,7 @@ returns-in-Ok-Some-Check-clause-checked g c = λ agent file is.
     let same = one_asked (texts c.args.words.now) (codes "check") _ _ agent file (read_some _ _ _ _ c.in-Ok-Some-Check.ensures c.in-Ok-Some-Check.field-0-is c.in-Ok-Some-Check.field-0-0-is) is in
     let n : c.as_str-in-Ok-Some-Check.result.now ≡ agent = c.as_str-in-Ok-Some-Check.ensures.value ∙ same.0 in
     let f : c.as_str-in-Ok-Some-Check-2.result.now ≡ file = c.as_str-in-Ok-Some-Check-2.ensures.value ∙ same.1 in
-    let status : c.run_check.result ≡ c.ended.result.status = sym (ap (λ (o : Outcome). o.status) c.ended.ensures) in
+    let status : c.run_check.result ≡ c.ended.result.status = sym c.ended.ensures.status in
     let C : List ℕ × (List ℕ × ℕ) → Type 0 = λ x. Checked ((g.H.Host.state c.args.host.now).files x.1.0) x.0 (g.H.Host.state c.args.host.now) (g.H.Host.state c.run_check.new.host) x.1.1 in
     subst C (λ i. (n i, (f i, status i))) c.run_check.ensures.checked
 
@@ -59,7 +58,7 @@ pub returns-clause-others : goal.returns-clause-others
 returns-clause-others g c = λ dir is. but_same _ _ _ c.refuse-in-Err.ensures.folders
 
 pub returns-in-Ok-Some-Agent-clause-usage : goal.returns-in-Ok-Some-Agent-clause-usage
-returns-in-Ok-Some-Agent-clause-usage g c = λ one. absurd (never_one c.run_configured.result c.run_configured.ensures.ends.which (sym (ap (λ (o : Outcome). o.status) c.ended-in-Ok-Some-Agent.ensures) ∙ one))
+returns-in-Ok-Some-Agent-clause-usage g c = λ one. absurd (never_one c.run_configured.result.status c.run_configured.ensures.ends.which one)
 
 pub returns-in-Ok-Some-Agent-clause-no_command : goal.returns-in-Ok-Some-Agent-clause-no_command
 returns-in-Ok-Some-Agent-clause-no_command g c = λ none. absurd (none.no_agent _ _ (read_some _ _ _ _ c.in-Ok-Some-Agent.ensures c.in-Ok-Some-Agent.field-0-is c.in-Ok-Some-Agent.field-0-0-is))
@@ -93,9 +92,8 @@ returns-in-Ok-Some-Agent-clause-agent g c = λ name file is.
     let same = one_asked (texts c.args.words.now) (codes "agent") _ _ name file (read_some _ _ _ _ c.in-Ok-Some-Agent.ensures c.in-Ok-Some-Agent.field-0-is c.in-Ok-Some-Agent.field-0-0-is) is in
     let n : c.as_str-in-Ok-Some-Agent.result.now ≡ name = c.as_str-in-Ok-Some-Agent.ensures.value ∙ same.0 in
     let f : c.as_str-in-Ok-Some-Agent-2.result.now ≡ file = c.as_str-in-Ok-Some-Agent-2.ensures.value ∙ same.1 in
-    let status : c.run_configured.result ≡ c.ended-in-Ok-Some-Agent.result.status = sym (ap (λ (o : Outcome). o.status) c.ended-in-Ok-Some-Agent.ensures) in
-    let C : List ℕ × (List ℕ × ℕ) → Type 0 = λ x. AgentEnds ((g.H.Host.state c.args.host.now).files x.1.0) x.0 x.1.1 in
-    subst C (λ i. (n i, (f i, status i))) c.run_configured.ensures.ends
+    let C : List ℕ × List ℕ → Type 0 = λ x. AgentEnds ((g.H.Host.state c.args.host.now).files x.1) x.0 c.run_configured.result.status in
+    subst C (λ i. (n i, f i)) c.run_configured.ensures.ends
 
 pub returns-in-Ok-Some-Agent-clause-rolls : goal.returns-in-Ok-Some-Agent-clause-rolls
 returns-in-Ok-Some-Agent-clause-rolls g c = λ none. absurd (none _ _ (read_some _ _ _ _ c.in-Ok-Some-Agent.ensures c.in-Ok-Some-Agent.field-0-is c.in-Ok-Some-Agent.field-0-0-is))
@@ -104,9 +102,14 @@ pub returns-in-Ok-None-clause-agent : goal.returns-in-Ok-None-clause-agent
 returns-in-Ok-None-clause-agent g c = λ name file is. absurd ((read_none _ _ c.in-Ok-None.ensures c.in-Ok-None.field-0-is).agent name file is)
 
 pub returns-in-Ok-Some-Agent-clause-agent_ran : goal.returns-in-Ok-Some-Agent-clause-agent_ran
-returns-in-Ok-Some-Agent-clause-agent_ran g c = λ name file is zero.
+returns-in-Ok-Some-Agent-clause-agent_ran g c = λ name file is.
     let same = one_asked (texts c.args.words.now) (codes "agent") _ _ name file (read_some _ _ _ _ c.in-Ok-Some-Agent.ensures c.in-Ok-Some-Agent.field-0-is c.in-Ok-Some-Agent.field-0-0-is) is in
     let n : c.as_str-in-Ok-Some-Agent.result.now ≡ name = c.as_str-in-Ok-Some-Agent.ensures.value ∙ same.0 in
     let f : c.as_str-in-Ok-Some-Agent-2.result.now ≡ file = c.as_str-in-Ok-Some-Agent-2.ensures.value ∙ same.1 in
-    let status : c.run_configured.result ≡ c.ended-in-Ok-Some-Agent.result.status = sym (ap (λ (o : Outcome). o.status) c.ended-in-Ok-Some-Agent.ensures) in
-    agent_named (g.H.Host.state c.args.host.now).files f n (c.run_configured.ensures.ran (status ∙ zero))
+    agent_named (g.H.Host.state c.args.host.now).files f n c.run_configured.ensures.ran
+
+pub returns-in-Ok-Some-Agent-clause-channels : goal.returns-in-Ok-Some-Agent-clause-channels
+returns-in-Ok-Some-Agent-clause-channels g c = λ none. absurd (none _ _ (read_some _ _ _ _ c.in-Ok-Some-Agent.ensures c.in-Ok-Some-Agent.field-0-is c.in-Ok-Some-Agent.field-0-0-is))
+
+pub returns-in-Ok-None-clause-agent_ran : goal.returns-in-Ok-None-clause-agent_ran
+returns-in-Ok-None-clause-agent_ran g c = λ name file is. absurd ((read_none _ _ c.in-Ok-None.ensures c.in-Ok-None.field-0-is).agent name file is)

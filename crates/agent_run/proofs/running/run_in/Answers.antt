@@ -11,15 +11,16 @@ use Rattle.shared_channel.specs.Passes.{Known}
 use Rattle.sink_worker.specs.Rounds.{told}
 use Rattle.sink_worker.specs.declared.worker.SinkWorker.{SinkWorker}
 use Rattle.source_worker.specs.declared.worker.ListenWorker.{ListenWorker}
+use Rattle.line_worker.specs.declared.worker.LineWorker.{LineWorker}
 use Rattle.run_tracks.specs.Told.{IsNew}
 use Rattle.agent_run.specs.Draining.{IsSinkHome}
 use Rattle.agent_run.specs.declared.homes.AtHome.{AtHome}
-use Rattle.agent_run.specs.Ends.{IsListenEnded, IsSinkEnded}
-use Rattle.agent_run.specs.Histories.{IsListenTold, IsSinkTold}
+use Rattle.agent_run.specs.Ends.{IsLineEnded, IsListenEnded, IsSinkEnded}
+use Rattle.agent_run.specs.Histories.{IsLineTold, IsListenTold, IsSinkTold}
 use Rattle.agent_run.specs.Opened.{IsLineOpened, IsListenOpened, IsSinkOpened}
 use Rattle.agent_run.specs.Runs.{owners_of}
-use Rattle.agent_run.proofs.Behind.{ListenRuns, SinkRuns, same_behind}
-use Rattle.agent_run.proofs.Telling.{listen_told, sink_home, sink_told}
+use Rattle.agent_run.proofs.Behind.{LineRuns, ListenRuns, SinkRuns, same_behind}
+use Rattle.agent_run.proofs.Telling.{line_told, listen_told, sink_home, sink_told}
 use Rattle.agent_run.proofs.Fitting.{line_fits, listen_fits}
 use Rattle.agent_run.proofs.Home.{numbers_home, room_kept, workers_at}
 use Rattle.agent_run.proofs.Zipping.{ran_zips, zips_all, zips_four}
@@ -105,3 +106,16 @@ returns-clause-listeners g c =
     (λ job v w back fresh opened ran gone. listen_told g.A.Channel.stands g.B.Channel.stands Means g.C.Clock.moments heard g.N.Listener.endpoint shares homes job v w back fresh opened ran gone)
     c.args.jobs.listeners.items c.open_workers-sinks.result.listeners.items c.run_lists.new.second.items c.end_workers.new.returned.listeners.items
     c.requires.new.listeners c.open_workers-sinks.ensures.listeners (ran_zips Runs c.open_workers-sinks.result.listeners.items c.run_lists.new.second.items c.run_lists.ensures.second) c.end_workers.ensures.ended.listeners
+
+pub returns-clause-lines : goal.returns-clause-lines
+returns-clause-lines g c =
+    let shares = c.args.shares.now in
+    let homes = c.end_workers.new.homes in
+    let Means = g.K.Interceptor.intercepts in
+    let talk = talk_of g.I.Source.left g.I.Source.faults g.O.Sink.took g.O.Sink.handed g.O.Sink.faults in
+    let Runs = LineRuns {R = g.row.R.Denot} g.A.Channel.stands g.B.Channel.stands Means g.C.Clock.moments talk in
+    zips_four (λ (l : LineWorker Known g.row.I.Denot g.row.O.Denot g.row.C.Denot g.row.K.Denot). All IsNew l.ports.items) (IsLineOpened shares) Runs (IsLineEnded pass_of homes)
+    (IsLineTold Means g.C.Clock.moments talk shares homes)
+    (λ job v w back fresh opened ran gone. line_told g.A.Channel.stands g.B.Channel.stands Means g.C.Clock.moments talk shares homes job v w back fresh opened ran gone)
+    c.args.jobs.lines.items c.open_workers-sinks.result.lines.items c.run_lists.new.last.items c.end_workers.new.returned.lines.items
+    c.requires.new.lines c.open_workers-sinks.ensures.lines (ran_zips Runs c.open_workers-sinks.result.lines.items c.run_lists.new.last.items c.run_lists.ensures.last) c.end_workers.ensures.ended.lines

@@ -1,0 +1,49 @@
+-- Which sinks of a run emptied their channels behind it.
+use Rattle.std.specs.Prelude.{◌≡◌, ◌<◌, ◌++◌, ℕ, List, [], true, false, length, slice_index_or}
+use Rattle.std.specs.List.{AllByRecursion}
+use mathlib.Core.List.{IsPrefix}
+use Rattle.agent_end.specs.Drains.{is_delivery}
+use Rattle.agent_end.specs.declared.draining.ChannelDrain.{ChannelDrain}
+use Rattle.agent_end.specs.declared.draining.ChannelDrain.TheVariants.{Emptied, Stopped}
+use Rattle.channel_face.specs.History.{Step, opening, state_after}
+use Rattle.channel_face.specs.Machine.{BeginPut, Call, Put, StagePut}
+use Rattle.event_core.specs.Journal.{put_events}
+use Rattle.flume_config.specs.declared.plan.SinkPlan.{SinkPlan}
+use Rattle.shared_channel.specs.Calls.{state_seen}
+use Rattle.shared_channel.specs.Passes.{Known}
+
+-- the call is none of those that put an event
+abbrev pub IsNoPut : Call → Type 0
+IsNoPut (BeginPut reply) = ⊥
+IsNoPut (Put token event reply) = ⊥
+IsNoPut (StagePut token reply) = ⊥
+IsNoPut call = Unit {0}
+
+-- What the one pass had seen begins what the other has, and no call behind it puts.
+pub record PutsEnd (home final : Known) : Type 0 where
+  pub base : final.view.base ≡ home.view.base
+  pub rest : List Step
+  pub whole : home.view.seen ++ rest ≡ final.view.seen
+  pub none : AllByRecursion (λ (step : Step). IsNoPut step.call) rest
+
+-- Behind what the one pass had seen there was a moment at which no event was left. Where none was staged then either, none is left in
+-- the end, as long as the disk tells.
+pub record WasEmptied (home final : Known) : Type 0 where
+  pub front : List Step
+  pub behind : IsPrefix home.view.seen front
+  pub within : IsPrefix front final.view.seen
+  pub none : (state_after (opening final.view.base) front).items ≡ []
+  pub stays : put_events (state_after (opening final.view.base) front).staged ≡ [] → final.view.base.tells ≡ true → (state_seen final.view).items ≡ []
+
+-- the draining ended so: the channel was emptied, or a run of the sink did not deliver
+abbrev pub DrainTold : ChannelDrain → Known → Known → Type 0
+DrainTold Emptied home final = WasEmptied home final
+DrainTold (Stopped turn) home final = is_delivery turn ≡ false
+
+-- Once the workers were joined nobody put into a channel any more, and each sink of the plan tried to empty its own.
+pub record DrainedTold (plans : List SinkPlan) (ends : List ChannelDrain) (homes finals : List Known) : Type 0 where
+  pub joined : (place : ℕ) (home final : Known) → place < length finals → PutsEnd (slice_index_or homes place home) (slice_index_or finals place final)
+  pub as_many : length ends ≡ length plans
+  pub each : (place : ℕ) (plan : SinkPlan) (end : ChannelDrain) (home final : Known) → place < length plans
+      → let channel = (slice_index_or plans place plan).channel in
+      DrainTold (slice_index_or ends place end) (slice_index_or homes channel home) (slice_index_or finals channel final)

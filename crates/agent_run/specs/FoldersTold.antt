@@ -1,0 +1,53 @@
+-- What the folders of a run's channels hold behind it.
+use Rattle.std.specs.Prelude.{◌≡◌, ◌<◌, ℕ, List, Option, Some, None, false, length, slice_index_or, string_bytes}
+use Rattle.flume_config.specs.declared.plan.ChannelKind.{ChannelKind}
+use Rattle.flume_config.specs.declared.plan.ChannelKind.TheVariants.{File, Memory}
+use Rattle.flume_config.specs.declared.plan.ChannelPlan.{ChannelPlan}
+use Rattle.flume_host.specs.HostState.{Folders}
+use Rattle.flume_host.specs.Told.{Told}
+use Rattle.channel_face.specs.History.{IsRun, opening}
+use Rattle.channel_face.specs.Machine.{is_some_of}
+use Rattle.channel_face.specs.declared.replies.Limits.{Limits}
+use Rattle.channel_laws.specs.Images.{LeavesAtEach}
+use Rattle.file_channel.specs.Touches.{Rests}
+use Rattle.shared_channel.specs.Calls.{state_seen}
+use Rattle.shared_channel.specs.Passes.{Known}
+use Rattle.agent_channels.specs.Openings.{BeginsOnDisk}
+
+-- the folder of a channel, if it is in one
+abbrev pub folder_of : ChannelKind → Option (List ℕ)
+folder_of Memory = None
+folder_of (File folder max_file interval on_close) = Some (string_bytes folder)
+
+-- the length from which on a file is followed by another; 0 for a channel in memory
+abbrev pub file_of : ChannelKind → ℕ
+file_of Memory = 0
+file_of (File folder max_file interval on_close) = max_file
+
+-- what a channel of a plan is limited to
+abbrev pub limits_of : ChannelPlan → Limits
+limits_of plan = record { capacity = plan.capacity; txn_capacity = plan.txn_capacity; max_file = file_of plan.kind }
+
+-- Of a folder the host told this before a run and that behind it, by the pass that has seen all calls of the folder's channel. The
+-- channel began with what the folder opened to, and its calls were answered as the machine answers them. Whatever a stop left of the
+-- folder at a moment since then opens to something that the calls up to that moment may leave. In the end the channel was not broken,
+-- and whatever a stop now leaves opens to just what is settled.
+pub record FolderTold (limits : Limits) (before after : Option Told) (final : Known) : Type 0 where
+  pub begins : BeginsOnDisk limits before final.view.base
+  pub tells : is_some_of after ≡ is_some_of before
+  pub run : IsRun (is_some_of after) (opening final.view.base) final.view.seen
+  pub images : LeavesAtEach after final.view.base final.view.seen
+  pub whole : (state_seen final.view).broken ≡ false
+  pub rests : Rests after (state_seen final.view)
+
+-- So it is of the folder of each channel of the plan.
+abbrev pub FoldersTold : List ChannelPlan → Folders → Folders → List Known → Type 0
+FoldersTold plans before after finals =
+    (place : ℕ) (plan : ChannelPlan) (final : Known) (path : List ℕ) → place < length plans → folder_of (slice_index_or plans place plan).kind ≡ Some path
+    → FolderTold (limits_of (slice_index_or plans place plan)) (before.disks path) (after.disks path) (slice_index_or finals place final)
+
+-- no two channels of a plan are in one folder
+abbrev pub FoldersAreApart : List ChannelPlan → Type 0
+FoldersAreApart plans =
+    (i j : ℕ) (plan : ChannelPlan) (path : List ℕ) → i < j → j < length plans → folder_of (slice_index_or plans i plan).kind ≡ Some path
+    → folder_of (slice_index_or plans j plan).kind ≡ Some path → ⊥

@@ -1,0 +1,72 @@
+// What the steps of a run come to.
+ghost use Rattle.std.specs.Prelude.{List};
+ghost use Rattle.agent_channels.specs.Openings.{HostTold};
+ghost use Rattle.agent_end.specs.declared.ends.RunEnds.{RunEnds};
+ghost use Rattle.flume_config.specs.declared.plan.Plan.{Plan};
+ghost use Rattle.agent_run.specs.FoldersTold.{FoldersAreApart};
+ghost use Rattle.agent_run.specs.Prepared.{IsPlanned};
+ghost use Rattle.agent_run.specs.declared.outcome.ChannelEnd.{ChannelEnd};
+
+use crate::laws::{lines_stay_told, runs_are_told, workers_ran};
+use crate::through::{RunOf, Runs, SinkOf, Steps};
+use file_channel::FileChannel;
+use flume_host::Host;
+use memory_channel::MemoryChannel;
+use plug_in::Interceptor;
+use std::sync::Wait;
+use std::thread::Threads;
+
+/// What the steps of a run come to: in all calls of its channels those of each worker are told of, and at status 0 it is told what the
+/// folders hold, what the report says, which sinks emptied their channels, and what was said on standard input and output.
+pub fn steps_are_told<
+    'a,
+    R: Threads + Wait + Sync + 'a,
+    H: Host + 'a,
+    K: Interceptor + Send + Drop,
+>()
+    ensures { (plan : Plan) (ends : RunEnds) (channels : List ChannelEnd) (a b : HostTold)
+        → IsPlanned plan → ⟦<RunOf<'a, R, H, K> as Steps>⟧.steps plan ends channels a b
+        → ⟦<RunOf<'a, R, H, K> as Runs>⟧.ran plan ends channels a b }
+{
+    runs_are_told::<
+        'a,
+        R,
+        FileChannel<H::Disk>,
+        MemoryChannel,
+        SinkOf<H>,
+        H::Listener,
+        H::Source,
+        H::Sink,
+        H::Clock,
+        K,
+    >();
+    lines_stay_told::<
+        'a,
+        R,
+        FileChannel<H::Disk>,
+        MemoryChannel,
+        SinkOf<H>,
+        H::Listener,
+        H::Source,
+        H::Sink,
+        H::Clock,
+        K,
+    >();
+    workers_ran::<
+        'a,
+        R,
+        FileChannel<H::Disk>,
+        MemoryChannel,
+        SinkOf<H>,
+        H::Listener,
+        H::Source,
+        H::Sink,
+        H::Clock,
+        K,
+    >();
+}
+
+/// No two channels of a plan are in one folder.
+pub fn folders_are_apart()
+    ensures { (plan : Plan) → IsPlanned plan → FoldersAreApart plan.channels.items }
+{}
