@@ -1,6 +1,7 @@
 -- What a run left that ended well, from the relation of its parts.
-use Rattle.std.proofs.Common.{◌≡◌, ◌∙◌, ◌<◌, inl, inr, ℕ, zero, suc, List, [], ◌∷◌, Bool, Option, Result, String, length, map, get_or, sym, ap, subst, arith}
+use Rattle.std.proofs.Common.{◌≡◌, ◌∙◌, ◌<◌, inl, inr, ℕ, zero, suc, List, [], ◌∷◌, All, Bool, Option, Result, String, length, map, get_or, sym, ap, subst, arith}
 use Rattle.std.proofs.lemmas.List.{length-map}
+use Rattle.std.proofs.lemmas.List.Elements.{All-head}
 use Rattle.std.specs.List.{AllByRecursion}
 use Rattle.std.specs.declared.alloc.Global.{Global}
 use Rattle.std.specs.declared.vec.Vec.{Vec}
@@ -12,6 +13,7 @@ use Rattle.flume_config.specs.declared.plan.SinkPlan.{SinkPlan}
 use Rattle.flume_host.specs.HostState.{Folders, HostState}
 use Rattle.flume_host.specs.Rolled.{Rolled}
 use Rattle.flume_host.specs.Told.{Told as DiskTold}
+use Rattle.roll_sink.specs.Runs.{RunsFill}
 use Rattle.file_channel.specs.Stands.{FileState}
 use Rattle.memory_channel.specs.declared.channel.MemoryChannel.{MemoryChannel}
 use Rattle.shared_channel.specs.Passes.{Known}
@@ -30,12 +32,13 @@ use Rattle.agent_channels.specs.declared.wish.ChannelWish.{ChannelWish}
 use Rattle.agent_end.specs.Statuses.{run_status}
 use Rattle.agent_end.specs.declared.draining.ChannelDrain.{ChannelDrain}
 use Rattle.agent_end.specs.declared.ends.RunEnds.{RunEnds}
+use Rattle.agent_outside.specs.Sinks.{SinksOpened}
 use Rattle.agent_sinks.specs.declared.sink.AgentSink.{AgentSink}
 use Rattle.run_tracks.specs.Closes.{IsClosed}
 use Rattle.run_tracks.specs.Places.{Zips}
 use Rattle.run_tracks.specs.Stops.{IsMended}
 use Rattle.agent_run.specs.DrainedTold.{DrainedTold}
-use Rattle.agent_run.specs.Draining.{IsDrainedAt}
+use Rattle.agent_run.specs.Draining.{IsDrainedAt, IsSinkHome}
 use Rattle.agent_run.specs.Ends.{IsSinkEnded}
 use Rattle.agent_run.specs.FoldersTold.{FoldersAreApart, FoldersTold}
 use Rattle.agent_run.specs.Histories.{IsSinkTold}
@@ -43,11 +46,13 @@ use Rattle.agent_run.specs.Joined.{HaveReturned}
 use Rattle.agent_run.specs.Lists.{NamesOf}
 use Rattle.agent_run.specs.Prepared.{uses_of}
 use Rattle.agent_run.specs.Run.{IsGivenBack}
+use Rattle.agent_run.specs.RolledTold.{RolledTold}
 use Rattle.agent_run.specs.RunLeft.{RunLeft}
 use Rattle.agent_run.specs.Runs.{Runs}
 use Rattle.agent_run.specs.Settling.{AreSettled}
 use Rattle.agent_run.specs.Staff.{IsSinkOf}
 use Rattle.agent_run.specs.Through.{PlanRan, RanThrough}
+use Rattle.agent_run.specs.Wholes.{AreBeside, IsSinkWhole}
 use Rattle.agent_run.specs.Wishes.{AreWishes}
 use Rattle.agent_run.specs.declared.homes.AtHome.{AtHome}
 use Rattle.agent_run.specs.declared.joined.Joined.{Joined}
@@ -58,12 +63,15 @@ use Rattle.agent_run.specs.declared.prepare.Prepared.{Prepared}
 use Rattle.agent_run.specs.declared.settle.Settled.{Settled}
 use Rattle.agent_run.specs.declared.workers.Returned.{Returned}
 use Rattle.agent_run.specs.declared.workers.Workers.{Workers}
-use Rattle.agent_run.proofs.Course.{Course, Stands, closed_are_many, tells_of}
+use Rattle.agent_run.proofs.Chaining.{drained_ends}
+use Rattle.agent_run.proofs.Course.{Course, Stands, closed_are_many, tells_of, there}
 use Rattle.agent_run.proofs.Emptied.{drained_told}
 use Rattle.agent_run.proofs.Folders.{folders_told}
 use Rattle.agent_run.proofs.Joining.{zips_long}
 use Rattle.agent_run.proofs.Reports.{report_told}
+use Rattle.agent_run.proofs.Rolling.{WritesRolled, rolled_told}
 use Rattle.agent_run.proofs.WellEnded.{IsWell, was_reported, were_mended}
+use Rattle.agent_run.proofs.Worked.{opened_rolls}
 use Rattle.agent_run.proofs.Zipping.{zips_map, zips_then}
 
 -- ---- the channels of sinks
@@ -85,6 +93,12 @@ zips_at P [] ys all i x y below = absurd (omega (arith, below))
 zips_at P (a ∷ xs) [] all i x y below = absurd all
 zips_at P (a ∷ xs) (b ∷ ys) all zero x y below = all.0
 zips_at P (a ∷ xs) (b ∷ ys) all (suc i) x y below = zips_at P xs ys all.1 i x y (omega (arith, below))
+
+-- some channel, where there is a sink
+some_share : {A B S C : Type 0} (shares : List (EitherShared A B)) (homes : List Known) (ws : List (SinkWorker AtHome S C)) (place : ℕ) → All (IsSinkHome homes) ws
+    → place < length ws → length shares ≡ length homes → EitherShared A B
+some_share shares homes [] place at below many = absurd (omega (arith, below))
+some_share shares homes (w ∷ ws) place at below many = there shares w.channel (let l = (All-head (IsSinkHome homes) w ws at).0 in omega (arith, l, many))
 
 -- ---- the whole
 
@@ -157,3 +171,22 @@ module _ {R D P Q N I O C K : Type 0} (rolled : R → Option Rolled) (told : D �
             (drained_told told faults moment memory tells' sink moments plan.channels.items r sinks goes.home goes.all many
             (λ place w s below. zips_at (λ (s : SinkPlan) (w : SinkWorker AtHome (AgentSink R P Q) C). w.channel ≡ s.channel) sinks workers both place s w below) finals);
       })
+
+  module _ (roll_faults : R → ℕ) (fill : RunsFill) (writes : WritesRolled rolled sink)
+      (outside : (p : Prepared K C) (a b : HostTold) (out : Outside (AgentSink R P Q) N) → Opens p a b out
+      → (length out.sinks.items ≡ length plan.sinks.items) × SinksOpened rolled roll_faults plan.sinks.items a.folders b.folders out.sinks.items) where
+    -- A run filled the folders of its sinks by what these called.
+    pub run_rolled : (ends : RunEnds) (channels : List ChannelEnd) (a b : HostTold) (finals : List Known) (ran : Ran ends channels a b)
+        → AreBeside (IsSinkWhole sink moments ran.ran.goes.manned.crew.shares.items finals) ran.ran.goes.manned.crew.jobs.sinks.items ran.ran.goes.settled.ends.items ran.ran.goes.settled.sinks.items
+        → RolledTold plan.sinks.items ran.ran.goes.manned.crew.jobs.sinks.items finals a.folders b.folders
+    run_rolled ends channels a b finals ran whole =
+        let o = ran.ran in
+        let r = o.goes in
+        let is = r.is_manned in
+        let out = outside ran.made ran.behind o.between o.opening.outside o.opens in
+        let runs = drained_ends (IsDrainedAt sink moments) r.joined.sinks.items r.homes r.settled.ends.items r.settled.sinks.items r.settles.drained r.settles.drains in
+        let many : length r.manned.crew.shares.items ≡ length r.homes = sym is.homes.as_many ∙ sym r.took.as_many in
+        rolled_told rolled roll_faults sink moments fill writes plan.sinks.items r.manned.crew.shares.items finals r.manned.crew.jobs.sinks.items r.settled.ends.items r.settled.sinks.items
+        o.opening.outside.sinks.items (λ place below. some_share r.manned.crew.shares.items r.homes r.joined.sinks.items place r.home (let e = runs.0 in omega (arith, below, e)) many)
+        whole is.own_sinks out.0 ran.behind.folders o.between.folders a.folders b.folders (opened_rolls ran.made.wishes.items ran.channels a ran.behind ran.opened) out.1
+        (λ path. ap (λ (f : Folders). f.rolls path) r.back.folders ∙ ap (λ (f : List ℕ → Option Rolled). f path) r.back.disks.rolls ∙ r.back.rolls.rolls path)

@@ -57,4 +57,6 @@ pub mod Bare
 pub mod TakesOnly
 pub mod Quiet
 pub mod Apart
+pub mod Handing
+pub mod Rolling
 pub mod Leaving

@@ -22,8 +22,9 @@ use Rattle.agent_run.specs.Dialogue.{EndsWell}
 use Rattle.agent_run.specs.Finals.{AreToldInFull, RunsAreTold}
 use Rattle.agent_run.specs.Labels.{AreLabels, users_of}
 use Rattle.agent_run.specs.Runs.{Runs}
-use Rattle.agent_run.specs.Wholes.{LinesStayTold}
+use Rattle.agent_run.specs.Wholes.{AreBeside, IsSinkWhole, LinesStayTold}
 use Rattle.agent_run.specs.RunDid.{RunDid, Steps, passes_of}
+use Rattle.agent_run.specs.RolledTold.{RolledTold}
 use Rattle.agent_run.specs.RunLeft.{RunLeft}
 use Rattle.agent_run.specs.declared.opening.Manned.{Manned}
 use Rattle.agent_run.specs.declared.outcome.ChannelEnd.{ChannelEnd}
@@ -32,7 +33,7 @@ use Rattle.agent_run.specs.declared.prepare.Prepared.{Prepared}
 use Rattle.agent_run.specs.declared.settle.Settled.{Settled}
 use Rattle.agent_run.specs.declared.streams.StreamsEnded.{StreamsEnded}
 
--- ---- the host's streams stay while a run is opened
+-- ---- the host's streams and its rolled files stay while channels are opened
 
 takes_no_stream : (place : ChannelPlace) (a b : HostTold) → TakesDisk place a b → b.state ≡ a.state
 takes_no_stream Memory a b takes = ap (λ (h : HostTold). h.state) takes
@@ -43,6 +44,16 @@ opened_state [] [] a b are = ap (λ (h : HostTold). h.state) are
 opened_state [] (c ∷ cs) a b are = absurd are
 opened_state (wish ∷ wishes) [] a b are = absurd are
 opened_state (wish ∷ wishes) (c ∷ cs) a b are = opened_state wishes cs are.0 b are.2 ∙ takes_no_stream wish.place a are.0 are.1.takes
+
+takes_no_roll : (place : ChannelPlace) (a b : HostTold) → TakesDisk place a b → b.folders.rolls ≡ a.folders.rolls
+takes_no_roll Memory a b takes = ap (λ (h : HostTold). h.folders.rolls) takes
+takes_no_roll (Folder path) a b takes = takes.others.rolls
+
+pub opened_rolls : {A B : Type 0} (wishes : List ChannelWish) (cs : List (OpenedChannel A B)) (a b : HostTold) → AreOpened wishes cs a b → b.folders.rolls ≡ a.folders.rolls
+opened_rolls [] [] a b are = ap (λ (h : HostTold). h.folders.rolls) are
+opened_rolls [] (c ∷ cs) a b are = absurd are
+opened_rolls (wish ∷ wishes) [] a b are = absurd are
+opened_rolls (wish ∷ wishes) (c ∷ cs) a b are = opened_rolls wishes cs are.0 b are.2 ∙ takes_no_roll wish.place a are.0 are.1.takes
 
 module _ {R A B S N I O C K : Type 0} (runs : Runs (EitherPort R A B) S N I O C K) (sink : Told S) (Means : Meaning K) (moments : C → Option (ℕ → ℕ)) (heard : N → Heard)
     (left : I → Option (List ℕ)) (read_faults : I → ℕ) (took handed : O → Option (List ℕ)) (write_faults : O → ℕ)
@@ -62,10 +73,14 @@ module _ {R A B S N I O C K : Type 0} (runs : Runs (EitherPort R A B) S N I O C 
   abbrev pub Did : RunEnds → List ChannelEnd → HostTold → HostTold → Type 0
   Did = RunDid runs sink Means moments heard left read_faults took handed write_faults disk tells moment memory tells' plan Drafted Opens Given Back
 
-  -- Steps whose folders, report and drainings are told of at status 0 are told of in all.
+  -- Steps are told of in all whose rolled files follow from what the sinks called, and whose folders, report and drainings are told of at
+  -- status 0.
   pub run_did : (ends : RunEnds) (channels : List ChannelEnd) (a b : HostTold) (ran : Made ends channels a b)
+      → (AreBeside (IsSinkWhole sink moments ran.ran.goes.manned.crew.shares.items (passes_of channels)) ran.ran.goes.manned.crew.jobs.sinks.items
+      ran.ran.goes.settled.ends.items ran.ran.goes.settled.sinks.items
+      → RolledTold plan.sinks.items ran.ran.goes.manned.crew.jobs.sinks.items (passes_of channels) a.folders b.folders)
       → (run_status ends ≡ 0 → RunLeft plan ends ran.ran.goes.homes ran.ran.goes.behind.output (passes_of channels) a b) → Did ends channels a b
-  run_did ends channels a b ran after =
+  run_did ends channels a b ran rolls after =
       let o = ran.ran in
       let r = o.goes in
       let j = r.joins in
@@ -84,6 +99,7 @@ module _ {R A B S N I O C K : Type 0} (runs : Runs (EitherPort R A B) S N I O C 
         input = input ran.made ran.behind o.between o.opening.outside o.opens ∙ ap (λ (s : HostState). s.input) state;
         output = output ran.made ran.behind o.between o.opening.outside o.opens ∙ ap (λ (s : HostState). s.output) state;
         full = whole;
+        rolled = rolls whole.sinks;
         workers = λ zero. (did zero).0;
         served = λ zero. record {
           dialogue = λ job one.

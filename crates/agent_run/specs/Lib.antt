@@ -26,5 +26,6 @@ pub mod Finals
 pub mod FoldersTold
 pub mod ReportTold
 pub mod DrainedTold
+pub mod RolledTold
 pub mod RunLeft
 pub mod RunDid

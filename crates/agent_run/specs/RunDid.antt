@@ -27,6 +27,7 @@ use Rattle.agent_run.specs.Draining.{IsDrainedAt}
 use Rattle.agent_run.specs.Finals.{AreToldInFull}
 use Rattle.agent_run.specs.Joined.{AreTold, HaveReturned, IsJoined}
 use Rattle.agent_run.specs.Labels.{AreLabels, label_of, users_of}
+use Rattle.agent_run.specs.RolledTold.{RolledTold}
 use Rattle.agent_run.specs.RunLeft.{RunLeft}
 use Rattle.agent_run.specs.Runs.{Runs}
 use Rattle.agent_run.specs.Settling.{AreSettled}
@@ -78,8 +79,9 @@ module _ {R A B S N I O C K : Type 0} (runs : Runs (EitherPort R A B) S N I O C 
     Steps = PlanRan plan Drafted Opens (λ o. RanThrough plan.sinks.items o Takes (Joins Given) Settles Back)
 
     -- A run made its steps. Each channel that comes back is named with its workers, and its pass saw all calls. In these the calls of each
-    -- sink, of each session and of the worker of lines are all calls with their numbers. At status 0 the workers ran, standard input had its
-    -- dialogue, and it is told what the folders hold, what the report says, and which sinks emptied their channels.
+    -- sink, of each session and of the worker of lines are all calls with their numbers, and the folders of rolled files hold what the calls of
+    -- their sinks commit. At status 0 the workers ran, standard input had its dialogue, and it is told what the channels' folders hold, what
+    -- the report says, and which sinks emptied their channels.
     pub record RunDid (ends : RunEnds) (channels : List ChannelEnd) (a b : HostTold) : Type 0 where
       pub steps : Steps ends channels a b
       pub labels : AreLabels (users_of plan steps.made.listeners.items steps.made.lines.items) 0 plan.channels.items (map label_of channels)
@@ -87,6 +89,7 @@ module _ {R A B S N I O C K : Type 0} (runs : Runs (EitherPort R A B) S N I O C 
       pub output : steps.ran.between.state.output ≡ a.state.output
       pub full : AreToldInFull sink Means moments heard talk steps.ran.goes.manned.crew.shares.items steps.ran.goes.homes (passes_of channels)
           steps.ran.goes.manned.crew.jobs steps.ran.goes.joins.returned steps.ran.goes.settled
+      pub rolled : RolledTold plan.sinks.items steps.ran.goes.manned.crew.jobs.sinks.items (passes_of channels) a.folders b.folders
       pub workers : run_status ends ≡ 0
           → AreTold runs sink Means moments heard talk steps.ran.goes.manned.crew.shares.items steps.ran.goes.homes steps.ran.goes.manned.crew.jobs steps.ran.goes.joins.returned
       pub served : run_status ends ≡ 0 → AreServed (passes_of channels) steps.ran.goes.manned.crew.shares.items steps.ran.goes.manned.crew.jobs.lines.items
