@@ -57,6 +57,10 @@ pub mod Bare
 pub mod TakesOnly
 pub mod Quiet
 pub mod Apart
+pub mod Staged
+pub mod Ended
+pub mod Tidying
 pub mod Handing
 pub mod Rolling
+pub mod Unstaged
 pub mod Leaving

@@ -42,7 +42,10 @@ use Rattle.run_tracks.specs.Tracks.{Calls, Mended, Stood, Track, Turned, ended, 
 use Rattle.agent_run.specs.RolledTold.{FilesTold, RolledTold, WasTaken}
 use Rattle.agent_run.specs.Wholes.{AreBeside, IsSinkWhole, WorkedAndDrained}
 use Rattle.agent_run.proofs.Course.{there}
+use Rattle.agent_run.proofs.Ended.{ends_then, mend_ends, turn_ends}
 use Rattle.agent_run.proofs.Handing.{AllHanded, Handed, Hands, WasTakenBehind, hands_none, hands_then, mend_commits, ok_batches, ok_of, turn_hands}
+use Rattle.agent_run.proofs.Staged.{EachEnds}
+use Rattle.agent_run.proofs.Tidying.{Tidy}
 
 -- ---- what a sink was handed in its rounds and its draining
 
@@ -52,12 +55,14 @@ module _ {S : Type 0} (sink : Told S) (batch : ℕ) where
     pub more : List Own
     pub calls : Calls old.from new.from more
     pub hands : Hands sink.delivers (length old.from.whole) more old.sink new.sink
+    pub ends : EachEnds (Stood old.from) (length old.from.whole) old.from.own more
 
   grew_same : (old new : Taking Track S) → new ≡ old → Grew old new
   grew_same old new same = subst (Grew old) (sym same) (record {
     more = [];
     calls = ap (λ (l : List Own). record old.from { own = l }) (sym (append-nil old.from.own));
     hands = hands_none sink.delivers (length old.from.whole) [] old.sink old.sink refl (λ e. refl);
+    ends = tt;
   })
 
   grew_then : (a b c : Taking Track S) → Grew a b → Grew b c → Grew a c
@@ -66,6 +71,7 @@ module _ {S : Type 0} (sink : Told S) (batch : ℕ) where
     calls = g.calls ∙ ap (λ (t : Track). record t { own = t.own ++ g.more }) f.calls ∙ ap (λ (l : List Own). record a.from { own = l }) (append_assoc a.from.own f.more g.more);
     hands = hands_then sink.delivers (length a.from.whole) f.more g.more a.sink b.sink c.sink f.hands
         (subst (λ (n : ℕ). Hands sink.delivers n g.more b.sink c.sink) (ap (λ (t : Track). length t.whole) f.calls) g.hands);
+    ends = ends_then (Stood a.from) (length a.from.whole) a.from.own f.more g.more f.ends (subst (λ (t : Track). EachEnds (Stood t) (length t.whole) t.own g.more) f.calls g.ends);
   }
 
   turn_grew : (old : Taking Track S) (turn : Turn) (new : Taking Track S) → Turned sink batch old turn new → Grew old new
@@ -73,6 +79,7 @@ module _ {S : Type 0} (sink : Told S) (batch : ℕ) where
     more = is.1;
     calls = is.4;
     hands = turn_hands sink.delivers (Stood old.from) (length old.from.whole) batch is.0 old.sink new.sink turn old.from.own is.1 is.5;
+    ends = turn_ends (Stood old.from) (length old.from.whole) sink.delivers batch is.0 old.sink turn new.sink old.from.own is.1 is.5;
   }
 
   mend_grew : (OnDisk : Type 0) (old : Taking Track S) (result : Result Bool OpenCause) (new : Taking Track S) → Mended OnDisk old result new → Grew old new
@@ -81,6 +88,7 @@ module _ {S : Type 0} (sink : Told S) (batch : ℕ) where
     calls = is.2;
     hands = hands_none sink.delivers (length old.from.whole) is.0 old.sink new.sink (ap (λ (t : Taking Track S). t.sink) is.1)
         (λ e. mend_commits OnDisk (Stood old.from) (length old.from.whole) result old.from.own is.0 e is.3);
+    ends = mend_ends (Stood old.from) (length old.from.whole) OnDisk result old.from.own is.0 is.3;
   }
 
   mends_if : (OnDisk : Type 0) (due : Bool) (old new : Taking Track S) → MendsIf (Mended OnDisk) due old new → Grew old new
@@ -108,17 +116,23 @@ module _ {S : Type 0} (sink : Told S) (batch : ℕ) where
       grew_then old is.between new (rounds_grew OnDisk turns old is.between is.rounds)
       (grew_then is.between is.drains.between new (deliveries_grew is.drains.counts is.between is.drains.between is.drains.deliveries) (ends_grew end is.drains.between new is.drains.ends))
 
--- by all calls of its worker a sink was handed so much
-whole_hands : {A B S C : Type 0} (sink : Told S) (moments : C → Option (ℕ → ℕ)) (shares : List (EitherShared A B)) (homes : List Known) (job : SinkWorker Known S C)
-    (end : ChannelDrain) (back : S) → IsSinkWhole sink moments shares homes job end back → EitherShared A B → (home : Known)
-    → let all = (get_or homes job.channel home).view in
-    Hands sink.delivers (length all.seen) (own_calls (job.port.number ∷ []) (opening all.base) all.seen) job.sink back
-whole_hands {A} {B} {S} {C} sink moments shares homes job end back is share home =
-    let track = track_of (get_or homes job.channel home) job.port.number in
-    let whole = is.calls share home in
-    let grew = whole_grew sink job.batch (IsDisk (get_or shares job.channel share)) is.turns end (record { from = track; sink = job.sink; moments = moments job.clock })
-    (record { from = ended track; sink = back; moments = whole.0 }) whole.1 in
-    subst (λ (l : List Own). Hands sink.delivers (length track.whole) l job.sink back) (sym (ap (λ (t : Track). t.own) grew.calls)) grew.hands
+module _ {A B S C : Type 0} (sink : Told S) (moments : C → Option (ℕ → ℕ)) (shares : List (EitherShared A B)) (homes : List Known) (job : SinkWorker Known S C)
+    (end : ChannelDrain) (back : S) (is : IsSinkWhole sink moments shares homes job end back) (share : EitherShared A B) (home : Known) where
+  -- the history that the pass at home has seen, with the number of its worker
+  abbrev track : Track
+  track = track_of (get_or homes job.channel home) job.port.number
+
+  all_grew : Grew sink job.batch (record { from = track; sink = job.sink; moments = moments job.clock }) (record { from = ended track; sink = back; moments = (is.calls share home).0 })
+  all_grew = whole_grew sink job.batch (IsDisk (get_or shares job.channel share)) is.turns end (record { from = track; sink = job.sink; moments = moments job.clock })
+      (record { from = ended track; sink = back; moments = (is.calls share home).0 }) (is.calls share home).1
+
+  -- by all calls of its worker a sink was handed so much
+  whole_hands : let all = (get_or homes job.channel home).view in Hands sink.delivers (length all.seen) (own_calls (job.port.number ∷ []) (opening all.base) all.seen) job.sink back
+  whole_hands = subst (λ (l : List Own). Hands sink.delivers (length track.whole) l job.sink back) (sym (ap (λ (t : Track). t.own) all_grew.calls)) all_grew.hands
+
+  -- and each of their stages was settled or flushed
+  pub whole_tidied : Tidy track (ended track)
+  whole_tidied = (all_grew.more, all_grew.calls, all_grew.ends)
 
 -- ---- rolled files
 

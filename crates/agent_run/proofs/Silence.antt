@@ -66,7 +66,7 @@ silent_under n m p q is other later =
     }
 
 -- so its own calls are the same
-silent_own : (n : ℕ) (p q : Known) → IsSilent n p q → own_calls (n ∷ []) (opening q.view.base) q.view.seen ≡ own_calls (n ∷ []) (opening p.view.base) p.view.seen
+pub silent_own : (n : ℕ) (p q : Known) → IsSilent n p q → own_calls (n ∷ []) (opening q.view.base) q.view.seen ≡ own_calls (n ∷ []) (opening p.view.base) p.view.seen
 silent_own n p q silent =
     (λ i. own_calls (n ∷ []) (opening (silent.base i)) q.view.seen) ∙ own_same (n ∷ []) (opening p.view.base) p.view.seen q.view.seen silent.begins silent.calls
 

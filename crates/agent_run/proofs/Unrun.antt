@@ -28,7 +28,7 @@ use Rattle.agent_run.proofs.Same.{Same, same_self}
 use Rattle.agent_run.proofs.Zipping.{zips_self}
 
 -- a new pass that was taken in called nothing, in what the pass at home has seen
-none_called : (home p : Known) → IsNew p → Took home p → own_calls (p.number ∷ []) (opening home.view.base) home.view.seen ≡ []
+pub none_called : (home p : Known) → IsNew p → Took home p → own_calls (p.number ∷ []) (opening home.view.base) home.view.seen ≡ []
 none_called home p new took =
     own_same (p.number ∷ []) (opening home.view.base) p.view.seen home.view.seen took.seen.0
     (subst (λ (l : List ℕ). calls_by l home.view.seen ≡ calls_by l p.view.seen) new.0 took.seen.1)

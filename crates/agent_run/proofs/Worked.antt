@@ -1,14 +1,21 @@
 -- What the steps of a run come to.
-use Rattle.std.proofs.Common.{◌≡◌, ◌∙◌, ℕ, List, [], ◌∷◌, Bool, Option, Result, sym, ap, subst}
+use Rattle.std.proofs.Common.{◌≡◌, ◌∙◌, ◌<◌, ℕ, List, [], ◌∷◌, Bool, Option, Result, length, map, get_or, sym, ap, subst, arith}
+use Rattle.std.proofs.lemmas.List.{get_or-map, length-map}
+use Rattle.std.proofs.lemmas.List.Elements.{recursion_from_All}
+use Rattle.std.specs.declared.alloc.Global.{Global}
+use Rattle.std.specs.declared.vec.Vec.{Vec}
 use Rattle.channel_face.specs.History.{Opening, Step}
 use Rattle.flume_config.specs.declared.plan.Plan.{Plan}
 use Rattle.flume_host.specs.HostState.{HostState}
 use Rattle.line_worker.specs.Workers.{talk_of}
 use Rattle.shared_channel.specs.Passes.{Known}
 use Rattle.sink_worker.specs.Rounds.{Told}
+use Rattle.sink_worker.specs.declared.worker.SinkWorker.{SinkWorker}
 use Rattle.source_put.specs.Chains.{Meaning}
 use Rattle.source_worker.specs.Rounds.{Heard}
 use Rattle.two_channels.specs.declared.port.EitherPort.{EitherPort}
+use Rattle.run_tracks.specs.Places.{Zips}
+use Rattle.run_tracks.specs.Told.{IsNew}
 use Rattle.agent_channels.specs.Openings.{HostTold, TakesDisk}
 use Rattle.agent_channels.specs.Several.{AreOpened}
 use Rattle.agent_channels.specs.declared.opened.OpenedChannel.{OpenedChannel}
@@ -18,20 +25,30 @@ use Rattle.agent_channels.specs.declared.wish.ChannelWish.{ChannelWish}
 use Rattle.agent_end.specs.Statuses.{run_status}
 use Rattle.agent_end.specs.declared.ends.ReportRefused.{ReportRefused}
 use Rattle.agent_end.specs.declared.ends.RunEnds.{RunEnds}
+use Rattle.agent_run.specs.Alone.{IsAway}
 use Rattle.agent_run.specs.Dialogue.{EndsWell}
-use Rattle.agent_run.specs.Finals.{AreToldInFull, RunsAreTold}
+use Rattle.agent_run.specs.Finals.{AreToldInFull, RunsAreTold, finals_of}
+use Rattle.agent_run.specs.Histories.{IsSinkTold}
+use Rattle.agent_run.specs.Joined.{AreTold}
 use Rattle.agent_run.specs.Labels.{AreLabels, users_of}
-use Rattle.agent_run.specs.Runs.{Runs}
+use Rattle.agent_run.specs.Runs.{Runs, owners_of}
+use Rattle.agent_run.specs.StagedTold.{StagedTold}
 use Rattle.agent_run.specs.Wholes.{AreBeside, IsSinkWhole, LinesStayTold}
 use Rattle.agent_run.specs.RunDid.{RunDid, Steps, passes_of}
 use Rattle.agent_run.specs.RolledTold.{RolledTold}
 use Rattle.agent_run.specs.RunLeft.{RunLeft}
+use Rattle.agent_run.specs.declared.homes.AtHome.{AtHome}
 use Rattle.agent_run.specs.declared.opening.Manned.{Manned}
 use Rattle.agent_run.specs.declared.outcome.ChannelEnd.{ChannelEnd}
 use Rattle.agent_run.specs.declared.outside.Outside.{Outside}
 use Rattle.agent_run.specs.declared.prepare.Prepared.{Prepared}
 use Rattle.agent_run.specs.declared.settle.Settled.{Settled}
 use Rattle.agent_run.specs.declared.streams.StreamsEnded.{StreamsEnded}
+use Rattle.agent_run.proofs.Course.{there}
+use Rattle.agent_run.proofs.Fresh.{are_fresh, fresh_at, fresh_many}
+use Rattle.agent_run.proofs.Owners.{all_split, sink_owners}
+use Rattle.agent_run.proofs.Tidying.{lines_tidy, listens_tidy, owned_both}
+use Rattle.agent_run.proofs.Unstaged.{sinks_tidy, staged_none}
 
 -- ---- the host's streams and its rolled files stay while channels are opened
 
@@ -73,6 +90,45 @@ module _ {R A B S N I O C K : Type 0} (runs : Runs (EitherPort R A B) S N I O C 
   abbrev pub Did : RunEnds → List ChannelEnd → HostTold → HostTold → Type 0
   Did = RunDid runs sink Means moments heard left read_faults took handed write_faults disk tells moment memory tells' plan Drafted Opens Given Back
 
+  -- Where a run ended well, nothing is staged in the channels that are in folders.
+  staged_told : (ends : RunEnds) (channels : List ChannelEnd) (a b : HostTold) (ran : Made ends channels a b)
+      → RunLeft plan ends ran.ran.goes.homes ran.ran.goes.behind.output (finals_of ran.ran.goes.settled) a b
+      → AreTold runs sink Means moments heard (talk_of left read_faults took handed write_faults) ran.ran.goes.manned.crew.shares.items ran.ran.goes.homes ran.ran.goes.manned.crew.jobs ran.ran.goes.joins.returned
+      → AreToldInFull sink Means moments heard (talk_of left read_faults took handed write_faults) ran.ran.goes.manned.crew.shares.items ran.ran.goes.homes (finals_of ran.ran.goes.settled)
+      ran.ran.goes.manned.crew.jobs ran.ran.goes.joins.returned ran.ran.goes.settled
+      → StagedTold plan.channels.items (finals_of ran.ran.goes.settled)
+  staged_told ends channels a b ran well_left told full place one final path low has counted =
+      let o = ran.ran in
+      let r = o.goes in
+      let is = r.is_manned in
+      let j = r.joins in
+      let talk = talk_of left read_faults took handed write_faults in
+      let shares = r.manned.crew.shares.items in
+      let firsts = r.manned.crew.homes.items in
+      let jobs = r.manned.crew.jobs in
+      let finals = finals_of r.settled in
+      let wishes = ran.made.wishes.items in
+      let folder = well_left.folders place one final path low has in
+      let below : place < length firsts = let m = well_left.many in let g = full.goes_on.as_many in let t = r.took.as_many in omega (arith, low, m, g, t) in
+      let some = there shares place (let m = is.homes.as_many in omega (arith, below, m)) in
+      let homes_of : firsts ≡ map (λ (c : OpenedChannel A B). c.home) ran.channels = is.at_home ∙ ap (map (λ (c : OpenedChannel A B). c.home)) o.same_channels in
+      let as_many : length firsts ≡ length ran.channels = ap length homes_of ∙ length-map ran.channels (λ (c : OpenedChannel A B). c.home) in
+      let are = are_fresh wishes ran.channels a ran.behind ran.opened in
+      let fresh : (i : ℕ) (d : Known) → i < length firsts → IsNew (get_or firsts i d) =
+      λ i d under.
+          let here : i < length ran.channels = omega (arith, under, as_many) in
+          let c = there ran.channels i here in
+          let w = there wishes i (let m = fresh_many wishes ran.channels are in omega (arith, here, m)) in
+          subst IsNew (sym (ap (λ (l : List Known). get_or l i d) homes_of ∙ get_or-map (λ (c : OpenedChannel A B). c.home) ran.channels i c d here)) (fresh_at wishes ran.channels are i w c here).home.1 in
+      let lines = stay shares r.homes finals jobs j.returned is.new_ones told.ran full.goes_on full.silent in
+      let owned = owned_both Means moments heard talk shares some finals _ _ (sinks_tidy sink moments shares finals some jobs.sinks.items r.settled.ends.items r.settled.sinks.items full.sinks)
+      (owned_both Means moments heard talk shares some finals _ _ (listens_tidy Means moments heard talk shares some finals jobs.listeners.items j.returned.listeners.items full.listeners)
+      (lines_tidy Means moments heard talk shares some finals jobs.lines.items j.returned.lines.items lines)) in
+      let sinks = subst (λ (v : Vec (SinkWorker AtHome S C) Global). Zips (IsSinkTold sink moments shares r.homes) jobs.sinks.items v.items) (sym j.sinks) told.sinks in
+      let away = all_split (IsAway firsts) (sink_owners jobs.sinks.items) _ (recursion_from_All (IsAway firsts) (owners_of jobs) is.alone.away) in
+      staged_none sink moments disk tells moment memory tells' shares firsts r.homes r.joined.sinks.items r.manned.settled.report.items r.settled r.settles is.homes.as_many r.named r.took fresh
+      (owners_of jobs) is.dealt full.goes_on owned jobs.sinks.items sinks away.0 place final below _ folder.run folder.whole counted
+
   -- Steps are told of in all whose rolled files follow from what the sinks called, and whose folders, report and drainings are told of at
   -- status 0.
   pub run_did : (ends : RunEnds) (channels : List ChannelEnd) (a b : HostTold) (ran : Made ends channels a b)
@@ -88,8 +144,8 @@ module _ {R A B S N I O C K : Type 0} (runs : Runs (EitherPort R A B) S N I O C 
       let shares = r.manned.crew.shares.items in
       let jobs = r.manned.crew.jobs in
       let state = opened_state ran.made.wishes.items ran.channels a ran.behind ran.opened in
-      let whole = subst (λ (l : List Known). AreToldInFull sink Means moments heard talk shares r.homes l jobs j.returned r.settled) (sym r.passes)
-      (in_full plan.sinks.items o.opening r.manned r.homes r.joined j.returned r.settled r.is_manned r.took r.all j.back j.sinks r.home r.named r.settles) in
+      let full = in_full plan.sinks.items o.opening r.manned r.homes r.joined j.returned r.settled r.is_manned r.took r.all j.back j.sinks r.home r.named r.settles in
+      let whole = subst (λ (l : List Known). AreToldInFull sink Means moments heard talk shares r.homes l jobs j.returned r.settled) (sym r.passes) full in
       let did = well shares r.homes jobs j.returned o.between.state r.begun j.behind_drains j.behind_lines ends r.takes j.back j.drains j.lines
       (r.input ∙ ap (λ (s : StreamsEnded). s.input) j.streams) in
       record {
@@ -106,5 +162,7 @@ module _ {R A B S N I O C K : Type 0} (runs : Runs (EitherPort R A B) S N I O C 
               let lines = stay shares r.homes (passes_of channels) jobs j.returned r.is_manned.new_ones (did zero).0.ran whole.goes_on whole.silent in
               (did zero).1 (passes_of channels) job lines one;
         };
+        staged = λ zero. subst (StagedTold plan.channels.items) (sym r.passes)
+            (staged_told ends channels a b ran (subst (λ (l : List Known). RunLeft plan ends r.homes r.behind.output l a b) r.passes (after zero)) (did zero).0 full);
         left_behind = after;
       }

@@ -27,5 +27,6 @@ pub mod FoldersTold
 pub mod ReportTold
 pub mod DrainedTold
 pub mod RolledTold
+pub mod StagedTold
 pub mod RunLeft
 pub mod RunDid

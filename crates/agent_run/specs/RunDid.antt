@@ -32,6 +32,7 @@ use Rattle.agent_run.specs.RunLeft.{RunLeft}
 use Rattle.agent_run.specs.Runs.{Runs}
 use Rattle.agent_run.specs.Settling.{AreSettled}
 use Rattle.agent_run.specs.Staff.{own_talk}
+use Rattle.agent_run.specs.StagedTold.{StagedTold}
 use Rattle.agent_run.specs.Streams.{AreTaken, DrainKept, TalkKept}
 use Rattle.agent_run.specs.Through.{PlanRan, RanThrough}
 use Rattle.agent_run.specs.declared.homes.AtHome.{AtHome}
@@ -80,8 +81,8 @@ module _ {R A B S N I O C K : Type 0} (runs : Runs (EitherPort R A B) S N I O C 
 
     -- A run made its steps. Each channel that comes back is named with its workers, and its pass saw all calls. In these the calls of each
     -- sink, of each session and of the worker of lines are all calls with their numbers, and the folders of rolled files hold what the calls of
-    -- their sinks commit. At status 0 the workers ran, standard input had its dialogue, and it is told what the channels' folders hold, what
-    -- the report says, and which sinks emptied their channels.
+    -- their sinks commit. At status 0 the workers ran, standard input had its dialogue, nothing is staged in a folder's channel, and it is told
+    -- what the channels' folders hold, what the report says, and which sinks emptied their channels.
     pub record RunDid (ends : RunEnds) (channels : List ChannelEnd) (a b : HostTold) : Type 0 where
       pub steps : Steps ends channels a b
       pub labels : AreLabels (users_of plan steps.made.listeners.items steps.made.lines.items) 0 plan.channels.items (map label_of channels)
@@ -94,4 +95,5 @@ module _ {R A B S N I O C K : Type 0} (runs : Runs (EitherPort R A B) S N I O C 
           → AreTold runs sink Means moments heard talk steps.ran.goes.manned.crew.shares.items steps.ran.goes.homes steps.ran.goes.manned.crew.jobs steps.ran.goes.joins.returned
       pub served : run_status ends ≡ 0 → AreServed (passes_of channels) steps.ran.goes.manned.crew.shares.items steps.ran.goes.manned.crew.jobs.lines.items
           steps.ran.between.state steps.ran.goes.joins.behind_lines
+      pub staged : run_status ends ≡ 0 → StagedTold plan.channels.items (passes_of channels)
       pub left_behind : run_status ends ≡ 0 → RunLeft plan ends steps.ran.goes.homes steps.ran.goes.behind.output (passes_of channels) a b
