@@ -3,6 +3,8 @@
 #![tactic(auto)]
 
 #[cfg(test)]
+mod by_pointers;
+#[cfg(test)]
 mod cases;
 #[cfg(test)]
 mod events;

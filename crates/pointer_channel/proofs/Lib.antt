@@ -6,3 +6,4 @@ pub mod Replaying
 pub mod Standing
 pub mod Measuring
 pub mod Images
+pub mod Begun

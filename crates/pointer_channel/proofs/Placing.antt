@@ -117,7 +117,7 @@ end_own w file is = own (eqb_tells file w.file)
     own (inl same) = rw same.0 refl
     own (inr other) = absurd (other.1 is)
 
-end_other : (w : Writer) (file : ℕ) → file ≢ w.file → end_of w file ≡ 2 ^ 64 - 1
+pub end_other : (w : Writer) (file : ℕ) → file ≢ w.file → end_of w file ≡ 2 ^ 64 - 1
 end_other w file isnt = from (eqb_tells file w.file)
   where
     from : ((file == w.file) ≡ true) × (file ≡ w.file) ⊎ ((file == w.file) ≡ false) × (file ≢ w.file) → end_of w file ≡ 2 ^ 64 - 1

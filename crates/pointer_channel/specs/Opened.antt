@@ -1,11 +1,23 @@
--- What an opening finds in a folder.
-use Rattle.std.specs.Prelude.{◌≡◌, ◌<◌, ◌^◌, ℕ, List, length, None, Some}
+-- What an opening finds in a folder, and what it makes of it.
+use Rattle.std.specs.Prelude.{◌≡◌, ◌⊎◌, ◌<◌, ◌^◌, ℕ, List, [], length, Option, None, Some, true}
 use Rattle.flume_host.specs.Folder.{Files}
+use Rattle.flume_host.specs.Told.{Told, WhereTold}
 use Rattle.flume_host.specs.declared.names.FileName.TheVariants.{Log}
+use Rattle.event_core.specs.Journal.{Base, IsBase}
+use Rattle.channel_log.specs.Writer.{Writer}
+use Rattle.channel_face.specs.History.{opening}
+use Rattle.channel_face.specs.Machine.{State}
+use Rattle.channel_face.specs.declared.replies.Kind.TheVariants.{File}
+use Rattle.channel_face.specs.declared.replies.Limits.{Limits}
+use Rattle.channel_face.specs.declared.replies.OpenCause.{OpenCause}
+use Rattle.channel_face.specs.declared.replies.OpenCause.TheVariants as causes
+use Rattle.channel_places.specs.Looks.{Known, LookLeft}
 use Rattle.channel_replay.specs.Recover.{AreLogs, LogFile}
-use Rattle.file_channel.specs.Folders.{HasNoCheck, last_file}
+use Rattle.file_channel.specs.Folders.{HasNoCheck, Opens, last_file}
+use Rattle.file_channel.specs.Written.{IsFresh, IsLogged}
 use Rattle.ring_replay.specs.Folder.{AreReplayed}
 use Rattle.ring_replay.specs.declared.folder.Replayed.{Replayed}
+use Rattle.pointer_channel.specs.Placed.{ArePlaced, IsStateOf, Logged}
 
 -- each log file ends below the greatest offset
 abbrev pub AreShort : Files → Type 0
@@ -19,3 +31,31 @@ pub record ReplaysTo (files : Files) (r : Replayed) : Type 0 where
   pub check : HasNoCheck files
   pub last : files (Log last_file) ≡ None
   pub short : AreShort files
+
+-- A log file could not be begun: the disk failed, or for want of memory, and then nothing was done.
+abbrev pub FailsToBegin : OpenCause → Option Told → Option Told → Type 0
+FailsToBegin cause told told' = (cause ≡ causes.DiskFault) ⊎ ((cause ≡ causes.NoMemory) × (told' ≡ told))
+
+-- A folder opened to this base and to the next transaction number of what was replayed, and a log file was begun behind it. The ring has the base's
+-- events, each known to stand at its pointer, and the log has each state of just these.
+pub record IsBegunAs (was told : Option Told) (capacity max_file : ℕ) (r : Replayed) (w : Writer) : Type 0 where
+  pub base : Base
+  pub known : Known
+  pub rises : IsBase base
+  pub left : LookLeft known [] r.ring.live base.items
+  pub first : base.first ≡ r.next.number
+  pub opens : WhereTold was (λ t. Opens t.reads capacity base r.next.txn)
+  pub placed : ArePlaced told w known
+  pub logged : (s : State) → IsFresh s base r.next.txn → s.rules.limits.max_file ≡ max_file → IsLogged told w 0 s
+
+-- the state of a channel that has just these events and next numbers
+abbrev pub state_of : Limits → Base → ℕ → State
+state_of limits base txn = opening (record { rules = record { kind = File; limits = limits }; base = base; txn = txn; faults = 0; from = 0; tells = true })
+
+-- A folder opened within these limits, and places and log stand for what it opened to.
+pub record OpensWith (was told : Option Told) (limits : Limits) (c : Logged) : Type 0 where
+  pub base : Base
+  pub txn : ℕ
+  pub rises : IsBase base
+  pub opens : WhereTold was (λ t. Opens t.reads limits.capacity base txn)
+  pub state : IsStateOf told c (state_of limits base txn)

@@ -1,5 +1,5 @@
 // A channel on a disk that keeps pointers to its events.
-ghost use Rattle.std.specs.Prelude.{◌↔◌, ◌≡◌, ◌≤◌, ◌+◌, Bool, Err, IsSome, IfOk, IfErr, IsErrOf, false, true, if◌then◌else◌};
+ghost use Rattle.std.specs.Prelude.{◌⊎◌, ◌↔◌, ◌≡◌, ◌≤◌, ◌+◌, Bool, Err, IsSome, IfOk, IfErr, IsErrOf, false, true, if◌then◌else◌};
 ghost use Rattle.flume_host.specs.Causes.{Rose};
 ghost use Rattle.flume_host.specs.Told.{Tells, WhereTold, moment_of};
 ghost use Rattle.event_core.specs.Content.{size};
@@ -9,20 +9,27 @@ ghost use Rattle.channel_face.specs.Machine as Face;
 ghost use Rattle.channel_face.specs.Machine.{BeginPut, BeginTake, Flush, RollbackPut, RollbackTake, StagePut, StageTake, puts_of, size_of_list, takes_of};
 ghost use Rattle.channel_face.specs.declared.replies.FlushRefused.{FlushRefused};
 ghost use Rattle.channel_face.specs.declared.replies.Counter.TheVariants.{File};
+ghost use Rattle.channel_face.specs.declared.replies.OpenCause.{OpenCause};
 ghost use Rattle.channel_face.specs.declared.replies.PutRefused.{PutRefused};
 ghost use Rattle.channel_face.specs.declared.replies.TakeRefused.{TakeRefused};
+ghost use Rattle.channel_replay.specs.Recover.{WhereLogs, lines};
+ghost use Rattle.channel_replay.specs.Replay.{record_count};
+ghost use Rattle.file_channel.specs.Folders.{FailsToSettle, GainsLog, IsBegun, IsRefused, OpensFrom, OpensOver};
 ghost use Rattle.file_channel.specs.Stands.{is_fault};
 ghost use Rattle.file_channel.specs.Touches.{Flushed, HadNoRoom, HasNoRoom, IsSpentLog, Rests, flushes, room_of};
-ghost use Rattle.pointer_channel.specs.Stands.{IsStanding, StandsOver, flush_settles, put_spills, take_spills};
+ghost use Rattle.pointer_channel.specs.Stands.{IsOpened, IsStanding, StandsOver, flush_settles, put_spills, take_spills};
 
 use crate::logged::LoggedPlaces;
 use channel_face::{
-    BeginRefused, Channel, Counts, FlushRefused, Put, PutRefused, PutTxn, Settled, StageRefused,
-    TakeRefused, TakeTxn, Taken, Ticket,
+    BeginRefused, Channel, Counts, FlushRefused, Limits, OpenCause, Put, PutRefused, PutTxn,
+    Settled, StageRefused, TakeRefused, TakeTxn, Taken, Ticket,
 };
 use event_core::Event;
-use flume_host::Disk;
+use file_channel::OpenRefused;
+use flume_host::{Disk, Steps};
+use std::alloc::Global;
 use std::marker::Model;
+use std::sync::ledger::Ledger;
 use txn_core::{Call, Reply, note};
 
 /// A channel in a folder of a disk that keeps no bodies of events in memory (Flume User Guide, "File Channel"). Each change has
@@ -103,6 +110,52 @@ fn flush_reply(done: &Result<(), FlushRefused>, staged: (u64, u64)) -> Reply
     match done {
         Ok(()) => reply_of(true, true, staged),
         Err(_) => Reply::quiet(false),
+    }
+}
+
+/// Opens the channel of a folder: it is settled and replayed, and a log file is begun behind those that are there; no other
+/// file is written. `steps` counts the records that are read. 1. `DiskFault`. 2. `BadCheck`, where a checkpoint is there:
+/// they are not read yet. 3. `BadLog`, at the first fault of the log. 4. `OverCapacity`, where more events are left than
+/// the limits allow. 5. `Spent` of `Counter::File`, where log file 4,294,967,295 is there. 6. `NoMemory`. After a refusal
+/// the files are as they were, and after `DiskFault` one log file more of at most 17 bytes may be there.
+pub fn open_channel<D: Disk + Drop, L: Ledger>(
+    alloc: Global,
+    disk: D,
+    limits: Limits,
+    steps: &mut Steps<L>,
+) -> Result<LogChannel<D>, OpenRefused<D>>
+    // It stands for no calls: since the folder was settled, whatever a stop leaves recovers to what the folder opened to.
+    ensures opened { IfOk result
+        (λ c. IsOpened (D.told disk) (D.faults disk) limits
+        (D.told c.0) (D.faults c.0) c.1) }
+    ensures gains { IfOk result
+        (λ c. Tells (D.told disk) (D.told c.0) (λ t u. GainsLog t.reads IsBegun u.reads)) }
+    ensures refused { IfErr result
+        (λ refused. IsRefused (D.told disk) (D.told refused.disk) (D.faults disk)
+        (D.faults refused.disk) limits.capacity refused.cause) }
+    ensures well { IfOk result (λ c. D.faults c.0 ≡ D.faults disk) }
+    ensures any_moment { IfOk result (λ c. Tells (D.told disk) (D.told c.0) OpensOver) }
+    ensures settled { IfOk result (λ c. Tells (D.told disk) (D.told c.0) OpensFrom) }
+    ensures settled_or { IfErr result
+        (λ refused. ((refused.cause ≡ OpenCause.DiskFault)
+        × FailsToSettle (D.told disk) (D.told refused.disk))
+        ⊎ Tells (D.told disk) (D.told refused.disk) OpensFrom) }
+    ensures ticks { WhereTold (D.told disk)
+        (λ t. WhereLogs t.reads (λ logs. steps.new ≤ steps.old + record_count (lines logs))) }
+{
+    match LoggedPlaces::open(alloc, disk, limits, steps) {
+        Ok(logged) => Ok(LogChannel {
+            logged,
+            counts: Counts {
+                put_attempts: 0,
+                put_successes: 0,
+                take_attempts: 0,
+                take_successes: 0,
+                size: 0,
+                capacity: 0,
+            },
+        }),
+        Err(refused) => Err(refused),
     }
 }
 

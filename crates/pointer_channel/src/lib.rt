@@ -8,7 +8,6 @@ mod opening;
 mod reading;
 mod records;
 
-pub use channel::LogChannel;
+pub use channel::{LogChannel, open_channel};
 pub use laws::an_event_stands_in_each_image;
 pub use logged::LoggedPlaces;
-pub use opening::{held_of, read_folder};

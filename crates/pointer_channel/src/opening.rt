@@ -1,26 +1,29 @@
-// What the replay of a folder leaves to a channel.
-ghost use Rattle.std.specs.Prelude.{◌≡◌, ◌<◌, ◌≤◌, ◌+◌, IfErr, IfOk, IsErrOf, List, OnOk};
+// A folder is opened: it is settled and replayed, and a log file is begun behind those that are there.
+ghost use Rattle.std.specs.Prelude.{[], ◌⊎◌, ◌≡◌, ◌<◌, ◌≤◌, ◌+◌, ◌-◌, Err, IfErr, IfOk, IsErrOf, OnOk, false, length};
 ghost use Rattle.flume_host.specs.Causes.{HasCause, Rose};
-ghost use Rattle.flume_host.specs.Told.{WhereTold};
+ghost use Rattle.flume_host.specs.Told.{Changes, Settle, Tells, WhereTold, done};
+ghost use Rattle.flume_host.specs.declared.names.FileName.TheVariants.{Log};
+ghost use Rattle.event_core.specs.Journal.{IsBase};
+ghost use Rattle.channel_face.specs.History.{Opening, opening};
+ghost use Rattle.channel_face.specs.declared.replies.Counter.{Counter};
+ghost use Rattle.channel_face.specs.declared.replies.Kind.TheVariants.{File};
 ghost use Rattle.channel_face.specs.declared.replies.OpenCause.{OpenCause};
+ghost use Rattle.channel_log.specs.Window.{nothing_kept};
+ghost use Rattle.channel_log.specs.Writer.{IsBlank, IsUnused};
+ghost use Rattle.channel_log.specs.Writer as writers;
+ghost use Rattle.channel_places.specs.Looks.{Known, LookLeft, Looks};
 ghost use Rattle.channel_replay.specs.Recover.{WhereLogs, lines};
 ghost use Rattle.channel_replay.specs.Replay.{record_count};
-ghost use Rattle.file_channel.specs.Folders.{IsNextFile, IsOfFile, Refuses, log_name};
-ghost use Rattle.pointer_channel.specs.Opened.{AreShort, ReplaysTo};
-ghost use Rattle.channel_face.specs.History.{Opening, opening};
-ghost use Rattle.channel_face.specs.declared.replies.Kind.TheVariants.{File};
-ghost use Rattle.event_core.specs.Content.{Content, size};
-ghost use Rattle.event_core.specs.Journal.{Base, IsBase};
-ghost use Rattle.record_form.specs.declared.record.Pointer as pointers;
-ghost use Rattle.channel_places.specs.Looks.{Known, Looks, StandsIn};
-ghost use Rattle.ring_replay.specs.Folder.{IsReady, IsReplayed, puts_of};
-ghost use Rattle.channel_replay.specs.Start.{Start};
-ghost use Rattle.channel_replay.specs.declared.line.Line as line;
+ghost use Rattle.file_channel.specs.Folders.{FailsToSettle, GainsLog, IsBegun, IsNextFile, IsOfFile, IsRefused, Opens, OpensFrom, OpensOver, Refuses, log_name};
+ghost use Rattle.ring_replay.specs.Folder.{IsReady};
+ghost use Rattle.pointer_channel.specs.Opened.{AreShort, FailsToBegin, OpensWith, ReplaysTo};
 
+use crate::logged::LoggedPlaces;
 use channel_face::{Counter, Limits, OpenCause};
+use channel_log::{LogBeginRefused, LogWriter};
 use channel_places::Held;
 use event_core::NoMemory;
-use file_channel::{first_check, last_log, of_replay};
+use file_channel::{OpenRefused, Writing, first_check, last_log, of_replay};
 use flume_host::{Disk, Failed, FileName, Steps};
 use ring_replay::{Replayed, replay};
 use std::alloc::Global;
@@ -28,6 +31,9 @@ use std::sync::ledger::Ledger;
 
 /// The last number of a log file.
 const LAST_FILE: u32 = u32::MAX;
+
+/// The birth of a log file that an opening begins.
+const BEGUN: u16 = 1;
 
 // The log file of this number.
 fn log_name(number: Option<u32>) -> Option<FileName>
@@ -59,8 +65,8 @@ fn measure_logs<D: Disk>(disk: &mut D) -> Result<(), Failed>
     }
 }
 
-/// What a folder leaves, by the places of its events, and the number of the log file behind those that are there.
-pub fn read_folder<D: Disk, L: Ledger>(
+// What a folder leaves, by the places of its events, and the number of the log file behind those that are there.
+fn read_folder<D: Disk, L: Ledger>(
     alloc: Global,
     disk: &mut D,
     capacity: u32,
@@ -110,22 +116,167 @@ pub fn read_folder<D: Disk, L: Ledger>(
     }
 }
 
-/// What a channel keeps of the events that a replay left: each of them is known to stand at its PUT among the lines that were
-/// replayed.
-pub fn held_of(alloc: Global, replayed: Replayed, limits: Limits) -> Result<Held, NoMemory>
+// What a channel keeps of the events that a replay left.
+fn held_of(alloc: Global, replayed: Replayed, limits: Limits) -> Result<Held, NoMemory>
     requires { IsReady limits.capacity replayed }
-    ensures stands { IfOk result (λ held. (s : Start) (found : List line.Line) (o : Opening)
-        → (is : IsReplayed s found replayed) → o.base ≡ is.left → o.txn ≡ replayed.next.txn
+    ensures { IfOk result (λ held. (known : Known) (o : Opening)
+        → o.base.first ≡ replayed.next.number → o.txn ≡ replayed.next.txn
         → o.rules ≡ record { kind = File; limits = limits }
-        → Looks (puts_of found) held (opening o)) }
-
-    // Also where the disk tells nothing there are some events at its pointers, each of its pointer's length.
-    ensures some { IfOk result (λ held. (known : Known) × (base : Base) × IsBase base
-        × ((p : pointers.Pointer) (event : Content) → StandsIn known p event
-        → size event ≡ p.length)
-        × ((o : Opening) → o.base ≡ base → o.txn ≡ replayed.next.txn
-        → o.rules ≡ record { kind = File; limits = limits } → Looks known held (opening o))) }
+        → LookLeft known [] replayed.ring.live o.base.items → IsBase o.base
+        → Looks known held (opening o)) }
 {
     let Replayed { ring, next } = replayed;
     Held::open(alloc, ring, limits, next.number, next.txn)
+}
+
+// Settles a folder, and reads what it leaves, with the number of the log file behind those that are there.
+fn settle_folder<D: Disk, L: Ledger>(
+    alloc: Global,
+    disk: &mut D,
+    capacity: u32,
+    steps: &mut Steps<L>,
+) -> Result<(Replayed, u32), OpenCause>
+    ensures settles { OnOk result
+        (Tells (D.told disk.old) (D.told disk.new) (λ t u. u ≡ done Settle t)) }
+    ensures replays { IfOk result
+        (λ found. WhereTold (D.told disk.old) (λ t. ReplaysTo t.reads found.0)) }
+    ensures next { IfOk result
+        (λ found. WhereTold (D.told disk.new) (λ t. IsNextFile t.reads found.1)) }
+    ensures ready { IfOk result (λ found. IsReady capacity found.0) }
+    ensures refused { IfErr result
+        (IsRefused (D.told disk.old) (D.told disk.new) (D.faults disk.old) (D.faults disk.new)
+        capacity) }
+    ensures settled_or { IfErr result
+        (λ cause. ((cause ≡ OpenCause.DiskFault)
+        × FailsToSettle (D.told disk.old) (D.told disk.new))
+        ⊎ Tells (D.told disk.old) (D.told disk.new) OpensFrom) }
+    ensures ticks { WhereTold (D.told disk.old)
+        (λ t. WhereLogs t.reads (λ logs. steps.new ≤ steps.old + record_count (lines logs))) }
+    ensures well { OnOk result (D.faults disk.new ≡ D.faults disk.old) }
+{
+    match disk.settle() {
+        Ok(()) => {}
+        Err(_) => return Err(OpenCause::DiskFault),
+    }
+    match read_folder(alloc, disk, capacity, steps) {
+        Ok(found) => Ok(found),
+        Err(cause) => Err(cause),
+    }
+}
+
+// Begins a log file that has no frame yet.
+fn begin_log<D: Disk>(
+    alloc: Global,
+    disk: &mut D,
+    number: u32,
+    max_file: u64,
+) -> Result<LogWriter, OpenCause>
+    requires { IsUnused (D.told disk.old) number }
+    ensures writer { IfOk result (λ w. w ≡ record {
+      file = number;
+      gate = 16;
+      max_file = max_file;
+      started = false;
+      bytes = [];
+      count = 0;
+      kept = nothing_kept;
+    }) }
+    ensures any_moment { Tells (D.told disk.old) (D.told disk.new)
+        (Changes (Log number) IsBlank 1) }
+    ensures begun { OnOk result (writers.IsReady (D.told disk.new) 1 number 16 []) }
+    ensures causes { IfErr result
+        (λ cause. FailsToBegin cause (D.told disk.old) (D.told disk.new)) }
+    ensures fault { IsErrOf result OpenCause.DiskFault
+        → Rose (D.faults disk.old) (D.faults disk.new) }
+    ensures later { D.faults disk.old ≤ D.faults disk.new }
+    ensures well { (IsErrOf result OpenCause.DiskFault → ⊥)
+        → D.faults disk.new ≡ D.faults disk.old }
+{
+    match LogWriter::begin(alloc, disk, number, BEGUN, max_file) {
+        Ok(log) => Ok(log),
+        Err(LogBeginRefused::DiskFault) => Err(OpenCause::DiskFault),
+        Err(LogBeginRefused::NoMemory) => Err(OpenCause::NoMemory),
+    }
+}
+
+// Settles a folder and reads it, makes what a channel keeps of its events, and begins a log file behind those that are there. So a
+// want of memory for the places comes before that file is made.
+fn open_log<D: Disk, L: Ledger>(
+    alloc: Global,
+    disk: &mut D,
+    limits: Limits,
+    steps: &mut Steps<L>,
+) -> Result<(Held, LogWriter), OpenCause>
+    ensures opens { IfOk result
+        (λ found. OpensWith (D.told disk.old) (D.told disk.new) limits
+        (record { places = found.0; log = found.1; busy = 0 })) }
+    ensures waits { IfOk result (λ found. length found.1.bytes ≡ 0) }
+    ensures gains { OnOk result
+        (Tells (D.told disk.old) (D.told disk.new) (λ t u. GainsLog t.reads IsBegun u.reads)) }
+    ensures any_moment { OnOk result (Tells (D.told disk.old) (D.told disk.new) OpensOver) }
+    ensures settled { OnOk result (Tells (D.told disk.old) (D.told disk.new) OpensFrom) }
+    ensures well { OnOk result (D.faults disk.new ≡ D.faults disk.old) }
+    ensures refused { IfErr result
+        (IsRefused (D.told disk.old) (D.told disk.new) (D.faults disk.old) (D.faults disk.new)
+        limits.capacity) }
+    ensures settled_or { IfErr result
+        (λ cause. ((cause ≡ OpenCause.DiskFault)
+        × FailsToSettle (D.told disk.old) (D.told disk.new))
+        ⊎ Tells (D.told disk.old) (D.told disk.new) OpensFrom) }
+    ensures ticks { WhereTold (D.told disk.old)
+        (λ t. WhereLogs t.reads (λ logs. steps.new ≤ steps.old + record_count (lines logs))) }
+{
+    let (replayed, number) = match settle_folder(alloc, disk, limits.capacity, steps) {
+        Ok(found) => found,
+        Err(cause) => return Err(cause),
+    };
+    let held = match held_of(alloc, replayed, limits) {
+        Ok(held) => held,
+        Err(_) => return Err(OpenCause::NoMemory),
+    };
+    match begin_log(alloc, disk, number, limits.max_file) {
+        Ok(log) => Ok((held, log)),
+        Err(cause) => Err(cause),
+    }
+}
+
+impl<D: Disk + Drop> LoggedPlaces<D> {
+    /// Opens the folder of a disk: it is settled and replayed, and a log file is begun behind those that are there.
+    pub(crate) fn open<L: Ledger>(
+        alloc: Global,
+        disk: D,
+        limits: Limits,
+        steps: &mut Steps<L>,
+    ) -> Result<LoggedPlaces<D>, OpenRefused<D>>
+        ensures opens { IfOk result (λ c. OpensWith (D.told disk) (D.told c.0) limits c.1) }
+        ensures waits { IfOk result (λ c. length c.1.log.bytes ≡ 0) }
+        ensures gains { IfOk result
+            (λ c. Tells (D.told disk) (D.told c.0) (λ t u. GainsLog t.reads IsBegun u.reads)) }
+        ensures any_moment { IfOk result (λ c. Tells (D.told disk) (D.told c.0) OpensOver) }
+        ensures settled { IfOk result (λ c. Tells (D.told disk) (D.told c.0) OpensFrom) }
+        ensures well { IfOk result (λ c. D.faults c.0 ≡ D.faults disk) }
+        ensures refused { IfErr result
+            (λ refused. IsRefused (D.told disk) (D.told refused.disk) (D.faults disk)
+            (D.faults refused.disk) limits.capacity refused.cause) }
+        ensures settled_or { IfErr result
+            (λ refused. ((refused.cause ≡ OpenCause.DiskFault)
+            × FailsToSettle (D.told disk) (D.told refused.disk))
+            ⊎ Tells (D.told disk) (D.told refused.disk) OpensFrom) }
+        ensures ticks { WhereTold (D.told disk)
+            (λ t. WhereLogs t.reads (λ logs. steps.new ≤ steps.old + record_count (lines logs))) }
+    {
+        let mut disk = disk;
+        match open_log(alloc, &mut disk, limits, steps) {
+            Ok((held, log)) => Ok(LoggedPlaces {
+                held,
+                writing: Writing {
+                    alloc,
+                    disk,
+                    log,
+                    busy: 0,
+                },
+            }),
+            Err(cause) => Err(OpenRefused { disk, cause }),
+        }
+    }
 }
