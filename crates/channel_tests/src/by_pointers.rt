@@ -1,11 +1,11 @@
 // Folders that were written before, opened by the channel that keeps pointers to its events.
 ghost use Rattle.std.specs.Prelude.{◌≡◌, ◌<◌};
 
-use crate::folders::{FOLDERS, Folder, Opening, is_left_so};
+use crate::folders::{FAILED, FOLDERS, Folder, LIMITS, MENDED, Opening, is_left_so};
 use crate::reading::disk;
 use crate::spelled::files;
 use crate::steps::{Tried, answer};
-use channel_face::{Limits, OpenCause};
+use channel_face::{Channel, Limits, OpenCause};
 use file_channel::OpenRefused;
 use flume_host::Steps;
 use host_memory::MemDisk;
@@ -14,6 +14,7 @@ use std::alloc::Global;
 use std::marker::Brand;
 use std::sync::ledger::{Blank, Ledger};
 use std::test::Fail;
+use test_fixtures::disk_failing_in_flush;
 
 fn open_by<L: Ledger>(
     alloc: Global,
@@ -41,6 +42,20 @@ fn channel_on(
     open_by::<Brand>(alloc, Blank::new(1), disk, limits)
 }
 
+fn reopen_by<L: Ledger>(blank: Blank, channel: &mut LogChannel<MemDisk>) -> Result<(), OpenCause>
+    requires name { blank.name ≡ L.name }
+    requires parts { blank.parts ≡ L.parts }
+    requires some { 0 < L.parts }
+{
+    let mut steps = Steps::<L>::new(blank);
+    channel.reopen(&mut steps)
+}
+
+// Opens the folder of a channel anew.
+fn reopen(channel: &mut LogChannel<MemDisk>) -> Result<(), OpenCause> {
+    reopen_by::<Brand>(Blank::new(1), channel)
+}
+
 // Opens the folder, makes each call, closes it and looks at its files.
 fn opens(alloc: Global, disk: MemDisk, limits: Limits, opening: &Opening) -> Result<MemDisk, Fail> {
     let mut tried = Tried::new(channel_on(alloc, disk, limits)?);
@@ -65,4 +80,15 @@ fn folders_are_opened_by_pointers(rt: HostRuntime) -> Result<(), Fail> {
         opens_each_time(rt.alloc(), folder)?;
     }
     Ok(())
+}
+
+#[test]
+fn a_broken_channel_of_pointers_is_opened_anew(rt: HostRuntime) -> Result<(), Fail> {
+    let alloc = rt.alloc();
+    let disk = disk_failing_in_flush(alloc, LIMITS)?;
+    let mut tried = Tried::new(channel_on(alloc, disk, LIMITS)?);
+    answer(alloc, "broken", &mut tried, &FAILED)?;
+    assert!(rt; reopen(&mut tried.channel).is_ok());
+    assert!(rt; tried.channel.size() <= 1 && !tried.channel.is_broken());
+    answer(alloc, "mended", &mut tried, &MENDED)
 }

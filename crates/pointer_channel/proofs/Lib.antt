@@ -7,3 +7,4 @@ pub mod Standing
 pub mod Measuring
 pub mod Images
 pub mod Begun
+pub mod Reopening

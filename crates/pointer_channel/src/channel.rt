@@ -1,21 +1,23 @@
 // A channel on a disk that keeps pointers to its events.
-ghost use Rattle.std.specs.Prelude.{◌⊎◌, ◌↔◌, ◌≡◌, ◌≤◌, ◌+◌, Bool, Err, IsSome, IfOk, IfErr, IsErrOf, false, true, if◌then◌else◌};
+ghost use Rattle.std.specs.Prelude.{◌⊎◌, ◌↔◌, ◌≡◌, ◌≤◌, ◌+◌, ◌-◌, ◌^◌, Bool, Err, IsSome, OnOk, IfOk, IfErr, IsErrOf, false, true, if◌then◌else◌};
 ghost use Rattle.flume_host.specs.Causes.{Rose};
-ghost use Rattle.flume_host.specs.Told.{Tells, WhereTold, moment_of};
+ghost use Rattle.flume_host.specs.Told.{LeavesOnly, Tells, WhereTold, moment_of};
 ghost use Rattle.event_core.specs.Content.{size};
 ghost use Rattle.channel_face.specs.Calls.{cause_of};
-ghost use Rattle.channel_face.specs.History.{AddsOne, Shows};
+ghost use Rattle.channel_face.specs.History.{AddsOne, Shows, reopen_reply};
 ghost use Rattle.channel_face.specs.Machine as Face;
-ghost use Rattle.channel_face.specs.Machine.{BeginPut, BeginTake, Flush, RollbackPut, RollbackTake, StagePut, StageTake, puts_of, size_of_list, takes_of};
+ghost use Rattle.channel_face.specs.Machine.{BeginPut, BeginTake, Flush, Reopen, Reopened, RollbackPut, RollbackTake, StagePut, StageTake, base_of, puts_of, size_of_list, takes_of};
 ghost use Rattle.channel_face.specs.declared.replies.FlushRefused.{FlushRefused};
+ghost use Rattle.channel_face.specs.declared.replies.Counter.{Counter};
 ghost use Rattle.channel_face.specs.declared.replies.Counter.TheVariants.{File};
 ghost use Rattle.channel_face.specs.declared.replies.OpenCause.{OpenCause};
 ghost use Rattle.channel_face.specs.declared.replies.PutRefused.{PutRefused};
 ghost use Rattle.channel_face.specs.declared.replies.TakeRefused.{TakeRefused};
 ghost use Rattle.channel_replay.specs.Recover.{WhereLogs, lines};
 ghost use Rattle.channel_replay.specs.Replay.{record_count};
-ghost use Rattle.file_channel.specs.Folders.{FailsToSettle, GainsLog, IsBegun, IsRefused, OpensFrom, OpensOver};
+ghost use Rattle.file_channel.specs.Folders.{FailsToSettle, GainsLog, IsBegun, IsRefused, Opens, OpensFrom, OpensOver};
 ghost use Rattle.file_channel.specs.Stands.{is_fault};
+ghost use Rattle.file_channel.specs.Written.{MayRecover};
 ghost use Rattle.file_channel.specs.Touches.{Flushed, HadNoRoom, HasNoRoom, IsSpentLog, Rests, flushes, room_of};
 ghost use Rattle.pointer_channel.specs.Stands.{IsOpened, IsStanding, StandsOver, flush_settles, put_spills, take_spills};
 
@@ -160,6 +162,45 @@ pub fn open_channel<D: Disk + Drop, L: Ledger>(
 }
 
 impl<D: Disk + Drop> LogChannel<D> {
+    /// Opens the folder anew, with the causes of [`open_channel`]; before them comes `Spent` of `Counter::Life`, exactly where
+    /// the life is 2^64 - 1. On Ok the life is one more and earlier tokens are stale. What was settled is left, and with it
+    /// all that was staged or nothing of that. After a refusal the channel is broken, and has what it had.
+    pub fn reopen<L: Ledger>(&mut self, steps: &mut Steps<L>) -> Result<(), OpenCause>
+        ensures step { (kept : Reopened)
+            × AddsOne (StandsOver (D.told self.old.0) (D.faults self.old.0) self.old.1)
+            (StandsOver (D.told self.new.0) (D.faults self.new.0) self.new.1)
+            (Reopen (reopen_reply result kept)) (moment_of (D.told self.new.0)) }
+        ensures opens { Shows (StandsOver (D.told self.new.0) (D.faults self.new.0) self.new.1)
+            (λ s. OnOk result (WhereTold (D.told self.old.0)
+            (λ t. Opens t.reads s.rules.limits.capacity (base_of s) s.txn))) }
+        ensures gains { OnOk result
+            (Tells (D.told self.old.0) (D.told self.new.0)
+            (λ t u. GainsLog t.reads IsBegun u.reads)) }
+        ensures any_moment { Shows (StandsOver (D.told self.old.0) (D.faults self.old.0) self.old.1)
+            (λ s. Tells (D.told self.old.0) (D.told self.new.0)
+            (λ t u. LeavesOnly t u (MayRecover s))) }
+        ensures fault { IsErrOf result OpenCause.DiskFault
+            → Rose (D.faults self.old.0) (D.faults self.new.0) }
+        ensures later { D.faults self.old.0 ≤ D.faults self.new.0 }
+        ensures well { OnOk result (D.faults self.new.0 ≡ D.faults self.old.0) }
+        ensures spent { Shows (StandsOver (D.told self.old.0) (D.faults self.old.0) self.old.1)
+            (λ s. 2 ^ 64 - 1 ≤ s.life → (result ≡ Err (OpenCause.Spent Counter.Life))
+            × (D.told self.new.0 ≡ D.told self.old.0)
+            × (D.faults self.new.0 ≡ D.faults self.old.0)) }
+        ensures refused { Shows (StandsOver (D.told self.old.0) (D.faults self.old.0) self.old.1)
+            (λ s. IfErr result (λ cause. ((cause ≡ OpenCause.Spent Counter.Life)
+            × (D.told self.new.0 ≡ D.told self.old.0) × (D.faults self.new.0 ≡ D.faults self.old.0))
+            ⊎ IsRefused (D.told self.old.0) (D.told self.new.0) (D.faults self.old.0)
+            (D.faults self.new.0) s.rules.limits.capacity cause)) }
+        ensures ticks { WhereTold (D.told self.old.0)
+            (λ t. WhereLogs t.reads (λ logs. steps.new ≤ steps.old + record_count (lines logs))) }
+    {
+        let result = self.logged.reopen(steps);
+        let reply = Reply::quiet(result.is_ok());
+        note(&mut self.counts, Call::Reopen, reply);
+        result
+    }
+
     /// Between two calls, whatever a crash leaves recovers to just what is settled, unless the channel is broken.
     pub fn rests(&self)
         ensures { Shows (StandsOver (D.told self.now.0) (D.faults self.now.0) self.now.1)

@@ -4,6 +4,7 @@
 mod channel;
 mod laws;
 mod logged;
+mod mending;
 mod opening;
 mod reading;
 mod records;

@@ -1,10 +1,12 @@
 // A folder is opened: it is settled and replayed, and a log file is begun behind those that are there.
-ghost use Rattle.std.specs.Prelude.{[], ◌⊎◌, ◌≡◌, ◌<◌, ◌≤◌, ◌+◌, ◌-◌, Err, IfErr, IfOk, IsErrOf, OnOk, false, length};
+ghost use Rattle.std.specs.Prelude.{[], ◌⊎◌, ◌≡◌, ◌<◌, ◌≤◌, ◌+◌, ◌-◌, ◌^◌, Err, IfErr, IfOk, IsErrOf, OnOk, false, length};
 ghost use Rattle.flume_host.specs.Causes.{HasCause, Rose};
-ghost use Rattle.flume_host.specs.Told.{Changes, Settle, Tells, WhereTold, done};
+ghost use Rattle.flume_host.specs.Told.{Changes, LeavesOnly, Settle, Tells, WhereTold, done};
 ghost use Rattle.flume_host.specs.declared.names.FileName.TheVariants.{Log};
 ghost use Rattle.event_core.specs.Journal.{IsBase};
-ghost use Rattle.channel_face.specs.History.{Opening, opening};
+ghost use Rattle.channel_face.specs.History.{Opening, opening, reopen_reply};
+ghost use Rattle.channel_face.specs.Machine as Face;
+ghost use Rattle.channel_face.specs.Machine.{Reopen, Reopened};
 ghost use Rattle.channel_face.specs.declared.replies.Counter.{Counter};
 ghost use Rattle.channel_face.specs.declared.replies.Kind.TheVariants.{File};
 ghost use Rattle.channel_face.specs.declared.replies.OpenCause.{OpenCause};
@@ -14,9 +16,11 @@ ghost use Rattle.channel_log.specs.Writer as writers;
 ghost use Rattle.channel_places.specs.Looks.{Known, LookLeft, Looks};
 ghost use Rattle.channel_replay.specs.Recover.{WhereLogs, lines};
 ghost use Rattle.channel_replay.specs.Replay.{record_count};
-ghost use Rattle.file_channel.specs.Folders.{FailsToSettle, GainsLog, IsBegun, IsNextFile, IsOfFile, IsRefused, Opens, OpensFrom, OpensOver, Refuses, log_name};
+ghost use Rattle.file_channel.specs.Folders.{FailsToSettle, GainsLog, IsAsBefore, IsBegun, IsNextFile, IsOfFile, IsRefused, Opens, OpensFrom, OpensOver, Refuses, log_name};
+ghost use Rattle.file_channel.specs.Written.{MayRecover};
 ghost use Rattle.ring_replay.specs.Folder.{IsReady};
-ghost use Rattle.pointer_channel.specs.Opened.{AreShort, FailsToBegin, OpensWith, ReplaysTo};
+ghost use Rattle.pointer_channel.specs.Opened.{AreShort, FailsToBegin, IsBegunAs, OpensWith, ReplaysTo};
+ghost use Rattle.pointer_channel.specs.Stepped.{ShowsOf, StepsOn};
 
 use crate::logged::LoggedPlaces;
 use channel_face::{Counter, Limits, OpenCause};
@@ -240,6 +244,40 @@ fn open_log<D: Disk, L: Ledger>(
     }
 }
 
+// Settles a folder and reads it, and begins a log file behind those that are there.
+fn reopen_log<D: Disk, L: Ledger>(
+    alloc: Global,
+    disk: &mut D,
+    capacity: u32,
+    max_file: u64,
+    steps: &mut Steps<L>,
+) -> Result<(Replayed, LogWriter), OpenCause>
+    ensures begun { IfOk result
+        (λ found. IsBegunAs (D.told disk.old) (D.told disk.new) capacity max_file found.0 found.1) }
+    ensures ready { IfOk result (λ found. IsReady capacity found.0) }
+    ensures waits { IfOk result (λ found. length found.1.bytes ≡ 0) }
+    ensures gains { OnOk result
+        (Tells (D.told disk.old) (D.told disk.new) (λ t u. GainsLog t.reads IsBegun u.reads)) }
+    ensures stays { OnOk result
+        (Tells (D.told disk.old) (D.told disk.new) (λ t u. IsAsBefore t.reads u.reads)) }
+    ensures any_moment { OnOk result (Tells (D.told disk.old) (D.told disk.new) OpensOver) }
+    ensures well { OnOk result (D.faults disk.new ≡ D.faults disk.old) }
+    ensures refused { IfErr result
+        (IsRefused (D.told disk.old) (D.told disk.new) (D.faults disk.old) (D.faults disk.new)
+        capacity) }
+    ensures ticks { WhereTold (D.told disk.old)
+        (λ t. WhereLogs t.reads (λ logs. steps.new ≤ steps.old + record_count (lines logs))) }
+{
+    let (replayed, number) = match settle_folder(alloc, disk, capacity, steps) {
+        Ok(found) => found,
+        Err(cause) => return Err(cause),
+    };
+    match begin_log(alloc, disk, number, max_file) {
+        Ok(log) => Ok((replayed, log)),
+        Err(cause) => Err(cause),
+    }
+}
+
 impl<D: Disk + Drop> LoggedPlaces<D> {
     /// Opens the folder of a disk: it is settled and replayed, and a log file is begun behind those that are there.
     pub(crate) fn open<L: Ledger>(
@@ -277,6 +315,68 @@ impl<D: Disk + Drop> LoggedPlaces<D> {
                 },
             }),
             Err(cause) => Err(OpenRefused { disk, cause }),
+        }
+    }
+
+    /// Opens the folder anew, as [`LoggedPlaces::open`] does. What was settled is left, and with it what was staged or nothing of
+    /// that. After a refusal the channel is broken and has what it had.
+    pub(crate) fn reopen<L: Ledger>(&mut self, steps: &mut Steps<L>) -> Result<(), OpenCause>
+        ensures step { (kept : Reopened)
+            × StepsOn (D.told self.old.0) (D.told self.new.0) self.old.1 self.new.1
+            (Reopen (reopen_reply result kept)) }
+        ensures spent { ShowsOf (D.told self.old.0) self.old.1
+            (λ s. 2 ^ 64 - 1 ≤ s.life → (result ≡ Err (OpenCause.Spent Counter.Life))
+            × (self.new.0 ≡ self.old.0)) }
+        ensures opens { OnOk result (ShowsOf (D.told self.new.0) self.new.1
+            (λ s. WhereTold (D.told self.old.0)
+            (λ t. Opens t.reads s.rules.limits.capacity (Face.base_of s) s.txn))) }
+        ensures gains { OnOk result
+            (Tells (D.told self.old.0) (D.told self.new.0)
+            (λ t u. GainsLog t.reads IsBegun u.reads)) }
+        ensures any_moment { ShowsOf (D.told self.old.0) self.old.1
+            (λ s. Tells (D.told self.old.0) (D.told self.new.0)
+            (λ t u. LeavesOnly t u (MayRecover s))) }
+        ensures fault { IsErrOf result OpenCause.DiskFault
+            → Rose (D.faults self.old.0) (D.faults self.new.0) }
+        ensures later { D.faults self.old.0 ≤ D.faults self.new.0 }
+        ensures well { OnOk result (D.faults self.new.0 ≡ D.faults self.old.0) }
+        ensures refused { ShowsOf (D.told self.old.0) self.old.1 (λ s. IfErr result
+            (λ cause. ((cause ≡ OpenCause.Spent Counter.Life) × (self.new.0 ≡ self.old.0))
+            ⊎ IsRefused (D.told self.old.0) (D.told self.new.0) (D.faults self.old.0)
+            (D.faults self.new.0) s.rules.limits.capacity cause)) }
+        ensures ticks { WhereTold (D.told self.old.0)
+            (λ t. WhereLogs t.reads (λ logs. steps.new ≤ steps.old + record_count (lines logs))) }
+    {
+        if self.held.life() == u64::MAX {
+            self.held.set_broken();
+            return Err(OpenCause::Spent {
+                counter: Counter::Life,
+            });
+        }
+        let Ok(ends) = self.held.next_ends() else {
+            self.held.set_broken();
+            return Err(OpenCause::NoMemory);
+        };
+        let capacity = self.held.capacity();
+        let max_file = self.held.max_file();
+        match reopen_log(
+            self.writing.alloc,
+            &mut self.writing.disk,
+            capacity,
+            max_file,
+            steps,
+        ) {
+            Ok((replayed, log)) => {
+                let Replayed { ring, next } = replayed;
+                self.writing.log = log;
+                self.writing.busy = 0;
+                self.held.renew(ends, ring, next.number, next.txn);
+                Ok(())
+            }
+            Err(cause) => {
+                self.held.set_broken();
+                Err(cause)
+            }
         }
     }
 }
