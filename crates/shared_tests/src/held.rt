@@ -2,7 +2,7 @@
 ghost use Rattle.std.specs.Prelude.{◌≡◌, All, IfSome};
 
 use crate::many::last;
-use crate::sharing::{Opened, on_disk, on_disk_by};
+use crate::sharing::{LIMITS, Opened, on_disk, on_disk_by};
 use crate::staged::put_by_port;
 use channel_face::{Channel, FaceRefused};
 use file_channel::FileChannel;
@@ -110,7 +110,7 @@ impl<'a> Disk for HeldDisk<'a> {
 fn opened<'a>(alloc: Global, disk: HeldDisk<'a>) -> Opened<FileChannel<HeldDisk<'a>>>
     ensures { IfSome result (λ r. All (λ p. p.table_id ≡ r.0.turn.table.shared.table_id) r.1.items) }
 {
-    on_disk_by::<HeldDisk<'a>, Brand>(alloc, Blank::new(1), disk, 1)
+    on_disk_by::<HeldDisk<'a>, Brand>(alloc, Blank::new(1), disk, LIMITS, 1)
 }
 
 // Puts once a sync of the other channel waits, and lets that go on.

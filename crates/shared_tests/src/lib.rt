@@ -11,6 +11,7 @@ mod many;
 #[cfg(test)]
 mod mended;
 #[cfg(test)]
+mod rows;
 #[cfg(test)]
 mod sharing;
 #[cfg(test)]

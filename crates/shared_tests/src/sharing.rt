@@ -45,6 +45,7 @@ pub fn on_disk_by<D: Disk + Drop, L: Ledger>(
     alloc: Global,
     blank: Blank,
     disk: D,
+    limits: Limits,
     passes: u32,
 ) -> Opened<FileChannel<D>>
     requires name { blank.name ≡ L.name }
@@ -54,8 +55,8 @@ pub fn on_disk_by<D: Disk + Drop, L: Ledger>(
 {
     let mut steps = Steps::<L>::new(blank);
     let before = Snapshot::of(&disk);
-    match open_channel(alloc, disk, LIMITS, &mut steps) {
-        Ok(channel) => share_opened(alloc, channel, before, LIMITS, passes),
+    match open_channel(alloc, disk, limits, &mut steps) {
+        Ok(channel) => share_opened(alloc, channel, before, limits, passes),
         Err(OpenRefused { disk: _, cause: _ }) => None,
     }
 }
@@ -64,5 +65,5 @@ pub fn on_disk_by<D: Disk + Drop, L: Ledger>(
 pub fn on_disk(alloc: Global, disk: MemDisk, passes: u32) -> Opened<FileChannel<MemDisk>>
     ensures { IfSome result (λ r. All (λ p. p.table_id ≡ r.0.turn.table.shared.table_id) r.1.items) }
 {
-    on_disk_by::<MemDisk, Brand>(alloc, Blank::new(1), disk, passes)
+    on_disk_by::<MemDisk, Brand>(alloc, Blank::new(1), disk, LIMITS, passes)
 }
