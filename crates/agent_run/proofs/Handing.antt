@@ -17,7 +17,7 @@ use Rattle.plug_in.specs.declared.sink.SinkRefused.{SinkRefused}
 use Rattle.sink_runner.specs.Laws.{event_of}
 use Rattle.sink_runner.specs.Turns.{AreTaken, EndsTaking, EndsDelivery, EndsTurn, EndsBegin, IsTurn}
 use Rattle.sink_runner.specs.declared.turn.Turn.{Turn}
-use Rattle.agent_run.specs.RolledTold.{IsCounted, committed, committed_by, taken_behind, taken_since}
+use Rattle.agent_run.specs.RolledTold.{CountsMore, committed, committed_by, taken_behind, taken_since}
 
 -- ---- what calls commit, and what was taken behind them
 
@@ -99,13 +99,13 @@ walk_staged : (saw : List Own → State → Type 0) (seen : ℕ) (token : Token)
 walk_staged saw seen token (Err cause) earlier own result e is = walk_rolled saw token earlier own e is.0
 walk_staged saw seen token (Ok ticket) earlier own result e is = walk_as seen is.1.0 (settled is.1.0 ticket) own is.0 e is.1.2
 
-walk_stage : (seen : ℕ) (spent : Bool) (token : Token) (reply : Result Ticket StageCause) (s : State) (own : List Own) (e : List Content) → IsCounted seen
+walk_stage : (seen : ℕ) (spent : Bool) (token : Token) (reply : Result Ticket StageCause) (s : State) (own : List Own) (e : List Content) → CountsMore seen
     → IsMade seen spent (StageTake token reply) s own → Walks e own (e ∷ []) e
 walk_stage seen false token reply s own e counted made = rw made.1 (record { commits = refl; since = append-nil e })
 walk_stage seen true token reply s own e counted made = absurd (omega (arith, counted, made.1))
 
 -- while calls are counted a commit commits what had been taken
-walk_commit : (saw : List Own → State → Type 0) (seen : ℕ) (token : Token) (result : Result (Unit {0}) FaceRefused) (earlier own : List Own) (e : List Content) → IsCounted seen
+walk_commit : (saw : List Own → State → Type 0) (seen : ℕ) (token : Token) (result : Result (Unit {0}) FaceRefused) (earlier own : List Own) (e : List Content) → CountsMore seen
     → IsTakeCommit saw seen token result earlier own → Walks e own (e ∷ []) e
 walk_commit saw seen token result earlier own e counted is =
     rw is.4 (walk_then e e e is.2 is.3 (e ∷ []) [] (walk_stage seen (is_spent_stage is.0) token is.0 is.1 is.2 e counted is.5) (walk_staged saw seen token is.0 (earlier ++ is.2) is.3 result e is.6))
@@ -151,13 +151,13 @@ module _ {S : Type 0} (delivers : S → List Content → ℕ → Result (Unit {0
     pub done : List Handed
     pub chain : AllHanded done s t
     pub taken : (e : List Content) → AllByRecursion (λ (h : Handed). WasTakenBehind e own h.batch) done
-    pub commits : IsCounted seen → (e : List Content) → committed e own ≡ ok_batches done
+    pub commits : CountsMore seen → (e : List Content) → committed e own ≡ ok_batches done
 
   pub hands_none : (seen : ℕ) (own : List Own) (s t : S) → t ≡ s → ((e : List Content) → committed e own ≡ []) → Hands seen own s t
   hands_none seen own s t same none = record { done = []; chain = same; taken = λ e. tt; commits = λ counted e. none e }
 
   hands_one : (seen : ℕ) (own : List Own) (s t : S) (batch : List Content) (moment : ℕ) (answer : Result (Unit {0}) SinkRefused) → delivers s batch moment answer t
-      → ((e : List Content) → WasTakenBehind e own batch) → (IsCounted seen → (e : List Content) → committed e own ≡ ok_of answer batch) → Hands seen own s t
+      → ((e : List Content) → WasTakenBehind e own batch) → (CountsMore seen → (e : List Content) → committed e own ≡ ok_of answer batch) → Hands seen own s t
   hands_one seen own s t batch moment answer is taken commits = record {
     done = record { batch = batch; moment = moment; answer = answer } ∷ [];
     chain = (t, is, refl);

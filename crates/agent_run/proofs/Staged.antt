@@ -23,7 +23,7 @@ use Rattle.shared_channel.specs.Ports.{own_calls, own_if}
 use Rattle.shared_channel.proofs.Porting.{own-append}
 use Rattle.turn_passes.specs.Calls.{Below, has}
 use Rattle.run_tracks.specs.Tracks.{Stood, Track}
-use Rattle.agent_run.specs.RolledTold.{IsCounted}
+use Rattle.agent_run.specs.RolledTold.{CountsMore}
 
 -- ---- calls that leave something staged
 
@@ -308,7 +308,7 @@ stays_rest : (life frame : ℕ) (s : State) (g r : List Step) → Stays life fra
 stays_rest life frame s [] r stays = stays
 stays_rest life frame s (x ∷ g) r stays = stays_rest life frame (after s x.call) g r stays.1
 
-none_made : (seen : ℕ) (spent : Bool) (call : Call) (s : State) → IsCounted seen → IsMade seen spent call s [] → ⊥
+none_made : (seen : ℕ) (spent : Bool) (call : Call) (s : State) → CountsMore seen → IsMade seen spent call s [] → ⊥
 none_made seen false call s counted made = let none = made.1 in cc
 none_made seen true call s counted made = omega (arith, counted, made.1)
 
@@ -316,7 +316,7 @@ call_made : (seen : ℕ) (spent : Bool) (call : Call) (s : State) (e : Own) (es 
 call_made seen false call s e es made = let one = made.1 in let same : e ≡ record { call = call; before = s; moment = made.0 } = cc in ap (λ (o : Own). o.call) same
 call_made seen true call s e es made = let none = made.0 in absurd (cc)
 
-module _ (tells : Bool) (start : Opening) (h : List Step) (run : IsRun tells (opening start) h) (counted : IsCounted (length h)) (n : ℕ) (front rest : List Step) (step : Step) (t : Ticket)
+module _ (tells : Bool) (start : Opening) (h : List Step) (run : IsRun tells (opening start) h) (counted : CountsMore (length h)) (n : ℕ) (front rest : List Step) (step : Step) (t : Ticket)
     (split : h ≡ front ++ step ∷ rest) (some : 1 ≤ t.frame) (stays : Stays t.life t.frame (after (state_after (opening start) front) step.call) rest) where
   -- the state behind the stage, the calls with the number before it, and the stage
   abbrev behind : State
@@ -376,7 +376,7 @@ module _ (tells : Bool) (start : Opening) (h : List Step) (run : IsRun tells (op
       neither ends.0 ends.1 ends.2 ends.3 ends.4
 
 -- Nothing is staged in the end of a history each of whose calls is of a number whose stages were all settled or flushed.
-pub nothing_staged : (tells : Bool) (start : Opening) (h : List Step) (bound : ℕ) → IsRun tells (opening start) h → (state_after (opening start) h).broken ≡ false → IsCounted (length h)
+pub nothing_staged : (tells : Bool) (start : Opening) (h : List Step) (bound : ℕ) → IsRun tells (opening start) h → (state_after (opening start) h).broken ≡ false → CountsMore (length h)
     → Below bound h → ((n : ℕ) → n < bound → EndsOf start h n) → is_none_staged (state_after (opening start) h).staged ≡ true
 nothing_staged tells start h bound run whole counted below each = by (is_none_staged (state_after (opening start) h).staged) refl
   where

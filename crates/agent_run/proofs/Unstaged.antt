@@ -37,7 +37,7 @@ use Rattle.agent_run.specs.Alone.{IsAway}
 use Rattle.agent_run.specs.Draining.{EachGoesOn, IsDrainedAt}
 use Rattle.agent_run.specs.Finals.{finals_of}
 use Rattle.agent_run.specs.Histories.{IsSinkTold}
-use Rattle.agent_run.specs.RolledTold.{IsCounted}
+use Rattle.agent_run.specs.RolledTold.{CountsMore}
 use Rattle.agent_run.specs.Settling.{AreSettled}
 use Rattle.agent_run.specs.Wholes.{AreBeside, IsNot, IsSilent, IsSinkWhole}
 use Rattle.agent_run.specs.declared.homes.AtHome.{AtHome}
@@ -153,7 +153,7 @@ none_of [] is = refl
 none_of (entry ∷ staged) is = absurd (false≢true is)
 
 -- Nothing is staged in a channel that is not broken, where each stage of each number was settled or flushed.
-pub none_staged : (tells : Bool) (v : View) → IsRun tells (opening v.base) v.seen → (state_after (opening v.base) v.seen).broken ≡ false → IsCounted (length v.seen) → Below v.passes v.seen
+pub none_staged : (tells : Bool) (v : View) → IsRun tells (opening v.base) v.seen → (state_after (opening v.base) v.seen).broken ≡ false → CountsMore (length v.seen) → Below v.passes v.seen
     → ((n : ℕ) → n < v.passes → EndsOf v.base v.seen n) → (state_after (opening v.base) v.seen).staged ≡ []
 none_staged tells v run whole counted below each =
     none_of (state_after (opening v.base) v.seen).staged (nothing_staged tells v.base v.seen v.passes run whole counted below each)
@@ -233,6 +233,6 @@ module _ {A B S C : Type 0} (sink : Told S) (moments : C → Option (ℕ → ℕ
       by (inr other) = owner_ends (finals_of settled) owners place n owned other final (let e = goes_on.as_many in let h = at_home in omega (arith, h, e))
 
   -- Where the channel at this place is not broken in the end, nothing is staged in it.
-  pub staged_none : (t : Bool) → IsRun t (opening at_end.base) at_end.seen → (state_after (opening at_end.base) at_end.seen).broken ≡ false → IsCounted (length at_end.seen)
+  pub staged_none : (t : Bool) → IsRun t (opening at_end.base) at_end.seen → (state_after (opening at_end.base) at_end.seen).broken ≡ false → CountsMore (length at_end.seen)
       → (state_after (opening at_end.base) at_end.seen).staged ≡ []
   staged_none t run whole counted = none_staged t at_end run whole counted each_below each_number

@@ -41,8 +41,8 @@ abbrev pub WasTaken : List Own → List Content → Type 0
 WasTaken own batch = (front rest : List Own) × (own ≡ front ++ rest) × (taken_since [] front ≡ batch)
 
 -- behind so many calls of a channel a further one is counted
-abbrev pub IsCounted : ℕ → Type 0
-IsCounted seen = seen < 2 ^ 64 - 1025
+abbrev pub CountsMore : ℕ → Type 0
+CountsMore seen = seen < 2 ^ 64 - 1025
 
 -- By the calls of its worker, a sink filled a folder. Behind the files that were there it has others. They hold the batches whose commit
 -- was asked for, each whole in one file, once and in order, as long as calls are counted; and behind its batches a file has nothing, or
@@ -52,7 +52,7 @@ pub record FilesTold (own : List Own) (seen : ℕ) (old new : Rolled) : Type 0 w
   pub filled : List Filled
   pub fills : Fills done filled old.files new.files
   pub taken : AllByRecursion (λ (d : Delivery). WasTaken own d.batch) done
-  pub these : IsCounted seen → delivered done ≡ committed [] own
+  pub these : CountsMore seen → delivered done ≡ committed [] own
 
 -- no sink of the plan but the one at this place has this folder
 abbrev pub IsOnlyAt : List SinkPlan → ℕ → List ℕ → Type 0
