@@ -12,7 +12,7 @@ use Rattle.event_core.specs.Journal.{Base, after_journal, put_events}
 use Rattle.event_core.specs.declared.journal.Entry.{Entry}
 use Rattle.event_core.specs.declared.journal.Entry.TheVariants.{Puts}
 use Rattle.channel_face.specs.Token.{Token}
-use Rattle.channel_face.specs.History.{Moves, Opening, Shows, Step}
+use Rattle.channel_face.specs.History.{Moves}
 use Rattle.channel_face.specs.Machine.{State, Admits, Call, is_some_of, BeginPut, Flush, Put, StagePut, RollbackPut, add_put, base_of, close, count, entries, entry_of, next_number, puts_of, AdmitsPut, Rules, put_refusal, settle, settle_if, size_refusal, stage, stage_put_refusal, without_entry, with_entry}
 use Rattle.channel_face.specs.declared.replies.Counter.TheVariants.{File, Number}
 use Rattle.channel_face.specs.declared.replies.Kind.{Kind}
@@ -33,14 +33,13 @@ use Rattle.txn_core.proofs.Kept.{few_opened, put_allows}
 use Rattle.file_channel.specs.Folders.{OpensTo}
 use Rattle.file_channel.specs.Touches.{Flushed, IsSpentLog, Rests, flushes}
 use Rattle.file_channel.specs.Written.{MayRecover}
-use Rattle.file_channel.specs.Stands.{IsSeenIn}
 use Rattle.file_channel.proofs.Opening.{joined, only_more}
-use Rattle.file_channel.proofs.Standing.{shown}
 use Rattle.agent_commands.specs.Stored.{default_limits}
 use Rattle.netcat_source.specs.declared.replies.LineVerdict.{LineVerdict as Verdict}
 use Rattle.netcat_source.specs.declared.replies.LineVerdict.TheVariants as LineVerdict
 use Rattle.agent_commands.specs.Handled.{GoesOn}
-use Rattle.agent_commands.specs.Store.{HasSpentLog, IsFull, IsIdle, Keeps, LeavesState, MayGain, PutsOne, begin_verdict, one_put, put_verdict}
+use Rattle.agent_commands.specs.Puts.{begin_verdict, put_verdict}
+use Rattle.agent_commands.proofs.Idle.{HasSpentLog, IsFull, IsIdle, Keeps, LeavesState, MayGain, PutsOne, one_put}
 
 -- a move over any disk, of a call whose reply hangs on no disk
 pub exactly : (tells : Bool) (s : State) (call : Call) (s' : State) → Moves tells s call s' → (Admits tells s call → Admits true s call) → Moves true s call s'
@@ -486,17 +485,3 @@ still_idle LineVerdict.Accepted event s s' goes left = left.0
 still_idle LineVerdict.Refused event s s' goes left = left.0
 still_idle LineVerdict.InDoubt event s s' goes left = absurd goes
 still_idle LineVerdict.NoMemory event s s' goes left = absurd goes
-
--- what the clauses of a call show of a state in which the channel is seen
-
-pub shown_rests : (stands : Opening → List Step → Type 0) (told : Option Told) (s : State) → IsSeenIn stands s → Shows stands (Rests told) → Rests told s
-shown_rests stands told s seen shows = shown stands s (Rests told) seen shows
-
-pub shown_spent : (stands : Opening → List Step → Type 0) (told : Option Told) (token : Token) (result : Result PutDone PutRefused) (s : State) → IsSeenIn stands s
-    → Shows stands (λ s. s.broken ≡ false → IsSome (puts_of s token) → WhereTold told (λ t. (result ≡ Err (PutNo.Spent File)) ↔ IsSpentLog t s.rules.limits.max_file))
-    → s.broken ≡ false → IsSome (puts_of s token) → WhereTold told (λ t. (result ≡ Err (PutNo.Spent File)) ↔ IsSpentLog t s.rules.limits.max_file)
-shown_spent stands told token result s seen shows =
-    shown stands s (λ s. s.broken ≡ false → IsSome (puts_of s token) → WhereTold told (λ t. (result ≡ Err (PutNo.Spent File)) ↔ IsSpentLog t s.rules.limits.max_file)) seen shows
-
-pub shown_flushed : (stands : Opening → List Step → Type 0) (told told' : Option Told) (call : Call) (s : State) → IsSeenIn stands s → Shows stands (λ s. flushes call ≡ true → Tells told told' (Flushed s)) → flushes call ≡ true → Tells told told' (λ t u. Flushed s t u)
-shown_flushed stands told told' call s seen shows = shown stands s (λ s. flushes call ≡ true → Tells told told' (Flushed s)) seen shows

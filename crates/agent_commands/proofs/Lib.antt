@@ -1,7 +1,12 @@
-pub mod Bytes
+pub mod Idle
 pub mod Committing
-pub mod Steps
 pub mod Standing
 pub mod Beginning
+pub mod Trails
+pub mod Recording
+pub mod Lining
+pub mod Walking
+pub mod Passing
+pub mod Ends
 pub mod Outcomes
 pub mod Checks

@@ -4,7 +4,6 @@ use Rattle.std.proofs.lemmas.List.{get_or_past, length-map, map-append}
 use Rattle.std.proofs.lemmas.Bool.Decides.{nat_tests}
 use Rattle.std.proofs.lemmas.Bool.{cases_lt}
 use Rattle.std.proofs.lemmas.List.Elements.{All-nil, All-head, All-tail, All-push}
-use Rattle.flume_host.specs.Causes.{Rose}
 use Rattle.std.specs.List.{AllByRecursion}
 use Rattle.flume_host.specs.Folder.{Files, Folder, IsImage}
 use Rattle.flume_host.specs.Told.{EachMoment, LeavesOnly, Tells, Told, clock}
@@ -13,19 +12,17 @@ use Rattle.flume_host.proofs.Telling.{follows, some_same, tells_more}
 use Rattle.event_core.specs.Content.{Content, size}
 use Rattle.event_core.proofs.Sizes.{size-sum}
 use Rattle.event_core.specs.Journal.{Base, after_journal, left, numbered, without}
-use Rattle.channel_face.specs.History.{Opening, Step}
 use Rattle.channel_face.specs.Machine.{State, base_of}
 use Rattle.channel_face.proofs.Numbers.{numbered-append, without_none}
 use Rattle.channel_face.proofs.Within.{length-numbered}
 use Rattle.file_channel.specs.Folders.{OpensTo}
-use Rattle.file_channel.specs.Stands.{IsSeenIn}
 use Rattle.file_channel.specs.Touches.{IsSpentLog, Rests}
 use Rattle.netcat_source.specs.declared.replies.LineVerdict.{LineVerdict}
 use Rattle.netcat_source.specs.declared.replies.LineVerdict.TheVariants.{Accepted, Refused, InDoubt, NoMemory}
-use Rattle.agent_commands.specs.Handled.{Handled, GoesOn, Start, all_with, and_then, doubted, verdicts_of}
-use Rattle.agent_commands.proofs.Steps.{verdicts-push}
+use Rattle.line_session.specs.Handled.{Handled, verdicts_of}
+use Rattle.agent_commands.specs.Handled.{GoesOn, all_with, and_then, doubted}
 use Rattle.agent_commands.specs.Stored.{Acknowledged, GivesFront, GivesLines, Holds, IsAtEnd, behind, by, default_limits, event_of, lines_in}
-use Rattle.agent_commands.specs.Store.{Follows, IsFull, IsIdle, Keeps, MayGain, PutsOne, Stands, one_put}
+use Rattle.agent_commands.proofs.Idle.{Follows, IsFull, IsIdle, Keeps, MayGain, PutsOne, Stands, one_put}
 
 -- one line more behind a base
 pub behind-push : (base : Base) (lines : List (List ℕ)) (line : List ℕ) → after_journal (behind base lines) (one_put (event_of line)) ≡ behind base (lines ++ line ∷ [])
@@ -335,69 +332,54 @@ module _ (t u v : Told) (told told' : Option Told) (s s' : State) (done : List H
     | inr ends ↦ ends
   ]
 
-module _ (start : Start) (stands stands' : Opening → List Step → Type 0) (told told' : Option Told) (faults faults' : ℕ) (s' : State) (done : List Handled) (line : List ℕ) (going : All GoesOn (verdicts_of done)) (st : Stands start stands told faults done) where
-  abbrev pub s : State
-  s = st.state
+pub verdicts-push : (done : List Handled) (line : List ℕ) (verdict : LineVerdict) → verdicts_of (and_then done line verdict) ≡ verdicts_of done ++ verdict ∷ []
+verdicts-push done line verdict = map-append (λ (h : Handled). h.verdict) done (record { line = line; verdict = verdict } ∷ [])
 
-  pub none : st.last ≡ []
+module _ (before told told' : Option Told) (s s' : State) (done : List Handled) (line : List ℕ) (going : All GoesOn (verdicts_of done)) (st : Stands before told done s) where
+  none : st.last ≡ []
   none = none_stops st.first st.last (let P : List Handled → Type 0 = λ d. All GoesOn (verdicts_of d) in subst P st.split going) st.stops
 
   first_done : st.first ≡ done
   first_done = sym (st.split ∙ ap (λ (l : List Handled). st.first ++ l) none ∙ append-nil st.first)
 
-  so_far : Tells start.told told (Follows done [] s)
-  so_far = subst (λ (d : List Handled). Tells start.told told (Follows d [] s)) first_done (st.goes_on none)
+  so_far : Tells before told (Follows done [] s)
+  so_far = subst (λ (d : List Handled). Tells before told (Follows d [] s)) first_done (st.goes_on none)
 
-  well_so_far : faults ≡ start.faults
-  well_so_far = st.well (let Q : List Handled → Type 0 = λ l. All (λ h. h.verdict ≡ NoMemory) l in subst Q (sym none) (All-nil (λ (h : Handled). h.verdict ≡ NoMemory)))
-
-  goes_more : (verdict : LineVerdict) → GoesOn verdict → faults' ≡ faults → IsSeenIn stands' s' → IsIdle s' → Tells start.told told' (Follows (and_then done line verdict) [] s') → Stands start stands' told' faults' (and_then done line verdict)
-  goes_more verdict goes same seen idle more = record {
+  goes_more : (verdict : LineVerdict) → GoesOn verdict → Tells before told' (Follows (and_then done line verdict) [] s') → Stands before told' (and_then done line verdict) s'
+  goes_more verdict goes more = record {
     first = and_then done line verdict;
     last = [];
     split = sym (append-nil (and_then done line verdict));
     going = let P : List LineVerdict → Type 0 = λ vs. All GoesOn vs in subst P (sym (verdicts-push done line verdict)) (All-push GoesOn (verdicts_of done) verdict going goes);
     one = omega arith;
     stops = All-nil (λ (h : Handled). GoesOn h.verdict → ⊥);
-    later = omega (arith, st.later, same);
-    cause = All-nil (λ (h : Handled). h.verdict ≡ InDoubt → Rose start.faults faults');
-    well = λ _. same ∙ well_so_far;
-    holds = tells_more start.told told' (Follows (and_then done line verdict) [] s') (Holds (and_then done line verdict) []) (λ t u _ _ f. f.holds) more;
-    state = s';
-    seen = λ _. seen;
-    idle = λ _. idle;
+    holds = tells_more before told' (Follows (and_then done line verdict) [] s') (Holds (and_then done line verdict) []) (λ t u _ _ f. f.holds) more;
     goes_on = λ _. more;
   }
 
   some_last : {A : Type 0} {h : Handled} → h ∷ [] ≡ [] → A
   some_last is = absurd (let no = ap length is in omega (arith, no))
 
-  stops_here : (verdict : LineVerdict) → (GoesOn verdict → ⊥) → faults ≤ faults' → (verdict ≡ InDoubt → Rose faults faults') → (verdict ≡ NoMemory → faults' ≡ faults) → Tells start.told told' (Holds done (doubted (record { line = line; verdict = verdict } ∷ []))) → Stands start stands' told' faults' (and_then done line verdict)
-  stops_here verdict stops later cause same holds = record {
+  stops_here : (verdict : LineVerdict) → (GoesOn verdict → ⊥) → Tells before told' (Holds done (doubted (record { line = line; verdict = verdict } ∷ []))) → Stands before told' (and_then done line verdict) s'
+  stops_here verdict stops holds = record {
     first = done;
     last = record { line = line; verdict = verdict } ∷ [];
     split = refl;
     going = going;
     one = omega arith;
     stops = All-push (λ (h : Handled). GoesOn h.verdict → ⊥) [] _ (All-nil (λ (h : Handled). GoesOn h.verdict → ⊥)) stops;
-    later = omega (arith, st.later, later);
-    cause = All-push (λ (h : Handled). h.verdict ≡ InDoubt → Rose start.faults faults') [] _ (All-nil (λ (h : Handled). h.verdict ≡ InDoubt → Rose start.faults faults')) (λ is. let rose = cause is in let low = st.later in omega (arith, rose, low));
-    well = λ all. same (All-head (λ (h : Handled). h.verdict ≡ NoMemory) _ [] all) ∙ well_so_far;
     holds = holds;
-    state = s';
-    seen = λ is. some_last is;
-    idle = λ is. some_last is;
     goes_on = λ is. some_last is;
   }
 
-  pub stands_more : (verdict : LineVerdict) → PutsOne (event_of line) verdict told told' s s' → IsSeenIn stands' s' → Rests told' s' → faults ≤ faults' → (verdict ≡ InDoubt → Rose faults faults') → (verdict ≢ InDoubt → faults' ≡ faults) → Stands start stands' told' faults' (and_then done line verdict)
-  stands_more Accepted step seen rests later cause well = goes_more Accepted tt (well (λ is. absurd cc)) seen step.state.0 (follows start.told told told' (Follows done [] s) (λ u v. LeavesOnly u v (MayGain (base_of s) (event_of line))) (Follows (and_then done line Accepted) [] s')
+  pub stands_more : (verdict : LineVerdict) → PutsOne (event_of line) verdict told told' s s' → Rests told' s' → Stands before told' (and_then done line verdict) s'
+  stands_more Accepted step rests = goes_more Accepted tt (follows before told told' (Follows done [] s) (λ u v. LeavesOnly u v (MayGain (base_of s) (event_of line))) (Follows (and_then done line Accepted) [] s')
       (λ t u v is_t is_u is_v f run. one_accepted t u v s done line f s' step.state.0 step.state.1 step.state.2 run (λ image left. let r = rests step.state.0.whole v is_v image left in (r.0, r.2)) (step.fits refl) (λ at. (step.spent u is_u at).0 refl)) so_far step.images)
-  stands_more Refused step seen rests later cause well = goes_more Refused tt (well (λ is. absurd cc)) seen step.state.0 (follows start.told told told' (Follows done [] s) (λ u v. LeavesOnly u v (Keeps (base_of s))) (Follows (and_then done line Refused) [] s')
+  stands_more Refused step rests = goes_more Refused tt (follows before told told' (Follows done [] s) (λ u v. LeavesOnly u v (Keeps (base_of s))) (Follows (and_then done line Refused) [] s')
       (λ t u v is_t is_u is_v f run. one_refused t u v s done line f run s' step.state.1 step.state.2 (refused_ends t u v told told' s s' done (event_of line) Refused f is_u is_v step refl)) so_far step.images)
-  stands_more InDoubt step seen rests later cause well = stops_here InDoubt (λ goes. goes) later cause (λ is. absurd cc) (follows start.told told told' (Follows done [] s) (λ u v. LeavesOnly u v (MayGain (base_of s) (event_of line))) (Holds done (line ∷ []))
+  stands_more InDoubt step rests = stops_here InDoubt (λ goes. goes) (follows before told told' (Follows done [] s) (λ u v. LeavesOnly u v (MayGain (base_of s) (event_of line))) (Holds done (line ∷ []))
       (λ t u v is_t is_u is_v f run. one_in_doubt t u v s done line f run (still_ends t u v told told' s s' done (event_of line) InDoubt f is_u is_v step)) so_far step.images)
-  stands_more NoMemory step seen rests later cause well = stops_here NoMemory (λ goes. goes) later (λ is. absurd cc) (λ _. well (λ is. absurd cc)) (follows start.told told told' (Follows done [] s) (λ u v. LeavesOnly u v (Keeps (base_of s))) (Holds done [])
+  stands_more NoMemory step rests = stops_here NoMemory (λ goes. goes) (follows before told told' (Follows done [] s) (λ u v. LeavesOnly u v (Keeps (base_of s))) (Holds done [])
       (λ t u v is_t is_u is_v f run. none_added t u v s done line f run (still_ends t u v told told' s s' done (event_of line) NoMemory f is_u is_v step)) so_far step.images)
 
 -- the bytes of a line's event

@@ -1,18 +1,8 @@
--- The lines that a session handled, and what became of them.
-use Rattle.std.specs.Prelude.{ℕ, List, [], ◌∷◌, ◌++◌, map, filter, count_by, Bool, true, false, Option}
-use Rattle.flume_host.specs.Told.{Told}
+-- The lines that a run of `pipe` handled, and what became of them.
+use Rattle.std.specs.Prelude.{ℕ, List, [], ◌∷◌, ◌++◌, map, filter, Bool, true, false, ◌||◌}
 use Rattle.netcat_source.specs.declared.replies.LineVerdict.{LineVerdict}
 use Rattle.netcat_source.specs.declared.replies.LineVerdict.TheVariants.{Accepted, Refused, InDoubt, NoMemory}
-
-pub record Handled : Type 0 where
-  pub line : List ℕ
-  pub verdict : LineVerdict
-
-abbrev pub lines_of : List Handled → List (List ℕ)
-lines_of done = map (λ h. h.line) done
-
-abbrev pub verdicts_of : List Handled → List LineVerdict
-verdicts_of done = map (λ h. h.verdict) done
+use Rattle.line_session.specs.Handled.{Handled, lines_of}
 
 -- these lines, with one verdict for all
 abbrev pub all_with : LineVerdict → List (List ℕ) → List Handled
@@ -38,18 +28,21 @@ is_in_doubt NoMemory = false
 abbrev pub doubted : List Handled → List (List ℕ)
 doubted done = lines_of (filter (λ h. is_in_doubt h.verdict) done)
 
--- how many lines were accepted
-abbrev pub accepted_in : List Handled → ℕ
-accepted_in done = count_by (λ h. is_accepted h.verdict) done
+-- one of the lines is
+abbrev pub has_doubt : List LineVerdict → Bool
+has_doubt [] = false
+has_doubt (verdict ∷ verdicts) = is_in_doubt verdict || has_doubt verdicts
 
--- a session goes on after this verdict
+-- `pipe` ends behind a line with this verdict
+abbrev pub ends_run : LineVerdict → Bool
+ends_run Accepted = false
+ends_run Refused = false
+ends_run InDoubt = true
+ends_run NoMemory = true
+
+-- it goes on
 abbrev pub GoesOn : LineVerdict → Type 0
 GoesOn Accepted = Unit {0}
 GoesOn Refused = Unit {0}
 GoesOn InDoubt = ⊥
 GoesOn NoMemory = ⊥
-
--- Where a store was opened: what its disk told, and the disk's count of faults.
-pub record Start : Type 0 where
-  pub told : Option Told
-  pub faults : ℕ

@@ -1,6 +1,7 @@
 pub mod Handled
 pub mod Session
 pub mod Stored
-pub mod Store
+pub mod Trails
+pub mod Puts
 pub mod Piped
 pub mod Checked

@@ -10,7 +10,8 @@ use Rattle.channel_face.specs.declared.replies.OpenCause.TheVariants as causes
 use Rattle.file_channel.specs.Folders.{AreSame, IsAsBefore, Opens, OpensFrom, OpensOver, OpensTo, Refuses}
 use Rattle.file_channel.specs.Touches.{IsSpentLog}
 use Rattle.netcat_source.specs.declared.replies.LineVerdict.TheVariants.{Accepted, Refused}
-use Rattle.agent_commands.specs.Handled.{Handled, all_with}
+use Rattle.line_session.specs.Handled.{Handled}
+use Rattle.agent_commands.specs.Handled.{all_with}
 
 -- the limits of a file channel of which nothing is said
 abbrev pub default_limits : Limits

@@ -5,22 +5,25 @@ ghost use Rattle.agent_words.specs.Statuses.{status_of};
 ghost use Rattle.agent_commands.specs.Checked.{Checked, IsCheckStatus};
 ghost use Rattle.agent_commands.specs.Piped.{Piped, IsPipeStatus, cause_status, pipe_status};
 
-use crate::channel_store::default_limits;
 use crate::check::check;
-use crate::pipe::{PipeEnd, pipe};
-use crate::session::SessionEnd;
+use crate::pipe::{PipeEnd, PipeRun, pipe};
+use crate::traced::default_limits;
 use agent_words::RunError;
 use channel_face::OpenCause;
 use flume_host::Host;
+use line_session::SessionEnd;
+use netcat_source::LineVerdict;
+use shared_channel::Pass;
 use std::alloc::{AllocError, Global};
+use std::sync::Wait;
 
 /// What a run of `pipe` ended with.
-#[derive(Clone, Copy, Debug, PartialEq, Eq)]
+#[derive(Drop)]
 pub struct PipeEnded {
     /// The exit status.
     pub status: u8,
-    /// How many lines of standard input were accepted: their transactions are acknowledged.
-    pub accepted: u64,
+    /// The pass of the folder's channel, if it was opened and shared. It has seen all calls.
+    pub pass: Option<Pass>,
 }
 
 /// Writes the line of an error to standard error. Where there is no memory for it, it says so.
@@ -40,10 +43,12 @@ fn pipe_error(alloc: Global, dir: &str, end: PipeEnd) -> Result<Option<RunError>
 {
     let error = match end {
         PipeEnd::Served(SessionEnd::End) => return Ok(None),
-        PipeEnd::Served(SessionEnd::LongLine) => RunError::LineTooLong,
+        PipeEnd::Served(SessionEnd::TooLongLine) => RunError::LineTooLong,
         PipeEnd::Served(SessionEnd::Full) => RunError::InputTooLong,
-        PipeEnd::Served(SessionEnd::NoMemory) => RunError::NoMemory,
-        PipeEnd::Served(SessionEnd::InDoubt | SessionEnd::ReadFault | SessionEnd::WriteFault) =>
+        PipeEnd::Served(SessionEnd::NoMemory | SessionEnd::Line(LineVerdict::NoMemory)) => {
+            RunError::NoMemory
+        }
+        PipeEnd::Served(SessionEnd::Line(_) | SessionEnd::ReadFault | SessionEnd::WriteFault) =>
             RunError::Fault,
         PipeEnd::Unopened(cause) => {
             unopened(
@@ -80,10 +85,10 @@ fn pipe_status(end: PipeEnd) -> u8
 {
     match end {
         PipeEnd::Served(SessionEnd::End) => 0,
-        PipeEnd::Served(SessionEnd::LongLine) => 7,
+        PipeEnd::Served(SessionEnd::TooLongLine) => 7,
         PipeEnd::Served(SessionEnd::Full) => 6,
-        PipeEnd::Served(SessionEnd::NoMemory) => 5,
-        PipeEnd::Served(SessionEnd::InDoubt | SessionEnd::ReadFault | SessionEnd::WriteFault) => 3,
+        PipeEnd::Served(SessionEnd::NoMemory | SessionEnd::Line(LineVerdict::NoMemory)) => 5,
+        PipeEnd::Served(SessionEnd::Line(_) | SessionEnd::ReadFault | SessionEnd::WriteFault) => 3,
         PipeEnd::Unopened(OpenCause::DiskFault) => 3,
         PipeEnd::Unopened(OpenCause::NoMemory) => 5,
         PipeEnd::Unopened(_) => 4,
@@ -103,16 +108,18 @@ fn say_end<H: Host>(alloc: Global, dir: &str, host: &mut H, end: PipeEnd)
 }
 
 /// `pipe DIR`, and the line on standard error that tells why it ended, unless all went well.
-pub fn run_pipe<H: Host>(alloc: Global, dir: &str, host: &mut H) -> PipeEnded
-    ensures piped { Piped (H.state host.old) (H.state host.new) ((H.folders host.old).disks dir.now) ((H.folders host.new).disks dir.now) (H.state host.old).disk_faults (H.state host.new).disk_faults result.status result.accepted }
+pub fn run_pipe<R: Wait, H: Host>(rt: &R, alloc: Global, dir: &str, host: &mut H) -> PipeEnded
+    ensures piped { Piped (H.state host.old) (H.state host.new)
+        ((H.folders host.old).disks dir.now) ((H.folders host.new).disks dir.now)
+        (H.state host.old).disk_faults (H.state host.new).disk_faults result.status result.pass }
     ensures status { IsPipeStatus result.status }
     ensures others { ButDisk dir.now (H.folders host.old) (H.folders host.new) }
 {
-    let run = pipe(alloc, dir, host);
-    say_end(alloc, dir, host, run.end);
+    let PipeRun { end, pass } = pipe(rt, alloc, dir, host);
+    say_end(alloc, dir, host, end);
     PipeEnded {
-        status: pipe_status(run.end),
-        accepted: run.accepted,
+        status: pipe_status(end),
+        pass,
     }
 }
 

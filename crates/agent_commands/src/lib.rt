@@ -1,14 +1,14 @@
 //! The commands that run in one thread: `pipe` and `check`.
 #![tactic(auto)]
 
-mod channel_store;
 mod check;
 mod ending;
+mod pass_lines;
 mod pipe;
-mod session;
-mod store;
+mod traced;
 
 pub use check::plan_agent;
 pub use ending::{PipeEnded, run_check, run_pipe, say_error, unopened};
-pub use session::{Session, SessionEnd, serve};
-pub use store::LineStore;
+pub use pass_lines::PassLines;
+pub use pipe::PipeEnd;
+pub use traced::TracedChannel;

@@ -1,108 +1,257 @@
 // `pipe DIR`: standard input is one session into the file channel of a folder.
-ghost use Rattle.std.specs.Prelude.{◌≡◌, ◌⊎◌, ◌≤◌, [], ℕ};
+ghost use Rattle.std.specs.Prelude.{◌≡◌, ◌≢◌, ◌≤◌, ◌∷◌, [], IfErr, IfOk, None, length, true};
 ghost use Rattle.flume_host.specs.HostState.{ButDisk};
-ghost use Rattle.netcat_source.specs.Feed.{LineState};
-ghost use Rattle.file_channel.specs.Stands.{StandsOver};
-ghost use Rattle.agent_commands.specs.Handled.{Start};
-ghost use Rattle.agent_commands.specs.Store.{IsReady, Stands};
-ghost use Rattle.agent_commands.specs.Piped.{Piped, IsPipeStatus, cause_status, end_status, pipe_status};
+ghost use Rattle.channel_face.specs.History.{Opening};
+ghost use Rattle.file_channel.specs.Stands.{opened_as};
+ghost use Rattle.line_session.specs.Sessions.{Served, ends_of};
+ghost use Rattle.agent_commands.specs.Handled.{ends_run};
+ghost use Rattle.agent_commands.specs.Piped.{HostCause, Piped, IsPipeStatus, pipe_status};
+ghost use Rattle.agent_commands.specs.Puts.{BeginsOver, IsFirstPass, PutsLine};
+ghost use Rattle.agent_commands.specs.Trails.{StandsTraced, traced_by};
 
-use crate::channel_store::ChannelStore;
-use crate::session::{SessionEnd, serve};
+use crate::pass_lines::PassLines;
+use crate::traced::TracedChannel;
 use channel_face::OpenCause;
 use file_channel::OpenRefused;
 use flume_host::{Disk, Host, NameRefused};
-use netcat_source::{Cut, Lines};
+use line_session::{SessionEnd, serve_lines};
+use netcat_source::LineRules;
+use shared_channel::{Closed, Pass, Port, Shared, Unshared};
 use std::alloc::Global;
+use std::snapshot::Snapshot;
+use std::sync::Wait;
 
 /// What a run of `pipe` ended with.
 #[derive(Clone, Copy, Debug, PartialEq, Eq)]
 pub enum PipeEnd {
     /// The session on standard input and output ended.
     Served(SessionEnd),
-    /// The folder was not opened, and no line was read.
+    /// The folder was not opened, or its channel not shared, and no line was read.
     Unopened(OpenCause),
 }
 
 /// A run of `pipe`.
-#[derive(Clone, Copy, Debug, PartialEq, Eq)]
+#[derive(Drop)]
 pub struct PipeRun {
     /// What ended it.
     pub end: PipeEnd,
-    /// How many lines were accepted.
-    pub accepted: u64,
+    /// The pass of the channel, if it was shared. It has seen all calls.
+    pub pass: Option<Pass>,
 }
 
 impl PipeRun {
     // An end before any line.
     fn unopened(cause: OpenCause) -> PipeRun
-        ensures { result ≡ record { end = PipeEnd.Unopened cause; accepted = 0 } }
+        ensures { result ≡ record { end = PipeEnd.Unopened cause; pass = None } }
     {
         PipeRun {
             end: PipeEnd::Unopened(cause),
-            accepted: 0,
+            pass: None,
         }
     }
 }
 
-// The default of `max-line-length`.
-const MAX_LINE: u32 = 512;
+// A run on a disk, which comes back.
+#[derive(Drop)]
+struct DiskRun<D> {
+    run: PipeRun,
+    disk: D,
+}
+
+// Each line is answered, and `max-line-length` is the default.
+const RULES: LineRules = LineRules {
+    max: 512,
+    ack: true,
+};
 
 // One session on standard input and output.
-fn run_session<H: Host>(
+fn serve<'a, R: Wait, H: Host>(
+    alloc: Global,
     host: &mut H,
-    mut lines: Lines,
-    mut store: ChannelStore<H::Disk>,
-) -> (PipeRun, H::Disk)
-    requires lines { lines ≡ record { max = 512; line = []; at = Cut.More } }
-    requires idle { IsReady (StandsOver (H.Disk.told store.channel.0) (H.Disk.faults store.channel.0) store.channel.1) }
-    ensures piped { (start : Start) → Stands start (StandsOver (H.Disk.told store.channel.0) (H.Disk.faults store.channel.0) store.channel.1) (H.Disk.told store.channel.0) (H.Disk.faults store.channel.0) []
-        → Piped (H.state host.old) (H.state host.new) start.told (H.Disk.told result.1) start.faults (H.Disk.faults result.1) (pipe_status result.0.end) result.0.accepted }
-    ensures status { IsPipeStatus (pipe_status result.0.end) }
-    ensures folders { H.folders host.new ≡ H.folders host.old }
-    ensures disks { (H.state host.new).disk_faults ≡ (H.state host.old).disk_faults }
+    lines: &mut PassLines<'a, R, TracedChannel<H::Disk>>,
+) -> SessionEnd
+    ensures served { Served 512 true ends_run (PutsLine (traced_by H.Disk.told H.Disk.faults))
+        (ends_of (H.state host.old).input lines.old.port.pass (H.state host.old).output)
+        (ends_of (H.state host.new).input lines.new.port.pass (H.state host.new).output) result }
+    ensures cause { HostCause result (H.state host.old).faults (H.state host.new).faults }
     ensures later { (H.state host.old).faults ≤ (H.state host.new).faults }
-    ensures disk_later { H.Disk.faults store.channel.0 ≤ H.Disk.faults result.1 }
+    ensures handed { result ≢ SessionEnd.WriteFault
+        → (H.state host.new).handed ≡ (H.state host.new).output }
+    ensures disks { (H.state host.new).disk_faults ≡ (H.state host.old).disk_faults }
+    ensures folders { H.folders host.new ≡ H.folders host.old }
 {
     let mut source = host.take_input();
     let mut sink = host.take_output();
-    let session = serve(&mut source, &mut sink, &mut store, &mut lines);
+    let end = serve_lines(alloc, &mut source, lines, &mut sink, &RULES);
     host.keep_input(source);
     host.keep_output(sink);
-    let run = PipeRun {
-        end: PipeEnd::Served(session.end),
-        accepted: session.accepted,
-    };
-    (run, store.close())
+    end
 }
 
-// `pipe` on a folder that was opened.
-fn pipe_on<H: Host>(alloc: Global, host: &mut H, disk: H::Disk) -> (PipeRun, H::Disk)
-    ensures piped { Piped (H.state host.old) (H.state host.new) (H.Disk.told disk) (H.Disk.told result.1) (H.Disk.faults disk) (H.Disk.faults result.1) (pipe_status result.0.end) result.0.accepted }
-    ensures status { IsPipeStatus (pipe_status result.0.end) }
+// The same through a pass.
+fn serve_pass<R: Wait, H: Host>(
+    rt: &R,
+    alloc: Global,
+    host: &mut H,
+    shared: &Shared<TracedChannel<H::Disk>>,
+    pass: Pass,
+) -> (SessionEnd, Pass)
+    requires { pass.table_id ≡ shared.now.turn.table.shared.table_id }
+    ensures served { Served 512 true ends_run (PutsLine (traced_by H.Disk.told H.Disk.faults))
+        (ends_of (H.state host.old).input pass (H.state host.old).output)
+        (ends_of (H.state host.new).input result.1 (H.state host.new).output) result.0 }
+    ensures same { result.1.table_id ≡ pass.table_id }
+    ensures cause { HostCause result.0 (H.state host.old).faults (H.state host.new).faults }
+    ensures later { (H.state host.old).faults ≤ (H.state host.new).faults }
+    ensures handed { result.0 ≢ SessionEnd.WriteFault
+        → (H.state host.new).handed ≡ (H.state host.new).output }
+    ensures disks { (H.state host.new).disk_faults ≡ (H.state host.old).disk_faults }
+    ensures folders { H.folders host.new ≡ H.folders host.old }
+{
+    let mut lines = PassLines {
+        alloc,
+        port: Port::new(rt, shared, pass),
+    };
+    let end = serve(alloc, host, &mut lines);
+    let PassLines { alloc: _, port } = lines;
+    (end, port.give_back())
+}
+
+// Serves one session through the only pass of a channel, and closes it.
+fn pipe_pass<R: Wait, H: Host>(
+    rt: &R,
+    alloc: Global,
+    host: &mut H,
+    shared: Shared<TracedChannel<H::Disk>>,
+    pass: Pass,
+    before: Snapshot<H::Disk>,
+) -> DiskRun<H::Disk>
+    requires table { pass.table_id ≡ shared.turn.table.shared.table_id }
+    requires first { IsFirstPass shared.turn.table.shared.table_id pass (H.Disk.told before.value)
+        (H.Disk.faults before.value) }
+    ensures piped { Piped (H.state host.old) (H.state host.new) (H.Disk.told before.value)
+        (H.Disk.told result.disk) (H.Disk.faults before.value) (H.Disk.faults result.disk)
+        (pipe_status result.run.end) result.run.pass }
+    ensures status { IsPipeStatus (pipe_status result.run.end) }
     ensures folders { H.folders host.new ≡ H.folders host.old }
     ensures disks { (H.state host.new).disk_faults ≡ (H.state host.old).disk_faults }
     ensures later { (H.state host.old).faults ≤ (H.state host.new).faults }
-    ensures disk_later { H.Disk.faults disk ≤ H.Disk.faults result.1 }
+    ensures disk_later { H.Disk.faults before.value ≤ H.Disk.faults result.disk }
 {
-    let Ok(lines) = Lines::new(alloc, MAX_LINE) else {
-        return (PipeRun::unopened(OpenCause::NoMemory), disk);
+    let _ = before;
+    let (end, pass) = serve_pass(rt, alloc, host, &shared, pass);
+    let Closed { channel, pass } = shared.close(rt, pass);
+    let disk = channel.close();
+    let run = PipeRun {
+        end: PipeEnd::Served(end),
+        pass: Some(pass),
     };
-    match ChannelStore::open(alloc, disk) {
-        Ok(store) => run_session(host, lines, store),
-        Err(OpenRefused { disk, cause }) => (PipeRun::unopened(cause), disk),
+    DiskRun { run, disk }
+}
+
+// The only pass of a channel.
+fn only(passes: Vec<Pass>) -> Pass
+    requires { length passes.items ≡ 1 }
+    ensures { passes.items ≡ result ∷ [] }
+{
+    let mut list = passes;
+    let Some(pass) = list.pop() else {
+        unreachable!()
+    };
+    pass
+}
+
+// Shares a channel that was opened on a disk that was so before, with one pass. Want of memory hands it back.
+fn share<D: Disk + Drop>(
+    alloc: Global,
+    channel: TracedChannel<D>,
+    before: &Snapshot<D>,
+) -> Result<(Shared<TracedChannel<D>>, Pass), TracedChannel<D>>
+    ghost start: { Opening }
+    requires stands { StandsTraced (D.told channel.channel.0) (D.faults channel.channel.0)
+        channel.channel.1 start [] }
+    requires begins { BeginsOver (D.told before.now.value) start }
+    requires faults { start.faults ≡ D.faults before.now.value }
+    ensures table { IfOk result (λ r. r.1.table_id ≡ r.0.turn.table.shared.table_id) }
+    ensures first { IfOk result
+        (λ r. IsFirstPass r.0.turn.table.shared.table_id r.1 (D.told before.now.value)
+        (D.faults before.now.value)) }
+    ensures back { IfErr result (λ c. c ≡ channel) }
+{
+    let _ = before;
+    match Shared::new(alloc, channel, 1) {
+        Ok((shared, passes)) => Ok((shared, only(passes))),
+        Err(Unshared { channel }) => Err(channel),
     }
 }
 
-/// `pipe DIR`: the lines of standard input go into the file channel of the folder, one transaction each.
-pub fn pipe<H: Host>(alloc: Global, dir: &str, host: &mut H) -> PipeRun
-    ensures piped { Piped (H.state host.old) (H.state host.new) ((H.folders host.old).disks dir.now) ((H.folders host.new).disks dir.now) (H.state host.old).disk_faults (H.state host.new).disk_faults (pipe_status result.end) result.accepted }
+// `pipe` through a channel that was opened on a disk that was so before.
+fn pipe_through<R: Wait, H: Host>(
+    rt: &R,
+    alloc: Global,
+    host: &mut H,
+    channel: TracedChannel<H::Disk>,
+    before: Snapshot<H::Disk>,
+) -> DiskRun<H::Disk>
+    requires stands { StandsTraced (H.Disk.told channel.channel.0)
+        (H.Disk.faults channel.channel.0) channel.channel.1
+        (opened_as (H.Disk.told before.value) (H.Disk.faults before.value)
+        (H.Disk.told channel.channel.0) channel.channel.1) [] }
+    requires begins { BeginsOver (H.Disk.told before.value)
+        (opened_as (H.Disk.told before.value) (H.Disk.faults before.value)
+        (H.Disk.told channel.channel.0) channel.channel.1) }
+    ensures piped { Piped (H.state host.old) (H.state host.new) (H.Disk.told before.value)
+        (H.Disk.told result.disk) (H.Disk.faults before.value) (H.Disk.faults result.disk)
+        (pipe_status result.run.end) result.run.pass }
+    ensures status { IsPipeStatus (pipe_status result.run.end) }
+    ensures folders { H.folders host.new ≡ H.folders host.old }
+    ensures disks { (H.state host.new).disk_faults ≡ (H.state host.old).disk_faults }
+    ensures later { (H.state host.old).faults ≤ (H.state host.new).faults }
+    ensures disk_later { H.Disk.faults before.value ≤ H.Disk.faults result.disk }
+{
+    match share(alloc, channel, &before) {
+        Ok((shared, pass)) => pipe_pass(rt, alloc, host, shared, pass, before),
+        Err(channel) => DiskRun {
+            run: PipeRun::unopened(OpenCause::NoMemory),
+            disk: channel.close(),
+        },
+    }
+}
+
+// `pipe` on the disk of a folder.
+fn pipe_on<R: Wait, H: Host>(rt: &R, alloc: Global, host: &mut H, disk: H::Disk) -> DiskRun<H::Disk>
+    ensures piped { Piped (H.state host.old) (H.state host.new) (H.Disk.told disk)
+        (H.Disk.told result.disk) (H.Disk.faults disk) (H.Disk.faults result.disk)
+        (pipe_status result.run.end) result.run.pass }
+    ensures status { IsPipeStatus (pipe_status result.run.end) }
+    ensures folders { H.folders host.new ≡ H.folders host.old }
+    ensures disks { (H.state host.new).disk_faults ≡ (H.state host.old).disk_faults }
+    ensures later { (H.state host.old).faults ≤ (H.state host.new).faults }
+    ensures disk_later { H.Disk.faults disk ≤ H.Disk.faults result.disk }
+{
+    let before = Snapshot::of(&disk);
+    match TracedChannel::open(alloc, disk) {
+        Ok(channel) => pipe_through(rt, alloc, host, channel, before),
+        Err(OpenRefused { disk, cause }) => DiskRun {
+            run: PipeRun::unopened(cause),
+            disk,
+        },
+    }
+}
+
+/// `pipe DIR`: the lines of standard input go into the file channel of the folder, one transaction each, through the only pass
+/// of the channel, which comes back once it was shared.
+pub fn pipe<R: Wait, H: Host>(rt: &R, alloc: Global, dir: &str, host: &mut H) -> PipeRun
+    ensures piped { Piped (H.state host.old) (H.state host.new)
+        ((H.folders host.old).disks dir.now) ((H.folders host.new).disks dir.now)
+        (H.state host.old).disk_faults (H.state host.new).disk_faults
+        (pipe_status result.end) result.pass }
     ensures status { IsPipeStatus (pipe_status result.end) }
     ensures others { ButDisk dir.now (H.folders host.old) (H.folders host.new) }
 {
     match host.open_disk(dir) {
         Ok(disk) => {
-            let (run, disk) = pipe_on(alloc, host, disk);
+            let DiskRun { run, disk } = pipe_on(rt, alloc, host, disk);
             host.keep_disk(dir, disk);
             run
         }

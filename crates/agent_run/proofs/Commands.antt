@@ -1,5 +1,5 @@
 -- Words that are one command are no other.
-use Rattle.std.proofs.Common.{◌≡◌, ℕ, List, [], ◌∷◌, codes, get_or, ap, subst, arith, Option, Some, None, MatchOption}
+use Rattle.std.proofs.Common.{◌≡◌, ℕ, List, [], ◌∷◌, codes, get_or, ap, sym, ◌∙◌, subst, arith, Option, Some, None, MatchOption}
 use Rattle.agent_words.specs.Commands.{IsPipe, IsLoad, IsAgent, IsCheck, IsNone, IsCommand}
 use Rattle.agent_words.specs.declared.command.Command.{Command}
 use Rattle.agent_run.specs.Words.{IsNoCommand}
@@ -20,6 +20,15 @@ agent_letter words name file is = ap second is.1
 
 load_letter : (words : List (List ℕ)) (n : ℕ) (dir : List ℕ) → IsLoad words n dir → second words ≡ get_or (codes "load") 1 0
 load_letter words n dir is = ap second is.1
+
+abbrev second_word : List (List ℕ) → List ℕ
+second_word [] = []
+second_word (w ∷ []) = []
+second_word (w ∷ v ∷ ws) = v
+
+-- the words of `pipe` have one folder
+pub one_folder : (words : List (List ℕ)) (dir other : List ℕ) → IsPipe words dir → IsPipe words other → dir ≡ other
+one_folder words dir other is also = ap second_word (sym is.0 ∙ also.0)
 
 -- words of a run are no other command
 pub agent_is_no_pipe : (words : List (List ℕ)) (name file dir : List ℕ) → IsAgent words name file → IsPipe words dir → ⊥

@@ -1,4 +1,5 @@
 pub mod Commands
+pub mod Piping
 pub mod Zipping
 pub mod Ending
 pub mod Same

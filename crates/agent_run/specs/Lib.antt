@@ -30,3 +30,4 @@ pub mod RolledTold
 pub mod StagedTold
 pub mod RunLeft
 pub mod RunDid
+pub mod PipeRan

@@ -22,7 +22,8 @@ pub struct ChannelEnd {
     pub name: String,
     /// A pass that has seen all calls of the channel in the run.
     pub pass: Pass,
-    /// The workers that used it, by their numbers from 1 on. A call without a worker, under the number 0, is the caller's.
+    /// The workers that used it, by their numbers from 1 on. A call without a worker, under the number 0, is the caller's. `pipe`
+    /// has none.
     pub workers: Vec<Worker>,
 }
 
@@ -31,22 +32,19 @@ pub struct ChannelEnd {
 pub struct Outcome {
     /// The exit status.
     pub status: u8,
-    /// How many lines of standard input `pipe` accepted: their transactions are acknowledged. 0 for each other command.
-    pub accepted: u64,
-    /// The channels of a run of `agent` that began, in their order. None for each other command.
+    /// The channels of a run of `agent` that began, in their order; or the one of the folder of `pipe`, once it was opened and
+    /// shared. None for each other command.
     pub channels: Vec<ChannelEnd>,
 }
 
 impl Outcome {
-    /// An end before any line, and without a channel.
+    /// An end without a channel.
     pub(crate) fn ended(alloc: Global, status: u8) -> Outcome
         ensures status { result.status ≡ status }
-        ensures none { result.accepted ≡ 0 }
         ensures channels { result.channels.items ≡ [] }
     {
         Outcome {
             status,
-            accepted: 0,
             channels: Vec::new(alloc),
         }
     }

@@ -1,5 +1,6 @@
 // The top call.
-ghost use Rattle.std.specs.Prelude.{◌≡◌, ◌⊎◌, List, [], ℕ};
+ghost use Rattle.std.specs.Prelude.{◌≡◌, ◌≤◌, ◌⊎◌, List, [], ℕ, string_bytes};
+ghost use Rattle.std.specs.Vec.{vec_capacity};
 ghost use Rattle.flume_host.specs.HostState.{ButDisk};
 ghost use Rattle.agent_words.specs.Commands.{IsAgent, IsCheck, IsPipe};
 ghost use Rattle.agent_words.specs.Statuses.{status_of};
@@ -8,15 +9,17 @@ ghost use Rattle.agent_run.specs.Named.{AgentEnds};
 ghost use Rattle.agent_run.specs.Through.{AgentEndsAs};
 ghost use Rattle.agent_run.specs.Words.{IsNoCommand};
 ghost use Rattle.agent_commands.specs.Checked.{Checked, IsCheckStatus};
-ghost use Rattle.agent_commands.specs.Piped.{Piped, IsPipeStatus};
+ghost use Rattle.agent_commands.specs.Piped.{IsPipeStatus};
+ghost use Rattle.agent_run.specs.PipeRan.{IsChannelOf, PipeRan};
 
 use crate::agent::{Ended, run_named};
-use crate::outcome::Outcome;
+use crate::outcome::{ChannelEnd, Outcome};
 use crate::through::{NoStep, RunOf, Runs};
-use agent_commands::{run_check, run_pipe, say_error};
+use agent_commands::{PipeEnded, run_check, run_pipe, say_error};
 use agent_words::{Command, RunError, read_words};
 use flume_host::Host;
 use plug_in::Plugins;
+use shared_channel::Pass;
 use std::alloc::Global;
 use std::sync::Wait;
 use std::thread::Threads;
@@ -40,7 +43,6 @@ fn run_configured<'a, R: Threads + Wait + Sync + 'a, H: Host + 'a>(
     host: &mut H,
 ) -> Outcome
     ensures ends { AgentEnds ((H.state host.old).files file.now) agent.now result.status }
-    ensures none { result.accepted ≡ 0 }
     ensures ran { AgentEndsAs ⟦<RunOf<'a, R, H, NoStep> as Runs>⟧.ran
         ((H.state host.old).files file.now) agent.now result.status result.channels.items
         (record { state = H.state host.old; folders = H.folders host.old })
@@ -52,11 +54,7 @@ fn run_configured<'a, R: Threads + Wait + Sync + 'a, H: Host + 'a>(
         channels,
     } = run_named::<R, H, NoStep>(rt, alloc, agent, file, host);
     say_end(alloc, host, error);
-    Outcome {
-        status,
-        accepted: 0,
-        channels,
-    }
+    Outcome { status, channels }
 }
 
 // Says why nothing was done.
@@ -64,11 +62,52 @@ fn refuse<H: Host>(alloc: Global, host: &mut H, error: &RunError) -> Outcome
     ensures status { result.status ≡ status_of error.now }
     ensures state { H.state host.new ≡ H.state host.old }
     ensures folders { H.folders host.new ≡ H.folders host.old }
-    ensures none { result.accepted ≡ 0 }
     ensures channels { result.channels.items ≡ [] }
 {
     say_error(alloc, host, error);
     Outcome::ended(alloc, error.status())
+}
+
+// The list of the channel of `pipe`, where one was shared: it has the folder's name, and no worker.
+fn listed(
+    alloc: Global,
+    dir: String,
+    pass: Option<Pass>,
+    channels: Vec<ChannelEnd>,
+) -> Vec<ChannelEnd>
+    requires none { channels.items ≡ [] }
+    requires room { 1 ≤ vec_capacity channels }
+    ensures { IsChannelOf (string_bytes dir) pass result.items }
+{
+    let mut list = channels;
+    let Some(pass) = pass else {
+        return list;
+    };
+    list.push_reserved(ChannelEnd {
+        name: dir,
+        pass,
+        workers: Vec::new(alloc),
+    });
+    list
+}
+
+// `pipe DIR`. The list of its one channel is reserved before that is opened, and its name is that of the folder: so it is in the
+// outcome once it was shared, whatever the status.
+fn run_piped<R: Wait, H: Host>(rt: &R, alloc: Global, dir: String, host: &mut H) -> Outcome
+    ensures piped { PipeRan (string_bytes dir) result.status result.channels.items
+        (record { state = H.state host.old; folders = H.folders host.old })
+        (record { state = H.state host.new; folders = H.folders host.new }) }
+    ensures status { IsPipeStatus result.status }
+    ensures others { ButDisk (string_bytes dir) (H.folders host.old) (H.folders host.new) }
+{
+    let Ok(channels) = Vec::with_capacity(alloc, 1) else {
+        return refuse(alloc, host, &RunError::NoMemory);
+    };
+    let PipeEnded { status, pass } = run_pipe(rt, alloc, dir.as_str(), host);
+    Outcome {
+        status,
+        channels: listed(alloc, dir, pass, channels),
+    }
 }
 
 /// All that the program does: takes the words after its name, and answers the exit status.
@@ -87,14 +126,15 @@ pub fn run_agent<'a, R: Threads + Wait + Sync + 'a, H: Host + 'a>(
     // The words are a command that runs, or the status is 1 and nothing was touched; want of memory may come before.
     ensures usage { result.status ≡ 1 → IsNoCommand (texts words.now) }
     ensures no_command { IsNoCommand (texts words.now) → (result.status ≡ 1) ⊎ (result.status ≡ 5) }
-    ensures nothing { IsNoCommand (texts words.now) → (H.state host.new ≡ H.state host.old) × (result.accepted ≡ 0) }
+    ensures nothing { IsNoCommand (texts words.now) → H.state host.new ≡ H.state host.old }
     ensures nothing_opened { IsNoCommand (texts words.now) → H.folders host.new ≡ H.folders host.old }
 
-    // What `pipe` read, wrote and stored, and when each status comes.
+    // What `pipe` read, wrote and stored, and when each status comes; and the folder's channel, once it was opened and shared, with
+    // the lines' put transactions in the history of its pass.
     ensures piped { (dir : List ℕ) → IsPipe (texts words.now) dir
-        → Piped (H.state host.old) (H.state host.new)
-        ((H.folders host.old).disks dir) ((H.folders host.new).disks dir)
-        (H.state host.old).disk_faults (H.state host.new).disk_faults result.status result.accepted }
+        → PipeRan dir result.status result.channels.items
+        (record { state = H.state host.old; folders = H.folders host.old })
+        (record { state = H.state host.new; folders = H.folders host.new }) }
     ensures pipe_statuses { (dir : List ℕ) → IsPipe (texts words.now) dir → IsPipeStatus result.status }
     ensures others { (dir : List ℕ) → IsPipe (texts words.now) dir → ButDisk dir (H.folders host.old) (H.folders host.new) }
 
@@ -102,8 +142,6 @@ pub fn run_agent<'a, R: Threads + Wait + Sync + 'a, H: Host + 'a>(
     ensures checked { (agent file : List ℕ) → IsCheck (texts words.now) agent file
         → Checked ((H.state host.old).files file) agent (H.state host.old) (H.state host.new) result.status }
     ensures check_statuses { (agent file : List ℕ) → IsCheck (texts words.now) agent file → IsCheckStatus result.status }
-    ensures none { (agent file : List ℕ) → IsCheck (texts words.now) agent file → result.accepted ≡ 0 }
-    ensures agent_none { (name file : List ℕ) → IsAgent (texts words.now) name file → result.accepted ≡ 0 }
     ensures unopened { (agent file : List ℕ) → IsCheck (texts words.now) agent file → H.folders host.new ≡ H.folders host.old }
 
     // What the configuration file of `agent` holds where the status is 2, and which statuses come.
@@ -118,8 +156,9 @@ pub fn run_agent<'a, R: Threads + Wait + Sync + 'a, H: Host + 'a>(
         (record { state = H.state host.old; folders = H.folders host.old })
         (record { state = H.state host.new; folders = H.folders host.new }) }
 
-    // But by `agent` no channel comes back.
-    ensures channels { ((name file : List ℕ) → ¬ IsAgent (texts words.now) name file)
+    // But by `pipe` and `agent` no channel comes back.
+    ensures channels { ((dir : List ℕ) → ¬ IsPipe (texts words.now) dir)
+        → ((name file : List ℕ) → ¬ IsAgent (texts words.now) name file)
         → result.channels.items ≡ [] }
 
     // But by `agent` no folder of rolled files was opened, and each is as before.
@@ -128,14 +167,7 @@ pub fn run_agent<'a, R: Threads + Wait + Sync + 'a, H: Host + 'a>(
 {
     drop(plugins);
     match read_words(alloc, words) {
-        Ok(Some(Command::Pipe { dir })) => {
-            let ended = run_pipe(alloc, dir.as_str(), host);
-            Outcome {
-                status: ended.status,
-                accepted: ended.accepted,
-                channels: Vec::new(alloc),
-            }
-        }
+        Ok(Some(Command::Pipe { dir })) => run_piped(rt, alloc, dir, host),
         Ok(Some(Command::Check { name, file })) => {
             Outcome::ended(alloc, run_check(alloc, name.as_str(), file.as_str(), host))
         }

@@ -42,7 +42,7 @@ fn is_told<R: Threads + Wait + Sync>(
     want: &str,
 ) -> Result<bool, AllocError> {
     let mut host = host;
-    let (status, _accepted) = run(rt, alloc, words, &mut host)?;
+    let (status, _calls) = run(rt, alloc, words, &mut host)?;
     let mut text = vec![in alloc; b'0'.saturating_add(status), b' ']?;
     add_words(&host, &mut text)?;
     Ok(text.as_slice() == want.as_bytes())

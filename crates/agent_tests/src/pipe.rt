@@ -45,7 +45,8 @@ pub fn host(alloc: Global, outside: Outside) -> Result<MemHost, AllocError> {
     Ok(MemHost::new(alloc, outside.source, outside.sink, folders))
 }
 
-/// The status and the count of accepted lines of a run.
+/// The status of a run, and how many calls its channels have seen. A line that is put makes four: a begin, a put, a stage and a
+/// flush.
 pub fn run<R: Threads + Wait + Sync>(
     rt: &R,
     alloc: Global,
@@ -54,7 +55,8 @@ pub fn run<R: Threads + Wait + Sync>(
 ) -> Result<(u8, u64), AllocError> {
     let words = owned(alloc, words)?;
     let outcome = run_agent(rt, alloc, &words, host, Plugins::new(alloc));
-    Ok((outcome.status, outcome.accepted))
+    let calls = outcome.channels.iter().map(|end| end.pass.seen()).sum();
+    Ok((outcome.status, calls))
 }
 
 pub fn written<'a>(host: &'a MemHost) -> &'a [u8] {
@@ -73,7 +75,7 @@ pub fn is_said(host: &MemHost, line: &str) -> bool {
     }
 }
 
-/// Whether `pipe d` ends with this status, this count of accepted lines and these answers.
+/// Whether `pipe d` ends with this status, this count of calls and these answers.
 pub fn is_piped<R: Threads + Wait + Sync>(
     rt: &R,
     alloc: Global,
@@ -96,7 +98,7 @@ pub fn file_of<'a>(host: &'a MemHost, name: FileName) -> Option<&'a [u8]> {
 type Log = (&'static [u8], (u8, u64), &'static [u8], &'static [u8]);
 
 const LOGS: [Log; 2] = [
-    (b"a\nb\n", (0, 2), b"OK\nOK\n", TWO_LINES),
+    (b"a\nb\n", (0, 8), b"OK\nOK\n", TWO_LINES),
     (b"", (0, 0), b"", BEGUN),
 ];
 
@@ -146,28 +148,28 @@ const LINES: [Lines; 8] = [
         front: b"a\nb",
         count: 0,
         end: b"",
-        outcome: (0, 1),
+        outcome: (0, 4),
         answers: b"OK\n",
     },
     Lines {
         front: b"\n",
         count: 0,
         end: b"",
-        outcome: (0, 1),
+        outcome: (0, 4),
         answers: b"OK\n",
     },
     Lines {
         front: b"a\r\n\nb\n",
         count: 0,
         end: b"",
-        outcome: (0, 3),
+        outcome: (0, 12),
         answers: b"OK\nOK\nOK\n",
     },
     Lines {
         front: b"",
         count: 511,
         end: b"\n",
-        outcome: (0, 1),
+        outcome: (0, 4),
         answers: b"OK\n",
     },
     Lines {
@@ -188,7 +190,7 @@ const LINES: [Lines; 8] = [
         front: b"a\n",
         count: 512,
         end: b"",
-        outcome: (7, 1),
+        outcome: (7, 4),
         answers: b"OK\nFAILED: line too long\n",
     },
     Lines {
@@ -266,9 +268,9 @@ fn other_words_are_no_command(rt: HostRuntime) -> Result<(), Fail> {
 fn after_failing_call(call: u64) -> ((u8, u64), &'static [u8]) {
     match call {
         0..=6 => ((3, 0), b""),
-        7..=10 => ((3, 0), b"FAILED: channel in doubt\n"),
-        11..=14 => ((3, 1), b"OK\nFAILED: channel in doubt\n"),
-        _ => ((0, 2), b"OK\nOK\n"),
+        7..=10 => ((3, 4), b"FAILED: channel in doubt\n"),
+        11..=14 => ((3, 8), b"OK\nFAILED: channel in doubt\n"),
+        _ => ((0, 8), b"OK\nOK\n"),
     }
 }
 
@@ -301,11 +303,11 @@ fn a_failing_disk_leaves_the_line_in_doubt(rt: HostRuntime) -> Result<(), Fail> 
 // failing one of them leads to:
 const OUTPUTS: [(u64, (u8, u64), &[u8]); 6] = [
     (0, (3, 0), b""),
-    (1, (3, 1), b""),
-    (2, (3, 2), b"OK\n"),
-    (3, (3, 2), b"OK\nOK\n"),
-    (4, (3, 2), b"OK\nOK\n"),
-    (5, (0, 2), b"OK\nOK\n"),
+    (1, (3, 4), b""),
+    (2, (3, 8), b"OK\n"),
+    (3, (3, 8), b"OK\nOK\n"),
+    (4, (3, 8), b"OK\nOK\n"),
+    (5, (0, 8), b"OK\nOK\n"),
 ];
 
 // Whether a run whose output fails at this call ends so.
@@ -338,7 +340,7 @@ fn is_cut_off<R: Threads + Wait + Sync>(rt: &R, alloc: Global) -> Result<bool, A
     let source = given.source.in_pieces(vec![in alloc; 2]?);
     given.source = source.failing_at(vec![in alloc; 1]?);
     let mut host = host(alloc, given)?;
-    is_piped(rt, alloc, &mut host, (3, 1), b"OK\n")
+    is_piped(rt, alloc, &mut host, (3, 4), b"OK\n")
 }
 
 // Whether a run ends with a fault where the folder is not opened.

@@ -55,9 +55,9 @@ struct Rerun {
 const RERUNS: [Rerun; 2] = [
     Rerun {
         first: b"a\nb\n",
-        first_outcome: (0, 2),
+        first_outcome: (0, 8),
         second: b"c\n",
-        second_outcome: (0, 1),
+        second_outcome: (0, 4),
         answers: b"OK\n",
         logs: [TWO_LINES, THIRD_LINE],
         left: b"a\nb\nc\n",
@@ -140,7 +140,7 @@ const STOPS: [(u64, Stood, bool); 11] = [
 // The host of a run of one line.
 fn ran_once<R: Threads + Wait + Sync>(rt: &R, alloc: Global) -> Result<MemHost, Fail> {
     let mut host = given(alloc, MemDisk::new(alloc), b"a\n")?;
-    if run(rt, alloc, &["pipe", "d"], &mut host)? != (0, 1) {
+    if run(rt, alloc, &["pipe", "d"], &mut host)? != (0, 4) {
         return Err("the first run")?;
     }
     Ok(host)
@@ -155,7 +155,7 @@ fn is_found<R: Threads + Wait + Sync>(
 ) -> Result<bool, Fail> {
     let want: &[u8] = if there { b"a\nz\n" } else { b"z\n" };
     let mut host = given(alloc, disk, b"z\n")?;
-    Ok(is_piped(rt, alloc, &mut host, (0, 1), b"OK\n")? && leaves(alloc, &host, want)?)
+    Ok(is_piped(rt, alloc, &mut host, (0, 4), b"OK\n")? && leaves(alloc, &host, want)?)
 }
 
 #[test]
@@ -267,7 +267,7 @@ fn is_refused<R: Threads + Wait + Sync>(
     let (name, bytes, line) = *folder;
     let mut host = host_on_file(alloc, name, bytes, b"a\n")?;
     let (outcome, answers): ((u8, u64), &[u8]) = if line.is_empty() {
-        ((0, 1), b"OK\n")
+        ((0, 4), b"OK\n")
     } else {
         ((4, 0), b"")
     };
@@ -301,7 +301,8 @@ fn lines_are_refused_once_a_number_is_at_its_end(rt: HostRuntime) -> Result<(), 
     let alloc = rt.alloc();
     let mut host = host_on_file(alloc, FileName::Log(1), NUMBERS, b"b\nc\nd\n")?;
     let answers = b"OK\nFAILED: channel refused\nFAILED: channel refused\n";
-    let is_so = is_piped(&rt, alloc, &mut host, (0, 1), answers)?;
+    // two of the lines make a begin alone, which is refused
+    let is_so = is_piped(&rt, alloc, &mut host, (0, 6), answers)?;
     assert!(rt; is_so && is_said(&host, ""));
     assert!(rt; file_of(&host, FileName::Log(2)) == Some(LAST_NUMBER));
     Ok(())

@@ -1,15 +1,14 @@
 use Rattle.std.proofs.Common.{◌≡◌, List, ℕ, codes, inr, ap, sym, subst, ◌∙◌, arith}
-use Rattle.flume_host.specs.HostState.{Folders, HostState}
 use Rattle.flume_host.proofs.Folders.{but_same}
 use Rattle.agent_words.specs.Words.{texts}
 use Rattle.agent_words.proofs.Unique.{one_asked}
 use Rattle.agent_commands.specs.Checked.{Checked}
 use Rattle.agent_run.specs.Named.{AgentEnds}
 use Rattle.agent_run.proofs.Answering.{agent_named, never_one}
-use Rattle.agent_run.proofs.Commands.{agent_is_no_check, agent_is_no_pipe, load_does_not_run, none_runs, read_none, read_some}
-use Rattle.flume_host.specs.Told.{Tells}
-use Rattle.agent_commands.specs.Stored.{IsUnopened}
-use Rattle.agent_commands.proofs.Outcomes.{early, untouched}
+use Rattle.agent_run.proofs.Commands.{agent_is_no_check, agent_is_no_pipe, load_does_not_run, none_runs, one_folder, read_none, read_some}
+use Rattle.agent_channels.specs.Openings.{HostTold}
+use Rattle.agent_run.specs.PipeRan.{PipeRan}
+use Rattle.agent_run.proofs.Piping.{not_piped}
 use Rattle.agent_run.proofs.run.run_agent.Goals as goal
 
 pub returns-in-Ok-Some-Check-clause-no_command : goal.returns-in-Ok-Some-Check-clause-no_command
@@ -36,14 +35,19 @@ returns-in-Ok-None-clause-usage g c = λ one. none_runs _ (read_none _ _ c.in-Ok
 pub returns-in-Ok-None-clause-check_statuses : goal.returns-in-Ok-None-clause-check_statuses
 returns-in-Ok-None-clause-check_statuses g c = λ agent file is. absurd ((read_none _ _ c.in-Ok-None.ensures c.in-Ok-None.field-0-is).check agent file is)
 
+pub returns-in-Ok-Some-Pipe-clause-piped : goal.returns-in-Ok-Some-Pipe-clause-piped
+returns-in-Ok-Some-Pipe-clause-piped g c = λ dir is.
+    let same = one_folder (texts c.args.words.now) _ dir (read_some _ _ _ _ c.in-Ok-Some-Pipe.ensures c.in-Ok-Some-Pipe.field-0-is c.in-Ok-Some-Pipe.field-0-0-is) is in
+    let r = c.run_piped.result in
+    let a : HostTold = record { state = g.H.Host.state c.args.host.now; folders = g.H.Host.folders c.args.host.now } in
+    let b : HostTold = record { state = g.H.Host.state c.run_piped.new.host; folders = g.H.Host.folders c.run_piped.new.host } in
+    subst (λ (d : List ℕ). PipeRan d r.status r.channels.items a b) same c.run_piped.ensures.piped
+
 pub returns-clause-piped : goal.returns-clause-piped
-returns-clause-piped g c = λ dir is.
-    let same = c.refuse-in-Err.ensures.state in
-    let five : c.refuse-in-Err.result.status ≡ 5 = c.refuse-in-Err.ensures.status in
-    let folder = (g.H.Host.folders c.args.host.now).disks in
-    let unopened : Tells (folder dir) ((g.H.Host.folders c.refuse-in-Err.new.host).disks dir) IsUnopened = subst (λ (f : Folders). Tells (folder dir) (f.disks dir) IsUnopened) (sym c.refuse-in-Err.ensures.folders) (untouched (folder dir)) in
-    early _ _ _ _ _ _ _ _ (ap (λ (s : HostState). s.input) same) (ap (λ (s : HostState). s.output) same) c.refuse-in-Err.ensures.none (inr (inr five)) unopened
-    (λ three. absurd (omega (arith, three, five))) (λ four. absurd (omega (arith, four, five))) (λ _. ap (λ (s : HostState). s.disk_faults) same)
+returns-clause-piped g c = λ dir is. not_piped dir _ _ _ _ c.refuse-in-Err.ensures.channels c.refuse-in-Err.ensures.status c.refuse-in-Err.ensures.state c.refuse-in-Err.ensures.folders
+
+pub returns-in-Ok-Some-Pipe-clause-channels : goal.returns-in-Ok-Some-Pipe-clause-channels
+returns-in-Ok-Some-Pipe-clause-channels g c = λ none agent. absurd (none _ (read_some _ _ _ _ c.in-Ok-Some-Pipe.ensures c.in-Ok-Some-Pipe.field-0-is c.in-Ok-Some-Pipe.field-0-0-is))
 
 pub returns-in-Ok-Some-Check-clause-others : goal.returns-in-Ok-Some-Check-clause-others
 returns-in-Ok-Some-Check-clause-others g c = λ dir is. but_same _ _ _ c.run_check.ensures.folders
@@ -109,7 +113,7 @@ returns-in-Ok-Some-Agent-clause-agent_ran g c = λ name file is.
     agent_named (g.H.Host.state c.args.host.now).files f n c.run_configured.ensures.ran
 
 pub returns-in-Ok-Some-Agent-clause-channels : goal.returns-in-Ok-Some-Agent-clause-channels
-returns-in-Ok-Some-Agent-clause-channels g c = λ none. absurd (none _ _ (read_some _ _ _ _ c.in-Ok-Some-Agent.ensures c.in-Ok-Some-Agent.field-0-is c.in-Ok-Some-Agent.field-0-0-is))
+returns-in-Ok-Some-Agent-clause-channels g c = λ pipe none. absurd (none _ _ (read_some _ _ _ _ c.in-Ok-Some-Agent.ensures c.in-Ok-Some-Agent.field-0-is c.in-Ok-Some-Agent.field-0-0-is))
 
 pub returns-in-Ok-None-clause-agent_ran : goal.returns-in-Ok-None-clause-agent_ran
 returns-in-Ok-None-clause-agent_ran g c = λ name file is. absurd ((read_none _ _ c.in-Ok-None.ensures c.in-Ok-None.field-0-is).agent name file is)

@@ -1,4 +1,0 @@
-use Rattle.agent_commands.proofs.channel_store.ChannelStore.open.Given as goal
-
-abbrev pub ghosts-open_by : goal.ghosts-open_by
-ghosts-open_by g a = record { name = a.blank.name; parts = a.blank.parts }

@@ -1,0 +1,13 @@
+use Rattle.std.proofs.Common.{refl}
+use Rattle.channel_face.specs.Calls.{cause_of}
+use Rattle.channel_face.specs.Machine.{StageTake}
+use Rattle.agent_commands.proofs.Trails.{adds_quietly}
+use Rattle.agent_commands.proofs.traced.TracedChannelChannel.stage_take.Goals as goal
+
+pub returns-clause-step : goal.returns-clause-step
+returns-clause-step g c =
+    let told = g.D.Disk.told in
+    let faults = g.D.Disk.faults in
+    let a = c.args.self.now.channel in
+    let b = c.stage_take-reply.new.self in
+    adds_quietly (told a.0) (told b.0) (faults a.0) (faults b.0) a.1 b.1 (StageTake c.args.txn (cause_of c.stage_take-reply.result)) _ c.stage_take-reply.ensures.step c.rests.ensures c.stage_take-reply.ensures.told refl (λ s. tt)
