@@ -1,5 +1,5 @@
 -- The statuses of a run of `agent`.
-use Rattle.std.proofs.Common.{◌≡◌, ◌⊎◌, ◌<◌, ◌≤◌, inl, inr, ℕ, List, [], Bool, true, false, cond, Option, IfOk, Result, Ok, Err, refl, sym, subst, arith}
+use Rattle.std.proofs.Common.{◌≡◌, ◌⊎◌, inl, inr, ℕ, List, [], Bool, true, false, cond, Option, IfOk, Result, Ok, Err, refl, sym, subst, arith}
 use Rattle.std.specs.declared.alloc.Global.{Global}
 use Rattle.std.specs.declared.vec.Vec.{Vec}
 use Rattle.prop_text.specs.declared.fault.PropRefused.TheVariants as text
@@ -20,12 +20,15 @@ use Rattle.agent_run.specs.Outside.{IsOutside}
 use Rattle.agent_channels.specs.Openings.{HostTold}
 use Rattle.agent_end.specs.Statuses.{run_status}
 use Rattle.agent_end.specs.declared.ends.RunEnds.{RunEnds}
-use Rattle.agent_run.specs.Through.{AgentEndsAs, CameTo, DidNotBegin, EndsAs}
+use Rattle.agent_run.specs.NotBegun.{ChannelNotOpened, DidNotBegin, IsRunRefused, NoPlan, NotBegun, NotPrepared, OutsideNotOpened}
+use Rattle.agent_run.specs.Through.{AgentEndsAs, CameTo, EndsAs}
 use Rattle.agent_run.specs.declared.outcome.ChannelEnd.{ChannelEnd}
 use Rattle.agent_run.specs.Errors.{IsRunStatus}
 use Rattle.agent_run.specs.Named.{AgentEnds, IsAgentStatus, PlanEnds}
 use Rattle.agent_run.specs.Prepared.{IsPlanned}
-use Rattle.agent_run.specs.Run.{IsRunRefused}
+use Rattle.agent_run.proofs.Apart.{folders_apart}
+use Rattle.agent_run.proofs.Refusing.{cause_which, outside_status, plan_host, refused_host}
+use Rattle.agent_run.proofs.Spared.{refused_folders}
 
 -- the first of these statuses whose question is answered yes
 pub first_of_six : (a b c d e : Bool) → IsRunStatus (cond a 4 (cond b 3 (cond c 5 (cond d 7 (cond e 6 0)))))
@@ -59,66 +62,29 @@ by_run p n is = record { which = inr is; fault = λ two. absurd (never_two n is 
 pub ended : (p : Plan) (status n : ℕ) → status ≡ n → IsRunStatus n → PlanEnds p status
 ended p status n same is = subst (PlanEnds p) (sym same) (by_run p n is)
 
-pub refused : (p : Plan) (e : RunError) → IsRunRefused p e → PlanEnds p (status_of e)
-refused p Usage is = absurd (omega (arith, is.0))
-refused p FileTooLarge is = absurd (omega (arith, is.0))
-refused p (Text (text.NotUtf8 at)) is = absurd (omega (arith, is.0))
-refused p (Text (text.BadEscape line)) is = absurd (omega (arith, is.0))
-refused p (Text text.NoMemory) is = by_run p 5 (inr (inr (inr (inl refl))))
-refused p (NoAgent name) is = absurd (omega (arith, is.0))
-refused p (Plan' plan.NoAgent) is = absurd (omega (arith, is.0))
-refused p (Plan' (plan.UnknownType line)) is = absurd (omega (arith, is.0))
-refused p (Plan' (plan.UnknownName line)) is = absurd (omega (arith, is.0))
-refused p (Plan' (plan.BadNumber line)) is = absurd (omega (arith, is.0))
-refused p (Plan' (plan.BadPattern line)) is = absurd (omega (arith, is.0))
-refused p (Plan' (plan.Unsupported line)) is = record { which = inl refl; fault = λ two. (line, is) }
-refused p (Plan' (plan.Clash line)) is = absurd (omega (arith, is.0))
-refused p (Plan' (plan.Missing key)) is = absurd (omega (arith, is.0))
-refused p (Plan' plan.NoMemory) is = by_run p 5 (inr (inr (inr (inl refl))))
-refused p Fault is = by_run p 3 (inr (inl refl))
-refused p (BadCheckpoint dir file at) is = by_run p 4 (inr (inr (inl refl)))
-refused p (BadLog dir file at) is = by_run p 4 (inr (inr (inl refl)))
-refused p (OverCapacity dir count capacity) is = by_run p 4 (inr (inr (inl refl)))
-refused p (Spent dir) is = by_run p 4 (inr (inr (inl refl)))
-refused p (Damaged dir) is = by_run p 4 (inr (inr (inl refl)))
-refused p NoMemory is = by_run p 5 (inr (inr (inr (inl refl))))
-refused p InputTooLong is = absurd (omega (arith, is.1))
-refused p LineTooLong is = absurd (omega (arith, is.1))
+step_status : {plan : Plan} {status : ℕ} {a b : HostTold} → NotPrepared status a b ⊎ ChannelNotOpened plan status a b ⊎ OutsideNotOpened plan status a b
+    → (status ≡ 3) ⊎ (status ≡ 4) ⊎ (status ≡ 5)
+step_status (inl not) = elim not.why [
+  | inl fault ↦ inl fault.0
+  | inr none ↦ inr (inr none.0)
+]
+step_status (inr (inl not)) = cause_which not.cause _ not.is
+step_status (inr (inr not)) = elim (outside_status not.why _ not.is) [
+  | inl three ↦ inl three
+  | inr five ↦ inr (inr five)
+]
 
--- a status with which a run does not begin
-abbrev pub IsRefusal : ℕ → Type 0
-IsRefusal status = (2 ≤ status) × (status < 6)
+by_step : (p : Plan) (n : ℕ) → (n ≡ 3) ⊎ (n ≡ 4) ⊎ (n ≡ 5) → PlanEnds p n
+by_step p n (inl three) = by_run p n (inr (inl three))
+by_step p n (inr (inl four)) = by_run p n (inr (inr (inl four)))
+by_step p n (inr (inr five)) = by_run p n (inr (inr (inr (inl five))))
 
-pub refusal : (p : Plan) (e : RunError) → IsRunRefused p e → IsRefusal (status_of e)
-refusal p (Plan' (plan.Unsupported line)) is = (omega arith, omega arith)
-refusal p Usage is = (omega (arith, is.0), is.1)
-refusal p FileTooLarge is = (omega (arith, is.0), is.1)
-refusal p (Text (text.NotUtf8 at)) is = (omega (arith, is.0), is.1)
-refusal p (Text (text.BadEscape line)) is = (omega (arith, is.0), is.1)
-refusal p (Text text.NoMemory) is = (omega (arith, is.0), is.1)
-refusal p (NoAgent name) is = (omega (arith, is.0), is.1)
-refusal p (Plan' plan.NoAgent) is = (omega (arith, is.0), is.1)
-refusal p (Plan' (plan.UnknownType line)) is = (omega (arith, is.0), is.1)
-refusal p (Plan' (plan.UnknownName line)) is = (omega (arith, is.0), is.1)
-refusal p (Plan' (plan.BadNumber line)) is = (omega (arith, is.0), is.1)
-refusal p (Plan' (plan.BadPattern line)) is = (omega (arith, is.0), is.1)
-refusal p (Plan' (plan.Clash line)) is = (omega (arith, is.0), is.1)
-refusal p (Plan' (plan.Missing key)) is = (omega (arith, is.0), is.1)
-refusal p (Plan' plan.NoMemory) is = (omega (arith, is.0), is.1)
-refusal p Fault is = (omega (arith, is.0), is.1)
-refusal p (BadCheckpoint dir file at) is = (omega (arith, is.0), is.1)
-refusal p (BadLog dir file at) is = (omega (arith, is.0), is.1)
-refusal p (OverCapacity dir count capacity) is = (omega (arith, is.0), is.1)
-refusal p (Spent dir) is = (omega (arith, is.0), is.1)
-refusal p (Damaged dir) is = (omega (arith, is.0), is.1)
-refusal p NoMemory is = (omega (arith, is.0), is.1)
-refusal p InputTooLong is = (omega (arith, is.0), is.1)
-refusal p LineTooLong is = (omega (arith, is.0), is.1)
-
-pub unplanned : (n : ℕ) → (n ≡ 2) ⊎ ((n ≡ 3) ⊎ (n ≡ 5)) → IsRefusal n
-unplanned n (inl two) = (omega (arith, two), omega (arith, two))
-unplanned n (inr (inl three)) = (omega (arith, three), omega (arith, three))
-unplanned n (inr (inr five)) = (omega (arith, five), omega (arith, five))
+pub refused : (p : Plan) (status n : ℕ) (a b : HostTold) → status ≡ n → IsRunRefused p n a b → PlanEnds p status
+refused p status n a b same why = subst (PlanEnds p) (sym same) (here why)
+  where
+    here : IsRunRefused p n a b → PlanEnds p n
+    here (inl not) = record { which = inl not.is; fault = λ two. (not.line, not.first) }
+    here (inr step) = by_step p n (step_status step.1)
 
 -- the plan was found in the file, and run
 pub named : (file : Option (List ℕ)) (agent : List ℕ) (p : Plan) (status : ℕ) → IsPlanOf file agent p → PlanEnds p status → AgentEnds file agent status
@@ -176,8 +142,17 @@ nonzero InputTooLong zero = omega arith
 nonzero LineTooLong zero = omega arith
 
 -- a run that was refused did not begin
-pub not_begun : {status : ℕ} {channels : List ChannelEnd} (n : ℕ) → status ≡ n → IsRefusal n → channels ≡ [] → DidNotBegin status channels
-not_begun n same is none = record { from = omega (arith, same, is.0); below = omega (arith, same, is.1); none = none }
+pub not_begun : {channels : List ChannelEnd} (p : Plan) (status n : ℕ) (a b : HostTold) → IsPlanned p → status ≡ n → channels ≡ [] → IsRunRefused p n a b → NotBegun p status channels a b
+not_begun {channels = channels} p status n a b planned same none why =
+    subst (λ (m : ℕ). NotBegun p m channels a b) (sym same)
+    (record { none = none; why = why; host = refused_host p n a b why; folders = refused_folders p n a b (folders_apart p planned) why })
+
+-- there was no plan
+pub not_planned : {channels : List ChannelEnd} (file : Option (List ℕ)) (agent : List ℕ) (status n : ℕ) (a b : HostTold) → status ≡ n → channels ≡ [] → Unplanned file agent a.state b.state n → b.folders ≡ a.folders
+    → DidNotBegin file agent status channels a b
+not_planned {channels = channels} file agent status n a b same none why folders =
+    let no : NoPlan file agent n a b = record { why = why; folders = folders } in
+    subst (λ (m : ℕ). DidNotBegin file agent m channels a b) (sym same) (record { none = none; host = plan_host file agent n a b no; why = inl no })
 
 -- a run that began came to the channels that are handed on
 pub came_with : {Ran : Plan → RunEnds → List ChannelEnd → HostTold → HostTold → Type 0} {p : Plan} {status : ℕ} {a b : HostTold} (ends : RunEnds) (before after : Vec ChannelEnd Global)
@@ -191,7 +166,9 @@ module _ {Ran : Plan → RunEnds → List ChannelEnd → HostTold → HostTold �
   pub of_plan : {file : Option (List ℕ)} {agent : List ℕ} {p : Plan} {a a' b : HostTold} → a ≡ a' → IsPlanOf file agent p
       → EndsAs Ran p status channels a b → AgentEndsAs Ran file agent status channels a' b
   of_plan {p = p} {b = b} first of (inl ran) = inl (record { plan = p; of = of; ran = subst (λ (x : HostTold). CameTo Ran p status channels x b) first ran })
-  of_plan first of (inr none) = inr none
+  of_plan {p = p} {b = b} first of (inr not) =
+      let none = subst (λ (x : HostTold). NotBegun p status channels x b) first not in
+      inr (record { none = none.none; host = none.host; why = inr (p, of, none) })
 
   pub agent_same : {file : Option (List ℕ)} {agent : List ℕ} {a b b' : HostTold} → b ≡ b'
       → AgentEndsAs Ran file agent status channels a b → AgentEndsAs Ran file agent status channels a b'

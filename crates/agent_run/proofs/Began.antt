@@ -30,7 +30,7 @@ all_based : (table : TableId) (start : Opening) (passes k : ℕ) → AllByRecurs
 all_based table start passes zero = tt
 all_based table start passes (suc k) = based_push start (new_passes table start passes k) (new_pass table start passes k) (all_based table start passes k) refl
 
-fresh_base : {A B : Type 0} (Starts : Opening → Type 0) (users : ℕ) (share : EitherShared A B) (home : Known) (others : List Known)
+pub fresh_base : {A B : Type 0} (Starts : Opening → Type 0) (users : ℕ) (share : EitherShared A B) (home : Known) (others : List Known)
     → (is : IsFresh Starts users share home others) → home.view.base ≡ is.start
 fresh_base Starts users share home others is =
     (subst (AllByRecursion (HasBase is.start)) (sym is.passes) (all_based _ is.start (users + 1) (users + 1))).0

@@ -35,7 +35,10 @@ pub mod Streaming
 pub mod Seating
 pub mod Labelling
 pub mod Readying
+pub mod Comeback
+pub mod Unopened
 pub mod Refusing
+pub mod Spared
 pub mod Answering
 pub mod Closing
 pub mod Resting

@@ -1,56 +1,166 @@
--- Why a run does not begin.
-use Rattle.std.proofs.Common.{◌≡◌, ◌∙◌, ◌<◌, ◌⊎◌, inl, inr, ℕ, List, ◌∷◌, length, None, Result, Ok, Err, IfErr, OnOk, ap, arith}
+-- Why a run does not begin, and what that leaves of the host.
+use Rattle.std.proofs.Common.{◌≡◌, ◌∙◌, ◌<◌, ◌≤◌, ◌⊎◌, inl, inr, ℕ, List, ◌∷◌, length, Option, None, Result, Ok, Err, IfErr, OnOk, refl, sym, ap, subst, arith}
 use Rattle.std.proofs.lemmas.List.{length-append}
-use Rattle.channel_face.specs.declared.replies.OpenCause.{OpenCause}
-use Rattle.channel_face.specs.declared.replies.OpenCause.TheVariants as causes
+use Rattle.flume_host.specs.Causes.{Rose}
+use Rattle.flume_host.specs.HostState.{HostState}
 use Rattle.flume_host.specs.declared.names.NameRefused.{NameRefused}
 use Rattle.flume_host.specs.declared.names.NameRefused.TheVariants.{Failed, NoMemory}
+use Rattle.channel_face.specs.declared.replies.OpenCause.{OpenCause}
+use Rattle.channel_face.specs.declared.replies.OpenCause.TheVariants as causes
 use Rattle.flume_config.specs.declared.plan.ChannelKind.{ChannelKind}
 use Rattle.flume_config.specs.declared.plan.ChannelKind.TheVariants.{File, Memory}
 use Rattle.flume_config.specs.declared.plan.Plan.{Plan}
-use Rattle.plan_refused.specs.declared.refused.PlanRefused.TheVariants.{Unsupported}
 use Rattle.plan_support.specs.Least.{unsupported}
 use Rattle.agent_words.specs.Statuses.{status_of}
 use Rattle.agent_words.specs.declared.error.RunError.{RunError}
 use Rattle.agent_words.specs.declared.error.RunError.TheVariants as errors
+use Rattle.agent_commands.specs.Checked.{Unplanned}
 use Rattle.agent_commands.specs.Piped.{cause_status}
-use Rattle.agent_channels.specs.Openings.{HostTold}
-use Rattle.agent_channels.specs.Several.{RefusesAt}
+use Rattle.agent_commands.specs.Stored.{IsOfFolder}
+use Rattle.agent_channels.specs.Openings.{GivesBack, HandsNone, HostTold, Refuses}
+use Rattle.agent_channels.specs.Several.{AreOpened, RefusesAt}
+use Rattle.agent_channels.specs.declared.opened.OpenedChannel.{OpenedChannel}
+use Rattle.agent_channels.specs.declared.wish.ChannelPlace.{ChannelPlace}
+use Rattle.agent_channels.specs.declared.wish.ChannelPlace.TheVariants as place
 use Rattle.agent_channels.specs.declared.wish.ChannelWish.{ChannelWish}
+use Rattle.agent_outside.specs.Ends.{places}
 use Rattle.agent_run.specs.Errors.{IsCauseError}
-use Rattle.agent_run.specs.Prepared.{error_of}
-use Rattle.agent_run.specs.Run.{IsRunRefused}
+use Rattle.agent_run.specs.NotBegun.{AreWanted, ChannelNotOpened, IsCauseStatus, IsRefusedOutside, IsRunRefused, LeavesHost, NoPlan, NotPrepared, NotSupported, OutsideNotOpened}
+use Rattle.agent_run.specs.Outside.{FailsBy, OutsideRefused}
+use Rattle.agent_run.specs.Prepared.{IsUnprepared, error_of}
+use Rattle.agent_run.proofs.Comeback.{come_back, come_states}
 
--- ---- by its status
+-- ---- which step it was
 
-by_status : (plan : Plan) (error : RunError) → 2 < status_of error → status_of error < 6 → IsRunRefused plan error
-by_status plan (errors.Plan (Unsupported line)) later below = absurd (omega (arith, later))
-by_status plan error later below = (later, below)
+pub not_prepared : (error : RunError) (a b : HostTold) → IsUnprepared error a.state b.state → b.folders ≡ a.folders → NotPrepared (status_of error) a b
+not_prepared error a b un folders = record { why = which un.why; state = un.state; folders = folders }
+  where
+    which : ((error ≡ errors.Fault) × Rose a.state.faults b.state.faults) ⊎ ((error ≡ errors.NoMemory) × (b.state.faults ≡ a.state.faults))
+        → ((status_of error ≡ 3) × Rose a.state.faults b.state.faults) ⊎ ((status_of error ≡ 5) × (b.state.faults ≡ a.state.faults))
+    which (inl fault) = inl (ap status_of fault.0, fault.1)
+    which (inr none) = inr (ap status_of none.0, none.1)
 
--- a status from 3 to 5
-later_status : (plan : Plan) (error : RunError) (n : ℕ) → status_of error ≡ n → 2 < n → n < 6 → IsRunRefused plan error
-later_status plan error n is later below = by_status plan error (omega (arith, is, later)) (omega (arith, is, below))
+-- no memory for the lists of a run that was prepared
+pub no_room : (a b : HostTold) → b.state ≡ a.state → b.folders ≡ a.folders → NotPrepared 5 a b
+no_room a b same folders =
+    let faults : b.state.faults ≡ a.state.faults = ap (λ (s : HostState). s.faults) same in
+    record { why = inr (refl, faults); state = same ∙ ap (λ (n : ℕ). record a.state { faults = n }) (sym faults); folders = folders }
 
-pub by_memory : (plan : Plan) (error : RunError) → error ≡ errors.NoMemory → IsRunRefused plan error
-by_memory plan error is = later_status plan error 5 (ap status_of is) (omega arith) (omega arith)
+pub cause_is : (kind : ChannelKind) (cause : OpenCause) (error : RunError) → IsCauseError kind cause error → IsCauseStatus cause (status_of error)
+cause_is Memory cause error is = inr (ap status_of is)
+cause_is (File folder max_file interval on_close) cause error (inl is) = inl is
+cause_is (File folder max_file interval on_close) cause error (inr none) = inr (ap status_of none)
 
-pub by_fault : (plan : Plan) (error : RunError) → (error ≡ errors.Fault) ⊎ (error ≡ errors.NoMemory) → IsRunRefused plan error
-by_fault plan error (inl is) = later_status plan error 3 (ap status_of is) (omega arith) (omega arith)
-by_fault plan error (inr is) = by_memory plan error is
+pub channel_refused : (plan : Plan) (kind : ChannelKind) (wishes at : List ChannelWish) (a a' b : HostTold) (place : ℕ) (cause : OpenCause) (error : RunError) → AreWanted plan wishes → at ≡ wishes → a' ≡ a
+    → RefusesAt at a' b place cause → IsCauseError kind cause error → ChannelNotOpened plan (status_of error) a b
+channel_refused plan kind wishes at a a' b place cause error wanted same first refused is = record {
+  wishes = wishes;
+  wanted = wanted;
+  place = place;
+  cause = cause;
+  refused = subst (λ (x : List ChannelWish × HostTold). RefusesAt x.0 x.1 b place cause) (λ i. (same i, first i)) refused;
+  is = cause_is kind cause error is;
+}
 
-pub of_name : (refused : NameRefused) (error : RunError) → error ≡ error_of refused → (error ≡ errors.Fault) ⊎ (error ≡ errors.NoMemory)
-of_name Failed error is = inl is
-of_name NoMemory error is = inr is
+pub outside_refused : {A B : Type 0} (plan : Plan) (at : List ℕ) (wishes : List ChannelWish) (cs : List (OpenedChannel A B)) (error : RunError) (a m b : HostTold) → AreWanted plan wishes
+    → at ≡ places 0 plan.sources.items → AreOpened wishes cs a m → IsRefusedOutside plan at wishes cs error m b → OutsideNotOpened plan (status_of error) a b
+outside_refused plan at wishes cs error a m b wanted same opened r = record {
+  wishes = wishes;
+  wanted = wanted;
+  open_then = m;
+  left = r.left;
+  why = r.why;
+  refused = subst (λ (l : List ℕ). OutsideRefused plan l r.why m r.left) same r.refused;
+  channels = come_back wishes cs a m r.left b opened r.back;
+  is = ap status_of r.said;
+}
+
+-- the channel that was refused is one of those that were wanted
+pub refused_there : (wishes : List ChannelWish) (a b : HostTold) (place many : ℕ) (cause : OpenCause) → RefusesAt wishes a b place cause → length wishes ≡ many → place < many
+refused_there wishes a b place many cause refuses as_many =
+    let whole = ap length refuses.split ∙ length-append refuses.front (refuses.wish ∷ refuses.rest) in
+    omega (arith, whole, refuses.at, as_many)
+
+-- an error has what follows of what it has
+pub if_err : {T E : Type 0} (r : Result T E) (P Q : E → Type 0) → ((e : E) → P e → Q e) → IfErr r P → IfErr r Q
+if_err (Ok t) P Q step p = tt
+if_err (Err e) P Q step p = step e p
+
+pub answers_supported : {T : Type 0} (plan : Plan) (result : Result T RunError) → unsupported plan ≡ None → OnOk result (unsupported plan ≡ None)
+answers_supported plan (Ok ends) none = none
+answers_supported plan (Err error) none = tt
+
+-- ---- what a refusal leaves of the host itself
+
+-- its count of faults alone may have changed
+host_counted : (status : ℕ) (old new : HostState) → 2 ≤ status → status < 6 → new ≡ record old { faults = new.faults } → (status ≡ 3 → Rose old.faults new.faults)
+    → ((status ≡ 2) ⊎ (status ≡ 4) → new.faults ≡ old.faults) → LeavesHost status old new
+host_counted status old new from below state fault clean =
+    let listeners : new.listeners ≡ old.listeners = ap (λ (s : HostState). s.listeners) state in
+    let disks : new.disk_faults ≡ old.disk_faults = ap (λ (s : HostState). s.disk_faults) state in
+    record {
+      from = from;
+      below = below;
+      rest = state ∙ (λ i. record old { listeners = sym listeners i; faults = new.faults; disk_faults = sym disks i });
+      fault = λ three. inl (fault three);
+      well = λ which. state ∙ ap (λ (n : ℕ). record old { faults = n }) (clean which);
+    }
+
+not_two_or_four : (status : ℕ) → (status ≡ 3) ⊎ (status ≡ 5) → (status ≡ 2) ⊎ (status ≡ 4) → ⊥
+not_two_or_four status (inl three) (inl two) = absurd (omega (arith, three, two))
+not_two_or_four status (inl three) (inr four) = absurd (omega (arith, three, four))
+not_two_or_four status (inr five) (inl two) = absurd (omega (arith, five, two))
+not_two_or_four status (inr five) (inr four) = absurd (omega (arith, five, four))
+
+pub plan_host : (file : Option (List ℕ)) (agent : List ℕ) (status : ℕ) (a b : HostTold) → NoPlan file agent status a b → LeavesHost status a.state b.state
+plan_host file agent status a b none =
+    let n = none.why.state.0 in
+    let faults : b.state.faults ≡ n = ap (λ (s : HostState). s.faults) none.why.state.1 in
+    host_counted status a.state b.state (from none.why.which) (below none.why.which) (none.why.state.1 ∙ ap (λ (m : ℕ). record a.state { faults = m }) (sym faults)) none.why.stopped (clean none.why.which)
+  where
+    from : (status ≡ 2) ⊎ (status ≡ 3) ⊎ (status ≡ 5) → 2 ≤ status
+    from (inl is) = omega (arith, is)
+    from (inr (inl is)) = omega (arith, is)
+    from (inr (inr is)) = omega (arith, is)
+
+    below : (status ≡ 2) ⊎ (status ≡ 3) ⊎ (status ≡ 5) → status < 6
+    below (inl is) = omega (arith, is)
+    below (inr (inl is)) = omega (arith, is)
+    below (inr (inr is)) = omega (arith, is)
+
+    clean : (status ≡ 2) ⊎ (status ≡ 3) ⊎ (status ≡ 5) → (status ≡ 2) ⊎ (status ≡ 4) → b.state.faults ≡ a.state.faults
+    clean which (inl two) = none.why.well (inl two)
+    clean (inl two) (inr four) = absurd (omega (arith, two, four))
+    clean (inr (inl three)) (inr four) = absurd (omega (arith, three, four))
+    clean (inr (inr five)) (inr four) = none.why.well (inr five)
+
+supported_host : (plan : Plan) (status : ℕ) (a b : HostTold) → NotSupported plan status a b → LeavesHost status a.state b.state
+supported_host plan status a b not =
+    let two = not.is in
+    let faults : b.state.faults ≡ a.state.faults = ap (λ (h : HostTold). h.state.faults) not.same in
+    host_counted status a.state b.state (omega (arith, two)) (omega (arith, two)) (ap (λ (h : HostTold). h.state) not.same ∙ ap (λ (n : ℕ). record a.state { faults = n }) (sym faults))
+    (λ three. absurd (omega (arith, two, three))) (λ which. faults)
+
+prepared_host : (status : ℕ) (a b : HostTold) → NotPrepared status a b → LeavesHost status a.state b.state
+prepared_host status a b not = here not.why
+  where
+    here : ((status ≡ 3) × Rose a.state.faults b.state.faults) ⊎ ((status ≡ 5) × (b.state.faults ≡ a.state.faults)) → LeavesHost status a.state b.state
+    here (inl why) =
+        let three = why.0 in
+        host_counted status a.state b.state (omega (arith, three)) (omega (arith, three)) not.state (λ is. why.1) (λ which. absurd (not_two_or_four status (inl three) which))
+    here (inr why) =
+        let five = why.0 in
+        host_counted status a.state b.state (omega (arith, five)) (omega (arith, five)) not.state (λ three. absurd (omega (arith, five, three))) (λ which. why.1)
 
 -- ---- by a channel
 
-cause_later : (cause : OpenCause) → 2 < cause_status cause
-cause_later causes.DiskFault = omega arith
-cause_later (causes.BadCheck file at) = omega arith
-cause_later (causes.BadLog file at) = omega arith
-cause_later (causes.OverCapacity count) = omega arith
-cause_later (causes.Spent counter) = omega arith
-cause_later causes.NoMemory = omega arith
+cause_from : (cause : OpenCause) → 2 ≤ cause_status cause
+cause_from causes.DiskFault = omega arith
+cause_from (causes.BadCheck file at) = omega arith
+cause_from (causes.BadLog file at) = omega arith
+cause_from (causes.OverCapacity count) = omega arith
+cause_from (causes.Spent counter) = omega arith
+cause_from causes.NoMemory = omega arith
 
 cause_below : (cause : OpenCause) → cause_status cause < 6
 cause_below causes.DiskFault = omega arith
@@ -60,24 +170,183 @@ cause_below (causes.OverCapacity count) = omega arith
 cause_below (causes.Spent counter) = omega arith
 cause_below causes.NoMemory = omega arith
 
-pub by_cause : (plan : Plan) (kind : ChannelKind) (cause : OpenCause) (error : RunError) → IsCauseError kind cause error → IsRunRefused plan error
-by_cause plan Memory cause error is = by_memory plan error is
-by_cause plan (File folder max_file interval on_close) cause error (inl is) = later_status plan error (cause_status cause) is (cause_later cause) (cause_below cause)
-by_cause plan (File folder max_file interval on_close) cause error (inr none) = by_memory plan error none
+by_fault : (cause : OpenCause) → cause_status cause ≡ 3 → cause ≡ causes.DiskFault
+by_fault causes.DiskFault is = refl
+by_fault (causes.BadCheck file at) is = absurd (omega (arith, is))
+by_fault (causes.BadLog file at) is = absurd (omega (arith, is))
+by_fault (causes.OverCapacity count) is = absurd (omega (arith, is))
+by_fault (causes.Spent counter) is = absurd (omega (arith, is))
+by_fault causes.NoMemory is = absurd (omega (arith, is))
 
--- the channel that was refused is one of those that were wanted
-pub refused_there : (wishes : List ChannelWish) (a b : HostTold) (place many : ℕ) (cause : OpenCause) → RefusesAt wishes a b place cause → length wishes ≡ many → place < many
-refused_there wishes a b place many cause refuses as_many =
-    let whole = ap length refuses.split ∙ length-append refuses.front (refuses.wish ∷ refuses.rest) in
-    omega (arith, whole, refuses.at, as_many)
+pub by_folder : (cause : OpenCause) → cause_status cause ≡ 4 → IsOfFolder cause
+by_folder causes.DiskFault is = absurd (omega (arith, is))
+by_folder (causes.BadCheck file at) is = tt
+by_folder (causes.BadLog file at) is = tt
+by_folder (causes.OverCapacity count) is = tt
+by_folder (causes.Spent counter) is = tt
+by_folder causes.NoMemory is = absurd (omega (arith, is))
 
--- ---- a run that began, or was refused outside
+never_two : (cause : OpenCause) → cause_status cause ≡ 2 → ⊥
+never_two causes.DiskFault is = absurd (omega (arith, is))
+never_two (causes.BadCheck file at) is = absurd (omega (arith, is))
+never_two (causes.BadLog file at) is = absurd (omega (arith, is))
+never_two (causes.OverCapacity count) is = absurd (omega (arith, is))
+never_two (causes.Spent counter) is = absurd (omega (arith, is))
+never_two causes.NoMemory is = absurd (omega (arith, is))
 
-pub answers_refused : {T : Type 0} (plan : Plan) (result : Result T RunError) → IfErr result (λ (error : RunError). (error ≡ errors.Fault) ⊎ (error ≡ errors.NoMemory))
-    → IfErr result (IsRunRefused plan)
-answers_refused plan (Ok ends) refused = tt
-answers_refused plan (Err error) refused = by_fault plan error refused
+pub cause_which : (cause : OpenCause) (status : ℕ) → IsCauseStatus cause status → (status ≡ 3) ⊎ (status ≡ 4) ⊎ (status ≡ 5)
+cause_which cause status (inr five) = inr (inr five)
+cause_which causes.DiskFault status (inl is) = inl is
+cause_which (causes.BadCheck file at) status (inl is) = inr (inl is)
+cause_which (causes.BadLog file at) status (inl is) = inr (inl is)
+cause_which (causes.OverCapacity count) status (inl is) = inr (inl is)
+cause_which (causes.Spent counter) status (inl is) = inr (inl is)
+cause_which causes.NoMemory status (inl is) = inr (inr is)
 
-pub answers_supported : {T : Type 0} (plan : Plan) (result : Result T RunError) → unsupported plan ≡ None → OnOk result (unsupported plan ≡ None)
-answers_supported plan (Ok ends) none = none
-answers_supported plan (Err error) none = tt
+-- a fault of the disk is no want of memory, and neither is what a folder holds
+not_both : (cause : OpenCause) → cause ≡ causes.DiskFault → cause ≡ causes.NoMemory → ⊥
+not_both cause fault none = let e : 3 ≡ 5 = sym (ap cause_status fault) ∙ ap cause_status none in absurd (omega (arith, e))
+
+pub no_folder : (cause : OpenCause) → IsOfFolder cause → (cause ≡ causes.DiskFault) ⊎ (cause ≡ causes.NoMemory) → ⊥
+no_folder cause of (inl fault) = subst IsOfFolder fault of
+no_folder cause of (inr none) = subst IsOfFolder none of
+
+-- What a refusal for this cause leaves of the host.
+record CauseLeaves (cause : OpenCause) (old new : HostState) : Type 0 where
+  rest : new ≡ record old { faults = new.faults; disk_faults = new.disk_faults }
+  fault : cause ≡ causes.DiskFault → Rose old.faults new.faults ⊎ Rose old.disk_faults new.disk_faults
+  well : IsOfFolder cause → new ≡ old
+
+none_leaves : (a b : HostTold) (cause : OpenCause) → HandsNone a b cause → CauseLeaves cause a.state b.state
+none_leaves a b cause none =
+    let disks : b.state.disk_faults ≡ a.state.disk_faults = ap (λ (s : HostState). s.disk_faults) none.state in
+    record {
+      rest = none.state ∙ (λ i. record a.state { faults = b.state.faults; disk_faults = sym disks i });
+      fault = λ is. inl (fault is none.why);
+      well = λ of. absurd (no_folder cause of (which none.why));
+    }
+  where
+    fault : cause ≡ causes.DiskFault → ((cause ≡ causes.DiskFault) × Rose a.state.faults b.state.faults) ⊎ (cause ≡ causes.NoMemory) → Rose a.state.faults b.state.faults
+    fault is (inl why) = why.1
+    fault is (inr lack) = absurd (not_both cause is lack)
+
+    which : ((cause ≡ causes.DiskFault) × Rose a.state.faults b.state.faults) ⊎ (cause ≡ causes.NoMemory) → (cause ≡ causes.DiskFault) ⊎ (cause ≡ causes.NoMemory)
+    which (inl why) = inl why.0
+    which (inr lack) = inr lack
+
+back_leaves : (path : List ℕ) (capacity : ℕ) (a b : HostTold) (cause : OpenCause) → GivesBack path capacity a b cause → CauseLeaves cause a.state b.state
+back_leaves path capacity a b cause back =
+    let faults : b.state.faults ≡ a.state.faults = ap (λ (s : HostState). s.faults) back.state in
+    record {
+      rest = back.state ∙ (λ i. record a.state { faults = sym faults i; disk_faults = b.state.disk_faults });
+      fault = λ is. inr (back.counts.raised (raised is));
+      well = λ of. back.state ∙ ap (λ (n : ℕ). record a.state { disk_faults = n }) (back.counts.clean (clean of));
+    }
+  where
+    raised : cause ≡ causes.DiskFault → 1 ≤ back.faults
+    raised is = elim back.folder [
+      | inl refused ↦ let rose = refused.refused.fault is in omega (arith, rose)
+      | inr closed ↦ absurd (not_both cause is closed.0)
+    ]
+
+    clean : IsOfFolder cause → back.faults ≡ 0
+    clean of = elim back.folder [
+      | inl refused ↦ refused.refused.well (λ is. no_folder cause of (inl is))
+      | inr closed ↦ absurd (no_folder cause of (inr closed.0))
+    ]
+
+cause_leaves : (at : ChannelPlace) (capacity : ℕ) (a b : HostTold) (cause : OpenCause) → Refuses at capacity a b cause → CauseLeaves cause a.state b.state
+cause_leaves place.Memory capacity a b cause refuses =
+    let same : b.state ≡ a.state = ap (λ (h : HostTold). h.state) refuses.1 in
+    record {
+      rest = same ∙ (λ i. record a.state { faults = sym (ap (λ (s : HostState). s.faults) same) i; disk_faults = sym (ap (λ (s : HostState). s.disk_faults) same) i });
+      fault = λ is. absurd (not_both cause is refuses.0);
+      well = λ of. same;
+    }
+cause_leaves (place.Folder path) capacity a b cause (inl none) = none_leaves a b cause none
+cause_leaves (place.Folder path) capacity a b cause (inr back) = back_leaves _ capacity a b cause back
+
+by_cause : (cause : OpenCause) (status : ℕ) (old new : HostState) → IsCauseStatus cause status → CauseLeaves cause old new → LeavesHost status old new
+by_cause cause status old new is leaves =
+    let listeners : new.listeners ≡ old.listeners = ap (λ (s : HostState). s.listeners) leaves.rest in
+    record {
+      from = from is;
+      below = below is;
+      rest = leaves.rest ∙ (λ i. record old { listeners = sym listeners i; faults = new.faults; disk_faults = new.disk_faults });
+      fault = λ three. leaves.fault (fault three is);
+      well = λ which. leaves.well (folder which is);
+    }
+  where
+    from : IsCauseStatus cause status → 2 ≤ status
+    from (inl is) = let low = cause_from cause in omega (arith, is, low)
+    from (inr five) = omega (arith, five)
+
+    below : IsCauseStatus cause status → status < 6
+    below (inl is) = let high = cause_below cause in omega (arith, is, high)
+    below (inr five) = omega (arith, five)
+
+    fault : status ≡ 3 → IsCauseStatus cause status → cause ≡ causes.DiskFault
+    fault three (inl is) = by_fault cause (sym is ∙ three)
+    fault three (inr five) = absurd (omega (arith, three, five))
+
+    folder : (status ≡ 2) ⊎ (status ≡ 4) → IsCauseStatus cause status → IsOfFolder cause
+    folder (inl two) (inl is) = absurd (never_two cause (sym is ∙ two))
+    folder (inl two) (inr five) = absurd (omega (arith, two, five))
+    folder (inr four) (inl is) = by_folder cause (sym is ∙ four)
+    folder (inr four) (inr five) = absurd (omega (arith, four, five))
+
+channel_host : (plan : Plan) (status : ℕ) (a b : HostTold) → ChannelNotOpened plan status a b → LeavesHost status a.state b.state
+channel_host plan status a b not =
+    let r = not.refused in
+    let come = come_states r.front a r.come r.left b r.others in
+    subst (λ (x : HostState × HostState). LeavesHost status x.0 x.1) (λ i. (come.0 i, sym come.1 i))
+    (by_cause not.cause status r.come.state r.left.state not.is (cause_leaves r.wish.place r.wish.limits.capacity r.come r.left not.cause r.why))
+
+-- ---- by what is outside the channels
+
+pub outside_status : (why : NameRefused) (status : ℕ) → status ≡ status_of (error_of why) → (status ≡ 3) ⊎ (status ≡ 5)
+outside_status Failed status is = inl is
+outside_status NoMemory status is = inr is
+
+outside_fault : (why : NameRefused) (status before now : ℕ) → status ≡ status_of (error_of why) → FailsBy why before now → status ≡ 3 → Rose before now
+outside_fault Failed status before now is fails three = fails
+outside_fault NoMemory status before now is fails three = absurd (omega (arith, is, three))
+
+outside_leaves : (why : NameRefused) (status : ℕ) (old new : HostState) → status ≡ status_of (error_of why) → new ≡ record old { listeners = new.listeners; faults = new.faults }
+    → FailsBy why old.faults new.faults → LeavesHost status old new
+outside_leaves why status old new is state fails =
+    let disks : new.disk_faults ≡ old.disk_faults = ap (λ (s : HostState). s.disk_faults) state in
+    let which = outside_status why status is in
+    record {
+      from = from which;
+      below = below which;
+      rest = state ∙ (λ i. record old { listeners = new.listeners; faults = new.faults; disk_faults = sym disks i });
+      fault = λ three. inl (outside_fault why status old.faults new.faults is fails three);
+      well = λ else. absurd (not_two_or_four status which else);
+    }
+  where
+    from : (status ≡ 3) ⊎ (status ≡ 5) → 2 ≤ status
+    from (inl three) = omega (arith, three)
+    from (inr five) = omega (arith, five)
+
+    below : (status ≡ 3) ⊎ (status ≡ 5) → status < 6
+    below (inl three) = omega (arith, three)
+    below (inr five) = omega (arith, five)
+
+outside_host : (plan : Plan) (status : ℕ) (a b : HostTold) → OutsideNotOpened plan status a b → LeavesHost status a.state b.state
+outside_host plan status a b not =
+    let come = come_states not.wishes a not.open_then not.left b not.channels in
+    subst (λ (x : HostState × HostState). LeavesHost status x.0 x.1) (λ i. (come.0 i, sym come.1 i))
+    (outside_leaves not.why status not.open_then.state not.left.state not.is not.refused.state not.refused.faults)
+
+-- ---- by any of them
+
+pub refused_host : (plan : Plan) (status : ℕ) (a b : HostTold) → IsRunRefused plan status a b → LeavesHost status a.state b.state
+refused_host plan status a b (inl not) = supported_host plan status a b not
+refused_host plan status a b (inr why) = elim why.1 [
+  | inl not ↦ prepared_host status a b not
+  | inr more ↦ elim more [
+    | inl not ↦ channel_host plan status a b not
+    | inr not ↦ outside_host plan status a b not
+  ]
+]

@@ -44,23 +44,14 @@ use Rattle.agent_run.specs.declared.outside.Outside.{Outside}
 use Rattle.agent_run.specs.declared.prepare.Prepared.{Prepared}
 use Rattle.agent_run.specs.declared.settle.Settled.{Settled}
 use Rattle.agent_run.specs.declared.streams.StreamsEnded.{StreamsEnded}
+use Rattle.agent_run.proofs.Comeback.{opened_state}
 use Rattle.agent_run.proofs.Course.{there}
 use Rattle.agent_run.proofs.Fresh.{are_fresh, fresh_at, fresh_many}
 use Rattle.agent_run.proofs.Owners.{all_split, sink_owners}
 use Rattle.agent_run.proofs.Tidying.{lines_tidy, listens_tidy, owned_both}
 use Rattle.agent_run.proofs.Unstaged.{sinks_tidy, staged_none}
 
--- ---- the host's streams and its rolled files stay while channels are opened
-
-takes_no_stream : (place : ChannelPlace) (a b : HostTold) → TakesDisk place a b → b.state ≡ a.state
-takes_no_stream Memory a b takes = ap (λ (h : HostTold). h.state) takes
-takes_no_stream (Folder path) a b takes = takes.state
-
-pub opened_state : {A B : Type 0} (wishes : List ChannelWish) (cs : List (OpenedChannel A B)) (a b : HostTold) → AreOpened wishes cs a b → b.state ≡ a.state
-opened_state [] [] a b are = ap (λ (h : HostTold). h.state) are
-opened_state [] (c ∷ cs) a b are = absurd are
-opened_state (wish ∷ wishes) [] a b are = absurd are
-opened_state (wish ∷ wishes) (c ∷ cs) a b are = opened_state wishes cs are.0 b are.2 ∙ takes_no_stream wish.place a are.0 are.1.takes
+-- ---- rolled files stay while channels are opened
 
 takes_no_roll : (place : ChannelPlace) (a b : HostTold) → TakesDisk place a b → b.folders.rolls ≡ a.folders.rolls
 takes_no_roll Memory a b takes = ap (λ (h : HostTold). h.folders.rolls) takes

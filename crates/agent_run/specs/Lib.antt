@@ -21,6 +21,7 @@ pub mod Assembled
 pub mod Opening
 pub mod Run
 pub mod Named
+pub mod NotBegun
 pub mod Through
 pub mod Finals
 pub mod FoldersTold

@@ -1,19 +1,21 @@
 -- What a run opens outside its channels.
-use Rattle.std.specs.Prelude.{◌≡◌, ◌≤◌, ℕ, List, length, map, Option}
+use Rattle.std.specs.Prelude.{◌≡◌, ◌≤◌, ℕ, List, length, map, take, Option}
 use Rattle.flume_host.specs.Causes.{Rose}
 use Rattle.flume_host.specs.HandedOut.{HandedOut}
 use Rattle.flume_host.specs.HostState.{Folders, HostState}
 use Rattle.flume_host.specs.Listens.{Endpoint, IsFrom, LinksTold}
 use Rattle.flume_host.specs.Rolled.{Rolled}
+use Rattle.flume_host.specs.Told.{Tells}
 use Rattle.flume_host.specs.declared.names.NameRefused.{NameRefused}
 use Rattle.flume_host.specs.declared.names.NameRefused.TheVariants.{Failed, NoMemory}
 use Rattle.flume_config.specs.declared.plan.Plan.{Plan}
 use Rattle.flume_config.specs.declared.plan.SourcePlan.{SourcePlan}
 use Rattle.agent_sinks.specs.declared.sink.AgentSink.{AgentSink}
 use Rattle.agent_channels.specs.Openings.{HostTold}
+use Rattle.agent_outside.specs.Backs.{Reopened}
 use Rattle.agent_outside.specs.Ends.{ListenersBack, come_back, end_at}
-use Rattle.agent_outside.specs.Listening.{ListenersOpened}
-use Rattle.agent_outside.specs.Sinks.{SinksOpened}
+use Rattle.agent_outside.specs.Listening.{CameUnused, ListenersOpened}
+use Rattle.agent_outside.specs.Sinks.{SinksOpened, folders_of}
 use Rattle.agent_outside.specs.declared.listener.SourceListener.{SourceListener}
 use Rattle.run_tracks.specs.Places.{Zips}
 
@@ -45,6 +47,16 @@ pub record IsOutside {R A B N : Type 0} (rolled : R → Option Rolled) (faults :
   pub named : List (SourceListener N)
   pub with_places : WithPlaces places bare named
   pub opened : ListenersOpened Fresh plan.sources.items places a.state b.state named
+
+-- A folder of a sink or a listener was refused, or memory ran out. The folders of the first sinks and listeners at the first of these places
+-- came back unused, and nothing else changed but the count of faults.
+pub record OutsideRefused (plan : Plan) (places : List ℕ) (refused : NameRefused) (a b : HostTold) : Type 0 where
+  pub sinks : ℕ
+  pub folders : Reopened (folders_of (take sinks plan.sinks.items)) a.folders b.folders
+  pub listeners : ℕ
+  pub told : Tells a.state.listeners b.state.listeners (CameUnused (map (end_at plan.sources.items) (take listeners places)))
+  pub state : b.state ≡ record a.state { listeners = b.state.listeners; faults = b.state.faults }
+  pub faults : FailsBy refused a.state.faults b.state.faults
 
 -- These listeners came back, of the sources at these places.
 pub record AreBack {N : Type 0} (told : N → Option LinksTold) (waits faults : N → ℕ) (sources : List SourcePlan) (places : List ℕ)

@@ -59,7 +59,7 @@ pub record IsDrafted {K C : Type 0} (name address : Option (List ℕ)) (plan : P
   pub listeners : AreDrafts listeners_of plan.sources.items names (map (λ (seat : Seat K C). seat.draft) p.listeners.items)
   pub lines : AreDrafts inputs_of plan.sources.items names (map (λ (seat : Seat K C). seat.draft) p.lines.items)
 
--- Why a run could not be prepared: a fault outside that was counted, or want of memory. Nothing but the count of faults changed.
+-- Why a run could not be prepared: a fault outside that was counted, or out of memory. Nothing but the count of faults changed.
 pub record IsUnprepared (error : RunError) (old new : HostState) : Type 0 where
-  pub why : ((error ≡ errors.Fault) × Rose old.faults new.faults) ⊎ (error ≡ errors.NoMemory)
+  pub why : ((error ≡ errors.Fault) × Rose old.faults new.faults) ⊎ ((error ≡ errors.NoMemory) × (new.faults ≡ old.faults))
   pub state : new ≡ record old { faults = new.faults }

@@ -1,18 +1,12 @@
 -- A run of an agent, by what its plan asks for.
-use Rattle.std.specs.Prelude.{◌≡◌, ◌<◌, ℕ, Bool, List, All, map, Option, Some, Result}
+use Rattle.std.specs.Prelude.{◌≡◌, ℕ, Bool, List, All, map, Option, Result}
 use Rattle.flume_host.specs.HandedOut.{HandedOut}
 use Rattle.flume_host.specs.Listens.{Endpoint}
 use Rattle.flume_host.specs.Rolled.{Rolled}
 use Rattle.flume_host.specs.Told.{Told}
-use Rattle.flume_config.specs.declared.plan.Plan.{Plan}
 use Rattle.flume_config.specs.declared.plan.SinkPlan.{SinkPlan}
 use Rattle.flume_config.specs.declared.plan.SourcePlan.{SourcePlan}
-use Rattle.plan_refused.specs.declared.refused.PlanRefused.TheVariants.{Unsupported}
-use Rattle.plan_support.specs.Least.{unsupported}
 use Rattle.agent_words.specs.Report.{report_text}
-use Rattle.agent_words.specs.Statuses.{status_of}
-use Rattle.agent_words.specs.declared.error.RunError.{RunError}
-use Rattle.agent_words.specs.declared.error.RunError.TheVariants as errors
 use Rattle.agent_end.specs.declared.ends.ReportRefused.{ReportRefused}
 use Rattle.agent_sinks.specs.declared.sink.AgentSink.{AgentSink}
 use Rattle.agent_outside.specs.Backs.{RollsBack}
@@ -36,12 +30,6 @@ pub record CanListenAt {N : Type 0} (endpoint : N → Option Endpoint) (sources 
   pub listen : All (ListensAt sources) places
   pub from : AreFrom endpoint sources places listeners
   pub out : AreOut (map (end_at sources) places) all
-
--- Why a run of a plan did not begin: a component is not supported, or a channel, a folder, a listener or a name was refused, with one of
--- the statuses 3 to 5.
-abbrev pub IsRunRefused : Plan → RunError → Type 0
-IsRunRefused plan (errors.Plan (Unsupported line)) = unsupported plan ≡ Some line
-IsRunRefused plan error = (2 < status_of error) × (status_of error < 6)
 
 -- Unless a closed channel is broken, whatever a stop now leaves of its folder opens to just what is settled.
 abbrev pub IsAtRest : {D B : Type 0} → (D → Option Told) → EitherClosed (D × FileState) B → Type 0

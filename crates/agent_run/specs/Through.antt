@@ -1,5 +1,5 @@
 -- A run of what was opened, to its end.
-use Rattle.std.specs.Prelude.{◌≡◌, ◌⊎◌, ◌<◌, ◌≤◌, ℕ, Bool, List, [], All, map, Option, Result, String, length}
+use Rattle.std.specs.Prelude.{◌≡◌, ◌⊎◌, ℕ, Bool, List, All, map, Option, Result, String, length}
 use Rattle.std.specs.declared.alloc.Global.{Global}
 use Rattle.agent_channels.specs.Openings.{HostTold}
 use Rattle.agent_channels.specs.Several.{AreOpened}
@@ -25,6 +25,7 @@ use Rattle.agent_run.specs.Draining.{IsSinkHome}
 use Rattle.agent_run.specs.Joined.{IsButStreams}
 use Rattle.agent_run.specs.Labels.{label_of}
 use Rattle.agent_run.specs.Lists.{NamesOf}
+use Rattle.agent_run.specs.NotBegun.{DidNotBegin, NotBegun}
 use Rattle.agent_run.specs.Opening.{IsManned}
 use Rattle.agent_run.specs.Prepared.{IsPrepared}
 use Rattle.agent_run.specs.Streams.{IsButTaken}
@@ -101,15 +102,9 @@ pub record CameTo (Ran : Plan → RunEnds → List ChannelEnd → HostTold → H
   pub by_ends : run_status ends ≡ status
   pub ran : Ran plan ends channels a b
 
--- The run did not begin: the status is one of 2 to 5, and no channel comes back.
-pub record DidNotBegin (status : ℕ) (channels : List ChannelEnd) : Type 0 where
-  pub from : 2 ≤ status
-  pub below : status < 6
-  pub none : channels ≡ []
-
 -- A run of the plan came to this status and these channels, or did not begin.
 abbrev pub EndsAs : (Plan → RunEnds → List ChannelEnd → HostTold → HostTold → Type 0) → Plan → ℕ → List ChannelEnd → HostTold → HostTold → Type 0
-EndsAs Ran plan status channels a b = CameTo Ran plan status channels a b ⊎ DidNotBegin status channels
+EndsAs Ran plan status channels a b = CameTo Ran plan status channels a b ⊎ NotBegun plan status channels a b
 
 -- A run of the agent's plan in this file came to this status and these channels.
 pub record AgentRan (Ran : Plan → RunEnds → List ChannelEnd → HostTold → HostTold → Type 0) (file : Option (List ℕ)) (agent : List ℕ) (status : ℕ)
@@ -120,4 +115,4 @@ pub record AgentRan (Ran : Plan → RunEnds → List ChannelEnd → HostTold →
 
 -- It did, or the run did not begin.
 abbrev pub AgentEndsAs : (Plan → RunEnds → List ChannelEnd → HostTold → HostTold → Type 0) → Option (List ℕ) → List ℕ → ℕ → List ChannelEnd → HostTold → HostTold → Type 0
-AgentEndsAs Ran file agent status channels a b = AgentRan Ran file agent status channels a b ⊎ DidNotBegin status channels
+AgentEndsAs Ran file agent status channels a b = AgentRan Ran file agent status channels a b ⊎ DidNotBegin file agent status channels a b

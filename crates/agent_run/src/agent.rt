@@ -1,5 +1,5 @@
 // The run of an agent.
-ghost use Rattle.std.specs.Prelude.{◌≡◌, ◌⊎◌, ◌+◌, ◌++◌, ◌≤◌, [], All, IfErr, IfOk, None, OnOk, Some, length, map};
+ghost use Rattle.std.specs.Prelude.{◌≡◌, ◌+◌, ◌++◌, ◌≤◌, [], All, IfErr, IfOk, None, OnOk, Some, length, map};
 ghost use Rattle.two_channels.specs.Shares.{pass_of};
 ghost use Rattle.std.specs.Vec.{vec_capacity};
 ghost use Rattle.agent_channels.specs.Closings.{AreOfWishes, AreOut};
@@ -7,7 +7,6 @@ ghost use Rattle.agent_channels.specs.Several.{WereOpened};
 ghost use Rattle.agent_end.specs.Statuses.{run_status};
 ghost use Rattle.agent_outside.specs.Sinks.{AreOpened, IsPlain};
 ghost use Rattle.agent_words.specs.Statuses.{status_of};
-ghost use Rattle.agent_words.specs.declared.error.RunError.TheVariants as errors;
 ghost use Rattle.plan_support.specs.Least.{HasNoPlugin, unsupported};
 ghost use Rattle.agent_run.specs.Lists.{HasRoomFor, HasSettleRoom};
 ghost use Rattle.agent_run.specs.Opening.{CanBeManned};
@@ -15,7 +14,8 @@ ghost use Rattle.agent_run.specs.Named.{AgentEnds, PlanEnds};
 ghost use Rattle.agent_run.specs.Prepared.{IsPlanned, IsPrepared};
 ghost use Rattle.agent_outside.specs.Listening.{IsFresh};
 ghost use Rattle.agent_run.specs.Outside.{IsOutside};
-ghost use Rattle.agent_run.specs.Run.{CanListenAt, IsGivenBack, IsRunRefused};
+ghost use Rattle.agent_run.specs.NotBegun.{IsRefusedOutside, IsRunRefused};
+ghost use Rattle.agent_run.specs.Run.{CanListenAt, IsGivenBack};
 ghost use Rattle.agent_run.specs.Through.{AgentEndsAs, EndsAs, OpenedAndRan};
 ghost use Rattle.agent_run.specs.Errors.{IsBrokenCause, IsBrokenError, IsCauseError, IsRunStatus, IsSaid};
 
@@ -215,7 +215,10 @@ fn run_channels<'a, R: Threads + Wait + Sync + 'a, H: Host + 'a, K: Interceptor 
     requires opened { WereOpened prepared.wishes.items opened.items }
     requires out { AreOut (H.folders host.old) prepared.wishes.items }
     requires room { HasRoomFor plan.now (length prepared.listeners.items) (length prepared.lines.items) room }
-    ensures refused { IfErr result (λ error. (error ≡ errors.Fault) ⊎ (error ≡ errors.NoMemory)) }
+    ensures refused { IfErr result (λ error. IsRefusedOutside plan.now prepared.places.items
+        prepared.wishes.items opened.items error
+        (record { state = H.state host.old; folders = H.folders host.old })
+        (record { state = H.state host.new; folders = H.folders host.new })) }
     ensures ran { IfOk result (λ run. OpenedAndRan plan.now.channels.items opened.items prepared
         (λ old new outside. IsOutside H.Roll.rolled H.Roll.faults
         (IsFresh H.Listener.told H.Listener.endpoint H.Listener.waits H.Listener.faults)
@@ -254,7 +257,7 @@ fn run_channels<'a, R: Threads + Wait + Sync + 'a, H: Host + 'a, K: Interceptor 
 }
 
 /// Runs the agent of a plan to its end. It is refused where a component is not supported, and where a name was not told, or a
-/// channel, a folder or a listener was not opened; then what was opened came back.
+/// channel, a folder or a listener was not opened; then what was opened came back unused.
 pub(crate) fn run_plan<
     'a,
     R: Threads + Wait + Sync + 'a,
@@ -263,7 +266,9 @@ pub(crate) fn run_plan<
 >(rt: &'a R, alloc: Global, host: &mut H, plan: &Plan) -> Result<Ran, RunError>
     requires planned { IsPlanned plan.now }
     requires own { HasNoPlugin plan.now }
-    ensures refused { IfErr result (IsRunRefused plan.now) }
+    ensures refused { IfErr result (λ error. IsRunRefused plan.now (status_of error)
+        (record { state = H.state host.old; folders = H.folders host.old })
+        (record { state = H.state host.new; folders = H.folders host.new })) }
     ensures ran { IfOk result (λ run. ⟦<RunOf<'a, R, H, K> as Steps>⟧.steps plan.now
         run.ends run.channels.items
         (record { state = H.state host.old; folders = H.folders host.old })

@@ -5,7 +5,7 @@ ghost use Rattle.agent_outside.specs.Ends.{AreOut, ListensAt, end_at};
 ghost use Rattle.agent_outside.specs.Listening.{IsFresh};
 ghost use Rattle.agent_outside.specs.Sinks.{IsPlain};
 ghost use Rattle.agent_run.specs.Lists.{IsEmptyFor};
-ghost use Rattle.agent_run.specs.Outside.{AreBack, AreFrom, FailsBy, IsOutside, LeavesDisks, WithPlaces};
+ghost use Rattle.agent_run.specs.Outside.{AreBack, AreFrom, IsOutside, LeavesDisks, OutsideRefused, WithPlaces};
 
 use agent_outside::{
     SourceListener, give_back_listeners, give_back_sinks, open_listeners, open_sinks,
@@ -69,7 +69,7 @@ fn with_places<N: Drop>(places: &[usize], listeners: Vec<N>, named: &mut Vec<Sou
 }
 
 /// Opens the sinks of a plan, and then its listeners, of the sources at these places. At a refusal all that was opened is given
-/// back. The list has room for the listeners.
+/// back, unused; `Failed` comes only where the host has counted a fault. The list has room for the listeners.
 pub(crate) fn open_outside<H: Host>(
     alloc: Global,
     host: &mut H,
@@ -86,7 +86,9 @@ pub(crate) fn open_outside<H: Host>(
         (record { state = H.state host.old; folders = H.folders host.old })
         (record { state = H.state host.new; folders = H.folders host.new })
         outside.sinks.items outside.listeners.items) }
-    ensures refused { IfErr result (λ refused. FailsBy refused (H.state host.old).faults (H.state host.new).faults) }
+    ensures refused { IfErr result (λ refused. OutsideRefused plan.now places.now refused
+        (record { state = H.state host.old; folders = H.folders host.old })
+        (record { state = H.state host.new; folders = H.folders host.new })) }
     ensures disks { LeavesDisks (H.folders host.old) (H.folders host.new) }
 {
     let plans = plan.sinks.as_slice();

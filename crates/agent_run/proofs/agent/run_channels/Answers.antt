@@ -3,14 +3,14 @@ use Rattle.agent_outside.specs.Ends.{ListensAt}
 use Rattle.agent_outside.specs.Sinks.{AreOpened}
 use Rattle.agent_outside.proofs.Ordering.{are_opened}
 use Rattle.agent_channels.specs.Closings.{AreOut}
-use Rattle.agent_channels.specs.Several.{WereOpened}
+use Rattle.agent_channels.specs.Openings.{HostTold}
+use Rattle.agent_channels.specs.Several.{AreUnused, WereOpened}
 use Rattle.agent_channels.specs.declared.wish.ChannelWish.{ChannelWish}
-use Rattle.agent_run.specs.Outside.{WithPlaces}
+use Rattle.agent_run.specs.Outside.{OutsideRefused, WithPlaces}
 use Rattle.agent_run.specs.Run.{CanListenAt}
 use Rattle.agent_run.proofs.Answering.{outside_at}
 use Rattle.agent_run.proofs.Naming.{given_back}
 use Rattle.agent_run.proofs.Readying.{can_be_manned, still_out}
-use Rattle.agent_run.proofs.Refusing.{of_name}
 use Rattle.agent_run.proofs.agent.run_channels.Goals as goal
 
 pub run_opened-requires-clause-can : goal.run_opened-requires-clause-can
@@ -57,8 +57,18 @@ give_all_unused-requires-clause-out g c κs within =
     subst (λ (wishes : List ChannelWish). AreOut folders wishes) (sym c.as_slice-in-Err.ensures.value)
     (still_out (g.H.Host.folders c.args.host.now) folders c.args.prepared.wishes.items c.open_outside.ensures.disks c.requires.out)
 
-pub returns-in-Err : goal.returns-in-Err
-returns-in-Err g c = record { refused = of_name c.in-Err.refused c.name_error.result c.name_error.ensures; ran = tt }
+pub returns-in-Err-clause-refused : goal.returns-in-Err-clause-refused
+returns-in-Err-clause-refused g c =
+    let old : HostTold = record { state = g.H.Host.state c.args.host.now; folders = g.H.Host.folders c.args.host.now } in
+    let left : HostTold = record { state = g.H.Host.state c.open_outside.new.host; folders = g.H.Host.folders c.open_outside.new.host } in
+    let new : HostTold = record { state = g.H.Host.state c.give_all_unused.new.host; folders = g.H.Host.folders c.give_all_unused.new.host } in
+    record {
+      why = c.in-Err.refused;
+      said = c.name_error.ensures;
+      left = left;
+      refused = subst (λ (l : List ℕ). OutsideRefused c.args.plan.now l c.in-Err.refused old left) c.as_slice.ensures.value c.in-Err.ensures.refused;
+      back = subst (λ (l : List ChannelWish). AreUnused l c.args.opened.items left new) c.as_slice-in-Err.ensures.value c.give_all_unused.ensures;
+    }
 
 pub returns-in-Ok-clause-ran : goal.returns-in-Ok-clause-ran
 returns-in-Ok-clause-ran g c = record {

@@ -1,6 +1,6 @@
 use Rattle.std.proofs.Common.{inr}
 use Rattle.agent_words.specs.Statuses.{status_of}
-use Rattle.agent_run.proofs.Answering.{has_no_plugin, named, not_begun, of_plan, unplanned}
+use Rattle.agent_run.proofs.Answering.{has_no_plugin, named, not_planned, of_plan}
 use Rattle.agent_run.proofs.agent.run_named.Goals as goal
 
 pub end_plan-requires-clause-own : goal.end_plan-requires-clause-own
@@ -14,4 +14,5 @@ returns-in-Ok-clause-ran g c =
     of_plan (λ i. record { state = c.in-Ok.ensures.planned.1 i; folders = c.plan_agent.ensures.folders i }) c.in-Ok.ensures.planned.0 c.end_plan.ensures.ran
 
 pub returns-in-Err-clause-ran : goal.returns-in-Err-clause-ran
-returns-in-Err-clause-ran g c = inr (not_begun (status_of c.in-Err.error) c.refused.ensures.status (unplanned (status_of c.in-Err.error) c.in-Err.ensures.planned.which) c.refused.ensures.none)
+returns-in-Err-clause-ran g c =
+    inr (not_planned _ _ c.refused.result.status (status_of c.in-Err.error) _ _ c.refused.ensures.status c.refused.ensures.none c.in-Err.ensures.planned c.plan_agent.ensures.folders)

@@ -1,10 +1,13 @@
-use Rattle.std.proofs.Common.{rules, ◌≡◌, ◌∙◌, ◌<◌, ℕ, List, None, length, sym, ap, subst}
+use Rattle.std.proofs.Common.{rules, ◌≡◌, ◌∙◌, ◌<◌, inl, inr, ℕ, List, None, Some, length, refl, sym, ap, subst}
 use Rattle.agent_channels.specs.Openings.{HostTold}
 use Rattle.agent_channels.specs.Several.{AreOpened}
 use Rattle.agent_channels.specs.declared.wish.ChannelWish.{ChannelWish}
 use Rattle.plan_support.specs.Least.{IsSupported, unsupported}
+use Rattle.agent_words.specs.Statuses.{status_of}
+use Rattle.agent_words.specs.declared.error.RunError.{RunError}
 use Rattle.agent_run.proofs.Readying.{few_users, were_opened}
-use Rattle.agent_run.proofs.Refusing.{answers_refused, answers_supported, by_cause, refused_there}
+use Rattle.agent_run.proofs.Refusing.{answers_supported, channel_refused, if_err, outside_refused, refused_there}
+use Rattle.agent_run.specs.NotBegun.{IsRefusedOutside, IsRunRefused}
 use Rattle.agent_run.proofs.Answering.{if_ok}
 use Rattle.agent_run.specs.Prepared.{uses_of}
 use Rattle.agent_run.proofs.agent.run_plan.Goals as goal
@@ -32,7 +35,22 @@ index-requires g c =
     (ap length c.as_slice.ensures.value ∙ c.in_ok-prepared.ensures.prepared.wishes.many))
 
 pub returns-in-Ok-clause-refused : goal.returns-in-Ok-clause-refused
-returns-in-Ok-clause-refused g c = answers_refused c.args.plan.now c.run_channels.result c.run_channels.ensures.refused
+returns-in-Ok-clause-refused g c =
+    let plan = c.args.plan.now in
+    let p = c.in_ok-prepared.prepared in
+    let none : unsupported plan ≡ None = search rules in
+    let old : HostTold = record { state = g.H.Host.state c.args.host.now; folders = g.H.Host.folders c.args.host.now } in
+    let open_then : HostTold = record { state = g.H.Host.state c.open_channels.new.host; folders = g.H.Host.folders c.open_channels.new.host } in
+    let new : HostTold = record { state = g.H.Host.state c.run_channels.new.host; folders = g.H.Host.folders c.run_channels.new.host } in
+    let opened : AreOpened p.wishes.items c.in-Ok.opened.items old open_then = subst (λ (x : List ChannelWish × HostTold). AreOpened x.0 c.in-Ok.opened.items x.1 open_then)
+    (λ i. (c.as_slice.ensures.value i, record { state = c.in_ok-prepared.ensures.same i; folders = c.prepare.ensures.folders i }))
+    c.in-Ok.ensures.opened in
+    if_err c.run_channels.result (λ (error : RunError). IsRefusedOutside plan p.places.items p.wishes.items c.in-Ok.opened.items error open_then new) (λ (error : RunError). IsRunRefused plan (status_of error) old new)
+    (λ error refused. inr (
+      none,
+      inr (inr (outside_refused plan p.places.items p.wishes.items c.in-Ok.opened.items error old open_then new (_, c.in_ok-prepared.ensures.prepared.wishes) c.in_ok-prepared.ensures.prepared.places opened refused)),
+    ))
+    c.run_channels.ensures.refused
 
 pub returns-in-Ok-clause-supported : goal.returns-in-Ok-clause-supported
 returns-in-Ok-clause-supported g c =
@@ -40,7 +58,15 @@ returns-in-Ok-clause-supported g c =
     answers_supported c.args.plan.now c.run_channels.result none
 
 pub returns-in-Err-clause-refused : goal.returns-in-Err-clause-refused
-returns-in-Err-clause-refused g c = by_cause c.args.plan.now _ c.in-Err.field-0.cause c.cause_error.result c.cause_error.ensures
+returns-in-Err-clause-refused g c =
+    let plan = c.args.plan.now in
+    let p = c.in_ok-prepared.prepared in
+    let none : unsupported plan ≡ None = search rules in
+    inr (
+      none,
+      inr (inl (channel_refused plan _ p.wishes.items c.as_slice.result.now _ _ _ c.in-Err.field-0.place c.in-Err.field-0.cause c.cause_error.result (_, c.in_ok-prepared.ensures.prepared.wishes) c.as_slice.ensures.value
+      (λ i. record { state = c.in_ok-prepared.ensures.same i; folders = c.prepare.ensures.folders i }) c.in-Err.ensures.refused c.cause_error.ensures)),
+    )
 
 pub returns-in-Ok-clause-ran : goal.returns-in-Ok-clause-ran
 returns-in-Ok-clause-ran g c =
@@ -58,3 +84,8 @@ returns-in-Ok-clause-ran g c =
       ran = ran;
     })
     c.run_channels.ensures.ran
+
+pub returns-in-Some-clause-refused : goal.returns-in-Some-clause-refused
+returns-in-Some-clause-refused g c =
+    let first : unsupported c.args.plan.now ≡ Some c.in-Some.line = search rules in
+    inl (record { line = c.in-Some.line; first = first; is = refl; same = refl })
