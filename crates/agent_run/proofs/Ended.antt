@@ -79,17 +79,19 @@ module _ (saw : List Own → State → Type 0) (seen : ℕ) where
 
   pub ends_then : (earlier a b : List Own) → EachEnds saw seen earlier a → EachEnds saw seen (earlier ++ a) b → EachEnds saw seen earlier (a ++ b)
   ends_then earlier [] b p q = subst (λ (l : List Own). EachEnds saw seen l b) (append-nil earlier) q
-  ends_then earlier (o ∷ a) b p q =
-      (more_behind (ticket_of o.call) (earlier ++ o ∷ []) a b p.0,
-      ends_then (earlier ++ o ∷ []) a b p.1 (subst (λ (l : List Own). EachEnds saw seen l b) (sym (append_assoc earlier (o ∷ []) a)) q))
+  ends_then earlier (o ∷ a) b p q = (
+    more_behind (ticket_of o.call) (earlier ++ o ∷ []) a b p.0,
+    ends_then (earlier ++ o ∷ []) a b p.1 (subst (λ (l : List Own). EachEnds saw seen l b) (sym (append_assoc earlier (o ∷ []) a)) q),
+  )
 
   -- a stage that was answered with a ticket, and what followed
   staged_ends : (call : Call) (t : Ticket) (s : State) (moment : ℕ) (earlier ending : List Own) (sure : Bool) → ticket_of call ≡ Some t
       → Ends saw seen t (earlier ++ record { call = call; before = s; moment = moment } ∷ []) ending sure → EachEnds saw seen earlier (record { call = call; before = s; moment = moment } ∷ ending)
   staged_ends call t s moment earlier ending sure is ends =
-      let o : Own = record { call = call; before = s; moment = moment } in
-      (subst (λ (u : Option Ticket). EndsWith saw seen u (earlier ++ o ∷ []) ending) (sym is) (ending, [], sure, sym (append-nil ending), ends),
-      ends_plain (earlier ++ o ∷ []) ending (plain_end seen ends.0 (settled ends.0 t) ending sure ends.2))
+      let o : Own = record { call = call; before = s; moment = moment } in (
+        subst (λ (u : Option Ticket). EndsWith saw seen u (earlier ++ o ∷ []) ending) (sym is) (ending, [], sure, sym (append-nil ending), ends),
+        ends_plain (earlier ++ o ∷ []) ending (plain_end seen ends.0 (settled ends.0 t) ending sure ends.2),
+      )
 
   put_stage_ends : (token : Token) (reply : Result Ticket StageCause) (s : State) (earlier staged ending : List Own) (result : Result ℕ FaceRefused) → IsMade seen (is_spent_stage reply) (StagePut token reply) s staged
       → EndsStage saw seen token reply (earlier ++ staged) ending result → EachEnds saw seen earlier (staged ++ ending)

@@ -180,15 +180,18 @@ module _ {R P Q : Type 0} (rolled : R → Option Rolled) (sink : Told (AgentSink
         let all = rolls_all hands.done s b hands.chain in
         let t = all.0 in
         let filled = fill interval (map delivery_of hands.done) (state_of t) (rolled s.dir) (rolled t.dir)
-        (subst (λ (x : RollState). AllRoll (map delivery_of hands.done) x (state_of t) (rolled s.dir) (rolled t.dir)) fresh all.2) in
-        (t, all.1, tells_so (λ old new. (filled : List Filled) × Fills (map delivery_of hands.done) filled old.files new.files) (FilesTold own seen)
-        (λ old new is. record {
-          done = map delivery_of hands.done;
-          filled = is.0;
-          fills = is.1;
-          taken = taken_same own hands.done (hands.taken []);
-          these = λ counted. delivered_same hands.done ∙ sym (hands.commits counted []);
-        }) (rolled s.dir) (rolled t.dir) filled)
+        (subst (λ (x : RollState). AllRoll (map delivery_of hands.done) x (state_of t) (rolled s.dir) (rolled t.dir)) fresh all.2) in (
+          t,
+          all.1,
+          tells_so (λ old new. (filled : List Filled) × Fills (map delivery_of hands.done) filled old.files new.files) (FilesTold own seen)
+              (λ old new is. record {
+                done = map delivery_of hands.done;
+                filled = is.0;
+                fills = is.1;
+                taken = taken_same own hands.done (hands.taken []);
+                these = λ counted. delivered_same hands.done ∙ sym (hands.commits counted []);
+              }) (rolled s.dir) (rolled t.dir) filled,
+        )
 
 -- So is the sink of an agent that is one of rolled files, whatever the other kinds of sinks do.
 pub agent_writes : {R P Q : Type 0} (rolled : R → Option Rolled) (s : RollSink R) (batch : List Content) (moment : ℕ) (answer : Result (Unit {0}) SinkRefused) (b : AgentSink R P Q)

@@ -181,9 +181,9 @@ outside_folders plan status a b not = record {
           ∙ ap (λ (test : Bool). cond test (opened (not.open_then.folders.rolls path)) (not.open_then.folders.rolls path)) is ∙ ap opened (first path),
     )
     rolls path false not_there = inl (
-      last path ∙ not.refused.folders.rolls path
-      ∙ ap (λ (test : Bool). cond test (opened (not.open_then.folders.rolls path)) (not.open_then.folders.rolls path)) not_there ∙ first path
-    )
+        last path ∙ not.refused.folders.rolls path
+        ∙ ap (λ (test : Bool). cond test (opened (not.open_then.folders.rolls path)) (not.open_then.folders.rolls path)) not_there ∙ first path
+        )
 
 -- ---- by any of them
 

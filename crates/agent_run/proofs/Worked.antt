@@ -107,10 +107,10 @@ module _ {R A B S N I O C K : Type 0} (runs : Runs (EitherPort R A B) S N I O C 
       let are = are_fresh wishes ran.channels a ran.behind ran.opened in
       let fresh : (i : ℕ) (d : Known) → i < length firsts → IsNew (get_or firsts i d) =
       λ i d under.
-          let here : i < length ran.channels = omega (arith, under, as_many) in
-          let c = there ran.channels i here in
-          let w = there wishes i (let m = fresh_many wishes ran.channels are in omega (arith, here, m)) in
-          subst IsNew (sym (ap (λ (l : List Known). get_or l i d) homes_of ∙ get_or-map (λ (c : OpenedChannel A B). c.home) ran.channels i c d here)) (fresh_at wishes ran.channels are i w c here).home.1 in
+      let here : i < length ran.channels = omega (arith, under, as_many) in
+      let c = there ran.channels i here in
+      let w = there wishes i (let m = fresh_many wishes ran.channels are in omega (arith, here, m)) in
+      subst IsNew (sym (ap (λ (l : List Known). get_or l i d) homes_of ∙ get_or-map (λ (c : OpenedChannel A B). c.home) ran.channels i c d here)) (fresh_at wishes ran.channels are i w c here).home.1 in
       let lines = stay shares r.homes finals jobs j.returned is.new_ones told.ran full.goes_on full.silent in
       let owned = owned_both Means moments heard talk shares some finals _ _ (sinks_tidy sink moments shares finals some jobs.sinks.items r.settled.ends.items r.settled.sinks.items full.sinks)
       (owned_both Means moments heard talk shares some finals _ _ (listens_tidy Means moments heard talk shares some finals jobs.listeners.items j.returned.listeners.items full.listeners)

@@ -5,8 +5,8 @@ use crate::in_memory::{in_memory, plain};
 use crate::many::pair;
 use crate::sharing::{LIMITS, Opened, on_disk_by};
 use channel_face::{
-    BeginRefused, Channel, CommitRefused, Limits, PutRefused, PutTxn, StageRefused, TakeRefused, TakeTxn, Taken,
-    Ticket,
+    BeginRefused, Channel, CommitRefused, Limits, PutRefused, PutTxn, StageRefused, TakeRefused,
+    TakeTxn, Taken, Ticket,
 };
 use event_core::{Event, EventRefused};
 use file_channel::FileChannel;

@@ -65,7 +65,7 @@ returns-in-Err-clause-refused g c =
     inr (
       none,
       inr (inl (channel_refused plan _ p.wishes.items c.as_slice.result.now _ _ _ c.in-Err.field-0.place c.in-Err.field-0.cause c.cause_error.result (_, c.in_ok-prepared.ensures.prepared.wishes) c.as_slice.ensures.value
-      (λ i. record { state = c.in_ok-prepared.ensures.same i; folders = c.prepare.ensures.folders i }) c.in-Err.ensures.refused c.cause_error.ensures)),
+          (λ i. record { state = c.in_ok-prepared.ensures.same i; folders = c.prepare.ensures.folders i }) c.in-Err.ensures.refused c.cause_error.ensures)),
     )
 
 pub returns-in-Ok-clause-ran : goal.returns-in-Ok-clause-ran
