@@ -1,5 +1,5 @@
 -- What a run of `pipe` comes to that ends before it begins.
-use Rattle.std.proofs.Common.{◌≡◌, ℕ, List, [], None, inr, refl, sym, ap, subst, arith}
+use Rattle.std.proofs.Common.{◌≡◌, ℕ, List, [], None, inr, sym, ap, subst, arith}
 use Rattle.flume_host.specs.HostState.{Folders, HostState}
 use Rattle.flume_host.specs.Told.{Tells}
 use Rattle.agent_channels.specs.Openings.{HostTold}

@@ -55,7 +55,10 @@ pub fn run<R: Threads + Wait + Sync>(
 ) -> Result<(u8, u64), AllocError> {
     let words = owned(alloc, words)?;
     let outcome = run_agent(rt, alloc, &words, host, Plugins::new(alloc));
-    let calls = outcome.channels.iter().map(|end| end.pass.seen()).sum();
+    let mut calls: u64 = 0;
+    for end in &outcome.channels {
+        calls = calls.saturating_add(end.pass.seen());
+    }
     Ok((outcome.status, calls))
 }
 
