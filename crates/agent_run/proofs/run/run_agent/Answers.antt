@@ -20,8 +20,8 @@ returns-in-Ok-Some-Check-clause-nothing g c = λ none. absurd (none.no_check _ _
 pub returns-in-Ok-Some-Check-clause-checked : goal.returns-in-Ok-Some-Check-clause-checked
 returns-in-Ok-Some-Check-clause-checked g c = λ agent file is.
     let same = one_asked (texts c.args.words.now) (codes "check") _ _ agent file (read_some _ _ _ _ c.in-Ok-Some-Check.ensures c.in-Ok-Some-Check.field-0-is c.in-Ok-Some-Check.field-0-0-is) is in
-    let n : c.as_str-in-Ok-Some-Check.result.now ≡ agent = c.as_str-in-Ok-Some-Check.ensures.value ∙ same.0 in
-    let f : c.as_str-in-Ok-Some-Check-2.result.now ≡ file = c.as_str-in-Ok-Some-Check-2.ensures.value ∙ same.1 in
+    let n : c.as_str.result.now ≡ agent = c.as_str.ensures.value ∙ same.0 in
+    let f : c.as_str-in-Ok-Some-Check.result.now ≡ file = c.as_str-in-Ok-Some-Check.ensures.value ∙ same.1 in
     let status : c.run_check.result ≡ c.ended.result.status = sym c.ended.ensures.status in
     let C : List ℕ × (List ℕ × ℕ) → Type 0 = λ x. Checked ((g.H.Host.state c.args.host.now).files x.1.0) x.0 (g.H.Host.state c.args.host.now) (g.H.Host.state c.run_check.new.host) x.1.1 in
     subst C (λ i. (n i, (f i, status i))) c.run_check.ensures.checked
