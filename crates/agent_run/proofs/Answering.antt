@@ -1,12 +1,12 @@
 -- The statuses of a run of `agent`.
-use Rattle.std.proofs.Common.{◌≡◌, ◌⊎◌, inl, inr, ℕ, List, [], Bool, true, false, cond, Option, IfOk, Result, Ok, Err, refl, sym, subst, arith}
+use Rattle.std.proofs.Common.{◌≡◌, ◌⊎◌, inl, inr, ℕ, List, [], Bool, true, false, cond, Option, IfOk, Result, Ok, Err, refl, sym, subst, arith, None}
 use Rattle.std.specs.declared.alloc.Global.{Global}
 use Rattle.std.specs.declared.vec.Vec.{Vec}
 use Rattle.prop_text.specs.declared.fault.PropRefused.TheVariants as text
 use Rattle.flume_config.specs.declared.plan.Plan.{Plan}
 use Rattle.plan_refused.specs.declared.refused.PlanRefused.TheVariants as plan
 use Rattle.plan_support.proofs.Telling.{no_plugin}
-use Rattle.plan_support.specs.Least.{HasNoPlugin}
+use Rattle.plan_support.specs.Least.{HasNoPlugin, unsupported}
 use Rattle.agent_words.specs.Statuses.{status_of}
 use Rattle.agent_words.specs.declared.error.RunError.{RunError}
 use Rattle.agent_words.specs.declared.error.RunError.TheVariants.{Usage, FileTooLarge, Text, NoAgent, Plan as Plan', Fault, BadCheckpoint, BadLog, OverCapacity, Spent, Damaged, NoMemory, InputTooLong, LineTooLong}
@@ -156,9 +156,9 @@ not_planned {channels = channels} file agent status n a b same none why folders 
 
 -- a run that began came to the channels that are handed on
 pub came_with : {Ran : Plan → RunEnds → List ChannelEnd → HostTold → HostTold → Type 0} {p : Plan} {status : ℕ} {a b : HostTold} (ends : RunEnds) (before after : Vec ChannelEnd Global)
-    → after ≡ before → run_status ends ≡ status → Ran p ends before.items a b → EndsAs Ran p status after.items a b
-came_with {Ran = Ran} {p = p} {a = a} {b = b} ends before after same well ran =
-    inl (record { ends = ends; by_ends = well; ran = subst (λ (v : Vec ChannelEnd Global). Ran p ends v.items a b) (sym same) ran })
+    → unsupported p ≡ None → after ≡ before → run_status ends ≡ status → Ran p ends before.items a b → EndsAs Ran p status after.items a b
+came_with {Ran = Ran} {p = p} {a = a} {b = b} ends before after none same well ran =
+    inl (record { supported = none; ends = ends; by_ends = well; ran = subst (λ (v : Vec ChannelEnd Global). Ran p ends v.items a b) (sym same) ran })
 
 -- how a run of this kind ended, from the same to the same
 module _ {Ran : Plan → RunEnds → List ChannelEnd → HostTold → HostTold → Type 0} {status : ℕ} {channels : List ChannelEnd} where

@@ -1,5 +1,5 @@
 -- A run of what was opened, to its end.
-use Rattle.std.specs.Prelude.{◌≡◌, ◌⊎◌, ℕ, Bool, List, All, map, Option, Result, String, length}
+use Rattle.std.specs.Prelude.{◌≡◌, ◌⊎◌, ℕ, Bool, List, All, map, None, Option, Result, String, length}
 use Rattle.std.specs.declared.alloc.Global.{Global}
 use Rattle.agent_channels.specs.Openings.{HostTold}
 use Rattle.agent_channels.specs.Several.{AreOpened}
@@ -14,6 +14,7 @@ use Rattle.flume_config.specs.declared.plan.ChannelPlan.{ChannelPlan}
 use Rattle.flume_config.specs.declared.plan.Plan.{Plan}
 use Rattle.flume_config.specs.declared.plan.SinkPlan.{SinkPlan}
 use Rattle.flume_host.specs.HostState.{HostState}
+use Rattle.plan_support.specs.Least.{unsupported}
 use Rattle.run_tracks.specs.Homes.{EachTook}
 use Rattle.shared_channel.specs.Passes.{Known}
 use Rattle.sink_worker.specs.declared.worker.SinkWorker.{SinkWorker}
@@ -95,9 +96,10 @@ pub record PlanRan {A B S N I O C K : Type 0} (plan : Plan) (Drafted : Prepared 
   pub opened : AreOpened made.wishes.items channels a behind
   pub ran : OpenedAndRan plan.channels.items channels made (Opens made) Goes ends channel_ends behind b
 
--- A run of the plan came to ends with this status, and to these channels.
+-- A run of the plan, each component of which is supported, came to ends with this status, and to these channels.
 pub record CameTo (Ran : Plan → RunEnds → List ChannelEnd → HostTold → HostTold → Type 0) (plan : Plan) (status : ℕ) (channels : List ChannelEnd)
     (a b : HostTold) : Type 0 where
+  pub supported : unsupported plan ≡ None
   pub ends : RunEnds
   pub by_ends : run_status ends ≡ status
   pub ran : Ran plan ends channels a b

@@ -10,7 +10,7 @@ returns-in-Ok-clause-ends g c = ended c.args.plan.now c.of.result.status (run_st
 pub returns-in-Ok-clause-ran : goal.returns-in-Ok-clause-ran
 returns-in-Ok-clause-ran g c =
     let run = c.in-Ok.done in
-    came_with run.ends run.channels c.of.result.channels c.of.ensures.channels (sym c.of.ensures.status)
+    came_with run.ends run.channels c.of.result.channels c.in-Ok.ensures.supported c.of.ensures.channels (sym c.of.ensures.status)
     (c.steps_are_told.ensures c.args.plan.now run.ends run.channels.items _ _ c.requires.planned c.in-Ok.ensures.ran)
 
 pub returns-in-Err-clause-ends : goal.returns-in-Err-clause-ends
