@@ -1,10 +1,11 @@
 // `agent -n NAME -f FILE`, example by example.
 use crate::pipe::{TWO_LINES, file_of, is_said, written};
+use crate::written::one_file;
 use agent_run::run_agent;
-use flume_host::FileName;
+use flume_host::{FileName, Host};
 use host_memory::{
-    DiskFault, MemClock, MemDisk, MemFile, MemHost, MemListener, MemRandom, MemRoll, MemSink,
-    MemSource, Named, Part, Placed, Stood,
+    DiskFault, MemClock, MemDisk, MemHost, MemListener, MemRandom, MemRoll, MemSink, MemSource,
+    Named, Part, Placed, Stood,
 };
 use plug_in::Plugins;
 use std::alloc::{AllocError, Global};
@@ -69,11 +70,11 @@ pub fn host_of(alloc: Global, text: &str, outside: Outside) -> Result<MemHost, A
 pub const WORDS: [&str; 5] = ["agent", "-n", "a", "-f", "x.conf"];
 
 // The status of a run with these words.
-pub fn status_of<R: Threads + Wait + Sync>(
+pub fn status_of<R: Threads + Wait + Sync, H: Host>(
     rt: &R,
     alloc: Global,
     words: &[&str],
-    host: &mut MemHost,
+    host: &mut H,
 ) -> Result<u8, AllocError> {
     let words = owned(alloc, words)?;
     Ok(run_agent(rt, alloc, &words, host, Plugins::new(alloc)).status)
@@ -104,6 +105,7 @@ fn number_in(text: &[u8], front: &[u8], end: &[u8]) -> Option<u64> {
 
 // What was written: these answers and a report, in which a sink of the first channel has tried at least so many takes. How many it
 // tries depends on how often it looks at an empty channel before the end of the input.
+#[derive(Clone, Copy)]
 pub struct Written {
     pub front: &'static str,
     pub least: u64,
@@ -118,7 +120,7 @@ pub fn is_written(host: &MemHost, want: &Written) -> bool {
 }
 
 // A source `r` of lines, and one sink `k` of a channel `c1` that rolls no file anew.
-const LINES: &str = "a.sources = r
+pub const LINES: &str = "a.sources = r
 a.sources.r.type = stdin
 a.sinks = k
 a.sinks.k.channel = c1
@@ -485,63 +487,35 @@ fn a_faulty_configuration_runs_nothing(rt: HostRuntime) -> Result<(), Fail> {
     Ok(())
 }
 
-// A header, and one byte of a frame.
-const CUT: &[u8] = b"FLUMELOG\x00\x01\x00\x01\x00\x00\x00\x01\x01\x01";
-
-const ON_DISK: &str = "a.channels = c1
+pub const ON_DISK: &str = "a.channels = c1
 a.sources.r.channels = c1
 a.channels.c1.type = file
 a.channels.c1.dataDirs = d
 ";
 
-// The log file that is there, what else the configuration has, and what is said.
-const UNOPENED: [(&[u8], &str, &str); 2] = [
-    (CUT, "", "flume: d: bad log 1 at 16"),
-    (
-        TWO_LINES,
-        "a.channels.c1.capacity = 1\n",
-        "flume: d: holds 2, more than 1",
-    ),
-];
+const ROOM_FOR_ONE: &str = "a.channels.c1.capacity = 1\n";
 
-fn folder_of(alloc: Global, log: &[u8]) -> Result<MemDisk, AllocError> {
-    let file = MemFile {
-        name: FileName::Log(1),
-        bytes: log.to_vec(alloc)?,
-    };
-    MemDisk::with_files(alloc, vec![in alloc; file]?)
-}
-
-// Whether the folder is refused so, and is as it was.
-fn is_unopened<R: Threads + Wait + Sync>(
-    rt: &R,
-    alloc: Global,
-    row: &(&[u8], &str, &str),
-) -> Result<bool, AllocError> {
-    let (log, more, said) = *row;
-    let text = text_of(alloc, LINES, ON_DISK, more)?;
+// Whether a folder with more events than the capacity is refused, and is as it was.
+fn is_unopened<R: Threads + Wait + Sync>(rt: &R, alloc: Global) -> Result<bool, AllocError> {
+    let text = text_of(alloc, LINES, ON_DISK, ROOM_FOR_ONE)?;
     let mut outside = given(alloc, b"a\n")?;
-    outside.disk = folder_of(alloc, log)?;
+    outside.disk = one_file(alloc, FileName::Log(1), TWO_LINES)?;
     let mut host = host_of(alloc, text.as_str(), outside)?;
-    let is_so = status_of(rt, alloc, &WORDS, &mut host)? == 4 && is_said(&host, said);
-    let is_kept = file_of(&host, FileName::Log(1)) == Some(log)
+    let is_so = status_of(rt, alloc, &WORDS, &mut host)? == 4
+        && is_said(&host, "flume: d: holds 2, more than 1");
+    let is_kept = file_of(&host, FileName::Log(1)) == Some(TWO_LINES)
         && file_of(&host, FileName::Log(2)).is_none();
     Ok(is_so && is_kept && written(&host).is_empty())
 }
 
 #[test]
-fn a_refused_folder_runs_nothing(rt: HostRuntime) -> Result<(), Fail> {
-    for row in &UNOPENED {
-        let is_so = is_unopened(&rt, rt.alloc(), row)?;
-        assert!(rt; is_so, "{}", row.2);
-    }
+fn a_folder_of_too_many_events_runs_nothing(rt: HostRuntime) -> Result<(), Fail> {
+    assert!(rt; is_unopened(&rt, rt.alloc())?);
     Ok(())
 }
 
-// What fails outside.
+// What fails outside, besides what is opened.
 enum Failing {
-    // What is opened with this number: the configuration, the channel's folder, and that of the rolled files.
-    Opening(u64),
     // The first call of the disk, with which its opening begins.
     Disk,
     // The first read of the input.
@@ -554,10 +528,6 @@ fn host_failing(alloc: Global, failing: &Failing) -> Result<MemHost, AllocError>
     let text = text_of(alloc, LINES, ON_DISK, "")?;
     let mut outside = given(alloc, b"a\n")?;
     match failing {
-        Failing::Opening(number) => {
-            let host = host_of(alloc, text.as_str(), outside)?;
-            return Ok(host.failing_opens(vec![in alloc; *number]?));
-        }
         Failing::Disk => {
             let fault = DiskFault {
                 call: 0,
@@ -582,65 +552,13 @@ fn is_fault<R: Threads + Wait + Sync>(
     Ok(is_so && is_said(&host, "flume: fault outside") && !written(&host).starts_with(b"OK"))
 }
 
-const FAILING: [Failing; 6] = [
-    Failing::Opening(0),
-    Failing::Opening(1),
-    Failing::Opening(2),
-    Failing::Disk,
-    Failing::Input,
-    Failing::Output,
-];
+const FAILING: [Failing; 3] = [Failing::Disk, Failing::Input, Failing::Output];
 
 #[test]
 fn a_fault_outside_ends_the_run(rt: HostRuntime) -> Result<(), Fail> {
     for (row, failing) in FAILING.iter().enumerate() {
         let is_so = is_fault(&rt, rt.alloc(), failing)?;
         assert!(rt; is_so, "row {row}");
-    }
-    Ok(())
-}
-
-// What is rolled in the end where this call of the disk fails alone. Opening takes seven calls, and the first line four: a write, a
-// sync, the write of the byte that commits it, and a sync. Where that byte is there, mending reads the line back.
-fn rolled_after(fault: DiskFault) -> &'static [u8] {
-    match fault.call {
-        10 => b"a\nb\n",
-        9 if fault.part == Part::Front(1) => b"a\nb\n",
-        _ => b"b\n",
-    }
-}
-
-const MENDED: &str = "FAILED: channel in doubt
-OK
-{\"CHANNEL.c1\":{\"ChannelCapacity\":\"1000000\",\"ChannelSize\":\"0\",";
-
-// Whether the line at which the disk failed is in doubt, the next one is stored, and the run ends well.
-fn is_mended<R: Threads + Wait + Sync>(
-    rt: &R,
-    alloc: Global,
-    fault: DiskFault,
-) -> Result<bool, AllocError> {
-    let rolled = rolled_after(fault);
-    let text = text_of(alloc, LINES, ON_DISK, "")?;
-    let mut outside = given(alloc, b"a\nb\n")?;
-    outside.disk = outside.disk.failing_at(vec![in alloc; fault]?);
-    let mut host = host_of(alloc, text.as_str(), outside)?;
-    let status = status_of(rt, alloc, &WORDS, &mut host)?;
-    let is_told = status == 0 && is_said(&host, "");
-    Ok(
-        is_told
-            && written(&host).starts_with(MENDED.as_bytes())
-            && is_rolled(&host, "5000-1", rolled),
-    )
-}
-
-#[test]
-fn a_disk_that_failed_once_is_mended(rt: HostRuntime) -> Result<(), Fail> {
-    for call in 7..11 {
-        for part in [Part::Nothing, Part::Front(1)] {
-            let is_so = is_mended(&rt, rt.alloc(), DiskFault { call, part })?;
-            assert!(rt; is_so, "call {call}, {part:?}");
-        }
     }
     Ok(())
 }

@@ -160,21 +160,13 @@ fn is_told_of_size<R: Threads + Wait + Sync>(
     is_told_of(rt, alloc, text.as_str(), want)
 }
 
-// Whether a file that is not read is a fault outside.
-fn is_unread<R: Threads + Wait + Sync>(rt: &R, alloc: Global) -> Result<bool, AllocError> {
-    let host = host(alloc, WORKED)?.failing_opens(vec![in alloc; 0]?);
-    is_told(rt, alloc, &A1, host, "3 flume: fault outside")
-}
-
 #[test]
-fn a_file_too_large_or_unread(rt: HostRuntime) -> Result<(), Fail> {
+fn a_file_has_a_greatest_size(rt: HostRuntime) -> Result<(), Fail> {
     for case in &SIZES {
         let (size, want) = *case;
         let is_so = is_told_of_size(&rt, rt.alloc(), size, want)?;
         assert!(rt; is_so, "{size}");
     }
-    let is_so = is_unread(&rt, rt.alloc())?;
-    assert!(rt; is_so, "unread");
     Ok(())
 }
 

@@ -1,7 +1,7 @@
 // What is left in the channel of a folder.
 use channel_face::{Channel, Limits, TakeTxn};
 use file_channel::FileChannel;
-use host_memory::MemDisk;
+use host_memory::{MemDisk, MemHost, Stood};
 use std::alloc::Global;
 use std::test::Fail;
 use test_fixtures::channel_on;
@@ -44,4 +44,12 @@ pub fn left(alloc: Global, disk: MemDisk) -> Result<Vec<u8>, Fail> {
     channel.rollback_take(txn);
     done?;
     Ok(bodies)
+}
+
+/// What [`left`] gives of the folder `d` of a host, as reads of it give it.
+pub fn left_in(alloc: Global, host: &MemHost) -> Result<Vec<u8>, Fail> {
+    match host.disk("d") {
+        Some(disk) => left(alloc, disk.stopped_at(disk.moments(), &[Stood::New])?),
+        None => Err("no folder")?,
+    }
 }

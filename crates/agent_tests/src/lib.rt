@@ -5,14 +5,26 @@
 #[cfg(test)]
 mod agent;
 #[cfg(test)]
+mod beside;
+#[cfg(test)]
 mod check;
 #[cfg(test)]
 mod ends;
 #[cfg(test)]
 mod left;
 #[cfg(test)]
+mod mended;
+#[cfg(test)]
+mod openings;
+#[cfg(test)]
+mod own_host;
+#[cfg(test)]
 mod pipe;
 #[cfg(test)]
+mod rolls;
+#[cfg(test)]
 mod sessions;
+#[cfg(test)]
+mod shared;
 #[cfg(test)]
 mod written;

@@ -10,7 +10,7 @@ use std::test::Fail;
 use std::thread::Threads;
 
 // A netcat source with one worker, and a sink that rolls no file anew; the first source of lines where it stands in the list.
-const LISTENING: &str = "a.channels = c1
+pub const LISTENING: &str = "a.channels = c1
 a.channels.c1.type = memory
 a.sinks = k
 a.sinks.k.channel = c1
@@ -60,7 +60,7 @@ fn listener(alloc: Global, begun: Flag) -> Result<Vec<Placed<MemListener>>, Allo
 }
 
 // The first read of the input has begun before the link is given, and ends once a file was flushed.
-fn held(alloc: Global, input: &[u8]) -> Result<Outside, AllocError> {
+pub fn held(alloc: Global, input: &[u8]) -> Result<Outside, AllocError> {
     let begun = Flag::new(alloc)?;
     let flushed = Flag::new(alloc)?;
     let mut outside = given(alloc, input)?;
@@ -71,7 +71,7 @@ fn held(alloc: Global, input: &[u8]) -> Result<Outside, AllocError> {
 }
 
 // Whether the one link that came back was answered so.
-fn is_answered(host: &MemHost, answer: &[u8]) -> bool {
+pub fn is_answered(host: &MemHost, answer: &[u8]) -> bool {
     match host.listeners() {
         [only] => match only.object.back() {
             [link] => link.took() == answer,

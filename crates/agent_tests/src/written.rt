@@ -1,5 +1,5 @@
 // `pipe DIR` on folders that were written before, and on what a crash leaves.
-use crate::left::left;
+use crate::left::{left, left_in};
 use crate::pipe::{BEGUN, TWO_LINES, file_of, given_lines, host, is_piped, is_said, run};
 use flume_host::FileName;
 use host_memory::{MemDisk, MemFile, MemHost, Part, Stood};
@@ -19,7 +19,7 @@ const THIRD_LINE: &[u8] = b"FLUMELOG\x00\x01\x00\x01\x00\x00\x00\x02\
 const BEGUN_2: &[u8] = b"FLUMELOG\x00\x01\x00\x01\x00\x00\x00\x02\x00";
 
 // The folder as a crash leaves it at a moment.
-fn stopped(host: &MemHost, moment: u64, stood: Stood) -> Result<MemDisk, Fail> {
+pub fn stopped(host: &MemHost, moment: u64, stood: Stood) -> Result<MemDisk, Fail> {
     match host.disk("d") {
         Some(disk) => Ok(disk.stopped_at(moment, &[stood])?),
         None => Err("no folder")?,
@@ -27,7 +27,7 @@ fn stopped(host: &MemHost, moment: u64, stood: Stood) -> Result<MemDisk, Fail> {
 }
 
 // The folder as it is.
-fn as_is(host: &MemHost) -> Result<MemDisk, Fail> {
+pub fn as_is(host: &MemHost) -> Result<MemDisk, Fail> {
     match host.disk("d") {
         Some(disk) => stopped(host, disk.moments(), Stood::Old),
         None => Err("no folder")?,
@@ -42,17 +42,17 @@ fn given(alloc: Global, disk: MemDisk, input: &[u8]) -> Result<MemHost, AllocErr
 }
 
 // Lines on a new folder and then on what that run left; how each run ends, what the second answers, and what is then left.
-struct Rerun {
-    first: &'static [u8],
-    first_outcome: (u8, u64),
-    second: &'static [u8],
-    second_outcome: (u8, u64),
-    answers: &'static [u8],
-    logs: [&'static [u8]; 2],
-    left: &'static [u8],
+pub struct Rerun {
+    pub first: &'static [u8],
+    pub first_outcome: (u8, u64),
+    pub second: &'static [u8],
+    pub second_outcome: (u8, u64),
+    pub answers: &'static [u8],
+    pub logs: [&'static [u8]; 2],
+    pub left: &'static [u8],
 }
 
-const RERUNS: [Rerun; 2] = [
+pub const RERUNS: [Rerun; 2] = [
     Rerun {
         first: b"a\nb\n",
         first_outcome: (0, 8),
@@ -87,14 +87,14 @@ fn second_host<R: Threads + Wait + Sync>(
 }
 
 // Whether the folder has these first log files.
-fn has_logs(host: &MemHost, logs: &[&[u8]; 2]) -> bool {
+pub fn has_logs(host: &MemHost, logs: &[&[u8]; 2]) -> bool {
     file_of(host, FileName::Log(1)) == Some(logs[0])
         && file_of(host, FileName::Log(2)) == Some(logs[1])
 }
 
 // Whether the channel of the folder has these bodies left.
 fn leaves(alloc: Global, host: &MemHost, bodies: &[u8]) -> Result<bool, Fail> {
-    Ok(left(alloc, as_is(host)?)?.as_slice() == bodies)
+    Ok(left_in(alloc, host)?.as_slice() == bodies)
 }
 
 // Whether the second run ends as it has to.
@@ -119,7 +119,7 @@ fn lines_follow_those_of_an_earlier_run(rt: HostRuntime) -> Result<(), Fail> {
 // The moment of a crash, within a recorded call or after the last, and what stands of the calls that nothing made stable;
 // and whether the line is then there. Calls 0 to 3 settle the folder and begin its log file. The line's are 4 to 7: the
 // frame is written and synced, and the commit byte is written and synced.
-const STOPS: [(u64, Stood, bool); 11] = [
+pub const STOPS: [(u64, Stood, bool); 11] = [
     // after the first
     (5, Stood::Old, false),
     (5, Stood::New, false),
@@ -204,9 +204,9 @@ fn what_was_answered_is_left_after_a_fault(rt: HostRuntime) -> Result<(), Fail> 
 }
 
 // A file of a folder, and what is said of the folder, if it is refused.
-type Folder = (FileName, &'static [u8], &'static str);
+pub type Folder = (FileName, &'static [u8], &'static str);
 
-const FOLDERS: [Folder; 6] = [
+pub const FOLDERS: [Folder; 6] = [
     (
         FileName::Log(1),
         b"FLUMELOG\x00\x01\x00\x01\x00\x00\x00\x01\x01\x00",
@@ -240,22 +240,11 @@ const FOLDERS: [Folder; 6] = [
     ),
 ];
 
-// A host on a folder with one file, with these lines.
-fn host_on_file(
-    alloc: Global,
-    name: FileName,
-    bytes: &[u8],
-    input: &[u8],
-) -> Result<MemHost, AllocError> {
-    let file = MemFile {
-        name,
-        bytes: bytes.to_vec(alloc)?,
-    };
-    given(
-        alloc,
-        MemDisk::with_files(alloc, vec![in alloc; file]?)?,
-        input,
-    )
+// A folder with one file.
+pub fn one_file(alloc: Global, name: FileName, bytes: &[u8]) -> Result<MemDisk, AllocError> {
+    let bytes = bytes.to_vec(alloc)?;
+    let file = MemFile { name, bytes };
+    MemDisk::with_files(alloc, vec![in alloc; file]?)
 }
 
 // Whether a folder of one file is refused with this line, or taken where there is none, and the file stays as it is.
@@ -265,7 +254,7 @@ fn is_refused<R: Threads + Wait + Sync>(
     folder: &Folder,
 ) -> Result<bool, AllocError> {
     let (name, bytes, line) = *folder;
-    let mut host = host_on_file(alloc, name, bytes, b"a\n")?;
+    let mut host = given(alloc, one_file(alloc, name, bytes)?, b"a\n")?;
     let (outcome, answers): ((u8, u64), &[u8]) = if line.is_empty() {
         ((0, 4), b"OK\n")
     } else {
@@ -299,7 +288,11 @@ const LAST_NUMBER: &[u8] = b"FLUMELOG\x00\x01\x00\x01\x00\x00\x00\x02\
 #[test]
 fn lines_are_refused_once_a_number_is_at_its_end(rt: HostRuntime) -> Result<(), Fail> {
     let alloc = rt.alloc();
-    let mut host = host_on_file(alloc, FileName::Log(1), NUMBERS, b"b\nc\nd\n")?;
+    let mut host = given(
+        alloc,
+        one_file(alloc, FileName::Log(1), NUMBERS)?,
+        b"b\nc\nd\n",
+    )?;
     let answers = b"OK\nFAILED: channel refused\nFAILED: channel refused\n";
     // two of the lines make a begin alone, which is refused
     let is_so = is_piped(&rt, alloc, &mut host, (0, 6), answers)?;
