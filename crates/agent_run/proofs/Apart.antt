@@ -28,10 +28,10 @@ use Rattle.agent_run.specs.FoldersTold.{FoldersAreApart, folder_of}
 use Rattle.agent_run.specs.Prepared.{IsPlanned}
 
 -- no key is missing
-abbrev Whole : Candidates → Type 0
+abbrev pub Whole : Candidates → Type 0
 Whole c = c.missing ≡ []
 
-both_whole : (a b : Candidates) → Whole (a ⊕ b) → Whole a × Whole b
+pub both_whole : (a b : Candidates) → Whole (a ⊕ b) → Whole a × Whole b
 unfolding ◌⊕◌
 both_whole a b h = none_of a.missing b.missing h
 
@@ -115,14 +115,14 @@ both_again : (x y : Candidates) → Clean x → Clean y → Clean (x ⊕ y)
 unfolding ◌⊕◌
 both_again x y p q = (λ i. p i ++ y.faults) ∙ q
 
-each_back : (f : Wish → Candidates) (a b : List Wish) → Clean (each f (a ++ b)) → Clean (each f a) × Clean (each f b)
+pub each_back : (f : Wish → Candidates) (a b : List Wish) → Clean (each f (a ++ b)) → Clean (each f a) × Clean (each f b)
 each_back f [] b clean = (refl, clean)
 each_back f (w ∷ a) b clean =
     let parts = both_clean (f w) (each f (a ++ b)) clean in
     let rest = each_back f a b parts.1 in
     (both_again (f w) (each f a) parts.0 rest.0, rest.1)
 
-clashes_back : (a b : List Wish) → Clean (clashes (a ++ b)) → Clean (clashes a) × Clean (clashes b)
+pub clashes_back : (a b : List Wish) → Clean (clashes (a ++ b)) → Clean (clashes a) × Clean (clashes b)
 clashes_back [] b clean = (refl, clean)
 clashes_back (w ∷ a) b clean =
     let parts = both_clean (each (clash w) (a ++ b)) (clashes (a ++ b)) clean in
@@ -177,9 +177,17 @@ module _ (pairs : List Pair) (agent : List ℕ) where
       let full = both_whole (channel_named pairs agent name) (each (channel_named pairs agent) names) whole in
       none_twice names cs clear.1 full.1 are.1 (clashes_back (channel_claims pairs agent name) (Claims names) apart).1 i j d path (omega (arith, less)) (omega (arith, below)) first second
 
-  -- so it is of a plan
-  pub plan_apart : (plan : Plan) → Plans pairs agent (Ok plan) → FoldersAreApart plan.channels.items
-  plan_apart plan (is, (s, found, right), made) =
+  -- nothing is at fault in the sources and the channels of a plan, and no two of each claim the same
+  pub record IsClear : Type 0 where
+    pub sources : Clean (each (source_named pairs agent (agents.channels pairs agent)) (agents.sources pairs agent))
+    pub sources_whole : Whole (each (source_named pairs agent (agents.channels pairs agent)) (agents.sources pairs agent))
+    pub channels : Clean (each (channel_named pairs agent) (agents.channels pairs agent))
+    pub channels_whole : Whole (each (channel_named pairs agent) (agents.channels pairs agent))
+    pub source_claims : Clean (clashes (flat_map (source_claims pairs agent) (agents.sources pairs agent)))
+    pub channel_claims : Clean (clashes (Claims (agents.channels pairs agent)))
+
+  pub plan_clear : (plan : Plan) → Plans pairs agent (Ok plan) → IsClear
+  plan_clear plan (is, (s, found, right), made) =
       let sources = agents.sources pairs agent in
       let channels = agents.channels pairs agent in
       let sinks = agents.sinks pairs agent in
@@ -202,15 +210,21 @@ module _ (pairs : List Pair) (agent : List ℕ) where
       let of_sinks = each (sink_named pairs agent channels) sinks in
       let of_groups = each (group_named pairs agent sinks) groups in
       let three = both_clean (of_sources ⊕ of_channels ⊕ of_sinks) of_groups (both_clean of_lists components five.0).1 in
-      let two = both_clean (of_sources ⊕ of_channels) of_sinks three.0 in
+      let two = both_clean of_sources of_channels (both_clean (of_sources ⊕ of_channels) of_sinks three.0).0 in
       let three' = both_whole (of_sources ⊕ of_channels ⊕ of_sinks) of_groups (both_whole of_lists components five'.0).1 in
-      let two' = both_whole (of_sources ⊕ of_channels) of_sinks three'.0 in
+      let two' = both_whole of_sources of_channels (both_whole (of_sources ⊕ of_channels) of_sinks three'.0).0 in
       let first = flat_map (source_claims pairs agent) sources in
       let third = flat_map (sink_claims pairs agent) sinks in
       let fourth = flat_map (group_claims pairs agent) groups in
       let front = (clashes_back ((first ++ Claims channels) ++ third) fourth five.1).0 in
-      let claims = (clashes_back first (Claims channels) (clashes_back (first ++ Claims channels) third front).0).1 in
-      none_twice channels plan.channels.items (both_clean of_sources of_channels two.0).1 (both_whole of_sources of_channels two'.0).1 made.channels claims
+      let claims = clashes_back first (Claims channels) (clashes_back (first ++ Claims channels) third front).0 in
+      record { sources = two.0; sources_whole = two'.0; channels = two.1; channels_whole = two'.1; source_claims = claims.0; channel_claims = claims.1 }
+
+  -- so it is of a plan
+  pub plan_apart : (plan : Plan) → Plans pairs agent (Ok plan) → FoldersAreApart plan.channels.items
+  plan_apart plan is =
+      let clear = plan_clear plan is in
+      none_twice (agents.channels pairs agent) plan.channels.items clear.channels clear.channels_whole is.2.channels clear.channel_claims
 
 pub folders_apart : (plan : Plan) → IsPlanned plan → FoldersAreApart plan.channels.items
 folders_apart plan planned = plan_apart planned.0 planned.1 plan planned.2

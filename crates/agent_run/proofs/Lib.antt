@@ -68,3 +68,10 @@ pub mod Handing
 pub mod Rolling
 pub mod Unstaged
 pub mod Leaving
+pub mod Caused
+pub mod Leftover
+pub mod Causing
+pub mod Reading
+pub mod Reasons
+pub mod Lone
+pub mod Returning

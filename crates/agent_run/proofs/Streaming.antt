@@ -19,7 +19,7 @@ last_push f before (x ∷ xs) a = last_push f (f x) xs a
 -- ---- nothing else changes
 
 -- what each step keeps is kept by all
-turn_chain : {A : Type 0} (Step : A → HostState → HostState → Type 0) (Same : HostState → HostState → Type 0) → ((s : HostState) → Same s s)
+pub turn_chain : {A : Type 0} (Step : A → HostState → HostState → Type 0) (Same : HostState → HostState → Type 0) → ((s : HostState) → Same s s)
     → ((f g h : HostState) → Same f g → Same g h → Same f h) → ((a : A) (f g : HostState) → Step a f g → Same f g)
     → (xs : List A) (old new : HostState) → InTurn Step xs old new → Same old new
 turn_chain Step Same self then each [] old new is = subst (λ (s : HostState). Same old s) (sym is) (self old)

@@ -39,13 +39,13 @@ abbrev streams_of : Option SessionEnd → StreamsEnded
 streams_of end = record { input = end_of_session end; output_failed = output_failed end }
 
 -- a pair with one thing
-only_one : {A B : Type 0} (R : A → B → Type 0) (a : A) (ys : List B) → Zips R (a ∷ []) ys → (b : B) × (ys ≡ b ∷ []) × R a b
+pub only_one : {A B : Type 0} (R : A → B → Type 0) (a : A) (ys : List B) → Zips R (a ∷ []) ys → (b : B) × (ys ≡ b ∷ []) × R a b
 only_one R a [] z = absurd z
 only_one R a (b ∷ []) z = (b, refl, z.0)
 only_one R a (b ∷ c ∷ ys) z = absurd z.1
 
 -- one step alone
-one_step : {A : Type 0} (Step : A → HostState → HostState → Type 0) (a : A) (old new : HostState) → InTurn Step (a ∷ []) old new → Step a old new
+pub one_step : {A : Type 0} (Step : A → HostState → HostState → Type 0) (a : A) (old new : HostState) → InTurn Step (a ∷ []) old new → Step a old new
 one_step Step a old new is = subst (λ (s : HostState). Step a old s) (sym is.2) is.1
 
 no_length : {A : Type 0} (xs : List A) → length xs ≡ 0 → xs ≡ []
@@ -165,7 +165,7 @@ ended_differ : input.NoMemory ≡ input.End → ⊥
 ended_differ e = cc
 
 -- the reading of standard input has then come to its end
-ends_only : (i : InputEnd) (more : List ℕ) → first_in (4 ∷ 3 ∷ 5 ∷ 7 ∷ 6 ∷ []) (input_status i ∷ more) ≡ 0 → i ≡ input.End
+pub ends_only : (i : InputEnd) (more : List ℕ) → first_in (4 ∷ 3 ∷ 5 ∷ 7 ∷ 6 ∷ []) (input_status i ∷ more) ≡ 0 → i ≡ input.End
 ends_only input.End more is = refl
 ends_only input.Fault more is =
     let has = λ (n : ℕ). list_any (λ m. m == n) more in

@@ -30,5 +30,6 @@ pub mod DrainedTold
 pub mod RolledTold
 pub mod StagedTold
 pub mod RunLeft
+pub mod Causes
 pub mod RunDid
 pub mod PipeRan

@@ -21,7 +21,7 @@ use Rattle.memory_channel.specs.declared.channel.MemoryChannel.{MemoryChannel}
 use Rattle.two_channels.specs.declared.shared.EitherClosed.{EitherClosed}
 use Rattle.two_channels.specs.declared.shared.EitherClosed.TheVariants as closed
 use Rattle.agent_run.specs.Outside.{AreFrom}
-use Rattle.agent_run.specs.Streams.{IsReported}
+use Rattle.agent_run.specs.Streams.{IsButOutput, IsReported}
 use Rattle.agent_run.specs.declared.settle.Settled.{Settled}
 
 -- The sources at these places listen, and each listener was handed out for the address and port of its source.
@@ -48,3 +48,4 @@ pub record IsGivenBack {R D A B : Type 0} (rolled : R → Option Rolled) (told :
   pub disks : DisksBack (disks_of told faults wishes settled.closed.items) behind_sinks behind_disks
   pub folders : new.folders ≡ behind_disks.folders
   pub report : IsReported failed (report_text settled.report.items) answer behind_disks.state new.state
+  pub rest : IsButOutput behind_disks.state new.state

@@ -148,8 +148,9 @@ pub fn run_agent<'a, R: Threads + Wait + Sync + 'a, H: Host + 'a>(
     ensures agent { (name file : List ℕ) → IsAgent (texts words.now) name file
         → AgentEnds ((H.state host.old).files file) name result.status }
 
-    // What `agent` did, where its run began, and what that comes to: at status 0 what is in each folder, what the report says, what each
-    // sink took and delivered, and what each session and standard input brought in. Where it did not begin, which step refused and
+    // What `agent` did, where its run began, and what that comes to: why the status is 3, 4, 6 or 7, and when it is none of these; at status
+    // 0 what is in each folder, what the report says, what each sink took and delivered, and what each session and standard input brought
+    // in. Where it did not begin, which step refused and
     // why, and what became of the host.
     ensures agent_ran { (name file : List ℕ) → IsAgent (texts words.now) name file
         → AgentEndsAs ⟦<RunOf<'a, R, H, NoStep> as Runs>⟧.ran ((H.state host.old).files file) name

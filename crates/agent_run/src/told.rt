@@ -12,14 +12,15 @@ use crate::through::{RunOf, Runs, SinkOf, Steps};
 use file_channel::FileChannel;
 use flume_host::Host;
 use memory_channel::MemoryChannel;
+use netcat_source::one_cut;
 use plug_in::Interceptor;
 use roll_sink::delivered_batches_are_in_files;
 use std::sync::Wait;
 use std::thread::Threads;
 
-/// What the steps of a run come to: in all calls of its channels those of each worker are told of, and the folders of rolled files hold
-/// what the calls of their sinks commit. At status 0 it is told what the channels' folders hold, what the report says, which sinks emptied
-/// their channels, and what was said on standard input and output.
+/// What the steps of a run come to: in all calls of its channels those of each worker are told of, the folders of rolled files hold what
+/// the calls of their sinks commit, and the status has its causes. At status 0 it is told what the channels' folders hold, what the report
+/// says, which sinks emptied their channels, and what was said on standard input and output.
 pub fn steps_are_told<
     'a,
     R: Threads + Wait + Sync + 'a,
@@ -67,6 +68,7 @@ pub fn steps_are_told<
         K,
     >();
     delivered_batches_are_in_files();
+    one_cut();
 }
 
 /// No two channels of a plan are in one folder.

@@ -35,4 +35,5 @@ returns-clause-back g c =
       folders = c.report_on-report.ensures.folders;
       report = subst (λ (l : List (String Global × Counts)). IsReported c.args.streams.output_failed (report_text l) c.report_on-report.result shut.state (g.H.Host.state c.report_on-report.new.host))
           c.as_slice-3.ensures.value c.report_on-report.ensures.reported;
+      rest = c.report_on-report.ensures.rest;
     }
