@@ -166,7 +166,7 @@ a.sources.r.selector.type = multiplexing
 a.sources.r.selector.header = state
 ";
 
-const CASES: [(&str, Case); 10] = [
+const CASES: [(&str, Case); 11] = [
     (
         // A sink that keeps nothing.
         "a.channels = c1
@@ -260,6 +260,29 @@ a.sources.r.selector.default = c3
                 end: "\",\"EventTakeSuccessCount\":\"1\"},\"CHANNEL.c2\":{\"ChannelCapacity\":\"1\",\"ChannelSize\":\"1\",\"EventPutAttemptCount\":\"1\",\"EventPutSuccessCount\":\"1\",\"EventTakeAttemptCount\":\"0\",\"EventTakeSuccessCount\":\"0\"},\"CHANNEL.c3\":{\"ChannelCapacity\":\"100\",\"ChannelSize\":\"0\",\"EventPutAttemptCount\":\"0\",\"EventPutSuccessCount\":\"0\",\"EventTakeAttemptCount\":\"0\",\"EventTakeSuccessCount\":\"0\"}}\n",
             },
             rolled: b"a\n",
+        },
+    ),
+    (
+        // The state is taken out of each line: the second has no mapping.
+        ROUTED,
+        Case {
+            more: "a.sources.r.interceptors.i.type = regex_extractor
+a.sources.r.interceptors.i.regex = ^(..)
+a.sources.r.interceptors.i.serializers = s
+a.sources.r.interceptors.i.serializers.s.name = state
+a.sources.r.selector.mapping.CZ = c1
+a.sources.r.selector.optional.CZ = c2
+a.sources.r.selector.default = c3
+",
+            input: b"CZ a\nUS b\n",
+            status: 0,
+            said: "",
+            written: Written {
+                front: "OK\nOK\n{\"CHANNEL.c1\":{\"ChannelCapacity\":\"100\",\"ChannelSize\":\"0\",\"EventPutAttemptCount\":\"1\",\"EventPutSuccessCount\":\"1\",\"EventTakeAttemptCount\":\"",
+                least: 2,
+                end: "\",\"EventTakeSuccessCount\":\"1\"},\"CHANNEL.c2\":{\"ChannelCapacity\":\"1\",\"ChannelSize\":\"1\",\"EventPutAttemptCount\":\"1\",\"EventPutSuccessCount\":\"1\",\"EventTakeAttemptCount\":\"0\",\"EventTakeSuccessCount\":\"0\"},\"CHANNEL.c3\":{\"ChannelCapacity\":\"100\",\"ChannelSize\":\"1\",\"EventPutAttemptCount\":\"1\",\"EventPutSuccessCount\":\"1\",\"EventTakeAttemptCount\":\"0\",\"EventTakeSuccessCount\":\"0\"}}\n",
+            },
+            rolled: b"CZ a\n",
         },
     ),
     (

@@ -2,7 +2,7 @@
 use crate::agent::{
     Outside, WORDS, Written, given, host_of, is_rolled, is_written, status_of, text_of,
 };
-use crate::pipe::is_said;
+use crate::pipe::{is_said, written};
 use host_memory::{Flag, LinkStep, MemHost, MemLink, MemListener, Offer, Placed};
 use std::alloc::{AllocError, Global};
 use std::sync::Wait;
@@ -143,22 +143,39 @@ fn are_answered(host: &MemHost) -> bool {
         })
 }
 
+// What the source has besides, and what the report ends with: the channel of the sink alone, or a second one, which nobody takes from.
+const CHANNELS: [(&str, &str); 2] = [
+    ("", "\n"),
+    (
+        "a.channels = c1 c2\na.channels.c2.type = memory\na.sources.n.channels = c1 c2\n",
+        "\"CHANNEL.c2\":{\"ChannelCapacity\":\"100\",\"ChannelSize\":\"2\",\"EventPutAttemptCount\":\"2\",\"EventPutSuccessCount\":\"2\",\"EventTakeAttemptCount\":\"0\",\"EventTakeSuccessCount\":\"0\"}}\n",
+    ),
+];
+
 // Whether both sessions are served at a time, and the lines are rolled in the order in which they came.
-fn are_served<R: Threads + Wait + Sync>(rt: &R, alloc: Global) -> Result<bool, AllocError> {
+fn are_served<R: Threads + Wait + Sync>(
+    rt: &R,
+    alloc: Global,
+    more: &str,
+    end: &str,
+) -> Result<bool, AllocError> {
     let text = text_of(
         alloc,
         LISTENING,
         "a.sources = n\na.sources.n.threads = 2\n",
-        "",
+        more,
     )?;
     let mut host = host_of(alloc, text.as_str(), two_links(alloc)?)?;
     let status = status_of(rt, alloc, &WORDS, &mut host)?;
-    let is_told = status == 0 && is_said(&host, "");
+    let is_told = status == 0 && is_said(&host, "") && written(&host).ends_with(end.as_bytes());
     Ok(is_told && are_answered(&host) && is_rolled(&host, "5000-1", b"y\nx\n"))
 }
 
 #[test]
 fn gate_session(rt: HostRuntime) -> Result<(), Fail> {
-    assert!(rt; are_served(&rt, rt.alloc())?);
+    for (more, end) in &CHANNELS {
+        let is_so = are_served(&rt, rt.alloc(), more, end)?;
+        assert!(rt; is_so, "{more}");
+    }
     Ok(())
 }
