@@ -26,11 +26,11 @@ use Rattle.file_channel.proofs.Ending.{flush_mirrored}
 use Rattle.file_channel.proofs.Recovering.{flush_logged, flush_recovers, settled_recovers}
 
 -- the frames that a log has where the disk tells
-pub ready_frames : (told : Option Told) (w : Writer) (s : State) → Waits told w s → (frames : List (List Rec)) × IsReady told 1 w.file w.gate frames
-ready_frames None w s waits = ([], λ t is. absurd (cc))
+pub ready_frames : (told : Option Told) (w : Writer) (s : State) → Waits told w s → (birth : ℕ) × (frames : List (List Rec)) × IsReady told birth w.file w.gate frames
+ready_frames None w s waits = (1, [], λ t is. absurd (cc))
 ready_frames (Some t) w s waits =
     let disk : OnDisk t w s waits.records = waits.disk t refl in
-    (disk.frames, λ u is. subst (λ (v : Told). IsAtRest v 1 w.file w.gate disk.frames) (some_told t u is) disk.rest)
+    (disk.birth, disk.frames, λ u is. subst (λ (v : Told). IsAtRest v disk.birth w.file w.gate disk.frames) (some_told t u is) disk.rest)
   where
     some_told : (t u : Told) → Some t ≡ Some u → t ≡ u
     some_told t u is = cc
@@ -87,27 +87,27 @@ may_open s image none (txn, low, inl is) = (txn, low, inl (none, is))
 may_open s image none (txn, low, inr is) = (txn, low, inr (none, is))
 
 -- at any moment of a flush, where records wait
-flush_moments : (told told' : Option Told) (w : Writer) (s : State) (waits : Waits told w s) → ((frames : List (List Rec)) → IsReady told 1 w.file w.gate frames → Tells told told' (Changes (Log w.file) (LacksOrHas 1 w.file frames waits.records) 2))
+flush_moments : (told told' : Option Told) (w : Writer) (s : State) (waits : Waits told w s) → ((birth : ℕ) (frames : List (List Rec)) → IsReady told birth w.file w.gate frames → Tells told told' (Changes (Log w.file) (LacksOrHas birth w.file frames waits.records) 2))
     → Tells told told' (λ t u. LeavesOnly t u (MayRecover s))
 unfolding ready_frames log_image
 flush_moments None None w s waits given = tt
-flush_moments None (Some u) w s waits given = given [] (λ t is. absurd (cc))
-flush_moments (Some t) None w s waits given = let ready = ready_frames (Some t) w s waits in given ready.0 ready.1
+flush_moments None (Some u) w s waits given = given 1 [] (λ t is. absurd (cc))
+flush_moments (Some t) None w s waits given = let ready = ready_frames (Some t) w s waits in given ready.0 ready.1 ready.2
 flush_moments (Some t) (Some u) w s waits given =
     let disk : OnDisk t w s waits.records = waits.disk t refl in
     let ready = ready_frames (Some t) w s waits in
-    let changes : Changes (Log w.file) (LacksOrHas 1 w.file disk.frames waits.records) 2 t u = given disk.frames ready.1 in
+    let changes : Changes (Log w.file) (LacksOrHas disk.birth w.file disk.frames waits.records) 2 t u = given disk.birth disk.frames ready.2 in
     record {
       more = changes.images.more;
       past = changes.images.past;
       each = λ m image low left.
-          let has = log_image t w s waits.records (λ bytes. HasFrames 1 w.file disk.frames bytes ⊎ HasFrames 1 w.file (disk.frames ++ waits.records ∷ []) bytes) image disk (changes.images.each m image low left) in
-          may_open s image (none_left t w s waits.records image disk (changes.images.each m image low left).others) (flush_recovers s image disk.earlier w.file disk.frames waits.records disk.logs has.1);
+          let has = log_image t w s waits.records (λ bytes. HasFrames disk.birth w.file disk.frames bytes ⊎ HasFrames disk.birth w.file (disk.frames ++ waits.records ∷ []) bytes) image disk (changes.images.each m image low left) in
+          may_open s image (none_left t w s waits.records image disk (changes.images.each m image low left).others) (flush_recovers s image disk.earlier disk.birth w.file disk.frames waits.records disk.is_birth disk.logs has.1);
     }
 
 -- while nothing is written
-closed_frames : (number : ℕ) (frames : List (List Rec)) → AllByRecursion IsFrame frames → HasFrames 1 number frames (file_of 1 number frames)
-closed_frames number frames each = (opened frames ++ 0 ∷ [], append_assoc (header 1 number) (opened frames) (0 ∷ []), record { each = each; gate = 0; rest = []; split = refl; closed = not_one 0 refl })
+closed_frames : (birth number : ℕ) (frames : List (List Rec)) → AllByRecursion IsFrame frames → HasFrames birth number frames (file_of birth number frames)
+closed_frames birth number frames each = (opened frames ++ 0 ∷ [], append_assoc (header birth number) (opened frames) (0 ∷ []), record { each = each; gate = 0; rest = []; split = refl; closed = not_one 0 refl })
   where
     not_one : (n : ℕ) → n ≡ 0 → n ≢ 1
     not_one n zero one = absurd (omega (arith, zero, one))
@@ -115,31 +115,31 @@ closed_frames number frames each = (opened frames ++ 0 ∷ [], append_assoc (hea
 pub rest_recovers : (t : Told) (w : Writer) (s : State) (records : List Rec) (image : Files) → OnDisk t w s records → IsImage t.now image → MayRecover s image
 unfolding log_image
 rest_recovers t w s records image disk are =
-    let bytes : List ℕ = file_of 1 w.file disk.frames in
+    let bytes : List ℕ = file_of disk.birth w.file disk.frames in
     let may : Allows (settle_entry (Some bytes)) (image (Log w.file)) = subst (λ (e : Entry). Allows e (image (Log w.file))) disk.rest.durable (are (Log w.file)) in
     let is : image (Log w.file) ≡ Some bytes = as_read (Some bytes) (image (Log w.file)) may in
-    let both : List ℕ → Type 0 = λ l. HasFrames 1 w.file disk.frames l ⊎ HasFrames 1 w.file (disk.frames ++ records ∷ []) l in
+    let both : List ℕ → Type 0 = λ l. HasFrames disk.birth w.file disk.frames l ⊎ HasFrames disk.birth w.file (disk.frames ++ records ∷ []) l in
     let one : OneFile t.now (Log w.file) (λ file. IsSomeAnd file both) image = record {
-      file = subst (λ (f : Option (List ℕ)). IsSomeAnd f both) (sym is) (inl (closed_frames w.file disk.frames disk.rest.each));
+      file = subst (λ (f : Option (List ℕ)). IsSomeAnd f both) (sym is) (inl (closed_frames disk.birth w.file disk.frames disk.rest.each));
       others = λ n differs. are n;
     } in
     let has = log_image t w s records both image disk one in
-    may_open s image (none_left t w s records image disk one.others) (flush_recovers s image disk.earlier w.file disk.frames records disk.logs has.1)
+    may_open s image (none_left t w s records image disk one.others) (flush_recovers s image disk.earlier disk.birth w.file disk.frames records disk.is_birth disk.logs has.1)
 
 -- just what is settled
 pub rest_exactly : (t : Told) (w : Writer) (s : State) (records : List Rec) (image : Files) → OnDisk t w s records → IsImage t.now image → RecoversSettled s image
 unfolding log_image
 rest_exactly t w s records image disk are =
-    let bytes : List ℕ = file_of 1 w.file disk.frames in
+    let bytes : List ℕ = file_of disk.birth w.file disk.frames in
     let may : Allows (settle_entry (Some bytes)) (image (Log w.file)) = subst (λ (e : Entry). Allows e (image (Log w.file))) disk.rest.durable (are (Log w.file)) in
     let is : image (Log w.file) ≡ Some bytes = as_read (Some bytes) (image (Log w.file)) may in
-    let frames : List ℕ → Type 0 = HasFrames 1 w.file disk.frames in
+    let frames : List ℕ → Type 0 = HasFrames disk.birth w.file disk.frames in
     let one : OneFile t.now (Log w.file) (λ file. IsSomeAnd file frames) image = record {
-      file = subst (λ (f : Option (List ℕ)). IsSomeAnd f frames) (sym is) (closed_frames w.file disk.frames disk.rest.each);
+      file = subst (λ (f : Option (List ℕ)). IsSomeAnd f frames) (sym is) (closed_frames disk.birth w.file disk.frames disk.rest.each);
       others = λ n differs. are n;
     } in
     let has = log_image t w s records frames image disk one in
-    let found = settled_recovers s image disk.earlier w.file disk.frames records disk.logs has.1 in
+    let found = settled_recovers s image disk.earlier disk.birth w.file disk.frames records disk.is_birth disk.logs has.1 in
     (found.0, found.1, (none_left t w s records image disk one.others, found.2))
 
 rest_moments : (told : Option Told) (w : Writer) (s : State) → Waits told w s → Tells told told (λ t u. LeavesOnly t u (MayRecover s))
@@ -155,33 +155,35 @@ some_or_none n = grind arith
 
 -- whether records wait or not
 pub moments : (told told' : Option Told) (w : Writer) (s : State) (waits : Waits told w s)
-    → ((frames : List (List Rec)) → IsReady told 1 w.file w.gate frames → 1 ≤ length waits.records → Tells told told' (Changes (Log w.file) (LacksOrHas 1 w.file frames waits.records) 2))
+    → ((birth : ℕ) (frames : List (List Rec)) → IsReady told birth w.file w.gate frames → 1 ≤ length waits.records → Tells told told' (Changes (Log w.file) (LacksOrHas birth w.file frames waits.records) 2))
     → (w.count ≡ 0 → told' ≡ told) → Tells told told' (λ t u. LeavesOnly t u (MayRecover s))
 moments told told' w s waits given none = from (some_or_none (length waits.records))
   where
     from : (length waits.records ≡ 0) ⊎ (1 ≤ length waits.records) → Tells told told' (λ t u. LeavesOnly t u (MayRecover s))
     from (inl nothing) = subst (λ (v : Option Told). Tells told v (λ t u. LeavesOnly t u (MayRecover s))) (sym (none (waits.pending.counted ∙ nothing))) (rest_moments told w s waits)
-    from (inr some) = flush_moments told told' w s waits (λ frames ready. given frames ready some)
+    from (inr some) = flush_moments told told' w s waits (λ birth frames ready. given birth frames ready some)
 
 -- the log after a flush
 
 abbrev TakesAreEarlier : State → Type 0
 TakesAreEarlier s = (n : ℕ) → next_number s ≤ n → is_among (taken_numbers s.staged) n ≡ false
 
-disk_after : (told told' : Option Told) (w w' : Writer) (s : State) (waits : Waits told w s) → ((frames : List (List Rec)) → IsReady told 1 w.file w.gate frames → Tells told told' (Changes (Log w.file) (LacksOrHas 1 w.file frames waits.records) 2))
-    → ((frames : List (List Rec)) → IsReady told 1 w.file w.gate frames → IsReady told' 1 w.file w'.gate (frames ++ waits.records ∷ [])) → w'.file ≡ w.file → TakesAreEarlier s → (u : Told) → told' ≡ Some u → OnDisk u w' (settle s) []
+disk_after : (told told' : Option Told) (w w' : Writer) (s : State) (waits : Waits told w s) → ((birth : ℕ) (frames : List (List Rec)) → IsReady told birth w.file w.gate frames → Tells told told' (Changes (Log w.file) (LacksOrHas birth w.file frames waits.records) 2))
+    → ((birth : ℕ) (frames : List (List Rec)) → IsReady told birth w.file w.gate frames → IsReady told' birth w.file w'.gate (frames ++ waits.records ∷ [])) → w'.file ≡ w.file → TakesAreEarlier s → (u : Told) → told' ≡ Some u → OnDisk u w' (settle s) []
 unfolding ready_frames
 disk_after None None w w' s waits given flushed file earlier u is = absurd (cc)
-disk_after None (Some v) w w' s waits given flushed file earlier u is = absurd (given [] (λ t same. absurd (cc)))
+disk_after None (Some v) w w' s waits given flushed file earlier u is = absurd (given 1 [] (λ t same. absurd (cc)))
 disk_after (Some t) None w w' s waits given flushed file earlier u is = absurd (cc)
 disk_after (Some t) (Some v) w w' s waits given flushed file earlier u is =
     let disk : OnDisk t w s waits.records = waits.disk t refl in
     let ready = ready_frames (Some t) w s waits in
-    let changes : Changes (Log w.file) (LacksOrHas 1 w.file disk.frames waits.records) 2 t v = given disk.frames ready.1 in
-    let rest : IsAtRest v 1 w.file w'.gate (disk.frames ++ waits.records ∷ []) = flushed disk.frames ready.1 v refl in
+    let changes : Changes (Log w.file) (LacksOrHas disk.birth w.file disk.frames waits.records) 2 t v = given disk.birth disk.frames ready.2 in
+    let rest : IsAtRest v disk.birth w.file w'.gate (disk.frames ++ waits.records ∷ []) = flushed disk.birth disk.frames ready.2 v refl in
     let same : v ≡ u = some_told v u is in
     subst (λ (x : Told). OnDisk x w' (settle s) []) same (rw file (record {
       earlier = disk.earlier;
+      birth = disk.birth;
+      is_birth = disk.is_birth;
       frames = disk.frames ++ waits.records ∷ [];
       rest = rest;
       still = λ name differs. (changes.others name differs).0 ∙ (disk.still name differs ∙ ap settle_entry (sym (changes.others name differs).1));
@@ -189,15 +191,15 @@ disk_after (Some t) (Some v) w w' s waits given flushed file earlier u is =
       before = same_logs t.reads v.reads 0 w.file disk.earlier (λ n low. (changes.others (Log n) (other_log n w.file (λ at. absurd (omega (arith, low, at))))).1) disk.before;
       none = λ n high. (changes.others (Log n) (other_log n w.file (λ at. absurd (omega (arith, high, at))))).1 ∙ disk.none n high;
       unchecked = λ n. (changes.others (Check n) refl).1 ∙ disk.unchecked n;
-      logs = flush_logged s disk.earlier disk.frames waits.records disk.logs earlier;
+      logs = flush_logged disk.birth s disk.earlier disk.frames waits.records disk.logs earlier;
     }))
   where
     some_told : (a b : Told) → Some a ≡ Some b → a ≡ b
     some_told a b is = cc
 
 pub logged_after : (told told' : Option Told) (w w' : Writer) (b : ℕ) (s : State) (log : IsLogged told w b s) (whole : s.broken ≡ false) → TakesAreEarlier s
-    → ((frames : List (List Rec)) → IsReady told 1 w.file w.gate frames → 1 ≤ length (log.waits whole).records → Tells told told' (Changes (Log w.file) (LacksOrHas 1 w.file frames (log.waits whole).records) 2))
-    → ((frames : List (List Rec)) → IsReady told 1 w.file w.gate frames → 1 ≤ length (log.waits whole).records → IsReady told' 1 w.file w'.gate (frames ++ (log.waits whole).records ∷ []))
+    → ((birth : ℕ) (frames : List (List Rec)) → IsReady told birth w.file w.gate frames → 1 ≤ length (log.waits whole).records → Tells told told' (Changes (Log w.file) (LacksOrHas birth w.file frames (log.waits whole).records) 2))
+    → ((birth : ℕ) (frames : List (List Rec)) → IsReady told birth w.file w.gate frames → 1 ≤ length (log.waits whole).records → IsReady told' birth w.file w'.gate (frames ++ (log.waits whole).records ∷ []))
     → (1 ≤ w.count → w' ≡ record w { gate = w.gate + length w.bytes + 6; started = true; bytes = []; count = 0 }) → (w.count ≡ 0 → (w' ≡ w) × (told' ≡ told)) → IsLogged told' w' b (settle s)
 logged_after told told' w w' b s log whole earlier given flushed writer none = from (some_or_none (length (log.waits whole).records))
   where
@@ -211,6 +213,8 @@ logged_after told told' w w' b s log whole earlier given flushed writer none = f
     same_disk : (t : Told) → OnDisk t w s [] → OnDisk t w (settle s) []
     same_disk t disk = record {
       earlier = disk.earlier;
+      birth = disk.birth;
+      is_birth = disk.is_birth;
       frames = disk.frames;
       rest = disk.rest;
       still = disk.still;
@@ -249,7 +253,7 @@ logged_after told told' w w' b s log whole earlier given flushed writer none = f
           waits = λ _. record {
             records = [];
             pending = record { spelled = bytes; counted = count; each = tt };
-            disk = λ u told_is. disk_after told told' w w' s waits (λ frames ready. given frames ready some) (λ frames ready. flushed frames ready some) file earlier u told_is;
+            disk = λ u told_is. disk_after told told' w w' s waits (λ birth frames ready. given birth frames ready some) (λ birth frames ready. flushed birth frames ready some) file earlier u told_is;
           };
         }
 
@@ -264,18 +268,18 @@ nothing_left told w w' s waits writer none = from waits.records waits.pending (s
 
 -- a flush writes the last log file and makes two syncs, and does nothing where nothing waits
 pub writes_of : (told told' : Option Told) (w : Writer) (s : State) (waits : Waits told w s)
-    → ((frames : List (List Rec)) → IsReady told 1 w.file w.gate frames → 1 ≤ length waits.records → Tells told told' (Changes (Log w.file) (LacksOrHas 1 w.file frames waits.records) 2))
+    → ((birth : ℕ) (frames : List (List Rec)) → IsReady told birth w.file w.gate frames → 1 ≤ length waits.records → Tells told told' (Changes (Log w.file) (LacksOrHas birth w.file frames waits.records) 2))
     → (w.count ≡ 0 → told' ≡ told) → Tells told told' WritesLast
 writes_of told told' w s waits given none = from (some_or_none (length waits.records))
   where
     from : (length waits.records ≡ 0) ⊎ (1 ≤ length waits.records) → Tells told told' WritesLast
     from (inl nothing) = subst (λ (v : Option Told). Tells told v WritesLast) (sym (none (waits.pending.counted ∙ nothing)))
-        (tells_same told WritesLast (λ t is. record { file = w.file; was = file_of 1 w.file (waits.disk t is).frames; there = (waits.disk t is).rest.reads; last = (waits.disk t is).none; others = λ name other. refl; syncs = omega arith }))
+        (tells_same told WritesLast (λ t is. record { file = w.file; was = file_of (waits.disk t is).birth w.file (waits.disk t is).frames; there = (waits.disk t is).rest.reads; last = (waits.disk t is).none; others = λ name other. refl; syncs = omega arith }))
     from (inr some) =
         let ready = ready_frames told w s waits in
-        tells_more told told' (Changes (Log w.file) (LacksOrHas 1 w.file ready.0 waits.records) 2) WritesLast
-        (λ t u old new changes. record { file = w.file; was = file_of 1 w.file (waits.disk t old).frames; there = (waits.disk t old).rest.reads; last = (waits.disk t old).none; others = λ name other. (changes.others name other).1; syncs = changes.syncs })
-        (given ready.0 ready.1 some)
+        tells_more told told' (Changes (Log w.file) (LacksOrHas ready.0 w.file ready.1 waits.records) 2) WritesLast
+        (λ t u old new changes. record { file = w.file; was = file_of (waits.disk t old).birth w.file (waits.disk t old).frames; there = (waits.disk t old).rest.reads; last = (waits.disk t old).none; others = λ name other. (changes.others name other).1; syncs = changes.syncs })
+        (given ready.0 ready.1 ready.2 some)
 
 pub no_ok : {A : Type 0} → false ≡ true → A
 no_ok is = absurd (cc)

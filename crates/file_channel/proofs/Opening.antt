@@ -228,7 +228,7 @@ begun_gains t v number next changes rest = record { number = number; next = next
 
 -- the log of a channel in it
 
-begun_mirrors : (s : State) (logs : List LogFile) (base : Base) (txn : ℕ) → IsFresh s base txn → StandsFor logs base txn → txn ≤ 2 ^ 64 - 1 → 1 ≤ txn → Mirrors empty_base s (begun logs) []
+begun_mirrors : (s : State) (logs : List LogFile) (base : Base) (txn : ℕ) → IsFresh s base txn → StandsFor logs base txn → txn ≤ 2 ^ 64 - 1 → 1 ≤ txn → Mirrors empty_base s (begun 1 logs) []
 begun_mirrors s logs base txn fresh stands most some = record {
   base = fresh.base_is ∙ stands.left_is;
   earlier = front_earlier (lines logs) stands.sound;
@@ -252,6 +252,8 @@ begun_on_disk t v w s base txn number fresh (unchecked, recovers) most some next
     let g : GainsLog t.reads IsBegun v.reads = begun_gains t v number next changes rest in
     rw file (record {
       earlier = one.0;
+      birth = 1;
+      is_birth = inl refl;
       frames = [];
       rest = rw gate rest;
       still = λ name differs. (changes.others name differs).0 ∙ ap settle_entry (sym ((changes.others name differs).1));

@@ -1,24 +1,25 @@
 -- What a folder recovers to, whose last log file a channel writes.
 use Rattle.std.proofs.Common.{◌⊎◌, inl, inr, ◌≡◌, ◌<◌, ◌≤◌, ◌+◌, ◌^◌, ◌++◌, ◌∷◌, [], ℕ, List, length, length-append, map, Option, Some, None, refl, sym, ◌∙◌, ap, subst, arith, append_assoc}
 use Rattle.std.proofs.lemmas.List.{append-nil}
-use Rattle.std.specs.Prelude.{IsSomeAnd}
+use Rattle.std.specs.Prelude.{◌==◌, Bool, true, false, if◌then◌else◌, IsSomeAnd}
 use Rattle.flume_host.specs.Folder.{Files}
 use Rattle.flume_host.specs.declared.names.FileName.TheVariants.{Log}
 use Rattle.event_core.specs.Journal.{Base, after_journal}
 use Rattle.event_core.specs.Numbers.{u16_bytes, u32_bytes}
 use Rattle.record_form.specs.declared.record.Rec.{Rec}
-use Rattle.channel_log.specs.Frames.{Content, Blank, Whole, Holds, frame_bytes, header, opened}
+use Rattle.channel_log.specs.Frames.{Content, Blank, IsBirth, Whole, Holds, frame_bytes, header, opened}
 use Rattle.channel_log.specs.Reader.{frame_items, record_items}
 use Rattle.channel_log.specs.Writer.{HasFrames}
 use Rattle.channel_face.specs.Machine.{State, base_of, settle}
 use Rattle.channel_replay.specs.declared.line.Line.{Line}
+use Rattle.channel_replay.specs.declared.line.Line.TheVariants.{Begins}
 use Rattle.record_form.specs.Record.{record_length}
 use Rattle.channel_replay.specs.Marks.{Past, Dropped, Applied, journal, next_txn}
 use Rattle.channel_replay.specs.Recover.{AreLogs, AreSound, LogFile, Recovers, StandsFor, empty_base, file_lines, lines, past_lines, record_lines}
 use Rattle.channel_replay.proofs.Lines.{past_lines-append, sound_append, lines-append, txn_from_one}
 use Rattle.channel_replay.proofs.OneList.{one_list}
 use Rattle.file_channel.specs.Mirrors.{AreLegal, Mirrors, applied}
-use Rattle.file_channel.specs.Logs.{HasLog, Logs, begun, flat}
+use Rattle.file_channel.specs.Logs.{HasLog, Logs, begun, entered, flat}
 use Rattle.file_channel.specs.Laws.{FramesRecover, FlushRecovers, FlushIsLogged}
 use Rattle.file_channel.proofs.Ending.{flush_mirrored, staged_base}
 
@@ -68,46 +69,81 @@ sound_records : (file : ℕ) (past : Past) (items : List (Rec × ℕ)) → AreLe
 sound_records file past [] legal = tt
 sound_records file past (item ∷ items) legal = (legal.0, sound_records file (Applied item.0 ∷ past) items legal.1)
 
--- The file that is written has these lines, as far as recovery goes.
-record LastLines (past : Past) (found : List Line) (frames : List (List Rec)) : Type 0 where
-  sound : AreSound empty_base past found
-  journal_is : journal (past_lines past found) ≡ journal (applied (Dropped ∷ past) (flat frames))
-  txn_is : next_txn (past_lines past found) ≡ next_txn (applied (Dropped ∷ past) (flat frames))
+-- where a file is entered, nothing is added to the journal, and no transaction number is used
 
-whole_lines : (past : Past) (number : ℕ) (frames : List (List Rec)) → AreLegal empty_base (Dropped ∷ past) (flat frames) → LastLines past (file_lines number (Whole 1 frames)) frames
-whole_lines past number frames legal =
+entered_journal : (birth : ℕ) (past : Past) → journal (entered birth past) ≡ journal past
+entered_journal birth past = from (birth == 1)
+  where
+    from : (b : Bool) → journal (if b then Dropped ∷ past else past) ≡ journal past
+    from true = refl
+    from false = refl
+
+entered_next : (birth : ℕ) (past : Past) → next_txn (entered birth past) ≡ next_txn past
+entered_next birth past = from (birth == 1)
+  where
+    from : (b : Bool) → next_txn (if b then Dropped ∷ past else past) ≡ next_txn past
+    from true = refl
+    from false = refl
+
+-- the marks after the lines of a file are those of its records behind where it is entered
+past_entered : (birth : ℕ) (past : Past) (found : List Line) → past_lines past ((if birth == 1 then Begins ∷ [] else []) ++ found) ≡ past_lines (entered birth past) found
+past_entered birth past found = from (birth == 1)
+  where
+    from : (b : Bool) → past_lines past ((if b then Begins ∷ [] else []) ++ found) ≡ past_lines (if b then Dropped ∷ past else past) found
+    from true = refl
+    from false = refl
+
+sound_entered : (birth : ℕ) (past : Past) (found : List Line) → AreSound empty_base (entered birth past) found → AreSound empty_base past ((if birth == 1 then Begins ∷ [] else []) ++ found)
+sound_entered birth past found sound = from (birth == 1) sound
+  where
+    from : (b : Bool) → AreSound empty_base (if b then Dropped ∷ past else past) found → AreSound empty_base past ((if b then Begins ∷ [] else []) ++ found)
+    from true sound = (tt, sound)
+    from false sound = sound
+
+-- The file that is written has these lines, as far as recovery goes.
+record LastLines (birth : ℕ) (past : Past) (found : List Line) (frames : List (List Rec)) : Type 0 where
+  sound : AreSound empty_base past found
+  journal_is : journal (past_lines past found) ≡ journal (applied (entered birth past) (flat frames))
+  txn_is : next_txn (past_lines past found) ≡ next_txn (applied (entered birth past) (flat frames))
+
+whole_lines : (birth : ℕ) (past : Past) (number : ℕ) (frames : List (List Rec)) → AreLegal empty_base (entered birth past) (flat frames) → LastLines birth past (file_lines number (Whole birth frames)) frames
+whole_lines birth past number frames legal =
     let items : List (Rec × ℕ) = frame_items 16 frames in
+    let first : Past = entered birth past in
     let same : record_lines number items ++ [] ≡ record_lines number items = append-nil (record_lines number items) in
-    let there : past_lines (Dropped ∷ past) (record_lines number items ++ []) ≡ applied (Dropped ∷ past) (flat frames) =
-    ap (λ (l : List Line). past_lines (Dropped ∷ past) l) same ∙ (past_records number (Dropped ∷ past) items ∙ ap (λ (l : List Rec). applied (Dropped ∷ past) l) (firsts-frames 16 frames)) in
+    let there : past_lines past (file_lines number (Whole birth frames)) ≡ applied first (flat frames) =
+    past_entered birth past (record_lines number items ++ [])
+    ∙ (ap (λ (l : List Line). past_lines first l) same ∙ (past_records number first items ∙ ap (λ (l : List Rec). applied first l) (firsts-frames 16 frames))) in
     record {
-      sound = (tt, subst (λ (l : List Line). AreSound empty_base (Dropped ∷ past) l) (sym same) (sound_records number (Dropped ∷ past) items (subst (λ (l : List Rec). AreLegal empty_base (Dropped ∷ past) l) (sym (firsts-frames 16 frames)) legal)));
+      sound = sound_entered birth past (record_lines number items ++ [])
+          (subst (λ (l : List Line). AreSound empty_base first l) (sym same) (sound_records number first items (subst (λ (l : List Rec). AreLegal empty_base first l) (sym (firsts-frames 16 frames)) legal)));
       journal_is = ap journal there;
       txn_is = ap next_txn there;
     }
 
-no_lines : (past : Past) (number : ℕ) → LastLines past (file_lines number Blank) []
-no_lines past number = record { sound = tt; journal_is = refl; txn_is = refl }
+no_lines : (birth : ℕ) (past : Past) (number : ℕ) → LastLines birth past (file_lines number Blank) []
+no_lines birth past number = record { sound = tt; journal_is = sym (entered_journal birth past); txn_is = sym (entered_next birth past) }
 
 -- a file of these frames holds them, or counts as empty and has none
-held_content : (number : ℕ) (frames : List (List Rec)) (bytes : List ℕ) (past : Past) → HasFrames 1 number frames bytes → AreLegal empty_base (Dropped ∷ past) (flat frames) → (content : Content) × Holds number bytes content × LastLines past (file_lines number content) frames
-held_content number frames bytes past has legal = from (longer (length bytes))
+held_content : (birth number : ℕ) (frames : List (List Rec)) (bytes : List ℕ) (past : Past) → IsBirth birth → HasFrames birth number frames bytes → AreLegal empty_base (entered birth past) (flat frames)
+    → (content : Content) × Holds number bytes content × LastLines birth past (file_lines number content) frames
+held_content birth number frames bytes past is_birth has legal = from (longer (length bytes))
   where
     longer : (n : ℕ) → (17 < n) ⊎ (n ≤ 17)
     longer n = grind arith
 
-    no_frames : (frames : List (List Rec)) (gate : ℕ) (rest : List ℕ) → length bytes ≤ 17 → bytes ≡ header 1 number ++ (opened frames ++ gate ∷ rest) → frames ≡ []
+    no_frames : (frames : List (List Rec)) (gate : ℕ) (rest : List ℕ) → length bytes ≤ 17 → bytes ≡ header birth number ++ (opened frames ++ gate ∷ rest) → frames ≡ []
     no_frames [] gate rest short is = refl
     no_frames (frame ∷ frames) gate rest short is =
-        let all : length bytes ≡ length (header 1 number) + length (opened (frame ∷ frames) ++ gate ∷ rest) = ap (λ (l : List ℕ). length l) is ∙ length-append (header 1 number) (opened (frame ∷ frames) ++ gate ∷ rest) in
+        let all : length bytes ≡ length (header birth number) + length (opened (frame ∷ frames) ++ gate ∷ rest) = ap (λ (l : List ℕ). length l) is ∙ length-append (header birth number) (opened (frame ∷ frames) ++ gate ∷ rest) in
         let two : length (opened (frame ∷ frames) ++ gate ∷ rest) ≡ length (opened (frame ∷ frames)) + length (gate ∷ rest) = length-append (opened (frame ∷ frames)) (gate ∷ rest) in
-        absurd (omega (arith, all, two, short, length-header 1 number))
+        absurd (omega (arith, all, two, short, length-header birth number))
 
-    from : ((17 < length bytes) ⊎ (length bytes ≤ 17)) → (content : Content) × Holds number bytes content × LastLines past (file_lines number content) frames
-    from (inl long) = (Whole 1 frames, (long, (inl refl, has)), whole_lines past number frames legal)
+    from : ((17 < length bytes) ⊎ (length bytes ≤ 17)) → (content : Content) × Holds number bytes content × LastLines birth past (file_lines number content) frames
+    from (inl long) = (Whole birth frames, (long, (is_birth, has)), whole_lines birth past number frames legal)
     from (inr short) =
-        let none : frames ≡ [] = no_frames frames has.2.gate has.2.rest short (has.1 ∙ ap (λ (l : List ℕ). header 1 number ++ l) has.2.split) in
-        (Blank, short, subst (λ (fs : List (List Rec)). LastLines past (file_lines number Blank) fs) (sym none) (no_lines past number))
+        let none : frames ≡ [] = no_frames frames has.2.gate has.2.rest short (has.1 ∙ ap (λ (l : List ℕ). header birth number ++ l) has.2.split) in
+        (Blank, short, subst (λ (fs : List (List Rec)). LastLines birth past (file_lines number Blank) fs) (sym none) (no_lines birth past number))
 
 -- a folder's log files and one more
 
@@ -117,22 +153,22 @@ logs_and_one files from number to [] content before low small last none = (low, 
 logs_and_one files from number to (log ∷ earlier) content before low small last none =
     (before.0, omega (arith, before.1, small), before.2, before.3, logs_and_one files (log.number + 1) number to earlier content before.4 (omega (arith, before.1)) small last none)
 
-some_held : (number : ℕ) (frames : List (List Rec)) (file : Option (List ℕ)) (past : Past) → IsSomeAnd file (HasFrames 1 number frames) → AreLegal empty_base (Dropped ∷ past) (flat frames)
-    → (content : Content) × IsSomeAnd file (λ bytes. Holds number bytes content) × LastLines past (file_lines number content) frames
-some_held number frames None past has legal = absurd has
-some_held number frames (Some bytes) past has legal = held_content number frames bytes past has legal
+some_held : (birth number : ℕ) (frames : List (List Rec)) (file : Option (List ℕ)) (past : Past) → IsBirth birth → IsSomeAnd file (HasFrames birth number frames) → AreLegal empty_base (entered birth past) (flat frames)
+    → (content : Content) × IsSomeAnd file (λ bytes. Holds number bytes content) × LastLines birth past (file_lines number content) frames
+some_held birth number frames None past is_birth has legal = absurd has
+some_held birth number frames (Some bytes) past is_birth has legal = held_content birth number frames bytes past is_birth has legal
 
 pub frames_recover : FramesRecover
-frames_recover image earlier number frames has sound legal logs are =
+frames_recover image earlier birth number frames is_birth has sound legal logs are =
     let past : Past = past_lines [] (lines earlier) in
-    let held = some_held number frames (image (Log number)) past has.last legal in
+    let held = some_held birth number frames (image (Log number)) past is_birth has.last legal in
     let content : Content = held.0 in
     let found : List Line = file_lines number content in
     let last : LogFile = record { number = number; content = content } in
     let mine : logs ≡ earlier ++ last ∷ [] = one_list image 0 (2 ^ 32) logs (earlier ++ last ∷ []) are (logs_and_one image 0 number (2 ^ 32) earlier content has.before (omega arith) has.small held.1 has.none) in
     let all_lines : lines (earlier ++ last ∷ []) ≡ lines earlier ++ found = lines-append earlier (last ∷ []) ∙ ap (λ (l : List Line). lines earlier ++ l) (append-nil found) in
     let whole : past_lines [] (lines (earlier ++ last ∷ [])) ≡ past_lines past found = ap (λ (l : List Line). past_lines [] l) all_lines ∙ past_lines-append [] (lines earlier) found in
-    subst (λ (l : List LogFile). StandsFor l (after_journal empty_base (journal (applied (begun earlier) (flat frames)))) (next_txn (applied (begun earlier) (flat frames)))) (sym mine)
+    subst (λ (l : List LogFile). StandsFor l (after_journal empty_base (journal (applied (begun birth earlier) (flat frames)))) (next_txn (applied (begun birth earlier) (flat frames)))) (sym mine)
     (record {
       sound = subst (λ (l : List Line). AreSound empty_base [] l) (sym all_lines) (sound_append empty_base [] (lines earlier) found sound held.2.sound);
       left_is = ap (λ (j : List _). after_journal empty_base j) (sym (ap journal whole ∙ held.2.journal_is));
@@ -150,37 +186,37 @@ next_less past [] = omega arith
 next_less past (rec ∷ records) = omega (arith, next_less (Applied rec ∷ past) records)
 
 -- the frames that are there are what is settled
-pub settled_recovers : (s : State) (image : Files) (earlier : List LogFile) (number : ℕ) (frames : List (List Rec)) (records : List Rec) → Logs s earlier frames records → HasLog image earlier number (HasFrames 1 number frames) → (txn : ℕ) × (txn ≤ s.txn) × Recovers image (base_of s) txn
-settled_recovers s image earlier number frames records log has =
-    let settled : Past = applied (begun earlier) (flat frames) in
-    let it = frames_recover image earlier number frames has log.sound log.legal in
+pub settled_recovers : (s : State) (image : Files) (earlier : List LogFile) (birth number : ℕ) (frames : List (List Rec)) (records : List Rec) → IsBirth birth → Logs birth s earlier frames records → HasLog image earlier number (HasFrames birth number frames) → (txn : ℕ) × (txn ≤ s.txn) × Recovers image (base_of s) txn
+settled_recovers s image earlier birth number frames records is_birth log has =
+    let settled : Past = applied (begun birth earlier) (flat frames) in
+    let it = frames_recover image earlier birth number frames is_birth has log.sound log.legal in
     (next_txn settled, omega (arith, next_less settled records, log.mirrors.next), subst (λ (b : Base). Recovers image b (next_txn settled)) (sym log.mirrors.base) it)
 
 pub flush_recovers : FlushRecovers
-flush_recovers s image earlier number frames records log has = from (or_some (image (Log number)) (HasFrames 1 number frames) (HasFrames 1 number (frames ++ records ∷ [])) has.last)
+flush_recovers s image earlier birth number frames records is_birth log has = from (or_some (image (Log number)) (HasFrames birth number frames) (HasFrames birth number (frames ++ records ∷ [])) has.last)
   where
     settled : Past
-    settled = applied (begun earlier) (flat frames)
+    settled = applied (begun birth earlier) (flat frames)
 
-    more : applied (begun earlier) (flat (frames ++ records ∷ [])) ≡ applied settled records
-    more = ap (λ (l : List Rec). applied (begun earlier) l) (flat-push frames records) ∙ applied-append (begun earlier) (flat frames) records
+    more : applied (begun birth earlier) (flat (frames ++ records ∷ [])) ≡ applied settled records
+    more = ap (λ (l : List Rec). applied (begun birth earlier) l) (flat-push frames records) ∙ applied-append (begun birth earlier) (flat frames) records
 
-    from : IsSomeAnd (image (Log number)) (HasFrames 1 number frames) ⊎ IsSomeAnd (image (Log number)) (HasFrames 1 number (frames ++ records ∷ []))
+    from : IsSomeAnd (image (Log number)) (HasFrames birth number frames) ⊎ IsSomeAnd (image (Log number)) (HasFrames birth number (frames ++ records ∷ []))
         → (txn : ℕ) × (txn ≤ s.txn) × (Recovers image (base_of s) txn ⊎ Recovers image (after_journal (base_of s) s.staged) txn)
     from (inl lacks) =
-        let it = frames_recover image earlier number frames (record { small = has.small; before = has.before; last = lacks; none = has.none }) log.sound log.legal in
+        let it = frames_recover image earlier birth number frames is_birth (record { small = has.small; before = has.before; last = lacks; none = has.none }) log.sound log.legal in
         (next_txn settled, omega (arith, next_less settled records, log.mirrors.next), inl (subst (λ (b : Base). Recovers image b (next_txn settled)) (sym log.mirrors.base) it))
     from (inr holds) =
-        let legal : AreLegal empty_base (begun earlier) (flat (frames ++ records ∷ [])) = subst (λ (l : List Rec). AreLegal empty_base (begun earlier) l) (sym (flat-push frames records)) (legal-append (begun earlier) (flat frames) records log.legal log.mirrors.legal) in
-        let it = frames_recover image earlier number (frames ++ records ∷ []) (record { small = has.small; before = has.before; last = holds; none = has.none }) log.sound legal in
+        let legal : AreLegal empty_base (begun birth earlier) (flat (frames ++ records ∷ [])) = subst (λ (l : List Rec). AreLegal empty_base (begun birth earlier) l) (sym (flat-push frames records)) (legal-append (begun birth earlier) (flat frames) records log.legal log.mirrors.legal) in
+        let it = frames_recover image earlier birth number (frames ++ records ∷ []) is_birth (record { small = has.small; before = has.before; last = holds; none = has.none }) log.sound legal in
         let same : Recovers image (after_journal empty_base (journal (applied settled records))) (next_txn (applied settled records)) = subst (λ (p : Past). Recovers image (after_journal empty_base (journal p)) (next_txn p)) more it in
         (next_txn (applied settled records), log.mirrors.next, inr (subst (λ (b : Base). Recovers image b (next_txn (applied settled records))) (sym (staged_base empty_base s settled records log.mirrors)) same))
 
 pub flush_logged : FlushIsLogged
-flush_logged s earlier frames records log staged_earlier =
-    let more : applied (begun earlier) (flat (frames ++ records ∷ [])) ≡ applied (applied (begun earlier) (flat frames)) records = ap (λ (l : List Rec). applied (begun earlier) l) (flat-push frames records) ∙ applied-append (begun earlier) (flat frames) records in
+flush_logged birth s earlier frames records log staged_earlier =
+    let more : applied (begun birth earlier) (flat (frames ++ records ∷ [])) ≡ applied (applied (begun birth earlier) (flat frames)) records = ap (λ (l : List Rec). applied (begun birth earlier) l) (flat-push frames records) ∙ applied-append (begun birth earlier) (flat frames) records in
     record {
       sound = log.sound;
-      legal = subst (λ (l : List Rec). AreLegal empty_base (begun earlier) l) (sym (flat-push frames records)) (legal-append (begun earlier) (flat frames) records log.legal log.mirrors.legal);
-      mirrors = subst (λ (p : Past). Mirrors empty_base (settle s) p []) (sym more) (flush_mirrored empty_base s (applied (begun earlier) (flat frames)) records log.mirrors staged_earlier);
+      legal = subst (λ (l : List Rec). AreLegal empty_base (begun birth earlier) l) (sym (flat-push frames records)) (legal-append (begun birth earlier) (flat frames) records log.legal log.mirrors.legal);
+      mirrors = subst (λ (p : Past). Mirrors empty_base (settle s) p []) (sym more) (flush_mirrored empty_base s (applied (begun birth earlier) (flat frames)) records log.mirrors staged_earlier);
     }

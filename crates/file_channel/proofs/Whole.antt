@@ -62,6 +62,8 @@ log_same told w b s s' log many few broken limit step = record {
     same_disk : (t : Told) (records : List Rec) → OnDisk t w s records → OnDisk t w s' records
     same_disk t records disk = record {
       earlier = disk.earlier;
+      birth = disk.birth;
+      is_birth = disk.is_birth;
       frames = disk.frames;
       rest = disk.rest;
       still = disk.still;
@@ -411,10 +413,10 @@ whole_spent told w b s P whole still to back t is = (λ p. spent (to p), λ ther
     disk = waits.disk t is
 
     bytes : List ℕ
-    bytes = file_of 1 w.file disk.frames
+    bytes = file_of disk.birth w.file disk.frames
 
     size : length bytes ≡ w.gate + 1
-    size = omega (arith, length-append (header 1 w.file ++ opened disk.frames) (0 ∷ []), disk.rest.offset)
+    size = omega (arith, length-append (header disk.birth w.file ++ opened disk.frames) (0 ∷ []), disk.rest.offset)
 
     here : w.file ≡ 4_294_967_295 → t.reads (Log 4_294_967_295) ≡ Some bytes
     here file = ap (λ (n : ℕ). t.reads (Log n)) (sym file) ∙ disk.rest.reads
@@ -464,16 +466,16 @@ gained t u w w' b b' s size still log log' writer full room = record { file = w.
     gate = ap (λ (v : Writer). v.gate) moved
 
     bytes : List ℕ
-    bytes = file_of 1 w.file disk.frames
+    bytes = file_of disk.birth w.file disk.frames
 
     bytes' : List ℕ
-    bytes' = file_of 1 w'.file disk'.frames
+    bytes' = file_of disk'.birth w'.file disk'.frames
 
     length_is : length bytes ≡ w.gate + 1
-    length_is = omega (arith, length-append (header 1 w.file ++ opened disk.frames) (0 ∷ []), disk.rest.offset)
+    length_is = omega (arith, length-append (header disk.birth w.file ++ opened disk.frames) (0 ∷ []), disk.rest.offset)
 
     length_now : length bytes' ≡ w'.gate + 1
-    length_now = omega (arith, length-append (header 1 w'.file ++ opened disk'.frames) (0 ∷ []), disk'.rest.offset)
+    length_now = omega (arith, length-append (header disk'.birth w'.file ++ opened disk'.frames) (0 ∷ []), disk'.rest.offset)
 
     longer : (2_097_152 < length w.bytes + size + 6) ⊎ (length w.bytes + size + 6 ≤ 2_097_152) → 2_097_152 + length bytes < length bytes' + size
     longer (inl more) = omega (arith, more, length_is, length_now, gate)

@@ -53,6 +53,8 @@ waits_more told w w' s s' rec waits adds step =
     more : (t : Told) → OnDisk t w s waits.records → w'.file ≡ w.file → w'.gate ≡ w.gate → OnDisk t w' s' (waits.records ++ rec ∷ [])
     more t disk file gate = record {
       earlier = disk.earlier;
+      birth = disk.birth;
+      is_birth = disk.is_birth;
       frames = disk.frames;
       rest = rw (file, gate) disk.rest;
       still = rw file disk.still;

@@ -7,6 +7,7 @@ use Rattle.event_core.specs.declared.journal.Entry.{Entry}
 use Rattle.event_core.specs.declared.journal.Entry.TheVariants.{Puts, Takes}
 use Rattle.record_form.specs.declared.record.Rec.{Rec}
 use Rattle.record_form.specs.declared.record.Rec.TheVariants.{Put, Take, Rollback, CommitPut, CommitTake}
+use Rattle.channel_log.specs.Frames.{IsBirth}
 use Rattle.channel_log.specs.Writer.{HasFrames}
 use Rattle.channel_face.specs.Machine.{State, base_of, entry_of, with_entry, close, free, next_number, settle, stage}
 use Rattle.channel_replay.specs.Marks.{Past, journal, next_txn}
@@ -80,18 +81,18 @@ StartsLeaveTheSame =
 -- A log whose last file has these committed frames recovers to what they and the files before leave.
 abbrev pub FramesRecover : Type 0
 FramesRecover =
-    (image : Files) (earlier : List LogFile) (number : ℕ) (frames : List (List Rec)) → HasLog image earlier number (HasFrames 1 number frames) → AreSound empty_base [] (lines earlier) → AreLegal empty_base (begun earlier) (flat frames)
-    → Recovers image (after_journal empty_base (journal (applied (begun earlier) (flat frames)))) (next_txn (applied (begun earlier) (flat frames)))
+    (image : Files) (earlier : List LogFile) (birth number : ℕ) (frames : List (List Rec)) → IsBirth birth → HasLog image earlier number (HasFrames birth number frames) → AreSound empty_base [] (lines earlier) → AreLegal empty_base (begun birth earlier) (flat frames)
+    → Recovers image (after_journal empty_base (journal (applied (begun birth earlier) (flat frames)))) (next_txn (applied (begun birth earlier) (flat frames)))
 
 -- While a channel's records are flushed as a frame more, a stop leaves what is settled, or that with what is staged.
 abbrev pub FlushRecovers : Type 0
 FlushRecovers =
-    (s : State) (image : Files) (earlier : List LogFile) (number : ℕ) (frames : List (List Rec)) (records : List Rec) → Logs s earlier frames records
-    → HasLog image earlier number (λ bytes. HasFrames 1 number frames bytes ⊎ HasFrames 1 number (frames ++ records ∷ []) bytes)
+    (s : State) (image : Files) (earlier : List LogFile) (birth number : ℕ) (frames : List (List Rec)) (records : List Rec) → IsBirth birth → Logs birth s earlier frames records
+    → HasLog image earlier number (λ bytes. HasFrames birth number frames bytes ⊎ HasFrames birth number (frames ++ records ∷ []) bytes)
     → (txn : ℕ) × (txn ≤ s.txn) × (Recovers image (base_of s) txn ⊎ Recovers image (after_journal (base_of s) s.staged) txn)
 
 -- After a flush the log's frames are one more.
 abbrev pub FlushIsLogged : Type 0
 FlushIsLogged =
-    (s : State) (earlier : List LogFile) (frames : List (List Rec)) (records : List Rec) → Logs s earlier frames records → ((n : ℕ) → next_number s ≤ n → is_among (taken_numbers s.staged) n ≡ false)
-    → Logs (settle s) earlier (frames ++ records ∷ []) []
+    (birth : ℕ) (s : State) (earlier : List LogFile) (frames : List (List Rec)) (records : List Rec) → Logs birth s earlier frames records → ((n : ℕ) → next_number s ≤ n → is_among (taken_numbers s.staged) n ≡ false)
+    → Logs birth (settle s) earlier (frames ++ records ∷ []) []

@@ -1,5 +1,5 @@
 -- The log files of a channel: earlier ones, and the one that it writes.
-use Rattle.std.specs.Prelude.{◌≡◌, ◌<◌, ◌^◌, ℕ, List, [], ◌∷◌, ◌++◌, None, IsSomeAnd}
+use Rattle.std.specs.Prelude.{◌≡◌, ◌==◌, ◌<◌, ◌^◌, ℕ, List, [], ◌∷◌, ◌++◌, None, IsSomeAnd, if◌then◌else◌}
 use Rattle.flume_host.specs.Folder.{Files}
 use Rattle.flume_host.specs.declared.names.FileName.TheVariants.{Log}
 use Rattle.record_form.specs.declared.record.Rec.{Rec}
@@ -13,9 +13,13 @@ abbrev pub flat : List (List Rec) → List Rec
 flat [] = []
 flat (frame ∷ frames) = frame ++ flat frames
 
--- the marks up to the file that is written: it drops what earlier files had open
-abbrev pub begun : List LogFile → Past
-begun earlier = Dropped ∷ past_lines [] (lines earlier)
+-- the marks where a file of this birth is entered: one that an opening began drops what is open, and one that follows a full file does not
+abbrev pub entered : ℕ → Past → Past
+entered birth past = if birth == 1 then Dropped ∷ past else past
+
+-- the marks up to the file that is written, which has this birth
+abbrev pub begun : ℕ → List LogFile → Past
+begun birth earlier = entered birth (past_lines [] (lines earlier))
 
 -- A folder has these log files and then one more, whose bytes have P.
 pub record HasLog (files : Files) (earlier : List LogFile) (number : ℕ) (P : List ℕ → Type 0) : Type 0 where
@@ -24,8 +28,9 @@ pub record HasLog (files : Files) (earlier : List LogFile) (number : ℕ) (P : L
   pub last : IsSomeAnd (files (Log number)) P
   pub none : (n : ℕ) → number < n → files (Log n) ≡ None
 
--- A channel's log has these files without fault before it, and in its own file these frames and then these records, which mirror its state.
-pub record Logs (s : State) (earlier : List LogFile) (frames : List (List Rec)) (records : List Rec) : Type 0 where
+-- A channel's log has these files without fault before it, and in its own file of this birth these frames and then these records, which
+-- mirror its state.
+pub record Logs (birth : ℕ) (s : State) (earlier : List LogFile) (frames : List (List Rec)) (records : List Rec) : Type 0 where
   pub sound : AreSound empty_base [] (lines earlier)
-  pub legal : AreLegal empty_base (begun earlier) (flat frames)
-  pub mirrors : Mirrors empty_base s (applied (begun earlier) (flat frames)) records
+  pub legal : AreLegal empty_base (begun birth earlier) (flat frames)
+  pub mirrors : Mirrors empty_base s (applied (begun birth earlier) (flat frames)) records

@@ -6,6 +6,7 @@ use Rattle.flume_host.specs.declared.names.FileName.{FileName}
 use Rattle.flume_host.specs.declared.names.FileName.TheVariants.{Log}
 use Rattle.event_core.specs.Journal.{Base, after_journal}
 use Rattle.record_form.specs.declared.record.Rec.{Rec}
+use Rattle.channel_log.specs.Frames.{IsBirth}
 use Rattle.channel_log.specs.Writer.{IsAtRest, IsPending, Writer}
 use Rattle.channel_face.specs.Machine.{State, base_of}
 use Rattle.channel_replay.specs.Recover.{AreLogs, LogFile}
@@ -24,14 +25,16 @@ AreStill t file = (name : FileName) → same_name name (Log file) ≡ false → 
 -- The disk has the log of this state, but for the records that wait.
 pub record OnDisk (t : Told) (w : Writer) (s : State) (records : List Rec) : Type 0 where
   pub earlier : List LogFile
+  pub birth : ℕ
+  pub is_birth : IsBirth birth
   pub frames : List (List Rec)
-  pub rest : IsAtRest t 1 w.file w.gate frames
+  pub rest : IsAtRest t birth w.file w.gate frames
   pub still : AreStill t w.file
   pub small : w.file < 2 ^ 32
   pub before : AreLogs t.reads 0 w.file earlier
   pub none : (n : ℕ) → w.file < n → t.reads (Log n) ≡ None
   pub unchecked : HasNoCheck t.reads
-  pub logs : Logs s earlier frames records
+  pub logs : Logs birth s earlier frames records
 
 -- Some records wait, and the disk, as far as it tells, has the rest.
 pub record Waits (told : Option Told) (w : Writer) (s : State) : Type 0 where

@@ -159,15 +159,15 @@ impl<D: Disk + Drop> Writing<D> {
             → IsLogged (D.told self.old.disk) self.old.log self.old.busy s → s.broken ≡ false
             → ((n : ℕ) → next_number s ≤ n → is_among (taken_numbers s.staged) n ≡ false)
             → IsLogged (D.told self.new.disk) self.new.log self.new.busy (settle s)) }
-        ensures changes { (frames : List (List recs.Rec)) (waits : List recs.Rec)
-            → IsReady (D.told self.old.disk) 1 self.old.log.file self.old.log.gate frames
+        ensures changes { (birth : ℕ) (frames : List (List recs.Rec)) (waits : List recs.Rec)
+            → IsReady (D.told self.old.disk) birth self.old.log.file self.old.log.gate frames
             → IsPending self.old.log waits → 1 ≤ length waits
             → Tells (D.told self.old.disk) (D.told self.new.disk)
-            (Changes (Log self.old.log.file) (LacksOrHas 1 self.old.log.file frames waits) 2) }
-        ensures flushed { OnOk result ((frames : List (List recs.Rec)) (waits : List recs.Rec)
-            → IsReady (D.told self.old.disk) 1 self.old.log.file self.old.log.gate frames
+            (Changes (Log self.old.log.file) (LacksOrHas birth self.old.log.file frames waits) 2) }
+        ensures flushed { OnOk result ((birth : ℕ) (frames : List (List recs.Rec)) (waits : List recs.Rec)
+            → IsReady (D.told self.old.disk) birth self.old.log.file self.old.log.gate frames
             → IsPending self.old.log waits → 1 ≤ length waits
-            → IsReady (D.told self.new.disk) 1 self.old.log.file self.new.log.gate
+            → IsReady (D.told self.new.disk) birth self.old.log.file self.new.log.gate
             (frames ++ waits ∷ [])) }
         ensures same { OnOk result (self.old.log.count ≡ 0 → (self.new.log ≡ self.old.log)
             × (D.told self.new.disk ≡ D.told self.old.disk)) }

@@ -48,8 +48,8 @@ some_or_none : (n : ℕ) → (n ≡ 0) ⊎ (1 ≤ n)
 some_or_none n = grind arith
 
 pub flush_grows : (told told' : Option Told) (w w' : Writer) (s : State) → Waits told w s
-    → ((frames : List (List Rec)) (records : List Rec) → IsReady told 1 w.file w.gate frames → IsPending w records → 1 ≤ length records → Tells told told' (Changes (Log w.file) (LacksOrHas 1 w.file frames records) 2))
-    → ((frames : List (List Rec)) (records : List Rec) → IsReady told 1 w.file w.gate frames → IsPending w records → 1 ≤ length records → IsReady told' 1 w.file w'.gate (frames ++ records ∷ []))
+    → ((birth : ℕ) (frames : List (List Rec)) (records : List Rec) → IsReady told birth w.file w.gate frames → IsPending w records → 1 ≤ length records → Tells told told' (Changes (Log w.file) (LacksOrHas birth w.file frames records) 2))
+    → ((birth : ℕ) (frames : List (List Rec)) (records : List Rec) → IsReady told birth w.file w.gate frames → IsPending w records → 1 ≤ length records → IsReady told' birth w.file w'.gate (frames ++ records ∷ []))
     → (1 ≤ w.count → w' ≡ record w { gate = w.gate + length w.bytes + 6; started = true; bytes = []; count = 0 }) → (w.count ≡ 0 → (w' ≡ w) × (told' ≡ told))
     → (u : Told) → told' ≡ Some u → (t : Told) × (told ≡ Some t) × Grows t u w w'
 flush_grows told told' w w' s waits changes flushed moved same u is = from (some_or_none w.count)
@@ -61,9 +61,9 @@ flush_grows told told' w w' s waits changes flushed moved same u is = from (some
     from (inr some) =
         let ready = ready_frames told w s waits in
         let many : 1 ≤ length waits.records = omega (arith, some, waits.pending.counted) in
-        let was = back told told' (Changes (Log w.file) (LacksOrHas 1 w.file ready.0 waits.records) 2) (changes ready.0 waits.records ready.1 waits.pending many) u is in
-        let rest = flushed ready.0 waits.records ready.1 waits.pending many u is in
-        (was.0, was.1, frame_grows was.0 u w w' 1 ready.0 waits.records (ready.1 was.0 was.1) rest waits.pending was.2 (moved some))
+        let was = back told told' (Changes (Log w.file) (LacksOrHas ready.0 w.file ready.1 waits.records) 2) (changes ready.0 ready.1 waits.records ready.2 waits.pending many) u is in
+        let rest = flushed ready.0 ready.1 waits.records ready.2 waits.pending many u is in
+        (was.0, was.1, frame_grows was.0 u w w' ready.0 ready.1 waits.records (ready.2 was.0 was.1) rest waits.pending was.2 (moved some))
 
 pub settle_fits : (told told' : Option Told) (old new : Logged) (s : State) (is : IsStateOf told old s) (still : s.broken ≡ false) → ((u : Told) → told' ≡ Some u → (t : Told) × (told ≡ Some t) × Grows t u old.log new.log)
     → ((known : Known) → Looks known old.places s → Looks known new.places (settle s)) → IsLogged told' new.log new.busy (settle s) → Fits told' new (settle s)

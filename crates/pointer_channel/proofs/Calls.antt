@@ -309,6 +309,8 @@ kept_whole told w b s k whole = record { logged = λ still. kept_logged (whole.l
         pending = record { spelled = waits.pending.spelled; counted = waits.pending.counted; each = waits.pending.each };
         disk = λ t is. let disk = waits.disk t is in record {
           earlier = disk.earlier;
+          birth = disk.birth;
+          is_birth = disk.is_birth;
           frames = disk.frames;
           rest = disk.rest;
           still = disk.still;

@@ -24,7 +24,7 @@ image_is : (t : Told) (w : Writer) (s : State) (records : List Rec) (image : Fil
 image_is t w s records image n disk are = from (eqb_tells n w.file)
   where
     bytes : List ℕ
-    bytes = file_of 1 w.file disk.frames
+    bytes = file_of disk.birth w.file disk.frames
 
     own : image (Log w.file) ≡ t.reads (Log w.file)
     own =

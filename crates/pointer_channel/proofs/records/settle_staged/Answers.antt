@@ -14,7 +14,7 @@ returns-in-Ok-clause-fits g c = λ s is still.
     let new : Logged = record { places = c.settle.new.self; log = c.flush.new.self.log; busy = c.flush.new.self.busy } in
     let log = is.whole.logged still in
     settle_fits told told' old new s is still
-    (flush_grows told told' old.log new.log s (log.waits still) (λ frames waits. c.flush.ensures.changes frames waits) (λ frames waits. c.in-Ok.ensures.flushed frames waits) c.in-Ok.ensures.moved c.in-Ok.ensures.same)
+    (flush_grows told told' old.log new.log s (log.waits still) (λ birth frames waits. c.flush.ensures.changes birth frames waits) (λ birth frames waits. c.in-Ok.ensures.flushed birth frames waits) c.in-Ok.ensures.moved c.in-Ok.ensures.same)
     (λ known looks. c.settle.ensures.step known s looks) (c.in-Ok.ensures.logged s log still (staged_below s is.whole.sound))
 
 pub returns-in-Err-clause-failed : goal.returns-in-Err-clause-failed

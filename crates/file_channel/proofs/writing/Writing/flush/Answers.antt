@@ -7,26 +7,26 @@ flush-requires g c =
     let told = g.D.Disk.told c.args.self.now.disk in
     let waits = c.requires.1.waits c.requires.2 in
     let ready = ready_frames told c.args.self.now.log c.requires.0 waits in
-    (1, ready.0, waits.records, ready.1, waits.pending)
+    (ready.0, ready.1, waits.records, ready.2, waits.pending)
 
 pub returns-in-Ok-clause-any_moment : goal.returns-in-Ok-clause-any_moment
 returns-in-Ok-clause-any_moment g c = λ s log whole.
     let waits = log.waits whole in
     moments (g.D.Disk.told c.args.self.now.disk) (g.D.Disk.told c.flush.new.disk) c.args.self.now.log s waits
-    (λ frames ready some. c.flush.ensures.any_moment 1 frames waits.records ready waits.pending some) (λ none. (c.flush.ensures.empty none).2)
+    (λ birth frames ready some. c.flush.ensures.any_moment birth frames waits.records ready waits.pending some) (λ none. (c.flush.ensures.empty none).2)
 
 pub returns-in-Err-clause-any_moment : goal.returns-in-Err-clause-any_moment
 returns-in-Err-clause-any_moment g c = λ s log whole.
     let waits = log.waits whole in
     moments (g.D.Disk.told c.args.self.now.disk) (g.D.Disk.told c.flush.new.disk) c.args.self.now.log s waits
-    (λ frames ready some. c.flush.ensures.any_moment 1 frames waits.records ready waits.pending some) (λ none. (c.flush.ensures.empty none).2)
+    (λ birth frames ready some. c.flush.ensures.any_moment birth frames waits.records ready waits.pending some) (λ none. (c.flush.ensures.empty none).2)
 
 pub returns-in-Ok-clause-logged : goal.returns-in-Ok-clause-logged
 returns-in-Ok-clause-logged g c = λ s log whole earlier.
     let waits = log.waits whole in
     logged_after (g.D.Disk.told c.args.self.now.disk) (g.D.Disk.told c.flush.new.disk) c.args.self.now.log c.flush.new.self c.args.self.now.busy s log whole earlier
-    (λ frames ready some. c.flush.ensures.any_moment 1 frames waits.records ready waits.pending some)
-    (λ frames ready some. c.in-Ok.ensures.flushed 1 frames waits.records ready waits.pending some)
+    (λ birth frames ready some. c.flush.ensures.any_moment birth frames waits.records ready waits.pending some)
+    (λ birth frames ready some. c.in-Ok.ensures.flushed birth frames waits.records ready waits.pending some)
     c.in-Ok.ensures.writer (λ none. ((c.flush.ensures.empty none).1, (c.flush.ensures.empty none).2))
 
 pub returns-in-Ok-clause-empty : goal.returns-in-Ok-clause-empty
@@ -38,13 +38,13 @@ pub returns-in-Ok-clause-writes : goal.returns-in-Ok-clause-writes
 returns-in-Ok-clause-writes g c = λ s log whole.
     let waits = log.waits whole in
     writes_of (g.D.Disk.told c.args.self.now.disk) (g.D.Disk.told c.flush.new.disk) c.args.self.now.log s waits
-    (λ frames ready some. c.flush.ensures.any_moment 1 frames waits.records ready waits.pending some) (λ none. (c.flush.ensures.empty none).2)
+    (λ birth frames ready some. c.flush.ensures.any_moment birth frames waits.records ready waits.pending some) (λ none. (c.flush.ensures.empty none).2)
 
 pub returns-in-Err-clause-writes : goal.returns-in-Err-clause-writes
 returns-in-Err-clause-writes g c = λ s log whole.
     let waits = log.waits whole in
     writes_of (g.D.Disk.told c.args.self.now.disk) (g.D.Disk.told c.flush.new.disk) c.args.self.now.log s waits
-    (λ frames ready some. c.flush.ensures.any_moment 1 frames waits.records ready waits.pending some) (λ none. (c.flush.ensures.empty none).2)
+    (λ birth frames ready some. c.flush.ensures.any_moment birth frames waits.records ready waits.pending some) (λ none. (c.flush.ensures.empty none).2)
 
 pub returns-in-Ok-clause-nothing : goal.returns-in-Ok-clause-nothing
 returns-in-Ok-clause-nothing g c = λ none.
@@ -57,4 +57,4 @@ returns-in-Err-clause-nothing g c = λ none.
     no_ok (sym (ap (λ r. is_ok r) c.in-Err.is) ∙ empty.0)
 
 pub returns-in-Ok-clause-flushed : goal.returns-in-Ok-clause-flushed
-returns-in-Ok-clause-flushed g c = λ frames waits ready pending some. c.in-Ok.ensures.flushed 1 frames waits ready pending some
+returns-in-Ok-clause-flushed g c = λ birth frames waits ready pending some. c.in-Ok.ensures.flushed birth frames waits ready pending some
