@@ -106,7 +106,7 @@ flush_moments (Some t) (Some u) w s waits given =
     }
 
 -- while nothing is written
-closed_frames : (birth number : ℕ) (frames : List (List Rec)) → AllByRecursion IsFrame frames → HasFrames birth number frames (file_of birth number frames)
+pub closed_frames : (birth number : ℕ) (frames : List (List Rec)) → AllByRecursion IsFrame frames → HasFrames birth number frames (file_of birth number frames)
 closed_frames birth number frames each = (opened frames ++ 0 ∷ [], append_assoc (header birth number) (opened frames) (0 ∷ []), record { each = each; gate = 0; rest = []; split = refl; closed = not_one 0 refl })
   where
     not_one : (n : ℕ) → n ≡ 0 → n ≢ 1

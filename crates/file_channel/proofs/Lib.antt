@@ -13,3 +13,4 @@ pub mod Freeing
 pub mod Standing
 pub mod Opening
 pub mod Reopening
+pub mod Rolling

@@ -106,20 +106,27 @@ record LastLines (birth : ℕ) (past : Past) (found : List Line) (frames : List 
   journal_is : journal (past_lines past found) ≡ journal (applied (entered birth past) (flat frames))
   txn_is : next_txn (past_lines past found) ≡ next_txn (applied (entered birth past) (flat frames))
 
-whole_lines : (birth : ℕ) (past : Past) (number : ℕ) (frames : List (List Rec)) → AreLegal empty_base (entered birth past) (flat frames) → LastLines birth past (file_lines number (Whole birth frames)) frames
-whole_lines birth past number frames legal =
+-- the marks after a whole file, and its lines are sound
+pub whole_past : (birth : ℕ) (past : Past) (number : ℕ) (frames : List (List Rec)) → past_lines past (file_lines number (Whole birth frames)) ≡ applied (entered birth past) (flat frames)
+whole_past birth past number frames =
     let items : List (Rec × ℕ) = frame_items 16 frames in
     let first : Past = entered birth past in
-    let same : record_lines number items ++ [] ≡ record_lines number items = append-nil (record_lines number items) in
-    let there : past_lines past (file_lines number (Whole birth frames)) ≡ applied first (flat frames) =
     past_entered birth past (record_lines number items ++ [])
-    ∙ (ap (λ (l : List Line). past_lines first l) same ∙ (past_records number first items ∙ ap (λ (l : List Rec). applied first l) (firsts-frames 16 frames))) in
-    record {
-      sound = sound_entered birth past (record_lines number items ++ [])
-          (subst (λ (l : List Line). AreSound empty_base first l) (sym same) (sound_records number first items (subst (λ (l : List Rec). AreLegal empty_base first l) (sym (firsts-frames 16 frames)) legal)));
-      journal_is = ap journal there;
-      txn_is = ap next_txn there;
-    }
+    ∙ (ap (λ (l : List Line). past_lines first l) (append-nil (record_lines number items)) ∙ (past_records number first items ∙ ap (λ (l : List Rec). applied first l) (firsts-frames 16 frames)))
+
+pub whole_sound : (birth : ℕ) (past : Past) (number : ℕ) (frames : List (List Rec)) → AreLegal empty_base (entered birth past) (flat frames) → AreSound empty_base past (file_lines number (Whole birth frames))
+whole_sound birth past number frames legal =
+    let items : List (Rec × ℕ) = frame_items 16 frames in
+    let first : Past = entered birth past in
+    sound_entered birth past (record_lines number items ++ [])
+    (subst (λ (l : List Line). AreSound empty_base first l) (sym (append-nil (record_lines number items))) (sound_records number first items (subst (λ (l : List Rec). AreLegal empty_base first l) (sym (firsts-frames 16 frames)) legal)))
+
+whole_lines : (birth : ℕ) (past : Past) (number : ℕ) (frames : List (List Rec)) → AreLegal empty_base (entered birth past) (flat frames) → LastLines birth past (file_lines number (Whole birth frames)) frames
+whole_lines birth past number frames legal = record {
+  sound = whole_sound birth past number frames legal;
+  journal_is = ap journal (whole_past birth past number frames);
+  txn_is = ap next_txn (whole_past birth past number frames);
+}
 
 no_lines : (birth : ℕ) (past : Past) (number : ℕ) → LastLines birth past (file_lines number Blank) []
 no_lines birth past number = record { sound = tt; journal_is = sym (entered_journal birth past); txn_is = sym (entered_next birth past) }

@@ -9,12 +9,12 @@ ghost use Rattle.event_core.specs.declared.journal.Entry.{Entry};
 ghost use Rattle.channel_face.specs.Machine.{State, close, entry_of, free, next_number, settle, stage, with_entry};
 ghost use Rattle.record_form.specs.declared.record.Rec as recs;
 ghost use Rattle.record_form.specs.declared.record.Rec.TheVariants as records;
-ghost use Rattle.channel_log.specs.Writer.{Appends, HasRoom, IsPending, IsReady, LacksOrHas};
+ghost use Rattle.channel_log.specs.Writer.{Appends, HasRoom, IsBlank, IsPending, IsReady, LacksOrHas};
 ghost use Rattle.channel_replay.specs.StartLaws.{done_of};
 ghost use Rattle.file_channel.specs.Touches.{WritesLast};
-ghost use Rattle.file_channel.specs.Written.{IsLogged, MayRecover, kept};
+ghost use Rattle.file_channel.specs.Written.{IsLogged, MayRecover, RecoversSettled, kept};
 
-use channel_log::LogWriter;
+use channel_log::{LogRollRefused, LogWriter};
 use event_core::Event;
 use flume_host::{Disk, Failed};
 use record_form::{MAX_PUT_SIZE, Rec};
@@ -142,6 +142,39 @@ impl<D: Disk + Drop> Writing<D> {
     {
         self.log.append(&Rec::CommitTake { txn, count });
         self.busy -= 1;
+    }
+
+    /// Begins the next file, in which the waiting records go on; the one before has a frame, and is not the last that there can be.
+    /// A crash at any moment of the call leaves what is settled.
+    pub fn roll(&mut self) -> Result<(), Failed>
+        requires logged { (s : State)
+            × IsLogged (D.told self.old.disk) self.old.log self.old.busy s × (s.broken ≡ false) }
+        requires framed { 16 < self.old.log.gate }
+        requires follows { self.old.log.file < 4_294_967_295 }
+        ensures any_moment { (s : State)
+            → IsLogged (D.told self.old.disk) self.old.log self.old.busy s → s.broken ≡ false
+            → Tells (D.told self.old.disk) (D.told self.new.disk)
+            (λ t u. LeavesOnly t u (RecoversSettled s)) }
+        ensures logged { OnOk result ((s : State)
+            → IsLogged (D.told self.old.disk) self.old.log self.old.busy s
+            → IsLogged (D.told self.new.disk) self.new.log self.new.busy s) }
+        ensures begins { Tells (D.told self.old.disk) (D.told self.new.disk)
+            (Changes (Log (self.old.log.file + 1)) IsBlank 1) }
+        ensures begun { OnOk result (IsReady (D.told self.new.disk) 2 self.new.log.file 16 []) }
+        ensures moved { OnOk result (self.new.log ≡ record self.old.log {
+          file = self.old.log.file + 1;
+          gate = 16;
+          started = false;
+        }) }
+        ensures busy { self.new.busy ≡ self.old.busy }
+        ensures refused { OnErr result (self.new.log ≡ self.old.log) }
+        ensures cause { HasCause (D.faults self.old.disk) (D.faults self.new.disk) result }
+    {
+        match self.log.roll(&mut self.disk) {
+            Ok(()) => Ok(()),
+            Err(LogRollRefused::DiskFault) => Err(Failed),
+            Err(LogRollRefused::Spent) => unreachable!(),
+        }
     }
 
     /// Writes the waiting records as a frame. A stop at any moment of the call leaves what is settled, or that with what is
