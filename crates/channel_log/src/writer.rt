@@ -131,7 +131,7 @@ impl Model for LogWriter {
 
     ghost view = { λ w. record { file = w.number; gate = w.gate; max_file = w.max_file; started = w.started; bytes = w.frame.items; count = w.count; kept = w.window } };
 
-    ghost invariant = { λ w. IsWithin w.gate w.count w.frame.items (vec_capacity w.frame) };
+    ghost invariant = { λ w. IsWithin w.gate w.count w.started w.frame.items (vec_capacity w.frame) };
 }
 
 // Adds END and a closed commit byte.
@@ -256,7 +256,8 @@ impl LogWriter {
     /// Whether a flush of the waiting records begins a file first: there are some, this file has a frame, with theirs it would
     /// pass its greatest length, and its number isn't the last.
     pub fn must_roll(&self) -> bool
-        ensures { IsTrue result ↔ MustRoll self.now }
+        ensures must { IsTrue result ↔ MustRoll self.now }
+        ensures framed { IsTrue result → 16 < self.now.gate }
     {
         self.count > 0
             && self.started
@@ -379,9 +380,10 @@ impl LogWriter {
         self.number
     }
 
-    /// The offset of the commit byte that the next flush opens.
+    /// The offset of the commit byte that the next flush opens. It is 16 at least, as the header stands before it.
     pub fn gate_at(&self) -> u64
-        ensures { result ≡ self.now.gate }
+        ensures gate { result ≡ self.now.gate }
+        ensures range { (16 ≤ result) × (result < 2 ^ 63) }
     {
         self.gate
     }

@@ -1,6 +1,6 @@
 -- Puts that go from one file to another.
-use Rattle.std.proofs.Common.{inl, inr, ◌≡◌, ◌<◌, ◌+◌, ◌++◌, ◌∷◌, [], ℕ, zero, suc, List, length, take, drop, map, get_or, set, Option, Some, None, refl, sym, ◌∙◌, ap, subst, arith}
-use Rattle.std.specs.Prelude.{◌-◌, ◌^◌, MatchOption, option_map, true}
+use Rattle.std.proofs.Common.{inl, inr, ◌≡◌, ◌<◌, ◌≤◌, ◌+◌, ◌++◌, ◌∷◌, [], ℕ, zero, suc, List, length, take, drop, map, get_or, set, Option, Some, None, refl, sym, ◌∙◌, ap, subst, arith}
+use Rattle.std.specs.Prelude.{MatchOption, option_map}
 use Rattle.std.specs.List.{AllByRecursion}
 use Rattle.std.proofs.lemmas.List.{take_more, take_more_set, map-append, get_or-drop, drop-set-lt}
 use Rattle.std.proofs.lemmas.Grind.{drop_more_same}
@@ -9,11 +9,11 @@ use Rattle.event_core.specs.declared.journal.Entry.{Entry}
 use Rattle.event_core.specs.declared.journal.Entry.TheVariants as entry
 use Rattle.record_form.specs.declared.record.Pointer.{Pointer}
 use Rattle.event_ring.specs.Slots.{Left}
-use Rattle.open_table.specs.Tables.{MayMove, is_behind, Listed, Open, Puts, Table, Takes, listed_of, moved, moved_open, moved_pointer, open_at, puts_of, size}
+use Rattle.open_table.specs.Tables.{MayMove, Listed, Open, Puts, Table, Takes, listed_of, moved, moved_open, moved_pointer, open_at, puts_of, size}
 use Rattle.open_table.specs.declared.opened.Ended.{Ended}
 use Rattle.channel_face.specs.Machine.{State, entry_of}
 use Rattle.channel_places.specs.Ends.{one_if_staged}
-use Rattle.channel_places.specs.Looks.{IsWithinRoom, Known, LookLeft, LookPuts, LookStaged, Looks, LooksListed, LooksOpen, MayMoveKnown, Moves, Places, StandsIn, held_in, puts_in}
+use Rattle.channel_places.specs.Looks.{IsWithinRoom, Known, LookLeft, LookPuts, LookStaged, Looks, LooksListed, LooksOpen, Moves, Places, StandsIn, held_in, puts_in}
 use Rattle.channel_places.proofs.Opening.{left_grows}
 
 -- staged transactions, one after another
@@ -82,29 +82,19 @@ moved_looks known more file at to_file to_at p s t staged looks moves left opene
   numbers = looks.numbers;
 }
 
--- what looks like a state may be moved, where what is known may
+-- each may be moved to where no offset grows
 
-puts_may : (known : Known) (file at to_at : ℕ) (pointers : List Pointer) (events : List Content) → MayMoveKnown file at to_at known → LookPuts known pointers events → (k : ℕ) (d : Pointer) → k < length pointers → is_behind file at (get_or pointers k d) ≡ true
-    → to_at + ((get_or pointers k d).at - at) < 2 ^ 64
-puts_may known file at to_at [] events may look k d less = absurd (omega (arith, less))
-puts_may known file at to_at (p ∷ pointers) [] may look k d less = absurd look
-puts_may known file at to_at (p ∷ pointers) (e ∷ events) may look zero d less = may p e look.0
-puts_may known file at to_at (p ∷ pointers) (e ∷ events) may look (suc k) d less = puts_may known file at to_at pointers events may look.1 k d (omega (arith, less))
+listed_may : (file at to_at : ℕ) (l : Listed) → to_at ≤ at → MayMove file at to_at l
+listed_may file at to_at (Puts pointers) low = λ k d less. inl low
+listed_may file at to_at (Takes numbers) low = tt
 
-listed_may : (known : Known) (file at to_at : ℕ) (l : Listed) (e : Entry) → MayMoveKnown file at to_at known → LooksListed known l e → MayMove file at to_at l
-listed_may known file at to_at (Puts pointers) (entry.Puts events) may look = puts_may known file at to_at pointers events may look
-listed_may known file at to_at (Puts pointers) (entry.Takes numbers) may look = absurd look
-listed_may known file at to_at (Takes numbers) e may look = tt
+pub open_may : (file at to_at : ℕ) (o : Option Open) → to_at ≤ at → MatchOption o (Unit {0}) (λ o. MayMove file at to_at o.listed)
+open_may file at to_at None low = tt
+open_may file at to_at (Some o) low = listed_may file at to_at o.listed low
 
-pub open_may : (known : Known) (file at to_at room : ℕ) (o : Option Open) (e : Option Entry) → MayMoveKnown file at to_at known → LooksOpen known room o e → MatchOption o (Unit {0}) (λ o. MayMove file at to_at o.listed)
-open_may known file at to_at room None e may look = tt
-open_may known file at to_at room (Some o) None may look = absurd look
-open_may known file at to_at room (Some o) (Some e) may look = listed_may known file at to_at o.listed e may look.0
-
-pub staged_may : (known : Known) (file at to_at : ℕ) (listed : List Listed) (staged : List Entry) → MayMoveKnown file at to_at known → LookStaged known listed staged → AllByRecursion (λ l. MayMove file at to_at l) listed
-staged_may known file at to_at [] staged may look = tt
-staged_may known file at to_at (l ∷ listed) [] may look = absurd look
-staged_may known file at to_at (l ∷ listed) (e ∷ staged) may look = (listed_may known file at to_at l e may look.0, staged_may known file at to_at listed staged may look.1)
+pub staged_may : (file at to_at : ℕ) (listed : List Listed) → to_at ≤ at → AllByRecursion (λ l. MayMove file at to_at l) listed
+staged_may file at to_at [] low = tt
+staged_may file at to_at (l ∷ listed) low = (listed_may file at to_at l low, staged_may file at to_at listed low)
 
 -- what is known where they were, and where they are
 abbrev pub both_known : ℕ → ℕ → ℕ → ℕ → Known → Known

@@ -1,11 +1,11 @@
 -- What a channel keeps of its events in memory, and the state of the machine that it looks like.
-use Rattle.std.specs.Prelude.{◌≡◌, ◌⊎◌, ◌<◌, ◌≤◌, ◌+◌, ◌-◌, ◌^◌, ℕ, List, [], ◌∷◌, ◌++◌, length, Option, Some, None, IsSome, Bool, true, false}
+use Rattle.std.specs.Prelude.{◌≡◌, ◌⊎◌, ◌<◌, ◌≤◌, ◌+◌, ◌^◌, ℕ, List, [], ◌∷◌, ◌++◌, length, Option, Some, None, IsSome, Bool, true, false}
 use Rattle.event_core.specs.Content.{Content}
 use Rattle.event_core.specs.Journal.{AreDistinctOf, IsBase, IsJournal, is_among, put_events, taken_numbers}
 use Rattle.event_core.specs.declared.journal.Entry.{Entry}
 use Rattle.event_core.specs.declared.journal.Entry.TheVariants as entry
 use Rattle.record_form.specs.declared.record.Pointer.{Pointer}
-use Rattle.open_table.specs.Tables.{Listed, Puts, Takes, Open, Table, MayAdd, is_behind, moved_pointer, open_at, puts_of, size}
+use Rattle.open_table.specs.Tables.{Listed, Puts, Takes, Open, Table, MayAdd, moved_pointer, open_at, puts_of, size}
 use Rattle.open_table.specs.declared.opened.Item.TheVariants.{Put, Take}
 use Rattle.event_ring.specs.Slots.{Left}
 use Rattle.channel_face.specs.Machine.{Call, Rules, State, Admits, after, base_of, entries, entry_of}
@@ -153,10 +153,6 @@ puts_of_open (Some o) = length (puts_of o.listed)
 pub record MayStage (p : Places) (number : ℕ) : Type 0 where
   pub there : IsSome (open_at p.opened number)
   pub numbers : p.numbers.first + puts_in p.staged + puts_of_open (open_at p.opened number) < 2 ^ 64
-
--- no pointer that is known passes the greatest offset where it is moved
-abbrev pub MayMoveKnown : ℕ → ℕ → ℕ → Known → Type 0
-MayMoveKnown file at to_at known = (p : Pointer) (event : Content) → StandsIn known p event → is_behind file at p ≡ true → to_at + (p.at - at) < 2 ^ 64
 
 -- what is staged of a transaction: nothing, where it has nothing
 abbrev pub staged_of : Listed → List Listed

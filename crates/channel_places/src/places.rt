@@ -12,7 +12,7 @@ ghost use Rattle.channel_face.specs.Machine.{Reopened, State, BeginPut, BeginTak
 ghost use Rattle.open_table.specs.Tables.{MayAdd, is_open, open_at};
 ghost use Rattle.open_table.specs.declared.opened.Item.TheVariants.{Put, Take};
 ghost use Rattle.record_form.specs.declared.record.Pointer as pointers;
-ghost use Rattle.channel_places.specs.Looks.{IsFree, IsOpenFor, Known, LookLeft, Looks, MayMoveKnown, MayPut, MayStage, MayTake, Moves, Steps, eventless, held_in, puts_in, puts_of_open, with_begun};
+ghost use Rattle.channel_places.specs.Looks.{IsFree, IsOpenFor, Known, LookLeft, Looks, MayPut, MayStage, MayTake, Moves, Steps, eventless, held_in, puts_in, puts_of_open, with_begun};
 
 use crate::moving::move_staged;
 use crate::settling::{append_staged, end_all, free_takes, one_if_staged, remove_staged};
@@ -468,9 +468,9 @@ impl Held {
     }
 
     /// Each put that is open or staged and stands in `file` at the offset `at` or behind it is known to stand in `to_file` from now on,
-    /// as far behind `to_at`. Events that are left stay where they are. It takes no memory.
+    /// as far behind `to_at`, which is no greater. Events that are left stay where they are. It takes no memory.
     pub fn moved(&mut self, file: u32, at: u64, to_file: u32, to_at: u64)
-        requires { (known : Known) × (s : State) × Looks known self.old s × MayMoveKnown file at to_at known }
+        requires { to_at ≤ at }
         ensures { (known more : Known) (s : State) → Looks known self.old s → Moves file at to_file to_at known more
             → LookLeft more (held_in s) self.old.live s.items → Looks more self.new s }
     {

@@ -1,5 +1,5 @@
 -- A table of open transactions, and what each call makes of it.
-use Rattle.std.specs.Prelude.{◌≡◌, ◌≢◌, ◌<◌, ◌≤◌, ◌+◌, ◌-◌, ◌*◌, ◌^◌, ◌==◌, ℕ, nat_le, nat_lt, List, [], ◌∷◌, ◌++◌, length, map, All, Option, Some, None, option_map, Bool, true, false, not, if◌then◌else◌, IsSome, vec_capacity}
+use Rattle.std.specs.Prelude.{◌≡◌, ◌≢◌, ◌⊎◌, ◌<◌, ◌≤◌, ◌+◌, ◌-◌, ◌*◌, ◌^◌, ◌==◌, ℕ, nat_le, nat_lt, List, [], ◌∷◌, ◌++◌, length, map, All, Option, Some, None, option_map, Bool, true, false, not, if◌then◌else◌, IsSome, vec_capacity}
 use Rattle.std.specs.Map.{lookup}
 use Rattle.std.specs.Ordering.{is_eq, nat_cmp}
 use Rattle.record_form.specs.declared.record.Pointer.{Pointer}
@@ -71,9 +71,13 @@ moved file at to_file to_at (Takes numbers) = Takes numbers
 abbrev pub moved_open : ℕ → ℕ → ℕ → ℕ → Open → Open
 moved_open file at to_file to_at o = record o { listed = moved file at to_file to_at o.listed }
 
+-- the pointer's new offset does not pass the greatest; where none grows, this is so of each
+abbrev pub MayMoveOne : ℕ → ℕ → ℕ → Pointer → Type 0
+MayMoveOne file at to_at p = (to_at ≤ at) ⊎ (is_behind file at p ≡ true → to_at + (p.at - at) < 2 ^ 64)
+
 -- none of the new offsets passes the greatest
 abbrev pub MayMove : ℕ → ℕ → ℕ → Listed → Type 0
-MayMove file at to_at (Puts pointers) = All (λ (p : Pointer). is_behind file at p ≡ true → to_at + (p.at - at) < 2 ^ 64) pointers
+MayMove file at to_at (Puts pointers) = All (MayMoveOne file at to_at) pointers
 MayMove file at to_at (Takes numbers) = Unit {0}
 
 abbrev pub is_puts : Listed → Bool

@@ -1,6 +1,6 @@
 // What one transaction has open.
 ghost use Rattle.std.specs.Prelude.{◌≡◌, ◌<◌, ◌≤◌, ◌+◌, ◌-◌, ◌^◌, true, map, IfOk, OnErr, OnOk, vec_capacity};
-ghost use Rattle.open_table.specs.Tables.{Puts, is_behind, moved_pointer, IsOf, size, with_item, begun, capacity_of, listed_of, moved, wider, MayMove, is_puts, puts_of, takes_of};
+ghost use Rattle.open_table.specs.Tables.{Puts, is_behind, moved_pointer, IsOf, size, with_item, begun, capacity_of, listed_of, moved, wider, MayMove, MayMoveOne, is_puts, puts_of, takes_of};
 
 use event_core::NoMemory;
 use record_form::Pointer;
@@ -44,7 +44,7 @@ impl Model for Opened {
 }
 
 fn move_pointer(pointer: &mut Pointer, file: u32, at: u64, to_file: u32, to_at: u64)
-    requires { is_behind file at pointer.old ≡ true → to_at + (pointer.old.at - at) < 2 ^ 64 }
+    requires { MayMoveOne file at to_at pointer.old }
     ensures { pointer.new ≡ moved_pointer file at to_file to_at pointer.old }
 {
     if pointer.file == file && pointer.at >= at {

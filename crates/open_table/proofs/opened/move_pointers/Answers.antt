@@ -1,6 +1,6 @@
-use Rattle.std.proofs.Common.{◌≡◌, ◌<◌, ◌+◌, ◌-◌, ◌^◌, ℕ, true, subst, sym}
+use Rattle.std.proofs.Common.{◌<◌, ℕ, subst, sym}
 use Rattle.record_form.specs.declared.record.Pointer.{Pointer}
-use Rattle.open_table.specs.Tables.{is_behind, moved_pointer}
+use Rattle.open_table.specs.Tables.{MayMoveOne, moved_pointer}
 use Rattle.open_table.proofs.Moving.{same_here, front_more, rest_more}
 use Rattle.open_table.proofs.opened.move_pointers.Goals as goal
 
@@ -10,7 +10,7 @@ none = record { file = 0; at = 0; length = 0 }
 pub move_pointer-requires : goal.move_pointer-requires
 move_pointer-requires c =
     let loop = c.loop-pointer in
-    subst (λ (p : Pointer). is_behind c.args.file c.args.at p ≡ true → c.args.to_at + (p.at - c.args.at) < 2 ^ 64) (sym (same_here loop.pointers c.args.pointers.now loop.pointer-index none loop.invariant.1))
+    subst (λ (p : Pointer). MayMoveOne c.args.file c.args.at c.args.to_at p) (sym (same_here loop.pointers c.args.pointers.now loop.pointer-index none loop.invariant.1))
     (c.requires loop.pointer-index none c.loop-pointer-test.true)
 
 pub loop-pointer-preserved : goal.loop-pointer-preserved

@@ -1,6 +1,5 @@
 use Rattle.std.proofs.Common.{◌≡◌, List, ap, arith, length, map, subst, sym}
 use Rattle.open_table.specs.Tables.{Listed, listed_of, moved, open_at}
-use Rattle.channel_face.specs.Machine.{entry_of}
 use Rattle.channel_places.specs.Ends.{one_if_staged}
 use Rattle.channel_places.specs.Looks.{IsWithinRoom, LookLeft, Looks, Places, held_in, puts_in}
 use Rattle.channel_places.specs.View.{places_of}
@@ -8,16 +7,10 @@ use Rattle.channel_places.proofs.Moved.{both_known, left_both, length-moved, mov
 use Rattle.channel_places.proofs.places.Held.moved.Goals as goal
 
 pub moved-requires : goal.moved-requires
-moved-requires c = λ txn.
-    let given = c.requires in
-    let here = subst (λ (q : Places). Looks given.0 q given.1) (sym c.self.view_is) given.2 in
-    open_may given.0 c.args.file c.args.at c.args.to_at given.1.rules.limits.txn_capacity (open_at c.self.inside.table txn) (entry_of txn given.1.opened) given.3 (here.opened txn)
+moved-requires c = λ txn. open_may c.args.file c.args.at c.args.to_at (open_at c.self.inside.table txn) c.requires
 
 pub move_staged-requires : goal.move_staged-requires
-move_staged-requires c =
-    let given = c.requires in
-    let here = subst (λ (q : Places). Looks given.0 q given.1) (sym c.self.view_is) given.2 in
-    staged_may given.0 c.args.file c.args.at c.args.to_at (map listed_of c.self.inside.staged.items) given.1.staged given.3 here.staged
+move_staged-requires c = staged_may c.args.file c.args.at c.args.to_at (map listed_of c.self.inside.staged.items) c.requires
 
 pub invariant_of-self : goal.invariant_of-self
 invariant_of-self c =
