@@ -1,5 +1,5 @@
 -- A reader begins.
-use Rattle.std.proofs.Common.{◌≡◌, ◌<◌, ◌≤◌, inl, inr, ℕ, ◌-◌, ◌==◌, IsTrue, min, Bool, true, false, List, [], ◌∷◌, ◌++◌, length, take, drop, Option, Some, None, refl, sym, ◌∙◌, ap, subst, arith, take-append-drop}
+use Rattle.std.proofs.Common.{◌≡◌, ◌<◌, ◌≤◌, inl, inr, ℕ, ◌+◌, ◌-◌, ◌==◌, IsTrue, min, Bool, true, false, List, [], ◌∷◌, ◌++◌, length, take, drop, Option, Some, None, refl, sym, ◌∙◌, ap, subst, arith, take-append-drop}
 use Rattle.std.proofs.Math.Seq.{drop-append_seam, take-append_seam}
 use Rattle.std.proofs.lemmas.List.{append-nil}
 use Rattle.std.proofs.lemmas.Bool.{eqb-true, eq-eqb}
@@ -11,7 +11,7 @@ use Rattle.channel_log.specs.declared.loading.FrameRefused.TheVariants as refusa
 use Rattle.channel_log.proofs.Contents.{one_header}
 use Rattle.channel_log.proofs.Opening.{length-header}
 use Rattle.channel_log.specs.Frames.{Commits, Breaks, Content, Blank, BadHeader, Whole, BadFrame, Holds, IsBirth, fault_of, header}
-use Rattle.channel_log.specs.Reader.{Goes, HasFile, IsBegun, WhereBad, Reader, Remains, content_items, frame_items}
+use Rattle.channel_log.specs.Reader.{Goes, HasFile, IsAhead, IsBegun, IsFront, WhereBad, Reader, Remains, content_items, frame_items}
 
 split16 : (birth number : ℕ) (bytes : List ℕ) → take 16 bytes ≡ header birth number → bytes ≡ header birth number ++ drop 16 bytes
 split16 birth number bytes same = sym (take-append-drop 16 bytes) ∙ ap (λ (l : List ℕ). l ++ drop 16 bytes) same
@@ -22,29 +22,33 @@ front16 birth number bytes rest same = ap (λ (n : ℕ). take n bytes) (sym (len
 rest16 : (birth number : ℕ) (bytes rest : List ℕ) → bytes ≡ header birth number ++ rest → drop 16 bytes ≡ rest
 rest16 birth number bytes rest same = ap (λ (n : ℕ). drop n bytes) (sym (length-header birth number)) ∙ ap (drop (length (header birth number))) same ∙ drop-append_seam (header birth number) rest
 
+-- nothing was read ahead
+none_ahead : (r : Reader) (bytes : List ℕ) → r.ahead ≡ [] → IsAhead r bytes
+none_ahead r bytes ahead = subst (λ (l : List ℕ). IsFront l (r.at + length r.held) bytes) (sym ahead) refl
+
 -- the file counts as empty
-pub begins_blank : (r : Reader) (number : ℕ) (bytes : List ℕ) (content : Content) → length bytes ≤ 17 → r.blank ≡ true → r.held ≡ [] → length bytes ≡ r.size → Holds number bytes content → Remains r bytes (content_items content) (fault_of content)
-begins_blank r number bytes Blank short blank held long holds = record { long = long; stands = inl (blank, held, refl, refl) }
-begins_blank r number bytes BadHeader short blank held long holds = absurd (omega (arith, short, holds.0))
-begins_blank r number bytes (Whole birth frames) short blank held long holds = absurd (omega (arith, short, holds.0))
-begins_blank r number bytes (BadFrame birth frames) short blank held long holds = absurd (omega (arith, short, holds.0))
+pub begins_blank : (r : Reader) (number : ℕ) (bytes : List ℕ) (content : Content) → length bytes ≤ 17 → r.blank ≡ true → r.held ≡ [] → r.ahead ≡ [] → length bytes ≡ r.size → Holds number bytes content → Remains r bytes (content_items content) (fault_of content)
+begins_blank r number bytes Blank short blank held ahead long holds = record { long = long; ahead = none_ahead r bytes ahead; stands = inl (blank, held, refl, refl) }
+begins_blank r number bytes BadHeader short blank held ahead long holds = absurd (omega (arith, short, holds.0))
+begins_blank r number bytes (Whole birth frames) short blank held ahead long holds = absurd (omega (arith, short, holds.0))
+begins_blank r number bytes (BadFrame birth frames) short blank held ahead long holds = absurd (omega (arith, short, holds.0))
 
-pub begins_at : (r : Reader) (bytes : List ℕ) (frames : List (List Rec)) (fault : Option ℕ) → r.blank ≡ false → r.held ≡ [] → length bytes ≡ r.size → Goes (drop r.at bytes) r.at frames fault → Remains r bytes (frame_items r.at frames) fault
-begins_at r bytes frames fault full held long goes = record { long = long; stands = inr (full, inl (record { held = held; frames = frames; goes = goes; items_are = refl })) }
+pub begins_at : (r : Reader) (bytes : List ℕ) (frames : List (List Rec)) (fault : Option ℕ) → r.blank ≡ false → r.held ≡ [] → r.ahead ≡ [] → length bytes ≡ r.size → Goes (drop r.at bytes) r.at frames fault → Remains r bytes (frame_items r.at frames) fault
+begins_at r bytes frames fault full held ahead long goes = record { long = long; ahead = none_ahead r bytes ahead; stands = inr (full, inl (record { held = held; frames = frames; goes = goes; items_are = refl })) }
 
-begins_16 : (r : Reader) (bytes : List ℕ) (frames : List (List Rec)) (fault : Option ℕ) → r.blank ≡ false → r.held ≡ [] → r.at ≡ 16 → length bytes ≡ r.size → Goes (drop 16 bytes) 16 frames fault → Remains r bytes (frame_items 16 frames) fault
-begins_16 r bytes frames fault full held at long goes =
-    subst (λ (n : ℕ). Remains r bytes (frame_items n frames) fault) at (begins_at r bytes frames fault full held long (subst (λ (n : ℕ). Goes (drop n bytes) n frames fault) (sym at) goes))
+begins_16 : (r : Reader) (bytes : List ℕ) (frames : List (List Rec)) (fault : Option ℕ) → r.blank ≡ false → r.held ≡ [] → r.ahead ≡ [] → r.at ≡ 16 → length bytes ≡ r.size → Goes (drop 16 bytes) 16 frames fault → Remains r bytes (frame_items 16 frames) fault
+begins_16 r bytes frames fault full held ahead at long goes =
+    subst (λ (n : ℕ). Remains r bytes (frame_items n frames) fault) at (begins_at r bytes frames fault full held ahead long (subst (λ (n : ℕ). Goes (drop n bytes) n frames fault) (sym at) goes))
 
-pub begins_full : (r : Reader) (number birth : ℕ) (bytes : List ℕ) (content : Content) → (17 < length bytes) × IsBirth birth × (take 16 bytes ≡ header birth number) → r.blank ≡ false → r.held ≡ [] → r.at ≡ 16 → length bytes ≡ r.size → Holds number bytes content → Remains r bytes (content_items content) (fault_of content)
-begins_full r number birth bytes Blank is full held at long holds = absurd (omega (arith, is.0, holds))
-begins_full r number birth bytes BadHeader is full held at long holds = absurd (holds.1 birth (is.1, (drop 16 bytes, split16 birth number bytes is.2, tt)))
-begins_full r number birth bytes (Whole other frames) is full held at long holds =
+pub begins_full : (r : Reader) (number birth : ℕ) (bytes : List ℕ) (content : Content) → (17 < length bytes) × IsBirth birth × (take 16 bytes ≡ header birth number) → r.blank ≡ false → r.held ≡ [] → r.ahead ≡ [] → r.at ≡ 16 → length bytes ≡ r.size → Holds number bytes content → Remains r bytes (content_items content) (fault_of content)
+begins_full r number birth bytes Blank is full held ahead at long holds = absurd (omega (arith, is.0, holds))
+begins_full r number birth bytes BadHeader is full held ahead at long holds = absurd (holds.1 birth (is.1, (drop 16 bytes, split16 birth number bytes is.2, tt)))
+begins_full r number birth bytes (Whole other frames) is full held ahead at long holds =
     let h = holds.1.1 in
-    begins_16 r bytes frames None full held at long (inl (subst (λ (l : List ℕ). Commits l frames) (sym (rest16 other number bytes h.0 h.1)) h.2, refl))
-begins_full r number birth bytes (BadFrame other frames) is full held at long holds =
+    begins_16 r bytes frames None full held ahead at long (inl (subst (λ (l : List ℕ). Commits l frames) (sym (rest16 other number bytes h.0 h.1)) h.2, refl))
+begins_full r number birth bytes (BadFrame other frames) is full held ahead at long holds =
     let h = holds.1.1 in
-    begins_16 r bytes frames (fault_of (BadFrame other frames)) full held at long (inr (subst (λ (l : List ℕ). Breaks l frames) (sym (rest16 other number bytes h.0 h.1)) h.2, refl))
+    begins_16 r bytes frames (fault_of (BadFrame other frames)) full held ahead at long (inr (subst (λ (l : List ℕ). Breaks l frames) (sym (rest16 other number bytes h.0 h.1)) h.2, refl))
 
 pub not_begun : (number : ℕ) (bytes : List ℕ) (content : Content) → length bytes ≤ 17 → Holds number bytes content → IsBegun content → ⊥
 not_begun number bytes Blank short holds is = is

@@ -83,7 +83,7 @@ fronts bytes = from (low_front bytes)
   where
     by_scan : (front rest : List ℕ) → IsLowFront bytes front rest → Scanned front → Fronts bytes ⊎ OpensNone bytes
     by_scan front rest low (scans.Frame count size, is) = whole_in bytes front rest is.0 size low is.1 is.4
-    by_scan front rest low (scans.Part, is) = inr (none_in bytes front rest low is)
+    by_scan front rest low (scans.Part, is) = inr (none_in bytes front rest low is.0)
     by_scan front rest low (scans.Bad, is) = inr (none_in bytes front rest low (λ begins. is [] (subst BeginsFrame (sym (append-nil front)) begins)))
 
     from : ((front : List ℕ) × (rest : List ℕ) × IsLowFront bytes front rest) → Fronts bytes ⊎ OpensNone bytes

@@ -14,3 +14,4 @@ pub mod Pointed
 pub mod Pointing
 pub mod ReadOn
 pub mod Remaining
+mod Standing

@@ -1,16 +1,16 @@
 -- Bytes that were read, against the file.
-use Rattle.std.proofs.Common.{◌≡◌, ◌≢◌, ◌<◌, ◌≤◌, ℕ, ◌+◌, List, [], ◌∷◌, ◌++◌, length, take, drop, get_or, append_assoc, take-append-drop, Option, sym, ◌∙◌, ap, subst, arith, length-append, length-drop, ⊎_elim}
+use Rattle.std.proofs.Common.{◌≡◌, ◌≢◌, ◌<◌, ◌≤◌, ◌⊎◌, inl, inr, ℕ, ◌+◌, ◌-◌, ◌==◌, true, false, List, [], ◌∷◌, ◌++◌, length, take, drop, get_or, append_assoc, take-append-drop, Option, sym, ◌∙◌, ap, subst, arith, length-append, length-drop, ⊎_elim}
 use Rattle.std.proofs.lemmas.Bool.{cases_lt}
-use Rattle.std.proofs.lemmas.List.{append-nil, append_cancel_left, length-take, drop-drop, drop_more, take_all}
+use Rattle.std.proofs.lemmas.List.{append-nil, append_cancel_left, length-take, drop-drop, drop-take, drop_more, take_all, take_rest}
 use Rattle.std.proofs.Math.Seq.{take-add}
 use Rattle.flume_host.specs.Told.{Told}
 use Rattle.record_form.specs.declared.record.Rec.{Rec}
-use Rattle.channel_log.proofs.Contents.{one_frame}
+use Rattle.channel_log.proofs.Contents.{one_frame, head_of}
 use Rattle.channel_log.specs.Frames.{IsFrame, frame_bytes}
 use Rattle.channel_log.specs.Scan.{BeginsFrame}
 use Rattle.channel_log.specs.declared.loading.FrameRefused.{FrameRefused}
 use Rattle.channel_log.specs.declared.loading.FrameRefused.TheVariants as refusals
-use Rattle.channel_log.specs.Reader.{AfterOpen, HasFile, IsFront, Opens, OpensNone, WhereBad}
+use Rattle.channel_log.specs.Reader.{AfterOpen, HasFile, IsClosed, IsFront, Opens, OpensNone, WhereBad}
 
 -- How far filling has come.
 pub record FillsOn (was told : Option Told) (faulty faults number from : ℕ) (old new : List ℕ) (size : ℕ) : Type 0 where
@@ -40,13 +40,13 @@ pub no_more : (read more : List ℕ) (from size : ℕ) (bytes : List ℕ) → 1 
 no_more read more from size bytes some same is =
     omega (arith, some, same, ap length is, length-append read (take size (drop (from + length read) bytes)), length-take size (drop (from + length read) bytes), length-drop (from + length read) bytes)
 
--- How far loading has come.
-pub record LoadsOn (was told : Option Told) (faulty faults number from rest : ℕ) (read : List ℕ) (size : ℕ) : Type 0 where
+-- How far a frame was sought.
+pub record SeeksOn (was told : Option Told) (faulty faults number gate start place : ℕ) (old read : List ℕ) (size : ℕ) : Type 0 where
   pub same : told ≡ was
   pub well : faults ≡ faulty
   pub some : 1 ≤ size
-  pub within : length read ≤ rest
-  pub front : (bytes : List ℕ) → HasFile was number bytes → IsFront read from bytes
+  pub within : place ≤ length read
+  pub front : (bytes : List ℕ) → HasFile was number bytes → IsFront (drop start old) gate bytes → IsFront (drop place read) gate bytes
 
 -- a frame and a byte behind it were read
 pub cut_found : (read held : List ℕ) (size : ℕ) (frame : List Rec) → IsFrame frame → take size read ≡ frame_bytes frame → size < length read → held ≡ take size read → Opens read held
@@ -74,68 +74,94 @@ cut_part read none = λ frame gate behind is same. none (frame, gate ∷ behind,
 pub cut_bad : (read : List ℕ) → ((more : List ℕ) → BeginsFrame (read ++ more) → ⊥) → (more : List ℕ) → OpensNone (read ++ more)
 cut_bad read none more = cut_part (read ++ more) (none more)
 
--- what was read, and the rest of the file
-goes_on : (read : List ℕ) (from : ℕ) (bytes : List ℕ) → IsFront read from bytes → drop from bytes ≡ read ++ drop (length read) (drop from bytes)
-goes_on read from bytes front = sym (take-append-drop (length read) (drop from bytes)) ∙ ap (λ (l : List ℕ). l ++ drop (length read) (drop from bytes)) (sym front)
+-- the first byte, and what stands behind it
+pub first_open : (read : List ℕ) → 1 ≤ length read → get_or read 0 0 ≡ 1 → read ≡ 1 ∷ take (length read - 1) (drop 1 read)
+first_open [] some one = absurd (omega (arith, some))
+first_open (b ∷ l) some one = ap (λ (x : ℕ). x ∷ l) one ∙ ap (λ (t : List ℕ). 1 ∷ t) (sym (take_all (length (b ∷ l) - 1) l (omega arith)))
 
-pub loads_found : (read held : List ℕ) (from : ℕ) (bytes : List ℕ) → IsFront read from bytes → Opens read held → Opens (drop from bytes) held
-loads_found read held from bytes front o =
-    let more = drop (length read) (drop from bytes) in
-    record {
-      frame = o.frame;
-      is = o.is;
-      same = o.same;
-      gate = o.gate;
-      behind = o.behind ++ more;
-      split = goes_on read from bytes front ∙ ap (λ (l : List ℕ). l ++ more) o.split ∙ append_assoc (frame_bytes o.frame) (o.gate ∷ o.behind) more;
-    }
+pub not_open : (read : List ℕ) → 1 ≤ length read → get_or read 0 0 ≢ 1 → IsClosed read
+not_open [] some other = absurd (omega (arith, some))
+not_open (b ∷ l) some other = (some, λ o. other (head_of b 1 l o.0 o.1))
 
-pub loads_none : (read : List ℕ) (from : ℕ) (bytes : List ℕ) → IsFront read from bytes → ((more : List ℕ) → OpensNone (read ++ more)) → OpensNone (drop from bytes)
-loads_none read from bytes front none = subst OpensNone (sym (goes_on read from bytes front)) (none (drop (length read) (drop from bytes)))
-
-pub loads_all : (read : List ℕ) (from rest : ℕ) (bytes : List ℕ) → IsFront read from bytes → length bytes ≡ from + rest → rest ≤ length read → OpensNone read → OpensNone (drop from bytes)
-loads_all read from rest bytes front size long none = subst OpensNone (front ∙ take_all (length read) (drop from bytes) (omega (arith, size, long, length-drop from bytes))) none
+-- the part of a slice from a place on
+pub rest_of : (xs items : List ℕ) (i : ℕ) → xs ≡ items → take (length xs - i) (drop i xs) ≡ drop i items
+rest_of xs items i same = take_rest xs i ∙ ap (drop i) same
 
 pub bad_maps : (e : FrameRefused) (P Q : ℕ → ℕ → Type 0) → ((file at : ℕ) → P file at → Q file at) → WhereBad e P → WhereBad e Q
 bad_maps refusals.DiskFault P Q maps is = tt
 bad_maps (refusals.BadLog file at) P Q maps is = maps file at is
 bad_maps refusals.NoMemory P Q maps is = tt
 
-after_open : (bytes : List ℕ) (gate : ℕ) → gate < length bytes → get_or bytes gate 0 ≡ 1 → drop gate bytes ≡ 1 ∷ drop (gate + 1) bytes
-after_open bytes gate within one = drop_more bytes gate 0 within ∙ ap (λ (b : ℕ). b ∷ drop (gate + 1) bytes) one
+pub some_bytes : (read : List ℕ) → (length read == 0) ≡ false → 1 ≤ length read
+some_bytes [] is = let e : true ≡ false = is in cc
+some_bytes (b ∷ l) is = omega arith
 
-pub bad_frame : (told later : Option Told) (file gate size rest first : ℕ) (e : FrameRefused) → later ≡ told → size ≡ gate + 1 + rest → first ≡ 1
-    → ((bytes : List ℕ) → HasFile told file bytes → gate < length bytes → first ≡ get_or bytes gate 0)
-    → WhereBad e (λ f at. (f ≡ file) × (at ≡ gate) × ((bytes : List ℕ) → HasFile later file bytes → length bytes ≡ gate + 1 + rest → OpensNone (drop (gate + 1) bytes)))
-    → WhereBad e (λ f at. (f ≡ file) × (at ≡ gate) × ((bytes : List ℕ) → HasFile told file bytes → length bytes ≡ size → AfterOpen (drop gate bytes) OpensNone))
-bad_frame told later file gate size rest first e same is_size one byte bad =
+-- what was read, and the rest of the file
+goes_on : (read : List ℕ) (from : ℕ) (bytes : List ℕ) → IsFront read from bytes → drop from bytes ≡ read ++ drop (length read) (drop from bytes)
+goes_on read from bytes front = sym (take-append-drop (length read) (drop from bytes)) ∙ ap (λ (l : List ℕ). l ++ drop (length read) (drop from bytes)) (sym front)
+
+opens_more : (bytes held more : List ℕ) → Opens bytes held → Opens (bytes ++ more) held
+opens_more bytes held more o = record {
+  frame = o.frame;
+  is = o.is;
+  same = o.same;
+  gate = o.gate;
+  behind = o.behind ++ more;
+  split = ap (λ (l : List ℕ). l ++ more) o.split ∙ append_assoc (frame_bytes o.frame) (o.gate ∷ o.behind) more;
+}
+
+-- a frame that was found is one of the file
+pub found_after : (read held : List ℕ) (gate : ℕ) (bytes : List ℕ) → IsFront read gate bytes → AfterOpen read (λ rest. Opens rest held) → AfterOpen (drop gate bytes) (λ rest. Opens rest held)
+found_after read held gate bytes front a =
+    let more = drop (length read) (drop gate bytes) in
+    (a.0 ++ more, goes_on read gate bytes front ∙ ap (λ (l : List ℕ). l ++ more) a.1, opens_more a.0 held more a.2)
+
+-- where there is none, whatever follows, the file has none
+pub none_after : (read : List ℕ) (gate : ℕ) (bytes : List ℕ) → IsFront read gate bytes → AfterOpen read (λ rest. (more : List ℕ) → OpensNone (rest ++ more)) → AfterOpen (drop gate bytes) OpensNone
+none_after read gate bytes front a =
+    let more = drop (length read) (drop gate bytes) in
+    (a.0 ++ more, goes_on read gate bytes front ∙ ap (λ (l : List ℕ). l ++ more) a.1, a.2 more)
+
+-- where all was read and a frame is not whole, the file has none
+pub cut_after : (read : List ℕ) (gate rest : ℕ) (bytes : List ℕ) → IsFront read gate bytes → length bytes ≡ gate + rest → 1 ≤ rest → rest ≤ length read → (read ≡ []) ⊎ AfterOpen read OpensNone → AfterOpen (drop gate bytes) OpensNone
+cut_after read gate rest bytes front size some long (inl empty) = absurd (omega (arith, some, long, ap length empty))
+cut_after read gate rest bytes front size some long (inr a) =
+    let whole : drop gate bytes ≡ read = sym (front ∙ take_all (length read) (drop gate bytes) (omega (arith, size, long, length-drop gate bytes))) in
+    (a.0, whole ∙ a.1, a.2)
+
+-- reading on found no more
+pub bad_on : (told later : Option Told) (file gate size rest start place len : ℕ) (e : FrameRefused) (old read : List ℕ) → later ≡ told → size ≡ gate + rest → 1 ≤ rest → len ≡ length (drop place read)
+    → ((bytes : List ℕ) → HasFile told file bytes → IsFront (drop start old) gate bytes → IsFront (drop place read) gate bytes)
+    → (drop place read ≡ []) ⊎ AfterOpen (drop place read) OpensNone
+    → WhereBad e (λ f at. (f ≡ file) × (at ≡ gate) × ((bytes : List ℕ) → HasFile later file bytes → length bytes ≡ gate + rest → rest ≤ len))
+    → WhereBad e (λ f at. (f ≡ file) × (at ≡ gate) × ((bytes : List ℕ) → HasFile told file bytes → length bytes ≡ size → IsFront (drop start old) gate bytes → AfterOpen (drop gate bytes) OpensNone))
+bad_on told later file gate size rest start place len e old read same whole some long front cut bad =
     bad_maps e
-    (λ f at. (f ≡ file) × (at ≡ gate) × ((bytes : List ℕ) → HasFile later file bytes → length bytes ≡ gate + 1 + rest → OpensNone (drop (gate + 1) bytes)))
-    (λ f at. (f ≡ file) × (at ≡ gate) × ((bytes : List ℕ) → HasFile told file bytes → length bytes ≡ size → AfterOpen (drop gate bytes) OpensNone))
+    (λ f at. (f ≡ file) × (at ≡ gate) × ((bytes : List ℕ) → HasFile later file bytes → length bytes ≡ gate + rest → rest ≤ len))
+    (λ f at. (f ≡ file) × (at ≡ gate) × ((bytes : List ℕ) → HasFile told file bytes → length bytes ≡ size → IsFront (drop start old) gate bytes → AfterOpen (drop gate bytes) OpensNone))
     (λ f at h. (
       h.0,
       h.1,
-      λ bytes has is.
-          let within : gate < length bytes = omega (arith, is, is_size) in
+      λ bytes has is first.
           let there : HasFile later file bytes = subst (λ (o : Option Told). HasFile o file bytes) (sym same) has in
-          (drop (gate + 1) bytes, after_open bytes gate within (sym (byte bytes has within) ∙ one), h.2 bytes there (is ∙ is_size)),
+          let all : rest ≤ length (drop place read) = omega (arith, long, h.2 bytes there (is ∙ whole)) in
+          cut_after (drop place read) gate rest bytes (front bytes has first) (is ∙ whole) some all cut,
     ))
     bad
 
-pub open_frame : (told later : Option Told) (file gate size rest first : ℕ) (held : List ℕ) → later ≡ told → size ≡ gate + 1 + rest → first ≡ 1
-    → ((bytes : List ℕ) → HasFile told file bytes → gate < length bytes → first ≡ get_or bytes gate 0)
-    → ((bytes : List ℕ) → HasFile later file bytes → length bytes ≡ gate + 1 + rest → Opens (drop (gate + 1) bytes) held)
-    → (bytes : List ℕ) → HasFile told file bytes → length bytes ≡ size → AfterOpen (drop gate bytes) (λ behind. Opens behind held)
-open_frame told later file gate size rest first held same is_size one byte opens bytes has is =
-    let within : gate < length bytes = omega (arith, is, is_size) in
-    let there : HasFile later file bytes = subst (λ (o : Option Told). HasFile o file bytes) (sym same) has in
-    (drop (gate + 1) bytes, after_open bytes gate within (sym (byte bytes has within) ∙ one), opens bytes there (is ∙ is_size))
+pub closed_after : (read : List ℕ) (gate : ℕ) (bytes : List ℕ) → IsFront read gate bytes → IsClosed read → AfterOpen (drop gate bytes) (λ rest. Unit {0}) → ⊥
+closed_after [] gate bytes front closed o = omega (arith, closed.0)
+closed_after (b ∷ l) gate bytes front closed o =
+    let more = drop (length (b ∷ l)) (drop gate bytes) in
+    closed.1 (l, ap (λ (x : ℕ). x ∷ l) (head_of b 1 (l ++ more) o.0 (sym (goes_on (b ∷ l) gate bytes front) ∙ o.1)), tt)
 
-pub closed_frame : (told : Option Told) (file gate size first : ℕ) → gate < size → first ≢ 1
-    → ((bytes : List ℕ) → HasFile told file bytes → gate < length bytes → first ≡ get_or bytes gate 0)
-    → (bytes : List ℕ) → HasFile told file bytes → length bytes ≡ size → AfterOpen (drop gate bytes) (λ behind. Unit {0}) → ⊥
-closed_frame told file gate size first low other byte bytes has is opens =
-    let within : gate < length bytes = omega (arith, is, low) in
-    let cons : get_or bytes gate 0 ∷ drop (gate + 1) bytes ≡ 1 ∷ opens.0 = sym (drop_more bytes gate 0 within) ∙ opens.1 in
-    let one : get_or bytes gate 0 ≡ 1 = cc in
-    other (byte bytes has within ∙ one)
+-- what was read stands in the file from each of its places on
+pub front_later : (read : List ℕ) (n from : ℕ) (bytes : List ℕ) → n ≤ length read → IsFront read from bytes → IsFront (drop n read) (from + n) bytes
+front_later read n from bytes within front =
+    let d = drop from bytes in
+    let m = length read - n in
+    let size : length (drop n read) ≡ m = length-drop n read in
+    let long : length read ≡ n + m = omega (arith, within) in
+    let cut : drop n read ≡ take m (drop n d) = ap (drop n) (front ∙ ap (λ (k : ℕ). take k d) long) ∙ drop-take n m d in
+    let there : drop n d ≡ drop (from + n) bytes = drop-drop n from bytes in
+    cut ∙ ap (take m) there ∙ ap (λ (k : ℕ). take k (drop (from + n) bytes)) (sym size)

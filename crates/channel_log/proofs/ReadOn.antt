@@ -234,11 +234,24 @@ wrong_count bytes at count n told on end other more b =
     let all : length b.0 ≡ length on.records = ap length (a.is ∙ ap (λ (l : List Rec). on.records ++ l) e.0 ∙ append-nil on.records) in
     other (e.1 ∙ all ∙ on.counted)
 
-pub cut_short : (bytes : List ℕ) (at count : ℕ) → ReadOn bytes at count → read_of (drop at bytes) ≡ Part → BeginsFrame bytes → ⊥
-cut_short bytes at count on part b =
+none_cut : (bytes : List ℕ) (at count : ℕ) → ReadOn bytes at count → read_of (drop at bytes) ≡ Part → BeginsFrame bytes → ⊥
+none_cut bytes at count on part b =
     let a = goes_on bytes [] at count b.0 b.1 on b.2 (append-nil bytes ∙ b.3) in
     let l = leads a.more (length b.0) b.1 a.each b.2.some b.2.few in
     not_part (drop at bytes) l.behind l.rec l.is part (sym (append-nil (drop at bytes)) ∙ a.left ∙ l.split)
+
+-- the record that stands here is cut short
+pub cut_short : (bytes : List ℕ) (at count : ℕ) → ReadOn bytes at count → read_of (drop at bytes) ≡ Part → IsScan scans.Part bytes
+cut_short bytes at count on part = (
+  none_cut bytes at count on part,
+  record {
+    records = on.records;
+    rest = drop at bytes;
+    each = on.each;
+    split = sym (take-append-drop at bytes) ∙ ap (λ (l : List ℕ). l ++ drop at bytes) on.is;
+    part = part;
+  },
+)
 
 pub at_fault : (bytes : List ℕ) (at count fault : ℕ) → ReadOn bytes at count → read_of (drop at bytes) ≡ Bad fault → (more : List ℕ) → BeginsFrame (bytes ++ more) → ⊥
 at_fault bytes at count fault on bad more b =

@@ -9,7 +9,7 @@ use Rattle.channel_log.proofs.Contents.{one_frame, opened-cons, first_of, commit
 use Rattle.channel_log.proofs.Given.{length_held, length-closing}
 use Rattle.event_core.proofs.Sizes.{length-u32_bytes}
 use Rattle.channel_log.specs.Frames.{IsFrame, IsFramed, frame_bytes, opened}
-use Rattle.channel_log.specs.Reader.{AfterOpen, AreRecords, Goes, Gives, IsBetween, IsCount, IsEntered, IsGiven, Opens, OpensNone, Reader, Remains, closing, frame_items, record_items, step}
+use Rattle.channel_log.specs.Reader.{AfterOpen, AreRecords, Goes, Gives, IsAhead, IsBetween, IsCount, IsEntered, IsFront, IsGiven, Opens, OpensNone, Reader, Remains, closing, frame_items, record_items, step}
 
 -- the reader stands before a commit byte of these frames
 pub between : (r : Reader) (bytes : List ℕ) (items : List (Rec × ℕ)) (fault : Option ℕ) → Remains r bytes items fault → r.held ≡ [] → r.blank ≡ false → IsBetween r bytes items fault
@@ -60,10 +60,31 @@ goes_behind bytes at frames fault frame gate behind is (inr breaks) same =
     let size : at + length (opened frames) ≡ at + 1 + length (frame_bytes frame) + length (opened e.more) = omega (arith, ap (λ (l : List (List Rec)). length (opened l)) e.is, length-append (frame_bytes frame) (opened e.more)) in
     (e.more, e.is, inr (record { each = e.each; rest = b.rest; split = behind_frame bytes at frame (gate ∷ behind) same ∙ e.rest; none = b.none }, breaks.1 ∙ ap (λ (n : ℕ). Some n) size))
 
+-- other bytes were read ahead
+pub reads_ahead : (old : Reader) (more : List ℕ) (bytes : List ℕ) (items : List (Rec × ℕ)) (fault : Option ℕ) → Remains old bytes items fault → IsFront more (old.at + length old.held) bytes → Remains (record old { ahead = more }) bytes items fault
+reads_ahead old more bytes items fault remains front = record {
+  long = remains.long;
+  ahead = front;
+  stands = elim (remains.stands) [
+    | inl over ↦ inl over
+    | inr there ↦ inr (
+      there.0,
+      elim (there.1) [
+        | inl b ↦ inl (record { held = b.held; frames = b.frames; goes = b.goes; items_are = b.items_are })
+        | inr i ↦ inr (record { records = i.records; count = i.count; each = i.each; some = i.some; counted = i.counted; held = i.held; frames = i.frames; goes = i.goes; items_are = i.items_are })
+      ],
+    )
+  ];
+}
+
+-- nothing is left of what was read ahead
+pub forgets : (old new : Reader) (bytes : List ℕ) (items : List (Rec × ℕ)) (fault : Option ℕ) → new ≡ record old { ahead = [] } → Remains old bytes items fault → Remains new bytes items fault
+forgets old new bytes items fault is remains = subst (λ (r : Reader). Remains r bytes items fault) (sym is) (reads_ahead old [] bytes items fault remains refl)
+
 -- a frame was loaded
-pub entered : (old new : Reader) (bytes : List ℕ) (items : List (Rec × ℕ)) (fault : Option ℕ) → Remains old bytes items fault → old.held ≡ [] → old.blank ≡ false → IsEntered old new → AfterOpen (drop old.at bytes) (λ rest. Opens rest new.held) → Remains new bytes items fault
+pub entered : (old new : Reader) (bytes : List ℕ) (items : List (Rec × ℕ)) (fault : Option ℕ) → Remains old bytes items fault → old.held ≡ [] → old.blank ≡ false → IsEntered old new → IsAhead new bytes → AfterOpen (drop old.at bytes) (λ rest. Opens rest new.held) → Remains new bytes items fault
 unfolding frame_bytes
-entered old new bytes items fault remains empty full is loaded =
+entered old new bytes items fault remains empty full is ahead loaded =
     let b = between old bytes items fault remains empty full in
     let o = loaded.2 in
     let same : drop old.at bytes ≡ 1 ∷ (frame_bytes o.frame ++ o.gate ∷ o.behind) = loaded.1 ∙ ap (λ (l : List ℕ). 1 ∷ l) o.split in
@@ -72,6 +93,7 @@ entered old new bytes items fault remains empty full is loaded =
     let place : old.at + 1 + length (frame_bytes o.frame) ≡ old.at + 1 + length new.held = omega (arith, size) in
     subst (λ (r : Reader). Remains r bytes items fault) (sym is.is) (record {
       long = remains.long;
+      ahead = subst (λ (r : Reader). IsAhead r bytes) is.is ahead;
       stands = inr (
         full,
         inr (record {
@@ -136,23 +158,26 @@ length-end count = ap suc (length-u32_bytes count)
 
 -- a record was given
 pub gives_first : (old new : Reader) (bytes : List ℕ) (given : Rec × ℕ) (first : Rec) (records : List Rec) (count : ℕ) (frames : List (List Rec)) (fault : Option ℕ)
-    → length bytes ≡ old.size → old.blank ≡ false → AllByRecursion IsFramed records → IsCount count → old.held ≡ closing (first ∷ records) count
+    → length bytes ≡ old.size → IsAhead old bytes → old.blank ≡ false → AllByRecursion IsFramed records → IsCount count → old.held ≡ closing (first ∷ records) count
     → Goes (drop (old.at + length old.held) bytes) (old.at + length old.held) frames fault → IsGiven old new given first records count
     → Remains new bytes (record_items (old.at + record_length first) records ++ frame_items (old.at + length old.held) frames) fault
-gives_first old new bytes given first [] count frames fault long full each counted held goes is =
+gives_first old new bytes given first [] count frames fault long ahead full each counted held goes is =
     let end : old.at + length old.held ≡ old.at + step first [] = omega (arith, length_held old.held first [] count held, length-end count) in
     let there = subst (λ (n : ℕ). Goes (drop n bytes) n frames fault) end goes in
+    let stop : old.at + length old.held ≡ old.at + step first [] + 0 = omega (arith, end) in
     subst (λ (r : Reader). Remains r bytes (frame_items (old.at + length old.held) frames) fault) (sym is.after) (record {
       long = long;
+      ahead = subst (λ (n : ℕ). IsFront old.ahead n bytes) stop ahead;
       stands = inr (full, inl (record { held = refl; frames = frames; goes = there; items_are = ap (λ (n : ℕ). frame_items n frames) end }));
     })
-gives_first old new bytes given first (r ∷ rs) count frames fault long full each counted held goes is =
+gives_first old new bytes given first (r ∷ rs) count frames fault long ahead full each counted held goes is =
     let next = old.at + record_length first in
     let stop = next + length (closing (r ∷ rs) count) in
     let end : old.at + length old.held ≡ stop = omega (arith, length_held old.held first (r ∷ rs) count held) in
     let there = subst (λ (n : ℕ). Goes (drop n bytes) n frames fault) end goes in
     subst (λ (q : Reader). Remains q bytes (record_items next (r ∷ rs) ++ frame_items (old.at + length old.held) frames) fault) (sym is.after) (record {
       long = long;
+      ahead = subst (λ (n : ℕ). IsFront old.ahead n bytes) end ahead;
       stands = inr (
         full,
         inr (record {
@@ -170,14 +195,14 @@ gives_first old new bytes given first (r ∷ rs) count frames fault long full ea
     })
 
 given_of : (old new : Reader) (bytes : List ℕ) (items : List (Rec × ℕ)) (fault : Option ℕ) (given : Rec × ℕ) (records : List Rec) (count : ℕ) (frames : List (List Rec))
-    → length bytes ≡ old.size → old.blank ≡ false → AllByRecursion IsFramed records → 1 ≤ length records → IsCount count → old.held ≡ closing records count
+    → length bytes ≡ old.size → IsAhead old bytes → old.blank ≡ false → AllByRecursion IsFramed records → 1 ≤ length records → IsCount count → old.held ≡ closing records count
     → Goes (drop (old.at + length old.held) bytes) (old.at + length old.held) frames fault → items ≡ record_items old.at records ++ frame_items (old.at + length old.held) frames
     → ((first : Rec) (records : List Rec) (count : ℕ) → IsFramed first → AllByRecursion IsFramed records → IsCount count → old.held ≡ closing (first ∷ records) count → IsGiven old new given first records count)
     → Gives (Some given) new bytes items fault
-given_of old new bytes items fault given [] count frames long full each some counted held goes are law = absurd (omega (arith, some))
-given_of old new bytes items fault given (first ∷ records) count frames long full each some counted held goes are law =
+given_of old new bytes items fault given [] count frames long ahead full each some counted held goes are law = absurd (omega (arith, some))
+given_of old new bytes items fault given (first ∷ records) count frames long ahead full each some counted held goes are law =
     let is = law first records count each.0 each.1 counted held in
-    subst (λ (l : List (Rec × ℕ)). Gives (Some given) new bytes l fault) (sym are) (is.is, gives_first old new bytes given first records count frames fault long full each.1 counted held goes is)
+    subst (λ (l : List (Rec × ℕ)). Gives (Some given) new bytes l fault) (sym are) (is.is, gives_first old new bytes given first records count frames fault long ahead full each.1 counted held goes is)
 
 not_empty : (held : List ℕ) → AreRecords held → held ≡ [] → ⊥
 not_empty held are empty = omega (arith, length-closing are.0 are.1, ap length are.5, ap length empty)
@@ -189,6 +214,6 @@ gives old new bytes items fault given are remains law = elim (remains.stands) [
   | inl over ↦ absurd (not_empty old.held are over.1)
   | inr there ↦ elim (there.1) [
     | inl b ↦ absurd (not_empty old.held are b.held)
-    | inr i ↦ given_of old new bytes items fault given i.records i.count i.frames remains.long there.0 i.each i.some i.counted i.held i.goes i.items_are law
+    | inr i ↦ given_of old new bytes items fault given i.records i.count i.frames remains.long remains.ahead there.0 i.each i.some i.counted i.held i.goes i.items_are law
   ]
 ]

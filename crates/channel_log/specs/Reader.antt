@@ -1,5 +1,5 @@
 -- A log file that is being read.
-use Rattle.std.specs.Prelude.{◌≡◌, ◌⊎◌, ◌<◌, ◌≤◌, ◌+◌, ◌^◌, ℕ, Bool, true, false, List, [], ◌∷◌, ◌++◌, length, take, drop, Option, Some, None, IsSome}
+use Rattle.std.specs.Prelude.{◌≡◌, ◌⊎◌, ◌<◌, ◌≤◌, ◌+◌, ◌-◌, ◌^◌, ℕ, Bool, true, false, List, [], ◌∷◌, ◌++◌, length, take, drop, Option, Some, None, IsSome}
 use Rattle.std.specs.List.{AllByRecursion}
 use Rattle.flume_host.specs.declared.names.FileName.TheVariants.{Log}
 use Rattle.flume_host.specs.Told.{Told, WhereTold}
@@ -43,25 +43,34 @@ OpensNone bytes = (frame : List Rec) (gate : ℕ) (behind : List ℕ) → IsFram
 abbrev pub IsFrameBytes : List ℕ → Type 0
 IsFrameBytes held = (frame : List Rec) × IsFrame frame × (held ≡ frame_bytes frame)
 
--- whether the bytes that were read have a frame and a next commit byte, as far as they go
-abbrev pub IsSought : Sought → List ℕ → List ℕ → Type 0
-IsSought soughts.Found read held = Opens read held
-IsSought soughts.Unknown read held = OpensNone read × (held ≡ read)
-IsSought soughts.None read held = (more : List ℕ) → OpensNone (read ++ more)
-
 -- this commit byte is open, and behind it P
 abbrev pub AfterOpen : List ℕ → (List ℕ → Type 0) → Type 0
 AfterOpen bytes P = (rest : List ℕ) × (bytes ≡ 1 ∷ rest) × P rest
+
+-- there is a commit byte, and it isn't open
+abbrev pub IsClosed : List ℕ → Type 0
+IsClosed bytes = (1 ≤ length bytes) × (AfterOpen bytes (λ rest. Unit {0}) → ⊥)
+
+-- a frame of so many bytes, and the next commit byte behind it
+abbrev pub OpensAt : ℕ → List ℕ → Type 0
+OpensAt size bytes = (size < length bytes) × Opens bytes (take size bytes)
+
+-- what was read from a commit byte on, and whether it has a frame and a next commit byte, as far as it goes
+abbrev pub IsSought : Sought → List ℕ → Type 0
+IsSought (soughts.Found size) read = AfterOpen read (OpensAt size)
+IsSought soughts.Closed read = IsClosed read
+IsSought soughts.None read = AfterOpen read (λ rest. (more : List ℕ) → OpensNone (rest ++ more))
+IsSought soughts.Unknown read = (read ≡ []) ⊎ AfterOpen read OpensNone
+
+-- how long the frame behind an open commit byte is, of what was read from that byte on
+abbrev pub IsFound : Option ℕ → List ℕ → Type 0
+IsFound (Some size) read = AfterOpen read (OpensAt size)
+IsFound None read = IsClosed read
 
 -- whether a frame was loaded, against the bytes from its commit byte on
 abbrev pub IsLoaded : Bool → List ℕ → List ℕ → Type 0
 IsLoaded true bytes held = AfterOpen bytes (λ rest. Opens rest held)
 IsLoaded false bytes held = AfterOpen bytes (λ rest. Unit {0}) → ⊥
-
--- a frame's bytes where one was loaded, and else none
-abbrev pub IsHeld : Bool → List ℕ → Type 0
-IsHeld true held = IsFrameBytes held
-IsHeld false held = held ≡ []
 
 -- P of the file and the offset of a fault of the log
 abbrev pub WhereBad : FrameRefused → (ℕ → ℕ → Type 0) → Type 0
@@ -70,7 +79,7 @@ WhereBad (refusals.BadLog file at) P = P file at
 WhereBad refusals.NoMemory P = Unit {0}
 
 -- The reader of a file: its number and length, whether it drops, whether it counts as empty, the offset of the next byte
--- that is looked at, and what is held of the present frame from there on.
+-- that is looked at, what is held of the present frame from there on, and what was read behind that.
 pub record Reader : Type 0 where
   pub file : ℕ
   pub size : ℕ
@@ -78,6 +87,11 @@ pub record Reader : Type 0 where
   pub blank : Bool
   pub at : ℕ
   pub held : List ℕ
+  pub ahead : List ℕ
+
+-- what was read ahead stands in the file behind what is held
+abbrev pub IsAhead : Reader → List ℕ → Type 0
+IsAhead r bytes = IsFront r.ahead (r.at + length r.held) bytes
 
 -- records with their offsets, from this one on
 abbrev pub record_items : ℕ → List Rec → List (Rec × ℕ)
@@ -132,9 +146,11 @@ pub record IsInside (r : Reader) (bytes : List ℕ) (items : List (Rec × ℕ)) 
 abbrev pub IsOver : Reader → List (Rec × ℕ) → Option ℕ → Type 0
 IsOver r items fault = (r.blank ≡ true) × (r.held ≡ []) × (items ≡ []) × (fault ≡ None)
 
--- The file has this content, the reader has these records still to give, each with its offset, and then this fault.
+-- The file has this content, of which the reader has read ahead, and it has these records still to give, each with its
+-- offset, and then this fault.
 pub record Remains (r : Reader) (bytes : List ℕ) (items : List (Rec × ℕ)) (fault : Option ℕ) : Type 0 where
   pub long : length bytes ≡ r.size
+  pub ahead : IsAhead r bytes
   pub stands : IsOver r items fault ⊎ ((r.blank ≡ false) × (IsBetween r bytes items fault ⊎ IsInside r bytes items fault))
 
 -- what a call gives, of what remained
@@ -148,11 +164,13 @@ Gives (Some given) new bytes (item ∷ items) fault = (given ≡ item) × Remain
 abbrev pub AreRecords : List ℕ → Type 0
 AreRecords held = (records : List Rec) × (count : ℕ) × AllByRecursion IsFramed records × (1 ≤ length records) × IsCount count × (held ≡ closing records count)
 
--- What is true of each reader: it holds nothing, or records of a frame and its END, and offsets fit their type.
-pub record IsReader (place at size : ℕ) (frame piece : List ℕ) : Type 0 where
-  pub within : place ≤ length frame
-  pub held : (place ≡ length frame) ⊎ AreRecords (drop place frame)
-  pub fits : at + length (drop place frame) < 2 ^ 64
+-- What is true of each reader, of whose frame the rest stands in what it read, from a place on up to a stop: that is nothing,
+-- or records of a frame and its END, and offsets fit their type.
+pub record IsReader (place stop at size : ℕ) (read piece : List ℕ) : Type 0 where
+  pub within : place ≤ stop
+  pub known : stop ≤ length read
+  pub held : (place ≡ stop) ⊎ AreRecords (drop place (take stop read))
+  pub fits : at + (stop - place) < 2 ^ 64
   pub low : size < 2 ^ 63
   pub some : 1 ≤ length piece
 
@@ -173,7 +191,7 @@ pub record IsGiven (old new : Reader) (given : Rec × ℕ) (first : Rec) (record
 
 -- the reader holds a frame of the commit byte before which the old one stood
 pub record IsEntered (old new : Reader) : Type 0 where
-  pub is : new ≡ record old { at = old.at + 1; held = new.held }
+  pub is : new ≡ record old { at = old.at + 1; held = new.held; ahead = new.ahead }
   pub frame : IsFrameBytes new.held
 
 abbrev pub IfTrue : Bool → Type 0 → Type 0

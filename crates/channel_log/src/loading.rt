@@ -1,9 +1,10 @@
 // Loads a frame of a log file.
 ghost use Rattle.std.specs.Prelude.{◌≡◌, ◌<◌, ◌≤◌, ◌+◌, ◌-◌, ◌^◌, ◌++◌, [], ℕ, List, length, take, drop, slice_index, OnOk, OnErr, IfOk, IfErr, IsErrOf, vec_len};
 ghost use Rattle.flume_host.specs.Causes.{Rose};
-ghost use Rattle.channel_log.specs.Reader.{AfterOpen, HasFile, IsFrameBytes, IsHeld, IsFront, IsLoaded, IsSought, IsThere, Opens, OpensNone, WhereBad};
+ghost use Rattle.channel_log.specs.Reader.{AfterOpen, HasFile, IsFound, IsFront, IsSought, IsThere, OpensNone, WhereBad};
 
 use crate::scan::{Scan, scan_frame};
+use crate::window::BLOCK;
 use flume_host::{Disk, FileName};
 
 /// Why a record of a log file could not be given.
@@ -16,6 +17,12 @@ pub enum FrameRefused {
     /// Want of memory.
     NoMemory,
 }
+
+// The commit byte of a frame that counts.
+const OPEN: u8 = 1;
+
+// How many bytes are asked for at most before a frame is looked for again.
+const GREATEST_STEP: usize = 1_048_576;
 
 // Adds what the file has from this offset on, up to the length of the piece, which is overwritten.
 fn add_piece<D: Disk>(
@@ -73,25 +80,33 @@ fn fill<D: Disk>(
     Ok(())
 }
 
-// What was found of a frame.
-enum Sought {
-    // A frame, and a byte behind it.
-    Found,
-    // Neither, as far as the bytes go.
-    Unknown,
-    // No frame, whatever follows.
+// What stands from a commit byte on.
+pub(crate) enum Sought {
+    // An open commit byte, a frame of so many bytes, and a byte behind it.
+    Found { length: usize },
+    // A commit byte that isn't open.
+    Closed,
+    // An open commit byte, and no frame with a byte behind it, whatever follows.
     None,
+    // None of these yet, as far as the bytes go.
+    Unknown,
 }
 
-// Cuts what was read behind an open commit byte down to its frame, if a byte stands behind that.
-fn cut_frame(read: &mut Vec<u8>) -> Sought
-    ensures { IsSought result read.old.items read.new.items }
+// What stands in what was read, which is from a commit byte on.
+fn seek(read: &[u8]) -> Sought
+    ensures { IsSought result read.now }
 {
-    match scan_frame(read) {
+    if read.is_empty() {
+        return Sought::Unknown;
+    }
+    if read[0] != OPEN {
+        return Sought::Closed;
+    }
+    let behind = &read[1..];
+    match scan_frame(behind) {
         Scan::Frame { length, .. } => {
-            if length < read.len() {
-                read.truncate(length);
-                Sought::Found
+            if length < behind.len() {
+                Sought::Found { length }
             } else {
                 Sought::Unknown
             }
@@ -101,104 +116,101 @@ fn cut_frame(read: &mut Vec<u8>) -> Sought
     }
 }
 
-// How many bytes are read at least before a frame is looked for.
-const FIRST_READ: usize = 4096;
-
-// How far to read on, up to so many bytes: as much again as was read.
+// How far to read on, of so many bytes: as much again as was read, so that looking for a frame again takes linear time,
+// but a piece at least, and a mebibyte at most, so that not much more than a frame is held.
 fn next_target(read: usize, rest: usize) -> usize
-    requires { read ≤ rest }
     ensures within { result ≤ rest }
     ensures above { result < rest → read < result }
 {
-    let more = read.max(FIRST_READ);
-    if rest - read > more {
+    let more = read.clamp(BLOCK, GREATEST_STEP);
+    if rest.saturating_sub(read) > more {
         read + more
     } else {
         rest
     }
 }
 
-// Loads the frame behind an open commit byte at this offset. So many bytes stand behind that, and a next commit byte must
-// be among them.
-fn load_behind<D: Disk>(
+// Lets go of so many bytes in front.
+fn drop_front(read: &mut Vec<u8>, n: usize)
+    requires { n ≤ vec_len read.old }
+    ensures { read.new.items ≡ drop n read.old.items }
+{
+    let rest = read.len() - n;
+    read.copy_within(n.., 0);
+    read.truncate(rest);
+}
+
+// Reads on in a file that has so many bytes from the commit byte at this offset on, of which some were read. Where there
+// are no more, the frame of the commit byte is cut short.
+fn read_on<D: Disk>(
     disk: &mut D,
     file: u32,
     gate: u64,
     rest: usize,
     piece: &mut [u8],
-    into: &mut Vec<u8>,
+    read: &mut Vec<u8>,
 ) -> Result<(), FrameRefused>
     requires there { IsThere (D.told disk.old) file }
-    requires low { gate + 1 + rest < 2 ^ 63 }
+    requires low { gate + rest < 2 ^ 63 }
     requires some { 1 ≤ length piece.old }
-    requires empty { into.old.items ≡ [] }
-    ensures loaded { OnOk result ((bytes : List ℕ) → HasFile (D.told disk.old) file bytes → length bytes ≡ gate + 1 + rest → Opens (drop (gate + 1) bytes) into.new.items) }
-    ensures held { OnOk result (IsFrameBytes into.new.items) }
-    ensures bad { IfErr result (λ e. WhereBad e (λ f at. (f ≡ file) × (at ≡ gate) × ((bytes : List ℕ) → HasFile (D.told disk.old) file bytes → length bytes ≡ gate + 1 + rest → OpensNone (drop (gate + 1) bytes)))) }
+    ensures front { OnOk result ((bytes : List ℕ) → HasFile (D.told disk.old) file bytes → IsFront read.old.items gate bytes → IsFront read.new.items gate bytes) }
+    ensures more { OnOk result (vec_len read.old < vec_len read.new) }
+    ensures left { OnOk result (vec_len read.old < rest) }
+    ensures bad { IfErr result (λ e. WhereBad e (λ f at. (f ≡ file) × (at ≡ gate) × ((bytes : List ℕ) → HasFile (D.told disk.old) file bytes → length bytes ≡ gate + rest → rest ≤ vec_len read.old))) }
     ensures same { D.told disk.new ≡ D.told disk.old }
     ensures fault { IsErrOf result FrameRefused.DiskFault → Rose (D.faults disk.old) (D.faults disk.new) }
     ensures later { D.faults disk.old ≤ D.faults disk.new }
     ensures well { (IsErrOf result FrameRefused.DiskFault → ⊥) → D.faults disk.new ≡ D.faults disk.old }
 {
-    loop {
-        let target = next_target(into.len(), rest);
-        fill(disk, file, gate + 1, target, piece, into)?;
-        match cut_frame(into) {
-            Sought::Found => return Ok(()),
-            Sought::None => return Err(FrameRefused::BadLog { file, at: gate }),
-            Sought::Unknown => {
-                if into.len() < target || into.len() >= rest {
-                    return Err(FrameRefused::BadLog { file, at: gate });
-                }
-            }
-        }
+    let before = read.len();
+    if before >= rest {
+        return Err(FrameRefused::BadLog { file, at: gate });
+    }
+    let target = next_target(before, rest);
+    fill(disk, file, gate, target, piece, read)?;
+    if read.len() > before {
+        Ok(())
+    } else {
+        Err(FrameRefused::BadLog { file, at: gate })
     }
 }
 
-// The byte at this offset, or 0 behind the file's end.
-fn read_byte<D: Disk>(disk: &mut D, file: u32, at: u64) -> Result<u8, FrameRefused>
-    requires { IsThere (D.told disk.old) file }
-    ensures byte { IfOk result (λ b. (bytes : List ℕ) → HasFile (D.told disk.old) file bytes → at < length bytes → b ≡ slice_index bytes at) }
-    ensures good { IfErr result (λ e. WhereBad e (λ file at. ⊥)) }
-    ensures same { D.told disk.new ≡ D.told disk.old }
-    ensures fault { IsErrOf result FrameRefused.DiskFault → Rose (D.faults disk.old) (D.faults disk.new) }
-    ensures later { D.faults disk.old ≤ D.faults disk.new }
-    ensures well { (IsErrOf result FrameRefused.DiskFault → ⊥) → D.faults disk.new ≡ D.faults disk.old }
-{
-    let mut byte = [0u8; 1];
-    let Ok(_) = disk.read(FileName::Log(file), at, &mut byte) else {
-        return Err(FrameRefused::DiskFault);
-    };
-    Ok(byte[0])
-}
-
-// Loads the frame of the commit byte at this offset of a file of this length, without that byte. A byte that isn't
-// open has none.
+// Finds the frame of the commit byte at this offset of a file of this length, of which the bytes from this place on were
+// read before; the file is read on where they don't tell. How long the frame is, if the byte is open.
 pub(crate) fn load_frame<D: Disk>(
     disk: &mut D,
     file: u32,
     size: u64,
     gate: u64,
     piece: &mut [u8],
-    into: &mut Vec<u8>,
-) -> Result<bool, FrameRefused>
+    place: &mut usize,
+    read: &mut Vec<u8>,
+) -> Result<Option<usize>, FrameRefused>
     requires there { IsThere (D.told disk.old) file }
     requires low { size < 2 ^ 63 }
     requires within { gate < size }
     requires some { 1 ≤ length piece.old }
-    requires empty { into.old.items ≡ [] }
-    ensures loaded { IfOk result (λ found. (bytes : List ℕ) → HasFile (D.told disk.old) file bytes → length bytes ≡ size → IsLoaded found (drop gate bytes) into.new.items) }
-    ensures held { IfOk result (λ found. IsHeld found into.new.items) }
-    ensures bad { IfErr result (λ e. WhereBad e (λ f at. (f ≡ file) × (at ≡ gate) × ((bytes : List ℕ) → HasFile (D.told disk.old) file bytes → length bytes ≡ size → AfterOpen (drop gate bytes) OpensNone))) }
+    requires place { place.old ≤ vec_len read.old }
+    ensures place { OnOk result (place.new ≤ vec_len read.new) }
+    ensures front { OnOk result ((bytes : List ℕ) → HasFile (D.told disk.old) file bytes → IsFront (drop place.old read.old.items) gate bytes → IsFront (drop place.new read.new.items) gate bytes) }
+    ensures found { IfOk result (λ found. IsFound found (drop place.new read.new.items)) }
+    ensures bad { IfErr result (λ e. WhereBad e (λ f at. (f ≡ file) × (at ≡ gate) × ((bytes : List ℕ) → HasFile (D.told disk.old) file bytes → length bytes ≡ size → IsFront (drop place.old read.old.items) gate bytes → AfterOpen (drop gate bytes) OpensNone))) }
     ensures same { D.told disk.new ≡ D.told disk.old }
     ensures fault { IsErrOf result FrameRefused.DiskFault → Rose (D.faults disk.old) (D.faults disk.new) }
     ensures later { D.faults disk.old ≤ D.faults disk.new }
     ensures well { (IsErrOf result FrameRefused.DiskFault → ⊥) → D.faults disk.new ≡ D.faults disk.old }
 {
-    let first = read_byte(disk, file, gate)?;
-    if first != 1 {
-        return Ok(false);
+    let rest = (size - gate) as usize;
+    loop {
+        match seek(&read[*place..]) {
+            Sought::Found { length } => return Ok(Some(length)),
+            Sought::Closed => return Ok(None),
+            Sought::None => return Err(FrameRefused::BadLog { file, at: gate }),
+            Sought::Unknown => {
+                drop_front(read, *place);
+                *place = 0;
+                read_on(disk, file, gate, rest, piece, read)?;
+            }
+        }
     }
-    load_behind(disk, file, gate, (size - gate - 1) as usize, piece, into)?;
-    Ok(true)
 }

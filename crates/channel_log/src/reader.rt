@@ -4,9 +4,10 @@ ghost use Rattle.std.specs.List.{AllByRecursion};
 ghost use Rattle.flume_host.specs.Causes.{Rose};
 ghost use Rattle.record_form.specs.declared.record.Rec.{Rec};
 ghost use Rattle.channel_log.specs.Frames.{BadHeader, Content, Holds, IsBirth, IsFramed, fault_of, header};
-ghost use Rattle.channel_log.specs.Reader.{AfterOpen, AreRecords, Gives, HasFile, IfTrue, IsCount, IsEntered, IsGiven, IsLoaded, Goes, IsBegun, IsBirthOf, IsSameFile, IsThere, OpensNone, Remains, Stands, WhereBad, closing, content_items, frame_items, kept, step};
+ghost use Rattle.channel_log.specs.Reader.{AfterOpen, AreRecords, Gives, HasFile, IfTrue, IsCount, IsEntered, IsGiven, IsLoaded, Goes, IsAhead, IsBegun, IsBirthOf, IsSameFile, IsThere, OpensNone, Remains, Stands, WhereBad, closing, content_items, frame_items, kept, step};
 
 use crate::loading::{FrameRefused, load_frame};
+use crate::window::BLOCK;
 use crate::writer::header_of;
 use event_core::NoMemory;
 use flume_host::{Disk, FileName, Steps};
@@ -52,9 +53,6 @@ const HEADER_LENGTH: u64 = 16;
 
 // A file that is no longer counts as empty.
 const BLANK_LENGTH: u64 = 17;
-
-// How many bytes are read at a time.
-const PIECE_LENGTH: usize = 4096;
 
 // Whether this is the header of this birth and number.
 fn is_header(birth: u16, number: u32, head: &[u8]) -> bool
@@ -103,8 +101,11 @@ fn read_birth<D: Disk>(disk: &mut D, number: u32, size: u64) -> Result<Option<u1
     }
 }
 
-/// Gives the records of one log file's committed frames, each with its offset. It holds at most one frame in memory, and
-/// takes memory only for what was read.
+/// Gives the records of one log file's committed frames, each with its offset. It reads the file in pieces of 65,536
+/// bytes, of which it asks for more at a time, up to a mebibyte, only while a frame that is longer has not ended. What it
+/// read behind a frame it keeps for the next one, so no byte is read twice, unless a call was refused: then it lets go of
+/// what it read ahead. So it holds one frame, and at most a mebibyte and a piece behind that, and takes memory only for
+/// what was read.
 #[derive(Drop)]
 pub struct LogReader {
     alloc: Global,
@@ -115,21 +116,24 @@ pub struct LogReader {
     blank: bool,
     // the offset of the next record, or of the next commit byte
     at: u64,
-    frame: Vec<u8>,
-    // where the next record stands in the frame
+    // what was read of the file: the present frame, and what stands behind it
+    read: Vec<u8>,
+    // where what stands at the offset is in that
     place: usize,
+    // where the present frame ends in that
+    stop: usize,
     piece: Vec<u8>,
 }
 
 impl Model for LogReader {
-    ghost use Rattle.std.specs.Prelude.{drop};
+    ghost use Rattle.std.specs.Prelude.{take, drop};
     ghost use Rattle.channel_log.specs.Reader.{Reader, IsReader};
 
     ghost Value = { Reader };
 
-    ghost view = { λ r. record { file = r.file; size = r.size; drops = r.drops; blank = r.blank; at = r.at; held = drop r.place r.frame.items } };
+    ghost view = { λ r. record { file = r.file; size = r.size; drops = r.drops; blank = r.blank; at = r.at; held = drop r.place (take r.stop r.read.items); ahead = drop r.stop r.read.items } };
 
-    ghost invariant = { λ r. IsReader r.place r.at r.size r.frame.items r.piece.items };
+    ghost invariant = { λ r. IsReader r.place r.stop r.at r.size r.read.items r.piece.items };
 }
 
 impl LogReader {
@@ -154,14 +158,14 @@ impl LogReader {
         ensures well { (IsErrOf result FrameRefused.DiskFault → ⊥) → D.faults disk.new ≡ D.faults disk.old }
     {
         let mut piece = Vec::new(alloc);
-        if piece.resize(PIECE_LENGTH, 0).is_err() {
+        if piece.resize(BLOCK, 0).is_err() {
             return Err(FrameRefused::NoMemory);
         }
         let Ok(size) = disk.len(FileName::Log(number)) else {
             return Err(FrameRefused::DiskFault);
         };
         let birth = read_birth(disk, number, size)?;
-        let frame = Vec::new(alloc);
+        let read = Vec::new(alloc);
         match birth {
             None => Ok(LogReader {
                 alloc,
@@ -170,8 +174,9 @@ impl LogReader {
                 drops: false,
                 blank: true,
                 at,
-                frame,
+                read,
                 place: 0,
+                stop: 0,
                 piece,
             }),
             Some(birth) => Ok(LogReader {
@@ -181,8 +186,9 @@ impl LogReader {
                 drops: birth == BEGUN && at == HEADER_LENGTH,
                 blank: false,
                 at,
-                frame,
+                read,
                 place: 0,
+                stop: 0,
                 piece,
             }),
         }
@@ -196,7 +202,7 @@ impl LogReader {
         ensures refused { OnErr result (self.new ≡ self.old) }
         ensures rises { OnOk result ((self.old.at < self.new.at) × (self.new.at < 2 ^ 64)) }
     {
-        let (rec, next) = record_at(self.alloc, &self.frame, self.place)?;
+        let (rec, next) = record_at(self.alloc, &self.read[..self.stop], self.place)?;
         let at = self.at;
         self.at += (next - self.place) as u64;
         self.place = next;
@@ -208,12 +214,13 @@ impl LogReader {
         requires there { IsThere (D.told disk.old) self.old.file }
         requires between { self.old.held ≡ [] }
         ensures entered { IfOk result (λ found. IfTrue found (IsEntered self.old self.new)) }
-        ensures stays { IfOk result (λ found. found ≡ false → self.new ≡ self.old) }
-        ensures loaded { IfOk result (λ found. self.old.blank ≡ false → self.old.at < self.old.size → (bytes : List ℕ) → HasFile (D.told disk.old) self.old.file bytes → length bytes ≡ self.old.size → IsLoaded found (drop self.old.at bytes) self.new.held) }
+        ensures stays { IfOk result (λ found. found ≡ false → self.new ≡ record self.old { ahead = self.new.ahead }) }
+        ensures front { OnOk result ((bytes : List ℕ) → HasFile (D.told disk.old) self.old.file bytes → IsAhead self.old bytes → IsAhead self.new bytes) }
+        ensures loaded { IfOk result (λ found. self.old.blank ≡ false → self.old.at < self.old.size → (bytes : List ℕ) → HasFile (D.told disk.old) self.old.file bytes → IsAhead self.old bytes → IsLoaded found (drop self.old.at bytes) self.new.held) }
         ensures over { IfOk result (λ found. self.old.blank ≡ true → found ≡ false) }
         ensures rises { OnOk result (self.old.at ≤ self.new.at) }
-        ensures bad { IfErr result (λ e. WhereBad e (λ f at. (f ≡ self.old.file) × (at ≡ self.old.at) × (self.old.blank ≡ false) × (self.old.at < self.old.size) × ((bytes : List ℕ) → HasFile (D.told disk.old) self.old.file bytes → length bytes ≡ self.old.size → AfterOpen (drop self.old.at bytes) OpensNone))) }
-        ensures refused { OnErr result (self.new ≡ self.old) }
+        ensures bad { IfErr result (λ e. WhereBad e (λ f at. (f ≡ self.old.file) × (at ≡ self.old.at) × (self.old.blank ≡ false) × ((bytes : List ℕ) → HasFile (D.told disk.old) self.old.file bytes → length bytes ≡ self.old.size → IsAhead self.old bytes → AfterOpen (drop self.old.at bytes) OpensNone))) }
+        ensures refused { OnErr result (self.new ≡ record self.old { ahead = [] }) }
         ensures same { D.told disk.new ≡ D.told disk.old }
         ensures fault { IsErrOf result FrameRefused.DiskFault → Rose (D.faults disk.old) (D.faults disk.new) }
         ensures later { D.faults disk.old ≤ D.faults disk.new }
@@ -222,23 +229,29 @@ impl LogReader {
         if self.blank || self.at >= self.size {
             return Ok(false);
         }
-        self.frame.clear();
-        self.place = 0;
         match load_frame(
             disk,
             self.file,
             self.size,
             self.at,
             &mut self.piece,
-            &mut self.frame,
+            &mut self.place,
+            &mut self.read,
         ) {
-            Ok(true) => {
+            Ok(Some(length)) => {
                 self.at += 1;
+                self.place += 1;
+                self.stop = self.place + length;
                 Ok(true)
             }
-            Ok(false) => Ok(false),
+            Ok(None) => {
+                self.stop = self.place;
+                Ok(false)
+            }
             Err(refused) => {
-                self.frame.clear();
+                self.read.clear();
+                self.place = 0;
+                self.stop = 0;
                 Err(refused)
             }
         }
@@ -251,14 +264,14 @@ impl LogReader {
         ensures rises { OnOk result (self.old.at ≤ self.new.at) }
         ensures stands { IfOk result (λ found. (bytes : List ℕ) (items : List (Rec × ℕ)) (fault : Option ℕ) → HasFile (D.told disk.old) self.old.file bytes → Remains self.old bytes items fault → Stands found self.new bytes items fault) }
         ensures bad { IfErr result (λ e. WhereBad e (λ f at. (f ≡ self.old.file) × ((bytes : List ℕ) (items : List (Rec × ℕ)) (fault : Option ℕ) → HasFile (D.told disk.old) self.old.file bytes → Remains self.old bytes items fault → (items ≡ []) × (fault ≡ Some at)))) }
-        ensures refused { OnErr result (self.new ≡ self.old) }
+        ensures refused { OnErr result (self.new ≡ record self.old { ahead = [] }) }
         ensures file { IsSameFile self.old self.new }
         ensures same { D.told disk.new ≡ D.told disk.old }
         ensures fault { IsErrOf result FrameRefused.DiskFault → Rose (D.faults disk.old) (D.faults disk.new) }
         ensures later { D.faults disk.old ≤ D.faults disk.new }
         ensures well { (IsErrOf result FrameRefused.DiskFault → ⊥) → D.faults disk.new ≡ D.faults disk.old }
     {
-        if self.place < self.frame.len() {
+        if self.place < self.stop {
             return Ok(true);
         }
         self.load(disk)

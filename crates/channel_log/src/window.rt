@@ -13,8 +13,8 @@ use record_form::Pointer;
 use std::alloc::Global;
 use std::marker::Model;
 
-// How many bytes are read at least.
-const BLOCK: usize = 65_536;
+/// How many bytes are read at least.
+pub(crate) const BLOCK: usize = 65_536;
 
 // How many of so many bytes from an offset on stand below an end.
 fn below(n: usize, at: u64, end: u64) -> usize

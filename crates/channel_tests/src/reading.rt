@@ -2,6 +2,7 @@
 ghost use Rattle.std.specs.Prelude.{◌≡◌, ◌<◌};
 
 use crate::cases::{LINES, Want, is_left};
+use crate::spelled::Piece;
 use channel_log::LogReader;
 use channel_replay::{ReplayRefused, Replayed, WholeFile, replay};
 use flume_host::{FileName, Steps};
@@ -104,6 +105,80 @@ fn reads(alloc: Global) -> Result<bool, AllocError> {
 #[test]
 fn a_reader_gives_each_record_with_its_offset(rt: HostRuntime) -> Result<(), Fail> {
     assert!(&rt; reads(rt.alloc())?);
+    Ok(())
+}
+
+// So many frames of so many PUTs, which are 27 bytes and 22 for each PUT, and how many calls of the disk their reading takes:
+// of the length, and where the file doesn't count as empty of the header and of each piece of 65,536 bytes behind that.
+const READ_CALLS: [(u64, u32, u64); 6] = [
+    (0, 1, 1),
+    (1, 1, 3),
+    (100, 1, 3),
+    (1_337, 1, 3),
+    (1_338, 1, 4),
+    (2, 3_000, 5),
+];
+
+// A log file of so many frames of so many PUTs.
+fn long_file(alloc: Global, frames: u64, puts: u32) -> Result<Vec<u8>, AllocError> {
+    let mut pieces = Vec::new(alloc);
+    pieces.push(Piece::Header(1, 1, 1))?;
+    for n in 0..frames {
+        let txn = n.saturating_add(1);
+        pieces.push(Piece::Gate(1))?;
+        for _ in 0..puts {
+            pieces.push(Piece::Put(txn, b'a'))?;
+        }
+        pieces.push(Piece::CommitPut(txn, n.saturating_mul(u64::from(puts)), puts))?;
+        pieces.push(Piece::End(puts.saturating_add(1)))?;
+    }
+    pieces.push(Piece::Gate(0))?;
+    crate::spelled::file(alloc, &pieces)
+}
+
+// How many records a reader gives of a file, and how many calls of the disk it makes.
+fn read_whole<L: Ledger>(
+    alloc: Global,
+    blank: Blank,
+    bytes: Vec<u8>,
+) -> Result<(u64, u64), AllocError>
+    requires name { blank.name ≡ L.name }
+    requires parts { blank.parts ≡ L.parts }
+    requires some { 0 < L.parts }
+{
+    let mut files = Vec::new(alloc);
+    files.push(WholeFile { number: 1, bytes })?;
+    let mut disk = disk(alloc, &files)?.silent();
+    let mut steps = Steps::<L>::new(blank);
+    let Ok(mut reader) = LogReader::begin(alloc, &mut disk, 1, 16) else {
+        return Ok((0, 0));
+    };
+    for given in 0..u64::MAX {
+        match reader.next(&mut disk, &mut steps) {
+            Ok(Some(_)) => {}
+            Ok(None) => return Ok((given, disk.calls())),
+            Err(_) => return Ok((0, 0)),
+        }
+    }
+    Ok((0, 0))
+}
+
+fn whole_is_read(alloc: Global, frames: u64, puts: u32) -> Result<(u64, u64), AllocError> {
+    let bytes = long_file(alloc, frames, puts)?;
+    read_whole::<Brand>(alloc, Blank::new(1), bytes)
+}
+
+#[test]
+fn what_is_read_behind_a_frame_is_kept(rt: HostRuntime) -> Result<(), Fail> {
+    for row in &READ_CALLS {
+        let (frames, puts, calls) = *row;
+        let (given, made) = whole_is_read(rt.alloc(), frames, puts)?;
+        let records = frames.saturating_mul(u64::from(puts).saturating_add(1));
+        assert!(&rt;
+            given == records && made == calls,
+            "{frames} {puts} {given} {made}"
+        );
+    }
     Ok(())
 }
 

@@ -16,7 +16,7 @@ returns-after-birth-eq-BEGUN-clause-remains g c = λ bytes content has holds at.
     let long = size_is _ c.args.number c.in-Ok.size bytes has c.in-Ok.ensures.length in
     let here : HasFile (g.D.Disk.told c.len.new.self) c.args.number bytes = subst (λ (o : Option Told). HasFile o c.args.number bytes) (sym c.in-Ok.ensures.same) has in
     let b = subst (λ (o : Option ℕ). IsBirthOf o c.args.number bytes) c.in-Some.is (c.in_ok-birth.ensures.birth bytes here long) in
-    begins_full _ c.args.number c.in-Some.birth bytes content b refl c.new-frame.ensures.items at long holds
+    begins_full _ c.args.number c.in-Some.birth bytes content b refl refl c.new-read.ensures.items at long holds
 
 pub returns-after-birth-eq-BEGUN-clause-drops : goal.returns-after-birth-eq-BEGUN-clause-drops
 returns-after-birth-eq-BEGUN-clause-drops g c = λ bytes content has holds.
