@@ -7,6 +7,8 @@ mod by_pointers;
 #[cfg(test)]
 mod cases;
 #[cfg(test)]
+mod checkpoints;
+#[cfg(test)]
 mod events;
 #[cfg(test)]
 mod folders;

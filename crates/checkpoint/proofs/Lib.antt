@@ -1,0 +1,4 @@
+pub mod Joining
+pub mod Laying
+pub mod Listing
+pub mod Spooling

@@ -1,0 +1,5 @@
+pub mod Text
+pub mod Newest
+pub mod Right
+pub mod Files
+pub mod Says
