@@ -5,7 +5,7 @@
 set -eu
 cd "$(dirname "$0")/.."
 . bench/program.sh
-make_program random_run "flume_host event_core host_memory record_form channel_face channel_log channel_replay txn_core file_channel" "anyhow"
+make_program random_run "flume_host event_core host_memory record_form open_table event_ring channel_face channel_places channel_log channel_replay ring_replay txn_core channel_writing file_channel" "anyhow"
 mkdir -p "$program/proofs/open" "$program/proofs/restart"
 cat > "$program/proofs/open/Invariants.antt" <<'TEXT'
 use Rattle.random_run.proofs.open.Given as goal

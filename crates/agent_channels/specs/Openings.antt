@@ -10,7 +10,7 @@ use Rattle.channel_face.specs.declared.replies.Kind.TheVariants.{File as OnFile,
 use Rattle.channel_face.specs.declared.replies.Limits.{Limits}
 use Rattle.channel_face.specs.declared.replies.OpenCause.{OpenCause}
 use Rattle.channel_face.specs.declared.replies.OpenCause.TheVariants.{DiskFault, NoMemory}
-use Rattle.file_channel.specs.Folders.{FailsToSettle, GainsLog, IsBegun, IsRefused, Opens, OpensFrom, OpensOver}
+use Rattle.channel_writing.specs.Folders.{FailsToSettle, GainsLog, IsBegun, IsRefused, Opens, OpensFrom, OpensOver}
 use Rattle.shared_channel.specs.Passes.{Known, new_passes}
 use Rattle.two_channels.specs.Shares.{IsDisk, table_of}
 use Rattle.two_channels.specs.declared.shared.EitherShared.{EitherShared}

@@ -11,9 +11,10 @@ use Rattle.event_core.specs.declared.journal.Entry.{Entry}
 use Rattle.channel_face.specs.History.{Opening, Shows, opening}
 use Rattle.channel_face.specs.Machine.{Rules, is_some_of}
 use Rattle.channel_face.proofs.LawLemmas.{after_none}
-use Rattle.file_channel.specs.Folders.{IsAsBefore, Opens, OpensFrom, OpensTo}
-use Rattle.file_channel.specs.Touches.{Rests}
-use Rattle.file_channel.specs.Stands.{FileState, MayFind, StandsOver}
+use Rattle.channel_writing.specs.Folders.{IsAsBefore, Opens, OpensFrom, OpensTo}
+use Rattle.channel_writing.specs.Touches.{Rests}
+use Rattle.channel_writing.specs.Stands.{MayFind}
+use Rattle.file_channel.specs.Stands.{FileState, StandsOver}
 use Rattle.line_session.specs.Handled.{Handled}
 use Rattle.agent_commands.specs.Handled.{GoesOn}
 use Rattle.agent_commands.specs.Puts.{BeginsOver}

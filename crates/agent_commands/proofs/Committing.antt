@@ -30,10 +30,10 @@ use Rattle.channel_face.specs.declared.replies.StageCause.TheVariants as StageNo
 use Rattle.channel_face.specs.declared.replies.Ticket.{Ticket}
 use Rattle.channel_face.proofs.LawLemmas.{after_none}
 use Rattle.txn_core.proofs.Kept.{few_opened, put_allows}
-use Rattle.file_channel.specs.Folders.{OpensTo}
-use Rattle.file_channel.specs.Touches.{Flushed, IsSpentLog, Rests, flushes}
-use Rattle.file_channel.specs.Written.{MayRecover}
-use Rattle.file_channel.proofs.Opening.{joined, only_more}
+use Rattle.channel_writing.specs.Folders.{OpensTo}
+use Rattle.channel_writing.specs.Touches.{Flushed, IsSpentLog, Rests, flushes}
+use Rattle.channel_writing.specs.Written.{MayRecover}
+use Rattle.channel_writing.proofs.Opening.{joined, only_more}
 use Rattle.agent_commands.specs.Stored.{default_limits}
 use Rattle.netcat_source.specs.declared.replies.LineVerdict.{LineVerdict as Verdict}
 use Rattle.netcat_source.specs.declared.replies.LineVerdict.TheVariants as LineVerdict

@@ -9,8 +9,8 @@ use Rattle.event_core.specs.declared.journal.Entry.{Entry}
 use Rattle.event_core.specs.declared.journal.Entry.TheVariants.{Puts}
 use Rattle.channel_face.specs.Machine.{State, base_of}
 use Rattle.channel_face.specs.declared.replies.Kind.TheVariants.{File as OnFile}
-use Rattle.file_channel.specs.Folders.{OpensTo}
-use Rattle.file_channel.specs.Touches.{IsSpentLog}
+use Rattle.channel_writing.specs.Folders.{OpensTo}
+use Rattle.channel_writing.specs.Touches.{IsSpentLog}
 use Rattle.netcat_source.specs.declared.replies.LineVerdict.{LineVerdict}
 use Rattle.netcat_source.specs.declared.replies.LineVerdict.TheVariants.{Accepted, Refused, InDoubt, NoMemory}
 use Rattle.line_session.specs.Handled.{Handled, verdicts_of}

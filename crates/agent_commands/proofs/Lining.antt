@@ -24,8 +24,8 @@ use Rattle.channel_face.specs.declared.replies.Settled.{Settled}
 use Rattle.channel_face.specs.declared.replies.Settled.TheVariants.{No}
 use Rattle.channel_face.specs.declared.replies.StageCause.{StageCause}
 use Rattle.channel_face.specs.declared.replies.Ticket.{Ticket}
-use Rattle.file_channel.specs.Stands.{is_fault}
-use Rattle.file_channel.specs.Touches.{Rests}
+use Rattle.channel_writing.specs.Stands.{is_fault}
+use Rattle.channel_writing.specs.Touches.{Rests}
 use Rattle.netcat_source.specs.declared.replies.LineVerdict.{LineVerdict}
 use Rattle.netcat_source.specs.declared.replies.LineVerdict.TheVariants.{Accepted, Refused, InDoubt, NoMemory}
 use Rattle.shared_channel.specs.Ports.{Stood}

@@ -15,7 +15,7 @@ use Rattle.channel_face.specs.History.{Opening}
 use Rattle.channel_face.specs.Machine.{State, is_some_of}
 use Rattle.channel_face.specs.declared.replies.OpenCause.{OpenCause}
 use Rattle.channel_face.specs.declared.replies.OpenCause.TheVariants as causes
-use Rattle.file_channel.specs.Folders.{AreSame, IsAsBefore, IsRefused, OpensFrom, OpensOver, StaysAs}
+use Rattle.channel_writing.specs.Folders.{AreSame, IsAsBefore, IsRefused, OpensFrom, OpensOver, StaysAs}
 use Rattle.netcat_source.specs.Lines.{IsLine, LinesEnd, Rest, TooLong}
 use Rattle.netcat_source.specs.declared.replies.LineVerdict.{LineVerdict}
 use Rattle.netcat_source.specs.declared.replies.LineVerdict.TheVariants as verdict

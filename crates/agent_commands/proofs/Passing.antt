@@ -9,7 +9,8 @@ use Rattle.channel_face.specs.Faces.{IsPutBatch, Own}
 use Rattle.channel_face.specs.History.{IsRun, Opening, Step, opening}
 use Rattle.channel_face.specs.Machine.{State, is_some_of}
 use Rattle.channel_face.proofs.Fronts.{batch_on}
-use Rattle.file_channel.specs.Stands.{FileState, has_fault}
+use Rattle.channel_writing.specs.Stands.{has_fault}
+use Rattle.file_channel.specs.Stands.{FileState}
 use Rattle.netcat_source.specs.Lines.{IsLine}
 use Rattle.line_session.specs.Handled.{Handled, TakesAll, lines_of, verdicts_of}
 use Rattle.shared_channel.specs.Calls.{Left}

@@ -6,7 +6,7 @@ use Rattle.event_core.specs.declared.journal.Entry.{Entry}
 use Rattle.channel_face.specs.Faces.{Own, one}
 use Rattle.channel_face.specs.History.{IsRun, Opening, Step, journal, kept_by, opening, state_after}
 use Rattle.channel_face.specs.Machine.{Admits, Call, State, after}
-use Rattle.file_channel.specs.Stands.{has_fault, is_fault}
+use Rattle.channel_writing.specs.Stands.{has_fault, is_fault}
 use Rattle.turn_passes.specs.Calls.{Below, has}
 use Rattle.turn_passes.specs.Turns.{HasAll}
 use Rattle.turn_passes.specs.Views.{View}

@@ -15,8 +15,8 @@ use Rattle.event_core.specs.Journal.{Base, after_journal, left, numbered, withou
 use Rattle.channel_face.specs.Machine.{State, base_of}
 use Rattle.channel_face.proofs.Numbers.{numbered-append, without_none}
 use Rattle.channel_face.proofs.Within.{length-numbered}
-use Rattle.file_channel.specs.Folders.{OpensTo}
-use Rattle.file_channel.specs.Touches.{IsSpentLog, Rests}
+use Rattle.channel_writing.specs.Folders.{OpensTo}
+use Rattle.channel_writing.specs.Touches.{IsSpentLog, Rests}
 use Rattle.netcat_source.specs.declared.replies.LineVerdict.{LineVerdict}
 use Rattle.netcat_source.specs.declared.replies.LineVerdict.TheVariants.{Accepted, Refused, InDoubt, NoMemory}
 use Rattle.line_session.specs.Handled.{Handled, verdicts_of}

@@ -6,8 +6,9 @@ use Rattle.channel_face.specs.History.{AddsOne, Opening, Shows, Step, opening, s
 use Rattle.channel_face.specs.Machine.{State, Call, BeginPut, BeginTake, Put, Take, StagePut, StageTake, Flush, RollbackPut, RollbackTake, Checkpoint, Prune, Reopen, after, close}
 use Rattle.channel_face.proofs.Adding.{state-push}
 use Rattle.turn_passes.specs.Calls.{keep}
-use Rattle.file_channel.specs.Stands.{FileState, StandsOver, has_fault, is_fault}
-use Rattle.file_channel.specs.Touches.{Flushed, Rests, flushes}
+use Rattle.channel_writing.specs.Stands.{has_fault, is_fault}
+use Rattle.file_channel.specs.Stands.{FileState, StandsOver}
+use Rattle.channel_writing.specs.Touches.{Flushed, Rests, flushes}
 use Rattle.shared_channel.specs.Counting.{counted_calls, is_counted}
 use Rattle.agent_commands.specs.Trails.{Began, FindsLog, StandsTraced, Touches, Trail}
 

@@ -16,7 +16,7 @@ use Rattle.channel_face.specs.declared.replies.Settled.{Settled}
 use Rattle.channel_face.specs.declared.replies.Settled.TheVariants.{Yes, No, InDoubt as Doubtful}
 use Rattle.channel_face.specs.declared.replies.StageCause.{StageCause}
 use Rattle.channel_face.specs.declared.replies.Ticket.{Ticket}
-use Rattle.file_channel.specs.Touches.{Rests}
+use Rattle.channel_writing.specs.Touches.{Rests}
 use Rattle.netcat_source.specs.Lines.{IsLine}
 use Rattle.netcat_source.specs.declared.replies.LineVerdict.{LineVerdict}
 use Rattle.line_session.specs.Handled.{Handled, lines_of, verdicts_of}

@@ -13,7 +13,7 @@ use Rattle.channel_face.specs.declared.replies.FaceRefused.TheVariants as face
 use Rattle.channel_face.specs.declared.replies.Kind.TheVariants.{File as OnFile}
 use Rattle.channel_face.specs.declared.replies.PutRefused.{PutRefused}
 use Rattle.channel_face.specs.declared.replies.PutRefused.TheVariants as PutNo
-use Rattle.file_channel.specs.Folders.{Opens}
+use Rattle.channel_writing.specs.Folders.{Opens}
 use Rattle.netcat_source.specs.declared.replies.LineVerdict.{LineVerdict}
 use Rattle.netcat_source.specs.declared.replies.LineVerdict.TheVariants.{Accepted, Refused, InDoubt, NoMemory}
 use Rattle.line_session.specs.Handled.{Handled}

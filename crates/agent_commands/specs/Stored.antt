@@ -7,8 +7,8 @@ use Rattle.event_core.specs.Journal.{Base, numbered}
 use Rattle.channel_face.specs.declared.replies.Limits.{Limits}
 use Rattle.channel_face.specs.declared.replies.OpenCause.{OpenCause}
 use Rattle.channel_face.specs.declared.replies.OpenCause.TheVariants as causes
-use Rattle.file_channel.specs.Folders.{AreSame, IsAsBefore, Opens, OpensFrom, OpensOver, OpensTo, Refuses}
-use Rattle.file_channel.specs.Touches.{IsSpentLog}
+use Rattle.channel_writing.specs.Folders.{AreSame, IsAsBefore, Opens, OpensFrom, OpensOver, OpensTo, Refuses}
+use Rattle.channel_writing.specs.Touches.{IsSpentLog}
 use Rattle.netcat_source.specs.declared.replies.LineVerdict.TheVariants.{Accepted, Refused}
 use Rattle.line_session.specs.Handled.{Handled}
 use Rattle.agent_commands.specs.Handled.{all_with}

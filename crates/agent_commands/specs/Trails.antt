@@ -6,7 +6,7 @@ use Rattle.channel_face.specs.Machine.{State, Call, Put, after, puts_of}
 use Rattle.channel_face.specs.declared.replies.Counter.TheVariants.{File}
 use Rattle.channel_face.specs.declared.replies.PutRefused.TheVariants as PutNo
 use Rattle.file_channel.specs.Stands.{FileState, StandsOver}
-use Rattle.file_channel.specs.Touches.{Flushed, IsSpentLog, Rests, flushes}
+use Rattle.channel_writing.specs.Touches.{Flushed, IsSpentLog, Rests, flushes}
 use Rattle.agent_commands.specs.declared.traced.TracedChannel.{TracedChannel}
 
 -- a put, by a token that is not stale into a channel that is not broken, is refused for want of a log file exactly where none is left

@@ -2,7 +2,7 @@
 ghost use Rattle.std.specs.Prelude.{◌≡◌, ◌⊎◌, ◌<◌, [], IfOk, IfErr};
 ghost use Rattle.flume_host.specs.Told.{Tells};
 ghost use Rattle.channel_face.specs.declared.replies.OpenCause.{OpenCause};
-ghost use Rattle.file_channel.specs.Folders.{IsRefused, OpensFrom};
+ghost use Rattle.channel_writing.specs.Folders.{IsRefused, OpensFrom};
 ghost use Rattle.file_channel.specs.Stands.{opened_as};
 ghost use Rattle.agent_commands.specs.Puts.{BeginsOver};
 ghost use Rattle.agent_commands.specs.Stored.{default_limits};

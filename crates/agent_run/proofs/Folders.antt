@@ -2,15 +2,15 @@
 use Rattle.std.proofs.Common.{◌≡◌, ◌∙◌, ◌<◌, ℕ, List, All, Bool, false, Option, Some, length, map, get_or, sym, ap, subst, arith, string_bytes}
 use Rattle.std.specs.List.{AllByRecursion}
 use Rattle.std.proofs.lemmas.List.{get_or-map, get_or_default}
-use Rattle.channel_face.specs.History.{Opening, Step}
+use Rattle.channel_face.specs.History.{Opening, Shows, Step}
 use Rattle.channel_face.specs.declared.replies.Limits.{Limits}
 use Rattle.channel_laws.proofs.Until.{counted_calls_leave}
 use Rattle.flume_config.specs.declared.plan.ChannelKind.{ChannelKind}
 use Rattle.flume_config.specs.declared.plan.ChannelKind.TheVariants.{File, Memory as InMemory}
 use Rattle.flume_config.specs.declared.plan.ChannelPlan.{ChannelPlan}
 use Rattle.flume_host.specs.Told.{Told}
-use Rattle.file_channel.specs.Stands.{FileState}
-use Rattle.file_channel.specs.Touches.{Rests}
+use Rattle.file_channel.specs.Stands.{FileState, StandsOver}
+use Rattle.channel_writing.specs.Touches.{Rests}
 use Rattle.shared_channel.specs.Calls.{state_seen}
 use Rattle.shared_channel.specs.Passes.{Known}
 use Rattle.sink_worker.specs.declared.worker.SinkWorker.{SinkWorker}
@@ -61,18 +61,18 @@ module _ {D M S C : Type 0} (told : D → Option Told) (faults : D → ℕ) (mom
     (Drained : SinkWorker AtHome S C → List Known → ChannelDrain → S → List Known → Type 0) (plans : List ChannelPlan) where
   -- what a closed channel on a disk says of its folder
   folder_left : (limits : Limits) (before : Option Told) (p : Known) (e : EitherClosed (D × FileState) M) → (left : IsDiskLeft (Stands told faults) (tells_of told) memory tells' p e)
-      → BeginsOnDisk limits before p.view.base → (state_seen p.view).broken ≡ false → IsAtRest told e → FolderTold limits before (told left.of.channel.0) (at_rest p)
+      → BeginsOnDisk limits before p.view.base → (state_seen p.view).broken ≡ false → IsAtRest told faults e → FolderTold limits before (told left.of.channel.0) (at_rest p)
   folder_left limits before p e left begins whole rests =
       let c = left.of.channel in
       let all = left.stands in
-      let rest : Rests (told c.0) c.1.state = subst (IsAtRest told) left.same rests in
+      let rest : Shows (StandsOver (told c.0) (faults c.0) c.1) (Rests (told c.0)) = subst (IsAtRest told faults) left.same rests in
       record {
         begins = begins;
         tells = sym all.1.tells ∙ begins.tells;
         run = left.run;
         images = counted_calls_leave (told c.0) (faults c.0) c.1 p.view.base p.view.seen (all.0, all.1, all.2);
         whole = whole;
-        rests = subst (Rests (told c.0)) (sym all.1.state ∙ all.3.state) rest;
+        rests = subst (Rests (told c.0)) all.3.state (rest p.view.base all.0 all.1);
       }
 
   module _ (r : Course told faults moment memory tells' Drained plans) where
@@ -88,7 +88,7 @@ module _ {D M S C : Type 0} (told : D → Option Told) (faults : D → ℕ) (mom
         ∙ whole_at (Stands told faults) (tells_of told) moment r.shares r.settles.drained r.settles.mended r.settled.mends.items r.settles.mends well place s d low (on s)
 
     -- so it is of each folder
-    pub folders_told : FoldersAreApart plans → AllByRecursion IsWell r.settled.mends.items → All (IsAtRest told) r.settled.closed.items → (sunk last : HostTold)
+    pub folders_told : FoldersAreApart plans → AllByRecursion IsWell r.settled.mends.items → All (IsAtRest told faults) r.settled.closed.items → (sunk last : HostTold)
         → DisksBack (backs_of told faults r.wishes r.settled.closed.items) sunk last → FoldersTold plans r.before.folders last.folders (map pass_of r.settled.closed.items)
     folders_told apart well rests sunk last back place plan final path below named =
         let ends = r.settled.closed.items in

@@ -5,7 +5,7 @@ use Rattle.flume_host.specs.Rolled.{Rolled, opened}
 use Rattle.flume_host.specs.Told.{Tells, Told, WhereTold}
 use Rattle.channel_face.specs.declared.replies.OpenCause.{OpenCause}
 use Rattle.channel_face.specs.declared.replies.OpenCause.TheVariants as causes
-use Rattle.file_channel.specs.Folders.{AreSame, OpensFrom, Refuses as FolderRefuses, StaysAs}
+use Rattle.channel_writing.specs.Folders.{AreSame, OpensFrom, Refuses as FolderRefuses, StaysAs}
 use Rattle.flume_config.specs.declared.plan.ChannelPlan.{ChannelPlan}
 use Rattle.flume_config.specs.declared.plan.Plan.{Plan}
 use Rattle.flume_config.specs.declared.plan.SinkPlan.{SinkPlan}

@@ -9,7 +9,7 @@ use Rattle.channel_face.specs.History.{IsRun, opening}
 use Rattle.channel_face.specs.Machine.{is_some_of}
 use Rattle.channel_face.specs.declared.replies.Limits.{Limits}
 use Rattle.channel_laws.specs.Images.{LeavesAtEach}
-use Rattle.file_channel.specs.Touches.{Rests}
+use Rattle.channel_writing.specs.Touches.{Rests}
 use Rattle.shared_channel.specs.Calls.{state_seen}
 use Rattle.shared_channel.specs.Passes.{Known}
 use Rattle.agent_channels.specs.Openings.{BeginsOnDisk}

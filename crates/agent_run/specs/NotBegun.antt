@@ -6,7 +6,7 @@ use Rattle.flume_host.specs.Rolled.{opened}
 use Rattle.flume_host.specs.Told.{Tells, WhereTold}
 use Rattle.flume_host.specs.declared.names.NameRefused.{NameRefused}
 use Rattle.channel_face.specs.declared.replies.OpenCause.{OpenCause}
-use Rattle.file_channel.specs.Folders.{AreSame, OpensFrom, Refuses}
+use Rattle.channel_writing.specs.Folders.{AreSame, OpensFrom, Refuses}
 use Rattle.flume_config.specs.declared.plan.ChannelPlan.{ChannelPlan}
 use Rattle.flume_config.specs.declared.plan.Plan.{Plan}
 use Rattle.plan_support.specs.Least.{unsupported}

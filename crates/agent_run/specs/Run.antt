@@ -12,11 +12,12 @@ use Rattle.agent_sinks.specs.declared.sink.AgentSink.{AgentSink}
 use Rattle.agent_outside.specs.Backs.{RollsBack}
 use Rattle.agent_outside.specs.Ends.{AreOut, ListensAt, end_at}
 use Rattle.agent_outside.specs.Sinks.{backs_of as rolls_of}
+use Rattle.channel_face.specs.History.{Shows}
 use Rattle.agent_channels.specs.Closings.{DisksBack, backs_of as disks_of}
 use Rattle.agent_channels.specs.Openings.{HostTold}
 use Rattle.agent_channels.specs.declared.wish.ChannelWish.{ChannelWish}
-use Rattle.file_channel.specs.Stands.{FileState}
-use Rattle.file_channel.specs.Touches.{Rests}
+use Rattle.file_channel.specs.Stands.{FileState, StandsOver}
+use Rattle.channel_writing.specs.Touches.{Rests}
 use Rattle.memory_channel.specs.declared.channel.MemoryChannel.{MemoryChannel}
 use Rattle.two_channels.specs.declared.shared.EitherClosed.{EitherClosed}
 use Rattle.two_channels.specs.declared.shared.EitherClosed.TheVariants as closed
@@ -32,9 +33,9 @@ pub record CanListenAt {N : Type 0} (endpoint : N → Option Endpoint) (sources 
   pub out : AreOut (map (end_at sources) places) all
 
 -- Unless a closed channel is broken, whatever a stop now leaves of its folder opens to just what is settled.
-abbrev pub IsAtRest : {D B : Type 0} → (D → Option Told) → EitherClosed (D × FileState) B → Type 0
-IsAtRest told (closed.Disk c) = Rests (told c.channel.0) c.channel.1.state
-IsAtRest told (closed.Memory c) = Unit {0}
+abbrev pub IsAtRest : {D B : Type 0} → (D → Option Told) → (D → ℕ) → EitherClosed (D × FileState) B → Type 0
+IsAtRest told faults (closed.Disk c) = Shows (StandsOver (told c.channel.0) (faults c.channel.0) c.channel.1) (Rests (told c.channel.0))
+IsAtRest told faults (closed.Memory c) = Unit {0}
 
 -- Behind a run the sinks' folders came back, then the channels' disks, and then the report was written, unless the output had failed.
 pub record IsGivenBack {R D A B : Type 0} (rolled : R → Option Rolled) (told : D → Option Told) (faults : D → ℕ) (plans : List SinkPlan)
@@ -44,7 +45,7 @@ pub record IsGivenBack {R D A B : Type 0} (rolled : R → Option Rolled) (told :
   pub behind_disks : HostTold
   pub state : behind_sinks.state ≡ old.state
   pub rolls : RollsBack (rolls_of rolled plans settled.sinks.items) old.folders behind_sinks.folders
-  pub rests : All (IsAtRest told) settled.closed.items
+  pub rests : All (IsAtRest told faults) settled.closed.items
   pub disks : DisksBack (disks_of told faults wishes settled.closed.items) behind_sinks behind_disks
   pub folders : new.folders ≡ behind_disks.folders
   pub report : IsReported failed (report_text settled.report.items) answer behind_disks.state new.state

@@ -10,18 +10,17 @@ use two_channels::EitherClosed;
 
 // So it is of one of them.
 fn channel_rests<D: Disk + Drop>(closed: &EitherClosed<FileChannel<D>, MemoryChannel>)
-    ensures { IsAtRest D.told closed.now }
+    ensures { IsAtRest D.told D.faults closed.now }
 {
     if let EitherClosed::Disk(Closed { channel, pass: _ }) = closed {
         channel.rests();
-        channel.stands();
     }
 }
 
 /// Unless a closed channel is broken, whatever a stop now leaves of its folder opens to just what is settled. It does nothing: each
 /// channel on a disk knows it of itself.
 pub(crate) fn channels_rest<D: Disk + Drop>(closed: &[EitherClosed<FileChannel<D>, MemoryChannel>])
-    ensures { All (IsAtRest D.told) closed.now }
+    ensures { All (IsAtRest D.told D.faults) closed.now }
 {
     for channel in closed {
         channel_rests(channel);

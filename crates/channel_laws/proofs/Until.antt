@@ -2,7 +2,7 @@
 use Rattle.std.proofs.Common.{◌≡◌, ℕ, List, [], ◌∷◌, ◌++◌, take, Bool, true, false, nat_le, refl, sym, ◌∙◌, ap}
 use Rattle.event_core.specs.Journal.{after_journal}
 use Rattle.channel_face.specs.History.{Step}
-use Rattle.file_channel.specs.Stands.{until}
+use Rattle.channel_writing.specs.Stands.{until}
 use Rattle.shared_channel.specs.Counting.{counted_calls, is_counted}
 use Rattle.shared_channel.proofs.Keeping.{agrees}
 use Rattle.channel_laws.specs.Images.{CountedCallsLeave}

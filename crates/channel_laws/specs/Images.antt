@@ -2,7 +2,8 @@
 use Rattle.std.specs.Prelude.{ℕ, List, Option}
 use Rattle.flume_host.specs.Told.{EachMoment, Told, WhereTold}
 use Rattle.channel_face.specs.History.{Opening, Step}
-use Rattle.file_channel.specs.Stands.{FileState, MayFind, StandsOver, until}
+use Rattle.channel_writing.specs.Stands.{MayFind, until}
+use Rattle.file_channel.specs.Stands.{FileState, StandsOver}
 use Rattle.shared_channel.specs.Counting.{StandsCounting}
 
 -- Where the disk tells, whatever a crash leaves of the folder, at each moment since the opening settled it, opens to something that the calls up to that moment may leave.

@@ -10,8 +10,7 @@ use std::alloc::{AllocError, Global};
 use std::test::Fail;
 use test_fixtures::{channel_on, disk_failing_in_flush, open, reopen};
 
-/// Limits that no row comes to.
-pub const LIMITS: Limits = Limits {
+const LIMITS: Limits = Limits {
     capacity: 10,
     txn_capacity: 10,
     max_file: 1_000_000,
@@ -64,29 +63,28 @@ const LAST: [Turn; 6] = [
     (Step::Size, Said::Number(1)),
 ];
 
-/// What a log file has to hold.
-pub enum Holds {
+// What a log file has to hold.
+enum Holds {
     Bytes(&'static [u8]),
-    /// So many bytes.
+    // So many bytes.
     Length(usize),
 }
 
-/// An opening of a folder: the calls of the channel, and the log files after it was closed.
-pub struct Opening {
-    pub name: &'static str,
-    pub turns: &'static [Turn],
-    pub logs: &'static [(u32, Holds)],
+// An opening of a folder: the calls of the channel, and the log files after it was closed.
+struct Opening {
+    name: &'static str,
+    turns: &'static [Turn],
+    logs: &'static [(u32, Holds)],
 }
 
-/// A folder with these log files, opened several times.
-pub struct Folder {
-    pub logs: &'static [(u32, &'static [Piece])],
-    pub limits: Limits,
-    pub openings: &'static [Opening],
+// A folder with these log files, opened several times.
+struct Folder {
+    logs: &'static [(u32, &'static [Piece])],
+    limits: Limits,
+    openings: &'static [Opening],
 }
 
-/// Folders that any channel on a disk opens so.
-pub const FOLDERS: [Folder; 3] = [
+const FOLDERS: [Folder; 3] = [
     Folder {
         logs: &[],
         limits: LIMITS,
@@ -140,24 +138,18 @@ fn log_holds(disk: &MemDisk, number: u32, want: &Holds) -> bool {
     }
 }
 
-/// Looks at the files that an opening left.
-pub fn is_left_so(disk: &MemDisk, opening: &Opening) -> Result<(), Fail> {
+// Opens the folder, makes each call, closes it and looks at its files.
+fn opens(alloc: Global, disk: MemDisk, limits: Limits, opening: &Opening) -> Result<MemDisk, Fail> {
     let name = opening.name;
+    let mut tried = Tried::new(channel_on(alloc, disk, limits)?);
+    answer(alloc, name, &mut tried, opening.turns)?;
+    let Tried { channel, ticket: _ } = tried;
+    let disk = channel.close();
     for (number, want) in opening.logs {
-        if !log_holds(disk, *number, want) {
+        if !log_holds(&disk, *number, want) {
             return Err(Fail::new(format_args!("{name}: log file {number}")));
         }
     }
-    Ok(())
-}
-
-// Opens the folder, makes each call, closes it and looks at its files.
-fn opens(alloc: Global, disk: MemDisk, limits: Limits, opening: &Opening) -> Result<MemDisk, Fail> {
-    let mut tried = Tried::new(channel_on(alloc, disk, limits)?);
-    answer(alloc, opening.name, &mut tried, opening.turns)?;
-    let Tried { channel, ticket: _ } = tried;
-    let disk = channel.close();
-    is_left_so(&disk, opening)?;
     Ok(disk)
 }
 
@@ -274,8 +266,8 @@ fn a_folder_is_refused_for_its_cause(rt: HostRuntime) -> Result<(), Fail> {
     Ok(())
 }
 
-/// The second sync of a flush fails, after which the channel is opened anew.
-pub const FAILED: [Turn; 7] = [
+// The second sync of a flush fails, after which the channel is opened anew.
+const FAILED: [Turn; 7] = [
     (Step::BeginPut, Said::Token(1)),
     (Step::BeginPut, Said::Token(2)),
     (Step::Put(1, b'a'), Said::Done),
@@ -285,8 +277,8 @@ pub const FAILED: [Turn; 7] = [
     (Step::Asked, Said::Is(Settled::InDoubt)),
 ];
 
-/// The token of the open transaction is stale then.
-pub const MENDED: [Turn; 3] = [
+// The token of the open transaction is stale then.
+const MENDED: [Turn; 3] = [
     (Step::Asked, Said::Is(Settled::InDoubt)),
     (Step::Put(2, b'c'), Said::Stale),
     (Step::RollbackPut(2), Said::Ended(false)),

@@ -3,8 +3,6 @@
 #![tactic(auto)]
 
 #[cfg(test)]
-mod by_pointers;
-#[cfg(test)]
 mod cases;
 #[cfg(test)]
 mod checkpoints;

@@ -1,158 +1,302 @@
--- A channel that is opened, and one that is opened anew.
-use Rattle.std.proofs.Common.{◌⊎◌, inl, inr, ◌≡◌, ◌<◌, ◌≤◌, ◌-◌, ◌^◌, ℕ, List, length, Option, Some, None, Result, Ok, Err, IfErr, Bool, true, false, refl, sym, ◌∙◌, ap, subst, arith}
+-- A channel that is opened anew.
+use Rattle.std.proofs.Common.{◌⊎◌, inl, inr, ◌≡◌, ◌<◌, ◌≤◌, ◌-◌, ◌^◌, ◌++◌, ◌∷◌, [], ℕ, List, length, length-append, take, Option, Some, None, Result, Ok, Err, Bool, true, false, cond, ◌==◌, refl, sym, ◌∙◌, ap, subst, arith}
+use Rattle.std.specs.Prelude.{OnOk}
 use Rattle.std.proofs.lemmas.List.{take_all}
 use Rattle.flume_host.specs.Causes.{Rose}
-use Rattle.flume_host.specs.Folder.{Files}
-use Rattle.flume_host.specs.Told.{LeavesOnly, Tells, Told, WhereTold}
-use Rattle.flume_host.proofs.Telling.{tells_more, tells_same}
-use Rattle.flume_host.proofs.Moments.{started}
-use Rattle.event_core.specs.Journal.{Base, IsBase, after_journal}
+use Rattle.flume_host.specs.Told.{LeavesOnly, Tells, Told, WhereTold, moment_of}
+use Rattle.flume_host.proofs.Telling.{forth}
+use Rattle.event_core.specs.Journal.{Base, IsBase, IsJournal, after_journal, is_among, left, numbered, put_events, taken_numbers}
 use Rattle.event_core.specs.declared.journal.Entry.{Entry}
+use Rattle.event_core.specs.declared.journal.Entry.TheVariants.{Puts, Takes}
+use Rattle.event_ring.specs.Slots.{Left}
 use Rattle.channel_log.specs.Writer.{Writer}
-use Rattle.std.specs.Prelude.{OnOk}
-use Rattle.channel_face.specs.History.{Moves, Opening, opening, reopen_reply}
-use Rattle.channel_face.specs.Machine.{Admits, Front, Read, Reopen, Reopened, Rules, State, after_reopen, base_of, broken_state, is_some_of, kept_base}
+use Rattle.open_table.specs.Tables.{Listed}
+use Rattle.channel_face.specs.Counters.{counted}
+use Rattle.channel_face.specs.History.{AddsOne, Moves, Step, opening, state_after}
+use Rattle.channel_face.specs.Machine.{Admits, Front, Kept, MayKeep, Read, Reopen, Reopened, State, after, after_reopen, base_of, broken_state, entries, is_some_of, kept_base}
 use Rattle.channel_face.specs.declared.replies.Counter.TheVariants.{Life}
-use Rattle.channel_face.specs.declared.replies.Kind.TheVariants.{File as OnFile}
 use Rattle.channel_face.specs.declared.replies.OpenCause.{OpenCause}
 use Rattle.channel_face.specs.declared.replies.OpenCause.TheVariants as causes
-use Rattle.channel_face.proofs.LawLemmas.{after_none, sound_opening}
-use Rattle.channel_face.proofs.Numbers.{rising_base}
-use Rattle.channel_face.proofs.Sound.{IsSoundState}
-use Rattle.channel_replay.specs.Recover.{Recovers}
+use Rattle.channel_face.proofs.Adding.{state-push}
+use Rattle.channel_face.proofs.LawLemmas.{after_none}
+use Rattle.channel_face.proofs.Numbers.{Items, among_times, distinct_times, number_of, number_of-without, one_if, rising_base, same_number, times, times-append}
+use Rattle.channel_places.specs.Looks.{IsSound, Known, LookLeft, LookStaged, Looks, Numbers, Places, held_in, numbers_of}
 use Rattle.channel_replay.proofs.OneList.{recovers_once}
-use Rattle.file_channel.specs.Folders.{IsAsBefore, IsOfFile, IsRefused, Opens, OpensOver}
-use Rattle.file_channel.specs.Written.{IsFresh, IsLogged, MayRecover, MayRest, Waits}
-use Rattle.file_channel.specs.Whole.{IsWhole}
-use Rattle.file_channel.proofs.Flushing.{rest_recovers}
-use Rattle.file_channel.proofs.Opening.{EitherImage, ReadsAreLeft, as_before_opens, only_more}
+use Rattle.channel_writing.specs.Folders.{IsAsBefore, IsOfFile, Opens, OpensOver, OpensTo}
+use Rattle.channel_writing.specs.Stands.{Seen, StandsIn, is_fault}
+use Rattle.channel_writing.specs.Touches.{Rests}
+use Rattle.channel_writing.specs.Waiting.{waiting_after}
+use Rattle.channel_writing.specs.Written.{MayRecover, MayRest}
+use Rattle.channel_writing.proofs.Opening.{ReadsAreLeft, as_before_opens, opens_to}
+use Rattle.channel_writing.proofs.Reopening.{opens_leaves, refused_moves, renewal, renewed_fresh, renewed_whole, rests_still, spent_moves, whole_may_rest}
+use Rattle.channel_writing.proofs.Standing.{DidReopen, adds_reopen, stands_as}
+use Rattle.channel_writing.proofs.Whole.{failed_whole, rests_over, whole_rests}
+use Rattle.ring_replay.specs.declared.folder.Replayed.{Replayed}
+use Rattle.file_channel.specs.Opened.{IsBegunAs}
+use Rattle.file_channel.specs.Placed.{HasState, IsStateOf, Logged}
+use Rattle.file_channel.specs.Stands.{FileState, StandsOver}
+use Rattle.file_channel.specs.Stepped.{ShowsOf, Steps, StepsOn}
 
-differ : {A : Type 0} → true ≡ false → A
-differ is = absurd (cc)
+-- whatever events look like a ring, they have its numbers
+same_numbers : (known other : Known) (held also : List ℕ) (live : List Left) (a b : Items) (n : ℕ) → LookLeft known held live a → LookLeft other also live b → number_of n a ≡ number_of n b
+same_numbers known other held also [] [] [] n look looked = refl
+same_numbers known other held also [] (x ∷ a) b n look looked = absurd look
+same_numbers known other held also [] [] (y ∷ b) n look looked = absurd looked
+same_numbers known other held also (l ∷ live) [] b n look looked = absurd look
+same_numbers known other held also (l ∷ live) (x ∷ a) [] n look looked = absurd looked
+same_numbers known other held also (l ∷ live) (x ∷ a) (y ∷ b) n look looked =
+    let same : x.0 ≡ y.0 = sym look.0.0 ∙ looked.0.0 in
+    omega (arith, ap (λ (k : ℕ). one_if (k == n)) same, same_numbers known other held also live a b n look.1 looked.1)
 
--- opened
+same_length : (known : Known) (listed : List Listed) (staged : List Entry) → LookStaged known listed staged → length staged ≡ length listed
+same_length known [] [] look = refl
+same_length known [] (e ∷ staged) look = absurd look
+same_length known (l ∷ listed) [] look = absurd look
+same_length known (l ∷ listed) (e ∷ staged) look = omega (arith, same_length known listed staged look.1)
 
-pub opened_fresh : (s : State) (o : Opening) → s ≡ opening o → IsFresh s o.base o.txn
-opened_fresh s o is = rw is (record { base_is = refl; txn_is = refl; opened = refl; staged = refl })
+-- what is staged has puts or takes
+nothing_staged : (staged : List Entry) → IsJournal staged → length (put_events staged) ≡ 0 → taken_numbers staged ≡ [] → staged ≡ []
+nothing_staged [] is puts takes = refl
+nothing_staged (Puts events ∷ staged) is puts takes = absurd (omega (arith, is.0, puts, length-append events (put_events staged)))
+nothing_staged (Takes numbers ∷ staged) is puts takes = absurd (omega (arith, is.0, ap (λ (l : List ℕ). length l) takes, length-append numbers (taken_numbers staged)))
 
-pub opened_whole : (told : Option Told) (w : Writer) (b : ℕ) (s : State) (o : Opening) → s ≡ opening o → o.rules.kind ≡ OnFile → IsBase o.base → IsLogged told w b s → IsWhole told w b s
-opened_whole told w b s o is kind base log = record {
-  logged = λ _. log;
-  left = λ broken. differ (sym broken ∙ ap (λ (v : State). v.broken) is);
-  sound = subst IsSoundState (sym is) (sound_opening o base);
-  kind = ap (λ (v : State). v.rules.kind) is ∙ kind;
-}
-
--- the opening of a state that has just these events and numbers
-pub opened_as : (s : State) (rules : Rules) (base : Base) (txn : ℕ) → ((faults from : ℕ) (tells : Bool) → s ≡ opening (record { rules = rules; base = base; txn = txn; faults = faults; from = from; tells = tells }))
-    → (faults from : ℕ) (tells : Bool) → s ≡ opening (record { rules = rules; base = base_of s; txn = s.txn; faults = faults; from = from; tells = tells })
-opened_as s rules base txn is faults from tells =
-    let same : base ≡ base_of s = sym (ap base_of (is 0 0 true)) in
-    let number : txn ≡ s.txn = sym (ap (λ (v : State). v.txn) (is 0 0 true)) in
-    subst (λ (b : Base). s ≡ opening (record { rules = rules; base = b; txn = s.txn; faults = faults; from = from; tells = tells })) same
-    (subst (λ (n : ℕ). s ≡ opening (record { rules = rules; base = base; txn = n; faults = faults; from = from; tells = tells })) number (is faults from tells))
-
-pub opened_opens : (s : State) (files : Files) (capacity : ℕ) (base : Base) (txn : ℕ) → base_of s ≡ base → s.txn ≡ txn → Opens files capacity base txn → Opens files capacity (base_of s) s.txn
-opened_opens s files capacity base txn same number opens = subst (λ (b : Base). Opens files capacity b s.txn) (sym same) (subst (λ (n : ℕ). Opens files capacity base n) (sym number) opens)
-
--- what a stop may leave before
-
-pub whole_may_rest : (told : Option Told) (w : Writer) (b : ℕ) (s : State) → IsWhole told w b s → MayRest told s
-whole_may_rest told w b s whole = by_broken s.broken refl
+-- where as many of each number are left as there were, nothing was taken
+none_taken : (s : State) (items : Items) → IsSound s → left (base_of s) s.staged ≡ items → ((n : ℕ) → number_of n items ≡ number_of n s.items) → taken_numbers s.staged ≡ []
+none_taken s items sound is same = by_list (taken_numbers s.staged) refl
   where
-    by_broken : (broken : Bool) → s.broken ≡ broken → MayRest told s
-    by_broken true is = whole.left is
-    by_broken false is = λ t told_is image are.
-        let waits : Waits told w s = (whole.logged is).waits is in
-        rest_recovers t w s waits.records image (waits.disk t told_is) are
-
-pub rests_still : (told : Option Told) (s : State) → MayRest told s → Tells told told (λ t u. LeavesOnly t u (MayRecover s))
-rests_still told s rests = tells_same told (λ t u. LeavesOnly t u (MayRecover s)) (λ t is. started t (MayRecover s) (rests t is))
-
-may_recover_as : (s : State) (files image : Files) → IsAsBefore files image → MayRecover s files → MayRecover s image
-may_recover_as s files image as_before (n, low, inl found) = (n, low, inl (as_before_opens files image (base_of s) n as_before found))
-may_recover_as s files image as_before (n, low, inr found) = (n, low, inr (as_before_opens files image (after_journal (base_of s) s.staged) n as_before found))
-
-pub opens_leaves : (told told' : Option Told) (s : State) → MayRest told s → ReadsAreLeft told → Tells told told' OpensOver → Tells told told' (λ t u. LeavesOnly t u (MayRecover s))
-opens_leaves told told' s rests reads tells = tells_more told told' OpensOver (λ t u. LeavesOnly t u (MayRecover s)) over tells
-  where
-    over : (t u : Told) → told ≡ Some t → told' ≡ Some u → OpensOver t u → LeavesOnly t u (MayRecover s)
-    over t u old new run = only_more t u (EitherImage t) (MayRecover s) maps run
+    by_list : (xs : List ℕ) → taken_numbers s.staged ≡ xs → taken_numbers s.staged ≡ []
+    by_list [] taken = taken
+    by_list (m ∷ xs) taken = absurd (from (among_times m (taken_numbers s.staged)))
       where
-        maps : (image : Files) → EitherImage t image → MayRecover s image
-        maps image (inl are) = rests t old image are
-        maps image (inr as_before) = may_recover_as s t.reads image as_before (rests t old t.reads (reads t old))
+        some : 1 ≤ times m (taken_numbers s.staged)
+        some = omega (arith, ap (λ (l : List ℕ). times m l) taken, same_number m m refl)
 
--- opened anew
+        there : 1 ≤ number_of m s.items
+        there = omega (arith, some, distinct_times (held_in s) 0 s.items s.first (rising_base (base_of s) sound.base) sound.held m, times-append m (taken_numbers (entries s.opened)) (taken_numbers s.staged))
 
-abbrev pub renewal : Base → ℕ → Reopened
-renewal base txn = record { kept = Read base; txn = txn }
+        gone : is_among (taken_numbers s.staged) m ≡ true → number_of m items ≡ 0
+        gone among =
+            ap (λ (l : Items). number_of m l) (sym is)
+            ∙ (number_of-without m (taken_numbers s.staged) (s.items ++ numbered s.first (put_events s.staged))
+            ∙ ap (λ (b : Bool). cond b 0 (number_of m (s.items ++ numbered s.first (put_events s.staged)))) among)
 
-pub renewed_fresh : (s s' : State) (base : Base) (txn : ℕ) → s' ≡ after_reopen s (Ok (renewal base txn)) → IsFresh s' base txn
-renewed_fresh s s' base txn is = rw is (record { base_is = refl; txn_is = refl; opened = refl; staged = refl })
+        from : ((is_among (taken_numbers s.staged) m ≡ true) × (1 ≤ times m (taken_numbers s.staged))) ⊎ ((is_among (taken_numbers s.staged) m ≡ false) × (times m (taken_numbers s.staged) ≡ 0)) → ⊥
+        from (inl among) = omega (arith, gone among.0, same m, there)
+        from (inr isnt) = omega (arith, some, isnt.1)
 
-pub renewed_whole : (told : Option Told) (w : Writer) (b : ℕ) (s s' : State) (base : Base) (txn : ℕ) → s' ≡ after_reopen s (Ok (renewal base txn)) → s.rules.kind ≡ OnFile → IsBase base → IsLogged told w b s' → IsWhole told w b s'
-renewed_whole told w b s s' base txn is kind rises log = record {
-  logged = λ _. log;
-  left = λ broken. differ (sym broken ∙ ap (λ (v : State). v.broken) is);
-  sound = subst IsSoundState (sym is) (record { rising = rising_base base rises; held = λ n. omega arith; numbered = tt; staged = tt });
-  kind = ap (λ (v : State). v.rules.kind) is ∙ kind;
-}
+-- so many of the staged entries are kept, whatever state the places look like
+abbrev KeepsSo : Base → ℕ → State → Type 0
+KeepsSo base k s = (k ≤ length s.staged) × (kept_base s (Front k) ≡ base)
 
-renewed_as : (s s' : State) (base kept : Base) (txn : ℕ) → s' ≡ after_reopen s (Ok (renewal base txn)) → base ≡ kept → s' ≡ after_reopen s (Ok (renewal kept txn))
-renewed_as s s' base kept txn is same = is ∙ ap (λ (b : Base). after_reopen s (Ok (renewal b txn))) same
+-- what was found is what was settled, or that with what was staged
+abbrev Either : Base → State → Type 0
+Either base s = (base ≡ base_of s) ⊎ (base ≡ after_journal (base_of s) s.staged)
 
--- what was recovered is what was settled, or that with what was staged
-pub renewed_moves : (told : Option Told) (s s' : State) (base : Base) (txn : ℕ) → MayRest told s → ReadsAreLeft told → s.life < 2 ^ 64 - 1 → s.rules.kind ≡ OnFile → IsBase base → WhereTold told (λ t. Recovers t.reads base txn)
-    → s' ≡ after_reopen s (Ok (renewal base txn)) → (kept : Reopened) × Moves (is_some_of told) s (Reopen (Ok kept)) s'
-renewed_moves None s s' base txn rests reads life kind rises recovers is = (renewal base txn, record { admitted = ((life, (refl, rises)), kind); state = is })
-renewed_moves (Some t) s s' base txn rests reads life kind rises recovers is = from (rests t refl t.reads (reads t refl))
+take_none : (l : List Entry) → take 0 l ≡ []
+take_none [] = refl
+take_none (e ∷ l) = refl
+
+keeps_none : (base : Base) (s : State) → base ≡ base_of s → KeepsSo base 0 s
+keeps_none base s is = (omega arith, ap (λ (l : List Entry). after_journal (base_of s) l) (take_none s.staged) ∙ (after_none (base_of s) ∙ sym is))
+
+keeps_all : (base : Base) (s : State) (k : ℕ) → length s.staged ≡ k → base ≡ after_journal (base_of s) s.staged → KeepsSo base k s
+keeps_all base s k long is = (omega (arith, long), ap (λ (l : List Entry). after_journal (base_of s) l) (take_all k s.staged (omega (arith, long))) ∙ sym is)
+
+-- where the numbers are those before, nothing was staged
+none_was_staged : (s : State) (base : Base) → IsSound s → base ≡ after_journal (base_of s) s.staged → base.first ≡ s.first → ((n : ℕ) → number_of n base.items ≡ number_of n s.items) → s.staged ≡ []
+none_was_staged s base sound is first same =
+    nothing_staged s.staged sound.staged
+    (omega (arith, ap (λ (b : Base). b.first) is, first))
+    (none_taken s base.items sound (ap (λ (b : Base). b.items) (sym is)) same)
+
+same_first : (known other : Known) (p : Places) (s v : State) → Looks known p s → Looks other p v → s.first ≡ v.first
+same_first known other p s v looks look = ap (λ (n : Numbers). n.first) (sym looks.numbers ∙ look.numbers)
+
+-- One and the same count of staged entries was kept in each state that the places look like.
+chosen : (known : Known) (p : Places) (s : State) (base : Base) → Looks known p s → Either base s → (k : ℕ) × ((other : Known) (v : State) → Looks other p v → Either base v → KeepsSo base k v)
+chosen known p s base looks (inl is) = (0, λ other v look either. from other v look either)
   where
-    front : (k : ℕ) → k ≤ length s.staged → base ≡ kept_base s (Front k) → (kept : Reopened) × Moves true s (Reopen (Ok kept)) s'
-    front k few same = (record { kept = Front k; txn = txn }, record { admitted = ((life, few), kind); state = renewed_as s s' base (kept_base s (Front k)) txn is same })
+    from : (other : Known) (v : State) → Looks other p v → Either base v → KeepsSo base 0 v
+    from other v look (inl same) = keeps_none base v same
+    from other v look (inr all) =
+        let first : base.first ≡ v.first = ap (λ (b : Base). b.first) is ∙ same_first known other p s v looks look in
+        let none : v.staged ≡ [] = none_was_staged v base look.sound all first (λ n. ap (λ (b : Base). number_of n b.items) is ∙ same_numbers known other (held_in s) (held_in v) p.live s.items v.items n looks.left look.left) in
+        keeps_none base v (all ∙ (ap (λ (l : List Entry). after_journal (base_of v) l) none ∙ after_none (base_of v)))
+chosen known p s base looks (inr is) = (length s.staged, λ other v look either. from other v look either)
+  where
+    long : (other : Known) (v : State) → Looks other p v → length v.staged ≡ length s.staged
+    long other v look = same_length other p.staged v.staged look.staged ∙ sym (same_length known p.staged s.staged looks.staged)
 
-    from : MayRecover s t.reads → (kept : Reopened) × Moves true s (Reopen (Ok kept)) s'
-    from (n, low, inl found) = front 0 (omega arith) ((recovers_once t.reads base (base_of s) txn n (recovers t refl) found.1).0 ∙ sym (after_none (base_of s)))
-    from (n, low, inr found) =
-        front (length s.staged) (omega arith)
-        ((recovers_once t.reads base (after_journal (base_of s) s.staged) txn n (recovers t refl) found.1).0 ∙ ap (λ (l : List Entry). after_journal (base_of s) l) (sym (take_all (length s.staged) s.staged (omega arith))))
+    from : (other : Known) (v : State) → Looks other p v → Either base v → KeepsSo base (length s.staged) v
+    from other v look (inr same) = keeps_all base v (length s.staged) (long other v look) same
+    from other v look (inl first_is) =
+        let first : base.first ≡ s.first = ap (λ (b : Base). b.first) first_is ∙ same_first other known p v s look looks in
+        let none : s.staged ≡ [] = none_was_staged s base looks.sound is first (λ n. ap (λ (b : Base). number_of n b.items) first_is ∙ same_numbers other known (held_in v) (held_in s) p.live v.items s.items n look.left looks.left) in
+        subst (λ (k : ℕ). KeepsSo base k v) (sym (ap (λ (l : List Entry). length l) none)) (keeps_none base v first_is)
+
+-- what a folder leaves that was settled so, or so with what was staged
+either_found : (told : Option Told) (t : Told) (s : State) (base : Base) (txn capacity : ℕ) → told ≡ Some t → MayRest told s → ReadsAreLeft told → Opens t.reads capacity base txn → Either base s
+either_found told t s base txn capacity is rests reads opens = from (rests t is t.reads (reads t is))
+  where
+    from : MayRecover s t.reads → Either base s
+    from (n, low, inl found) = inl (recovers_once t.reads base (base_of s) txn n opens.recovers found.1).0
+    from (n, low, inr found) = inr (recovers_once t.reads base (after_journal (base_of s) s.staged) txn n opens.recovers found.1).0
+
+-- the machine's step
+
+-- A channel's places as they are renewed.
+abbrev Renews : Logged → Places → Replayed → Type 0
+Renews old p r = (before known : Known) (s : State) (k : Reopened) → Looks before old.places s → k.txn ≡ r.next.txn → (kept_base s k.kept).first ≡ r.next.number → LookLeft known [] r.ring.live (kept_base s k.kept).items → IsBase (kept_base s k.kept) → Looks known p (after_reopen s (Ok k))
+
+renews : (told told' : Option Told) (old : Logged) (p : Places) (w : Writer) (r : Replayed) (capacity most : ℕ) (kept : Kept) (s : State) → IsStateOf told old s → old.places.numbers.life < 2 ^ 64 - 1 → most ≡ old.places.numbers.rules.limits.max_file → (b : IsBegunAs told told' capacity most r w) → length w.bytes ≡ 0
+    → Renews old p r → MayKeep (is_some_of told) s kept → kept_base s kept ≡ b.base → Steps told told' old (record { places = p; log = w; busy = 0 }) (Reopen (Ok (record { kept = kept; txn = r.next.txn }))) s
+renews told told' old p w r capacity most kept s is life limit b empty renew may same =
+    let k : Reopened = record { kept = kept; txn = r.next.txn } in
+    let s' : State = after_reopen s (Ok k) in
+    let as_read : s' ≡ after_reopen s (Ok (renewal b.base r.next.txn)) = ap (λ (x : Base). after_reopen s (Ok (renewal x r.next.txn))) same in
+    let of_s : old.places.numbers ≡ numbers_of s = is.looks.numbers in
+    record {
+      admitted = ((omega (arith, life, ap (λ (n : Numbers). n.life) of_s), may), is.whole.kind);
+      stands = record {
+        known = b.known;
+        looks = renew is.known b.known s k is.looks refl (ap (λ (x : Base). x.first) same ∙ b.first) (subst (λ (x : Base). LookLeft b.known [] r.ring.live x.items) (sym same) b.left) (subst IsBase (sym same) b.rises);
+        placed = λ _. b.placed;
+        whole = renewed_whole told' w 0 s s' b.base r.next.txn as_read is.whole.kind b.rises (b.logged s' (renewed_fresh s s' b.base r.next.txn as_read) (sym (limit ∙ ap (λ (n : Numbers). n.rules.limits.max_file) of_s)));
+      };
+      waits = empty;
+    }
+
+-- What was kept, with the next transaction number of what was replayed: one and the same in each state that the channel stood for.
+pub reopened : (told told' : Option Told) (old : Logged) (p : Places) (w : Writer) (r : Replayed) (capacity most : ℕ) → HasState told old → ReadsAreLeft told → old.places.numbers.life < 2 ^ 64 - 1 → most ≡ old.places.numbers.rules.limits.max_file → IsBegunAs told told' capacity most r w → length w.bytes ≡ 0 → Renews old p r
+    → (kept : Kept) × StepsOn told told' old (record { places = p; log = w; busy = 0 }) (Reopen (Ok (record { kept = kept; txn = r.next.txn })))
+reopened told told' old p w r capacity most has reads life limit b empty renew = from told refl
+  where
+    new : Logged
+    new = record { places = p; log = w; busy = 0 }
+
+    from : (o : Option Told) → told ≡ o → (kept : Kept) × StepsOn told told' old new (Reopen (Ok (record { kept = kept; txn = r.next.txn })))
+    from None is = (Read b.base, λ s state. renews told told' old p w r capacity most (Read b.base) s state life limit b empty renew (ap is_some_of is, b.rises) refl)
+    from (Some t) is =
+        let found : (v : State) → IsStateOf told old v → Either b.base v = λ v state. either_found told t v b.base r.next.txn capacity is (whole_may_rest told old.log old.busy v state.whole) reads (b.opens t is) in
+        let choice = chosen has.1.known old.places has.0 b.base has.1.looks (found has.0 has.1) in (
+          Front choice.0,
+          λ s state.
+              let keeps = choice.1 state.known s state.looks (found s state) in
+              renews told told' old p w r capacity most (Front choice.0) s state life limit b empty renew keeps.0 keeps.1,
+        )
 
 -- a refusal
 
-refused_admits : (tells : Bool) (s : State) (e : OpenCause) → s.life < 2 ^ 64 - 1 → s.rules.kind ≡ OnFile → IsOfFile e → Admits tells s (Reopen (Err e))
-refused_admits tells s causes.DiskFault life kind counter = (life, kind)
-refused_admits tells s (causes.BadCheck file at) life kind counter = (life, kind)
-refused_admits tells s (causes.BadLog file at) life kind counter = (life, kind)
-refused_admits tells s (causes.OverCapacity count) life kind counter = (life, kind)
-refused_admits tells s (causes.Spent c) life kind counter = (inr (counter, life), kind)
-refused_admits tells s causes.NoMemory life kind counter = (tt, kind)
+-- what a stop may leave of a channel's log
+log_rests : (told : Option Told) (c : Logged) (s : State) → IsStateOf told c s → MayRest told s
+log_rests told c s is = whole_may_rest told c.log c.busy s is.whole
 
-pub refused_moves : (tells : Bool) (s s' : State) (e : OpenCause) → s.life < 2 ^ 64 - 1 → s.rules.kind ≡ OnFile → IsOfFile e → s' ≡ broken_state s → (kept : Reopened) × Moves tells s (Reopen (Err e)) s'
-refused_moves tells s s' e life kind counter is = (record { kept = Front 0; txn = 0 }, record { admitted = refused_admits tells s e life kind counter; state = is })
+-- while a call leaves the disk alone, and while a folder is opened
+pub leaves_still : (told : Option Told) (c : Logged) → ShowsOf told c (λ s. Tells told told (λ t u. LeavesOnly t u (MayRecover s)))
+leaves_still told c s is = rests_still told s (log_rests told c s is)
 
-pub spent_moves : (tells : Bool) (s s' : State) → s.life ≡ 2 ^ 64 - 1 → s.rules.kind ≡ OnFile → s' ≡ broken_state s → (kept : Reopened) × Moves tells s (Reopen (Err (causes.Spent Life))) s'
-spent_moves tells s s' life kind is = (record { kept = Front 0; txn = 0 }, record { admitted = (inl (refl, life), kind); state = is })
+pub leaves_over : (told told' : Option Told) (c : Logged) → ReadsAreLeft told → Tells told told' OpensOver → ShowsOf told c (λ s. Tells told told' (λ t u. LeavesOnly t u (MayRecover s)))
+leaves_over told told' c reads over s is = opens_leaves told told' s (log_rests told c s is) reads over
 
-pub same_cause : {T : Type 0} (e : OpenCause) (x y : Result T OpenCause) → x ≡ Err e → y ≡ Err causes.DiskFault → x ≡ y → e ≡ causes.DiskFault
-same_cause e x y a b is = cc
+-- places that were broken look like the broken state
+abbrev pub Breaks : Logged → Places → Type 0
+Breaks old p = (known : Known) (s : State) → Looks known old.places s → Looks known p (broken_state s)
 
--- a fault of the disk is counted
-pub rose_by : (r : Result (Unit {0}) OpenCause) (X : Type 0) (told told' : Option Told) (f f' capacity : ℕ) → IfErr r (λ e. ((e ≡ causes.Spent Life) × X) ⊎ IsRefused told told' f f' capacity e) → r ≡ Err causes.DiskFault → Rose f f'
-rose_by (Ok done) X told told' f f' capacity refused is = absurd (cc)
-rose_by (Err e) X told told' f f' capacity (inl spent) is = absurd (apart e spent.0 (same_cause e (Err e) (Err causes.DiskFault) refl refl is))
-  where
-    apart : (e : OpenCause) → e ≡ causes.Spent Life → e ≡ causes.DiskFault → ⊥
-    apart e a b = cc
-rose_by (Err e) X told told' f f' capacity (inr refused) is = refused.fault (same_cause e (Err e) (Err causes.DiskFault) refl refl is)
+refused : (told told' : Option Told) (old : Logged) (p : Places) (e : OpenCause) (s : State) → IsStateOf told old s → Breaks old p → MayRest told' s → Admits (is_some_of told) s (Reopen (Err e)) → Steps told told' old (record old { places = p }) (Reopen (Err e)) s
+refused told told' old p e s is breaks rests may = record {
+  admitted = may;
+  stands = record {
+    known = is.known;
+    looks = breaks is.known s is.looks;
+    placed = λ still. absurd (cc);
+    whole = failed_whole told' old.log old.busy s rests is.whole.sound is.whole.kind;
+  };
+  waits = refl;
+}
 
--- the causes of a refusal, each with more known
-pub refused_as : (r : Result (Unit {0}) OpenCause) (A B : OpenCause → Type 0) (X Y Z : Type 0) → (X → Y) → (X → Z) → IfErr r (λ e. (A e × X) ⊎ B e) → IfErr r (λ e. (A e × Y × Z) ⊎ B e)
-refused_as (Ok done) A B X Y Z y z refused = refused
-refused_as (Err e) A B X Y Z y z (inl spent) = inl (spent.0, y spent.1, z spent.1)
-refused_as (Err e) A B X Y Z y z (inr other) = inr other
+life_of : (told : Option Told) (c : Logged) (s : State) → IsStateOf told c s → c.places.numbers.life ≡ s.life
+life_of told c s is = ap (λ (n : Numbers). n.life) is.looks.numbers
 
--- a reopening keeps the rules
-pub renewed_opens : (r : Result (Unit {0}) OpenCause) (kept : Reopened) (told : Option Told) (s s' : State) → s' ≡ after_reopen s (reopen_reply r kept) → OnOk r (WhereTold told (λ t. Opens t.reads s.rules.limits.capacity (base_of s') s'.txn))
-    → OnOk r (WhereTold told (λ t. Opens t.reads s'.rules.limits.capacity (base_of s') s'.txn))
-renewed_opens (Ok done) kept told s s' is opens = subst (λ (n : ℕ). WhereTold told (λ t. Opens t.reads n (base_of s') s'.txn)) (sym (ap (λ (v : State). v.rules.limits.capacity) is)) opens
-renewed_opens (Err e) kept told s s' is opens = opens
+pub limit_of : (told : Option Told) (c : Logged) (s : State) → IsStateOf told c s → c.places.numbers.rules.limits.capacity ≡ s.rules.limits.capacity
+limit_of told c s is = ap (λ (n : Numbers). n.rules.limits.capacity) is.looks.numbers
+
+pub refused_anew : (told told' : Option Told) (old : Logged) (p : Places) (e : OpenCause) → ReadsAreLeft told → old.places.numbers.life < 2 ^ 64 - 1 → IsOfFile e → Tells told told' OpensOver → Breaks old p → StepsOn told told' old (record old { places = p }) (Reopen (Err e))
+refused_anew told told' old p e reads life counter over breaks s is =
+    let lives : s.life < 2 ^ 64 - 1 = omega (arith, life, life_of told old s is) in
+    refused told told' old p e s is breaks (rests_over told told' s (leaves_over told told' old reads over s is)) (refused_moves (is_some_of told) s (broken_state s) e lives is.whole.kind counter refl).1.admitted
+
+-- for want of memory, before the folder was touched
+pub refused_early : (told : Option Told) (old : Logged) (p : Places) → old.places.numbers.life < 2 ^ 64 - 1 → Breaks old p → StepsOn told told old (record old { places = p }) (Reopen (Err causes.NoMemory))
+refused_early told old p life breaks s is =
+    let lives : s.life < 2 ^ 64 - 1 = omega (arith, life, life_of told old s is) in
+    refused told told old p causes.NoMemory s is breaks (log_rests told old s is) (refused_moves (is_some_of told) s (broken_state s) causes.NoMemory lives is.whole.kind tt refl).1.admitted
+
+-- where no life is left
+pub spent_anew : (told : Option Told) (old : Logged) (p : Places) → old.places.numbers.life ≡ 2 ^ 64 - 1 → Breaks old p → StepsOn told told old (record old { places = p }) (Reopen (Err (causes.Spent Life)))
+spent_anew told old p life breaks s is =
+    refused told told old p (causes.Spent Life) s is breaks (log_rests told old s is) (spent_moves (is_some_of told) s (broken_state s) (sym (life_of told old s is) ∙ life) is.whole.kind refl).1.admitted
+
+-- a life is left
+pub not_spent : (told : Option Told) (old : Logged) → old.places.numbers.life < 2 ^ 64 - 1 → ShowsOf told old (λ s. 2 ^ 64 - 1 ≤ s.life → ⊥)
+not_spent told old life s is most = absurd (omega (arith, life, life_of told old s is, most))
+
+-- the folder opened to what the channel has then
+pub opens_anew : (told told' : Option Told) (new : Logged) (r : Replayed) (capacity most : ℕ) → IsBegunAs told told' capacity most r new.log → ReadsAreLeft told' → Tells told told' (λ t u. IsAsBefore t.reads u.reads) → (was : State) → IsStateOf told' new was → was.broken ≡ false → was.txn ≡ r.next.txn → was.rules.limits.capacity ≡ capacity
+    → ShowsOf told' new (λ s. WhereTold told (λ t. Opens t.reads s.rules.limits.capacity (base_of s) s.txn))
+opens_anew told told' new r capacity most b reads stays was stands whole txn limit s is t told_is =
+    let numbers : numbers_of was ≡ numbers_of s = sym stands.looks.numbers ∙ is.looks.numbers in
+    let f = forth told told' (λ x y. IsAsBefore x.reads y.reads) stays t told_is in
+    let rests : Rests told' s = whole_rests told' new.log new.busy s is.whole in
+    let still : s.broken ≡ false = ap (λ (n : Numbers). n.broken) (sym numbers) ∙ whole in
+    let here = rests still f.0 f.1 f.0.reads (reads f.0 f.1) in
+    let opens : Opens t.reads capacity b.base r.next.txn = b.opens t told_is in
+    let there : OpensTo f.0.reads b.base r.next.txn = as_before_opens t.reads f.0.reads b.base r.next.txn f.2 (opens_to t.reads capacity b.base r.next.txn opens) in
+    let base : b.base ≡ base_of s = (recovers_once f.0.reads b.base (base_of s) r.next.txn here.0 there.1 here.2.1).0 in
+    let last : r.next.txn ≡ s.txn = sym txn ∙ ap (λ (n : Numbers). n.txn) numbers in
+    let cap : capacity ≡ s.rules.limits.capacity = sym limit ∙ ap (λ (n : Numbers). n.rules.limits.capacity) numbers in
+    subst (λ (n : ℕ). Opens t.reads n (base_of s) s.txn) cap
+    (subst (λ (x : Base). Opens t.reads capacity x s.txn) base (subst (λ (n : ℕ). Opens t.reads capacity b.base n) last opens))
+
+-- the channel
+
+-- What a reopening of the channel did in a state, and what the disk told and counted.
+pub record DidReopenIn (told told' : Option Told) (f f' : ℕ) (old new : FileState) (reply : Result Reopened OpenCause) (s : State) : Type 0 where
+  pub steps : Steps told told' old.logged new.logged (Reopen reply) s
+  pub tally : new.tally ≡ counted s (Reopen reply) old.tally
+  pub waits : new.waiting ≡ waiting_after s (Reopen reply) old.waiting
+  pub up : f ≤ f'
+  pub cause : is_fault (Reopen reply) ≡ true → Rose f f'
+  pub still : is_fault (Reopen reply) ≡ false → f' ≡ f
+  pub spent : 2 ^ 64 - 1 ≤ s.life → told' ≡ told
+  pub images : Tells told told' (λ t u. LeavesOnly t u (MayRecover s))
+
+abbrev seen_in : FileState → State → Seen
+seen_in c s = record { state = s; tally = c.tally; waiting = c.waiting }
+
+pub adds_reopened : (told told' : Option Told) (f f' : ℕ) (old new : FileState) (reply : Result Reopened OpenCause) → ((s : State) → IsStateOf told old.logged s → DidReopenIn told told' f f' old new reply s) → AddsOne (StandsOver told f old) (StandsOver told' f' new) (Reopen reply) (moment_of told')
+adds_reopened told told' f f' old new reply each start h pass stands =
+    let s : State = state_after (opening start) h in
+    let did = each s stands.state in
+    let s' : State = after s (Reopen reply) in
+    let step : Step = record { pass = pass; call = Reopen reply; moment = moment_of told' } in
+    let moves : Moves (is_some_of told) s (Reopen reply) s' = record { admitted = did.steps.admitted; state = refl } in
+    let rests : Rests told' s' = whole_rests told' new.logged.log new.logged.busy s' did.steps.stands.whole in
+    let does : DidReopen told told' f f' (seen_in old s) reply (seen_in new s') = record {
+      moves = moves;
+      tally = did.tally;
+      waits = did.waits;
+      up = did.up;
+      cause = did.cause;
+      still = did.still;
+      spent = did.spent;
+      images = did.images;
+      rests = rests;
+    } in
+    let before : StandsIn told f (seen_in old s) start h = stands_as (IsStateOf told old.logged) (λ v. v ≡ s) told f old.tally old.waiting start h refl stands in
+    let longer : StandsIn told' f' (seen_in new s') start (h ++ step ∷ []) = adds_reopen told told' told f f' f (seen_in old s) (seen_in new s') (seen_in old s) reply refl refl refl does start h pass before in
+    let same : s' ≡ state_after (opening start) (h ++ step ∷ []) = sym (state-push (opening start) h step) in
+    stands_as (λ v. v ≡ s') (IsStateOf told' new.logged) told' f' new.tally new.waiting start (h ++ step ∷ []) (subst (λ (v : State). IsStateOf told' new.logged v) same did.steps.stands) longer
+
+pub ok_each : (r : Result (Unit {0}) OpenCause) (A B : Type 0) → (A → B) → OnOk r A → OnOk r B
+ok_each (Ok done) A B maps is = maps is
+ok_each (Err e) A B maps is = tt

@@ -1,9 +1,5 @@
-pub mod Mirrors
-pub mod Logs
-pub mod Laws
-pub mod Written
-pub mod Whole
-pub mod Folders
-pub mod Touches
-pub mod Waiting
+pub mod Placed
+pub mod Stepped
 pub mod Stands
+pub mod Opened
+pub mod Images

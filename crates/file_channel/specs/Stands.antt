@@ -1,88 +1,83 @@
 -- What a channel on a disk stands for.
-use Rattle.std.specs.Prelude.{◌≡◌, ◌≤◌, ◌+◌, ℕ, List, [], ◌∷◌, Option, Err, Bool, true, false, ◌||◌, nat_le, if◌then◌else◌}
-use Rattle.std.specs.List.{AllByRecursion}
-use Rattle.flume_host.specs.Causes.{Rose}
-use Rattle.flume_host.specs.Folder.{Files}
-use Rattle.flume_host.specs.Told.{EachMoment, Told, WhereTold, moment_of}
-use Rattle.event_core.specs.Journal.{Base, IsBase}
-use Rattle.channel_face.specs.Counters.{Tally, tally}
-use Rattle.channel_face.specs.History.{IsRun, MayLeave, Opening, Step, opening, state_after}
-use Rattle.channel_face.specs.Machine.{State, Call, Put, Take, Flush, Checkpoint, Prune, Reopen, base_of, is_some_of}
-use Rattle.channel_face.specs.declared.replies.PutRefused.TheVariants as PutNo
-use Rattle.channel_face.specs.declared.replies.TakeRefused.TheVariants as TakeNo
-use Rattle.channel_face.specs.declared.replies.FlushRefused.TheVariants as FlushNo
-use Rattle.channel_face.specs.declared.replies.CheckRefused.TheVariants as CheckNo
-use Rattle.channel_face.specs.declared.replies.PruneRefused.TheVariants as PruneNo
-use Rattle.channel_face.specs.declared.replies.OpenCause.TheVariants as OpenNo
-use Rattle.file_channel.specs.Folders.{OpensTo}
-use Rattle.file_channel.specs.Waiting.{waiting}
+use Rattle.std.specs.Prelude.{◌+◌, ◌-◌, ℕ, List, [], ◌∷◌, drop, replicate, Option, None, Some, Result, Ok, Err, Bool, true, false}
+use Rattle.flume_host.specs.Told.{Told, moment_of}
+use Rattle.flume_host.specs.declared.names.FileName.TheVariants.{Log}
+use Rattle.event_core.specs.Content.{Content, content}
+use Rattle.event_core.specs.Journal.{Base}
+use Rattle.record_form.specs.Grammar.{Outcome, Complete, outcome_of}
+use Rattle.record_form.specs.declared.record.Pointer.{Pointer}
+use Rattle.record_form.specs.declared.record.Rec.TheVariants.{Put as PutRecord}
+use Rattle.event_ring.specs.Slots.{Left}
+use Rattle.channel_face.specs.Counters.{Tally}
+use Rattle.channel_face.specs.History.{Opening, Step}
+use Rattle.channel_face.specs.Machine.{is_some_of}
+use Rattle.channel_face.specs.declared.replies.FlushRefused.{FlushRefused}
+use Rattle.channel_face.specs.declared.replies.Put.{Put}
+use Rattle.channel_face.specs.declared.replies.PutRefused.{PutRefused}
+use Rattle.channel_face.specs.declared.replies.TakeRefused.{TakeRefused}
+use Rattle.channel_face.specs.declared.replies.Taken.{Taken}
+use Rattle.channel_places.specs.Looks.{Places}
+use Rattle.channel_writing.specs.Stands.{StandsBy}
+use Rattle.file_channel.specs.Placed.{IsStateOf, Logged, bytes_of}
 
--- the calls that had ended by this moment
-abbrev pub until : ℕ → List Step → List Step
-until m [] = []
-until m (step ∷ h) = if nat_le step.moment m then step ∷ until m h else until m h
-
--- an image opens to something that a stop after these calls may leave
-abbrev pub MayFind : Opening → List Step → Files → Type 0
-MayFind start h image = (found : Base) × (txn : ℕ) × OpensTo image found txn × MayLeave start h found
-
--- the call was refused because the disk failed
-abbrev pub is_fault : Call → Bool
-is_fault (Put token event (Err PutNo.DiskFault)) = true
-is_fault (Take token (Err TakeNo.ReadFault)) = true
-is_fault (Take token (Err TakeNo.DiskFault)) = true
-is_fault (Flush (Err FlushNo.DiskFault)) = true
-is_fault (Checkpoint (Err CheckNo.DiskFault)) = true
-is_fault (Checkpoint (Err CheckNo.CheckFault)) = true
-is_fault (Prune (Err PruneNo.DiskFault)) = true
-is_fault (Reopen (Err OpenNo.DiskFault)) = true
-is_fault call = false
-
--- one of the calls was
-abbrev pub has_fault : List Step → Bool
-has_fault [] = false
-has_fault (step ∷ h) = is_fault step.call || has_fault h
-
--- What a channel has beside its disk: its state, what is counted, and how many bytes of records wait in its frame.
+-- What a channel has beside its disk: its places and its log, what is counted, and how many bytes of records wait in its frame.
 pub record FileState : Type 0 where
-  pub state : State
+  pub logged : Logged
   pub tally : Tally
   pub waiting : ℕ
 
--- The opening's numbers rise, and the disk tells as it did then. The calls are a run from there to this
--- state, with these counts and so many waiting bytes, and none ended later than now. The disk's count of faults is no less than at
--- the opening: it rose where a call was refused for a fault of the disk, and else it stayed. Where the disk
--- tells, whatever a stop leaves at a moment since the opening opens to something that the calls up to that
--- moment may leave.
-pub record StandsOver (told : Option Told) (faults : ℕ) (c : FileState) (start : Opening) (h : List Step) : Type 0 where
-  pub base : IsBase start.base
-  pub tells : start.tells ≡ is_some_of told
-  pub run : IsRun (is_some_of told) (opening start) h
-  pub state : state_after (opening start) h ≡ c.state
-  pub tally : tally (opening start) h ≡ c.tally
-  pub waiting : waiting (opening start) 0 h ≡ c.waiting
-  pub moments : AllByRecursion (λ step. step.moment ≤ moment_of told) h
-  pub later : start.faults ≤ faults
-  pub causes : has_fault h ≡ true → Rose start.faults faults
-  pub clean : has_fault h ≡ false → faults ≡ start.faults
-  pub images : WhereTold told (EachMoment start.from (λ m image. MayFind start (until m h) image))
+-- The calls lead to a state for which the channel's places and its log stand.
+abbrev pub StandsOver : Option Told → ℕ → FileState → Opening → List Step → Type 0
+StandsOver told faults c start h = StandsBy (IsStateOf told c.logged) told faults c.tally c.waiting start h
+
+-- There are an opening and calls for which a channel stands.
+abbrev pub IsStanding : Option Told → ℕ → FileState → Type 0
+IsStanding told faults c = (start : Opening) × (h : List Step) × StandsOver told faults c start h
+
+-- an event of this size that has no header, and zeros for its body
+abbrev pub blank : ℕ → Content
+blank size = content [] (replicate (size - 8) 0)
+
+-- the event of a PUT that was read; where none was, only its size is known
+abbrev pub event_of : ℕ → Outcome → Content
+event_of size (Complete (PutRecord txn event) end) = event
+event_of size outcome = blank size
+
+-- the event whose PUT stands at a pointer; a disk that does not tell tells no more of it than its size
+abbrev pub event_at : Option Told → Pointer → Content
+event_at None p = blank p.length
+event_at (Some t) p = event_of p.length (outcome_of (drop p.at (bytes_of (t.reads (Log p.file)))))
+
+-- the events that are left, with their numbers
+abbrev pub items_at : Option Told → List Left → List (ℕ × Content)
+items_at told [] = []
+items_at told (l ∷ live) = (l.number, event_at told l.pointer) ∷ items_at told live
+
+abbrev pub base_at : Option Told → Places → Base
+base_at told p = record { items = items_at told p.live; first = p.numbers.first }
 
 -- The opening of a channel that has made no call yet, over a disk that told and had counted this before,
 -- and tells this now.
 abbrev pub opened_as : Option Told → ℕ → Option Told → FileState → Opening
 opened_as before faults now c = record {
-  rules = c.state.rules;
-  base = base_of c.state;
-  txn = c.state.txn;
+  rules = c.logged.places.numbers.rules;
+  base = base_at now c.logged.places;
+  txn = c.logged.places.numbers.txn;
   faults = faults;
   from = moment_of before + 1;
   tells = is_some_of now;
 }
 
--- some opening and calls for which a channel stands led to this state
-abbrev pub IsSeenIn : (Opening → List Step → Type 0) → State → Type 0
-IsSeenIn stands s = (start : Opening) × (h : List Step) × stands start h × (state_after (opening start) h ≡ s)
+-- whether a call settled what was staged
 
--- There are an opening and calls for which a channel stands.
-abbrev pub IsStanding : Option Told → ℕ → FileState → Type 0
-IsStanding told faults c = (start : Opening) × (h : List Step) × StandsOver told faults c start h
+abbrev pub put_spills : Result Put PutRefused → Bool
+put_spills (Ok done) = done.spilled
+put_spills (Err e) = false
+
+abbrev pub take_spills : Result Taken TakeRefused → Bool
+take_spills (Ok taken) = taken.spilled
+take_spills (Err e) = false
+
+abbrev pub flush_settles : Result (Unit {0}) FlushRefused → Bool
+flush_settles (Ok done) = true
+flush_settles (Err e) = false

@@ -1,29 +1,28 @@
-// A channel on a disk.
-ghost use Rattle.std.specs.Prelude.{[], ◌⊎◌, ◌↔◌, ◌≡◌, ◌≤◌, ◌+◌, ◌-◌, ◌^◌, ℕ, Bool, Err, IsSome, OnOk, IfOk, IfErr, IsErrOf, false, true, if◌then◌else◌};
+// A channel on a disk. In memory it keeps pointers to its events.
+ghost use Rattle.std.specs.Prelude.{[], ◌⊎◌, ◌↔◌, ◌≡◌, ◌≤◌, ◌+◌, ◌-◌, ◌^◌, Bool, Err, IsSome, OnOk, IfOk, IfErr, IsErrOf, false, true, if◌then◌else◌};
 ghost use Rattle.flume_host.specs.Causes.{Rose};
 ghost use Rattle.flume_host.specs.Told.{LeavesOnly, Tells, WhereTold, moment_of};
 ghost use Rattle.event_core.specs.Content.{size};
 ghost use Rattle.channel_face.specs.Calls.{cause_of};
-ghost use Rattle.channel_face.specs.Counters.{counts_with};
 ghost use Rattle.channel_face.specs.History.{AddsOne, Shows, reopen_reply};
 ghost use Rattle.channel_face.specs.Machine as Face;
-ghost use Rattle.channel_face.specs.Machine.{BeginPut, BeginTake, Flush, Reopen, Reopened, RollbackPut, RollbackTake, StagePut, StageTake, base_of, is_some_of, puts_of, size_of_list, takes_of};
-ghost use Rattle.channel_face.specs.declared.replies.Counter.{Counter};
+ghost use Rattle.channel_face.specs.Machine.{BeginPut, BeginTake, Flush, Reopen, Reopened, RollbackPut, RollbackTake, StagePut, StageTake, base_of, puts_of, size_of_list, takes_of};
 ghost use Rattle.channel_face.specs.declared.replies.FlushRefused.{FlushRefused};
+ghost use Rattle.channel_face.specs.declared.replies.Counter.{Counter};
+ghost use Rattle.channel_face.specs.declared.replies.Counter.TheVariants.{File};
 ghost use Rattle.channel_face.specs.declared.replies.Kind.{Kind};
 ghost use Rattle.channel_face.specs.declared.replies.OpenCause.{OpenCause};
-ghost use Rattle.channel_face.specs.declared.replies.Counter.TheVariants.{File};
 ghost use Rattle.channel_face.specs.declared.replies.PutRefused.{PutRefused};
 ghost use Rattle.channel_face.specs.declared.replies.TakeRefused.{TakeRefused};
 ghost use Rattle.channel_replay.specs.Recover.{WhereLogs, lines};
 ghost use Rattle.channel_replay.specs.Replay.{record_count};
-ghost use Rattle.file_channel.specs.Folders.{FailsToSettle, GainsLog, IsBegun, IsRefused, Opens, OpensFrom, OpensOver};
-ghost use Rattle.file_channel.specs.Written.{MayRecover};
-ghost use Rattle.file_channel.specs.Stands.{IsStanding, StandsOver, is_fault, opened_as};
-ghost use Rattle.file_channel.specs.Touches.{Flushed, HadNoRoom, HasNoRoom, IsSpentLog, Rests, flushes, room_of};
-ghost use Rattle.txn_core.specs.Noted.{noted};
+ghost use Rattle.channel_writing.specs.Folders.{FailsToSettle, GainsLog, IsBegun, IsRefused, Opens, OpensFrom, OpensOver};
+ghost use Rattle.channel_writing.specs.Stands.{is_fault};
+ghost use Rattle.channel_writing.specs.Written.{MayRecover};
+ghost use Rattle.channel_writing.specs.Touches.{Flushed, HadNoRoom, HasNoRoom, IsSpentLog, Rests, flushes, room_of};
+ghost use Rattle.file_channel.specs.Stands.{IsStanding, StandsOver, flush_settles, opened_as, put_spills, take_spills};
 
-use crate::logged::LoggedLists;
+use crate::logged::LoggedPlaces;
 use channel_face::{
     BeginRefused, Channel, Counts, FlushRefused, Limits, OpenCause, Put, PutRefused, PutTxn,
     Settled, StageRefused, TakeRefused, TakeTxn, Taken, Ticket,
@@ -41,43 +40,40 @@ pub struct OpenRefused<D> {
     pub cause: OpenCause,
 }
 
-/// A channel in a folder of a disk (Flume User Guide, "File Channel"). Each change has its record in a log file, and what a
-/// flush settled a stop leaves there.
+/// A channel in a folder of a disk that keeps no bodies of events in memory (Flume User Guide, "File Channel"). Each change has
+/// its record in a log file, an event is read there when it is taken, and what a flush settled a stop leaves there.
 #[derive(Drop)]
 pub struct FileChannel<D: Disk + Drop> {
-    logged: LoggedLists<D>,
+    logged: LoggedPlaces<D>,
     counts: Counts,
 }
 
 impl<D: Disk + Drop> Model for FileChannel<D> {
+    ghost use Rattle.std.specs.Prelude.{length};
     ghost use Rattle.txn_core.specs.Counted.{tally_of};
     ghost use Rattle.file_channel.specs.Stands.{FileState, IsStanding};
-    ghost use Rattle.file_channel.specs.Touches.{Rests};
 
     // The disk, and what the channel has beside it.
     ghost Value = { D × FileState };
 
     ghost view = { λ c. (
       c.logged.0,
-      record { state = c.logged.1; tally = tally_of c.counts; waiting = c.logged.2 },
+      record {
+        logged = c.logged.1;
+        tally = tally_of c.counts;
+        waiting = length c.logged.1.log.bytes;
+      },
     ) };
 
-    // Whatever a crash now leaves opens to just what is settled, unless it is broken; and it stands for an opening and calls.
-    ghost invariant = { λ c. Rests (D.told c.logged.0) c.logged.1
-        × IsStanding (D.told c.logged.0) (D.faults c.logged.0)
-        (record { state = c.logged.1; tally = tally_of c.counts; waiting = c.logged.2 }) };
+    // It stands for an opening and calls.
+    ghost invariant = { λ c. IsStanding (D.told c.logged.0) (D.faults c.logged.0) (record {
+      logged = c.logged.1;
+      tally = tally_of c.counts;
+      waiting = length c.logged.1.log.bytes;
+    }) };
 }
 
-// Counts a call that was made.
-fn count<D: Disk + Drop>(logged: &LoggedLists<D>, counts: &mut Counts, call: Call, reply: Reply)
-    ensures counts { counts.new ≡ noted counts.old call reply }
-    ensures rests { Rests (D.told logged.now.0) logged.now.1 }
-{
-    logged.rests();
-    note(counts, call, reply);
-}
-
-// The reply of a call that settled so many events of puts and of takes, if it flushed.
+// What is counted of a call that settled so many events of puts and of takes, if it flushed.
 fn reply_of(done: bool, flushed: bool, staged: (u64, u64)) -> Reply
     ensures puts { result.settled_puts ≡ (if flushed then staged.0 else 0) }
     ensures takes { result.settled_takes ≡ (if flushed then staged.1 else 0) }
@@ -89,6 +85,39 @@ fn reply_of(done: bool, flushed: bool, staged: (u64, u64)) -> Reply
         done,
         settled_puts: staged.0,
         settled_takes: staged.1,
+    }
+}
+
+// What is counted of a put.
+fn put_reply(done: &Result<Put, PutRefused>, staged: (u64, u64)) -> Reply
+    ensures puts { result.settled_puts ≡ (if put_spills done.now then staged.0 else 0) }
+    ensures takes { result.settled_takes ≡ (if put_spills done.now then staged.1 else 0) }
+{
+    match done {
+        Ok(put) => reply_of(true, put.spilled, staged),
+        Err(_) => Reply::quiet(false),
+    }
+}
+
+// What is counted of a take.
+fn take_reply(done: &Result<Taken, TakeRefused>, staged: (u64, u64)) -> Reply
+    ensures puts { result.settled_puts ≡ (if take_spills done.now then staged.0 else 0) }
+    ensures takes { result.settled_takes ≡ (if take_spills done.now then staged.1 else 0) }
+{
+    match done {
+        Ok(taken) => reply_of(true, taken.spilled, staged),
+        Err(_) => Reply::quiet(false),
+    }
+}
+
+// What is counted of a flush.
+fn flush_reply(done: &Result<(), FlushRefused>, staged: (u64, u64)) -> Reply
+    ensures puts { result.settled_puts ≡ (if flush_settles done.now then staged.0 else 0) }
+    ensures takes { result.settled_takes ≡ (if flush_settles done.now then staged.1 else 0) }
+{
+    match done {
+        Ok(()) => reply_of(true, true, staged),
+        Err(_) => Reply::quiet(false),
     }
 }
 
@@ -121,7 +150,6 @@ pub fn open_channel<D: Disk + Drop, L: Ledger>(
         (λ refused. IsRefused (D.told disk) (D.told refused.disk) (D.faults disk)
         (D.faults refused.disk) limits.capacity refused.cause) }
     ensures well { IfOk result (λ c. D.faults c.0 ≡ D.faults disk) }
-
     ensures any_moment { IfOk result (λ c. Tells (D.told disk) (D.told c.0) OpensOver) }
     ensures settled { IfOk result (λ c. Tells (D.told disk) (D.told c.0) OpensFrom) }
     ensures settled_or { IfErr result
@@ -131,21 +159,18 @@ pub fn open_channel<D: Disk + Drop, L: Ledger>(
     ensures ticks { WhereTold (D.told disk)
         (λ t. WhereLogs t.reads (λ logs. steps.new ≤ steps.old + record_count (lines logs))) }
 {
-    match LoggedLists::open(alloc, disk, limits, steps) {
-        Ok(logged) => {
-            logged.rests();
-            Ok(FileChannel {
-                logged,
-                counts: Counts {
-                    put_attempts: 0,
-                    put_successes: 0,
-                    take_attempts: 0,
-                    take_successes: 0,
-                    size: 0,
-                    capacity: 0,
-                },
-            })
-        }
+    match LoggedPlaces::open(alloc, disk, limits, steps) {
+        Ok(logged) => Ok(FileChannel {
+            logged,
+            counts: Counts {
+                put_attempts: 0,
+                put_successes: 0,
+                take_attempts: 0,
+                take_successes: 0,
+                size: 0,
+                capacity: 0,
+            },
+        }),
         Err(refused) => Err(refused),
     }
 }
@@ -186,7 +211,7 @@ impl<D: Disk + Drop> FileChannel<D> {
     {
         let result = self.logged.reopen(steps);
         let reply = Reply::quiet(result.is_ok());
-        count(&self.logged, &mut self.counts, Call::Reopen, reply);
+        note(&mut self.counts, Call::Reopen, reply);
         result
     }
 
@@ -213,7 +238,6 @@ impl<D: Disk + Drop> FileChannel<D> {
             (Rests (D.told result)) }
     {
         let FileChannel { logged, counts: _ } = self;
-        logged.rests();
         logged.close()
     }
 }
@@ -241,7 +265,7 @@ impl<D: Disk + Drop> Channel for FileChannel<D> {
     {
         let result = self.logged.begin_put();
         let reply = Reply::quiet(result.is_ok());
-        count(&self.logged, &mut self.counts, Call::BeginPut, reply);
+        note(&mut self.counts, Call::BeginPut, reply);
         result
     }
 
@@ -255,7 +279,7 @@ impl<D: Disk + Drop> Channel for FileChannel<D> {
     {
         let result = self.logged.begin_take();
         let reply = Reply::quiet(result.is_ok());
-        count(&self.logged, &mut self.counts, Call::BeginTake, reply);
+        note(&mut self.counts, Call::BeginTake, reply);
         result
     }
 
@@ -295,12 +319,8 @@ impl<D: Disk + Drop> Channel for FileChannel<D> {
     {
         let staged = self.logged.staged();
         let result = self.logged.put(txn, event);
-        let spilled = match &result {
-            Ok(done) => done.spilled,
-            Err(_) => false,
-        };
-        let reply = reply_of(result.is_ok(), spilled, staged);
-        count(&self.logged, &mut self.counts, Call::Put, reply);
+        let reply = put_reply(&result, staged);
+        note(&mut self.counts, Call::Put, reply);
         result
     }
 
@@ -339,12 +359,8 @@ impl<D: Disk + Drop> Channel for FileChannel<D> {
     {
         let staged = self.logged.staged();
         let result = self.logged.take(txn);
-        let spilled = match &result {
-            Ok(taken) => taken.spilled,
-            Err(_) => false,
-        };
-        let reply = reply_of(result.is_ok(), spilled, staged);
-        count(&self.logged, &mut self.counts, Call::Take, reply);
+        let reply = take_reply(&result, staged);
+        note(&mut self.counts, Call::Take, reply);
         result
     }
 
@@ -359,7 +375,7 @@ impl<D: Disk + Drop> Channel for FileChannel<D> {
     {
         let result = self.logged.stage_put(txn);
         let reply = Reply::quiet(result.is_ok());
-        count(&self.logged, &mut self.counts, Call::StagePut, reply);
+        note(&mut self.counts, Call::StagePut, reply);
         result
     }
 
@@ -374,7 +390,7 @@ impl<D: Disk + Drop> Channel for FileChannel<D> {
     {
         let result = self.logged.stage_take(txn);
         let reply = Reply::quiet(result.is_ok());
-        count(&self.logged, &mut self.counts, Call::StageTake, reply);
+        note(&mut self.counts, Call::StageTake, reply);
         result
     }
 
@@ -397,8 +413,8 @@ impl<D: Disk + Drop> Channel for FileChannel<D> {
     {
         let staged = self.logged.staged();
         let result = self.logged.flush();
-        let reply = reply_of(result.is_ok(), result.is_ok(), staged);
-        count(&self.logged, &mut self.counts, Call::Flush, reply);
+        let reply = flush_reply(&result, staged);
+        note(&mut self.counts, Call::Flush, reply);
         result
     }
 
@@ -412,7 +428,7 @@ impl<D: Disk + Drop> Channel for FileChannel<D> {
     {
         let ended = self.logged.rollback_put(txn);
         let reply = Reply::quiet(ended);
-        count(&self.logged, &mut self.counts, Call::RollbackPut, reply);
+        note(&mut self.counts, Call::RollbackPut, reply);
         ended
     }
 
@@ -426,7 +442,7 @@ impl<D: Disk + Drop> Channel for FileChannel<D> {
     {
         let ended = self.logged.rollback_take(txn);
         let reply = Reply::quiet(ended);
-        count(&self.logged, &mut self.counts, Call::RollbackTake, reply);
+        note(&mut self.counts, Call::RollbackTake, reply);
         ended
     }
 

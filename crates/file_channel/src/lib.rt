@@ -1,19 +1,14 @@
-//! A channel on a disk.
+//! A channel on a disk. In memory it keeps pointers to its events, and no bodies.
 #![tactic(auto)]
 
 mod channel;
 mod laws;
 mod logged;
 mod mending;
-mod open;
-mod writing;
+mod opening;
+mod reading;
+mod records;
 
 pub use channel::{FileChannel, OpenRefused, open_channel};
-pub use laws::{
-    a_begin_is_mirrored, a_checkpoint_is_mirrored, a_flush_is_logged, a_flush_is_mirrored,
-    a_flush_recovers, a_put_is_mirrored, a_rollback_is_mirrored, a_staged_put_is_mirrored,
-    a_staged_take_is_mirrored, a_take_is_mirrored, an_end_is_mirrored, frames_recover,
-    starts_leave_the_same,
-};
-pub use open::{first_check, last_log, of_replay};
-pub use writing::Writing;
+pub use laws::an_event_stands_in_each_image;
+pub use logged::LoggedPlaces;

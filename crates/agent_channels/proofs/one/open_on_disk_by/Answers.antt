@@ -1,6 +1,6 @@
 use Rattle.std.proofs.Common.{ℕ, ◌∙◌, ◌+◌, ap, inl, inr, refl, sym, subst}
 use Rattle.std.proofs.lemmas.Result.{IfErr-weaker, IfOk-weaker}
-use Rattle.file_channel.specs.Folders.{IsRefused}
+use Rattle.channel_writing.specs.Folders.{IsRefused}
 use Rattle.file_channel.specs.Stands.{opened_as}
 use Rattle.shared_channel.specs.Passes.{new_passes}
 use Rattle.two_channels.specs.Shares.{table_of}

@@ -1,14 +1,12 @@
-use Rattle.std.proofs.Common.{ap}
-use Rattle.txn_core.specs.Counted.{tally_of}
-use Rattle.file_channel.specs.Touches.{Rests}
-use Rattle.file_channel.proofs.Standing.{shows_over}
+use Rattle.std.proofs.Common.{Option, ap, subst, sym}
+use Rattle.flume_host.specs.Told.{Told}
+use Rattle.channel_face.specs.History.{opening, state_after}
+use Rattle.channel_writing.specs.Touches.{Rests}
+use Rattle.channel_writing.proofs.Whole.{whole_rests}
 use Rattle.file_channel.proofs.channel.FileChannel.close.Goals as goal
 
 pub returns-clause-settled : goal.returns-clause-settled
-returns-clause-settled g c =
+returns-clause-settled g c = rw (← c.self.view_is) (λ start h stands.
     let m = c.self.inside in
-    let told = g.D.Disk.told in
-    let faults = g.D.Disk.faults in
-    shows_over (told m.logged.0) (told c.args.self.0) (faults m.logged.0) (faults c.args.self.0) (record { state = m.logged.1; tally = tally_of m.counts; waiting = m.logged.2 }) c.args.self.1 (Rests (told c.close.result))
-    (ap (λ p. told p.0) c.self.view_is) (ap (λ p. faults p.0) c.self.view_is) (ap (λ p. p.1) c.self.view_is)
-    (rw c.close.ensures c.rests.ensures)
+    subst (λ (v : Option Told). Rests v (state_after (opening start) h)) (sym (ap g.D.Disk.told c.close.ensures))
+    (whole_rests (g.D.Disk.told m.logged.0) m.logged.1.log m.logged.1.busy (state_after (opening start) h) stands.state.whole))

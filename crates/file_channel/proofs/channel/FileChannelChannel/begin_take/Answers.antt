@@ -1,36 +1,32 @@
-use Rattle.std.proofs.Common.{rules, refl, ap}
-use Rattle.channel_face.specs.Machine.{Call, BeginTake}
-use Rattle.txn_core.specs.Counted.{Counted, Makes, tally_of}
+use Rattle.std.proofs.Common.{length, ap, refl}
+use Rattle.channel_face.specs.Machine.{State, BeginTake}
+use Rattle.txn_core.specs.declared.calls.Call.TheVariants as notes
+use Rattle.file_channel.specs.Placed.{IsStateOf}
 use Rattle.file_channel.specs.Stands.{FileState}
-use Rattle.file_channel.proofs.Standing.{adds_did, standing_on, did_quietly}
+use Rattle.txn_core.specs.Counted.{tally_of}
+use Rattle.file_channel.proofs.Standing.{Did, adds_did, did_quietly, quiet_tally, standing_on}
 use Rattle.file_channel.proofs.channel.FileChannelChannel.begin_take.Goals as goal
 
 pub returns-clause-step : goal.returns-clause-step
 returns-clause-step g c =
     let m = c.self.inside in
-    let told = g.D.Disk.told in
-    let faults = g.D.Disk.faults in
-    let call : Call = BeginTake c.begin_take-result.result in
-    let old : FileState = record { state = m.logged.1; tally = tally_of m.counts; waiting = m.logged.2 } in
-    let new : FileState = record { state = c.begin_take-result.new.self.1; tally = tally_of c.count.new.counts; waiting = c.begin_take-result.new.self.2 } in
-    let was : Counted = record { state = m.logged.1; tally = tally_of m.counts } in
-    let is : Counted = record { state = c.begin_take-result.new.self.1; tally = tally_of c.count.new.counts } in
-    let makes : Makes was call is = search rules in
-    adds_did (told m.logged.0) (told c.begin_take-result.new.self.0) (told c.args.self.now.0) (faults m.logged.0) (faults c.begin_take-result.new.self.0) (faults c.args.self.now.0) old new c.args.self.now.1 call
-    (ap (λ p. told p.0) c.self.view_is) (ap (λ p. faults p.0) c.self.view_is) (ap (λ p. p.1) c.self.view_is)
-    (did_quietly (told m.logged.0) (told c.begin_take-result.new.self.0) (faults m.logged.0) (faults c.begin_take-result.new.self.0) old call new makes c.begin_take-result.ensures.waits (ap told c.begin_take-result.ensures.disk) (ap faults c.begin_take-result.ensures.disk) refl refl c.count.ensures.rests)
+    let told = g.D.Disk.told m.logged.0 in
+    let told' = g.D.Disk.told c.begin_take-result.new.self.0 in
+    let f = g.D.Disk.faults m.logged.0 in
+    let f' = g.D.Disk.faults c.begin_take-result.new.self.0 in
+    let old : FileState = record { logged = m.logged.1; tally = tally_of m.counts; waiting = length m.logged.1.log.bytes } in
+    let new : FileState = record { logged = c.begin_take-result.new.self.1; tally = tally_of c.note.new.counts; waiting = length c.begin_take-result.new.self.1.log.bytes } in
+    let did : (s : State) → IsStateOf told old.logged s → Did told told' f f' old new (BeginTake c.begin_take-result.result) s = λ s is. did_quietly told told' f f' old new (BeginTake c.begin_take-result.result) s (c.begin_take-result.ensures.step s is) (quiet_tally m.counts c.note.new.counts notes.BeginTake c.quiet-reply.result _ s (BeginTake c.begin_take-result.result) c.note.ensures.noted c.quiet-reply.ensures refl refl refl) refl refl (ap g.D.Disk.told c.begin_take-result.ensures.disk) (ap g.D.Disk.faults c.begin_take-result.ensures.disk) refl refl in
+    rw (← c.self.view_is) (adds_did told told' f f' old new (BeginTake c.begin_take-result.result) did)
 
 pub invariant_of-self : goal.invariant_of-self
 invariant_of-self g c =
     let m = c.self.inside in
-    let told = g.D.Disk.told in
-    let faults = g.D.Disk.faults in
-    let call : Call = BeginTake c.begin_take-result.result in
-    let old : FileState = record { state = m.logged.1; tally = tally_of m.counts; waiting = m.logged.2 } in
-    let new : FileState = record { state = c.begin_take-result.new.self.1; tally = tally_of c.count.new.counts; waiting = c.begin_take-result.new.self.2 } in
-    let was : Counted = record { state = m.logged.1; tally = tally_of m.counts } in
-    let is : Counted = record { state = c.begin_take-result.new.self.1; tally = tally_of c.count.new.counts } in
-    let makes : Makes was call is = search rules in
-    let adds = adds_did (told m.logged.0) (told c.begin_take-result.new.self.0) (told m.logged.0) (faults m.logged.0) (faults c.begin_take-result.new.self.0) (faults m.logged.0) old new old call refl refl refl
-    (did_quietly (told m.logged.0) (told c.begin_take-result.new.self.0) (faults m.logged.0) (faults c.begin_take-result.new.self.0) old call new makes c.begin_take-result.ensures.waits (ap told c.begin_take-result.ensures.disk) (ap faults c.begin_take-result.ensures.disk) refl refl c.count.ensures.rests) in
-    (c.count.ensures.rests, standing_on (told m.logged.0) (told c.begin_take-result.new.self.0) (faults m.logged.0) (faults c.begin_take-result.new.self.0) old new call _ c.self.invariant.1 adds)
+    let told = g.D.Disk.told m.logged.0 in
+    let told' = g.D.Disk.told c.begin_take-result.new.self.0 in
+    let f = g.D.Disk.faults m.logged.0 in
+    let f' = g.D.Disk.faults c.begin_take-result.new.self.0 in
+    let old : FileState = record { logged = m.logged.1; tally = tally_of m.counts; waiting = length m.logged.1.log.bytes } in
+    let new : FileState = record { logged = c.begin_take-result.new.self.1; tally = tally_of c.note.new.counts; waiting = length c.begin_take-result.new.self.1.log.bytes } in
+    let did : (s : State) → IsStateOf told old.logged s → Did told told' f f' old new (BeginTake c.begin_take-result.result) s = λ s is. did_quietly told told' f f' old new (BeginTake c.begin_take-result.result) s (c.begin_take-result.ensures.step s is) (quiet_tally m.counts c.note.new.counts notes.BeginTake c.quiet-reply.result _ s (BeginTake c.begin_take-result.result) c.note.ensures.noted c.quiet-reply.ensures refl refl refl) refl refl (ap g.D.Disk.told c.begin_take-result.ensures.disk) (ap g.D.Disk.faults c.begin_take-result.ensures.disk) refl refl in
+    standing_on told told' f f' old new (BeginTake c.begin_take-result.result) _ c.self.invariant (adds_did told told' f f' old new (BeginTake c.begin_take-result.result) did)

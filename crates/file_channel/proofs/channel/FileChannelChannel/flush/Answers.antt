@@ -1,66 +1,63 @@
-use Rattle.std.proofs.Common.{rules, ◌≡◌, true, ap, refl}
+use Rattle.std.proofs.Common.{◌≡◌, length, true, ap}
+use Rattle.channel_face.specs.Machine.{State, Flush}
 use Rattle.flume_host.specs.Told.{Tells}
-use Rattle.channel_face.specs.Machine.{Call, Flush, State}
-use Rattle.file_channel.specs.Touches.{Flushed, flushes}
-use Rattle.txn_core.specs.Counted.{Counted, Makes, tally_of}
+use Rattle.channel_writing.specs.Touches.{Flushed, flushes}
+use Rattle.channel_writing.proofs.Standing.{flush_fault}
+use Rattle.file_channel.specs.Placed.{IsStateOf}
 use Rattle.file_channel.specs.Stands.{FileState}
-use Rattle.file_channel.proofs.Standing.{adds_did, standing_on, shows_over, flush_fault}
+use Rattle.txn_core.specs.Counted.{tally_of}
+use Rattle.file_channel.proofs.Standing.{Did, adds_did, shows_each, standing_on, flush_tally}
 use Rattle.file_channel.proofs.channel.FileChannelChannel.flush.Goals as goal
 
 pub returns-clause-step : goal.returns-clause-step
 returns-clause-step g c =
     let m = c.self.inside in
-    let told = g.D.Disk.told in
-    let faults = g.D.Disk.faults in
-    let call : Call = Flush c.flush-result.result in
-    let old : FileState = record { state = m.logged.1; tally = tally_of m.counts; waiting = m.logged.2 } in
-    let new : FileState = record { state = c.flush-result.new.self.1; tally = tally_of c.count.new.counts; waiting = c.flush-result.new.self.2 } in
-    let was : Counted = record { state = m.logged.1; tally = tally_of m.counts } in
-    let is : Counted = record { state = c.flush-result.new.self.1; tally = tally_of c.count.new.counts } in
-    let makes : Makes was call is = search rules in
-    adds_did (told m.logged.0) (told c.flush-result.new.self.0) (told c.args.self.now.0) (faults m.logged.0) (faults c.flush-result.new.self.0) (faults c.args.self.now.0) old new c.args.self.now.1 call
-    (ap (λ p. told p.0) c.self.view_is) (ap (λ p. faults p.0) c.self.view_is) (ap (λ p. p.1) c.self.view_is)
-    (record {
-      makes = makes;
-      waits = c.flush-result.ensures.waits;
+    let told = g.D.Disk.told m.logged.0 in
+    let told' = g.D.Disk.told c.flush-result.new.self.0 in
+    let f = g.D.Disk.faults m.logged.0 in
+    let f' = g.D.Disk.faults c.flush-result.new.self.0 in
+    let old : FileState = record { logged = m.logged.1; tally = tally_of m.counts; waiting = length m.logged.1.log.bytes } in
+    let new : FileState = record { logged = c.flush-result.new.self.1; tally = tally_of c.note.new.counts; waiting = length c.flush-result.new.self.1.log.bytes } in
+    let did : (s : State) → IsStateOf told old.logged s → Did told told' f f' old new (Flush c.flush-result.result) s = λ s is. record {
+      steps = c.flush-result.ensures.step s is;
+      tally = flush_tally m.counts c.note.new.counts c.flush_reply-reply.result c.staged-staged.result.0 c.staged-staged.result.1 s c.flush-result.result c.note.ensures.noted c.flush_reply-reply.ensures.puts c.flush_reply-reply.ensures.takes (c.staged-staged.ensures.puts s is) (c.staged-staged.ensures.takes s is);
+      waits = (c.flush-result.ensures.step s is).waits;
       up = c.flush-result.ensures.later;
-      cause = λ is. c.flush-result.ensures.fault (flush_fault c.flush-result.result is);
+      cause = λ fault. c.flush-result.ensures.fault (flush_fault c.flush-result.result fault);
       still = c.flush-result.ensures.well;
-      quiet = λ is. ap told (c.flush-result.ensures.quiet is);
-      flushed = c.flush-result.ensures.any_moment;
-      rests = c.count.ensures.rests;
-    })
-
-pub returns-clause-any_moment : goal.returns-clause-any_moment
-returns-clause-any_moment g c =
-    let m = c.self.inside in
-    let told = g.D.Disk.told in
-    let faults = g.D.Disk.faults in
-    let P : State → Type 0 = λ s. flushes (Flush c.flush-result.result) ≡ true → Tells (told c.args.self.now.0) (told c.flush-result.new.self.0) (Flushed s) in
-    shows_over (told m.logged.0) (told c.args.self.now.0) (faults m.logged.0) (faults c.args.self.now.0) (record { state = m.logged.1; tally = tally_of m.counts; waiting = m.logged.2 }) c.args.self.now.1 P
-    (ap (λ p. told p.0) c.self.view_is) (ap (λ p. faults p.0) c.self.view_is) (ap (λ p. p.1) c.self.view_is)
-    (rw (← c.self.view_is) c.flush-result.ensures.any_moment)
+      quiet = λ none. ap g.D.Disk.told (c.flush-result.ensures.quiet none);
+      flushed = c.flush-result.ensures.any_moment s is;
+    } in
+    rw (← c.self.view_is) (adds_did told told' f f' old new (Flush c.flush-result.result) did)
 
 pub invariant_of-self : goal.invariant_of-self
 invariant_of-self g c =
     let m = c.self.inside in
-    let told = g.D.Disk.told in
-    let faults = g.D.Disk.faults in
-    let call : Call = Flush c.flush-result.result in
-    let old : FileState = record { state = m.logged.1; tally = tally_of m.counts; waiting = m.logged.2 } in
-    let new : FileState = record { state = c.flush-result.new.self.1; tally = tally_of c.count.new.counts; waiting = c.flush-result.new.self.2 } in
-    let was : Counted = record { state = m.logged.1; tally = tally_of m.counts } in
-    let is : Counted = record { state = c.flush-result.new.self.1; tally = tally_of c.count.new.counts } in
-    let makes : Makes was call is = search rules in
-    let adds = adds_did (told m.logged.0) (told c.flush-result.new.self.0) (told m.logged.0) (faults m.logged.0) (faults c.flush-result.new.self.0) (faults m.logged.0) old new old call refl refl refl
-    (record {
-      makes = makes;
-      waits = c.flush-result.ensures.waits;
+    let told = g.D.Disk.told m.logged.0 in
+    let told' = g.D.Disk.told c.flush-result.new.self.0 in
+    let f = g.D.Disk.faults m.logged.0 in
+    let f' = g.D.Disk.faults c.flush-result.new.self.0 in
+    let old : FileState = record { logged = m.logged.1; tally = tally_of m.counts; waiting = length m.logged.1.log.bytes } in
+    let new : FileState = record { logged = c.flush-result.new.self.1; tally = tally_of c.note.new.counts; waiting = length c.flush-result.new.self.1.log.bytes } in
+    let did : (s : State) → IsStateOf told old.logged s → Did told told' f f' old new (Flush c.flush-result.result) s = λ s is. record {
+      steps = c.flush-result.ensures.step s is;
+      tally = flush_tally m.counts c.note.new.counts c.flush_reply-reply.result c.staged-staged.result.0 c.staged-staged.result.1 s c.flush-result.result c.note.ensures.noted c.flush_reply-reply.ensures.puts c.flush_reply-reply.ensures.takes (c.staged-staged.ensures.puts s is) (c.staged-staged.ensures.takes s is);
+      waits = (c.flush-result.ensures.step s is).waits;
       up = c.flush-result.ensures.later;
-      cause = λ is. c.flush-result.ensures.fault (flush_fault c.flush-result.result is);
+      cause = λ fault. c.flush-result.ensures.fault (flush_fault c.flush-result.result fault);
       still = c.flush-result.ensures.well;
-      quiet = λ is. ap told (c.flush-result.ensures.quiet is);
-      flushed = c.flush-result.ensures.any_moment;
-      rests = c.count.ensures.rests;
-    }) in
-    (c.count.ensures.rests, standing_on (told m.logged.0) (told c.flush-result.new.self.0) (faults m.logged.0) (faults c.flush-result.new.self.0) old new call _ c.self.invariant.1 adds)
+      quiet = λ none. ap g.D.Disk.told (c.flush-result.ensures.quiet none);
+      flushed = c.flush-result.ensures.any_moment s is;
+    } in
+    standing_on told told' f f' old new (Flush c.flush-result.result) _ c.self.invariant (adds_did told told' f f' old new (Flush c.flush-result.result) did)
+
+pub returns-clause-any_moment : goal.returns-clause-any_moment
+returns-clause-any_moment g c =
+    let m = c.self.inside in
+    let told = g.D.Disk.told m.logged.0 in
+    let told' = g.D.Disk.told c.flush-result.new.self.0 in
+    let f = g.D.Disk.faults m.logged.0 in
+    let f' = g.D.Disk.faults c.flush-result.new.self.0 in
+    let old : FileState = record { logged = m.logged.1; tally = tally_of m.counts; waiting = length m.logged.1.log.bytes } in
+    let new : FileState = record { logged = c.flush-result.new.self.1; tally = tally_of c.note.new.counts; waiting = length c.flush-result.new.self.1.log.bytes } in
+    rw (← c.self.view_is) (shows_each told f old (λ s. flushes (Flush c.flush-result.result) ≡ true → Tells told told' (Flushed s)) c.flush-result.ensures.any_moment)

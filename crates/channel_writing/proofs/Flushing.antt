@@ -1,0 +1,301 @@
+-- What a flush leaves, at each moment of it and after it.
+use Rattle.std.proofs.Common.{◌⊎◌, inl, inr, ◌≡◌, ◌≢◌, ◌<◌, ◌≤◌, ◌+◌, ◌++◌, ◌∷◌, [], ℕ, List, length, Option, Some, None, true, false, ◌==◌, refl, sym, ◌∙◌, ap, subst, arith, append_assoc}
+use Rattle.std.proofs.lemmas.List.{append-nil, get_or_past}
+use Rattle.std.proofs.lemmas.Bool.Decides.{eqb_tells}
+use Rattle.std.specs.Prelude.{IsSomeAnd}
+use Rattle.std.specs.List.{AllByRecursion}
+use Rattle.flume_host.specs.Folder.{Allows, Entry, Files, Folder, IsImage, same_name, settle_entry}
+use Rattle.flume_host.specs.Told.{Changes, LeavesOnly, OneFile, Tells, Told}
+use Rattle.flume_host.specs.declared.names.FileName.TheVariants.{Check, Log}
+use Rattle.flume_host.specs.declared.names.FileName.{FileName}
+use Rattle.flume_host.proofs.Images.{stable_only}
+use Rattle.flume_host.proofs.Telling.{tells_more, tells_same}
+use Rattle.event_core.specs.Journal.{is_among, taken_numbers}
+use Rattle.record_form.specs.declared.record.Rec.{Rec}
+use Rattle.channel_log.specs.Frames.{Holds, IsFrame, header, opened, record_bytes}
+use Rattle.record_form.specs.declared.record.Rec.TheVariants.{Put, Take, Rollback, CommitPut, CommitTake, End}
+use Rattle.channel_log.specs.Writer.{HasFrames, IsAtRest, IsPending, IsReady, LacksOrHas, Writer, file_of}
+use Rattle.event_core.specs.Journal.{after_journal}
+use Rattle.channel_face.specs.Machine.{State, base_of, next_number, settle}
+use Rattle.channel_replay.specs.Recover.{AreLogs, LogFile, Recovers, empty_base}
+use Rattle.channel_writing.specs.Folders.{HasNoCheck}
+use Rattle.channel_writing.specs.Logs.{HasLog}
+use Rattle.channel_writing.specs.Touches.{WritesLast}
+use Rattle.channel_writing.specs.Written.{IsLogged, MayRecover, OnDisk, RecoversSettled, Waits}
+use Rattle.channel_writing.proofs.Ending.{flush_mirrored}
+use Rattle.channel_writing.proofs.Recovering.{flush_logged, flush_recovers, settled_recovers}
+
+-- the frames that a log has where the disk tells
+pub ready_frames : (told : Option Told) (w : Writer) (s : State) → Waits told w s → (birth : ℕ) × (frames : List (List Rec)) × IsReady told birth w.file w.gate frames
+ready_frames None w s waits = (1, [], λ t is. absurd (cc))
+ready_frames (Some t) w s waits =
+    let disk : OnDisk t w s waits.records = waits.disk t refl in
+    (disk.birth, disk.frames, λ u is. subst (λ (v : Told). IsAtRest v disk.birth w.file w.gate disk.frames) (some_told t u is) disk.rest)
+  where
+    some_told : (t u : Told) → Some t ≡ Some u → t ≡ u
+    some_told t u is = cc
+
+-- images of a folder where one file changes
+
+pub other_log : (n number : ℕ) → n ≢ number → same_name (Log n) (Log number) ≡ false
+other_log n number other = from (eqb_tells n number)
+  where
+    from : ((n == number) ≡ true) × (n ≡ number) ⊎ ((n == number) ≡ false) × (n ≢ number) → (n == number) ≡ false
+    from (inl same) = absurd (other same.1)
+    from (inr differs) = differs.0
+
+pub as_read : (file image : Option (List ℕ)) → Allows (settle_entry file) image → image ≡ file
+as_read None None may = refl
+as_read None (Some bytes) may = absurd may
+as_read (Some was) None may = absurd may
+as_read (Some was) (Some bytes) may = ap (λ (l : List ℕ). Some l) (stable_only was bytes may)
+
+pub same_logs : (files files' : Files) (from number : ℕ) (logs : List LogFile) → ((n : ℕ) → n < number → files' (Log n) ≡ files (Log n)) → AreLogs files from number logs → AreLogs files' from number logs
+same_logs files files' from number [] same are = λ n low high. same n high ∙ are n low high
+same_logs files files' from number (log ∷ logs) same are = (
+  are.0,
+  are.1,
+  (λ n low high. same n (omega (arith, high, are.1)) ∙ are.2 n low high),
+  subst (λ (f : Option (List ℕ)). IsSomeAnd f (λ bytes. Holds log.number bytes log.content)) (sym (same log.number are.1)) are.3,
+  same_logs files files' (log.number + 1) number logs same are.4,
+)
+
+-- an image in which the log's own file has P
+log_image : (t : Told) (w : Writer) (s : State) (records : List Rec) (P : List ℕ → Type 0) (image : Files) → OnDisk t w s records → OneFile t.now (Log w.file) (λ file. IsSomeAnd file P) image → (d : List LogFile) × HasLog image d w.file P
+log_image t w s records P image disk one = (
+  disk.earlier,
+  record {
+    small = disk.small;
+    before = same_logs t.reads image 0 w.file disk.earlier (λ n low. kept n (λ same. absurd (omega (arith, low, same)))) disk.before;
+    last = one.file;
+    none = λ n high. kept n (λ same. absurd (omega (arith, high, same))) ∙ disk.none n high;
+  },
+)
+  where
+    kept : (n : ℕ) → n ≢ w.file → image (Log n) ≡ t.reads (Log n)
+    kept n other =
+        let differs : same_name (Log n) (Log w.file) ≡ false = other_log n w.file other in
+        as_read (t.reads (Log n)) (image (Log n)) (subst (λ (e : Entry). Allows e (image (Log n))) (disk.still (Log n) differs) (one.others (Log n) differs))
+
+-- no image has a checkpoint, as there is none
+none_left : (t : Told) (w : Writer) (s : State) (records : List Rec) (image : Files) → OnDisk t w s records → ((name : FileName) → same_name name (Log w.file) ≡ false → Allows (t.now name) (image name)) → HasNoCheck image
+none_left t w s records image disk others n = as_read (t.reads (Check n)) (image (Check n)) (subst (λ (e : Entry). Allows e (image (Check n))) (disk.still (Check n) refl) (others (Check n) refl)) ∙ disk.unchecked n
+
+-- so what its log recovers to is what it opens to
+may_open : (s : State) (image : Files) → HasNoCheck image → (txn : ℕ) × (txn ≤ s.txn) × (Recovers image (base_of s) txn ⊎ Recovers image (after_journal (base_of s) s.staged) txn) → MayRecover s image
+may_open s image none (txn, low, inl is) = (txn, low, inl (none, is))
+may_open s image none (txn, low, inr is) = (txn, low, inr (none, is))
+
+-- at any moment of a flush, where records wait
+flush_moments : (told told' : Option Told) (w : Writer) (s : State) (waits : Waits told w s) → ((birth : ℕ) (frames : List (List Rec)) → IsReady told birth w.file w.gate frames → Tells told told' (Changes (Log w.file) (LacksOrHas birth w.file frames waits.records) 2))
+    → Tells told told' (λ t u. LeavesOnly t u (MayRecover s))
+unfolding ready_frames log_image
+flush_moments None None w s waits given = tt
+flush_moments None (Some u) w s waits given = given 1 [] (λ t is. absurd (cc))
+flush_moments (Some t) None w s waits given = let ready = ready_frames (Some t) w s waits in given ready.0 ready.1 ready.2
+flush_moments (Some t) (Some u) w s waits given =
+    let disk : OnDisk t w s waits.records = waits.disk t refl in
+    let ready = ready_frames (Some t) w s waits in
+    let changes : Changes (Log w.file) (LacksOrHas disk.birth w.file disk.frames waits.records) 2 t u = given disk.birth disk.frames ready.2 in
+    record {
+      more = changes.images.more;
+      past = changes.images.past;
+      each = λ m image low left.
+          let has = log_image t w s waits.records (λ bytes. HasFrames disk.birth w.file disk.frames bytes ⊎ HasFrames disk.birth w.file (disk.frames ++ waits.records ∷ []) bytes) image disk (changes.images.each m image low left) in
+          may_open s image (none_left t w s waits.records image disk (changes.images.each m image low left).others) (flush_recovers s image disk.earlier disk.birth w.file disk.frames waits.records disk.is_birth disk.logs has.1);
+    }
+
+-- while nothing is written
+pub closed_frames : (birth number : ℕ) (frames : List (List Rec)) → AllByRecursion IsFrame frames → HasFrames birth number frames (file_of birth number frames)
+closed_frames birth number frames each = (opened frames ++ 0 ∷ [], append_assoc (header birth number) (opened frames) (0 ∷ []), record { each = each; gate = 0; rest = []; split = refl; closed = not_one 0 refl })
+  where
+    not_one : (n : ℕ) → n ≡ 0 → n ≢ 1
+    not_one n zero one = absurd (omega (arith, zero, one))
+
+pub rest_recovers : (t : Told) (w : Writer) (s : State) (records : List Rec) (image : Files) → OnDisk t w s records → IsImage t.now image → MayRecover s image
+unfolding log_image
+rest_recovers t w s records image disk are =
+    let bytes : List ℕ = file_of disk.birth w.file disk.frames in
+    let may : Allows (settle_entry (Some bytes)) (image (Log w.file)) = subst (λ (e : Entry). Allows e (image (Log w.file))) disk.rest.durable (are (Log w.file)) in
+    let is : image (Log w.file) ≡ Some bytes = as_read (Some bytes) (image (Log w.file)) may in
+    let both : List ℕ → Type 0 = λ l. HasFrames disk.birth w.file disk.frames l ⊎ HasFrames disk.birth w.file (disk.frames ++ records ∷ []) l in
+    let one : OneFile t.now (Log w.file) (λ file. IsSomeAnd file both) image = record {
+      file = subst (λ (f : Option (List ℕ)). IsSomeAnd f both) (sym is) (inl (closed_frames disk.birth w.file disk.frames disk.rest.each));
+      others = λ n differs. are n;
+    } in
+    let has = log_image t w s records both image disk one in
+    may_open s image (none_left t w s records image disk one.others) (flush_recovers s image disk.earlier disk.birth w.file disk.frames records disk.is_birth disk.logs has.1)
+
+-- just what is settled
+pub rest_exactly : (t : Told) (w : Writer) (s : State) (records : List Rec) (image : Files) → OnDisk t w s records → IsImage t.now image → RecoversSettled s image
+unfolding log_image
+rest_exactly t w s records image disk are =
+    let bytes : List ℕ = file_of disk.birth w.file disk.frames in
+    let may : Allows (settle_entry (Some bytes)) (image (Log w.file)) = subst (λ (e : Entry). Allows e (image (Log w.file))) disk.rest.durable (are (Log w.file)) in
+    let is : image (Log w.file) ≡ Some bytes = as_read (Some bytes) (image (Log w.file)) may in
+    let frames : List ℕ → Type 0 = HasFrames disk.birth w.file disk.frames in
+    let one : OneFile t.now (Log w.file) (λ file. IsSomeAnd file frames) image = record {
+      file = subst (λ (f : Option (List ℕ)). IsSomeAnd f frames) (sym is) (closed_frames disk.birth w.file disk.frames disk.rest.each);
+      others = λ n differs. are n;
+    } in
+    let has = log_image t w s records frames image disk one in
+    let found = settled_recovers s image disk.earlier disk.birth w.file disk.frames records disk.is_birth disk.logs has.1 in
+    (found.0, found.1, (none_left t w s records image disk one.others, found.2))
+
+rest_moments : (told : Option Told) (w : Writer) (s : State) → Waits told w s → Tells told told (λ t u. LeavesOnly t u (MayRecover s))
+rest_moments None w s waits = tt
+rest_moments (Some t) w s waits = record {
+  more = [];
+  past = sym (append-nil t.past);
+  each = λ m image low left. rest_recovers t w s waits.records image (waits.disk t refl) (subst (λ (f : Folder). IsImage f image) (get_or_past t.past m t.now low) left);
+}
+
+some_or_none : (n : ℕ) → (n ≡ 0) ⊎ (1 ≤ n)
+some_or_none n = grind arith
+
+-- whether records wait or not
+pub moments : (told told' : Option Told) (w : Writer) (s : State) (waits : Waits told w s)
+    → ((birth : ℕ) (frames : List (List Rec)) → IsReady told birth w.file w.gate frames → 1 ≤ length waits.records → Tells told told' (Changes (Log w.file) (LacksOrHas birth w.file frames waits.records) 2))
+    → (w.count ≡ 0 → told' ≡ told) → Tells told told' (λ t u. LeavesOnly t u (MayRecover s))
+moments told told' w s waits given none = from (some_or_none (length waits.records))
+  where
+    from : (length waits.records ≡ 0) ⊎ (1 ≤ length waits.records) → Tells told told' (λ t u. LeavesOnly t u (MayRecover s))
+    from (inl nothing) = subst (λ (v : Option Told). Tells told v (λ t u. LeavesOnly t u (MayRecover s))) (sym (none (waits.pending.counted ∙ nothing))) (rest_moments told w s waits)
+    from (inr some) = flush_moments told told' w s waits (λ birth frames ready. given birth frames ready some)
+
+-- the log after a flush
+
+abbrev TakesAreEarlier : State → Type 0
+TakesAreEarlier s = (n : ℕ) → next_number s ≤ n → is_among (taken_numbers s.staged) n ≡ false
+
+disk_after : (told told' : Option Told) (w w' : Writer) (s : State) (waits : Waits told w s) → ((birth : ℕ) (frames : List (List Rec)) → IsReady told birth w.file w.gate frames → Tells told told' (Changes (Log w.file) (LacksOrHas birth w.file frames waits.records) 2))
+    → ((birth : ℕ) (frames : List (List Rec)) → IsReady told birth w.file w.gate frames → IsReady told' birth w.file w'.gate (frames ++ waits.records ∷ [])) → w'.file ≡ w.file → TakesAreEarlier s → (u : Told) → told' ≡ Some u → OnDisk u w' (settle s) []
+unfolding ready_frames
+disk_after None None w w' s waits given flushed file earlier u is = absurd (cc)
+disk_after None (Some v) w w' s waits given flushed file earlier u is = absurd (given 1 [] (λ t same. absurd (cc)))
+disk_after (Some t) None w w' s waits given flushed file earlier u is = absurd (cc)
+disk_after (Some t) (Some v) w w' s waits given flushed file earlier u is =
+    let disk : OnDisk t w s waits.records = waits.disk t refl in
+    let ready = ready_frames (Some t) w s waits in
+    let changes : Changes (Log w.file) (LacksOrHas disk.birth w.file disk.frames waits.records) 2 t v = given disk.birth disk.frames ready.2 in
+    let rest : IsAtRest v disk.birth w.file w'.gate (disk.frames ++ waits.records ∷ []) = flushed disk.birth disk.frames ready.2 v refl in
+    let same : v ≡ u = some_told v u is in
+    subst (λ (x : Told). OnDisk x w' (settle s) []) same (rw file (record {
+      earlier = disk.earlier;
+      birth = disk.birth;
+      is_birth = disk.is_birth;
+      frames = disk.frames ++ waits.records ∷ [];
+      rest = rest;
+      still = λ name differs. (changes.others name differs).0 ∙ (disk.still name differs ∙ ap settle_entry (sym (changes.others name differs).1));
+      small = disk.small;
+      before = same_logs t.reads v.reads 0 w.file disk.earlier (λ n low. (changes.others (Log n) (other_log n w.file (λ at. absurd (omega (arith, low, at))))).1) disk.before;
+      none = λ n high. (changes.others (Log n) (other_log n w.file (λ at. absurd (omega (arith, high, at))))).1 ∙ disk.none n high;
+      unchecked = λ n. (changes.others (Check n) refl).1 ∙ disk.unchecked n;
+      logs = flush_logged disk.birth s disk.earlier disk.frames waits.records disk.logs earlier;
+    }))
+  where
+    some_told : (a b : Told) → Some a ≡ Some b → a ≡ b
+    some_told a b is = cc
+
+pub logged_after : (told told' : Option Told) (w w' : Writer) (b : ℕ) (s : State) (log : IsLogged told w b s) (whole : s.broken ≡ false) → TakesAreEarlier s
+    → ((birth : ℕ) (frames : List (List Rec)) → IsReady told birth w.file w.gate frames → 1 ≤ length (log.waits whole).records → Tells told told' (Changes (Log w.file) (LacksOrHas birth w.file frames (log.waits whole).records) 2))
+    → ((birth : ℕ) (frames : List (List Rec)) → IsReady told birth w.file w.gate frames → 1 ≤ length (log.waits whole).records → IsReady told' birth w.file w'.gate (frames ++ (log.waits whole).records ∷ []))
+    → (1 ≤ w.count → w' ≡ record w { gate = w.gate + length w.bytes + 6; started = true; bytes = []; count = 0 }) → (w.count ≡ 0 → (w' ≡ w) × (told' ≡ told)) → IsLogged told' w' b (settle s)
+logged_after told told' w w' b s log whole earlier given flushed writer none = from (some_or_none (length (log.waits whole).records))
+  where
+    waits : Waits told w s
+    waits = log.waits whole
+
+    no_more : (records : List Rec) → length records ≡ 0 → records ≡ []
+    no_more [] is = refl
+    no_more (r ∷ records) is = absurd (omega (arith, is))
+
+    same_disk : (t : Told) → OnDisk t w s [] → OnDisk t w (settle s) []
+    same_disk t disk = record {
+      earlier = disk.earlier;
+      birth = disk.birth;
+      is_birth = disk.is_birth;
+      frames = disk.frames;
+      rest = disk.rest;
+      still = disk.still;
+      small = disk.small;
+      before = disk.before;
+      none = disk.none;
+      unchecked = disk.unchecked;
+      logs = record { sound = disk.logs.sound; legal = disk.logs.legal; mirrors = flush_mirrored empty_base s _ [] disk.logs.mirrors earlier };
+    }
+
+    from : (length waits.records ≡ 0) ⊎ (1 ≤ length waits.records) → IsLogged told' w' b (settle s)
+    from (inl nothing) =
+        let same = none (waits.pending.counted ∙ nothing) in
+        let empty : waits.records ≡ [] = no_more waits.records nothing in
+        rw (same.0, same.1) (record {
+          busy_is = log.busy_is;
+          few = log.few;
+          room = log.room;
+          limit = log.limit;
+          waits = λ _. record {
+            records = [];
+            pending = subst (λ (l : List Rec). IsPending w l) empty waits.pending;
+            disk = λ t is. same_disk t (subst (λ (l : List Rec). OnDisk t w s l) empty (waits.disk t is));
+          };
+        })
+    from (inr some) =
+        let is = writer (rw waits.pending.counted some) in
+        let file : w'.file ≡ w.file = ap (λ (v : Writer). v.file) is in
+        let bytes : w'.bytes ≡ [] = ap (λ (v : Writer). v.bytes) is in
+        let count : w'.count ≡ 0 = ap (λ (v : Writer). v.count) is in
+        record {
+          busy_is = log.busy_is;
+          few = log.few;
+          room = omega (arith, log.room, ap (λ (l : List ℕ). length l) bytes);
+          limit = ap (λ (v : Writer). v.max_file) is ∙ log.limit;
+          waits = λ _. record {
+            records = [];
+            pending = record { spelled = bytes; counted = count; each = tt };
+            disk = λ u told_is. disk_after told told' w w' s waits (λ birth frames ready. given birth frames ready some) (λ birth frames ready. flushed birth frames ready some) file earlier u told_is;
+          };
+        }
+
+-- nothing is left in the frame
+pub nothing_left : (told : Option Told) (w w' : Writer) (s : State) (waits : Waits told w s) → (1 ≤ w.count → w' ≡ record w { gate = w.gate + length w.bytes + 6; started = true; bytes = []; count = 0 }) → (w.count ≡ 0 → w' ≡ w) → w'.bytes ≡ []
+nothing_left told w w' s waits writer none = from waits.records waits.pending (some_or_none w.count)
+  where
+    from : (records : List Rec) → IsPending w records → (w.count ≡ 0) ⊎ (1 ≤ w.count) → w'.bytes ≡ []
+    from [] pending (inl nothing) = ap (λ (v : Writer). v.bytes) (none nothing) ∙ pending.spelled
+    from (r ∷ records) pending (inl nothing) = absurd (omega (arith, nothing, pending.counted))
+    from records pending (inr some) = ap (λ (v : Writer). v.bytes) (writer some)
+
+-- a flush writes the last log file and makes two syncs, and does nothing where nothing waits
+pub writes_of : (told told' : Option Told) (w : Writer) (s : State) (waits : Waits told w s)
+    → ((birth : ℕ) (frames : List (List Rec)) → IsReady told birth w.file w.gate frames → 1 ≤ length waits.records → Tells told told' (Changes (Log w.file) (LacksOrHas birth w.file frames waits.records) 2))
+    → (w.count ≡ 0 → told' ≡ told) → Tells told told' WritesLast
+writes_of told told' w s waits given none = from (some_or_none (length waits.records))
+  where
+    from : (length waits.records ≡ 0) ⊎ (1 ≤ length waits.records) → Tells told told' WritesLast
+    from (inl nothing) = subst (λ (v : Option Told). Tells told v WritesLast) (sym (none (waits.pending.counted ∙ nothing)))
+        (tells_same told WritesLast (λ t is. record { file = w.file; was = file_of (waits.disk t is).birth w.file (waits.disk t is).frames; there = (waits.disk t is).rest.reads; last = (waits.disk t is).none; others = λ name other. refl; syncs = omega arith }))
+    from (inr some) =
+        let ready = ready_frames told w s waits in
+        tells_more told told' (Changes (Log w.file) (LacksOrHas ready.0 w.file ready.1 waits.records) 2) WritesLast
+        (λ t u old new changes. record { file = w.file; was = file_of (waits.disk t old).birth w.file (waits.disk t old).frames; there = (waits.disk t old).rest.reads; last = (waits.disk t old).none; others = λ name other. (changes.others name other).1; syncs = changes.syncs })
+        (given ready.0 ready.1 ready.2 some)
+
+pub no_ok : {A : Type 0} → false ≡ true → A
+no_ok is = absurd (cc)
+
+-- where no bytes wait, no records do
+pub none_waits : (told : Option Told) (w : Writer) (s : State) → Waits told w s → length w.bytes ≡ 0 → w.count ≡ 0
+none_waits told w s waits none = from waits.records waits.pending
+  where
+    some : (rec : Rec) (records : List Rec) → 1 ≤ length (record_bytes (rec ∷ records))
+    some (Put txn event) records = omega arith
+    some (Take txn number) records = omega arith
+    some (Rollback txn) records = omega arith
+    some (CommitPut txn first count) records = omega arith
+    some (CommitTake txn count) records = omega arith
+    some (End count) records = omega arith
+
+    from : (records : List Rec) → IsPending w records → w.count ≡ 0
+    from [] pending = pending.counted
+    from (rec ∷ records) pending = absurd (let long = some rec records in let same = ap (λ (l : List ℕ). length l) pending.spelled in omega (arith, long, same, none))

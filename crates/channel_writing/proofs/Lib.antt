@@ -1,0 +1,16 @@
+pub mod Opens
+pub mod Mirroring
+pub mod Taking
+pub mod Ending
+pub mod Checking
+pub mod Recovering
+pub mod Writes
+pub mod Flushing
+pub mod Whole
+pub mod Putting
+pub mod Rooms
+pub mod Freeing
+pub mod Standing
+pub mod Opening
+pub mod Reopening
+pub mod Rolling

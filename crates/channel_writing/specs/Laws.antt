@@ -1,0 +1,98 @@
+-- Laws of the records that a channel writes: after each call the log mirrors the state again.
+use Rattle.std.specs.Prelude.{◌⊎◌, ◌≡◌, ◌<◌, ◌≤◌, ◌+◌, ◌-◌, ◌^◌, ℕ, List, [], ◌∷◌, ◌++◌, length, Some, None, false}
+use Rattle.event_core.specs.Content.{Content}
+use Rattle.flume_host.specs.Folder.{Files}
+use Rattle.event_core.specs.Journal.{Base, after_journal, is_among, taken_numbers}
+use Rattle.event_core.specs.declared.journal.Entry.{Entry}
+use Rattle.event_core.specs.declared.journal.Entry.TheVariants.{Puts, Takes}
+use Rattle.record_form.specs.declared.record.Rec.{Rec}
+use Rattle.record_form.specs.declared.record.Rec.TheVariants.{Put, Take, Rollback, CommitPut, CommitTake}
+use Rattle.channel_log.specs.Frames.{IsBirth}
+use Rattle.channel_log.specs.Writer.{HasFrames}
+use Rattle.channel_face.specs.Machine.{State, base_of, entry_of, with_entry, close, free, next_number, settle, stage}
+use Rattle.channel_replay.specs.Marks.{Past, journal, next_txn}
+use Rattle.channel_replay.specs.Recover.{AreSound, LogFile, Recovers, empty_base, lines}
+use Rattle.channel_face.proofs.Sound.{IsSoundState}
+use Rattle.channel_replay.specs.Start.{IsStart, start_past}
+use Rattle.channel_replay.specs.StartLaws.{done_of, start_of}
+use Rattle.channel_writing.specs.Mirrors.{AreLegal, Mirrors, applied}
+use Rattle.channel_writing.specs.Logs.{HasLog, Logs, begun, flat}
+
+-- A transaction that did nothing yet writes no record.
+abbrev pub BeginIsMirrored : Type 0
+BeginIsMirrored =
+    (start : Base) (s : State) (settled : Past) (records : List Rec) (entry : Entry) → Mirrors start s settled records → done_of (Some entry) ≡ None → length s.opened < 1024 → s.txn < 2 ^ 64 - 1
+    → Mirrors start (record s { opened = s.opened ++ (s.txn, entry) ∷ []; txn = s.txn + 1 }) settled records
+
+-- A transaction gains an event, and its PUT stands behind the other records.
+abbrev pub PutIsMirrored : Type 0
+PutIsMirrored =
+    (start : Base) (s : State) (settled : Past) (records : List Rec) (txn : ℕ) (events : List Content) (event : Content) → Mirrors start s settled records → entry_of txn s.opened ≡ Some (Puts events)
+    → Mirrors start (record s { opened = with_entry txn (Puts (events ++ event ∷ [])) s.opened }) settled (records ++ Put txn event ∷ [])
+
+-- A transaction takes the first event that none holds, and its TAKE stands behind the other records.
+abbrev pub TakeIsMirrored : Type 0
+TakeIsMirrored =
+    (start : Base) (s : State) (settled : Past) (records : List Rec) (txn : ℕ) (numbers : List ℕ) (item : ℕ × Content) (rest : List (ℕ × Content)) → Mirrors start s settled records → entry_of txn s.opened ≡ Some (Takes numbers) → free s ≡ item ∷ rest
+    → Mirrors start (record s { opened = with_entry txn (Takes (numbers ++ item.0 ∷ [])) s.opened }) settled (records ++ Take txn item.0 ∷ [])
+
+-- A transaction that did something is given up, and its ROLLBACK stands behind the other records.
+abbrev pub RollbackIsMirrored : Type 0
+RollbackIsMirrored =
+    (start : Base) (s : State) (settled : Past) (records : List Rec) (txn : ℕ) (entry : Entry) → Mirrors start s settled records → entry_of txn s.opened ≡ Some entry → done_of (Some entry) ≡ Some entry
+    → Mirrors start (close txn s) settled (records ++ Rollback txn ∷ [])
+
+-- One that did nothing ends without a record.
+abbrev pub EndIsMirrored : Type 0
+EndIsMirrored =
+    (start : Base) (s : State) (settled : Past) (records : List Rec) (txn : ℕ) (entry : Entry) → Mirrors start s settled records → entry_of txn s.opened ≡ Some entry → done_of (Some entry) ≡ None
+    → Mirrors start (close txn s) settled records
+
+-- Puts are staged, and their COMMIT_PUT stands behind the other records.
+abbrev pub StagePutIsMirrored : Type 0
+StagePutIsMirrored =
+    (start : Base) (s : State) (settled : Past) (records : List Rec) (txn : ℕ) (events : List Content) → Mirrors start s settled records → entry_of txn s.opened ≡ Some (Puts events) → 0 < length events → next_number s + length events ≤ 2 ^ 64 - 1
+    → Mirrors start (stage txn (Some (Puts events)) s) settled (records ++ CommitPut txn (next_number s) (length events) ∷ [])
+
+-- Takes are staged, and their COMMIT_TAKE stands behind the other records.
+abbrev pub StageTakeIsMirrored : Type 0
+StageTakeIsMirrored =
+    (start : Base) (s : State) (settled : Past) (records : List Rec) (txn : ℕ) (numbers : List ℕ) → Mirrors start s settled records → entry_of txn s.opened ≡ Some (Takes numbers) → 0 < length numbers
+    → Mirrors start (stage txn (Some (Takes numbers)) s) settled (records ++ CommitTake txn (length numbers) ∷ [])
+
+-- What is staged is settled, and the records are those of a frame more.
+abbrev pub FlushIsMirrored : Type 0
+FlushIsMirrored =
+    (start : Base) (s : State) (settled : Past) (records : List Rec) → Mirrors start s settled records → ((n : ℕ) → next_number s ≤ n → is_among (taken_numbers s.staged) n ≡ false)
+    → Mirrors start (settle s) (applied settled records) []
+
+-- A checkpoint of a state that some log mirrors, with nothing staged and no records pending, is right, and mirrors it too, without any record behind it.
+abbrev pub CheckpointIsMirrored : Type 0
+CheckpointIsMirrored =
+    (start : Base) (s : State) (settled : Past) → Mirrors start s settled [] → IsSoundState s → s.staged ≡ []
+    → IsStart (start_of s) × Mirrors (base_of s) s (start_past (start_of s)) []
+
+-- Logs behind two starts that mirror one state leave the same, and the same again with the records that are pending.
+abbrev pub StartsLeaveTheSame : Type 0
+StartsLeaveTheSame =
+    (a b : Base) (s : State) (p q : Past) (records more : List Rec) → Mirrors a s p records → Mirrors b s q more
+    → (after_journal a (journal p) ≡ after_journal b (journal q)) × (after_journal a (journal (applied p records)) ≡ after_journal b (journal (applied q more)))
+
+-- A log whose last file has these committed frames recovers to what they and the files before leave.
+abbrev pub FramesRecover : Type 0
+FramesRecover =
+    (image : Files) (earlier : List LogFile) (birth number : ℕ) (frames : List (List Rec)) → IsBirth birth → HasLog image earlier number (HasFrames birth number frames) → AreSound empty_base [] (lines earlier) → AreLegal empty_base (begun birth earlier) (flat frames)
+    → Recovers image (after_journal empty_base (journal (applied (begun birth earlier) (flat frames)))) (next_txn (applied (begun birth earlier) (flat frames)))
+
+-- While a channel's records are flushed as a frame more, a stop leaves what is settled, or that with what is staged.
+abbrev pub FlushRecovers : Type 0
+FlushRecovers =
+    (s : State) (image : Files) (earlier : List LogFile) (birth number : ℕ) (frames : List (List Rec)) (records : List Rec) → IsBirth birth → Logs birth s earlier frames records
+    → HasLog image earlier number (λ bytes. HasFrames birth number frames bytes ⊎ HasFrames birth number (frames ++ records ∷ []) bytes)
+    → (txn : ℕ) × (txn ≤ s.txn) × (Recovers image (base_of s) txn ⊎ Recovers image (after_journal (base_of s) s.staged) txn)
+
+-- After a flush the log's frames are one more.
+abbrev pub FlushIsLogged : Type 0
+FlushIsLogged =
+    (birth : ℕ) (s : State) (earlier : List LogFile) (frames : List (List Rec)) (records : List Rec) → Logs birth s earlier frames records → ((n : ℕ) → next_number s ≤ n → is_among (taken_numbers s.staged) n ≡ false)
+    → Logs birth (settle s) earlier (frames ++ records ∷ []) []

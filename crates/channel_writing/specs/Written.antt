@@ -1,0 +1,71 @@
+-- What a channel writes of its state, and what a stop leaves of it.
+use Rattle.std.specs.Prelude.{◌≡◌, ◌⊎◌, ◌<◌, ◌≤◌, ◌+◌, ◌*◌, ◌^◌, ℕ, List, [], length, Option, None, Bool, false, if◌then◌else◌}
+use Rattle.flume_host.specs.Folder.{Files, IsImage, same_name, settle_entry}
+use Rattle.flume_host.specs.Told.{Told, WhereTold}
+use Rattle.flume_host.specs.declared.names.FileName.{FileName}
+use Rattle.flume_host.specs.declared.names.FileName.TheVariants.{Log}
+use Rattle.event_core.specs.Journal.{Base, after_journal}
+use Rattle.record_form.specs.declared.record.Rec.{Rec}
+use Rattle.channel_log.specs.Frames.{IsBirth}
+use Rattle.channel_log.specs.Writer.{IsAtRest, IsPending, Writer}
+use Rattle.channel_face.specs.Machine.{State, base_of}
+use Rattle.channel_replay.specs.Recover.{AreLogs, LogFile}
+use Rattle.channel_writing.specs.Folders.{HasNoCheck, OpensTo}
+use Rattle.channel_writing.specs.Mirrors.{busy}
+use Rattle.channel_writing.specs.Logs.{Logs}
+
+-- the room that is kept for the end of each such transaction, and of one more
+abbrev pub kept : ℕ → Bool → ℕ
+kept busy first = 21 * (busy + (if first then 1 else 0))
+
+-- no other file is changing: a stop leaves it as reads give it
+abbrev pub AreStill : Told → ℕ → Type 0
+AreStill t file = (name : FileName) → same_name name (Log file) ≡ false → t.now name ≡ settle_entry (t.reads name)
+
+-- The disk has the log of this state, but for the records that wait.
+pub record OnDisk (t : Told) (w : Writer) (s : State) (records : List Rec) : Type 0 where
+  pub earlier : List LogFile
+  pub birth : ℕ
+  pub is_birth : IsBirth birth
+  pub frames : List (List Rec)
+  pub rest : IsAtRest t birth w.file w.gate frames
+  pub still : AreStill t w.file
+  pub small : w.file < 2 ^ 32
+  pub before : AreLogs t.reads 0 w.file earlier
+  pub none : (n : ℕ) → w.file < n → t.reads (Log n) ≡ None
+  pub unchecked : HasNoCheck t.reads
+  pub logs : Logs birth s earlier frames records
+
+-- Some records wait, and the disk, as far as it tells, has the rest.
+pub record Waits (told : Option Told) (w : Writer) (s : State) : Type 0 where
+  pub records : List Rec
+  pub pending : IsPending w records
+  pub disk : WhereTold told (λ t. OnDisk t w s records)
+
+-- The log has this state, unless the channel is broken. So many open transactions have records in it, for each of which room is kept.
+-- The writer leaves a file at the length that the limits name.
+pub record IsLogged (told : Option Told) (w : Writer) (busy_ones : ℕ) (s : State) : Type 0 where
+  pub busy_is : busy_ones ≡ busy s.opened
+  pub few : length s.opened ≤ 1024
+  pub room : length w.bytes + 21 * busy_ones + 6 ≤ 2_097_152
+  pub limit : w.max_file ≡ s.rules.limits.max_file
+  pub waits : s.broken ≡ false → Waits told w s
+
+-- an image opens to what is settled, or to that with what is staged
+abbrev pub MayRecover : State → Files → Type 0
+MayRecover s image = (txn : ℕ) × (txn ≤ s.txn) × (OpensTo image (base_of s) txn ⊎ OpensTo image (after_journal (base_of s) s.staged) txn)
+
+-- whatever a stop now leaves opens so
+abbrev pub MayRest : Option Told → State → Type 0
+MayRest told s = WhereTold told (λ t. (image : Files) → IsImage t.now image → MayRecover s image)
+
+-- an image opens to just what is settled
+abbrev pub RecoversSettled : State → Files → Type 0
+RecoversSettled s image = (txn : ℕ) × (txn ≤ s.txn) × OpensTo image (base_of s) txn
+
+-- A state of these events and next numbers, in which nothing is open or staged.
+pub record IsFresh (s : State) (base : Base) (txn : ℕ) : Type 0 where
+  pub base_is : base_of s ≡ base
+  pub txn_is : s.txn ≡ txn
+  pub opened : s.opened ≡ []
+  pub staged : s.staged ≡ []

@@ -1,0 +1,94 @@
+-- What is put, taken and settled fits places and log to the state after it.
+use Rattle.std.proofs.Common.{◌⊎◌, inl, inr, ◌≡◌, ◌≤◌, ◌+◌, ◌++◌, ◌∷◌, [], ℕ, List, length, Option, Some, None, true, false, sym, ◌∙◌, subst, arith}
+use Rattle.flume_host.specs.Told.{Changes, LeavesOnly, Tells, Told}
+use Rattle.flume_host.specs.declared.names.FileName.TheVariants.{Log}
+use Rattle.flume_host.proofs.Telling.{back}
+use Rattle.event_core.specs.Content.{Content, size}
+use Rattle.record_form.specs.declared.record.Pointer.{Pointer}
+use Rattle.record_form.specs.declared.record.Rec.{Rec}
+use Rattle.record_form.specs.declared.record.Rec.TheVariants.{Put, Take}
+use Rattle.channel_log.specs.Writer.{Appends, IsPending, IsReady, LacksOrHas, Writer}
+use Rattle.channel_face.specs.Token.{Token}
+use Rattle.channel_face.specs.Machine.{State, add_put, add_take, broken_state, free, puts_of, settle, takes_of}
+use Rattle.channel_places.specs.Looks.{Known, Looks}
+use Rattle.channel_writing.specs.Touches.{Flushed, WritesLast}
+use Rattle.channel_writing.specs.Written.{IsLogged, MayRecover, Waits}
+use Rattle.channel_writing.proofs.Flushing.{ready_frames}
+use Rattle.channel_writing.proofs.Freeing.{take_in}
+use Rattle.channel_writing.proofs.Putting.{put_in}
+use Rattle.channel_writing.proofs.Whole.{failed_whole, rests_over}
+use Rattle.file_channel.specs.Placed.{Fits, IsStateOf, Logged}
+use Rattle.file_channel.proofs.Placing.{Grows, frame_grows, next_place, placed_appends, placed_grows, placed_put, same_grows}
+
+-- a put
+pub put_fits : (told : Option Told) (old new : Logged) (token : Token) (p : Pointer) (event : Content) (s : State) (events : List Content) → Fits told old s → puts_of s token ≡ Some events → Appends old.log new.log (Put token.number event) → p ≡ next_place old.log (size event)
+    → ((known : Known) → Looks known old.places s → Looks ((p, event) ∷ known) new.places (add_put s token.number (puts_of s token) event)) → IsLogged told new.log new.busy (put_in s false token.number events event) → Fits told new (put_in s false token.number events event)
+put_fits told old new token p event s events fits list adds is places log = record {
+  known = (p, event) ∷ fits.known;
+  looks = subst (λ (l : Option (List Content)). Looks ((p, event) ∷ fits.known) new.places (add_put s token.number l event)) list (places fits.known fits.looks);
+  placed = placed_put told old.log new.log token.number event p fits.known adds is fits.placed;
+  logged = log;
+}
+
+-- a take
+pub take_fits : (told : Option Told) (old new : Logged) (token : Token) (number : ℕ) (event : Content) (rest : List (ℕ × Content)) (s : State) (numbers : List ℕ) → Fits told old s → takes_of s token ≡ Some numbers → free s ≡ (number, event) ∷ rest → Appends old.log new.log (Take token.number number)
+    → ((known : Known) → Looks known old.places s → Looks known new.places (add_take s token.number (takes_of s token) (free s))) → IsLogged told new.log new.busy (take_in s false token.number numbers number) → Fits told new (take_in s false token.number numbers number)
+take_fits told old new token number event rest s numbers fits list first adds places log = record {
+  known = fits.known;
+  looks =
+      let here : Looks fits.known new.places (add_take s token.number (Some numbers) (free s)) = subst (λ (l : Option (List ℕ)). Looks fits.known new.places (add_take s token.number l (free s))) list (places fits.known fits.looks) in
+      subst (λ (l : List (ℕ × Content)). Looks fits.known new.places (add_take s token.number (Some numbers) l)) first here;
+  placed = placed_appends told old.log new.log (Take token.number number) fits.known adds fits.placed;
+  logged = log;
+}
+
+-- a flush
+
+some_or_none : (n : ℕ) → (n ≡ 0) ⊎ (1 ≤ n)
+some_or_none n = grind arith
+
+pub flush_grows : (told told' : Option Told) (w w' : Writer) (s : State) → Waits told w s
+    → ((birth : ℕ) (frames : List (List Rec)) (records : List Rec) → IsReady told birth w.file w.gate frames → IsPending w records → 1 ≤ length records → Tells told told' (Changes (Log w.file) (LacksOrHas birth w.file frames records) 2))
+    → ((birth : ℕ) (frames : List (List Rec)) (records : List Rec) → IsReady told birth w.file w.gate frames → IsPending w records → 1 ≤ length records → IsReady told' birth w.file w'.gate (frames ++ records ∷ []))
+    → (1 ≤ w.count → w' ≡ record w { gate = w.gate + length w.bytes + 6; started = true; bytes = []; count = 0 }) → (w.count ≡ 0 → (w' ≡ w) × (told' ≡ told))
+    → (u : Told) → told' ≡ Some u → (t : Told) × (told ≡ Some t) × Grows t u w w'
+flush_grows told told' w w' s waits changes flushed moved same u is = from (some_or_none w.count)
+  where
+    from : (w.count ≡ 0) ⊎ (1 ≤ w.count) → (t : Told) × (told ≡ Some t) × Grows t u w w'
+    from (inl nothing) =
+        let both = same nothing in
+        (u, sym both.1 ∙ is, subst (λ (v : Writer). Grows u u w v) (sym both.0) (same_grows u w))
+    from (inr some) =
+        let ready = ready_frames told w s waits in
+        let many : 1 ≤ length waits.records = omega (arith, some, waits.pending.counted) in
+        let was = back told told' (Changes (Log w.file) (LacksOrHas ready.0 w.file ready.1 waits.records) 2) (changes ready.0 ready.1 waits.records ready.2 waits.pending many) u is in
+        let rest = flushed ready.0 ready.1 waits.records ready.2 waits.pending many u is in
+        (was.0, was.1, frame_grows was.0 u w w' ready.0 ready.1 waits.records (ready.2 was.0 was.1) rest waits.pending was.2 (moved some))
+
+pub settle_fits : (told told' : Option Told) (old new : Logged) (s : State) (is : IsStateOf told old s) (still : s.broken ≡ false) → ((u : Told) → told' ≡ Some u → (t : Told) × (told ≡ Some t) × Grows t u old.log new.log)
+    → ((known : Known) → Looks known old.places s → Looks known new.places (settle s)) → IsLogged told' new.log new.busy (settle s) → Fits told' new (settle s)
+settle_fits told told' old new s is still grew places log = record {
+  known = is.known;
+  looks = places is.known is.looks;
+  placed = placed_grows told told' old.log new.log is.known grew (is.placed still);
+  logged = log;
+}
+
+differ : {A : Type 0} → true ≡ false → A
+differ is = absurd (cc)
+
+-- one that failed
+pub failed_state : (told told' : Option Told) (old new : Logged) (s : State) → IsStateOf told old s → Tells told told' (λ t u. LeavesOnly t u (MayRecover s)) → ((known : Known) → Looks known old.places s → Looks known new.places (broken_state s)) → IsStateOf told' new (broken_state s)
+failed_state told told' old new s is images places = record {
+  known = is.known;
+  looks = places is.known is.looks;
+  placed = λ still. differ still;
+  whole = failed_whole told' new.log new.busy s (rests_over told told' s images) is.whole.sound is.whole.kind;
+}
+
+-- what it did to the disk
+pub flushed_both : (told told' : Option Told) (s : State) → s.broken ≡ false → Tells told told' (λ t u. LeavesOnly t u (MayRecover s)) → Tells told told' WritesLast → Tells told told' (λ t u. Flushed s t u)
+flushed_both None None s still images writes = tt
+flushed_both None (Some u) s still images writes = absurd images
+flushed_both (Some t) None s still images writes = absurd images
+flushed_both (Some t) (Some u) s still images writes = record { whole = still; images = images; writes = writes }

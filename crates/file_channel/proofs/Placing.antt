@@ -1,0 +1,269 @@
+-- Events stand at their pointers, whatever is appended, flushed or read.
+use Rattle.std.proofs.Common.{◌⊎◌, inl, inr, ◌≡◌, ◌≢◌, ◌+◌, ◌-◌, ◌^◌, ◌++◌, ◌∷◌, [], ℕ, List, length, length-append, take, Option, Some, None, Result, Ok, Err, true, false, ◌==◌, refl, sym, ◌∙◌, ap, subst, append_assoc, arith}
+use Rattle.std.specs.Prelude.{IsSome, IsErrOf}
+use Rattle.std.proofs.lemmas.Bool.Decides.{eqb_tells}
+use Rattle.std.proofs.lemmas.List.{append-nil, length-take, take_at}
+use Rattle.flume_host.specs.Told.{Changes, Told, WhereTold}
+use Rattle.flume_host.specs.declared.names.FileName.TheVariants.{Log}
+use Rattle.event_core.specs.Content.{Content, size}
+use Rattle.record_form.specs.declared.record.Pointer.{Pointer}
+use Rattle.record_form.specs.declared.record.Rec.{Rec}
+use Rattle.record_form.specs.declared.record.Rec.TheVariants.{End, Put}
+use Rattle.record_form.specs.Record.{spelling}
+use Rattle.channel_log.specs.Frames.{frame_bytes, opened, record_bytes}
+use Rattle.channel_log.specs.Window.{IsBelow, IsPieceOf}
+use Rattle.channel_log.specs.Writer.{Appends, IsAtRest, IsPending, LacksOrHas, Writer}
+use Rattle.channel_log.specs.Pointers.{FoundAt, IsOfLength, IsWaiting, PutAt, end_of, in_frame, settled_part}
+use Rattle.channel_log.specs.declared.pointers.ReadRefused.{ReadRefused}
+use Rattle.channel_log.specs.declared.pointers.ReadRefused.TheVariants.{Damaged, NoMemory, ReadFault}
+use Rattle.channel_log.proofs.Keeping.{piece_grows}
+use Rattle.channel_log.proofs.Pointed.{within}
+use Rattle.channel_log.proofs.Pointing.{one_event, part-append, put_grows}
+use Rattle.channel_face.specs.Machine.{is_some_of}
+use Rattle.channel_places.specs.Looks.{Known, StandsIn}
+use Rattle.channel_writing.proofs.Flushing.{other_log}
+use Rattle.file_channel.specs.Placed.{ArePlaced, IsThere, bytes_of, settled_in}
+use Rattle.file_channel.specs.Stepped.{ReadsAs}
+
+-- one record more waits
+
+pub placed_appends : (told : Option Told) (w w' : Writer) (rec : Rec) (known : Known) → Appends w w' rec → ArePlaced told w known → ArePlaced told w' known
+placed_appends told w w' rec known adds are = subst (λ (v : Writer). ArePlaced told v known) (sym adds.is) (record {
+  long = are.long;
+  there = λ t is p event in_known. more t p event (are.there t is p event in_known);
+  piece = are.piece;
+})
+  where
+    grown : Writer
+    grown = record w { bytes = w.bytes ++ spelling rec; count = w.count + 1 }
+
+    more : (t : Told) (p : Pointer) (event : Content) → IsThere t w p event → IsThere t grown p event
+    more t p event (inl at) = inl at
+    more t p event (inr waits) = inr (waits.0, put_grows w.bytes (spelling rec) (in_frame w p) event waits.1)
+
+-- the place of the record that is appended next
+abbrev pub next_place : Writer → ℕ → Pointer
+next_place w long = record { file = w.file; at = w.gate + 1 + length w.bytes; length = long }
+
+pub place_is : (w : Writer) (file at long n : ℕ) → file ≡ w.file → at ≡ w.gate + 1 + length w.bytes → long ≡ n → ◌≡◌ {A = Pointer} (record { file = file; at = at; length = long }) (next_place w n)
+place_is w file at long n file_is at_is long_is = rw (file_is, at_is, long_is) refl
+
+waits_there : (t : Told) (w w' : Writer) (txn : ℕ) (event : Content) → Appends w w' (Put txn event) → IsThere t w' (next_place w (size event)) event
+waits_there t w w' txn event adds = subst (λ (v : Writer). IsThere t v (next_place w (size event)) event) (sym adds.is) (inr (
+  (refl, omega arith),
+  record {
+    txn = txn;
+    before = w.bytes;
+    behind = [];
+    split = ap (λ (l : List ℕ). w.bytes ++ l) (sym (append-nil (spelling (Put txn event))));
+    place = omega arith;
+    long = refl;
+    fields = adds.framed.fields;
+    limits = adds.framed.limits;
+  },
+))
+
+-- the PUT of an event more
+pub placed_put : (told : Option Told) (w w' : Writer) (txn : ℕ) (event : Content) (p : Pointer) (known : Known) → Appends w w' (Put txn event) → p ≡ next_place w (size event) → ArePlaced told w known → ArePlaced told w' ((p, event) ∷ known)
+placed_put told w w' txn event p known adds is are =
+    let before : ArePlaced told w' known = placed_appends told w w' (Put txn event) known adds are in
+    record {
+      long = λ q e in_known. long q e in_known;
+      there = λ t told_is q e in_known. there t told_is q e (before.there t told_is q e) in_known;
+      piece = before.piece;
+    }
+  where
+    long : (q : Pointer) (e : Content) → StandsIn ((p, event) ∷ known) q e → size e ≡ q.length
+    long q e (inl same) =
+        let here : size event ≡ p.length = ap (λ (r : Pointer). r.length) (sym is) in
+        subst (λ (k : Pointer × Content). size k.1 ≡ k.0.length) same here
+    long q e (inr older) = are.long q e older
+
+    there : (t : Told) → told ≡ Some t → (q : Pointer) (e : Content) → (StandsIn known q e → IsThere t w' q e) → StandsIn ((p, event) ∷ known) q e → IsThere t w' q e
+    there t told_is q e before (inl same) =
+        let here : IsThere t w' p event = subst (λ (r : Pointer). IsThere t w' r event) (sym is) (waits_there t w w' txn event adds) in
+        subst (λ (k : Pointer × Content). IsThere t w' k.0 k.1) same here
+    there t told_is q e before (inr older) = before older
+
+-- from one moment to another, what log files have settled grew, and what waited is there
+pub record Grows (t u : Told) (w w' : Writer) : Type 0 where
+  pub settled : (file : ℕ) → (more : List ℕ) × (settled_in u w' file ≡ settled_in t w file ++ more)
+  pub waited : (p : Pointer) (event : Content) → IsWaiting w p → PutAt w.bytes (in_frame w p) event → IsThere u w' p event
+  pub kept : w'.kept ≡ w.kept
+
+pub placed_grows : (told told' : Option Told) (w w' : Writer) (known : Known) → ((u : Told) → told' ≡ Some u → (t : Told) × (told ≡ Some t) × Grows t u w w') → ArePlaced told w known → ArePlaced told' w' known
+placed_grows told told' w w' known grew are = record {
+  long = are.long;
+  there = λ u is p event in_known. let was = grew u is in more was.0 u was.2 p event (are.there was.0 was.1 p event in_known);
+  piece = λ u is. let was = grew u is in piece was.0 u was.2 (are.piece was.0 was.1);
+}
+  where
+    more : (t u : Told) → Grows t u w w' → (p : Pointer) (event : Content) → IsThere t w p event → IsThere u w' p event
+    more t u grows p event (inl at) = inl (subst (λ (l : List ℕ). PutAt l p event) (sym (grows.settled p.file).1) (put_grows (settled_in t w p.file) (grows.settled p.file).0 p event at))
+    more t u grows p event (inr waits) = grows.waited p event waits.0 waits.1
+
+    piece : (t u : Told) → Grows t u w w' → IsPieceOf w.kept (settled_in t w) → IsPieceOf w'.kept (settled_in u w')
+    piece t u grows is = rw grows.kept (piece_grows w.kept (settled_in t w) (settled_in u w') grows.settled is)
+
+pub same_grows : (t : Told) (w : Writer) → Grows t t w w
+same_grows t w = record { settled = λ file. ([], sym (append-nil (settled_in t w file))); waited = λ p event waits at. inr (waits, at); kept = refl }
+
+-- a frame more
+
+end_own : (w : Writer) (file : ℕ) → file ≡ w.file → end_of w file ≡ w.gate
+end_own w file is = own (eqb_tells file w.file)
+  where
+    own : ((file == w.file) ≡ true) × (file ≡ w.file) ⊎ ((file == w.file) ≡ false) × (file ≢ w.file) → end_of w file ≡ w.gate
+    own (inl same) = rw same.0 refl
+    own (inr other) = absurd (other.1 is)
+
+pub end_other : (w : Writer) (file : ℕ) → file ≢ w.file → end_of w file ≡ 2 ^ 64 - 1
+end_other w file isnt = from (eqb_tells file w.file)
+  where
+    from : ((file == w.file) ≡ true) × (file ≡ w.file) ⊎ ((file == w.file) ≡ false) × (file ≢ w.file) → end_of w file ≡ 2 ^ 64 - 1
+    from (inl same) = absurd (isnt same.1)
+    from (inr other) = rw other.0 refl
+
+-- what the writer's own file has settled are its header and its frames
+pub settled_own : (t : Told) (w : Writer) (birth file : ℕ) (frames : List (List Rec)) → file ≡ w.file → IsAtRest t birth w.file w.gate frames → settled_in t w file ≡ settled_part birth w.file frames
+settled_own t w birth file frames is rest =
+    ap (λ (n : ℕ). take n (bytes_of (t.reads (Log file)))) (end_own w file is)
+    ∙ (ap (λ (n : ℕ). take w.gate (bytes_of (t.reads (Log n)))) is
+    ∙ (ap (λ (o : Option (List ℕ)). take w.gate (bytes_of o)) rest.reads
+    ∙ take_at (settled_part birth w.file frames) (0 ∷ []) w.gate (sym rest.offset)))
+
+-- what waits among the bytes of a frame stands in its file behind the frames that were there
+shifted : (front bytes more : List ℕ) (p q : Pointer) (event : Content) → PutAt bytes q event → q.at + (length front + 1) ≡ p.at → q.length ≡ p.length → PutAt (front ++ (1 ∷ (bytes ++ more))) p event
+shifted front bytes more p q event at place long = record {
+  txn = at.txn;
+  before = front ++ (1 ∷ at.before);
+  behind = at.behind ++ more;
+  split =
+      ap (λ (l : List ℕ). front ++ (1 ∷ (l ++ more))) at.split
+      ∙ (ap (λ (l : List ℕ). front ++ (1 ∷ l)) (append_assoc at.before (spelling (Put at.txn event) ++ at.behind) more ∙ ap (λ (l : List ℕ). at.before ++ l) (append_assoc (spelling (Put at.txn event)) at.behind more))
+      ∙ sym (append_assoc front (1 ∷ at.before) (spelling (Put at.txn event) ++ (at.behind ++ more))));
+  place = omega (arith, length-append front (1 ∷ at.before), at.place, place);
+  long = at.long ∙ long;
+  fields = at.fields;
+  limits = at.limits;
+}
+
+opened_one : (records : List Rec) → opened (records ∷ []) ≡ 1 ∷ (record_bytes records ++ spelling (End (length records)))
+unfolding frame_bytes
+opened_one records = ap (λ (l : List ℕ). 1 ∷ l) (append-nil (record_bytes records ++ spelling (End (length records))))
+
+pub frame_grows : (t u : Told) (w w' : Writer) (birth : ℕ) (frames : List (List Rec)) (records : List Rec) → IsAtRest t birth w.file w.gate frames → IsAtRest u birth w.file w'.gate (frames ++ records ∷ []) → IsPending w records
+    → Changes (Log w.file) (LacksOrHas birth w.file frames records) 2 t u → w' ≡ record w { gate = w.gate + length w.bytes + 6; started = true; bytes = []; count = 0 } → Grows t u w w'
+frame_grows t u w w' birth frames records rest rest' pending changes is = record {
+  settled = λ file. grown file (eqb_tells file w.file);
+  waited = λ p event waits at. inl (waited p event waits at);
+  kept = ap (λ (v : Writer). v.kept) is;
+}
+  where
+    file_is : w'.file ≡ w.file
+    file_is = ap (λ (v : Writer). v.file) is
+
+    front : List ℕ
+    front = settled_part birth w.file frames
+
+    own : (file : ℕ) → file ≡ w.file → settled_in u w' file ≡ front ++ opened (records ∷ [])
+    own file same =
+        settled_own u w' birth file (frames ++ records ∷ []) (same ∙ sym file_is) (subst (λ (n : ℕ). IsAtRest u birth n w'.gate (frames ++ records ∷ [])) (sym file_is) rest')
+        ∙ (ap (λ (n : ℕ). settled_part birth n (frames ++ records ∷ [])) file_is ∙ part-append birth w.file frames (records ∷ []))
+
+    grown : (file : ℕ) → ((file == w.file) ≡ true) × (file ≡ w.file) ⊎ ((file == w.file) ≡ false) × (file ≢ w.file) → (more : List ℕ) × (settled_in u w' file ≡ settled_in t w file ++ more)
+    grown file (inl same) = (opened (records ∷ []), own file same.1 ∙ ap (λ (l : List ℕ). l ++ opened (records ∷ [])) (sym (settled_own t w birth file frames same.1 rest)))
+    grown file (inr other) =
+        let reads = (changes.others (Log file) (other_log file w.file other.1)).1 in
+        let after : settled_in u w' file ≡ take (2 ^ 64 - 1) (bytes_of (t.reads (Log file))) =
+        ap (λ (n : ℕ). take n (bytes_of (u.reads (Log file)))) (end_other w' file (λ same. other.1 (same ∙ file_is))) ∙ ap (λ (o : Option (List ℕ)). take (2 ^ 64 - 1) (bytes_of o)) reads in
+        let before : settled_in t w file ≡ take (2 ^ 64 - 1) (bytes_of (t.reads (Log file))) = ap (λ (n : ℕ). take n (bytes_of (t.reads (Log file)))) (end_other w file other.1) in
+        ([], after ∙ (sym before ∙ sym (append-nil (settled_in t w file))))
+
+    waited : (p : Pointer) (event : Content) → IsWaiting w p → PutAt w.bytes (in_frame w p) event → PutAt (settled_in u w' p.file) p event
+    waited p event waits at =
+        let bytes : List ℕ = front ++ (1 ∷ (w.bytes ++ spelling (End (length records)))) in
+        let there : settled_in u w' p.file ≡ bytes =
+        own p.file waits.0 ∙ (ap (λ (l : List ℕ). front ++ l) (opened_one records) ∙ ap (λ (l : List ℕ). front ++ (1 ∷ (l ++ spelling (End (length records))))) (sym pending.spelled)) in
+        subst (λ (l : List ℕ). PutAt l p event) (sym there) (shifted front w.bytes (spelling (End (length records))) p (in_frame w p) event at (omega (arith, waits.1, rest.offset)) refl)
+
+-- what is read at a pointer
+
+settled_short : (t : Told) (w : Writer) (p : Pointer) (event : Content) → PutAt (settled_in t w p.file) p event → IsWaiting w p → ⊥
+settled_short t w p event at waits =
+    let low : settled_in t w p.file ≡ take w.gate (bytes_of (t.reads (Log p.file))) = ap (λ (n : ℕ). take n (bytes_of (t.reads (Log p.file)))) (end_own w p.file waits.0) in
+    absurd (omega (arith, within (settled_in t w p.file) p event at, ap (λ (l : List ℕ). length l) low, length-take w.gate (bytes_of (t.reads (Log p.file))), waits.1))
+
+-- the writer's settled part is below the end that it reads to
+pub is_below : (t : Told) (w : Writer) (p : Pointer) → IsBelow t p.file (end_of w p.file) (settled_in t w p.file)
+is_below t w p bytes is = ap (λ (o : Option (List ℕ)). take (end_of w p.file) (bytes_of o)) (sym is)
+
+-- in some bytes the reader found what there is at the pointer, and the event stands there
+record Found (p : Pointer) (event : Content) (r : Result Content ReadRefused) : Type 0 where
+  bytes : List ℕ
+  at : Pointer
+  stands : PutAt bytes at event
+  found : FoundAt bytes at r
+
+found_there : (t : Told) (w : Writer) (p : Pointer) (event : Content) (r : Result Content ReadRefused) → IsThere t w p event → (IsWaiting w p → FoundAt w.bytes (in_frame w p) r) → ((IsWaiting w p → ⊥) → FoundAt (settled_in t w p.file) p r) → Found p event r
+found_there t w p event r (inl at) waiting settled = record { bytes = settled_in t w p.file; at = p; stands = at; found = settled (λ waits. settled_short t w p event at waits) }
+found_there t w p event r (inr waits) waiting settled = record { bytes = w.bytes; at = in_frame w p; stands = waits.1; found = waiting waits.0 }
+
+-- a reader gives the event that stands at the pointer, and finds no damage there
+abbrev pub GivesEvent : Content → Result Content ReadRefused → Type 0
+GivesEvent event (Ok given) = given ≡ event
+GivesEvent event (Err ReadFault) = Unit {0}
+GivesEvent event (Err (Damaged kept found)) = ⊥
+GivesEvent event (Err NoMemory) = Unit {0}
+
+gives : (p : Pointer) (event : Content) (r : Result Content ReadRefused) → Found p event r → GivesEvent event r
+gives p event (Ok given) f = one_event f.bytes f.at given event f.found f.stands
+gives p event (Err ReadFault) f = tt
+gives p event (Err (Damaged kept found)) f = f.found.0 event f.stands
+gives p event (Err NoMemory) f = tt
+
+pub reads_event : (t : Told) (w : Writer) (p : Pointer) (event : Content) (r : Result Content ReadRefused) → IsPieceOf w.kept (settled_in t w) → IsThere t w p event → (IsWaiting w p → FoundAt w.bytes (in_frame w p) r × (IsErrOf r ReadFault → ⊥))
+    → ((part : ℕ → List ℕ) → IsPieceOf w.kept part → IsBelow t p.file (end_of w p.file) (part p.file) → (IsWaiting w p → ⊥) → FoundAt (part p.file) p r) → GivesEvent event r
+reads_event t w p event r piece there waiting settled = gives p event r (found_there t w p event r there (λ waits. (waiting waits).0) (λ elsewhere. settled (settled_in t w) piece (is_below t w p) elsewhere))
+
+-- where the disk doesn't tell, an event of the pointer's length is read, or damage
+pub reads_as : (told : Option Told) (w : Writer) (p : Pointer) (event : Content) (known : Known) (r : Result Content ReadRefused) → ArePlaced told w known → StandsIn known p event → IsOfLength p.length r → (IsWaiting w p → FoundAt w.bytes (in_frame w p) r × (IsErrOf r ReadFault → ⊥))
+    → WhereTold told (λ t. (part : ℕ → List ℕ) → IsPieceOf w.kept part → IsBelow t p.file (end_of w p.file) (part p.file) → (IsWaiting w p → ⊥) → FoundAt (part p.file) p r) → ReadsAs (is_some_of told) event r
+reads_as told w p event known r are in_known long waiting settled = from told refl
+  where
+    silent : (r : Result Content ReadRefused) → IsOfLength p.length r → ReadsAs false event r
+    silent (Ok given) of_length = of_length ∙ sym (are.long p event in_known)
+    silent (Err ReadFault) of_length = tt
+    silent (Err (Damaged kept found)) of_length = refl
+    silent (Err NoMemory) of_length = tt
+
+    exact : (r : Result Content ReadRefused) → GivesEvent event r → ReadsAs true event r
+    exact (Ok given) is = ap (λ (e : Content). Some e) is
+    exact (Err ReadFault) is = tt
+    exact (Err (Damaged kept found)) is = absurd is
+    exact (Err NoMemory) is = tt
+
+    from : (o : Option Told) → told ≡ o → ReadsAs (is_some_of told) event r
+    from None is = subst (λ (v : Option Told). ReadsAs (is_some_of v) event r) (sym is) (silent r long)
+    from (Some t) is =
+        subst (λ (v : Option Told). ReadsAs (is_some_of v) event r) (sym is)
+        (exact r (reads_event t w p event r (are.piece t is) (are.there t is p event in_known) waiting (settled t is)))
+
+-- reading leaves events where they stand
+pub placed_reads : (told told' : Option Told) (w w' : Writer) (p : Pointer) (known : Known) → told' ≡ told → w' ≡ record w { kept = w'.kept }
+    → WhereTold told (λ t. (part : ℕ → List ℕ) → IsPieceOf w.kept part → IsBelow t p.file (end_of w p.file) (part p.file) → IsPieceOf w'.kept part) → ArePlaced told w known → ArePlaced told' w' known
+placed_reads told told' w w' p known same is kept are = rw same (subst (λ (v : Writer). ArePlaced told v known) (sym is) (record {
+  long = are.long;
+  there = are.there;
+  piece = λ t told_is. kept t told_is (settled_in t w) (are.piece t told_is) (is_below t w p);
+}))
+
+-- the file of a pointer is there
+
+some_file : (o : Option (List ℕ)) (n : ℕ) (p : Pointer) (event : Content) → PutAt (take n (bytes_of o)) p event → IsSome o
+some_file None n p event at = let none : List ℕ = [] in absurd (omega (arith, within (take n none) p event at, length-take n none))
+some_file (Some bytes) n p event at = refl
+
+pub file_there : (t : Told) (w : Writer) (p : Pointer) (event : Content) → IsSome (t.reads (Log w.file)) → IsThere t w p event → IsSome (t.reads (Log p.file))
+file_there t w p event own (inl at) = some_file (t.reads (Log p.file)) (end_of w p.file) p event at
+file_there t w p event own (inr waits) = subst (λ (n : ℕ). IsSome (t.reads (Log n))) (sym waits.0.0) own

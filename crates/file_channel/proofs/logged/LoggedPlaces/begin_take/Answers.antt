@@ -1,0 +1,17 @@
+use Rattle.channel_face.specs.Machine.{BeginTake, after}
+use Rattle.file_channel.specs.Placed.{Logged}
+use Rattle.file_channel.proofs.Stepping.{begun_take}
+use Rattle.file_channel.proofs.logged.LoggedPlaces.begin_take.Goals as goal
+
+pub returns-clause-step : goal.returns-clause-step
+returns-clause-step g c =
+    let m = c.self.inside in
+    let old : Logged = record { places = m.held; log = m.writing.log; busy = m.writing.busy } in
+    rw (← c.self.view_is) (λ s is. begun_take (g.D.Disk.told m.writing.disk) old c.begin_take.new.self c.begin_take.result s is c.begin_take.ensures)
+
+pub invariant_of-self : goal.invariant_of-self
+invariant_of-self g c =
+    let m = c.self.inside in
+    let i = c.self.invariant in
+    let old : Logged = record { places = m.held; log = m.writing.log; busy = m.writing.busy } in
+    (after i.0 (BeginTake c.begin_take.result), (begun_take (g.D.Disk.told m.writing.disk) old c.begin_take.new.self c.begin_take.result i.0 i.1 c.begin_take.ensures).stands)

@@ -1,0 +1,70 @@
+-- What an opening finds in a folder, and what it makes of it.
+use Rattle.std.specs.Prelude.{◌≡◌, ◌⊎◌, ◌<◌, ◌^◌, ℕ, List, [], length, Option, None, Some, true}
+use Rattle.flume_host.specs.Folder.{Files}
+use Rattle.flume_host.specs.Told.{Told, WhereTold}
+use Rattle.flume_host.specs.declared.names.FileName.TheVariants.{Log}
+use Rattle.event_core.specs.Content.{Content}
+use Rattle.event_core.specs.Journal.{Base, IsBase}
+use Rattle.record_form.specs.declared.record.Pointer.{Pointer}
+use Rattle.channel_log.specs.Writer.{Writer}
+use Rattle.channel_face.specs.History.{opening}
+use Rattle.channel_face.specs.Machine.{State}
+use Rattle.channel_face.specs.declared.replies.Kind.TheVariants.{File}
+use Rattle.channel_face.specs.declared.replies.Limits.{Limits}
+use Rattle.channel_face.specs.declared.replies.OpenCause.{OpenCause}
+use Rattle.channel_face.specs.declared.replies.OpenCause.TheVariants as causes
+use Rattle.channel_places.specs.Looks.{Known, LookLeft, StandsIn}
+use Rattle.channel_replay.specs.Recover.{AreLogs, LogFile}
+use Rattle.channel_writing.specs.Folders.{HasNoCheck, Opens, last_file}
+use Rattle.channel_writing.specs.Written.{IsFresh, IsLogged}
+use Rattle.ring_replay.specs.Folder.{AreReplayed}
+use Rattle.ring_replay.specs.declared.folder.Replayed.{Replayed}
+use Rattle.file_channel.specs.Placed.{ArePlaced, IsStateOf, Logged}
+use Rattle.file_channel.specs.Stands.{base_at, event_at}
+
+-- each log file ends below the greatest offset
+abbrev pub AreShort : Files → Type 0
+AreShort files = (n : ℕ) (bytes : List ℕ) → files (Log n) ≡ Some bytes → length bytes < 2 ^ 63
+
+-- A folder without checkpoints, whose log files are not the last that there can be, was replayed to this.
+pub record ReplaysTo (files : Files) (r : Replayed) : Type 0 where
+  pub logs : List LogFile
+  pub are : AreLogs files 0 (2 ^ 32) logs
+  pub replayed : AreReplayed logs r
+  pub check : HasNoCheck files
+  pub last : files (Log last_file) ≡ None
+  pub short : AreShort files
+
+-- A log file could not be begun: the disk failed, or for want of memory, and then nothing was done.
+abbrev pub FailsToBegin : OpenCause → Option Told → Option Told → Type 0
+FailsToBegin cause told told' = (cause ≡ causes.DiskFault) ⊎ ((cause ≡ causes.NoMemory) × (told' ≡ told))
+
+-- each event that is known is the one that the disk tells of at its pointer
+abbrev pub AreSeen : Option Told → Known → Type 0
+AreSeen told known = (p : Pointer) (event : Content) → StandsIn known p event → event_at told p ≡ event
+
+-- A folder opened to this base and to the next transaction number of what was replayed, and a log file was begun behind it. The ring has the base's
+-- events, each known to stand at its pointer, as the disk tells, and the log has each state of just these.
+pub record IsBegunAs (was told : Option Told) (capacity max_file : ℕ) (r : Replayed) (w : Writer) : Type 0 where
+  pub base : Base
+  pub known : Known
+  pub rises : IsBase base
+  pub left : LookLeft known [] r.ring.live base.items
+  pub first : base.first ≡ r.next.number
+  pub opens : WhereTold was (λ t. Opens t.reads capacity base r.next.txn)
+  pub placed : ArePlaced told w known
+  pub seen : AreSeen told known
+  pub logged : (s : State) → IsFresh s base r.next.txn → s.rules.limits.max_file ≡ max_file → IsLogged told w 0 s
+
+-- the state of a channel that has just these events and next numbers
+abbrev pub state_of : Limits → Base → ℕ → State
+state_of limits base txn = opening (record { rules = record { kind = File; limits = limits }; base = base; txn = txn; faults = 0; from = 0; tells = true })
+
+-- A folder opened within these limits, and places and log stand for what it opened to, as the disk tells.
+pub record OpensWith (was told : Option Told) (limits : Limits) (c : Logged) : Type 0 where
+  pub base : Base
+  pub txn : ℕ
+  pub rises : IsBase base
+  pub opens : WhereTold was (λ t. Opens t.reads limits.capacity base txn)
+  pub state : IsStateOf told c (state_of limits base txn)
+  pub seen : base_at told c.places ≡ base

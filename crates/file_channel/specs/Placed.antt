@@ -1,0 +1,56 @@
+-- What stands at the pointers of a channel's events, and the state that its places and its log stand for.
+use Rattle.std.specs.Prelude.{◌≡◌, ◌⊎◌, ℕ, List, [], take, Option, None, Some, false}
+use Rattle.flume_host.specs.Told.{Told, WhereTold}
+use Rattle.flume_host.specs.declared.names.FileName.TheVariants.{Log}
+use Rattle.event_core.specs.Content.{Content, size}
+use Rattle.record_form.specs.declared.record.Pointer.{Pointer}
+use Rattle.channel_log.specs.Writer.{Writer}
+use Rattle.channel_log.specs.Window.{IsPieceOf}
+use Rattle.channel_log.specs.Pointers.{IsWaiting, PutAt, end_of, in_frame}
+use Rattle.channel_face.specs.Machine.{State}
+use Rattle.channel_places.specs.Looks.{Known, Looks, Places, StandsIn}
+use Rattle.channel_writing.specs.Whole.{IsWhole}
+use Rattle.channel_writing.specs.Written.{IsLogged}
+
+-- What a channel has beside its disk: the places of its events, the writer of its log, and how many open transactions have records there.
+pub record Logged : Type 0 where
+  pub places : Places
+  pub log : Writer
+  pub busy : ℕ
+
+-- a file's bytes, and none where there is no file
+abbrev pub bytes_of : Option (List ℕ) → List ℕ
+bytes_of None = []
+bytes_of (Some bytes) = bytes
+
+-- what a log file has that no later call changes: in the writer's own file what stands before its closed commit byte
+abbrev pub settled_in : Told → Writer → ℕ → List ℕ
+settled_in t w file = take (end_of w file) (bytes_of (t.reads (Log file)))
+
+-- the event's PUT stands at the pointer in its file, or it waits there for a flush
+abbrev pub IsThere : Told → Writer → Pointer → Content → Type 0
+IsThere t w p event = PutAt (settled_in t w p.file) p event ⊎ (IsWaiting w p × PutAt w.bytes (in_frame w p) event)
+
+-- Each pointer has its event's length. Where the disk tells, the event's PUT stands at the pointer, and what is kept of the last reading is what its file has.
+pub record ArePlaced (told : Option Told) (w : Writer) (known : Known) : Type 0 where
+  pub long : (p : Pointer) (event : Content) → StandsIn known p event → size event ≡ p.length
+  pub there : WhereTold told (λ t. (p : Pointer) (event : Content) → StandsIn known p event → IsThere t w p event)
+  pub piece : WhereTold told (λ t. IsPieceOf w.kept (settled_in t w))
+
+-- A channel's places look like this state, its log has the state's changes, and each event stands at its pointer.
+pub record Fits (told : Option Told) (c : Logged) (s : State) : Type 0 where
+  pub known : Known
+  pub looks : Looks known c.places s
+  pub placed : ArePlaced told c.log known
+  pub logged : IsLogged told c.log c.busy s
+
+-- A channel's places and its log stand for this state. What a broken channel's log has of it is not known.
+pub record IsStateOf (told : Option Told) (c : Logged) (s : State) : Type 0 where
+  pub known : Known
+  pub looks : Looks known c.places s
+  pub placed : s.broken ≡ false → ArePlaced told c.log known
+  pub whole : IsWhole told c.log c.busy s
+
+-- they stand for some state
+abbrev pub HasState : Option Told → Logged → Type 0
+HasState told c = (s : State) × IsStateOf told c s

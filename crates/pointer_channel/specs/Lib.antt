@@ -1,5 +1,0 @@
-pub mod Placed
-pub mod Stepped
-pub mod Stands
-pub mod Opened
-pub mod Images
