@@ -7,7 +7,7 @@ use avro_binary::{
     read_long, read_meta, read_text, shortest_is_written, write_batch, write_bool, write_bytes,
     write_event, write_fixed, write_int, write_long, write_text, written_is_spelled,
 };
-use event_core::{Batch, NoMemory};
+use event_core::{Batch, Event, NoMemory};
 use std::alloc::Global;
 use std::test::Fail;
 
@@ -314,12 +314,16 @@ fn read_place(kind: Place, bytes: &[u8], at: usize) -> Result<(usize, usize), Va
 }
 
 #[test]
-fn texts_bytes_and_maps_are_read(rt: HostRuntime) {
+fn texts_and_bytes_are_read(rt: HostRuntime) {
     for (row, case) in PLACES.iter().enumerate() {
         let (kind, bytes, at, want) = *case;
         assert!(rt; at <= bytes.len(), "row {row}");
         assert!(rt; read_place(kind, bytes, at) == want, "row {row}");
     }
+}
+
+#[test]
+fn maps_are_read(rt: HostRuntime) {
     for case in &METAS {
         let (bytes, want) = *case;
         assert!(rt; read_meta(bytes, 0) == want, "{bytes:?}");
@@ -349,14 +353,23 @@ fn values_are_written(rt: HostRuntime) -> Result<(), Fail> {
     Ok(())
 }
 
-// Whether an event of the body a is read and written as the case says.
+// Whether this is the event of the body a whose only header h has this text.
+fn is_the_event(event: &Event, value: &str) -> bool {
+    let headers = event.headers();
+    headers.len() == 1 && headers.get("h") == Some(value) && event.body() == b"a".as_slice()
+}
+
+fn is_written_so(alloc: Global, event: &Event, shortest: &[u8]) -> Result<bool, NoMemory> {
+    let mut out = Vec::new(alloc);
+    write_event(event, &mut out)?;
+    Ok(out.as_slice() == shortest)
+}
+
+// Whether an event is read and written as the case says.
 fn is_event(alloc: Global, case: &EventCase) -> Result<bool, Fail> {
     let (event, end) = read_event(alloc, case.bytes, 0)?;
-    let has_header = event.headers().len() == 1 && event.headers().get("h") == Some(case.value);
-    let is_read = end == case.end && has_header && event.body() == b"a".as_slice();
-    let mut out = Vec::new(alloc);
-    write_event(&event, &mut out)?;
-    Ok(is_read && out.as_slice() == case.shortest)
+    let is_read = end == case.end && is_the_event(&event, case.value);
+    Ok(is_read && is_written_so(alloc, &event, case.shortest)?)
 }
 
 #[test]
@@ -367,23 +380,32 @@ fn events_are_read_and_written(rt: HostRuntime) -> Result<(), Fail> {
     Ok(())
 }
 
-// Whether a batch of two events, whose second has the body y, is read of all the bytes, and is written in one block.
+// Whether these are two events, whose second has the body y.
+fn are_the_two(batch: &Batch) -> bool {
+    batch.len() == 2 && batch.get(1).body() == b"y".as_slice()
+}
+
+fn are_written_so(alloc: Global, batch: &Batch, bytes: &[u8]) -> Result<bool, NoMemory> {
+    let mut out = Vec::new(alloc);
+    write_batch(batch, &mut out)?;
+    Ok(out.as_slice() == bytes)
+}
+
+// Whether the batch of the two events is read of all the bytes, and is written in one block.
 fn is_batch(alloc: Global, bytes: &[u8]) -> Result<bool, Fail> {
     let (batch, end) = read_batch(alloc, bytes, 0)?;
-    if batch.len() != 2 {
-        return Ok(false);
-    }
-    let is_read = end == bytes.len() && batch.get(1).body() == b"y".as_slice();
-    let mut out = Vec::new(alloc);
-    write_batch(&batch, &mut out)?;
-    Ok(is_read && out.as_slice() == BATCHES[0])
+    let is_read = end == bytes.len() && are_the_two(&batch);
+    Ok(is_read && are_written_so(alloc, &batch, BATCHES[0])?)
+}
+
+#[test]
+fn an_empty_batch_is_written(rt: HostRuntime) -> Result<(), Fail> {
+    assert!(rt; are_written_so(rt.alloc(), &Batch::new(rt.alloc()), &[0])?);
+    Ok(())
 }
 
 #[test]
 fn batches_are_read_and_written(rt: HostRuntime) -> Result<(), Fail> {
-    let mut none = Vec::new(rt.alloc());
-    write_batch(&Batch::new(rt.alloc()), &mut none)?;
-    assert!(rt; none.as_slice() == [0u8].as_slice());
     for bytes in &BATCHES {
         let bytes = *bytes;
         assert!(rt; is_batch(rt.alloc(), bytes)?, "{bytes:?}");

@@ -60,21 +60,21 @@ const LATER_REPLIES: [u8; 34] = [
 // What a client sends: its text has a `doc`.
 fn requests(alloc: Global) -> Result<Vec<u8>, Fail> {
     let text = protocol_text().replace(alloc, "\"messages\"", "\"doc\":\"d\",\"messages\"")?;
-    let mut stream = Vec::from_slice(alloc, &FIRST)?;
-    stream.extend_from_slice(&SECOND)?;
-    stream.extend_from_slice(text.as_bytes())?;
-    stream.extend_from_slice(&BEHIND_TEXT)?;
-    stream.extend_from_slice(&THIRD)?;
-    stream.extend_from_slice(&FOURTH)?;
-    Ok(stream)
+    let parts: [&[u8]; 6] = [
+        &FIRST,
+        &SECOND,
+        text.as_bytes(),
+        &BEHIND_TEXT,
+        &THIRD,
+        &FOURTH,
+    ];
+    Ok(parts.concat(alloc)?)
 }
 
 fn replies(alloc: Global) -> Result<Vec<u8>, Fail> {
-    let mut stream = Vec::from_slice(alloc, &FIRST_REPLY)?;
-    stream.extend_from_slice(protocol_text().as_bytes())?;
-    stream.extend_from_slice(&OWN_HASH)?;
-    stream.extend_from_slice(&LATER_REPLIES)?;
-    Ok(stream)
+    let text = protocol_text().as_bytes();
+    let parts: [&[u8]; 4] = [&FIRST_REPLY, text, &OWN_HASH, &LATER_REPLIES];
+    Ok(parts.concat(alloc)?)
 }
 
 // Serial 6, a buffer of 36 bytes: a handshake of both hashes, and no call after it; and BOTH.
@@ -118,16 +118,46 @@ const APPEND_REPLIES: [(Status, [u8; 15]); 2] = [
     ),
 ];
 
-// Adds what a server writes after a message with this verdict, and says whether events waited for it.
-fn add_reply(
-    hop: &mut Hop,
-    message: &Message,
-    verdict: Status,
-    out: &mut Vec<u8>,
-) -> Result<bool, HopRefused> {
-    let (payload, events) = answered(hop, &message.payload, verdict)?;
-    write_pack(message.serial, &payload, out)?;
-    Ok(events.is_some())
+// A server: the verdicts that it gives, how many it has given, what it has written, and why it ended.
+#[derive(Drop)]
+struct Server<'a> {
+    hop: Hop,
+    verdicts: &'a [Status],
+    given: usize,
+    out: Vec<u8>,
+    end: Option<HopRefused>,
+}
+
+// Writes what a message is answered with. Where events waited for the verdict it is given.
+fn add_reply(server: &mut Server<'_>, message: &Message) -> Result<(), HopRefused> {
+    let verdict = server.verdicts.get(server.given).copied();
+    let verdict = verdict.unwrap_or(Status::Unknown);
+    let (payload, events) = answered(&mut server.hop, &message.payload, verdict)?;
+    write_pack(message.serial, &payload, &mut server.out)?;
+    server.given = server.given.saturating_add(usize::from(events.is_some()));
+    Ok(())
+}
+
+// Serves a stream in pieces of this length, up to the first message that ends the connection.
+fn serve(
+    packs: &mut Packs,
+    server: &mut Server<'_>,
+    stream: &[u8],
+    len: usize,
+) -> Result<(), Fail> {
+    let mut from = 0usize;
+    for _ in 0..stream.len() {
+        let to = from.saturating_add(len).min(stream.len());
+        let (taken, found) = packs.feed(stream.get(from..to).unwrap_or(&[]))?;
+        from = from.saturating_add(taken);
+        if let Some(message) = found {
+            server.end = add_reply(server, &message).err();
+            if server.end.is_some() {
+                return Ok(());
+            }
+        }
+    }
+    Ok(())
 }
 
 // What a server writes to a stream in pieces of this length with these verdicts, and why it ends.
@@ -137,25 +167,15 @@ fn served(
     len: usize,
     verdicts: &[Status],
 ) -> Result<(Vec<u8>, Option<HopRefused>), Fail> {
-    let mut packs = Packs::new(alloc);
-    let mut hop = Hop::new(alloc)?;
-    let mut out = Vec::new(alloc);
-    let mut from = 0usize;
-    let mut told = 0usize;
-    for _ in 0..stream.len() {
-        let to = from.saturating_add(len).min(stream.len());
-        let piece = stream.get(from..to).ok_or("no piece")?;
-        let (taken, found) = packs.feed(piece)?;
-        from = from.saturating_add(taken);
-        if let Some(message) = found {
-            let verdict = verdicts.get(told).copied().unwrap_or(Status::Unknown);
-            match add_reply(&mut hop, &message, verdict, &mut out) {
-                Ok(waited) => told = told.saturating_add(usize::from(waited)),
-                Err(e) => return Ok((out, Some(e))),
-            }
-        }
-    }
-    Ok((out, None))
+    let mut server = Server {
+        hop: Hop::new(alloc)?,
+        verdicts,
+        given: 0,
+        out: Vec::new(alloc),
+        end: None,
+    };
+    serve(&mut Packs::new(alloc), &mut server, stream, len)?;
+    Ok((server.out, server.end))
 }
 
 // Two events are taken, and one finds the channel full.
@@ -173,11 +193,9 @@ fn a_dialogue(rt: HostRuntime) -> Result<(), Fail> {
 
 // Whether an append after a handshake is replied to so.
 fn is_replied(alloc: Global, append: &[u8], verdict: Status, reply: &[u8]) -> Result<bool, Fail> {
-    let mut stream = Vec::from_slice(alloc, &KNOWN)?;
-    stream.extend_from_slice(append)?;
-    let mut want = Vec::from_slice(alloc, &KNOWN_REPLY)?;
-    want.extend_from_slice(reply)?;
+    let stream = [KNOWN.as_slice(), append].concat(alloc)?;
     let (out, end) = served(alloc, &stream, 64, &[verdict])?;
+    let want = [KNOWN_REPLY.as_slice(), reply].concat(alloc)?;
     Ok(out.as_slice() == want.as_slice() && end.is_none())
 }
 

@@ -80,16 +80,23 @@ fn is_message(message: &Message, serial: u32, payload: &[u8]) -> bool {
     message.serial == serial && message.payload.as_slice() == payload
 }
 
+fn are_the_messages(found: &[Message]) -> bool {
+    for (message, (serial, payload)) in found.iter().zip(&MESSAGES) {
+        if !is_message(message, *serial, payload) {
+            return false;
+        }
+    }
+    found.len() == MESSAGES.len()
+}
+
 #[test]
 fn a_stream_in_pieces(rt: HostRuntime) -> Result<(), Fail> {
-    let mut stream = APPEND.to_vec(rt.alloc())?;
-    stream.extend_from_slice(&THREE_AND_NONE)?;
+    let stream = [APPEND.as_slice(), &THREE_AND_NONE].concat(rt.alloc())?;
     for len in [1usize, 3, 12, 100] {
-        let found = messages(rt.alloc(), &stream, len)?;
-        assert!(rt; found.len() == MESSAGES.len(), "{len}");
-        for (message, (serial, payload)) in found.iter().zip(&MESSAGES) {
-            assert!(rt; is_message(message, *serial, payload), "{len}, {serial}");
-        }
+        assert!(rt;
+            are_the_messages(&messages(rt.alloc(), &stream, len)?),
+            "{len}"
+        );
     }
     Ok(())
 }
@@ -132,27 +139,32 @@ fn what_passes_a_limit_is_refused_for_good(rt: HostRuntime) {
 }
 
 // How many bytes are taken, and how long the payload of the message is that they end, if they end one.
-fn fed(packs: &mut Packs, bytes: &[u8]) -> Result<(usize, Option<usize>), PackRefused> {
+type Fed = Result<(usize, Option<usize>), PackRefused>;
+
+fn fed(packs: &mut Packs, bytes: &[u8]) -> Fed {
     match packs.feed(bytes)? {
         (taken, None) => Ok((taken, None)),
         (taken, Some(message)) => Ok((taken, Some(message.payload.len()))),
     }
 }
 
+// What comes of 65,536 buffers of length 0, and of a buffer of 67,108,864 bytes.
+fn greatest_fed(alloc: Global, zeros: &[u8]) -> [Fed; 3] {
+    let mut packs = Packs::new(alloc);
+    [
+        fed(&mut packs, &[0, 0, 0, 1, 0, 1, 0, 0]),
+        fed(&mut packs, zeros),
+        fed(&mut packs, &[0, 0, 0, 1, 0, 0, 0, 1, 4, 0, 0, 0, 0]),
+    ]
+}
+
+// The message of no bytes is whole, and the large one is waited for.
+const GREATEST: [Fed; 3] = [Ok((8, None)), Ok((4 * 65_536, Some(0))), Ok((13, None))];
+
 #[test]
 fn the_greatest_counts_are_taken(rt: HostRuntime) -> Result<(), Fail> {
-    let mut packs = Packs::new(rt.alloc());
     let zeros = vec![in rt.alloc(); 0u8; 4 * 65_536]?;
-    let rows: [(&[u8], (usize, Option<usize>)); 3] = [
-        // 65,536 buffers of length 0
-        (&[0, 0, 0, 1, 0, 1, 0, 0], (8, None)),
-        (&zeros, (4 * 65_536, Some(0))),
-        // a buffer of 67,108,864 bytes is waited for
-        (&[0, 0, 0, 1, 0, 0, 0, 1, 4, 0, 0, 0, 0], (13, None)),
-    ];
-    for (row, (bytes, want)) in rows.into_iter().enumerate() {
-        assert!(rt; fed(&mut packs, bytes) == Ok(want), "row {row}");
-    }
+    assert!(rt; greatest_fed(rt.alloc(), &zeros) == GREATEST);
     Ok(())
 }
 

@@ -195,13 +195,22 @@ fn first_other(alloc: Global, texts: &[&str], accepted: bool) -> Result<Option<u
 
 #[test]
 fn accepted_texts(rt: HostRuntime) -> Result<(), Fail> {
-    let alloc = rt.alloc();
-    assert!(rt; accepts(alloc, protocol_text())?);
-    assert_eq!(rt; first_other(alloc, &ACCEPTED_TEXTS, true)?, None);
-    assert!(rt; count_rows(alloc, ACCEPTED, true)? == 48);
-    // white space round a comma, and the end of a line after a brace
-    for row in [",=> , ", "{=>{\n"] {
-        assert!(rt; is_right(alloc, row, true)?, "{row}");
+    assert!(rt; accepts(rt.alloc(), protocol_text())?);
+    assert_eq!(rt; first_other(rt.alloc(), &ACCEPTED_TEXTS, true)?, None);
+    Ok(())
+}
+
+#[test]
+fn accepted_rows(rt: HostRuntime) -> Result<(), Fail> {
+    assert!(rt; count_rows(rt.alloc(), ACCEPTED, true)? == 48);
+    Ok(())
+}
+
+// Round a comma, and the end of a line after a brace.
+#[test]
+fn white_space_is_accepted(rt: HostRuntime) -> Result<(), Fail> {
+    for row in &[",=> , ", "{=>{\n"] {
+        assert!(rt; is_right(rt.alloc(), row, true)?, "{row}");
     }
     Ok(())
 }
@@ -222,11 +231,20 @@ fn is_accepted_beside(alloc: Global, further: &str) -> Result<bool, NoMemory> {
 
 #[test]
 fn refused_texts(rt: HostRuntime) -> Result<(), Fail> {
-    let alloc = rt.alloc();
-    assert_eq!(rt; first_other(alloc, &REFUSED_TEXTS, false)?, None);
-    assert!(rt; count_rows(alloc, REFUSED, false)? == 56);
+    assert_eq!(rt; first_other(rt.alloc(), &REFUSED_TEXTS, false)?, None);
+    Ok(())
+}
+
+#[test]
+fn refused_rows(rt: HostRuntime) -> Result<(), Fail> {
+    assert!(rt; count_rows(rt.alloc(), REFUSED, false)? == 56);
+    Ok(())
+}
+
+#[test]
+fn refused_types(rt: HostRuntime) -> Result<(), Fail> {
     for further in &REFUSED_TYPES {
-        assert!(rt; !is_accepted_beside(alloc, further)?, "{further}");
+        assert!(rt; !is_accepted_beside(rt.alloc(), further)?, "{further}");
     }
     Ok(())
 }
