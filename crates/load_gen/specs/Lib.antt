@@ -1,0 +1,5 @@
+pub mod Events
+pub mod Calls
+pub mod Runs
+pub mod Parts
+pub mod Counted
