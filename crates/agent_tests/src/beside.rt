@@ -30,7 +30,7 @@ a.sinks.k.channel = c3
 ";
 
 // The calls that an opening of an empty folder makes.
-const OPENING: u64 = 7;
+const OPENING: u64 = 8;
 
 // The first sync of the line in `d` waits until the line of a link is answered, which is only given once that sync waits.
 fn gated(alloc: Global, given_up: Flag) -> Result<OwnHost, AllocError> {

@@ -11,12 +11,12 @@ use std::sync::Wait;
 use std::test::Fail;
 use std::thread::Threads;
 
-// What is rolled in the end where this call of the disk fails alone. Opening takes seven calls, and the first line four: a write, a
+// What is rolled in the end where this call of the disk fails alone. Opening takes eight calls, and the first line four: a write, a
 // sync, the write of the byte that commits it, and a sync. Where that byte is there, mending reads the line back.
 fn rolled_after(fault: DiskFault) -> &'static [u8] {
     match fault.call {
-        10 => b"a\nb\n",
-        9 if fault.part == Part::Front(1) => b"a\nb\n",
+        11 => b"a\nb\n",
+        10 if fault.part == Part::Front(1) => b"a\nb\n",
         _ => b"b\n",
     }
 }
@@ -47,7 +47,7 @@ fn is_mended<R: Threads + Wait + Sync>(
 
 #[test]
 fn a_disk_that_failed_once_is_mended(rt: HostRuntime) -> Result<(), Fail> {
-    for call in 7..11 {
+    for call in 8..12 {
         for part in [Part::Nothing, Part::Front(1)] {
             let is_so = is_mended(&rt, rt.alloc(), DiskFault { call, part })?;
             assert!(rt; is_so, "call {call}, {part:?}");
@@ -110,8 +110,8 @@ fn is_kept_where_it_fails<R: Threads + Wait + Sync>(
 
 #[test]
 fn each_call_of_the_disk_fails_once(rt: HostRuntime) -> Result<(), Fail> {
-    // seven calls of the opening, and four for each commit: of two lines, and of one delivery or two
-    for call in 7..24 {
+    // eight calls of the opening, four for each commit, of two lines and of one delivery or two, and readings of what is taken
+    for call in 8..40 {
         let (is_so, faults) = is_kept_where_it_fails(&rt, rt.alloc(), call)?;
         assert!(rt; is_so, "call {call}");
         if faults == 0 {
@@ -145,11 +145,11 @@ struct Row {
     left: &'static [u8],
 }
 
-// The first line fails in its first sync, with call 8, or in its second, with call 10. A reopening begins with the next call. A mend
+// The first line fails in its first sync, with call 9, or in its second, with call 11. A reopening begins with the next call. A mend
 // that was refused is tried again before the next line, and where that is refused too, none follows this line.
 const ROWS: [Row; 6] = [
     Row {
-        calls: &[8],
+        calls: &[9],
         lines: b"a\nb\n",
         status: 0,
         said: "",
@@ -158,7 +158,7 @@ const ROWS: [Row; 6] = [
     },
     // what a reopening reads back is left, and is no success
     Row {
-        calls: &[10],
+        calls: &[11],
         lines: b"a\nb\n",
         status: 0,
         said: "",
@@ -167,7 +167,7 @@ const ROWS: [Row; 6] = [
     },
     // the mends behind the first line and before the second are refused
     Row {
-        calls: &[8, 9, 10],
+        calls: &[9, 10, 11],
         lines: b"a\nb\nc\n",
         status: 0,
         said: "",
@@ -176,7 +176,7 @@ const ROWS: [Row; 6] = [
     },
     // the mend behind the line is refused, and that at the end is not
     Row {
-        calls: &[8, 9],
+        calls: &[9, 10],
         lines: b"a\n",
         status: 0,
         said: "",
@@ -185,7 +185,7 @@ const ROWS: [Row; 6] = [
     },
     // both are refused: the channel has what it had, and a later run opens its folder
     Row {
-        calls: &[8, 9, 10],
+        calls: &[9, 10, 11],
         lines: b"a\n",
         status: 3,
         said: "flume: fault outside",
@@ -193,7 +193,7 @@ const ROWS: [Row; 6] = [
         left: b"",
     },
     Row {
-        calls: &[10, 11, 12],
+        calls: &[11, 12, 13],
         lines: b"a\n",
         status: 3,
         said: "flume: fault outside",
@@ -250,7 +250,7 @@ fn calls_with_a_reopening<R: Threads + Wait + Sync>(
     rt: &R,
     alloc: Global,
 ) -> Result<u64, AllocError> {
-    let (_, host) = run_failing(rt, alloc, &[8], b"a\n")?;
+    let (_, host) = run_failing(rt, alloc, &[9], b"a\n")?;
     Ok(match host.disk("d") {
         Some(disk) => disk.calls(),
         None => 0,
@@ -260,12 +260,12 @@ fn calls_with_a_reopening<R: Threads + Wait + Sync>(
 #[test]
 fn each_call_of_a_reopening_fails_once(rt: HostRuntime) -> Result<(), Fail> {
     let end = calls_with_a_reopening(&rt, rt.alloc())?;
-    for call in 9..end {
-        let is_so = goes_on(&rt, rt.alloc(), &[8, call], &ROWS[0])?;
+    for call in 10..end {
+        let is_so = goes_on(&rt, rt.alloc(), &[9, call], &ROWS[0])?;
         assert!(rt; is_so, "call {call}");
     }
     // at least the folder is settled and searched, its log is read, and a new one is begun
-    assert!(rt; end >= 15);
+    assert!(rt; end >= 17);
     Ok(())
 }
 
@@ -282,7 +282,7 @@ const TWICE: Row = Row {
 #[test]
 fn a_channel_that_breaks_again_is_mended_again(rt: HostRuntime) -> Result<(), Fail> {
     let end = calls_with_a_reopening(&rt, rt.alloc())?;
-    let is_so = goes_on(&rt, rt.alloc(), &[8, end.saturating_add(1)], &TWICE)?;
+    let is_so = goes_on(&rt, rt.alloc(), &[9, end.saturating_add(1)], &TWICE)?;
     assert!(rt; is_so);
     Ok(())
 }
@@ -316,7 +316,7 @@ fn host_of_links(alloc: Global) -> Result<MemHost, AllocError> {
     let other = Offer::Link(link(alloc, b"y\n")?.setting(second.handle()?));
     let mut outside = given(alloc, b"")?;
     let fault = DiskFault {
-        call: 8,
+        call: 9,
         part: Part::Nothing,
     };
     outside.disk = outside.disk.failing_at(vec![in alloc; fault]?);

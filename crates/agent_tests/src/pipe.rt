@@ -274,12 +274,12 @@ fn other_words_are_no_command(rt: HostRuntime) -> Result<(), Fail> {
     Ok(())
 }
 
-// What a failing call of the disk leads to. Opening takes seven calls, of which three look for files, and each line four.
+// What a failing call of the disk leads to. Opening takes eight calls, of which four look for files, and each line four.
 fn after_failing_call(call: u64) -> ((u8, u64), &'static [u8]) {
     match call {
-        0..=6 => ((3, 0), b""),
-        7..=10 => ((3, 4), b"FAILED: channel in doubt\n"),
-        11..=14 => ((3, 8), b"OK\nFAILED: channel in doubt\n"),
+        0..=7 => ((3, 0), b""),
+        8..=11 => ((3, 4), b"FAILED: channel in doubt\n"),
+        12..=15 => ((3, 8), b"OK\nFAILED: channel in doubt\n"),
         _ => ((0, 8), b"OK\nOK\n"),
     }
 }
@@ -300,7 +300,7 @@ fn is_in_doubt<R: Threads + Wait + Sync>(
 
 #[test]
 fn a_failing_disk_leaves_the_line_in_doubt(rt: HostRuntime) -> Result<(), Fail> {
-    for call in 0..16 {
+    for call in 0..17 {
         for part in [Part::Nothing, Part::Front(1)] {
             let is_so = is_in_doubt(&rt, rt.alloc(), DiskFault { call, part })?;
             assert!(rt; is_so, "call {call}, {part:?}");

@@ -191,9 +191,9 @@ fn left_after_fault<R: Threads + Wait + Sync>(
 // that was in doubt besides.
 #[test]
 fn what_was_answered_is_left_after_a_fault(rt: HostRuntime) -> Result<(), Fail> {
-    for call in 7..15 {
-        let sure: &[u8] = if call < 11 { b"" } else { b"a\n" };
-        let more: &[u8] = if call < 11 { b"a\n" } else { b"a\nb\n" };
+    for call in 8..16 {
+        let sure: &[u8] = if call < 12 { b"" } else { b"a\n" };
+        let more: &[u8] = if call < 12 { b"a\n" } else { b"a\nb\n" };
         for stood in [Stood::Old, Stood::New, Stood::Garbage(1)] {
             let found = left_after_fault(&rt, rt.alloc(), call, stood)?;
             let is_so = found.as_slice() == sure || found.as_slice() == more;

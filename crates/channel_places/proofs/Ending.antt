@@ -33,8 +33,8 @@ left_same known xs ys (l ∷ live) [] same look = absurd look
 left_same known xs ys (l ∷ live) (x ∷ items) same look = ((look.0.0, look.0.1 ∙ sym (same x.0), look.0.2), left_same known xs ys live items same look.1)
 
 -- the open transactions, of which one is open no more
-pub opened_gone : (known : Known) (p : Places) (s : State) (t : Table) (n : ℕ) → Looks known p s → HasAt n None p.opened t → (m : ℕ) → LooksOpen known s.rules.limits.txn_capacity (open_at t m) (entry_of m (without_entry n s.opened))
-opened_gone known p s t n looks has m = from (eqb_tells m n)
+pub opened_gone : (settled known : Known) (p : Places) (s : State) (t : Table) (n : ℕ) → Looks settled known p s → HasAt n None p.opened t → (m : ℕ) → LooksOpen known s.rules.limits.txn_capacity (open_at t m) (entry_of m (without_entry n s.opened))
+opened_gone settled known p s t n looks has m = from (eqb_tells m n)
   where
     cap : ℕ
     cap = s.rules.limits.txn_capacity
@@ -45,18 +45,18 @@ opened_gone known p s t n looks has m = from (eqb_tells m n)
     from (inr other) = rw (has.others m other.1, entry_of_without-other m n s.opened other.1) (looks.opened m)
 
 -- A transaction is open no more, and these are staged: what is held is the same.
-pub gone_looks : (known : Known) (p : Places) (s : State) (t : Table) (n : ℕ) (e : Entry) (listed : List Listed) (staged : List Entry) (open_puts : ℕ) → Looks known p s → entry_of n s.opened ≡ Some e → HasAt n None p.opened t → length t + 1 ≡ length p.opened
+pub gone_looks : (settled known : Known) (p : Places) (s : State) (t : Table) (n : ℕ) (e : Entry) (listed : List Listed) (staged : List Entry) (open_puts : ℕ) → Looks settled known p s → entry_of n s.opened ≡ Some e → HasAt n None p.opened t → length t + 1 ≡ length p.opened
     → LookStaged known listed staged → IsJournal staged → ((m : ℕ) → opened_times m (without_entry n s.opened) + times m (taken_numbers staged) ≡ opened_times m s.opened + times m (taken_numbers s.staged)) → open_puts + size_put e ≡ p.open_puts
-    → Looks known (record p { opened = t; staged = listed; open_puts = open_puts }) (record s { opened = without_entry n s.opened; staged = staged })
-gone_looks known p s t n e listed staged open_puts looks is has many look journal same puts = record {
+    → Looks settled known (record p { opened = t; staged = listed; open_puts = open_puts }) (record s { opened = without_entry n s.opened; staged = staged })
+gone_looks settled known p s t n e listed staged open_puts looks is has many look journal same puts = record {
   sound = record {
     base = looks.sound.base;
     held = distinct held 0 s.items s.first rising (λ m. omega (arith, all_same m, distinct_times (held_in s) 0 s.items s.first rising looks.sound.held m));
     opened = rise-without 0 s.txn n s.opened looks.sound.opened;
     staged = journal;
   };
-  left = left_same known (held_in s) held p.live s.items (λ m. among_same (held_in s) held m (all_same m)) looks.left;
-  opened = opened_gone known p s t n looks has;
+  left = left_same settled (held_in s) held p.live s.items (λ m. among_same (held_in s) held m (all_same m)) looks.left;
+  opened = opened_gone settled known p s t n looks has;
   as_many = omega (arith, many, looks.as_many, length-without n s.opened e is);
   open_puts = omega (arith, looks.open_puts, puts, size-without n s.opened e is);
   staged = look;
@@ -118,24 +118,24 @@ puts_in-staged (Takes []) = refl
 puts_in-staged (Takes (n ∷ numbers)) = omega arith
 
 -- a transaction is staged
-pub stage_looks : (known : Known) (p : Places) (s : State) (t : Table) (n : ℕ) (l : Listed) (now : List Listed) (open_puts : ℕ) → Looks known p s → HasBoth known l (entry_of n s.opened) → HasAt n None p.opened t → length t + 1 ≡ length p.opened
-    → now ≡ p.staged ++ staged_of l → open_puts + length (puts_of l) ≡ p.open_puts → Looks known (record p { opened = t; staged = now; open_puts = open_puts }) (stage n (entry_of n s.opened) s)
-stage_looks known p s t n l now open_puts looks both has many staged puts =
-    subst (λ (x : Option Entry). Looks known (record p { opened = t; staged = now; open_puts = open_puts }) (stage n x s)) (sym both.e_is)
+pub stage_looks : (settled known : Known) (p : Places) (s : State) (t : Table) (n : ℕ) (l : Listed) (now : List Listed) (open_puts : ℕ) → Looks settled known p s → HasBoth known l (entry_of n s.opened) → HasAt n None p.opened t → length t + 1 ≡ length p.opened
+    → now ≡ p.staged ++ staged_of l → open_puts + length (puts_of l) ≡ p.open_puts → Looks settled known (record p { opened = t; staged = now; open_puts = open_puts }) (stage n (entry_of n s.opened) s)
+stage_looks settled known p s t n l now open_puts looks both has many staged puts =
+    subst (λ (x : Option Entry). Looks settled known (record p { opened = t; staged = now; open_puts = open_puts }) (stage n x s)) (sym both.e_is)
     (by_entry l both.own both.e_is both.look staged (omega (arith, puts, puts_size known l both.own both.look)))
   where
     Goal : Entry → Type 0
-    Goal e = Looks known (record p { opened = t; staged = now; open_puts = open_puts }) (stage n (Some e) s)
+    Goal e = Looks settled known (record p { opened = t; staged = now; open_puts = open_puts }) (stage n (Some e) s)
 
-    closed : (e : Entry) → entry_of n s.opened ≡ Some e → now ≡ p.staged ++ [] → ((m : ℕ) → entry_times m e ≡ 0) → open_puts + size_put e ≡ p.open_puts → Looks known (record p { opened = t; staged = now; open_puts = open_puts }) (close n s)
+    closed : (e : Entry) → entry_of n s.opened ≡ Some e → now ≡ p.staged ++ [] → ((m : ℕ) → entry_times m e ≡ 0) → open_puts + size_put e ≡ p.open_puts → Looks settled known (record p { opened = t; staged = now; open_puts = open_puts }) (close n s)
     closed e is same none size =
-        subst (λ (k : List Listed). Looks known (record p { opened = t; staged = k; open_puts = open_puts }) (close n s)) (sym (same ∙ append-nil p.staged))
-        (gone_looks known p s t n e p.staged s.staged open_puts looks is has many looks.staged looks.sound.staged (λ m. omega (arith, opened-without m n s.opened e is, none m)) size)
+        subst (λ (k : List Listed). Looks settled known (record p { opened = t; staged = k; open_puts = open_puts }) (close n s)) (sym (same ∙ append-nil p.staged))
+        (gone_looks settled known p s t n e p.staged s.staged open_puts looks is has many looks.staged looks.sound.staged (λ m. omega (arith, opened-without m n s.opened e is, none m)) size)
 
     kept : (x : Listed) (e : Entry) → entry_of n s.opened ≡ Some e → LooksListed known x e → now ≡ p.staged ++ x ∷ [] → IsNotEmpty e → open_puts + size_put e ≡ p.open_puts
-        → Looks known (record p { opened = t; staged = now; open_puts = open_puts }) (record s { opened = without_entry n s.opened; staged = s.staged ++ e ∷ [] })
+        → Looks settled known (record p { opened = t; staged = now; open_puts = open_puts }) (record s { opened = without_entry n s.opened; staged = s.staged ++ e ∷ [] })
     kept x e is look same some size =
-        gone_looks known p s t n e now (s.staged ++ e ∷ []) open_puts looks is has many
+        gone_looks settled known p s t n e now (s.staged ++ e ∷ []) open_puts looks is has many
         (subst (λ (k : List Listed). LookStaged known k (s.staged ++ e ∷ [])) (sym same) (staged_push known p.staged s.staged x e looks.staged look))
         (journal_push s.staged e looks.sound.staged some)
         (λ m. omega (arith, opened-without m n s.opened e is, times-push m s.staged (e ∷ []))) size
@@ -152,8 +152,8 @@ stage_looks known p s t n l now open_puts looks both has many staged puts =
     by_entry (Takes (k ∷ ks)) (entry.Takes []) is look same size = absurd (cc)
     by_entry (Takes (k ∷ ks)) (entry.Takes (j ∷ js)) is look same size = kept (Takes (k ∷ ks)) (entry.Takes (j ∷ js)) is look same (omega arith) size
 
-pub open_fits : (known : Known) (p : Places) (s : State) (n : ℕ) (l : Listed) → Looks known p s → HasBoth known l (entry_of n s.opened) → length (puts_of l) ≤ p.open_puts
-open_fits known p s n l looks both = omega (arith, looks.open_puts, puts_size known l both.own both.look, size-without n s.opened both.own both.e_is)
+pub open_fits : (settled known : Known) (p : Places) (s : State) (n : ℕ) (l : Listed) → Looks settled known p s → HasBoth known l (entry_of n s.opened) → length (puts_of l) ≤ p.open_puts
+open_fits settled known p s n l looks both = omega (arith, looks.open_puts, puts_size known l both.own both.look, size-without n s.opened both.own both.e_is)
 
 pub open_size : (o : Option Open) (l : Listed) → option_map (λ (q : Open). q.listed) o ≡ Some l → puts_of_open o ≡ length (puts_of l)
 open_size None l is = absurd (cc)
@@ -176,10 +176,10 @@ one_more [] (Takes []) = omega arith
 one_more [] (Takes (n ∷ numbers)) = omega arith
 
 -- a transaction of puts is dropped
-pub drop_looks : (known : Known) (p : Places) (s : State) (t : Table) (n : ℕ) (l : Listed) (open_puts : ℕ) → Looks known p s → HasBoth known l (entry_of n s.opened) → is_puts l ≡ true → HasAt n None p.opened t → length t + 1 ≡ length p.opened
-    → open_puts + length (puts_of l) ≡ p.open_puts → Looks known (record p { opened = t; open_puts = open_puts }) (close n s)
-drop_looks known p s t n l open_puts looks both are has many puts =
-    gone_looks known p s t n both.own p.staged s.staged open_puts looks both.e_is has many looks.staged looks.sound.staged
+pub drop_looks : (settled known : Known) (p : Places) (s : State) (t : Table) (n : ℕ) (l : Listed) (open_puts : ℕ) → Looks settled known p s → HasBoth known l (entry_of n s.opened) → is_puts l ≡ true → HasAt n None p.opened t → length t + 1 ≡ length p.opened
+    → open_puts + length (puts_of l) ≡ p.open_puts → Looks settled known (record p { opened = t; open_puts = open_puts }) (close n s)
+drop_looks settled known p s t n l open_puts looks both are has many puts =
+    gone_looks settled known p s t n both.own p.staged s.staged open_puts looks both.e_is has many looks.staged looks.sound.staged
     (λ m. omega (arith, opened-without m n s.opened both.own both.e_is, none m l both.own are both.look))
     (omega (arith, puts, puts_size known l both.own both.look))
   where

@@ -74,9 +74,9 @@ taken_of known l e both are = by_both l both.own both.look are both.e_is
     by_both (Takes numbers) (entry.Puts events) look are' is = absurd look
     by_both (Takes numbers) (entry.Takes taken) look are' is = record { numbers = taken; taken = look; e_is = is }
 
-pub takes_live : (known : Known) (p : Places) (s : State) (n : ℕ) (l : Listed) → Looks known p s → HasTaken known l (entry_of n s.opened) → AreLive p.live (takes_of l)
-takes_live known p s n l looks has =
-    subst (λ (ns : List ℕ). AreLive p.live ns) (sym has.taken) (all_live known (held_in s) p.live s.items has.numbers looks.left (λ m. omega (
+pub takes_live : (settled known : Known) (p : Places) (s : State) (n : ℕ) (l : Listed) → Looks settled known p s → HasTaken known l (entry_of n s.opened) → AreLive p.live (takes_of l)
+takes_live settled known p s n l looks has =
+    subst (λ (ns : List ℕ). AreLive p.live ns) (sym has.taken) (all_live settled (held_in s) p.live s.items has.numbers looks.left (λ m. omega (
       arith,
       distinct_times (held_in s) 0 s.items s.first (rising_base (base_of s) looks.sound.base) looks.sound.held m,
       times-append m (taken_numbers (entries s.opened)) (taken_numbers s.staged),
@@ -84,10 +84,10 @@ takes_live known p s n l looks has =
       times-take m has.numbers,
     )))
 
-pub drop_takes_looks : (known : Known) (p : Places) (s : State) (t : Table) (n : ℕ) (l : Listed) → Looks known p s → HasTaken known l (entry_of n s.opened) → HasAt n None p.opened t → length t + 1 ≡ length p.opened
-    → Looks known (record p { live = freed (takes_of l) p.live; opened = t }) (close n s)
-drop_takes_looks known p s t n l looks has gone many =
-    subst (λ (ns : List ℕ). Looks known (record p { live = freed ns p.live; opened = t }) (close n s)) (sym has.taken) looks_so
+pub drop_takes_looks : (settled known : Known) (p : Places) (s : State) (t : Table) (n : ℕ) (l : Listed) → Looks settled known p s → HasTaken known l (entry_of n s.opened) → HasAt n None p.opened t → length t + 1 ≡ length p.opened
+    → Looks settled known (record p { live = freed (takes_of l) p.live; opened = t }) (close n s)
+drop_takes_looks settled known p s t n l looks has gone many =
+    subst (λ (ns : List ℕ). Looks settled known (record p { live = freed ns p.live; opened = t }) (close n s)) (sym has.taken) looks_so
   where
     rest : List ℕ
     rest = taken_numbers (entries (without_entry n s.opened)) ++ taken_numbers s.staged
@@ -109,7 +109,7 @@ drop_takes_looks known p s t n l looks has gone many =
     within : (m : ℕ) → times m (held_in s) ≤ number_of m s.items
     within m = distinct_times (held_in s) 0 s.items s.first rising looks.sound.held m
 
-    looks_so : Looks known (record p { live = freed has.numbers p.live; opened = t }) (close n s)
+    looks_so : Looks settled known (record p { live = freed has.numbers p.live; opened = t }) (close n s)
     looks_so = record {
       sound = record {
         base = looks.sound.base;
@@ -117,9 +117,9 @@ drop_takes_looks known p s t n l looks has gone many =
         opened = rise-without 0 s.txn n s.opened looks.sound.opened;
         staged = looks.sound.staged;
       };
-      left = left_freed known has.numbers rest p.live s.items (λ m. omega (arith, whole m, within m, number_once m 0 s.items s.first rising))
-          (left_same known (held_in s) (has.numbers ++ rest) p.live s.items (λ m. among_same (held_in s) (has.numbers ++ rest) m (whole m)) looks.left);
-      opened = opened_gone known p s t n looks gone;
+      left = left_freed settled has.numbers rest p.live s.items (λ m. omega (arith, whole m, within m, number_once m 0 s.items s.first rising))
+          (left_same settled (held_in s) (has.numbers ++ rest) p.live s.items (λ m. among_same (held_in s) (has.numbers ++ rest) m (whole m)) looks.left);
+      opened = opened_gone settled known p s t n looks gone;
       as_many = omega (arith, many, looks.as_many, length-without n s.opened (entry.Takes has.numbers) has.e_is);
       open_puts = omega (arith, looks.open_puts, size-without n s.opened (entry.Takes has.numbers) has.e_is);
       staged = looks.staged;

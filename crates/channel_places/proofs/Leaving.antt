@@ -130,10 +130,10 @@ left-append known held (l ∷ a) b [] ys look more = absurd look
 left-append known held (l ∷ a) b (x ∷ xs) ys look more = (look.0, left-append known held a b xs ys look.1 more)
 
 -- the staged takes are of events that are left, none twice
-pub staged_apart : (known : Known) (p : Places) (s : State) → Looks known p s → AreApart p.live (takes_in p.staged)
-staged_apart known p s looks =
+pub staged_apart : (settled known : Known) (p : Places) (s : State) → Looks settled known p s → AreApart p.live (takes_in p.staged)
+staged_apart settled known p s looks =
     subst (λ (ns : List ℕ). AreApart p.live ns) (sym (takes_same known p.staged s.staged looks.staged))
-    (all_apart known (held_in s) p.live s.items (taken_numbers s.staged) looks.left (λ m. omega (arith, within m, split m)) (λ m. omega (arith, within m, split m, number_once m 0 s.items s.first rising)))
+    (all_apart settled (held_in s) p.live s.items (taken_numbers s.staged) looks.left (λ m. omega (arith, within m, split m)) (λ m. omega (arith, within m, split m, number_once m 0 s.items s.first rising)))
   where
     rising : Rising 0 s.items s.first
     rising = rising_base (base_of s) looks.sound.base
@@ -154,7 +154,7 @@ settled_places p = record {
   numbers = record p.numbers { first = p.numbers.first + length (pointers_in p.staged); frame = p.numbers.frame + one_if_staged p.staged };
 }
 
-pub settle_looks : (known : Known) (p : Places) (s : State) → Looks known p s → Looks known (settled_places p) (settle s)
+pub settle_looks : (known : Known) (p : Places) (s : State) → Looks known known p s → Looks known known (settled_places p) (settle s)
 settle_looks known p s looks = record {
   sound = record {
     base = base_rising (record { items = items; first = s.first + length puts }) (rising-left (base_of s) s.staged rising);
@@ -243,8 +243,8 @@ settle_looks known p s looks = record {
         ∙ (ap (λ (k : ℕ). record (numbers_of s) { first = s.first + k; frame = s.frame + one_if_staged p.staged }) many
         ∙ ap (λ (k : ℕ). record (numbers_of s) { first = s.first + length puts; frame = k }) (frame_same known p.staged s.staged s.frame looks.staged))
 
-pub replaced : (known : Known) (p q : Places) (s : State) → q ≡ p → Looks known p s → Looks known q s
-replaced known p q s same looks = subst (λ (r : Places). Looks known r s) (sym same) looks
+pub replaced : (settled known : Known) (p q : Places) (s : State) → q ≡ p → Looks settled known p s → Looks settled known q s
+replaced settled known p q s same looks = subst (λ (r : Places). Looks settled known r s) (sym same) looks
 
 -- the places that the parts of them are
 pub settled_same : (p : Places) (counted removed added cleared : List Listed) (stay all : List Left) (first one : ℕ) → counted ≡ p.staged → removed ≡ p.staged → added ≡ p.staged → cleared ≡ [] → stay ≡ lacking (takes_in removed) p.live

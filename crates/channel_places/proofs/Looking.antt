@@ -40,9 +40,9 @@ staged_length known (Puts pointers ∷ listed) (entry.Takes numbers ∷ staged) 
 staged_length known (Takes numbers ∷ listed) (entry.Puts events ∷ staged) look = absurd look.0
 staged_length known (Takes numbers ∷ listed) (entry.Takes taken ∷ staged) look = omega (arith, staged_length known listed staged look.1)
 
-pub count_is : (known : Known) (p : Places) (s : State) → Looks known p s → count_in p ≡ count s
-count_is known p s looks =
-    omega (arith, left_length known (held_in s) p.live s.items looks.left, looks.open_puts, staged_length known p.staged s.staged looks.staged)
+pub count_is : (settled known : Known) (p : Places) (s : State) → Looks settled known p s → count_in p ≡ count s
+count_is settled known p s looks =
+    omega (arith, left_length settled (held_in s) p.live s.items looks.left, looks.open_puts, staged_length known p.staged s.staged looks.staged)
 
 -- what is open
 
@@ -75,8 +75,8 @@ none_open known room (Some o) (Some e) look none = absurd (differ none)
     differ : Some e ≡ None → ⊥
     differ same = cc
 
-pub next_not_open : (known : Known) (p : Places) (s : State) → Looks known p s → open_at p.opened p.numbers.txn ≡ None
-next_not_open known p s looks =
+pub next_not_open : (settled known : Known) (p : Places) (s : State) → Looks settled known p s → open_at p.opened p.numbers.txn ≡ None
+next_not_open settled known p s looks =
     let same : p.numbers.txn ≡ s.txn = ap (λ (n : Numbers). n.txn) looks.numbers in
     subst (λ (n : ℕ). open_at p.opened n ≡ None) (sym same)
     (none_open known s.rules.limits.txn_capacity (open_at p.opened s.txn) (entry_of s.txn s.opened) (looks.opened s.txn) (none_numbered s.txn s.opened (rise-all 0 s.txn s.opened looks.sound.opened)))
@@ -94,16 +94,16 @@ begun_listed known true room = (tt, refl)
 begun_listed known false room = (refl, refl)
 
 -- a transaction more
-pub begun_looks : (known : Known) (p : Places) (s : State) (t : Table) (puts : Bool) (room : ℕ) → Looks known p s → room ≡ p.numbers.rules.limits.txn_capacity → HasAt p.numbers.txn (Some (begun puts room)) p.opened t → length t ≡ length p.opened + 1
-    → Looks known (record p { opened = t; numbers = record p.numbers { txn = p.numbers.txn + 1 } }) (record s { opened = s.opened ++ (s.txn, no_entry puts) ∷ []; txn = s.txn + 1 })
-begun_looks known p s t puts room looks room_is has many = record {
+pub begun_looks : (settled known : Known) (p : Places) (s : State) (t : Table) (puts : Bool) (room : ℕ) → Looks settled known p s → room ≡ p.numbers.rules.limits.txn_capacity → HasAt p.numbers.txn (Some (begun puts room)) p.opened t → length t ≡ length p.opened + 1
+    → Looks settled known (record p { opened = t; numbers = record p.numbers { txn = p.numbers.txn + 1 } }) (record s { opened = s.opened ++ (s.txn, no_entry puts) ∷ []; txn = s.txn + 1 })
+begun_looks settled known p s t puts room looks room_is has many = record {
   sound = record {
     base = looks.sound.base;
     held = subst (λ (h : List ℕ). AreDistinctOf s.items h) (sym held) looks.sound.held;
     opened = rise-push 0 s.txn (no_entry puts) s.opened looks.sound.opened;
     staged = looks.sound.staged;
   };
-  left = subst (λ (h : List ℕ). LookLeft known h p.live s.items) (sym held) looks.left;
+  left = subst (λ (h : List ℕ). LookLeft settled h p.live s.items) (sym held) looks.left;
   opened = each;
   as_many = omega (arith, many, looks.as_many, length-append s.opened ((s.txn, no_entry puts) ∷ []));
   open_puts = looks.open_puts ∙ sym (ap (λ (l : List Content). length l) puts_same);
@@ -150,8 +150,8 @@ begun_looks known p s t puts room looks room_is has many = record {
             let at : open_at t n ≡ open_at p.opened n = has.others n (λ same. isnt.1 (same ∙ txn)) in
             rw (at, entry_of-other n s.txn (no_entry puts) s.opened isnt.1) (looks.opened n)
 
-pub restaged : (known : Known) (p : Places) (s : State) (staged : List Listed) → staged ≡ p.staged → Looks known p s → Looks known (record p { staged = staged }) s
-restaged known p s staged same looks = subst (λ (l : List Listed). Looks known (record p { staged = l }) s) (sym same) looks
+pub restaged : (settled known : Known) (p : Places) (s : State) (staged : List Listed) → staged ≡ p.staged → Looks settled known p s → Looks settled known (record p { staged = staged }) s
+restaged settled known p s staged same looks = subst (λ (l : List Listed). Looks settled known (record p { staged = l }) s) (sym same) looks
 
 -- within their room
 
@@ -167,8 +167,8 @@ rooms_stay old t n o has here each m = from (eqb_tells m n)
     from (inr other) = subst (λ (q : Option Open). IsWithinRoom q) (sym (has.others m other.1)) (each m)
 
 -- a channel that is opened
-pub opened_looks : (known : Known) (p : Places) (o : Opening) → p.opened ≡ [] → p.staged ≡ [] → p.open_puts ≡ 0 → p.numbers ≡ numbers_of (opening o) → LookLeft known [] p.live o.base.items → IsBase o.base → Looks known p (opening o)
-opened_looks known p o none_open none_staged none_put numbers left base = record {
+pub opened_looks : (settled known : Known) (p : Places) (o : Opening) → p.opened ≡ [] → p.staged ≡ [] → p.open_puts ≡ 0 → p.numbers ≡ numbers_of (opening o) → LookLeft settled [] p.live o.base.items → IsBase o.base → Looks settled known p (opening o)
+opened_looks settled known p o none_open none_staged none_put numbers left base = record {
   sound = record { base = base; held = tt; opened = omega arith; staged = tt };
   left = left;
   opened = λ txn. subst (λ (t : Table). LooksOpen known o.rules.limits.txn_capacity (open_at t txn) None) (sym none_open) tt;
@@ -178,11 +178,11 @@ opened_looks known p o none_open none_staged none_put numbers left base = record
   numbers = numbers;
 }
 
-pub size_is : (known : Known) (p : Places) (s : State) → Looks known p s → length p.live ≡ length s.items
-size_is known p s looks = left_length known (held_in s) p.live s.items looks.left
+pub size_is : (settled known : Known) (p : Places) (s : State) → Looks settled known p s → length p.live ≡ length s.items
+size_is settled known p s looks = left_length settled (held_in s) p.live s.items looks.left
 
-pub broken_looks : (known : Known) (p : Places) (s : State) → Looks known p s → Looks known (record p { numbers = record p.numbers { broken = true } }) (broken_state s)
-broken_looks known p s looks = record {
+pub broken_looks : (settled known : Known) (p : Places) (s : State) → Looks settled known p s → Looks settled known (record p { numbers = record p.numbers { broken = true } }) (broken_state s)
+broken_looks settled known p s looks = record {
   sound = record { base = looks.sound.base; held = looks.sound.held; opened = looks.sound.opened; staged = looks.sound.staged };
   left = looks.left;
   opened = looks.opened;

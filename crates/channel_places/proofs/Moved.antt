@@ -8,13 +8,13 @@ use Rattle.event_core.specs.Content.{Content}
 use Rattle.event_core.specs.declared.journal.Entry.{Entry}
 use Rattle.event_core.specs.declared.journal.Entry.TheVariants as entry
 use Rattle.record_form.specs.declared.record.Pointer.{Pointer}
-use Rattle.event_ring.specs.Slots.{Left}
-use Rattle.open_table.specs.Tables.{MayMove, Listed, Open, Puts, Table, Takes, listed_of, moved, moved_open, moved_pointer, open_at, puts_of, size}
+use Rattle.open_table.specs.Tables.{IsOf, Listed, MayAdd, MayMove, Open, Puts, Table, Takes, listed_of, moved, moved_open, moved_pointer, open_at, puts_of, size}
+use Rattle.open_table.specs.declared.opened.Item.{Item}
+use Rattle.open_table.specs.declared.opened.Item.TheVariants.{Put, Take}
 use Rattle.open_table.specs.declared.opened.Ended.{Ended}
 use Rattle.channel_face.specs.Machine.{State, entry_of}
 use Rattle.channel_places.specs.Ends.{one_if_staged}
-use Rattle.channel_places.specs.Looks.{IsWithinRoom, Known, LookLeft, LookPuts, LookStaged, Looks, LooksListed, LooksOpen, Moves, Places, StandsIn, held_in, puts_in}
-use Rattle.channel_places.proofs.Opening.{left_grows}
+use Rattle.channel_places.specs.Looks.{IsWithinRoom, Known, LookPuts, LookStaged, Looks, LooksListed, LooksOpen, Moves, Places, StandsIn, puts_in}
 
 -- staged transactions, one after another
 
@@ -70,11 +70,11 @@ staged_moved known more file at to_file to_at (l ∷ listed) [] moves look = abs
 staged_moved known more file at to_file to_at (l ∷ listed) (e ∷ staged) moves look =
     (listed_moved known more file at to_file to_at l e moves look.0, staged_moved known more file at to_file to_at listed staged moves look.1)
 
-pub moved_looks : (known more : Known) (file at to_file to_at : ℕ) (p : Places) (s : State) (t : Table) (staged : List Listed) → Looks known p s → Moves file at to_file to_at known more → LookLeft more (held_in s) p.live s.items
-    → ((n : ℕ) → open_at t n ≡ option_map (moved_open file at to_file to_at) (open_at p.opened n)) → length t ≡ length p.opened → staged ≡ map (moved file at to_file to_at) p.staged → Looks more (record p { opened = t; staged = staged }) s
-moved_looks known more file at to_file to_at p s t staged looks moves left opened many staged_is = record {
+pub moved_looks : (settled known more : Known) (file at to_file to_at : ℕ) (p : Places) (s : State) (t : Table) (staged : List Listed) → Looks settled known p s → Moves file at to_file to_at known more
+    → ((n : ℕ) → open_at t n ≡ option_map (moved_open file at to_file to_at) (open_at p.opened n)) → length t ≡ length p.opened → staged ≡ map (moved file at to_file to_at) p.staged → Looks settled more (record p { opened = t; staged = staged }) s
+moved_looks settled known more file at to_file to_at p s t staged looks moves opened many staged_is = record {
   sound = looks.sound;
-  left = left;
+  left = looks.left;
   opened = λ n. subst (λ (o : Option Open). LooksOpen more s.rules.limits.txn_capacity o (entry_of n s.opened)) (sym (opened n)) (open_moved known more file at to_file to_at s.rules.limits.txn_capacity (open_at p.opened n) (entry_of n s.opened) moves (looks.opened n));
   as_many = many ∙ looks.as_many;
   open_puts = looks.open_puts;
@@ -96,31 +96,17 @@ pub staged_may : (file at to_at : ℕ) (listed : List Listed) → to_at ≤ at �
 staged_may file at to_at [] low = tt
 staged_may file at to_at (l ∷ listed) low = (listed_may file at to_at l low, staged_may file at to_at listed low)
 
--- what is known where they were, and where they are
-abbrev pub both_known : ℕ → ℕ → ℕ → ℕ → Known → Known
-both_known file at to_file to_at known = map (λ (k : Pointer × Content). (moved_pointer file at to_file to_at k.0, k.1)) known ++ known
-
-stands_front : (a b : Known) (p : Pointer) (event : Content) → StandsIn a p event → StandsIn (a ++ b) p event
-stands_front [] b p event stands = absurd stands
-stands_front (k ∷ a) b p event (inl here) = inl here
-stands_front (k ∷ a) b p event (inr there) = inr (stands_front a b p event there)
-
-stands_behind : (a b : Known) (p : Pointer) (event : Content) → StandsIn b p event → StandsIn (a ++ b) p event
-stands_behind [] b p event stands = stands
-stands_behind (k ∷ a) b p event stands = inr (stands_behind a b p event stands)
+-- what is known, where each pointer was moved
+abbrev pub known_moved : ℕ → ℕ → ℕ → ℕ → Known → Known
+known_moved file at to_file to_at known = map (λ (k : Pointer × Content). (moved_pointer file at to_file to_at k.0, k.1)) known
 
 stands_moved : (f : Pointer → Pointer) (known : Known) (p : Pointer) (event : Content) → StandsIn known p event → StandsIn (map (λ (k : Pointer × Content). (f k.0, k.1)) known) (f p) event
 stands_moved f [] p event stands = absurd stands
 stands_moved f (k ∷ known) p event (inl here) = inl (ap (λ (k : Pointer × Content). (f k.0, k.1)) here)
 stands_moved f (k ∷ known) p event (inr there) = inr (stands_moved f known p event there)
 
-pub moves_both : (file at to_file to_at : ℕ) (known : Known) → Moves file at to_file to_at known (both_known file at to_file to_at known)
-moves_both file at to_file to_at known p event stands =
-    stands_front (map (λ (k : Pointer × Content). (moved_pointer file at to_file to_at k.0, k.1)) known) known (moved_pointer file at to_file to_at p) event (stands_moved (moved_pointer file at to_file to_at) known p event stands)
-
-pub left_both : (file at to_file to_at : ℕ) (known : Known) (held : List ℕ) (live : List Left) (items : List (ℕ × Content)) → LookLeft known held live items → LookLeft (both_known file at to_file to_at known) held live items
-left_both file at to_file to_at known held live items look =
-    left_grows known (both_known file at to_file to_at known) held live items (λ p event stands. stands_behind (map (λ (k : Pointer × Content). (moved_pointer file at to_file to_at k.0, k.1)) known) known p event stands) look
+pub all_moved : (file at to_file to_at : ℕ) (known : Known) → Moves file at to_file to_at known (known_moved file at to_file to_at known)
+all_moved file at to_file to_at known p event stands = stands_moved (moved_pointer file at to_file to_at) known p event stands
 
 -- counts stay
 
@@ -151,3 +137,15 @@ one_if-moved file at to_file to_at (l ∷ staged) = refl
 pub length-moved : (file at to_file to_at : ℕ) (staged : List Listed) → length (map (moved file at to_file to_at) staged) ≡ length staged
 length-moved file at to_file to_at [] = refl
 length-moved file at to_file to_at (l ∷ staged) = omega (arith, length-moved file at to_file to_at staged)
+
+-- a transaction has room for one more as before
+
+is_of_moved : (file at to_file to_at : ℕ) (item : Item) (l : Listed) → IsOf item l → IsOf item (moved file at to_file to_at l)
+is_of_moved file at to_file to_at (Put pointer) (Puts pointers) is = tt
+is_of_moved file at to_file to_at (Put pointer) (Takes numbers) is = absurd is
+is_of_moved file at to_file to_at (Take number) (Puts pointers) is = absurd is
+is_of_moved file at to_file to_at (Take number) (Takes numbers) is = tt
+
+pub may_moved : (file at to_file to_at : ℕ) (item : Item) (o : Option Open) → MayAdd item o → MayAdd item (option_map (moved_open file at to_file to_at) o)
+may_moved file at to_file to_at item None may = absurd may
+may_moved file at to_file to_at item (Some o) may = (is_of_moved file at to_file to_at item o.listed may.0, omega (arith, may.1, moved_size file at to_file to_at o.listed))

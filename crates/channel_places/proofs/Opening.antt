@@ -9,7 +9,7 @@ use Rattle.record_form.specs.declared.record.Pointer.{Pointer}
 use Rattle.open_table.specs.Tables.{HasAt, Listed, Open, Puts, Table, Takes, open_at}
 use Rattle.channel_face.specs.Machine.{State, entries, entry_of, with_entry, without_entry}
 use Rattle.channel_face.proofs.Opened.{AreNumbered, Opened, entry_of-with}
-use Rattle.channel_places.specs.Looks.{Known, LookLeft, LookPuts, LookStaged, Looks, LooksListed, LooksOpen, OpenRise, Places, StandsIn}
+use Rattle.channel_places.specs.Looks.{Known, LookLeft, LookPuts, LookStaged, Looks, LooksListed, LooksOpen, OpenRise, Places, StandsIn, held_in}
 use Rattle.event_ring.specs.Slots.{Left}
 
 -- numbers of open transactions rise
@@ -196,10 +196,31 @@ left_grows known more held [] (x ∷ items) grows look = absurd look
 left_grows known more held (l ∷ live) [] grows look = absurd look
 left_grows known more held (l ∷ live) (x ∷ items) grows look = ((look.0.0, look.0.1, grows l.pointer x.1 look.0.2), left_grows known more held live items grows look.1)
 
+pub grows_front : (a b : Known) → Grows a (a ++ b)
+grows_front [] b p event stands = absurd stands
+grows_front (k ∷ a) b p event (inl here) = inl here
+grows_front (k ∷ a) b p event (inr there) = inr (grows_front a b p event there)
+
+pub grows_behind : (a b : Known) → Grows b (a ++ b)
+grows_behind [] b p event stands = stands
+grows_behind (k ∷ a) b p event stands = inr (grows_behind a b p event stands)
+
+-- what is settled and what is known may both be more
+pub looks_grow : (settled known all : Known) (p : Places) (s : State) → Grows settled all → Grows known all → Looks settled known p s → Looks all all p s
+looks_grow settled known all p s first second looks = record {
+  sound = looks.sound;
+  left = left_grows settled all (held_in s) p.live s.items first looks.left;
+  opened = λ n. open_grows known all s.rules.limits.txn_capacity (open_at p.opened n) (entry_of n s.opened) second (looks.opened n);
+  as_many = looks.as_many;
+  open_puts = looks.open_puts;
+  staged = staged_grows known all p.staged s.staged second looks.staged;
+  numbers = looks.numbers;
+}
+
 -- the open transactions, of which one has something else
-pub opened_with : (known more : Known) (p : Places) (s : State) (t : Table) (n : ℕ) (o : Open) (old new : Entry) → Looks known p s → Grows known more → entry_of n s.opened ≡ Some old → HasAt n (Some o) p.opened t
+pub opened_with : (settled known more : Known) (p : Places) (s : State) (t : Table) (n : ℕ) (o : Open) (old new : Entry) → Looks settled known p s → Grows known more → entry_of n s.opened ≡ Some old → HasAt n (Some o) p.opened t
     → LooksListed more o.listed new → o.room ≡ s.rules.limits.txn_capacity → (m : ℕ) → LooksOpen more s.rules.limits.txn_capacity (open_at t m) (entry_of m (with_entry n new s.opened))
-opened_with known more p s t n o old new looks grows is has listed room m = from (eqb_tells m n)
+opened_with settled known more p s t n o old new looks grows is has listed room m = from (eqb_tells m n)
   where
     cap : ℕ
     cap = s.rules.limits.txn_capacity

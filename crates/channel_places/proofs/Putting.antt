@@ -17,7 +17,7 @@ use Rattle.channel_face.specs.declared.replies.PutRefused.TheVariants as PutNo
 use Rattle.channel_face.proofs.Opened.{puts_of-from}
 use Rattle.channel_places.specs.Looks.{IsWithinRoom, Known, LookLeft, LookPuts, Looks, LooksOpen, Numbers, Places, StandsIn, held_in}
 use Rattle.channel_places.proofs.Looking.{puts_length}
-use Rattle.channel_places.proofs.Opening.{Grows, left_grows, length-with, opened_with, puts_grow, rise-with, size-with, staged_grows, taken-with_puts}
+use Rattle.channel_places.proofs.Opening.{Grows, length-with, opened_with, puts_grow, rise-with, size-with, staged_grows, taken-with_puts}
 
 -- The puts of an open transaction, by pointers and by events.
 pub record HasPuts (known : Known) (room : ℕ) (o : Option Open) (e : Option Entry) : Type 0 where
@@ -50,8 +50,8 @@ puts_at known room (Some o) (Some (entry.Takes numbers)) look is = by_listed o.l
     by_listed (Puts pointers) r listed has = absurd has.0
     by_listed (Takes ns) r listed has = absurd (differ o.listed ns is listed)
 
-pub open_puts : (known : Known) (p : Places) (s : State) (n : ℕ) → Looks known p s → is_open true (open_at p.opened n) ≡ true → HasPuts known s.rules.limits.txn_capacity (open_at p.opened n) (entry_of n s.opened)
-open_puts known p s n looks is = puts_at known s.rules.limits.txn_capacity (open_at p.opened n) (entry_of n s.opened) (looks.opened n) is
+pub open_puts : (settled known : Known) (p : Places) (s : State) (n : ℕ) → Looks settled known p s → is_open true (open_at p.opened n) ≡ true → HasPuts known s.rules.limits.txn_capacity (open_at p.opened n) (entry_of n s.opened)
+open_puts settled known p s n looks is = puts_at known s.rules.limits.txn_capacity (open_at p.opened n) (entry_of n s.opened) (looks.opened n) is
 
 pub may_put : (pointer : Pointer) (o : Option Open) → MayAdd (Put pointer) o → is_open true o ≡ true
 may_put pointer None may = absurd may
@@ -71,11 +71,11 @@ puts_push known (q ∷ pointers) [] p event look at = absurd look
 puts_push known (q ∷ pointers) (e ∷ events) p event look at = (look.0, puts_push known pointers events p event look.1 at)
 
 -- a put more of an open transaction
-pub put_looks : (known : Known) (p : Places) (s : State) (t : Table) (token : Token) (pointer : Pointer) (event : Content) → Looks known p s → token.life ≡ p.numbers.life → MayAdd (Put pointer) (open_at p.opened token.number)
+pub put_looks : (settled known : Known) (p : Places) (s : State) (t : Table) (token : Token) (pointer : Pointer) (event : Content) → Looks settled known p s → token.life ≡ p.numbers.life → MayAdd (Put pointer) (open_at p.opened token.number)
     → HasAt token.number (added (Put pointer) (open_at p.opened token.number)) p.opened t → length t ≡ length p.opened
-    → Looks ((pointer, event) ∷ known) (record p { opened = t; open_puts = p.open_puts + 1 }) (add_put s token.number (puts_of s token) event)
-put_looks known p s t token pointer event looks life may has many =
-    subst (λ (o : Option (List Content)). Looks more (record p { opened = t; open_puts = p.open_puts + 1 }) (add_put s n o event)) (sym its) looks_so
+    → Looks settled ((pointer, event) ∷ known) (record p { opened = t; open_puts = p.open_puts + 1 }) (add_put s token.number (puts_of s token) event)
+put_looks settled known p s t token pointer event looks life may has many =
+    subst (λ (o : Option (List Content)). Looks settled more (record p { opened = t; open_puts = p.open_puts + 1 }) (add_put s n o event)) (sym its) looks_so
   where
     n : ℕ
     n = token.number
@@ -84,7 +84,7 @@ put_looks known p s t token pointer event looks life may has many =
     more = (pointer, event) ∷ known
 
     h : HasPuts known s.rules.limits.txn_capacity (open_at p.opened n) (entry_of n s.opened)
-    h = open_puts known p s n looks (may_put pointer (open_at p.opened n) may)
+    h = open_puts settled known p s n looks (may_put pointer (open_at p.opened n) may)
 
     its : puts_of s token ≡ Some h.events
     its = puts_of-from s token h.events (life ∙ ap (λ (m : Numbers). m.life) looks.numbers) h.e_is
@@ -104,7 +104,7 @@ put_looks known p s t token pointer event looks life may has many =
     held : taken_numbers (entries (with_entry n new s.opened)) ++ taken_numbers s.staged ≡ held_in s
     held = ap (λ (l : List ℕ). l ++ taken_numbers s.staged) taken
 
-    looks_so : Looks more (record p { opened = t; open_puts = p.open_puts + 1 }) (record s { opened = with_entry n new s.opened })
+    looks_so : Looks settled more (record p { opened = t; open_puts = p.open_puts + 1 }) (record s { opened = with_entry n new s.opened })
     looks_so = record {
       sound = record {
         base = looks.sound.base;
@@ -112,8 +112,8 @@ put_looks known p s t token pointer event looks life may has many =
         opened = rise-with 0 s.txn n new s.opened looks.sound.opened;
         staged = looks.sound.staged;
       };
-      left = subst (λ (l : List ℕ). LookLeft more l p.live s.items) (sym held) (left_grows known more (held_in s) p.live s.items (grows_one known (pointer, event)) looks.left);
-      opened = opened_with known more p s t n now (entry.Puts h.events) new looks (grows_one known (pointer, event)) h.e_is at
+      left = subst (λ (l : List ℕ). LookLeft settled l p.live s.items) (sym held) looks.left;
+      opened = opened_with settled known more p s t n now (entry.Puts h.events) new looks (grows_one known (pointer, event)) h.e_is at
           (puts_push more h.pointers h.events pointer event (puts_grow known more h.pointers h.events (grows_one known (pointer, event)) h.look) (inl refl)) refl;
       as_many = many ∙ (looks.as_many ∙ sym (length-with n new s.opened));
       open_puts = omega (arith, looks.open_puts, size-with n s.opened (entry.Puts h.events) new h.e_is, length-append (h.events ++ event ∷ []) [], length-append h.events [], length-append h.events (event ∷ []));
@@ -122,10 +122,10 @@ put_looks known p s t token pointer event looks life may has many =
     }
 
 -- the puts that are found of a token
-pub puts_found : (known : Known) (p : Places) (s : State) (token : Token) (found : List Pointer) → Looks known p s → token.life ≡ p.numbers.life → is_open true (open_at p.opened token.number) ≡ true
+pub puts_found : (settled known : Known) (p : Places) (s : State) (token : Token) (found : List Pointer) → Looks settled known p s → token.life ≡ p.numbers.life → is_open true (open_at p.opened token.number) ≡ true
     → option_map (λ (o : Open). puts_listed o.listed) (open_at p.opened token.number) ≡ Some found → (events : List Content) × (puts_of s token ≡ Some events) × (length events ≡ length found)
-puts_found known p s token found looks life is got =
-    let h = open_puts known p s token.number looks is in
+puts_found settled known p s token found looks life is got =
+    let h = open_puts settled known p s token.number looks is in
     let same : h.pointers ≡ found = some_list h.pointers found (sym (ap (λ (o : Option Open). option_map (λ (o : Open). puts_listed o.listed) o) h.o_is) ∙ got) in
     (h.events, puts_of-from s token h.events (life ∙ ap (λ (m : Numbers). m.life) looks.numbers) h.e_is, omega (arith, puts_length known h.pointers h.events h.look, ap (λ (l : List Pointer). length l) same))
   where

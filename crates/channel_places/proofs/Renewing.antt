@@ -32,9 +32,9 @@ renewed p live t staged first txn ends = record {
   numbers = record { rules = p.numbers.rules; first = first; txn = txn; broken = false; life = p.numbers.life + 1; frame = 1; ends = ends };
 }
 
-pub renew_looks : (old known : Known) (p : Places) (s : State) (r : Reopened) (live : List Left) (t : Table) (staged : List Listed) (first txn : ℕ) (ends : List ℕ) → Looks old p s → t ≡ [] → staged ≡ [] → (kept_base s r.kept).first ≡ first → r.txn ≡ txn
-    → ends ≡ p.numbers.ends ++ p.numbers.frame ∷ [] → LookLeft known [] live (kept_base s r.kept).items → IsBase (kept_base s r.kept) → Looks known (renewed p live t staged first txn ends) (after_reopen s (Ok r))
-renew_looks old known p s r live t staged first txn ends looks none_open none_staged first_is txn_is ends_are left base = record {
+pub renew_looks : (before old settled known : Known) (p : Places) (s : State) (r : Reopened) (live : List Left) (t : Table) (staged : List Listed) (first txn : ℕ) (ends : List ℕ) → Looks before old p s → t ≡ [] → staged ≡ [] → (kept_base s r.kept).first ≡ first → r.txn ≡ txn
+    → ends ≡ p.numbers.ends ++ p.numbers.frame ∷ [] → LookLeft settled [] live (kept_base s r.kept).items → IsBase (kept_base s r.kept) → Looks settled known (renewed p live t staged first txn ends) (after_reopen s (Ok r))
+renew_looks before old settled known p s r live t staged first txn ends looks none_open none_staged first_is txn_is ends_are left base = record {
   sound = record { base = base; held = tt; opened = omega arith; staged = tt };
   left = left;
   opened = λ n. subst (λ (u : Table). LooksOpen known s.rules.limits.txn_capacity (open_at u n) None) (sym none_open) tt;

@@ -182,12 +182,12 @@ takes_from s token numbers life is = from (eqb_tells token.life s.life)
     from (inr stale) = absurd (stale.1 life)
 
 -- a take more of an open transaction
-pub take_looks : (known : Known) (p : Places) (s : State) (t : Table) (token : Token) (number : ℕ) → Looks known p s → token.life ≡ p.numbers.life → MayAdd (Take 0) (open_at p.opened token.number) → first_number p.live ≡ Some number
+pub take_looks : (settled known : Known) (p : Places) (s : State) (t : Table) (token : Token) (number : ℕ) → Looks settled known p s → token.life ≡ p.numbers.life → MayAdd (Take 0) (open_at p.opened token.number) → first_number p.live ≡ Some number
     → HasAt token.number (added (Take number) (open_at p.opened token.number)) p.opened t → length t ≡ length p.opened
-    → Looks known (record p { live = marked number true p.live; opened = t }) (add_take s token.number (takes_of s token) (free s))
-take_looks known p s t token number looks life may is_first has many =
-    subst (λ (o : Option (List ℕ)). Looks known (record p { live = marked number true p.live; opened = t }) (add_take s n o (free s))) (sym its)
-    (subst (λ (f : List (ℕ × Content)). Looks known (record p { live = marked number true p.live; opened = t }) (add_take s n (Some h.numbers) f)) (sym f.free_is) looks_so)
+    → Looks settled known (record p { live = marked number true p.live; opened = t }) (add_take s token.number (takes_of s token) (free s))
+take_looks settled known p s t token number looks life may is_first has many =
+    subst (λ (o : Option (List ℕ)). Looks settled known (record p { live = marked number true p.live; opened = t }) (add_take s n o (free s))) (sym its)
+    (subst (λ (f : List (ℕ × Content)). Looks settled known (record p { live = marked number true p.live; opened = t }) (add_take s n (Some h.numbers) f)) (sym f.free_is) looks_so)
   where
     n : ℕ
     n = token.number
@@ -198,8 +198,8 @@ take_looks known p s t token number looks life may is_first has many =
     its : takes_of s token ≡ Some h.numbers
     its = takes_from s token h.numbers (life ∙ ap (λ (m : Numbers). m.life) looks.numbers) h.e_is
 
-    f : IsFirst known (held_in s) p.live s.items number
-    f = some_free known (held_in s) p.live s.items number looks.left is_first
+    f : IsFirst settled (held_in s) p.live s.items number
+    f = some_free settled (held_in s) p.live s.items number looks.left is_first
 
     old : Entry
     old = entry.Takes h.numbers
@@ -240,7 +240,7 @@ take_looks known p s t token number looks life may is_first has many =
         from (inl same) = subst (λ (k : ℕ). times k held ≤ number_of k s.items) same.1 (omega (arith, more number, free_so.0, free_so.1, same_number number number refl))
         from (inr other) = omega (arith, more m, other_number number m other.1, distinct_times (held_in s) 0 s.items s.first rising looks.sound.held m)
 
-    looks_so : Looks known (record p { live = marked number true p.live; opened = t }) (record s { opened = with_entry n new s.opened })
+    looks_so : Looks settled known (record p { live = marked number true p.live; opened = t }) (record s { opened = with_entry n new s.opened })
     looks_so = record {
       sound = record {
         base = looks.sound.base;
@@ -248,8 +248,8 @@ take_looks known p s t token number looks life may is_first has many =
         opened = rise-with 0 s.txn n new s.opened looks.sound.opened;
         staged = looks.sound.staged;
       };
-      left = left_marked known (held_in s) held number p.live s.items (λ m. among_more (held_in s) held number m (more m)) looks.left;
-      opened = opened_with known known p s t n now old new looks (λ q event stands. stands) h.e_is at refl refl;
+      left = left_marked settled (held_in s) held number p.live s.items (λ m. among_more (held_in s) held number m (more m)) looks.left;
+      opened = opened_with settled known known p s t n now old new looks (λ q event stands. stands) h.e_is at refl refl;
       as_many = many ∙ (looks.as_many ∙ sym (length-with n new s.opened));
       open_puts = omega (arith, looks.open_puts, size-with n s.opened old new h.e_is);
       staged = looks.staged;
@@ -257,28 +257,28 @@ take_looks known p s t token number looks life may is_first has many =
     }
 
 -- nothing is free
-pub take_none : (known : Known) (p : Places) (s : State) (token : Token) → Looks known p s → token.life ≡ p.numbers.life → MayAdd (Take 0) (open_at p.opened token.number) → first_number p.live ≡ None → add_take s token.number (takes_of s token) (free s) ≡ s
-take_none known p s token looks life may none =
+pub take_none : (settled known : Known) (p : Places) (s : State) (token : Token) → Looks settled known p s → token.life ≡ p.numbers.life → MayAdd (Take 0) (open_at p.opened token.number) → first_number p.live ≡ None → add_take s token.number (takes_of s token) (free s) ≡ s
+take_none settled known p s token looks life may none =
     let h = takes_at known s.rules.limits.txn_capacity (open_at p.opened token.number) (entry_of token.number s.opened) (looks.opened token.number) may in
     let its = takes_from s token h.numbers (life ∙ ap (λ (m : Numbers). m.life) looks.numbers) h.e_is in
-    ap (λ (o : Option (List ℕ)). add_take s token.number o (free s)) its ∙ ap (λ (f : List (ℕ × Content)). add_take s token.number (Some h.numbers) f) (none_free known (held_in s) p.live s.items looks.left none)
+    ap (λ (o : Option (List ℕ)). add_take s token.number o (free s)) its ∙ ap (λ (f : List (ℕ × Content)). add_take s token.number (Some h.numbers) f) (none_free settled (held_in s) p.live s.items looks.left none)
 
 -- the first free event, with its pointer, or none
-pub first_of : (known : Known) (p : Places) (s : State) (number : ℕ) (pointer : Pointer) → Looks known p s → first_number p.live ≡ Some number → pointer_at number p.live ≡ Some pointer → IsFree known (Some (number, pointer)) (free s)
-first_of known p s number pointer looks is at =
-    let f = some_free known (held_in s) p.live s.items number looks.left is in
-    subst (λ (l : List (ℕ × Content)). IsFree known (Some (number, pointer)) l) (sym f.free_is)
-    (refl, pointer_free known (held_in s) p.live s.items 0 s.first number pointer f.event f.rest (rising_base (base_of s) looks.sound.base) looks.left f.free_is at)
+pub first_of : (settled known : Known) (p : Places) (s : State) (number : ℕ) (pointer : Pointer) → Looks settled known p s → first_number p.live ≡ Some number → pointer_at number p.live ≡ Some pointer → IsFree settled (Some (number, pointer)) (free s)
+first_of settled known p s number pointer looks is at =
+    let f = some_free settled (held_in s) p.live s.items number looks.left is in
+    subst (λ (l : List (ℕ × Content)). IsFree settled (Some (number, pointer)) l) (sym f.free_is)
+    (refl, pointer_free settled (held_in s) p.live s.items 0 s.first number pointer f.event f.rest (rising_base (base_of s) looks.sound.base) looks.left f.free_is at)
 
-pub none_of : (known : Known) (p : Places) (s : State) → Looks known p s → first_number p.live ≡ None → IsFree known None (free s)
-none_of known p s looks none = subst (λ (l : List (ℕ × Content)). IsFree known None l) (sym (none_free known (held_in s) p.live s.items looks.left none)) tt
+pub none_of : (settled known : Known) (p : Places) (s : State) → Looks settled known p s → first_number p.live ≡ None → IsFree settled None (free s)
+none_of settled known p s looks none = subst (λ (l : List (ℕ × Content)). IsFree settled None l) (sym (none_free settled (held_in s) p.live s.items looks.left none)) tt
 
 pub length-marked : (number : ℕ) (held : Bool) (live : List Left) → length (marked number held live) ≡ length live
 length-marked number held [] = refl
 length-marked number held (l ∷ live) = omega (arith, length-marked number held live)
 
-pub relive : (known : Known) (p : Places) (s : State) (live : List Left) (t : Table) (now : List Left) → now ≡ live → Looks known (record p { live = live; opened = t }) s → Looks known (record p { live = now; opened = t }) s
-relive known p s live t now same looks = subst (λ (l : List Left). Looks known (record p { live = l; opened = t }) s) (sym same) looks
+pub relive : (settled known : Known) (p : Places) (s : State) (live : List Left) (t : Table) (now : List Left) → now ≡ live → Looks settled known (record p { live = live; opened = t }) s → Looks settled known (record p { live = now; opened = t }) s
+relive settled known p s live t now same looks = subst (λ (l : List Left). Looks settled known (record p { live = l; opened = t }) s) (sym same) looks
 
 pub none_number : (live : Option ℕ) → ((n : ℕ) → live ≡ Some n → ⊥) → live ≡ None
 none_number None isnt = refl

@@ -94,10 +94,10 @@ pub record IsSound (s : State) : Type 0 where
   pub opened : OpenRise 0 s.opened s.txn
   pub staged : IsJournal s.staged
 
--- These places look like this state.
-pub record Looks (known : Known) (p : Places) (s : State) : Type 0 where
+-- These places look like this state: what is left stands at pointers that are settled, and what is open or staged at known ones.
+pub record Looks (settled known : Known) (p : Places) (s : State) : Type 0 where
   pub sound : IsSound s
-  pub left : LookLeft known (held_in s) p.live s.items
+  pub left : LookLeft settled (held_in s) p.live s.items
   pub opened : (txn : ℕ) → LooksOpen known s.rules.limits.txn_capacity (open_at p.opened txn) (entry_of txn s.opened)
   pub as_many : length p.opened ≡ length s.opened
   pub open_puts : p.open_puts ≡ length (put_events (entries s.opened))
@@ -115,7 +115,7 @@ with_begun puts s = record s { opened = s.opened ++ (s.txn, no_entry puts) ∷ [
 
 -- The machine may give this call this reply in each state that the old places look like, and the new ones look like the state after it.
 abbrev pub Steps : Places → Call → Places → Type 0
-Steps old call new = (known : Known) (s : State) → Looks known old s → Admits true s call × Looks known new (after s call)
+Steps old call new = (settled known : Known) (s : State) → Looks settled known old s → Admits true s call × Looks settled known new (after s call)
 
 abbrev pub puts_in : List Listed → ℕ
 puts_in [] = 0

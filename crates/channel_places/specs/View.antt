@@ -26,9 +26,10 @@ places_of h = record {
 
 -- They look like a state, the counts are right, and there is room for what takes no memory.
 pub record IsHeld (p : Places) (slots top open_txns staged_puts room : ℕ) : Type 0 where
+  pub settled : Known
   pub known : Known
   pub state : State
-  pub looks : Looks known p state
+  pub looks : Looks settled known p state
   pub open_are : open_txns ≡ length p.opened
   pub open_few : open_txns ≤ 1024
   pub lists : (txn : ℕ) → IsWithinRoom (open_at p.opened txn)

@@ -12,7 +12,7 @@ ghost use Rattle.channel_face.specs.Machine.{Reopened, State, BeginPut, BeginTak
 ghost use Rattle.open_table.specs.Tables.{MayAdd, is_open, open_at};
 ghost use Rattle.open_table.specs.declared.opened.Item.TheVariants.{Put, Take};
 ghost use Rattle.record_form.specs.declared.record.Pointer as pointers;
-ghost use Rattle.channel_places.specs.Looks.{IsFree, IsOpenFor, Known, LookLeft, Looks, MayPut, MayStage, MayTake, Moves, Steps, eventless, held_in, puts_in, puts_of_open, with_begun};
+ghost use Rattle.channel_places.specs.Looks.{IsFree, IsOpenFor, Known, LookLeft, Looks, MayPut, MayStage, MayTake, Moves, Steps, eventless, puts_in, puts_of_open, with_begun};
 
 use crate::moving::move_staged;
 use crate::settling::{append_staged, end_all, free_takes, one_if_staged, remove_staged};
@@ -80,9 +80,9 @@ impl Held {
         requires room { length ring.live ≤ limits.capacity }
         requires below { ring.top ≤ first }
         requires txn { 1 ≤ txn }
-        ensures { IfOk result (λ held. (known : Known) (o : Opening) → o.base.first ≡ first → o.txn ≡ txn
-            → o.rules ≡ record { kind = File; limits = limits } → LookLeft known [] ring.live o.base.items → IsBase o.base
-            → Looks known held (opening o)) }
+        ensures { IfOk result (λ held. (settled known : Known) (o : Opening) → o.base.first ≡ first → o.txn ≡ txn
+            → o.rules ≡ record { kind = File; limits = limits } → LookLeft settled [] ring.live o.base.items → IsBase o.base
+            → Looks settled known held (opening o)) }
     {
         let _ = limits.capacity;
         let Ok(table) = OpenTable::new(alloc) else {
@@ -107,14 +107,14 @@ impl Held {
 
     /// How many events are left.
     pub fn size(&self) -> usize
-        ensures { (known : Known) (s : State) → Looks known self.now s → result ≡ length s.items }
+        ensures { (settled known : Known) (s : State) → Looks settled known self.now s → result ≡ length s.items }
     {
         self.ring.len()
     }
 
     /// Why a transaction can't begin.
     pub fn begin_refusal(&self) -> Option<BeginRefused>
-        ensures refusal { (known : Known) (s : State) → Looks known self.now s → result ≡ face.begin_refusal s }
+        ensures refusal { (settled known : Known) (s : State) → Looks settled known self.now s → result ≡ face.begin_refusal s }
         ensures number { IfNone result (self.now.numbers.txn < 18_446_744_073_709_551_615) }
         ensures few { IfNone result (length self.now.opened < 1024) }
     {
@@ -136,8 +136,8 @@ impl Held {
     fn add_open(&mut self, puts: bool) -> Result<(), NoMemory>
         requires number { self.old.numbers.txn < 18_446_744_073_709_551_615 }
         requires few { length self.old.opened < 1024 }
-        ensures ok { OnOk result ((known : Known) (s : State) → Looks known self.old s
-            → Looks known self.new (with_begun puts s)) }
+        ensures ok { OnOk result ((settled known : Known) (s : State) → Looks settled known self.old s
+            → Looks settled known self.new (with_begun puts s)) }
         ensures err { OnErr result (self.new ≡ self.old) }
     {
         self.staged.reserve(self.open_txns + 1)?;
@@ -181,14 +181,14 @@ impl Held {
 
     // How many puts the token's transaction has, unless the token is stale.
     fn find_puts(&self, txn: &PutTxn) -> Option<usize>
-        ensures found { IfSome result (λ held. (known : Known) (s : State) → Looks known self.now s
+        ensures found { IfSome result (λ held. (settled known : Known) (s : State) → Looks settled known self.now s
             → (events : List Content) × (puts_of s txn.now ≡ Some events) × (length events ≡ held)) }
         ensures within { IfSome result (λ held. held ≤ self.now.numbers.rules.limits.txn_capacity) }
         ensures may { IfSome result (λ held. held < self.now.numbers.rules.limits.txn_capacity
             → IsOpenFor self.now txn.now (λ o. (pointer : pointers.Pointer) → MayAdd (Put pointer) o)) }
         ensures open { IfSome result (λ held. (is_open true (open_at self.now.opened txn.now.number) ≡ true)
             × (puts_of_open (open_at self.now.opened txn.now.number) ≡ held)) }
-        ensures stale { IfNone result ((known : Known) (s : State) → Looks known self.now s
+        ensures stale { IfNone result ((settled known : Known) (s : State) → Looks settled known self.now s
             → puts_of s txn.now ≡ None) }
     {
         if txn.life() != self.life || !self.table.has(txn.number(), true) {
@@ -199,14 +199,14 @@ impl Held {
 
     // How many takes the token's transaction has, unless the token is stale.
     fn find_takes(&self, txn: &TakeTxn) -> Option<usize>
-        ensures found { IfSome result (λ held. (known : Known) (s : State) → Looks known self.now s
+        ensures found { IfSome result (λ held. (settled known : Known) (s : State) → Looks settled known self.now s
             → (numbers : List ℕ) × (takes_of s txn.now ≡ Some numbers) × (length numbers ≡ held)) }
         ensures within { IfSome result (λ held. held ≤ self.now.numbers.rules.limits.txn_capacity) }
         ensures may { IfSome result (λ held. held < self.now.numbers.rules.limits.txn_capacity
             → IsOpenFor self.now txn.now (λ o. MayAdd (Take 0) o)) }
         ensures open { IfSome result (λ held. (is_open false (open_at self.now.opened txn.now.number) ≡ true)
             × (puts_of_open (open_at self.now.opened txn.now.number) ≡ 0)) }
-        ensures stale { IfNone result ((known : Known) (s : State) → Looks known self.now s
+        ensures stale { IfNone result ((settled known : Known) (s : State) → Looks settled known self.now s
             → takes_of s txn.now ≡ None) }
     {
         if txn.life() != self.life || !self.table.has(txn.number(), false) {
@@ -217,7 +217,7 @@ impl Held {
 
     /// Why an event of this size can't be put.
     pub fn put_refusal(&self, txn: &PutTxn, size: u64) -> Option<PutRefused>
-        ensures refusal { (known : Known) (s : State) (event : Content) → Looks known self.now s
+        ensures refusal { (settled known : Known) (s : State) (event : Content) → Looks settled known self.now s
             → contents.size event ≡ size → result ≡ face.put_refusal s (puts_of s txn.now) event }
         ensures may { (pointer : pointers.Pointer) → IfNone result (MayPut self.now txn.now pointer) }
     {
@@ -245,8 +245,8 @@ impl Held {
     /// Adds the pointer of an event to a transaction's puts. It takes no memory.
     pub fn put(&mut self, txn: &PutTxn, pointer: Pointer)
         requires { MayPut self.old txn.now pointer }
-        ensures { (known : Known) (s : State) (event : Content) → Looks known self.old s
-            → Looks ((pointer, event) ∷ known) self.new (add_put s txn.now.number (puts_of s txn.now) event) }
+        ensures { (settled known : Known) (s : State) (event : Content) → Looks settled known self.old s
+            → Looks settled ((pointer, event) ∷ known) self.new (add_put s txn.now.number (puts_of s txn.now) event) }
     {
         self.table.add(txn.number(), Item::Put(pointer));
         self.open_puts += 1;
@@ -254,7 +254,7 @@ impl Held {
 
     /// Why nothing can be taken.
     pub fn take_refusal(&self, txn: &TakeTxn) -> Option<TakeRefused>
-        ensures refusal { (known : Known) (s : State) → Looks known self.now s
+        ensures refusal { (settled known : Known) (s : State) → Looks settled known self.now s
             → result ≡ face.take_refusal s (takes_of s txn.now) }
         ensures may { IfNone result (MayTake self.now txn.now) }
     {
@@ -272,7 +272,7 @@ impl Held {
 
     /// The number of the first event that no transaction takes, and where it stands. It takes no memory.
     pub fn first_free(&self) -> Option<(u64, Pointer)>
-        ensures { (known : Known) (s : State) → Looks known self.now s → IsFree known result (free s) }
+        ensures { (settled known : Known) (s : State) → Looks settled known self.now s → IsFree settled result (free s) }
     {
         match self.ring.first_free() {
             Some(number) => match self.ring.pointer(number) {
@@ -286,8 +286,8 @@ impl Held {
     /// Adds the number of the first free event to a transaction's takes. It takes no memory.
     pub fn take(&mut self, txn: &TakeTxn)
         requires { MayTake self.old txn.now }
-        ensures { (known : Known) (s : State) → Looks known self.old s
-            → Looks known self.new (add_take s txn.now.number (takes_of s txn.now) (free s)) }
+        ensures { (settled known : Known) (s : State) → Looks settled known self.old s
+            → Looks settled known self.new (add_take s txn.now.number (takes_of s txn.now) (free s)) }
     {
         if let Some(number) = self.ring.first_free() {
             self.table.add(txn.number(), Item::Take(number));
@@ -297,7 +297,7 @@ impl Held {
 
     /// Why a transaction of puts can't be staged.
     pub fn stage_put_refusal(&self, txn: &PutTxn) -> Option<StageCause>
-        ensures refusal { (known : Known) (s : State) → Looks known self.now s
+        ensures refusal { (settled known : Known) (s : State) → Looks settled known self.now s
             → result ≡ face.stage_put_refusal s (puts_of s txn.now) }
         ensures may { IfNone result (MayStage self.now txn.now.number) }
     {
@@ -317,7 +317,7 @@ impl Held {
 
     /// Why a transaction of takes can't be staged.
     pub fn stage_take_refusal(&self, txn: &TakeTxn) -> Option<StageCause>
-        ensures refusal { (known : Known) (s : State) → Looks known self.now s
+        ensures refusal { (settled known : Known) (s : State) → Looks settled known self.now s
             → result ≡ face.stage_take_refusal s (takes_of s txn.now) }
         ensures may { IfNone result (MayStage self.now txn.now.number) }
     {
@@ -333,7 +333,7 @@ impl Held {
     // The number of the next event to be staged.
     fn next_number(&self) -> u64
         ensures number { result ≡ self.now.numbers.first + puts_in self.now.staged }
-        ensures next { (known : Known) (s : State) → Looks known self.now s → result ≡ face.next_number s }
+        ensures next { (settled known : Known) (s : State) → Looks settled known self.now s → result ≡ face.next_number s }
     {
         self.first + self.staged_puts as u64
     }
@@ -341,7 +341,7 @@ impl Held {
     // The ticket of a transaction of this size, to be staged now.
     fn ticket(&self, first: u64, held: usize) -> Ticket
         requires { held < 2 ^ 32 }
-        ensures { (known : Known) (s : State) → Looks known self.now s → result ≡ face.ticket s first held }
+        ensures { (settled known : Known) (s : State) → Looks settled known self.now s → result ≡ face.ticket s first held }
     {
         let frame = if held == 0 { 0 } else { self.frame };
         Ticket {
@@ -354,7 +354,7 @@ impl Held {
 
     /// How many puts the token's transaction has, or none where the token is stale.
     pub fn size_of_puts(&self, txn: &PutTxn) -> usize
-        ensures size { (known : Known) (s : State) → Looks known self.now s
+        ensures size { (settled known : Known) (s : State) → Looks settled known self.now s
             → result ≡ face.size_of_list (puts_of s txn.now) }
         ensures small { result < 2 ^ 32 }
     {
@@ -367,7 +367,7 @@ impl Held {
 
     /// How many takes the token's transaction has, or none where the token is stale.
     pub fn size_of_takes(&self, txn: &TakeTxn) -> usize
-        ensures size { (known : Known) (s : State) → Looks known self.now s
+        ensures size { (settled known : Known) (s : State) → Looks settled known self.now s
             → result ≡ face.size_of_list (takes_of s txn.now) }
         ensures small { result < 2 ^ 32 }
     {
@@ -380,7 +380,7 @@ impl Held {
 
     /// The ticket that a transaction of puts gets, if it is staged now.
     pub fn put_ticket(&self, txn: &PutTxn) -> Ticket
-        ensures { (known : Known) (s : State) → Looks known self.now s
+        ensures { (settled known : Known) (s : State) → Looks settled known self.now s
             → result ≡ face.ticket s (face.next_number s) (face.size_of_list (puts_of s txn.now)) }
     {
         self.ticket(self.next_number(), self.size_of_puts(txn))
@@ -388,7 +388,7 @@ impl Held {
 
     /// The ticket that a transaction of takes gets, if it is staged now.
     pub fn take_ticket(&self, txn: &TakeTxn) -> Ticket
-        ensures { (known : Known) (s : State) → Looks known self.now s
+        ensures { (settled known : Known) (s : State) → Looks settled known self.now s
             → result ≡ face.ticket s 0 (face.size_of_list (takes_of s txn.now)) }
     {
         self.ticket(0, self.size_of_takes(txn))
@@ -397,8 +397,8 @@ impl Held {
     /// Takes a transaction that is open out of the open ones, and adds what it has to what is staged. It takes no memory.
     pub fn stage(&mut self, number: u64)
         requires { MayStage self.old number }
-        ensures { (known : Known) (s : State) → Looks known self.old s
-            → Looks known self.new (face.stage number (entry_of number s.opened) s) }
+        ensures { (settled known : Known) (s : State) → Looks settled known self.old s
+            → Looks settled known self.new (face.stage number (entry_of number s.opened) s) }
     {
         let ended = self.table.end(number);
         let puts = put_count(&ended);
@@ -410,7 +410,7 @@ impl Held {
 
     /// Whether a transaction of puts is open.
     pub fn has_puts(&self, txn: &PutTxn) -> bool
-        ensures tells { (known : Known) (s : State) → Looks known self.now s
+        ensures tells { (settled known : Known) (s : State) → Looks settled known self.now s
             → result ≡ face.is_some_of (puts_of s txn.now) }
         ensures open { IsTrue result → is_open true (open_at self.now.opened txn.now.number) ≡ true }
     {
@@ -419,7 +419,7 @@ impl Held {
 
     /// Whether a transaction of takes is open.
     pub fn has_takes(&self, txn: &TakeTxn) -> bool
-        ensures tells { (known : Known) (s : State) → Looks known self.now s
+        ensures tells { (settled known : Known) (s : State) → Looks settled known self.now s
             → result ≡ face.is_some_of (takes_of s txn.now) }
         ensures open { IsTrue result → is_open false (open_at self.now.opened txn.now.number) ≡ true }
     {
@@ -429,7 +429,7 @@ impl Held {
     /// Takes a transaction of puts that is open out of the open ones. It takes no memory.
     pub fn drop_puts(&mut self, number: u64)
         requires { is_open true (open_at self.old.opened number) ≡ true }
-        ensures { (known : Known) (s : State) → Looks known self.old s → Looks known self.new (close number s) }
+        ensures { (settled known : Known) (s : State) → Looks settled known self.old s → Looks settled known self.new (close number s) }
     {
         let ended = self.table.end(number);
         self.open_txns -= 1;
@@ -439,7 +439,7 @@ impl Held {
     /// Takes a transaction of takes that is open out of the open ones: what it took is free again, in its place. It takes no memory.
     pub fn drop_takes(&mut self, number: u64)
         requires { is_open false (open_at self.old.opened number) ≡ true }
-        ensures { (known : Known) (s : State) → Looks known self.old s → Looks known self.new (close number s) }
+        ensures { (settled known : Known) (s : State) → Looks settled known self.old s → Looks settled known self.new (close number s) }
     {
         let ended = self.table.end(number);
         self.open_txns -= 1;
@@ -449,7 +449,7 @@ impl Held {
     /// What is staged counts from now on: the events that were taken leave, and behind the others come those that were put, with
     /// the next numbers. It takes no memory.
     pub fn settle(&mut self)
-        ensures step { (known : Known) (s : State) → Looks known self.old s → Looks known self.new (face.settle s) }
+        ensures step { (known : Known) (s : State) → Looks known known self.old s → Looks known known self.new (face.settle s) }
         ensures put { (token : Token) (pointer : pointers.Pointer) → MayPut self.old token pointer → MayPut self.new token pointer }
         ensures take { (token : Token) → MayTake self.old token → MayTake self.new token }
     {
@@ -462,7 +462,7 @@ impl Held {
 
     /// No call but a rollback goes on from now on.
     pub fn set_broken(&mut self)
-        ensures { (known : Known) (s : State) → Looks known self.old s → Looks known self.new (broken_state s) }
+        ensures { (settled known : Known) (s : State) → Looks settled known self.old s → Looks settled known self.new (broken_state s) }
     {
         self.broken = true;
     }
@@ -471,8 +471,10 @@ impl Held {
     /// as far behind `to_at`, which is no greater. Events that are left stay where they are. It takes no memory.
     pub fn moved(&mut self, file: u32, at: u64, to_file: u32, to_at: u64)
         requires { to_at ≤ at }
-        ensures { (known more : Known) (s : State) → Looks known self.old s → Moves file at to_file to_at known more
-            → LookLeft more (held_in s) self.old.live s.items → Looks more self.new s }
+        ensures moved { (settled known more : Known) (s : State) → Looks settled known self.old s
+            → Moves file at to_file to_at known more → Looks settled more self.new s }
+        ensures put { (token : Token) (pointer : pointers.Pointer) → MayPut self.old token pointer → MayPut self.new token pointer }
+        ensures take { (token : Token) → MayTake self.old token → MayTake self.new token }
     {
         self.table.moved(file, at, to_file, to_at);
         move_staged(&mut self.staged, file, at, to_file, to_at);
@@ -505,7 +507,7 @@ impl Held {
 
     /// Whether what the ticket stands for is settled.
     pub fn settled(&self, ticket: &Ticket) -> Settled
-        ensures { (known : Known) (s : State) → Looks known self.now s → result ≡ face.settled s ticket.now }
+        ensures { (settled known : Known) (s : State) → Looks settled known self.now s → result ≡ face.settled s ticket.now }
     {
         self.settled_by_numbers(ticket)
     }
@@ -526,14 +528,14 @@ impl Held {
 
     /// How many puts are staged.
     pub fn puts_staged(&self) -> u64
-        ensures { (known : Known) (s : State) → Looks known self.now s → result ≡ length (put_events s.staged) }
+        ensures { (settled known : Known) (s : State) → Looks settled known self.now s → result ≡ length (put_events s.staged) }
     {
         self.staged_puts as u64
     }
 
     /// How many takes are staged, up to 2^64 - 1.
     pub fn takes_staged(&self) -> u64
-        ensures { (known : Known) (s : State) → Looks known self.now s → result ≡ capped (length (taken_numbers s.staged)) }
+        ensures { (settled known : Known) (s : State) → Looks settled known self.now s → result ≡ capped (length (taken_numbers s.staged)) }
     {
         count_takes(&self.staged)
     }
@@ -572,9 +574,9 @@ impl Held {
         requires below { ring.top ≤ first }
         requires txn { 1 ≤ txn }
         requires life { self.old.numbers.life < 2 ^ 64 - 1 }
-        ensures { (old known : Known) (s : State) (r : Reopened) → Looks old self.old s → r.txn ≡ txn
-            → (kept_base s r.kept).first ≡ first → LookLeft known [] ring.live (kept_base s r.kept).items
-            → IsBase (kept_base s r.kept) → Looks known self.new (after_reopen s (Ok r)) }
+        ensures { (before old settled known : Known) (s : State) (r : Reopened) → Looks before old self.old s → r.txn ≡ txn
+            → (kept_base s r.kept).first ≡ first → LookLeft settled [] ring.live (kept_base s r.kept).items
+            → IsBase (kept_base s r.kept) → Looks settled known self.new (after_reopen s (Ok r)) }
     {
         end_all(&mut self.table);
         self.ring = ring;

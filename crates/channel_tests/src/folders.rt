@@ -63,6 +63,64 @@ const LAST: [Turn; 6] = [
     (Step::Size, Said::Number(1)),
 ];
 
+/// Each file is full with one frame: the second begins in the middle of two open transactions, the third with one of them.
+pub const FULL: Limits = Limits {
+    capacity: 10,
+    txn_capacity: 10,
+    max_file: 66,
+};
+
+/// Four events in three files.
+pub const FOUR: [Turn; 16] = [
+    (Step::BeginPut, Said::Token(1)),
+    (Step::Put(1, b'a'), Said::Done),
+    (Step::CommitPut(1), Said::First(0)),
+    (Step::BeginPut, Said::Token(2)),
+    (Step::Put(2, b'b'), Said::Done),
+    (Step::BeginPut, Said::Token(3)),
+    (Step::Put(3, b'c'), Said::Done),
+    (Step::CommitPut(2), Said::First(1)),
+    (Step::Put(3, b'd'), Said::Done),
+    (Step::CommitPut(3), Said::First(2)),
+    (Step::BeginTake, Said::Token(4)),
+    (Step::Take(4), Said::Event(b'a')),
+    (Step::Take(4), Said::Event(b'b')),
+    (Step::Take(4), Said::Event(b'c')),
+    (Step::Take(4), Said::Event(b'd')),
+    (Step::RollbackTake(4), Said::Ended(true)),
+];
+
+// They are taken in a second life, and the commit begins one more file behind the one of that life.
+const ALL_TAKEN: [Turn; 8] = [
+    (Step::BeginTake, Said::Token(4)),
+    (Step::Take(4), Said::Event(b'a')),
+    (Step::Take(4), Said::Event(b'b')),
+    (Step::Take(4), Said::Event(b'c')),
+    (Step::Take(4), Said::Event(b'd')),
+    (Step::Take(4), Said::NoEvent),
+    (Step::CommitTake(4), Said::First(0)),
+    (Step::Size, Said::Number(0)),
+];
+
+// The first line alone.
+const ONE_LINE: &[u8] = b"FLUMELOG\x00\x01\x00\x01\x00\x00\x00\x01\
+\x01\x01\x00\x00\x00\x00\x00\x00\x00\x01\x00\x00\x00\x09\x00\x00\x00\x00\x00\x00\x00\x01a\
+\x04\x00\x00\x00\x00\x00\x00\x00\x01\x00\x00\x00\x00\x00\x00\x00\x00\x00\x00\x00\x01\x06\x00\x00\x00\x02\
+\x00";
+
+// A file that follows it, with a put that is not committed yet.
+const FOLLOWING: &[u8] = b"FLUMELOG\x00\x01\x00\x02\x00\x00\x00\x02\
+\x01\x01\x00\x00\x00\x00\x00\x00\x00\x02\x00\x00\x00\x09\x00\x00\x00\x00\x00\x00\x00\x01b\
+\x01\x00\x00\x00\x00\x00\x00\x00\x03\x00\x00\x00\x09\x00\x00\x00\x00\x00\x00\x00\x01c\
+\x04\x00\x00\x00\x00\x00\x00\x00\x02\x00\x00\x00\x00\x00\x00\x00\x01\x00\x00\x00\x01\x06\x00\x00\x00\x03\
+\x00";
+
+// And the one after that, with the commit of both.
+const LAST_OF_THREE: &[u8] = b"FLUMELOG\x00\x01\x00\x02\x00\x00\x00\x03\
+\x01\x01\x00\x00\x00\x00\x00\x00\x00\x03\x00\x00\x00\x09\x00\x00\x00\x00\x00\x00\x00\x01d\
+\x04\x00\x00\x00\x00\x00\x00\x00\x03\x00\x00\x00\x00\x00\x00\x00\x02\x00\x00\x00\x02\x06\x00\x00\x00\x02\
+\x00";
+
 // What a log file has to hold.
 enum Holds {
     Bytes(&'static [u8]),
@@ -84,7 +142,27 @@ struct Folder {
     openings: &'static [Opening],
 }
 
-const FOLDERS: [Folder; 3] = [
+const FOLDERS: [Folder; 4] = [
+    Folder {
+        logs: &[],
+        limits: FULL,
+        openings: &[
+            Opening {
+                name: "a full file is followed by the next",
+                turns: &FOUR,
+                logs: &[
+                    (1, Holds::Bytes(ONE_LINE)),
+                    (2, Holds::Bytes(FOLLOWING)),
+                    (3, Holds::Bytes(LAST_OF_THREE)),
+                ],
+            },
+            Opening {
+                name: "its events are taken in a second life",
+                turns: &ALL_TAKEN,
+                logs: &[(1, Holds::Bytes(ONE_LINE)), (4, Holds::Length(104))],
+            },
+        ],
+    },
     Folder {
         logs: &[],
         limits: LIMITS,

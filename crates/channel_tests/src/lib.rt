@@ -23,6 +23,8 @@ mod records;
 #[cfg(test)]
 mod ring;
 #[cfg(test)]
+mod rolls;
+#[cfg(test)]
 mod spelled;
 #[cfg(test)]
 mod steps;

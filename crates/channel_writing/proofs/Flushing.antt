@@ -20,7 +20,7 @@ use Rattle.channel_face.specs.Machine.{State, base_of, next_number, settle}
 use Rattle.channel_replay.specs.Recover.{AreLogs, LogFile, Recovers, empty_base}
 use Rattle.channel_writing.specs.Folders.{HasNoCheck}
 use Rattle.channel_writing.specs.Logs.{HasLog}
-use Rattle.channel_writing.specs.Touches.{WritesLast}
+use Rattle.channel_writing.specs.Touches.{ChangesAlone}
 use Rattle.channel_writing.specs.Written.{IsLogged, MayRecover, OnDisk, RecoversSettled, Waits}
 use Rattle.channel_writing.proofs.Ending.{flush_mirrored}
 use Rattle.channel_writing.proofs.Recovering.{flush_logged, flush_recovers, settled_recovers}
@@ -269,16 +269,16 @@ nothing_left told w w' s waits writer none = from waits.records waits.pending (s
 -- a flush writes the last log file and makes two syncs, and does nothing where nothing waits
 pub writes_of : (told told' : Option Told) (w : Writer) (s : State) (waits : Waits told w s)
     → ((birth : ℕ) (frames : List (List Rec)) → IsReady told birth w.file w.gate frames → 1 ≤ length waits.records → Tells told told' (Changes (Log w.file) (LacksOrHas birth w.file frames waits.records) 2))
-    → (w.count ≡ 0 → told' ≡ told) → Tells told told' WritesLast
+    → (w.count ≡ 0 → told' ≡ told) → Tells told told' (ChangesAlone w.file 2)
 writes_of told told' w s waits given none = from (some_or_none (length waits.records))
   where
-    from : (length waits.records ≡ 0) ⊎ (1 ≤ length waits.records) → Tells told told' WritesLast
-    from (inl nothing) = subst (λ (v : Option Told). Tells told v WritesLast) (sym (none (waits.pending.counted ∙ nothing)))
-        (tells_same told WritesLast (λ t is. record { file = w.file; was = file_of (waits.disk t is).birth w.file (waits.disk t is).frames; there = (waits.disk t is).rest.reads; last = (waits.disk t is).none; others = λ name other. refl; syncs = omega arith }))
+    from : (length waits.records ≡ 0) ⊎ (1 ≤ length waits.records) → Tells told told' (ChangesAlone w.file 2)
+    from (inl nothing) = subst (λ (v : Option Told). Tells told v (ChangesAlone w.file 2)) (sym (none (waits.pending.counted ∙ nothing)))
+        (tells_same told (ChangesAlone w.file 2) (λ t is. record { others = λ name other. refl; syncs = omega arith }))
     from (inr some) =
         let ready = ready_frames told w s waits in
-        tells_more told told' (Changes (Log w.file) (LacksOrHas ready.0 w.file ready.1 waits.records) 2) WritesLast
-        (λ t u old new changes. record { file = w.file; was = file_of (waits.disk t old).birth w.file (waits.disk t old).frames; there = (waits.disk t old).rest.reads; last = (waits.disk t old).none; others = λ name other. (changes.others name other).1; syncs = changes.syncs })
+        tells_more told told' (Changes (Log w.file) (LacksOrHas ready.0 w.file ready.1 waits.records) 2) (ChangesAlone w.file 2)
+        (λ t u old new changes. record { others = λ name other. (changes.others name other).1; syncs = changes.syncs })
         (given ready.0 ready.1 ready.2 some)
 
 pub no_ok : {A : Type 0} → false ≡ true → A

@@ -1,5 +1,5 @@
 -- A log that goes on in a next file: what a crash leaves meanwhile, and the log after it.
-use Rattle.std.proofs.Common.{inr, ◌≡◌, ◌<◌, ◌≤◌, ◌+◌, ◌-◌, ◌++◌, ◌∷◌, [], ℕ, List, length, length-append, Option, None, Bool, true, false, refl, sym, ◌∙◌, ap, subst, arith}
+use Rattle.std.proofs.Common.{◌⊎◌, inl, inr, ◌≡◌, ◌<◌, ◌≤◌, ◌+◌, ◌-◌, ◌++◌, ◌∷◌, [], ℕ, List, length, length-append, Option, None, Bool, true, false, refl, sym, ◌∙◌, ap, subst, arith}
 use Rattle.std.proofs.lemmas.List.{append-nil}
 use Rattle.std.specs.Prelude.{IsSome, IsSomeAnd}
 use Rattle.flume_host.specs.Folder.{Allows, Entry, Files, same_name, settle_entry}
@@ -7,7 +7,7 @@ use Rattle.flume_host.specs.Told.{Changes, LeavesOnly, OneFile, Tells, Told}
 use Rattle.flume_host.specs.declared.names.FileName.{FileName}
 use Rattle.flume_host.specs.declared.names.FileName.TheVariants.{Check, Log}
 use Rattle.flume_host.proofs.Images.{same_name_is}
-use Rattle.flume_host.proofs.Telling.{back, tells_more}
+use Rattle.flume_host.proofs.Telling.{back, follows, tells_more}
 use Rattle.record_form.specs.declared.record.Rec.{Rec}
 use Rattle.channel_log.specs.Frames.{Content, Holds, Whole, header, opened}
 use Rattle.channel_log.specs.Writer.{HasFrames, IsAtRest, IsBlank, IsReady, IsUnused, Writer, file_of}
@@ -19,6 +19,7 @@ use Rattle.channel_replay.proofs.Lines.{lines-append, past_lines-append, sound_a
 use Rattle.channel_writing.specs.Folders.{IsAsBefore, IsNextFile}
 use Rattle.channel_writing.specs.Logs.{HasLog, Logs, begun, flat}
 use Rattle.channel_writing.specs.Mirrors.{Mirrors, applied}
+use Rattle.channel_writing.specs.Touches.{ChangesAlone, WritesLast}
 use Rattle.channel_writing.specs.Written.{IsLogged, OnDisk, RecoversSettled, Waits}
 use Rattle.channel_writing.proofs.Flushing.{as_read, closed_frames, other_log, same_logs}
 use Rattle.channel_writing.proofs.Opening.{as_before_opens, only_more}
@@ -145,3 +146,29 @@ roll_moments told told' w s waits low changes =
     tells_more told told' (Changes (Log (w.file + 1)) IsBlank 1) (λ t u. LeavesOnly t u (RecoversSettled s))
     (λ t u old new changes. only_more t u (OneFile t.now (Log (w.file + 1)) IsBlank) (RecoversSettled s) (λ image one. rolls_image t w s waits.records image (waits.disk t old) low one) changes.images)
     changes
+
+-- what a flush writes
+
+last_there : (t : Told) (w : Writer) (s : State) (records : List Rec) → OnDisk t w s records → (u : Told) → ChangesAlone w.file 2 t u ⊎ ChangesAlone (w.file + 1) 3 t u → WritesLast t u
+last_there t w s records disk u writes = record { file = w.file; was = file_of disk.birth w.file disk.frames; there = disk.rest.reads; last = disk.none; writes = writes }
+
+-- in the last file
+pub writes_here : (told told' : Option Told) (w : Writer) (s : State) → Waits told w s → Tells told told' (ChangesAlone w.file 2) → Tells told told' WritesLast
+writes_here told told' w s waits changes = tells_more told told' (ChangesAlone w.file 2) WritesLast (λ t u old new alone. last_there t w s waits.records (waits.disk t old) u (inl alone)) changes
+
+-- where the next one could not be begun
+pub writes_begun : (told told' : Option Told) (w : Writer) (s : State) → Waits told w s → Tells told told' (Changes (Log (w.file + 1)) IsBlank 1) → Tells told told' WritesLast
+writes_begun told told' w s waits changes =
+    tells_more told told' (Changes (Log (w.file + 1)) IsBlank 1) WritesLast
+    (λ t u old new begins. last_there t w s waits.records (waits.disk t old) u (inr (record { others = λ name other. (begins.others name other).1; syncs = omega (arith, begins.syncs) })))
+    changes
+
+-- in the next one, once it was begun
+pub writes_next : (told mid told' : Option Told) (w : Writer) (s : State) → Waits told w s → Tells told mid (Changes (Log (w.file + 1)) IsBlank 1) → Tells mid told' (ChangesAlone (w.file + 1) 2) → Tells told told' WritesLast
+writes_next told mid told' w s waits begins changes =
+    follows told mid told' (Changes (Log (w.file + 1)) IsBlank 1) (ChangesAlone (w.file + 1) 2) WritesLast
+    (λ t m u old between new first second. last_there t w s waits.records (waits.disk t old) u (inr (record {
+      others = λ name other. second.others name other ∙ (first.others name other).1;
+      syncs = omega (arith, first.syncs, second.syncs);
+    })))
+    begins changes

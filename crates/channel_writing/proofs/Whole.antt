@@ -28,7 +28,7 @@ use Rattle.channel_writing.specs.Whole.{IsWhole}
 use Rattle.channel_writing.proofs.Opens.{busy_push, busy_without, length_without}
 use Rattle.channel_writing.proofs.Ending.{begin_mirrored, end_mirrored}
 use Rattle.channel_writing.proofs.Flushing.{rest_exactly}
-use Rattle.channel_writing.specs.Touches.{HadNoRoom, IsSpentLog, Rests}
+use Rattle.channel_writing.specs.Touches.{WritesOn, HadNoRoom, IsSpentLog, Rests, length_before}
 use Rattle.std.specs.Prelude.{IsSomeAnd}
 use Rattle.flume_host.specs.declared.names.FileName.TheVariants.{Log}
 use Rattle.channel_log.specs.Frames.{header, opened}
@@ -393,10 +393,10 @@ whole_spent told w b s P whole still to back t is = (λ p. spent (to p), λ ther
         let long : most ≤ length bytes = subst (λ (o : Option (List ℕ)). IsSomeAnd o (λ bytes. most ≤ length bytes)) (here file) there in
         (file, omega (arith, long, size))
 
--- the file gained the frame that waited, which had no room of this size left
+-- a file gained the frame that waited, which had no room of this size left
 gained : (t u : Told) (w w' : Writer) (b b' : ℕ) (s : State) (size : ℕ) → s.broken ≡ false → IsLogged (Some t) w b s → IsLogged (Some u) w' b' (settle s)
-    → (1 ≤ w.count → w' ≡ record w { gate = w.gate + length w.bytes + 6; started = true; bytes = []; count = 0 }) → (HasRoom w size → ⊥) → (w.bytes ≡ [] → HasRoom w size) → HadNoRoom size t u
-gained t u w w' b b' s size still log log' writer full room = record { file = w.file; was = bytes; now = bytes'; before = disk.rest.reads; after = ap (λ (n : ℕ). u.reads (Log n)) (sym file) ∙ disk'.rest.reads; full = longer (some_side 2_097_152 (length w.bytes + size + 6)) }
+    → (1 ≤ w.count → WritesOn w w') → (HasRoom w size → ⊥) → (w.bytes ≡ [] → HasRoom w size) → HadNoRoom size t u
+gained t u w w' b b' s size still log log' writer full room = from (writer (some (some_side w.count 1)))
   where
     waits : Waits (Some t) w s
     waits = log.waits still
@@ -418,15 +418,6 @@ gained t u w w' b b' s size still log log' writer full room = record { file = w.
     some (inl less) = absurd (full (room (nothing waits.records waits.pending (omega (arith, less)))))
     some (inr more) = more
 
-    moved : w' ≡ record w { gate = w.gate + length w.bytes + 6; started = true; bytes = []; count = 0 }
-    moved = writer (some (some_side w.count 1))
-
-    file : w'.file ≡ w.file
-    file = ap (λ (v : Writer). v.file) moved
-
-    gate : w'.gate ≡ w.gate + length w.bytes + 6
-    gate = ap (λ (v : Writer). v.gate) moved
-
     bytes : List ℕ
     bytes = file_of disk.birth w.file disk.frames
 
@@ -439,12 +430,27 @@ gained t u w w' b b' s size still log log' writer full room = record { file = w.
     length_now : length bytes' ≡ w'.gate + 1
     length_now = omega (arith, length-append (header disk'.birth w'.file ++ opened disk'.frames) (0 ∷ []), disk'.rest.offset)
 
-    longer : (2_097_152 < length w.bytes + size + 6) ⊎ (length w.bytes + size + 6 ≤ 2_097_152) → 2_097_152 + length bytes < length bytes' + size
-    longer (inl more) = omega (arith, more, length_is, length_now, gate)
-    longer (inr fits) = absurd (full fits)
+    over : (2_097_152 < length w.bytes + size + 6) ⊎ (length w.bytes + size + 6 ≤ 2_097_152) → 2_097_152 < length w.bytes + size + 6
+    over (inl more) = more
+    over (inr fits) = absurd (full fits)
+
+    much : 2_097_152 < length w.bytes + size + 6
+    much = over (some_side 2_097_152 (length w.bytes + size + 6))
+
+    from : WritesOn w w' → HadNoRoom size t u
+    from (inl stays) =
+        let file : w'.file ≡ w.file = ap (λ (v : Writer). v.file) stays in
+        let gate : w'.gate ≡ w.gate + length w.bytes + 6 = ap (λ (v : Writer). v.gate) stays in
+        let before : length_before (t.reads (Log w'.file)) ≡ length bytes = ap (λ (n : ℕ). length_before (t.reads (Log n))) file ∙ ap length_before disk.rest.reads in
+        record { file = w'.file; now = bytes'; after = disk'.rest.reads; full = omega (arith, much, length_is, length_now, gate, before) }
+    from (inr rolled) =
+        let file : w'.file ≡ w.file + 1 = ap (λ (v : Writer). v.file) rolled in
+        let gate : w'.gate ≡ 16 + length w.bytes + 6 = ap (λ (v : Writer). v.gate) rolled in
+        let before : length_before (t.reads (Log w'.file)) ≡ 17 = ap length_before (disk.none w'.file (omega (arith, file))) in
+        record { file = w'.file; now = bytes'; after = disk'.rest.reads; full = omega (arith, much, length_now, gate, before) }
 
 pub had_no_room : (told told' : Option Told) (w w' : Writer) (b b' : ℕ) (s : State) (size : ℕ) (P : Told → Told → Type 0) → Tells told told' P → s.broken ≡ false → IsLogged told w b s → IsLogged told' w' b' (settle s)
-    → (1 ≤ w.count → w' ≡ record w { gate = w.gate + length w.bytes + 6; started = true; bytes = []; count = 0 }) → (HasRoom w size → ⊥) → (w.bytes ≡ [] → HasRoom w size) → Tells told told' (HadNoRoom size)
+    → (1 ≤ w.count → WritesOn w w') → (HasRoom w size → ⊥) → (w.bytes ≡ [] → HasRoom w size) → Tells told told' (HadNoRoom size)
 had_no_room None None w w' b b' s size P tells still log log' writer full room = tt
 had_no_room None (Some u) w w' b b' s size P tells still log log' writer full room = absurd tells
 had_no_room (Some t) None w w' b b' s size P tells still log log' writer full room = absurd tells

@@ -1,5 +1,5 @@
 -- What a call does to the disk.
-use Rattle.std.specs.Prelude.{◌≡◌, ◌<◌, ◌≤◌, ◌+◌, ◌==◌, ℕ, List, length, Ok, Err, Option, Some, None, Bool, true, false, IsSomeAnd}
+use Rattle.std.specs.Prelude.{◌≡◌, ◌⊎◌, [], ◌<◌, ◌≤◌, ◌+◌, ◌==◌, ℕ, List, length, Ok, Err, Option, Some, None, Bool, true, false, IsSomeAnd}
 use Rattle.flume_host.specs.Folder.{Files, IsImage, same_name}
 use Rattle.flume_host.specs.Told.{LeavesOnly, Told, WhereTold}
 use Rattle.flume_host.specs.declared.names.FileName.{FileName}
@@ -8,6 +8,7 @@ use Rattle.channel_face.specs.Machine.{State, Call, Put, Take, Flush}
 use Rattle.channel_face.specs.declared.replies.PutRefused.TheVariants as PutNo
 use Rattle.channel_face.specs.declared.replies.TakeRefused.TheVariants as TakeNo
 use Rattle.channel_face.specs.declared.replies.FlushRefused.TheVariants as FlushNo
+use Rattle.channel_log.specs.Writer.{Writer}
 use Rattle.channel_writing.specs.Mirrors.{busy}
 use Rattle.channel_writing.specs.Written.{MayRecover, RecoversSettled, kept}
 
@@ -21,14 +22,19 @@ flushes (Flush (Ok done)) = true
 flushes (Flush (Err FlushNo.DiskFault)) = true
 flushes call = false
 
--- One log file alone, which was there and above which there was none, may read otherwise now, and at most two syncs were made.
+-- This log file alone may read otherwise now, and at most so many syncs were made.
+pub record ChangesAlone (file most : ℕ) (t u : Told) : Type 0 where
+  pub others : (name : FileName) → same_name name (Log file) ≡ false → u.reads name ≡ t.reads name
+  pub syncs : u.syncs ≤ t.syncs + most
+
+-- A log file was there, and none above it. It alone may read otherwise now, and at most two syncs were made; or the next one alone, which was begun, and at most
+-- three were made.
 pub record WritesLast (t u : Told) : Type 0 where
   pub file : ℕ
   pub was : List ℕ
   pub there : t.reads (Log file) ≡ Some was
   pub last : (n : ℕ) → file < n → t.reads (Log n) ≡ None
-  pub others : (name : FileName) → same_name name (Log file) ≡ false → u.reads name ≡ t.reads name
-  pub syncs : u.syncs ≤ t.syncs + 2
+  pub writes : ChangesAlone file 2 t u ⊎ ChangesAlone (file + 1) 3 t u
 
 -- A channel that was not broken flushed: a stop at any moment leaves what was settled, or that with what was staged.
 pub record Flushed (s : State) (t u : Told) : Type 0 where
@@ -44,14 +50,23 @@ room_of s size held = size + kept (busy s.opened) (held == 0)
 abbrev pub HasNoRoom : ℕ → ℕ → Type 0
 HasNoRoom waiting size = 2_097_152 < waiting + size + 6
 
+-- how long a log file is before its next frame: one that is begun has its header and a closed commit byte
+abbrev pub length_before : Option (List ℕ) → ℕ
+length_before None = 17
+length_before (Some bytes) = length bytes
+
 -- A log file gained a frame that had no room of this size left.
 pub record HadNoRoom (size : ℕ) (t u : Told) : Type 0 where
   pub file : ℕ
-  pub was : List ℕ
   pub now : List ℕ
-  pub before : t.reads (Log file) ≡ Some was
   pub after : u.reads (Log file) ≡ Some now
-  pub full : 2_097_152 + length was < length now + size
+  pub full : 2_097_152 + length_before (t.reads (Log file)) < length now + size
+
+-- where a frame was written, the writer goes on behind it, in its file or in the next one
+abbrev pub WritesOn : Writer → Writer → Type 0
+WritesOn w new =
+    (new ≡ record w { gate = w.gate + length w.bytes + 6; started = true; bytes = []; count = 0 })
+    ⊎ (new ≡ record w { file = w.file + 1; gate = 16 + length w.bytes + 6; started = true; bytes = []; count = 0 })
 
 -- the last log file that there can be has reached the length at which a file is left
 abbrev pub IsSpentLog : Told → ℕ → Type 0

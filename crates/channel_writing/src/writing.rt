@@ -11,7 +11,7 @@ ghost use Rattle.record_form.specs.declared.record.Rec as recs;
 ghost use Rattle.record_form.specs.declared.record.Rec.TheVariants as records;
 ghost use Rattle.channel_log.specs.Writer.{Appends, HasRoom, IsBlank, IsPending, IsReady, LacksOrHas};
 ghost use Rattle.channel_replay.specs.StartLaws.{done_of};
-ghost use Rattle.channel_writing.specs.Touches.{WritesLast};
+ghost use Rattle.channel_writing.specs.Touches.{ChangesAlone};
 ghost use Rattle.channel_writing.specs.Written.{IsLogged, MayRecover, RecoversSettled, kept};
 
 use channel_log::{LogRollRefused, LogWriter};
@@ -187,7 +187,8 @@ impl<D: Disk + Drop> Writing<D> {
             → Tells (D.told self.old.disk) (D.told self.new.disk)
             (λ t u. LeavesOnly t u (MayRecover s)) }
         ensures writes { (s : State) → IsLogged (D.told self.old.disk) self.old.log self.old.busy s
-            → s.broken ≡ false → Tells (D.told self.old.disk) (D.told self.new.disk) WritesLast }
+            → s.broken ≡ false → Tells (D.told self.old.disk) (D.told self.new.disk)
+            (ChangesAlone self.old.log.file 2) }
         ensures logged { OnOk result ((s : State)
             → IsLogged (D.told self.old.disk) self.old.log self.old.busy s → s.broken ≡ false
             → ((n : ℕ) → next_number s ≤ n → is_among (taken_numbers s.staged) n ≡ false)

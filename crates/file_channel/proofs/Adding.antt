@@ -1,8 +1,10 @@
 -- What is put, taken and settled fits places and log to the state after it.
-use Rattle.std.proofs.Common.{◌⊎◌, inl, inr, ◌≡◌, ◌≤◌, ◌+◌, ◌++◌, ◌∷◌, [], ℕ, List, length, Option, Some, None, true, false, sym, ◌∙◌, subst, arith}
+use Rattle.std.proofs.Common.{◌⊎◌, inl, inr, ◌≡◌, ◌≤◌, ◌+◌, ◌++◌, ◌∷◌, [], ℕ, List, length, Option, Some, None, Result, Ok, Err, true, false, sym, ◌∙◌, subst, arith}
+use Rattle.std.specs.Prelude.{OnOk}
+use Rattle.flume_host.specs.Folder.{Files}
 use Rattle.flume_host.specs.Told.{Changes, LeavesOnly, Tells, Told}
 use Rattle.flume_host.specs.declared.names.FileName.TheVariants.{Log}
-use Rattle.flume_host.proofs.Telling.{back}
+use Rattle.flume_host.proofs.Telling.{back, follows, tells_more}
 use Rattle.event_core.specs.Content.{Content, size}
 use Rattle.record_form.specs.declared.record.Pointer.{Pointer}
 use Rattle.record_form.specs.declared.record.Rec.{Rec}
@@ -12,33 +14,37 @@ use Rattle.channel_face.specs.Token.{Token}
 use Rattle.channel_face.specs.Machine.{State, add_put, add_take, broken_state, free, puts_of, settle, takes_of}
 use Rattle.channel_places.specs.Looks.{Known, Looks}
 use Rattle.channel_writing.specs.Touches.{Flushed, WritesLast}
-use Rattle.channel_writing.specs.Written.{IsLogged, MayRecover, Waits}
+use Rattle.channel_writing.specs.Written.{IsLogged, MayRecover, RecoversSettled, Waits}
 use Rattle.channel_writing.proofs.Flushing.{ready_frames}
 use Rattle.channel_writing.proofs.Freeing.{take_in}
+use Rattle.channel_writing.proofs.Opening.{joined, only_more}
 use Rattle.channel_writing.proofs.Putting.{put_in}
 use Rattle.channel_writing.proofs.Whole.{failed_whole, rests_over}
+use Rattle.channel_places.proofs.Opening.{looks_grow}
 use Rattle.file_channel.specs.Placed.{Fits, IsStateOf, Logged}
 use Rattle.file_channel.proofs.Placing.{Grows, frame_grows, next_place, placed_appends, placed_grows, placed_put, same_grows}
 
 -- a put
 pub put_fits : (told : Option Told) (old new : Logged) (token : Token) (p : Pointer) (event : Content) (s : State) (events : List Content) → Fits told old s → puts_of s token ≡ Some events → Appends old.log new.log (Put token.number event) → p ≡ next_place old.log (size event)
-    → ((known : Known) → Looks known old.places s → Looks ((p, event) ∷ known) new.places (add_put s token.number (puts_of s token) event)) → IsLogged told new.log new.busy (put_in s false token.number events event) → Fits told new (put_in s false token.number events event)
+    → ((settled known : Known) → Looks settled known old.places s → Looks settled ((p, event) ∷ known) new.places (add_put s token.number (puts_of s token) event)) → IsLogged told new.log new.busy (put_in s false token.number events event) → Fits told new (put_in s false token.number events event)
 put_fits told old new token p event s events fits list adds is places log = record {
+  settled = fits.settled;
   known = (p, event) ∷ fits.known;
-  looks = subst (λ (l : Option (List Content)). Looks ((p, event) ∷ fits.known) new.places (add_put s token.number l event)) list (places fits.known fits.looks);
-  placed = placed_put told old.log new.log token.number event p fits.known adds is fits.placed;
+  looks = subst (λ (l : Option (List Content)). Looks fits.settled ((p, event) ∷ fits.known) new.places (add_put s token.number l event)) list (places fits.settled fits.known fits.looks);
+  placed = placed_put told old.log new.log token.number event p fits.settled fits.known adds is fits.placed;
   logged = log;
 }
 
 -- a take
 pub take_fits : (told : Option Told) (old new : Logged) (token : Token) (number : ℕ) (event : Content) (rest : List (ℕ × Content)) (s : State) (numbers : List ℕ) → Fits told old s → takes_of s token ≡ Some numbers → free s ≡ (number, event) ∷ rest → Appends old.log new.log (Take token.number number)
-    → ((known : Known) → Looks known old.places s → Looks known new.places (add_take s token.number (takes_of s token) (free s))) → IsLogged told new.log new.busy (take_in s false token.number numbers number) → Fits told new (take_in s false token.number numbers number)
+    → ((settled known : Known) → Looks settled known old.places s → Looks settled known new.places (add_take s token.number (takes_of s token) (free s))) → IsLogged told new.log new.busy (take_in s false token.number numbers number) → Fits told new (take_in s false token.number numbers number)
 take_fits told old new token number event rest s numbers fits list first adds places log = record {
+  settled = fits.settled;
   known = fits.known;
   looks =
-      let here : Looks fits.known new.places (add_take s token.number (Some numbers) (free s)) = subst (λ (l : Option (List ℕ)). Looks fits.known new.places (add_take s token.number l (free s))) list (places fits.known fits.looks) in
-      subst (λ (l : List (ℕ × Content)). Looks fits.known new.places (add_take s token.number (Some numbers) l)) first here;
-  placed = placed_appends told old.log new.log (Take token.number number) fits.known adds fits.placed;
+      let here : Looks fits.settled fits.known new.places (add_take s token.number (Some numbers) (free s)) = subst (λ (l : Option (List ℕ)). Looks fits.settled fits.known new.places (add_take s token.number l (free s))) list (places fits.settled fits.known fits.looks) in
+      subst (λ (l : List (ℕ × Content)). Looks fits.settled fits.known new.places (add_take s token.number (Some numbers) l)) first here;
+  placed = placed_appends told old.log new.log (Take token.number number) fits.settled fits.known adds fits.placed;
   logged = log;
 }
 
@@ -66,11 +72,12 @@ flush_grows told told' w w' s waits changes flushed moved same u is = from (some
         (was.0, was.1, frame_grows was.0 u w w' ready.0 ready.1 waits.records (ready.2 was.0 was.1) rest waits.pending was.2 (moved some))
 
 pub settle_fits : (told told' : Option Told) (old new : Logged) (s : State) (is : IsStateOf told old s) (still : s.broken ≡ false) → ((u : Told) → told' ≡ Some u → (t : Told) × (told ≡ Some t) × Grows t u old.log new.log)
-    → ((known : Known) → Looks known old.places s → Looks known new.places (settle s)) → IsLogged told' new.log new.busy (settle s) → Fits told' new (settle s)
-settle_fits told told' old new s is still grew places log = record {
+    → ((known : Known) → Looks known known old.places s → Looks known known new.places (settle s)) → new.log.bytes ≡ [] → IsLogged told' new.log new.busy (settle s) → Fits told' new (settle s)
+settle_fits told told' old new s is still grew places empty log = record {
+  settled = is.known;
   known = is.known;
-  looks = places is.known is.looks;
-  placed = placed_grows told told' old.log new.log is.known grew (is.placed still);
+  looks = places is.known (looks_grow is.settled is.known is.known old.places s (is.placed still).within (λ p event in_known. in_known) is.looks);
+  placed = placed_grows told told' old.log new.log is.settled is.known empty grew (is.placed still);
   logged = log;
 }
 
@@ -78,10 +85,11 @@ differ : {A : Type 0} → true ≡ false → A
 differ is = absurd (cc)
 
 -- one that failed
-pub failed_state : (told told' : Option Told) (old new : Logged) (s : State) → IsStateOf told old s → Tells told told' (λ t u. LeavesOnly t u (MayRecover s)) → ((known : Known) → Looks known old.places s → Looks known new.places (broken_state s)) → IsStateOf told' new (broken_state s)
+pub failed_state : (told told' : Option Told) (old new : Logged) (s : State) → IsStateOf told old s → Tells told told' (λ t u. LeavesOnly t u (MayRecover s)) → ((settled known : Known) → Looks settled known old.places s → Looks settled known new.places (broken_state s)) → IsStateOf told' new (broken_state s)
 failed_state told told' old new s is images places = record {
+  settled = is.settled;
   known = is.known;
-  looks = places is.known is.looks;
+  looks = places is.settled is.known is.looks;
   placed = λ still. differ still;
   whole = failed_whole told' new.log new.busy s (rests_over told told' s images) is.whole.sound is.whole.kind;
 }
@@ -92,3 +100,20 @@ flushed_both None None s still images writes = tt
 flushed_both None (Some u) s still images writes = absurd images
 flushed_both (Some t) None s still images writes = absurd images
 flushed_both (Some t) (Some u) s still images writes = record { whole = still; images = images; writes = writes }
+
+-- while the log goes on in a next file, a stop leaves what is settled
+settled_may : (s : State) (image : Files) → RecoversSettled s image → MayRecover s image
+settled_may s image found = (found.0, found.1, inl found.2)
+
+pub goes_over : (told told' : Option Told) (s : State) → Tells told told' (λ t u. LeavesOnly t u (RecoversSettled s)) → Tells told told' (λ t u. LeavesOnly t u (MayRecover s))
+goes_over told told' s leaves =
+    tells_more told told' (λ t u. LeavesOnly t u (RecoversSettled s)) (λ t u. LeavesOnly t u (MayRecover s)) (λ t u old new is. only_more t u (RecoversSettled s) (MayRecover s) (settled_may s) is) leaves
+
+-- and then it is flushed there
+pub goes_then : (told mid told' : Option Told) (s : State) → Tells told mid (λ t u. LeavesOnly t u (RecoversSettled s)) → Tells mid told' (λ t u. LeavesOnly t u (MayRecover s)) → Tells told told' (λ t u. LeavesOnly t u (MayRecover s))
+goes_then told mid told' s first second =
+    follows told mid told' (λ t u. LeavesOnly t u (MayRecover s)) (λ t u. LeavesOnly t u (MayRecover s)) (λ t u. LeavesOnly t u (MayRecover s)) (λ t u v old between new a b. joined t u v (MayRecover s) a b) (goes_over told mid s first) second
+
+pub ok_then : {E : Type 0} (r : Result (Unit {0}) E) (A B : Type 0) → (A → B) → OnOk r A → OnOk r B
+ok_then (Ok done) A B maps is = maps is
+ok_then (Err e) A B maps is = tt

@@ -35,7 +35,7 @@ use Rattle.ring_replay.specs.declared.folder.Replayed.{Replayed}
 use Rattle.file_channel.specs.Opened.{AreSeen, FailsToBegin, IsBegunAs, OpensWith, ReplaysTo, state_of}
 use Rattle.file_channel.specs.Placed.{ArePlaced, IsStateOf, bytes_of, settled_in}
 use Rattle.file_channel.specs.Stands.{FileState, StandsOver, items_at, opened_as}
-use Rattle.file_channel.proofs.Placing.{end_other}
+use Rattle.file_channel.proofs.Placing.{end_other, not_waiting}
 use Rattle.file_channel.proofs.Seen.{blanks, blanks_seen, blanks_sized, has_blanks, items_seen, placed_seen}
 use Rattle.file_channel.proofs.Replaying.{InFile, are_long, as_many, items_look, logs_stand, replay_recovers, same_base}
 
@@ -170,16 +170,21 @@ nothing_is_there : (t : Told) (w : Writer) → w.kept ≡ nothing_kept → IsPie
 nothing_is_there t w is = subst (λ (k : Kept). IsPieceOf k (settled_in t w)) (sym is) (none_taken (drop 0 (settled_in t w 0)))
 
 placed_begun : (was mid now : Option Told) (w : Writer) (number : ℕ) (known : Known) → Tells was mid SettledAs → WhereTold mid (λ t. IsNextFile t.reads number) → Tells mid now (BeginsFile number) → w.file ≡ number → w.kept ≡ nothing_kept → ((p : Pointer) (event : Content) → StandsIn known p event → size event ≡ p.length)
-    → WhereTold was (λ t. AreInFiles t.reads known) → ArePlaced now w known
+    → WhereTold was (λ t. AreInFiles t.reads known) → ArePlaced now w known known
 placed_begun was mid now w number known settles next begins file kept long files = record {
   long = long;
-  there = λ v is p event in_known.
-      let b = back mid now (BeginsFile number) begins v is in
-      let a = back was mid SettledAs settles b.0 b.1 in
-      let f = files a.0 a.1 p event in_known in
-      inl (still_there a.0 v w number p event f.0 f.1 (subst (λ (u : Told). IsNextFile u.reads number) a.2 (next b.0 b.1)) (subst (λ (u : Told). BeginsFile number u v) a.2 b.2) file);
+  there = λ v is p event in_known. inl (at v is p event in_known);
   piece = λ v is. nothing_is_there v w kept;
+  within = λ p event in_known. in_known;
+  written = λ v is p event in_known. not_waiting v w p event (at v is p event in_known);
 }
+  where
+    at : (v : Told) → now ≡ Some v → (p : Pointer) (event : Content) → StandsIn known p event → PutAt (settled_in v w p.file) p event
+    at v is p event in_known =
+        let b = back mid now (BeginsFile number) begins v is in
+        let a = back was mid SettledAs settles b.0 b.1 in
+        let f = files a.0 a.1 p event in_known in
+        still_there a.0 v w number p event f.0 f.1 (subst (λ (u : Told). IsNextFile u.reads number) a.2 (next b.0 b.1)) (subst (λ (u : Told). BeginsFile number u v) a.2 b.2) file
 
 -- what was begun behind a folder that was replayed
 
@@ -237,7 +242,7 @@ begun_as was mid now r w number capacity most settles replays ready few next beg
         let stand : AreInFiles t.reads known = λ p event in_known. let f = logs_stand t.reads 0 (2 ^ 32) found.logs p event found.are in_known in (f, found.short p.file f.bytes f.reads) in
         let between = forth was mid SettledAs settles t is in
         let after = forth mid now (BeginsFile number) begins between.0 between.1 in
-        let placed : ArePlaced now w known = placed_begun was mid now w number known settles next begins file kept (λ p event in_known. (stand p event in_known).0.stands.long) (λ u told. subst (λ (v : Told). AreInFiles v.reads known) (some_same t u (sym is ∙ told)) stand) in
+        let placed : ArePlaced now w known known = placed_begun was mid now w number known settles next begins file kept (λ p event in_known. (stand p event in_known).0.stands.long) (λ u told. subst (λ (v : Told). AreInFiles v.reads known) (some_same t u (sym is ∙ told)) stand) in
         record {
           base = base;
           known = known;
@@ -252,11 +257,11 @@ begun_as was mid now r w number capacity most settles replays ready few next beg
 
 -- the places and the log of a channel that is opened
 pub opens_with : (was now : Option Told) (limits : Limits) (r : Replayed) (held : Places) (w : Writer) → IsBegunAs was now limits.capacity limits.max_file r w
-    → ((known : Known) (o : Opening) → o.base.first ≡ r.next.number → o.txn ≡ r.next.txn → o.rules ≡ record { kind = File; limits = limits } → LookLeft known [] r.ring.live o.base.items → IsBase o.base → Looks known held (opening o)) → OpensWith was now limits (record { places = held; log = w; busy = 0 })
+    → ((settled known : Known) (o : Opening) → o.base.first ≡ r.next.number → o.txn ≡ r.next.txn → o.rules ≡ record { kind = File; limits = limits } → LookLeft settled [] r.ring.live o.base.items → IsBase o.base → Looks settled known held (opening o)) → OpensWith was now limits (record { places = held; log = w; busy = 0 })
 opens_with was now limits r held w begun looks =
     let o : Opening = record { rules = record { kind = File; limits = limits }; base = begun.base; txn = r.next.txn; faults = 0; from = 0; tells = true } in
     let s : State = state_of limits begun.base r.next.txn in
-    let look : Looks begun.known held (opening o) = looks begun.known o begun.first refl refl begun.left begun.rises in
+    let look : Looks begun.known begun.known held (opening o) = looks begun.known begun.known o begun.first refl refl begun.left begun.rises in
     let items : items_at now held.live ≡ begun.base.items = items_seen now begun.known (held_in (opening o)) held.live begun.base.items begun.seen look.left in
     let first : held.numbers.first ≡ begun.base.first = ap (λ (n : Numbers). n.first) look.numbers in
     record {
@@ -265,6 +270,7 @@ opens_with was now limits r held w begun looks =
       rises = begun.rises;
       opens = begun.opens;
       state = record {
+        settled = begun.known;
         known = begun.known;
         looks = look;
         placed = λ _. begun.placed;

@@ -79,7 +79,7 @@ room_is told w b s n count held log same = ap (λ (x : ℕ). n + kept x (count =
 
 -- a state that places and log fit
 pub state_fits : (told : Option Told) (c : Logged) (s : State) (is : IsStateOf told c s) → s.broken ≡ false → Fits told c s
-state_fits told c s is still = record { known = is.known; looks = is.looks; placed = is.placed still; logged = is.whole.logged still }
+state_fits told c s is still = record { settled = is.settled; known = is.known; looks = is.looks; placed = is.placed still; logged = is.whole.logged still }
 
 -- a put that was made
 pub put_steps : (told told' : Option Told) (old new : Logged) (token : Token) (event : Content) (events : List Content) (spilled : Bool) (s : State) → IsStateOf told old s → puts_of s token ≡ Some events → put_refusal s (Some events) event ≡ None → Fits told' new (put_in s spilled token.number events event)
@@ -88,7 +88,7 @@ put_steps told told' old new token event events spilled s is list may fits longe
     let s' : State = put_in s spilled token.number events event in
     let moves : Moves true s (Put token event (Ok (record { spilled = spilled }))) s' = put_moves s s' token events event spilled list may is.whole.kind refl in
     let whole : IsWhole told' new.log new.busy s' = put_whole told' new.log new.busy s s' token token.number events event spilled is.whole.sound list may is.whole.kind refl refl fits.logged in
-    let here : IsStateOf told' new s' = record { known = fits.known; looks = fits.looks; placed = λ _. fits.placed; whole = whole } in
+    let here : IsStateOf told' new s' = record { settled = fits.settled; known = fits.known; looks = fits.looks; placed = λ _. fits.placed; whole = whole } in
     record {
       admitted = moves.admitted;
       stands = subst (λ (v : State). IsStateOf told' new v) moves.state here;
@@ -96,11 +96,11 @@ put_steps told told' old new token event events spilled s is list may fits longe
     }
 
 -- one that was refused for a fault
-pub put_faults : (told told' : Option Told) (old new : Logged) (token : Token) (event : Content) (events : List Content) (s : State) → IsStateOf told old s → puts_of s token ≡ Some events → put_refusal s (Some events) event ≡ None → IsStateOf told' new (broken_state s) → new.log ≡ old.log
+pub put_faults : (told told' : Option Told) (old new : Logged) (token : Token) (event : Content) (events : List Content) (s : State) → IsStateOf told old s → puts_of s token ≡ Some events → put_refusal s (Some events) event ≡ None → IsStateOf told' new (broken_state s) → new.log.bytes ≡ old.log.bytes
     → Steps told told' old new (Put token event (Err PutNo.DiskFault)) s
 put_faults told told' old new token event events s is list may failed same =
     let moves = put_fails s (broken_state s) token events event list may is.whole.kind refl in
-    record { admitted = moves.admitted; stands = failed; waits = ap (λ (w : Writer). length w.bytes) same }
+    record { admitted = moves.admitted; stands = failed; waits = ap (λ (l : List ℕ). length l) same }
 
 -- the refusals of a put by its state
 
@@ -176,7 +176,7 @@ take_steps told told' old new token numbers number kept given rest spilled s is 
     let s' : State = take_in s spilled token.number numbers number in
     let moves : Moves true s (Take token (Ok (record { event = Some kept; spilled = spilled }))) s' = take_moves s s' token numbers (number, kept) rest spilled list may is.whole.kind first refl in
     let whole : IsWhole told' new.log new.busy s' = take_whole told' new.log new.busy s s' token token.number numbers (number, kept) rest spilled is.whole.sound list may is.whole.kind first refl refl fits.logged in
-    let here : IsStateOf told' new s' = record { known = fits.known; looks = fits.looks; placed = λ _. fits.placed; whole = whole } in
+    let here : IsStateOf told' new s' = record { settled = fits.settled; known = fits.known; looks = fits.looks; placed = λ _. fits.placed; whole = whole } in
     let given_is : Gives (is_some_of told) (first_event (free s)) (Some given) = subst (λ (l : List (ℕ × Content)). Gives (is_some_of told) (first_event l) (Some given)) (sym first) gives in
     record {
       admitted = (moves.admitted.0, given_is, moves.admitted.2, tt);
@@ -248,6 +248,13 @@ take_not s (Some numbers) e of_call is =
     take_first_not s.broken TakeNo.Broken full e (λ same. is_of_take TakeNo.Broken e same of_call)
     (λ rest. take_first_not (nat_le s.rules.limits.txn_capacity (length numbers)) (TakeNo.TxnFull (length numbers)) None e (λ same. is_of_take (TakeNo.TxnFull (length numbers)) e same of_call) (take_none_not e) rest) is
 
+pub take_quietly : (s : State) (o : Option (List ℕ)) (e : TakeRefused) → take_refusal s o ≡ Some e → (e ≡ TakeNo.ReadFault → ⊥) × (e ≡ TakeNo.DiskFault → ⊥) × ((counter : Counter) → e ≡ TakeNo.Spent counter → ⊥)
+take_quietly s o e is = (
+  (λ same. take_not s o TakeNo.ReadFault tt (is ∙ ap (λ (x : TakeRefused). Some x) same)),
+  (λ same. take_not s o TakeNo.DiskFault tt (is ∙ ap (λ (x : TakeRefused). Some x) same)),
+  (λ counter same. take_not s o (TakeNo.Spent counter) tt (is ∙ ap (λ (x : TakeRefused). Some x) same)),
+)
+
 pub take_refuses : (told : Option Told) (old : Logged) (token : Token) (e : TakeRefused) (s : State) → IsStateOf told old s → take_refusal s (takes_of s token) ≡ Some e → Steps told told old old (Take token (Err e)) s
 take_refuses told old token e s is refused = from e refused
   where
@@ -269,6 +276,7 @@ flush_steps told told' old new s is still fits empty =
     record {
       admitted = still;
       stands = record {
+        settled = fits.settled;
         known = fits.known;
         looks = fits.looks;
         placed = λ _. fits.placed;
@@ -282,8 +290,8 @@ flush_steps told told' old new s is still fits empty =
       waits = ap (λ (l : List ℕ). length l) empty;
     }
 
-pub flush_faults : (told told' : Option Told) (old new : Logged) (s : State) → IsStateOf told old s → s.broken ≡ false → IsStateOf told' new (broken_state s) → new.log ≡ old.log → Steps told told' old new (Flush (Err FlushNo.DiskFault)) s
-flush_faults told told' old new s is still failed same = record { admitted = (still, is.whole.kind); stands = failed; waits = ap (λ (w : Writer). length w.bytes) same }
+pub flush_faults : (told told' : Option Told) (old new : Logged) (s : State) → IsStateOf told old s → s.broken ≡ false → IsStateOf told' new (broken_state s) → new.log.bytes ≡ old.log.bytes → Steps told told' old new (Flush (Err FlushNo.DiskFault)) s
+flush_faults told told' old new s is still failed same = record { admitted = (still, is.whole.kind); stands = failed; waits = ap (λ (l : List ℕ). length l) same }
 
 pub flush_refuses : (told : Option Told) (old : Logged) (s : State) → IsStateOf told old s → s.broken ≡ true → Steps told told old old (Flush (Err FlushNo.Broken)) s
 flush_refuses told old s is broken = record { admitted = broken; stands = is; waits = refl }
@@ -323,11 +331,12 @@ kept_whole told w b s k whole = record { logged = λ still. kept_logged (whole.l
       };
     }
 
-pub kept_state : (told told' : Option Told) (c : Logged) (w : Writer) (s : State) → told' ≡ told → w ≡ record c.log { kept = w.kept } → ((known : Known) → ArePlaced told c.log known → ArePlaced told' w known) → IsStateOf told c s → IsStateOf told' (record c { log = w }) s
+pub kept_state : (told told' : Option Told) (c : Logged) (w : Writer) (s : State) → told' ≡ told → w ≡ record c.log { kept = w.kept } → ((settled known : Known) → ArePlaced told c.log settled known → ArePlaced told' w settled known) → IsStateOf told c s → IsStateOf told' (record c { log = w }) s
 kept_state told told' c w s same is placed state = record {
+  settled = state.settled;
   known = state.known;
   looks = state.looks;
-  placed = λ still. placed state.known (state.placed still);
+  placed = λ still. placed state.settled state.known (state.placed still);
   whole = rw same (subst (λ (v : Writer). IsWhole told v c.busy s) (sym is) (kept_whole told c.log c.busy s w.kept state.whole));
 }
 

@@ -6,6 +6,7 @@ pub mod Replaying
 pub mod Standing
 pub mod Measuring
 pub mod Images
+pub mod Going
 pub mod Seen
 pub mod Begun
 pub mod Reopening

@@ -27,11 +27,13 @@ use Rattle.file_channel.specs.Stepped.{ReadsAs}
 
 -- one record more waits
 
-pub placed_appends : (told : Option Told) (w w' : Writer) (rec : Rec) (known : Known) → Appends w w' rec → ArePlaced told w known → ArePlaced told w' known
-placed_appends told w w' rec known adds are = subst (λ (v : Writer). ArePlaced told v known) (sym adds.is) (record {
+pub placed_appends : (told : Option Told) (w w' : Writer) (rec : Rec) (settled known : Known) → Appends w w' rec → ArePlaced told w settled known → ArePlaced told w' settled known
+placed_appends told w w' rec settled known adds are = subst (λ (v : Writer). ArePlaced told v settled known) (sym adds.is) (record {
   long = are.long;
   there = λ t is p event in_known. more t p event (are.there t is p event in_known);
   piece = are.piece;
+  within = are.within;
+  written = are.written;
 })
   where
     grown : Writer
@@ -64,13 +66,15 @@ waits_there t w w' txn event adds = subst (λ (v : Writer). IsThere t v (next_pl
 ))
 
 -- the PUT of an event more
-pub placed_put : (told : Option Told) (w w' : Writer) (txn : ℕ) (event : Content) (p : Pointer) (known : Known) → Appends w w' (Put txn event) → p ≡ next_place w (size event) → ArePlaced told w known → ArePlaced told w' ((p, event) ∷ known)
-placed_put told w w' txn event p known adds is are =
-    let before : ArePlaced told w' known = placed_appends told w w' (Put txn event) known adds are in
+pub placed_put : (told : Option Told) (w w' : Writer) (txn : ℕ) (event : Content) (p : Pointer) (settled known : Known) → Appends w w' (Put txn event) → p ≡ next_place w (size event) → ArePlaced told w settled known → ArePlaced told w' settled ((p, event) ∷ known)
+placed_put told w w' txn event p settled known adds is are =
+    let before : ArePlaced told w' settled known = placed_appends told w w' (Put txn event) settled known adds are in
     record {
       long = λ q e in_known. long q e in_known;
       there = λ t told_is q e in_known. there t told_is q e (before.there t told_is q e) in_known;
       piece = before.piece;
+      within = λ q e in_settled. inr (are.within q e in_settled);
+      written = before.written;
     }
   where
     long : (q : Pointer) (e : Content) → StandsIn ((p, event) ∷ known) q e → size e ≡ q.length
@@ -91,20 +95,6 @@ pub record Grows (t u : Told) (w w' : Writer) : Type 0 where
   pub waited : (p : Pointer) (event : Content) → IsWaiting w p → PutAt w.bytes (in_frame w p) event → IsThere u w' p event
   pub kept : w'.kept ≡ w.kept
 
-pub placed_grows : (told told' : Option Told) (w w' : Writer) (known : Known) → ((u : Told) → told' ≡ Some u → (t : Told) × (told ≡ Some t) × Grows t u w w') → ArePlaced told w known → ArePlaced told' w' known
-placed_grows told told' w w' known grew are = record {
-  long = are.long;
-  there = λ u is p event in_known. let was = grew u is in more was.0 u was.2 p event (are.there was.0 was.1 p event in_known);
-  piece = λ u is. let was = grew u is in piece was.0 u was.2 (are.piece was.0 was.1);
-}
-  where
-    more : (t u : Told) → Grows t u w w' → (p : Pointer) (event : Content) → IsThere t w p event → IsThere u w' p event
-    more t u grows p event (inl at) = inl (subst (λ (l : List ℕ). PutAt l p event) (sym (grows.settled p.file).1) (put_grows (settled_in t w p.file) (grows.settled p.file).0 p event at))
-    more t u grows p event (inr waits) = grows.waited p event waits.0 waits.1
-
-    piece : (t u : Told) → Grows t u w w' → IsPieceOf w.kept (settled_in t w) → IsPieceOf w'.kept (settled_in u w')
-    piece t u grows is = rw grows.kept (piece_grows w.kept (settled_in t w) (settled_in u w') grows.settled is)
-
 pub same_grows : (t : Told) (w : Writer) → Grows t t w w
 same_grows t w = record { settled = λ file. ([], sym (append-nil (settled_in t w file))); waited = λ p event waits at. inr (waits, at); kept = refl }
 
@@ -123,6 +113,36 @@ end_other w file isnt = from (eqb_tells file w.file)
     from : ((file == w.file) ≡ true) × (file ≡ w.file) ⊎ ((file == w.file) ≡ false) × (file ≢ w.file) → end_of w file ≡ 2 ^ 64 - 1
     from (inl same) = absurd (isnt same.1)
     from (inr other) = rw other.0 refl
+
+-- what is settled does not wait for a flush
+pub not_waiting : (t : Told) (w : Writer) (p : Pointer) (event : Content) → PutAt (settled_in t w p.file) p event → IsWaiting w p → ⊥
+not_waiting t w p event at waits =
+    omega (arith, within (settled_in t w p.file) p event at, length-take (end_of w p.file) (bytes_of (t.reads (Log p.file))), end_own w p.file waits.0, waits.1)
+
+pub no_put : (p : Pointer) (event : Content) → PutAt [] p event → ⊥
+no_put p event at = omega (arith, within [] p event at)
+
+-- where nothing waits, what is there is settled
+pub is_written : (t : Told) (w : Writer) (p : Pointer) (event : Content) → w.bytes ≡ [] → IsThere t w p event → IsWaiting w p → ⊥
+is_written t w p event empty (inl at) waits = not_waiting t w p event at waits
+is_written t w p event empty (inr there) waits = no_put (in_frame w p) event (subst (λ (l : List ℕ). PutAt l (in_frame w p) event) empty there.1)
+
+-- what was known is settled once nothing waits
+pub placed_grows : (told told' : Option Told) (w w' : Writer) (settled known : Known) → w'.bytes ≡ [] → ((u : Told) → told' ≡ Some u → (t : Told) × (told ≡ Some t) × Grows t u w w') → ArePlaced told w settled known → ArePlaced told' w' known known
+placed_grows told told' w w' settled known empty grew are = record {
+  long = are.long;
+  there = λ u is p event in_known. let was = grew u is in more was.0 u was.2 p event (are.there was.0 was.1 p event in_known);
+  piece = λ u is. let was = grew u is in piece was.0 u was.2 (are.piece was.0 was.1);
+  within = λ p event in_known. in_known;
+  written = λ u is p event in_known. let was = grew u is in is_written u w' p event empty (more was.0 u was.2 p event (are.there was.0 was.1 p event in_known));
+}
+  where
+    more : (t u : Told) → Grows t u w w' → (p : Pointer) (event : Content) → IsThere t w p event → IsThere u w' p event
+    more t u grows p event (inl at) = inl (subst (λ (l : List ℕ). PutAt l p event) (sym (grows.settled p.file).1) (put_grows (settled_in t w p.file) (grows.settled p.file).0 p event at))
+    more t u grows p event (inr waits) = grows.waited p event waits.0 waits.1
+
+    piece : (t u : Told) → Grows t u w w' → IsPieceOf w.kept (settled_in t w) → IsPieceOf w'.kept (settled_in u w')
+    piece t u grows is = rw grows.kept (piece_grows w.kept (settled_in t w) (settled_in u w') grows.settled is)
 
 -- what the writer's own file has settled are its header and its frames
 pub settled_own : (t : Told) (w : Writer) (birth file : ℕ) (frames : List (List Rec)) → file ≡ w.file → IsAtRest t birth w.file w.gate frames → settled_in t w file ≡ settled_part birth w.file frames
@@ -227,9 +247,9 @@ pub reads_event : (t : Told) (w : Writer) (p : Pointer) (event : Content) (r : R
 reads_event t w p event r piece there waiting settled = gives p event r (found_there t w p event r there (λ waits. (waiting waits).0) (λ elsewhere. settled (settled_in t w) piece (is_below t w p) elsewhere))
 
 -- where the disk doesn't tell, an event of the pointer's length is read, or damage
-pub reads_as : (told : Option Told) (w : Writer) (p : Pointer) (event : Content) (known : Known) (r : Result Content ReadRefused) → ArePlaced told w known → StandsIn known p event → IsOfLength p.length r → (IsWaiting w p → FoundAt w.bytes (in_frame w p) r × (IsErrOf r ReadFault → ⊥))
+pub reads_as : (told : Option Told) (w : Writer) (p : Pointer) (event : Content) (settled known : Known) (r : Result Content ReadRefused) → ArePlaced told w settled known → StandsIn known p event → IsOfLength p.length r → (IsWaiting w p → FoundAt w.bytes (in_frame w p) r × (IsErrOf r ReadFault → ⊥))
     → WhereTold told (λ t. (part : ℕ → List ℕ) → IsPieceOf w.kept part → IsBelow t p.file (end_of w p.file) (part p.file) → (IsWaiting w p → ⊥) → FoundAt (part p.file) p r) → ReadsAs (is_some_of told) event r
-reads_as told w p event known r are in_known long waiting settled = from told refl
+reads_as told w p event settled known r are in_known long waiting there = from told refl
   where
     silent : (r : Result Content ReadRefused) → IsOfLength p.length r → ReadsAs false event r
     silent (Ok given) of_length = of_length ∙ sym (are.long p event in_known)
@@ -247,15 +267,17 @@ reads_as told w p event known r are in_known long waiting settled = from told re
     from None is = subst (λ (v : Option Told). ReadsAs (is_some_of v) event r) (sym is) (silent r long)
     from (Some t) is =
         subst (λ (v : Option Told). ReadsAs (is_some_of v) event r) (sym is)
-        (exact r (reads_event t w p event r (are.piece t is) (are.there t is p event in_known) waiting (settled t is)))
+        (exact r (reads_event t w p event r (are.piece t is) (are.there t is p event in_known) waiting (there t is)))
 
 -- reading leaves events where they stand
-pub placed_reads : (told told' : Option Told) (w w' : Writer) (p : Pointer) (known : Known) → told' ≡ told → w' ≡ record w { kept = w'.kept }
-    → WhereTold told (λ t. (part : ℕ → List ℕ) → IsPieceOf w.kept part → IsBelow t p.file (end_of w p.file) (part p.file) → IsPieceOf w'.kept part) → ArePlaced told w known → ArePlaced told' w' known
-placed_reads told told' w w' p known same is kept are = rw same (subst (λ (v : Writer). ArePlaced told v known) (sym is) (record {
+pub placed_reads : (told told' : Option Told) (w w' : Writer) (p : Pointer) (settled known : Known) → told' ≡ told → w' ≡ record w { kept = w'.kept }
+    → WhereTold told (λ t. (part : ℕ → List ℕ) → IsPieceOf w.kept part → IsBelow t p.file (end_of w p.file) (part p.file) → IsPieceOf w'.kept part) → ArePlaced told w settled known → ArePlaced told' w' settled known
+placed_reads told told' w w' p settled known same is kept are = rw same (subst (λ (v : Writer). ArePlaced told v settled known) (sym is) (record {
   long = are.long;
   there = are.there;
   piece = λ t told_is. kept t told_is (settled_in t w) (are.piece t told_is) (is_below t w p);
+  within = are.within;
+  written = are.written;
 }))
 
 -- the file of a pointer is there

@@ -109,29 +109,29 @@ none_was_staged s base sound is first same =
     (omega (arith, ap (λ (b : Base). b.first) is, first))
     (none_taken s base.items sound (ap (λ (b : Base). b.items) (sym is)) same)
 
-same_first : (known other : Known) (p : Places) (s v : State) → Looks known p s → Looks other p v → s.first ≡ v.first
-same_first known other p s v looks look = ap (λ (n : Numbers). n.first) (sym looks.numbers ∙ look.numbers)
+same_first : (settled known left other : Known) (p : Places) (s v : State) → Looks settled known p s → Looks left other p v → s.first ≡ v.first
+same_first settled known left other p s v looks look = ap (λ (n : Numbers). n.first) (sym looks.numbers ∙ look.numbers)
 
 -- One and the same count of staged entries was kept in each state that the places look like.
-chosen : (known : Known) (p : Places) (s : State) (base : Base) → Looks known p s → Either base s → (k : ℕ) × ((other : Known) (v : State) → Looks other p v → Either base v → KeepsSo base k v)
-chosen known p s base looks (inl is) = (0, λ other v look either. from other v look either)
+chosen : (settled known : Known) (p : Places) (s : State) (base : Base) → Looks settled known p s → Either base s → (k : ℕ) × ((left other : Known) (v : State) → Looks left other p v → Either base v → KeepsSo base k v)
+chosen settled known p s base looks (inl is) = (0, λ left other v look either. from left other v look either)
   where
-    from : (other : Known) (v : State) → Looks other p v → Either base v → KeepsSo base 0 v
-    from other v look (inl same) = keeps_none base v same
-    from other v look (inr all) =
-        let first : base.first ≡ v.first = ap (λ (b : Base). b.first) is ∙ same_first known other p s v looks look in
-        let none : v.staged ≡ [] = none_was_staged v base look.sound all first (λ n. ap (λ (b : Base). number_of n b.items) is ∙ same_numbers known other (held_in s) (held_in v) p.live s.items v.items n looks.left look.left) in
+    from : (left other : Known) (v : State) → Looks left other p v → Either base v → KeepsSo base 0 v
+    from left other v look (inl same) = keeps_none base v same
+    from left other v look (inr all) =
+        let first : base.first ≡ v.first = ap (λ (b : Base). b.first) is ∙ same_first settled known left other p s v looks look in
+        let none : v.staged ≡ [] = none_was_staged v base look.sound all first (λ n. ap (λ (b : Base). number_of n b.items) is ∙ same_numbers settled left (held_in s) (held_in v) p.live s.items v.items n looks.left look.left) in
         keeps_none base v (all ∙ (ap (λ (l : List Entry). after_journal (base_of v) l) none ∙ after_none (base_of v)))
-chosen known p s base looks (inr is) = (length s.staged, λ other v look either. from other v look either)
+chosen settled known p s base looks (inr is) = (length s.staged, λ left other v look either. from left other v look either)
   where
-    long : (other : Known) (v : State) → Looks other p v → length v.staged ≡ length s.staged
-    long other v look = same_length other p.staged v.staged look.staged ∙ sym (same_length known p.staged s.staged looks.staged)
+    long : (left other : Known) (v : State) → Looks left other p v → length v.staged ≡ length s.staged
+    long left other v look = same_length other p.staged v.staged look.staged ∙ sym (same_length known p.staged s.staged looks.staged)
 
-    from : (other : Known) (v : State) → Looks other p v → Either base v → KeepsSo base (length s.staged) v
-    from other v look (inr same) = keeps_all base v (length s.staged) (long other v look) same
-    from other v look (inl first_is) =
-        let first : base.first ≡ s.first = ap (λ (b : Base). b.first) first_is ∙ same_first other known p v s look looks in
-        let none : s.staged ≡ [] = none_was_staged s base looks.sound is first (λ n. ap (λ (b : Base). number_of n b.items) first_is ∙ same_numbers other known (held_in v) (held_in s) p.live v.items s.items n look.left looks.left) in
+    from : (left other : Known) (v : State) → Looks left other p v → Either base v → KeepsSo base (length s.staged) v
+    from left other v look (inr same) = keeps_all base v (length s.staged) (long left other v look) same
+    from left other v look (inl first_is) =
+        let first : base.first ≡ s.first = ap (λ (b : Base). b.first) first_is ∙ same_first left other settled known p v s look looks in
+        let none : s.staged ≡ [] = none_was_staged s base looks.sound is first (λ n. ap (λ (b : Base). number_of n b.items) first_is ∙ same_numbers left settled (held_in v) (held_in s) p.live v.items s.items n look.left looks.left) in
         subst (λ (k : ℕ). KeepsSo base k v) (sym (ap (λ (l : List Entry). length l) none)) (keeps_none base v first_is)
 
 -- what a folder leaves that was settled so, or so with what was staged
@@ -146,7 +146,7 @@ either_found told t s base txn capacity is rests reads opens = from (rests t is 
 
 -- A channel's places as they are renewed.
 abbrev Renews : Logged → Places → Replayed → Type 0
-Renews old p r = (before known : Known) (s : State) (k : Reopened) → Looks before old.places s → k.txn ≡ r.next.txn → (kept_base s k.kept).first ≡ r.next.number → LookLeft known [] r.ring.live (kept_base s k.kept).items → IsBase (kept_base s k.kept) → Looks known p (after_reopen s (Ok k))
+Renews old p r = (left before settled known : Known) (s : State) (k : Reopened) → Looks left before old.places s → k.txn ≡ r.next.txn → (kept_base s k.kept).first ≡ r.next.number → LookLeft settled [] r.ring.live (kept_base s k.kept).items → IsBase (kept_base s k.kept) → Looks settled known p (after_reopen s (Ok k))
 
 renews : (told told' : Option Told) (old : Logged) (p : Places) (w : Writer) (r : Replayed) (capacity most : ℕ) (kept : Kept) (s : State) → IsStateOf told old s → old.places.numbers.life < 2 ^ 64 - 1 → most ≡ old.places.numbers.rules.limits.max_file → (b : IsBegunAs told told' capacity most r w) → length w.bytes ≡ 0
     → Renews old p r → MayKeep (is_some_of told) s kept → kept_base s kept ≡ b.base → Steps told told' old (record { places = p; log = w; busy = 0 }) (Reopen (Ok (record { kept = kept; txn = r.next.txn }))) s
@@ -158,8 +158,9 @@ renews told told' old p w r capacity most kept s is life limit b empty renew may
     record {
       admitted = ((omega (arith, life, ap (λ (n : Numbers). n.life) of_s), may), is.whole.kind);
       stands = record {
+        settled = b.known;
         known = b.known;
-        looks = renew is.known b.known s k is.looks refl (ap (λ (x : Base). x.first) same ∙ b.first) (subst (λ (x : Base). LookLeft b.known [] r.ring.live x.items) (sym same) b.left) (subst IsBase (sym same) b.rises);
+        looks = renew is.settled is.known b.known b.known s k is.looks refl (ap (λ (x : Base). x.first) same ∙ b.first) (subst (λ (x : Base). LookLeft b.known [] r.ring.live x.items) (sym same) b.left) (subst IsBase (sym same) b.rises);
         placed = λ _. b.placed;
         whole = renewed_whole told' w 0 s s' b.base r.next.txn as_read is.whole.kind b.rises (b.logged s' (renewed_fresh s s' b.base r.next.txn as_read) (sym (limit ∙ ap (λ (n : Numbers). n.rules.limits.max_file) of_s)));
       };
@@ -178,10 +179,10 @@ reopened told told' old p w r capacity most has reads life limit b empty renew =
     from None is = (Read b.base, λ s state. renews told told' old p w r capacity most (Read b.base) s state life limit b empty renew (ap is_some_of is, b.rises) refl)
     from (Some t) is =
         let found : (v : State) → IsStateOf told old v → Either b.base v = λ v state. either_found told t v b.base r.next.txn capacity is (whole_may_rest told old.log old.busy v state.whole) reads (b.opens t is) in
-        let choice = chosen has.1.known old.places has.0 b.base has.1.looks (found has.0 has.1) in (
+        let choice = chosen has.1.settled has.1.known old.places has.0 b.base has.1.looks (found has.0 has.1) in (
           Front choice.0,
           λ s state.
-              let keeps = choice.1 state.known s state.looks (found s state) in
+              let keeps = choice.1 state.settled state.known s state.looks (found s state) in
               renews told told' old p w r capacity most (Front choice.0) s state life limit b empty renew keeps.0 keeps.1,
         )
 
@@ -200,14 +201,15 @@ leaves_over told told' c reads over s is = opens_leaves told told' s (log_rests 
 
 -- places that were broken look like the broken state
 abbrev pub Breaks : Logged → Places → Type 0
-Breaks old p = (known : Known) (s : State) → Looks known old.places s → Looks known p (broken_state s)
+Breaks old p = (settled known : Known) (s : State) → Looks settled known old.places s → Looks settled known p (broken_state s)
 
 refused : (told told' : Option Told) (old : Logged) (p : Places) (e : OpenCause) (s : State) → IsStateOf told old s → Breaks old p → MayRest told' s → Admits (is_some_of told) s (Reopen (Err e)) → Steps told told' old (record old { places = p }) (Reopen (Err e)) s
 refused told told' old p e s is breaks rests may = record {
   admitted = may;
   stands = record {
+    settled = is.settled;
     known = is.known;
-    looks = breaks is.known s is.looks;
+    looks = breaks is.settled is.known s is.looks;
     placed = λ still. absurd (cc);
     whole = failed_whole told' old.log old.busy s rests is.whole.sound is.whole.kind;
   };

@@ -69,7 +69,7 @@ puts-append (Stands file at (CommitTake txn count) ∷ a) b = puts-append a b
 puts-append (Stands file at (End count) ∷ a) b = puts-append a b
 puts-append (Faulty file at ∷ a) b = puts-append a b
 
-in_either : (a b : Known) (p : Pointer) (event : Content) → StandsIn (a ++ b) p event → StandsIn a p event ⊎ StandsIn b p event
+pub in_either : (a b : Known) (p : Pointer) (event : Content) → StandsIn (a ++ b) p event → StandsIn a p event ⊎ StandsIn b p event
 in_either [] b p event is = inr is
 in_either (k ∷ a) b p event (inl same) = inl (inl same)
 in_either (k ∷ a) b p event (inr older) = from (in_either a b p event older)

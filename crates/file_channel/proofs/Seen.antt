@@ -67,7 +67,7 @@ no_put p event at = from at.before at.split
     from (b ∷ l) is = cc
 
 -- where nothing waits, each event that is known is read at its pointer
-pub placed_seen : (told : Option Told) (w : Writer) (known : Known) (t : Told) → told ≡ Some t → w.bytes ≡ [] → ArePlaced told w known → AreSeen told known
+pub placed_seen : (told : Option Told) (w : Writer) (known : Known) (t : Told) → told ≡ Some t → w.bytes ≡ [] → ArePlaced told w known known → AreSeen told known
 placed_seen told w known t is empty placed p event in_known = ap (λ (v : Option Told). event_at v p) is ∙ from (placed.there t is p event in_known)
   where
     bytes : List ℕ

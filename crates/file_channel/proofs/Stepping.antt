@@ -22,8 +22,8 @@ use Rattle.file_channel.specs.Placed.{IsStateOf, Logged}
 use Rattle.file_channel.specs.Stepped.{Steps}
 use Rattle.file_channel.proofs.Placing.{placed_appends}
 
-pub same_broken : (known : Known) (p : Places) (s : State) → Looks known p s → p.numbers.broken ≡ s.broken
-same_broken known p s looks = ap (λ (n : Numbers). n.broken) looks.numbers
+pub same_broken : (settled known : Known) (p : Places) (s : State) → Looks settled known p s → p.numbers.broken ≡ s.broken
+same_broken settled known p s looks = ap (λ (n : Numbers). n.broken) looks.numbers
 
 begin_still : (entry : Entry) (s : State) (reply : Result Token BeginRefused) → (after_begin entry s reply).broken ≡ false → s.broken ≡ false
 begin_still entry s (Ok token) is = is
@@ -33,11 +33,12 @@ begin_still entry s (Err e) is = is
 
 pub begun_put : (told : Option Told) (old : Logged) (p : Places) (reply : Result Token BeginRefused) (s : State) → IsStateOf told old s → looks.Steps old.places (BeginPut reply) p → Steps told told old (record old { places = p }) (BeginPut reply) s
 begun_put told old p reply s is step =
-    let did = step is.known s is.looks in
+    let did = step is.settled is.known s is.looks in
     let moves : Moves true s (BeginPut reply) (after s (BeginPut reply)) = record { admitted = did.0; state = refl } in
     record {
       admitted = did.0;
       stands = record {
+        settled = is.settled;
         known = is.known;
         looks = did.1;
         placed = λ still. is.placed (begin_still (Puts []) s reply still);
@@ -48,11 +49,12 @@ begun_put told old p reply s is step =
 
 pub begun_take : (told : Option Told) (old : Logged) (p : Places) (reply : Result Token BeginRefused) (s : State) → IsStateOf told old s → looks.Steps old.places (BeginTake reply) p → Steps told told old (record old { places = p }) (BeginTake reply) s
 begun_take told old p reply s is step =
-    let did = step is.known s is.looks in
+    let did = step is.settled is.known s is.looks in
     let moves : Moves true s (BeginTake reply) (after s (BeginTake reply)) = record { admitted = did.0; state = refl } in
     record {
       admitted = did.0;
       stands = record {
+        settled = is.settled;
         known = is.known;
         looks = did.1;
         placed = λ still. is.placed (begin_still (Takes []) s reply still);
@@ -80,31 +82,33 @@ stale_take told old token s is stale = record { admitted = stale; stands = is; w
 
 -- one that did something has a record for it
 
-pub recorded_put : (told : Option Told) (old new : Logged) (token : Token) (rec : Rec) (s : State) → IsStateOf told old s → true ≡ is_some_of (puts_of s token) → ((known : Known) → Looks known old.places s → Looks known new.places (close token.number s)) → 0 < size_of_list (puts_of s token) → s.broken ≡ false
+pub recorded_put : (told : Option Told) (old new : Logged) (token : Token) (rec : Rec) (s : State) → IsStateOf told old s → true ≡ is_some_of (puts_of s token) → ((settled known : Known) → Looks settled known old.places s → Looks settled known new.places (close token.number s)) → 0 < size_of_list (puts_of s token) → s.broken ≡ false
     → IsLogged told new.log new.busy (close token.number s) → Appends old.log new.log rec → length new.log.bytes ≡ length old.log.bytes + 9 → Steps told told old new (RollbackPut token true) s
 recorded_put told old new token rec s is is_open places some still log adds longer =
     let moves : Moves true s (RollbackPut token true) (close token.number s) = record { admitted = is_open; state = refl } in
     record {
       admitted = is_open;
       stands = record {
+        settled = is.settled;
         known = is.known;
-        looks = places is.known is.looks;
-        placed = λ _. placed_appends told old.log new.log rec is.known adds (is.placed still);
+        looks = places is.settled is.known is.looks;
+        placed = λ _. placed_appends told old.log new.log rec is.settled is.known adds (is.placed still);
         whole = rollback_put_whole told new.log new.busy s (close token.number s) token true still is.whole.sound is.whole.kind moves (did_put s token some) log;
       };
       waits = longer ∙ rolled_some s.broken (size_of_list (puts_of s token)) (length old.log.bytes) (some, still);
     }
 
-pub recorded_take : (told : Option Told) (old new : Logged) (token : Token) (rec : Rec) (s : State) → IsStateOf told old s → true ≡ is_some_of (takes_of s token) → ((known : Known) → Looks known old.places s → Looks known new.places (close token.number s)) → 0 < size_of_list (takes_of s token) → s.broken ≡ false
+pub recorded_take : (told : Option Told) (old new : Logged) (token : Token) (rec : Rec) (s : State) → IsStateOf told old s → true ≡ is_some_of (takes_of s token) → ((settled known : Known) → Looks settled known old.places s → Looks settled known new.places (close token.number s)) → 0 < size_of_list (takes_of s token) → s.broken ≡ false
     → IsLogged told new.log new.busy (close token.number s) → Appends old.log new.log rec → length new.log.bytes ≡ length old.log.bytes + 9 → Steps told told old new (RollbackTake token true) s
 recorded_take told old new token rec s is is_open places some still log adds longer =
     let moves : Moves true s (RollbackTake token true) (close token.number s) = record { admitted = is_open; state = refl } in
     record {
       admitted = is_open;
       stands = record {
+        settled = is.settled;
         known = is.known;
-        looks = places is.known is.looks;
-        placed = λ _. placed_appends told old.log new.log rec is.known adds (is.placed still);
+        looks = places is.settled is.known is.looks;
+        placed = λ _. placed_appends told old.log new.log rec is.settled is.known adds (is.placed still);
         whole = rollback_take_whole told new.log new.busy s (close token.number s) token true still is.whole.sound is.whole.kind moves (did_take s token some) log;
       };
       waits = longer ∙ rolled_some s.broken (size_of_list (takes_of s token)) (length old.log.bytes) (some, still);
@@ -112,11 +116,11 @@ recorded_take told old new token rec s is is_open places some still log adds lon
 
 -- one that did nothing, or that of a broken channel, has none
 
-pub unrecorded_put : (told : Option Told) (old : Logged) (p : Places) (token : Token) (s : State) → IsStateOf told old s → true ≡ is_some_of (puts_of s token) → ((known : Known) → Looks known old.places s → Looks known p (close token.number s)) → ((0 < size_of_list (puts_of s token)) × (s.broken ≡ false) → ⊥)
+pub unrecorded_put : (told : Option Told) (old : Logged) (p : Places) (token : Token) (s : State) → IsStateOf told old s → true ≡ is_some_of (puts_of s token) → ((settled known : Known) → Looks settled known old.places s → Looks settled known p (close token.number s)) → ((0 < size_of_list (puts_of s token)) × (s.broken ≡ false) → ⊥)
     → Steps told told old (record old { places = p }) (RollbackPut token true) s
 unrecorded_put told old p token s is is_open places not = record {
   admitted = is_open;
-  stands = record { known = is.known; looks = places is.known is.looks; placed = is.placed; whole = whole s.broken refl };
+  stands = record { settled = is.settled; known = is.known; looks = places is.settled is.known is.looks; placed = is.placed; whole = whole s.broken refl };
   waits = rolled_none s.broken (size_of_list (puts_of s token)) (length old.log.bytes) not;
 }
   where
@@ -127,11 +131,11 @@ unrecorded_put told old p token s is is_open places not = record {
     whole true broken = rollback_put_broken told old.log old.busy s (close token.number s) token true is.whole moves broken
     whole false still = rollback_put_idle told old.log old.busy s (close token.number s) token true is.whole moves (let low = none (size_of_list (puts_of s token)) (λ some. not (some, still)) in omega (arith, low))
 
-pub unrecorded_take : (told : Option Told) (old : Logged) (p : Places) (token : Token) (s : State) → IsStateOf told old s → true ≡ is_some_of (takes_of s token) → ((known : Known) → Looks known old.places s → Looks known p (close token.number s)) → ((0 < size_of_list (takes_of s token)) × (s.broken ≡ false) → ⊥)
+pub unrecorded_take : (told : Option Told) (old : Logged) (p : Places) (token : Token) (s : State) → IsStateOf told old s → true ≡ is_some_of (takes_of s token) → ((settled known : Known) → Looks settled known old.places s → Looks settled known p (close token.number s)) → ((0 < size_of_list (takes_of s token)) × (s.broken ≡ false) → ⊥)
     → Steps told told old (record old { places = p }) (RollbackTake token true) s
 unrecorded_take told old p token s is is_open places not = record {
   admitted = is_open;
-  stands = record { known = is.known; looks = places is.known is.looks; placed = is.placed; whole = whole s.broken refl };
+  stands = record { settled = is.settled; known = is.known; looks = places is.settled is.known is.looks; placed = is.placed; whole = whole s.broken refl };
   waits = rolled_none s.broken (size_of_list (takes_of s token)) (length old.log.bytes) not;
 }
   where
@@ -152,7 +156,7 @@ pub stages_take : (s : State) (token : Token) (given : Ticket) → stage_take_re
 stages_take s token given may is = record { admitted = (may, is); state = refl }
 
 -- one that did nothing
-pub idle_put : (told : Option Told) (old : Logged) (p : Places) (token : Token) (given : Ticket) (s : State) → IsStateOf told old s → Moves true s (StagePut token (Ok given)) (after s (StagePut token (Ok given))) → ((known : Known) → Looks known old.places s → Looks known p (after s (StagePut token (Ok given)))) → given.count ≡ 0
+pub idle_put : (told : Option Told) (old : Logged) (p : Places) (token : Token) (given : Ticket) (s : State) → IsStateOf told old s → Moves true s (StagePut token (Ok given)) (after s (StagePut token (Ok given))) → ((settled known : Known) → Looks settled known old.places s → Looks settled known p (after s (StagePut token (Ok given)))) → given.count ≡ 0
     → Steps told told old (record old { places = p }) (StagePut token (Ok given)) s
 idle_put told old p token given s is moves places idle =
     let s' : State = after s (StagePut token (Ok given)) in
@@ -161,15 +165,16 @@ idle_put told old p token given s is moves places idle =
     record {
       admitted = moves.admitted;
       stands = record {
+        settled = is.settled;
         known = is.known;
-        looks = places is.known is.looks;
+        looks = places is.settled is.known is.looks;
         placed = λ _. is.placed staged.still;
         whole = stage_whole told old.log old.busy s s' token.number (Puts staged.events) staged.still is.whole.kind (sound_then s (StagePut token (Ok given)) s' moves is.whole.sound) refl staged.entry (stage_puts_idle told old.log old.busy s token.number staged.events (is.whole.logged staged.still) staged.entry nothing);
       };
       waits = staged_none given.count (length old.log.bytes) 21 idle;
     }
 
-pub idle_take : (told : Option Told) (old : Logged) (p : Places) (token : Token) (given : Ticket) (s : State) → IsStateOf told old s → Moves true s (StageTake token (Ok given)) (after s (StageTake token (Ok given))) → ((known : Known) → Looks known old.places s → Looks known p (after s (StageTake token (Ok given)))) → given.count ≡ 0
+pub idle_take : (told : Option Told) (old : Logged) (p : Places) (token : Token) (given : Ticket) (s : State) → IsStateOf told old s → Moves true s (StageTake token (Ok given)) (after s (StageTake token (Ok given))) → ((settled known : Known) → Looks settled known old.places s → Looks settled known p (after s (StageTake token (Ok given)))) → given.count ≡ 0
     → Steps told told old (record old { places = p }) (StageTake token (Ok given)) s
 idle_take told old p token given s is moves places idle =
     let s' : State = after s (StageTake token (Ok given)) in
@@ -178,8 +183,9 @@ idle_take told old p token given s is moves places idle =
     record {
       admitted = moves.admitted;
       stands = record {
+        settled = is.settled;
         known = is.known;
-        looks = places is.known is.looks;
+        looks = places is.settled is.known is.looks;
         placed = λ _. is.placed staged.still;
         whole = stage_whole told old.log old.busy s s' token.number (Takes staged.numbers) staged.still is.whole.kind (sound_then s (StageTake token (Ok given)) s' moves is.whole.sound) refl staged.entry (stage_takes_idle told old.log old.busy s token.number staged.numbers (is.whole.logged staged.still) staged.entry nothing);
       };
@@ -187,31 +193,33 @@ idle_take told old p token given s is moves places idle =
     }
 
 -- one that did something
-pub staged_put : (told : Option Told) (old new : Logged) (token : Token) (given : Ticket) (rec : Rec) (s : State) → IsStateOf told old s → (moves : Moves true s (StagePut token (Ok given)) (after s (StagePut token (Ok given)))) → ((known : Known) → Looks known old.places s → Looks known new.places (after s (StagePut token (Ok given)))) → (given.count ≡ 0 → ⊥)
+pub staged_put : (told : Option Told) (old new : Logged) (token : Token) (given : Ticket) (rec : Rec) (s : State) → IsStateOf told old s → (moves : Moves true s (StagePut token (Ok given)) (after s (StagePut token (Ok given)))) → ((settled known : Known) → Looks settled known old.places s → Looks settled known new.places (after s (StagePut token (Ok given)))) → (given.count ≡ 0 → ⊥)
     → (staged : StagedPuts s token given) → IsLogged told new.log new.busy (stage token.number (Some (Puts staged.events)) s) → Appends old.log new.log rec → length new.log.bytes ≡ length old.log.bytes + 21 → Steps told told old new (StagePut token (Ok given)) s
 staged_put told old new token given rec s is moves places some staged log adds longer =
     let s' : State = after s (StagePut token (Ok given)) in
     record {
       admitted = moves.admitted;
       stands = record {
+        settled = is.settled;
         known = is.known;
-        looks = places is.known is.looks;
-        placed = λ _. placed_appends told old.log new.log rec is.known adds (is.placed staged.still);
+        looks = places is.settled is.known is.looks;
+        placed = λ _. placed_appends told old.log new.log rec is.settled is.known adds (is.placed staged.still);
         whole = stage_whole told new.log new.busy s s' token.number (Puts staged.events) staged.still is.whole.kind (sound_then s (StagePut token (Ok given)) s' moves is.whole.sound) refl staged.entry log;
       };
       waits = longer ∙ staged_some given.count (length old.log.bytes) 21 (positive given.count some);
     }
 
-pub staged_take : (told : Option Told) (old new : Logged) (token : Token) (given : Ticket) (rec : Rec) (s : State) → IsStateOf told old s → (moves : Moves true s (StageTake token (Ok given)) (after s (StageTake token (Ok given)))) → ((known : Known) → Looks known old.places s → Looks known new.places (after s (StageTake token (Ok given)))) → (given.count ≡ 0 → ⊥)
+pub staged_take : (told : Option Told) (old new : Logged) (token : Token) (given : Ticket) (rec : Rec) (s : State) → IsStateOf told old s → (moves : Moves true s (StageTake token (Ok given)) (after s (StageTake token (Ok given)))) → ((settled known : Known) → Looks settled known old.places s → Looks settled known new.places (after s (StageTake token (Ok given)))) → (given.count ≡ 0 → ⊥)
     → (staged : StagedTakes s token given) → IsLogged told new.log new.busy (stage token.number (Some (Takes staged.numbers)) s) → Appends old.log new.log rec → length new.log.bytes ≡ length old.log.bytes + 13 → Steps told told old new (StageTake token (Ok given)) s
 staged_take told old new token given rec s is moves places some staged log adds longer =
     let s' : State = after s (StageTake token (Ok given)) in
     record {
       admitted = moves.admitted;
       stands = record {
+        settled = is.settled;
         known = is.known;
-        looks = places is.known is.looks;
-        placed = λ _. placed_appends told old.log new.log rec is.known adds (is.placed staged.still);
+        looks = places is.settled is.known is.looks;
+        placed = λ _. placed_appends told old.log new.log rec is.settled is.known adds (is.placed staged.still);
         whole = stage_whole told new.log new.busy s s' token.number (Takes staged.numbers) staged.still is.whole.kind (sound_then s (StageTake token (Ok given)) s' moves is.whole.sound) refl staged.entry log;
       };
       waits = longer ∙ staged_some given.count (length old.log.bytes) 13 (positive given.count some);

@@ -52,7 +52,7 @@ pub record IsBegunAs (was told : Option Told) (capacity max_file : ℕ) (r : Rep
   pub left : LookLeft known [] r.ring.live base.items
   pub first : base.first ≡ r.next.number
   pub opens : WhereTold was (λ t. Opens t.reads capacity base r.next.txn)
-  pub placed : ArePlaced told w known
+  pub placed : ArePlaced told w known known
   pub seen : AreSeen told known
   pub logged : (s : State) → IsFresh s base r.next.txn → s.rules.limits.max_file ≡ max_file → IsLogged told w 0 s
 

@@ -31,24 +31,29 @@ settled_in t w file = take (end_of w file) (bytes_of (t.reads (Log file)))
 abbrev pub IsThere : Told → Writer → Pointer → Content → Type 0
 IsThere t w p event = PutAt (settled_in t w p.file) p event ⊎ (IsWaiting w p × PutAt w.bytes (in_frame w p) event)
 
--- Each pointer has its event's length. Where the disk tells, the event's PUT stands at the pointer, and what is kept of the last reading is what its file has.
-pub record ArePlaced (told : Option Told) (w : Writer) (known : Known) : Type 0 where
+-- Each pointer has its event's length. Where the disk tells, the event's PUT stands at the pointer, what is kept of the last reading is what its file has,
+-- and nothing of what is known to be settled waits for a flush.
+pub record ArePlaced (told : Option Told) (w : Writer) (settled known : Known) : Type 0 where
   pub long : (p : Pointer) (event : Content) → StandsIn known p event → size event ≡ p.length
   pub there : WhereTold told (λ t. (p : Pointer) (event : Content) → StandsIn known p event → IsThere t w p event)
   pub piece : WhereTold told (λ t. IsPieceOf w.kept (settled_in t w))
+  pub within : (p : Pointer) (event : Content) → StandsIn settled p event → StandsIn known p event
+  pub written : WhereTold told (λ t. (p : Pointer) (event : Content) → StandsIn settled p event → IsWaiting w p → ⊥)
 
 -- A channel's places look like this state, its log has the state's changes, and each event stands at its pointer.
 pub record Fits (told : Option Told) (c : Logged) (s : State) : Type 0 where
+  pub settled : Known
   pub known : Known
-  pub looks : Looks known c.places s
-  pub placed : ArePlaced told c.log known
+  pub looks : Looks settled known c.places s
+  pub placed : ArePlaced told c.log settled known
   pub logged : IsLogged told c.log c.busy s
 
 -- A channel's places and its log stand for this state. What a broken channel's log has of it is not known.
 pub record IsStateOf (told : Option Told) (c : Logged) (s : State) : Type 0 where
+  pub settled : Known
   pub known : Known
-  pub looks : Looks known c.places s
-  pub placed : s.broken ≡ false → ArePlaced told c.log known
+  pub looks : Looks settled known c.places s
+  pub placed : s.broken ≡ false → ArePlaced told c.log settled known
   pub whole : IsWhole told c.log c.busy s
 
 -- they stand for some state

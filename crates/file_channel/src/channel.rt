@@ -283,7 +283,7 @@ impl<D: Disk + Drop> Channel for FileChannel<D> {
         result
     }
 
-    /// Where the frame has no room for the event's record, it flushes first, with at most two syncs. A stop at any moment of
+    /// Where the frame has no room for the event's record, it flushes first, as [`Channel::flush`] does. A stop at any moment of
     /// the call leaves what is settled, or that with what is staged.
     fn put(&mut self, txn: &mut PutTxn, event: &Event) -> Result<Put, PutRefused>
         ensures step { AddsOne (StandsOver (D.told self.old.0) (D.faults self.old.0) self.old.1)
@@ -394,8 +394,9 @@ impl<D: Disk + Drop> Channel for FileChannel<D> {
         result
     }
 
-    /// At most two syncs. A stop at any moment of the call leaves what is settled, or that with what is staged. A broken
-    /// channel's flush touches no device.
+    /// At most two syncs, or three where the log file has a frame and would pass its greatest length, so that the next one is
+    /// begun. A stop at any moment of the call leaves what is settled, or that with what is staged. A broken channel's flush
+    /// touches no device.
     fn flush(&mut self) -> Result<(), FlushRefused>
         ensures step { AddsOne (StandsOver (D.told self.old.0) (D.faults self.old.0) self.old.1)
             (StandsOver (D.told self.new.0) (D.faults self.new.0) self.new.1) (Flush result)

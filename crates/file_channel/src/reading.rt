@@ -23,14 +23,14 @@ pub(crate) fn read_event<D: Disk + Drop>(
     pointer: &Pointer,
 ) -> Result<Event, ReadRefused>
     requires own { WhereTold (D.told writing.old.disk) (λ t. IsSome (t.reads (Log writing.old.log.file))) }
-    requires known { (known : Known) × (event : Content)
-        × ArePlaced (D.told writing.old.disk) writing.old.log known × StandsIn known pointer.now event }
-    ensures gives { (known : Known) (event : Content)
-        → ArePlaced (D.told writing.old.disk) writing.old.log known
+    requires known { (settled : Known) × (known : Known) × (event : Content)
+        × ArePlaced (D.told writing.old.disk) writing.old.log settled known × StandsIn known pointer.now event }
+    ensures gives { (settled known : Known) (event : Content)
+        → ArePlaced (D.told writing.old.disk) writing.old.log settled known
         → StandsIn known pointer.now event
         → ReadsAs (is_some_of (D.told writing.old.disk)) event result }
-    ensures placed { (known : Known) → ArePlaced (D.told writing.old.disk) writing.old.log known
-        → ArePlaced (D.told writing.new.disk) writing.new.log known }
+    ensures placed { (settled known : Known) → ArePlaced (D.told writing.old.disk) writing.old.log settled known
+        → ArePlaced (D.told writing.new.disk) writing.new.log settled known }
     ensures log { writing.new.log ≡ record writing.old.log { kept = writing.new.log.kept } }
     ensures busy { writing.new.busy ≡ writing.old.busy }
     ensures same { D.told writing.new.disk ≡ D.told writing.old.disk }

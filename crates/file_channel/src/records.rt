@@ -1,17 +1,18 @@
 // What a call adds to the places and to the log of a channel. None of it takes memory.
-ghost use Rattle.std.specs.Prelude.{◌≡◌, ◌≤◌, ◌+◌, ◌-◌, ◌==◌, [], ◌∷◌, ℕ, List, length, ◌↔◌, Some, None, IsErrOf, IsOk, IsSome, IfErr, IfOk, OnErr, OnOk, false, true};
+ghost use Rattle.std.specs.Prelude.{◌≡◌, ◌<◌, ◌≤◌, ◌+◌, ◌-◌, ◌==◌, [], ◌∷◌, ℕ, List, length, ◌↔◌, Some, None, IsErrOf, IsOk, IsSome, IfErr, IfOk, OnErr, OnOk, false, true};
 ghost use Rattle.flume_host.specs.Causes.{HasCause};
-ghost use Rattle.flume_host.specs.Told.{Tells};
+ghost use Rattle.flume_host.specs.Told.{Changes, LeavesOnly, Tells};
+ghost use Rattle.flume_host.specs.declared.names.FileName.TheVariants.{Log};
 ghost use Rattle.event_core.specs.Content.{Content, size};
 ghost use Rattle.record_form.specs.declared.record.Pointer as pointers;
-ghost use Rattle.channel_log.specs.Writer.{HasRoom};
+ghost use Rattle.channel_log.specs.Writer.{HasRoom, IsBlank};
 ghost use Rattle.channel_face.specs.Token.{Token};
 ghost use Rattle.channel_face.specs.Machine as Face;
 ghost use Rattle.channel_face.specs.Machine.{State, broken_state, free, puts_of, settle, size_of_list, take_refusal, takes_of};
 ghost use Rattle.channel_face.specs.declared.replies.TakeRefused.{TakeRefused};
 ghost use Rattle.channel_places.specs.Looks.{MayPut, MayTake};
-ghost use Rattle.channel_writing.specs.Written.{kept};
-ghost use Rattle.channel_writing.specs.Touches.{Flushed, HadNoRoom, HasNoRoom, flushes, room_of};
+ghost use Rattle.channel_writing.specs.Written.{MayRecover, RecoversSettled, kept};
+ghost use Rattle.channel_writing.specs.Touches.{ChangesAlone, Flushed, HadNoRoom, HasNoRoom, WritesOn, flushes, room_of};
 ghost use Rattle.file_channel.specs.Placed.{Fits, IsStateOf};
 ghost use Rattle.file_channel.specs.Stepped.{Steps};
 
@@ -24,6 +25,9 @@ use record_form::{MAX_PUT_SIZE, Pointer};
 
 /// The length of the record of a take.
 const TAKE_LENGTH: u64 = 17;
+
+/// The offset of the first record of a log file.
+const FIRST_RECORD: u64 = 17;
 
 /// Adds a put to a transaction, with its record.
 pub(crate) fn add_put<D: Disk + Drop>(
@@ -83,7 +87,97 @@ pub(crate) fn add_take<D: Disk + Drop>(
     held.take(txn);
 }
 
-/// Settles all that is staged. Where that fails, the channel is broken.
+// Begins the next log file, in which what waits for a flush goes on, and moves the pointers of puts that wait.
+fn go_on<D: Disk + Drop>(held: &mut Held, writing: &mut Writing<D>) -> Result<(), Failed>
+    requires state { (s : State) × IsStateOf (D.told writing.old.disk)
+        (record { places = held.old; log = writing.old.log; busy = writing.old.busy }) s
+        × (s.broken ≡ false) }
+    requires framed { 16 < writing.old.log.gate }
+    requires follows { writing.old.log.file < 4_294_967_295 }
+    ensures state { OnOk result ((s : State) → IsStateOf (D.told writing.old.disk)
+        (record { places = held.old; log = writing.old.log; busy = writing.old.busy }) s
+        → s.broken ≡ false → IsStateOf (D.told writing.new.disk)
+        (record { places = held.new; log = writing.new.log; busy = writing.new.busy }) s) }
+    ensures put { OnOk result ((token : Token) (pointer : pointers.Pointer)
+        → MayPut held.old token pointer → MayPut held.new token pointer) }
+    ensures take { OnOk result ((token : Token) → MayTake held.old token → MayTake held.new token) }
+    ensures any_moment { (s : State) → IsStateOf (D.told writing.old.disk)
+        (record { places = held.old; log = writing.old.log; busy = writing.old.busy }) s
+        → s.broken ≡ false → Tells (D.told writing.old.disk) (D.told writing.new.disk)
+        (λ t u. LeavesOnly t u (RecoversSettled s)) }
+    ensures begins { Tells (D.told writing.old.disk) (D.told writing.new.disk)
+        (Changes (Log (writing.old.log.file + 1)) IsBlank 1) }
+    ensures moved { OnOk result (writing.new.log ≡ record writing.old.log {
+      file = writing.old.log.file + 1;
+      gate = 16;
+      started = false;
+    }) }
+    ensures busy { writing.new.busy ≡ writing.old.busy }
+    ensures refused { OnErr result ((writing.new.log ≡ writing.old.log) × (held.new ≡ held.old)) }
+    ensures cause { HasCause (D.faults writing.old.disk) (D.faults writing.new.disk) result }
+{
+    let file = writing.log.file();
+    let gate = writing.log.gate_at();
+    match writing.roll() {
+        Ok(()) => {
+            held.moved(file, gate + 1, file + 1, FIRST_RECORD);
+            Ok(())
+        }
+        Err(_) => Err(Failed),
+    }
+}
+
+// Settles all that is staged, in the log's file as it is. Where that fails, the channel is broken.
+fn settle_here<D: Disk + Drop>(held: &mut Held, writing: &mut Writing<D>) -> Result<(), Failed>
+    requires { (s : State) × IsStateOf (D.told writing.old.disk)
+        (record { places = held.old; log = writing.old.log; busy = writing.old.busy }) s
+        × (s.broken ≡ false) }
+    ensures fits { OnOk result ((s : State) → IsStateOf (D.told writing.old.disk)
+        (record { places = held.old; log = writing.old.log; busy = writing.old.busy }) s
+        → s.broken ≡ false → Fits (D.told writing.new.disk)
+        (record { places = held.new; log = writing.new.log; busy = writing.new.busy }) (settle s)) }
+    ensures put { OnOk result ((token : Token) (pointer : pointers.Pointer)
+        → MayPut held.old token pointer → MayPut held.new token pointer) }
+    ensures take { OnOk result ((token : Token) → MayTake held.old token → MayTake held.new token) }
+    ensures failed { OnErr result ((s : State) → IsStateOf (D.told writing.old.disk)
+        (record { places = held.old; log = writing.old.log; busy = writing.old.busy }) s
+        → s.broken ≡ false → IsStateOf (D.told writing.new.disk)
+        (record { places = held.new; log = writing.new.log; busy = writing.new.busy })
+        (broken_state s)) }
+    ensures any_moment { (s : State) → IsStateOf (D.told writing.old.disk)
+        (record { places = held.old; log = writing.old.log; busy = writing.old.busy }) s
+        → s.broken ≡ false → Tells (D.told writing.old.disk) (D.told writing.new.disk)
+        (λ t u. LeavesOnly t u (MayRecover s)) }
+    ensures writes { Tells (D.told writing.old.disk) (D.told writing.new.disk)
+        (ChangesAlone writing.old.log.file 2) }
+    ensures moved { OnOk result (1 ≤ writing.old.log.count
+        → writing.new.log ≡ record writing.old.log {
+          gate = writing.old.log.gate + length writing.old.log.bytes + 6;
+          started = true;
+          bytes = [];
+          count = 0;
+        }) }
+    ensures empty { OnOk result (writing.new.log.bytes ≡ []) }
+    ensures nothing { length writing.old.log.bytes ≡ 0 → IsOk result
+        × (D.told writing.new.disk ≡ D.told writing.old.disk) }
+    ensures busy { writing.new.busy ≡ writing.old.busy }
+    ensures refused { OnErr result (writing.new.log ≡ writing.old.log) }
+    ensures cause { HasCause (D.faults writing.old.disk) (D.faults writing.new.disk) result }
+{
+    match writing.flush() {
+        Ok(()) => {
+            held.settle();
+            Ok(())
+        }
+        Err(_) => {
+            held.set_broken();
+            Err(Failed)
+        }
+    }
+}
+
+/// Settles all that is staged. Where the log's file would pass its greatest length, what waits goes on in a next one first. Where
+/// the disk fails, the channel is broken.
 pub(crate) fn settle_staged<D: Disk + Drop>(
     held: &mut Held,
     writing: &mut Writing<D>,
@@ -107,25 +201,20 @@ pub(crate) fn settle_staged<D: Disk + Drop>(
         (record { places = held.old; log = writing.old.log; busy = writing.old.busy }) s
         → s.broken ≡ false
         → Tells (D.told writing.old.disk) (D.told writing.new.disk) (λ t u. Flushed s t u) }
-    ensures moved { OnOk result (1 ≤ writing.old.log.count
-        → writing.new.log ≡ record writing.old.log {
-          gate = writing.old.log.gate + length writing.old.log.bytes + 6;
-          started = true;
-          bytes = [];
-          count = 0;
-        }) }
+    ensures writes_on { OnOk result (1 ≤ writing.old.log.count
+        → WritesOn writing.old.log writing.new.log) }
     ensures empty { OnOk result (writing.new.log.bytes ≡ []) }
     ensures nothing { length writing.old.log.bytes ≡ 0 → IsOk result
         × (D.told writing.new.disk ≡ D.told writing.old.disk) }
     ensures busy { writing.new.busy ≡ writing.old.busy }
-    ensures refused { OnErr result (writing.new.log ≡ writing.old.log) }
+    ensures refused { OnErr result (writing.new.log.bytes ≡ writing.old.log.bytes) }
     ensures cause { HasCause (D.faults writing.old.disk) (D.faults writing.new.disk) result }
 {
-    match writing.flush() {
-        Ok(()) => {
-            held.settle();
-            Ok(())
-        }
+    if !writing.log.must_roll() {
+        return settle_here(held, writing);
+    }
+    match go_on(held, writing) {
+        Ok(()) => settle_here(held, writing),
         Err(_) => {
             held.set_broken();
             Err(Failed)

@@ -1,34 +1,61 @@
-use Rattle.channel_writing.proofs.Whole.{staged_below}
+use Rattle.std.proofs.Common.{◌≡◌, ◌+◌, ℕ, ap, arith, refl, subst, sym}
+use Rattle.flume_host.specs.Told.{LeavesOnly, Tells}
+use Rattle.channel_log.specs.Writer.{Writer}
+use Rattle.channel_places.specs.Looks.{Looks, Places}
+use Rattle.channel_writing.specs.Touches.{ChangesAlone}
+use Rattle.channel_writing.specs.Written.{MayRecover}
+use Rattle.channel_writing.proofs.Flushing.{none_waits}
+use Rattle.channel_writing.proofs.Rolling.{writes_begun, writes_here, writes_next}
 use Rattle.file_channel.specs.Placed.{Logged}
-use Rattle.file_channel.proofs.Adding.{failed_state, flush_grows, flushed_both, settle_fits}
+use Rattle.file_channel.proofs.Adding.{failed_state, flushed_both, goes_over, goes_then, ok_then}
 use Rattle.file_channel.proofs.records.settle_staged.Goals as goal
 
-pub flush-requires : goal.flush-requires
-flush-requires g c = (c.requires.0, c.requires.1.whole.logged c.requires.2, c.requires.2)
-
-pub returns-in-Ok-clause-fits : goal.returns-in-Ok-clause-fits
-returns-in-Ok-clause-fits g c = λ s is still.
+pub returns-then-not-must_roll-clause-any_moment : goal.returns-then-not-must_roll-clause-any_moment
+returns-then-not-must_roll-clause-any_moment g c = λ s is still.
     let told = g.D.Disk.told c.args.writing.now.disk in
-    let told' = g.D.Disk.told c.flush.new.self.disk in
-    let old : Logged = record { places = c.args.held.now; log = c.args.writing.now.log; busy = c.args.writing.now.busy } in
-    let new : Logged = record { places = c.settle.new.self; log = c.flush.new.self.log; busy = c.flush.new.self.busy } in
-    let log = is.whole.logged still in
-    settle_fits told told' old new s is still
-    (flush_grows told told' old.log new.log s (log.waits still) (λ birth frames waits. c.flush.ensures.changes birth frames waits) (λ birth frames waits. c.in-Ok.ensures.flushed birth frames waits) c.in-Ok.ensures.moved c.in-Ok.ensures.same)
-    (λ known looks. c.settle.ensures.step known s looks) (c.in-Ok.ensures.logged s log still (staged_below s is.whole.sound))
+    let told' = g.D.Disk.told c.settle_here.new.writing.disk in
+    flushed_both told told' s still (c.settle_here.ensures.any_moment s is still) (writes_here told told' c.args.writing.now.log s ((is.whole.logged still).waits still) c.settle_here.ensures.writes)
+
+-- in the next file
+
+pub returns-in-Ok-clause-put : goal.returns-in-Ok-clause-put
+returns-in-Ok-clause-put g c = ok_then c.settle_here-in-Ok.result _ _ (λ put token pointer may. put token pointer (c.in-Ok.ensures.put token pointer may)) c.settle_here-in-Ok.ensures.put
+
+pub returns-in-Ok-clause-any_moment : goal.returns-in-Ok-clause-any_moment
+returns-in-Ok-clause-any_moment g c = λ s is still.
+    let told = g.D.Disk.told c.args.writing.now.disk in
+    let mid = g.D.Disk.told c.go_on.new.writing.disk in
+    let told' = g.D.Disk.told c.settle_here-in-Ok.new.writing.disk in
+    let file : c.go_on.new.writing.log.file ≡ c.args.writing.now.log.file + 1 = ap (λ (w : Writer). w.file) c.in-Ok.ensures.moved in
+    let images : Tells told told' (λ t u. LeavesOnly t u (MayRecover s)) = goes_then told mid told' s (c.go_on.ensures.any_moment s is still) (c.settle_here-in-Ok.ensures.any_moment s (c.in-Ok.ensures.state s is still) still) in
+    flushed_both told told' s still images
+    (writes_next told mid told' c.args.writing.now.log s ((is.whole.logged still).waits still) c.go_on.ensures.begins (subst (λ (n : ℕ). Tells mid told' (ChangesAlone n 2)) file c.settle_here-in-Ok.ensures.writes))
+
+pub returns-in-Ok-clause-nothing : goal.returns-in-Ok-clause-nothing
+returns-in-Ok-clause-nothing g c = λ none.
+    let rolls = c.if-not-must_roll.ensures.must.0 refl in
+    let is = c.requires.1 in
+    absurd (omega (arith, rolls.0, none_waits (g.D.Disk.told c.args.writing.now.disk) c.args.writing.now.log c.requires.0 ((is.whole.logged c.requires.2).waits c.requires.2) none))
+
+-- where the next file could not be begun
 
 pub returns-in-Err-clause-failed : goal.returns-in-Err-clause-failed
 returns-in-Err-clause-failed g c = λ s is still.
     let told = g.D.Disk.told c.args.writing.now.disk in
-    let told' = g.D.Disk.told c.flush.new.self.disk in
+    let told' = g.D.Disk.told c.go_on.new.writing.disk in
     let old : Logged = record { places = c.args.held.now; log = c.args.writing.now.log; busy = c.args.writing.now.busy } in
-    let new : Logged = record { places = c.set_broken.new.self; log = c.flush.new.self.log; busy = c.flush.new.self.busy } in
-    failed_state told told' old new s is (c.flush.ensures.any_moment s (is.whole.logged still) still) (λ known looks. c.set_broken.ensures known s looks)
-
-pub returns-in-Ok-clause-any_moment : goal.returns-in-Ok-clause-any_moment
-returns-in-Ok-clause-any_moment g c = λ s is still.
-    flushed_both (g.D.Disk.told c.args.writing.now.disk) (g.D.Disk.told c.flush.new.self.disk) s still (c.flush.ensures.any_moment s (is.whole.logged still) still) (c.flush.ensures.writes s (is.whole.logged still) still)
+    let new : Logged = record { places = c.set_broken.new.self; log = c.go_on.new.writing.log; busy = c.go_on.new.writing.busy } in
+    failed_state told told' old new s is (goes_over told told' s (c.go_on.ensures.any_moment s is still))
+    (λ settled known looks. c.set_broken.ensures settled known s (subst (λ (p : Places). Looks settled known p s) (sym c.in-Err.ensures.refused.1) looks))
 
 pub returns-in-Err-clause-any_moment : goal.returns-in-Err-clause-any_moment
 returns-in-Err-clause-any_moment g c = λ s is still.
-    flushed_both (g.D.Disk.told c.args.writing.now.disk) (g.D.Disk.told c.flush.new.self.disk) s still (c.flush.ensures.any_moment s (is.whole.logged still) still) (c.flush.ensures.writes s (is.whole.logged still) still)
+    let told = g.D.Disk.told c.args.writing.now.disk in
+    let told' = g.D.Disk.told c.go_on.new.writing.disk in
+    flushed_both told told' s still (goes_over told told' s (c.go_on.ensures.any_moment s is still)) (writes_begun told told' c.args.writing.now.log s ((is.whole.logged still).waits still) c.go_on.ensures.begins)
+
+pub returns-in-Err-clause-nothing : goal.returns-in-Err-clause-nothing
+returns-in-Err-clause-nothing g c = λ none.
+    let rolls = c.if-not-must_roll.ensures.must.0 refl in
+    let is = c.requires.1 in
+    absurd (omega (arith, rolls.0, none_waits (g.D.Disk.told c.args.writing.now.disk) c.args.writing.now.log c.requires.0 ((is.whole.logged c.requires.2).waits c.requires.2) none))

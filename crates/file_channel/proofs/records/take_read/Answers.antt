@@ -41,7 +41,7 @@ returns-then-has_room-clause-step g c = λ s kept rest is allowed free_is gives.
     let token = c.args.txn.now in
     let old : Logged = record { places = c.args.held.now; log = c.args.writing.now.log; busy = c.args.writing.now.busy } in
     let may : MayBeTaken s token = may_be_taken s token allowed in
-    let count : c.size_of_takes-first.result ≡ size_of_list (takes_of s token) = c.size_of_takes-first.ensures.size is.known s is.looks in
+    let count : c.size_of_takes-first.result ≡ size_of_list (takes_of s token) = c.size_of_takes-first.ensures.size is.settled is.known s is.looks in
     let first : (c.size_of_takes-first.result == 0) ≡ (length may.numbers == 0) = ap (λ (n : ℕ). n == 0) (count ∙ ap (λ (o : Option (List ℕ)). size_of_list o) may.list) in
     let told' = g.D.Disk.told c.add_take.new.writing.disk in
     let new : Logged = record { places = c.add_take.new.held; log = c.add_take.new.writing.log; busy = c.add_take.new.writing.busy } in
@@ -78,7 +78,7 @@ returns-clause-step g c = λ s kept rest is allowed free_is gives.
     let token = c.args.txn.now in
     let old : Logged = record { places = c.args.held.now; log = c.args.writing.now.log; busy = c.args.writing.now.busy } in
     let may : MayBeTaken s token = may_be_taken s token allowed in
-    let count : c.size_of_takes-first.result ≡ size_of_list (takes_of s token) = c.size_of_takes-first.ensures.size is.known s is.looks in
+    let count : c.size_of_takes-first.result ≡ size_of_list (takes_of s token) = c.size_of_takes-first.ensures.size is.settled is.known s is.looks in
     let first : (c.size_of_takes-first.result == 0) ≡ (length may.numbers == 0) = ap (λ (n : ℕ). n == 0) (count ∙ ap (λ (o : Option (List ℕ)). size_of_list o) may.list) in
     let between = g.D.Disk.told c.settle_staged.new.writing.disk in
     let mid : Logged = record { places = c.settle_staged.new.held; log = c.settle_staged.new.writing.log; busy = c.settle_staged.new.writing.busy } in
@@ -98,12 +98,12 @@ returns-clause-full g c = λ s is still spilled.
     let mid : Logged = record { places = c.settle_staged.new.held; log = c.settle_staged.new.writing.log; busy = c.settle_staged.new.writing.busy } in
     let log : IsLogged told old.log old.busy s = is.whole.logged still in
     let few : old.busy ≤ 1024 = busy_few told old.log old.busy s log in
-    let count : c.size_of_takes-first.result ≡ size_of_list (takes_of s token) = c.size_of_takes-first.ensures.size is.known s is.looks in
+    let count : c.size_of_takes-first.result ≡ size_of_list (takes_of s token) = c.size_of_takes-first.ensures.size is.settled is.known s is.looks in
     let size : ℕ = 17 + kept_room old.busy (c.size_of_takes-first.result == 0) in
     let needs : size ≡ room_of s 17 (size_of_list (takes_of s token)) = room_is told old.log old.busy s 17 c.size_of_takes-first.result (size_of_list (takes_of s token)) log count in
     let full : HasRoom old.log size → ⊥ = (let lacks = c.has_room.ensures in search rules) in
     let left : Tells told between (HadNoRoom size) =
-    had_no_room told between old.log mid.log old.busy mid.busy s size (λ t u. Flushed s t u) (c.settle_staged.ensures.any_moment s is still) still log (c.in-Ok.ensures.fits s is still).logged c.in-Ok.ensures.moved full
+    had_no_room told between old.log mid.log old.busy mid.busy s size (λ t u. Flushed s t u) (c.settle_staged.ensures.any_moment s is still) still log (c.in-Ok.ensures.fits s is still).logged c.in-Ok.ensures.writes_on full
     (λ empty. take_room old.log old.busy (c.size_of_takes-first.result == 0) empty few) in
     subst (λ (v : Option Told). Tells told v (HadNoRoom (room_of s 17 (size_of_list (takes_of s token))))) (sym (ap g.D.Disk.told c.add_take-2.ensures.disk))
     (subst (λ (n : ℕ). Tells told between (HadNoRoom n)) needs left)

@@ -18,7 +18,7 @@ free_takes-requires c =
     let l : Listed = listed_of c.end-ended.result in
     let both = both_of i.known i.state.rules.limits.txn_capacity (open_at p.opened n) (entry_of n i.state.opened) l (i.looks.opened n) c.end-ended.ensures.ended in
     let are = takes_of_one (open_at p.opened n) l (subst (λ (q : Places). is_open false (open_at q.opened n) ≡ true) (sym c.self.view_is) c.requires) c.end-ended.ensures.ended in
-    takes_live i.known p i.state n l i.looks (taken_of i.known l (entry_of n i.state.opened) both are)
+    takes_live i.settled i.known p i.state n l i.looks (taken_of i.known l (entry_of n i.state.opened) both are)
 
 pub invariant_of-self : goal.invariant_of-self
 invariant_of-self c =
@@ -31,9 +31,10 @@ invariant_of-self c =
     let has = taken_of i.known l (entry_of n i.state.opened) both are in
     let live = ap (λ (x : Index). x.live) c.free_takes.ensures in
     record {
+      settled = i.settled;
       known = i.known;
       state = close n i.state;
-      looks = relive i.known p _ _ c.end-ended.new.self c.free_takes.new.ring.live live (drop_takes_looks i.known p i.state c.end-ended.new.self n l i.looks has c.end-ended.ensures.rest c.end-ended.ensures.count);
+      looks = relive i.settled i.known p _ _ c.end-ended.new.self c.free_takes.new.ring.live live (drop_takes_looks i.settled i.known p i.state c.end-ended.new.self n l i.looks has c.end-ended.ensures.rest c.end-ended.ensures.count);
       open_are = omega (arith, i.open_are, c.end-ended.ensures.count);
       open_few = omega (arith, i.open_few);
       lists = rooms_stay p.opened c.end-ended.new.self n None c.end-ended.ensures.rest tt i.lists;
@@ -48,12 +49,12 @@ invariant_of-self c =
     }
 
 pub returns : goal.returns
-returns c = λ known s looks.
+returns c = λ settled known s looks.
     let p : Places = places_of c.self.inside in
-    let here : Looks known p s = subst (λ (q : Places). Looks known q s) (sym c.self.view_is) looks in
+    let here : Looks settled known p s = subst (λ (q : Places). Looks settled known q s) (sym c.self.view_is) looks in
     let n = c.args.number in
     let l : Listed = listed_of c.end-ended.result in
     let both = both_of known s.rules.limits.txn_capacity (open_at p.opened n) (entry_of n s.opened) l (here.opened n) c.end-ended.ensures.ended in
     let are = takes_of_one (open_at p.opened n) l (subst (λ (q : Places). is_open false (open_at q.opened n) ≡ true) (sym c.self.view_is) c.requires) c.end-ended.ensures.ended in
-    relive known p _ _ c.end-ended.new.self c.free_takes.new.ring.live (ap (λ (x : Index). x.live) c.free_takes.ensures)
-    (drop_takes_looks known p s c.end-ended.new.self n l here (taken_of known l (entry_of n s.opened) both are) c.end-ended.ensures.rest c.end-ended.ensures.count)
+    relive settled known p _ _ c.end-ended.new.self c.free_takes.new.ring.live (ap (λ (x : Index). x.live) c.free_takes.ensures)
+    (drop_takes_looks settled known p s c.end-ended.new.self n l here (taken_of known l (entry_of n s.opened) both are) c.end-ended.ensures.rest c.end-ended.ensures.count)

@@ -6,20 +6,20 @@ use Rattle.channel_places.specs.Looks.{held_in}
 use Rattle.channel_places.proofs.places.Held.first_free.Goals as goal
 
 pub returns-in-Some-pointer : goal.returns-in-Some-pointer
-returns-in-Some-pointer c = λ known s looks.
+returns-in-Some-pointer c = λ settled known s looks.
     let p : Places = places_of c.self.inside in
-    let here : Looks known p s = subst (λ (q : Places). Looks known q s) (sym c.self.view_is) looks in
-    first_of known p s c.in-Some.number c.in-Some-pointer.pointer here (sym c.first_free.ensures ∙ c.in-Some.is) (sym c.pointer.ensures ∙ c.in-Some-pointer.is)
+    let here : Looks settled known p s = subst (λ (q : Places). Looks settled known q s) (sym c.self.view_is) looks in
+    first_of settled known p s c.in-Some.number c.in-Some-pointer.pointer here (sym c.first_free.ensures ∙ c.in-Some.is) (sym c.pointer.ensures ∙ c.in-Some-pointer.is)
 
 pub returns-in-None-pointer : goal.returns-in-None-pointer
-returns-in-None-pointer c = λ known s looks.
+returns-in-None-pointer c = λ settled known s looks.
     let p : Places = places_of c.self.inside in
-    let here : Looks known p s = subst (λ (q : Places). Looks known q s) (sym c.self.view_is) looks in
-    let f = some_free known (held_in s) p.live s.items c.in-Some.number here.left (sym c.first_free.ensures ∙ c.in-Some.is) in
+    let here : Looks settled known p s = subst (λ (q : Places). Looks settled known q s) (sym c.self.view_is) looks in
+    let f = some_free settled (held_in s) p.live s.items c.in-Some.number here.left (sym c.first_free.ensures ∙ c.in-Some.is) in
     absurd (live_pointer p.live c.in-Some.number f.live_is (sym c.pointer.ensures ∙ c.in-None-pointer.is))
 
 pub returns-in-None : goal.returns-in-None
-returns-in-None c = λ known s looks.
+returns-in-None c = λ settled known s looks.
     let p : Places = places_of c.self.inside in
-    let here : Looks known p s = subst (λ (q : Places). Looks known q s) (sym c.self.view_is) looks in
-    none_of known p s here (sym c.first_free.ensures ∙ c.in-None.is)
+    let here : Looks settled known p s = subst (λ (q : Places). Looks settled known q s) (sym c.self.view_is) looks in
+    none_of settled known p s here (sym c.first_free.ensures ∙ c.in-None.is)

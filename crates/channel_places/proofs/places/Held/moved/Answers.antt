@@ -1,9 +1,10 @@
 use Rattle.std.proofs.Common.{◌≡◌, List, ap, arith, length, map, subst, sym}
-use Rattle.open_table.specs.Tables.{Listed, listed_of, moved, open_at}
+use Rattle.open_table.specs.Tables.{Listed, MayAdd, listed_of, moved, open_at}
+use Rattle.open_table.specs.declared.opened.Item.TheVariants.{Put, Take}
 use Rattle.channel_places.specs.Ends.{one_if_staged}
-use Rattle.channel_places.specs.Looks.{IsWithinRoom, LookLeft, Looks, Places, held_in, puts_in}
+use Rattle.channel_places.specs.Looks.{IsWithinRoom, Looks, MayPut, MayTake, Places, puts_in}
 use Rattle.channel_places.specs.View.{places_of}
-use Rattle.channel_places.proofs.Moved.{both_known, left_both, length-moved, moved_looks, moved_within, moves_both, one_if-moved, open_may, puts_in-moved, staged_may}
+use Rattle.channel_places.proofs.Moved.{all_moved, known_moved, length-moved, may_moved, moved_looks, moved_within, one_if-moved, open_may, puts_in-moved, staged_may}
 use Rattle.channel_places.proofs.places.Held.moved.Goals as goal
 
 pub moved-requires : goal.moved-requires
@@ -22,10 +23,11 @@ invariant_of-self c =
     let to_at = c.args.to_at in
     let staged : map listed_of c.move_staged.new.staged.items ≡ map (moved file at to_file to_at) p.staged = c.move_staged.ensures.items in
     record {
-      known = both_known file at to_file to_at i.known;
+      settled = i.settled;
+      known = known_moved file at to_file to_at i.known;
       state = i.state;
-      looks = moved_looks i.known (both_known file at to_file to_at i.known) file at to_file to_at p i.state c.moved.new.self (map listed_of c.move_staged.new.staged.items) i.looks (moves_both file at to_file to_at i.known)
-          (left_both file at to_file to_at i.known (held_in i.state) p.live i.state.items i.looks.left) c.moved.ensures.moved c.moved.ensures.count staged;
+      looks = moved_looks i.settled i.known (known_moved file at to_file to_at i.known) file at to_file to_at p i.state c.moved.new.self (map listed_of c.move_staged.new.staged.items) i.looks (all_moved file at to_file to_at i.known)
+          c.moved.ensures.moved c.moved.ensures.count staged;
       open_are = omega (arith, i.open_are, c.moved.ensures.count);
       open_few = i.open_few;
       lists = λ txn. subst IsWithinRoom (sym (c.moved.ensures.moved txn)) (moved_within file at to_file to_at (open_at p.opened txn) (i.lists txn));
@@ -39,10 +41,26 @@ invariant_of-self c =
       frames = omega (arith, i.frames, c.moved.ensures.count, ap (λ (l : List Listed). one_if_staged l) staged, one_if-moved file at to_file to_at p.staged);
     }
 
-pub returns : goal.returns
-returns c = λ known more s looks moves left.
+pub returns-clause-moved : goal.returns-clause-moved
+returns-clause-moved c = λ settled known more s looks moves.
     let p : Places = places_of c.self.inside in
-    let here : Looks known p s = subst (λ (q : Places). Looks known q s) (sym c.self.view_is) looks in
-    let left_so : LookLeft more (held_in s) p.live s.items = subst (λ (q : Places). LookLeft more (held_in s) q.live s.items) (sym c.self.view_is) left in
+    let here : Looks settled known p s = subst (λ (q : Places). Looks settled known q s) (sym c.self.view_is) looks in
     let staged : map listed_of c.move_staged.new.staged.items ≡ map (moved c.args.file c.args.at c.args.to_file c.args.to_at) p.staged = c.move_staged.ensures.items in
-    moved_looks known more c.args.file c.args.at c.args.to_file c.args.to_at p s c.moved.new.self (map listed_of c.move_staged.new.staged.items) here moves left_so c.moved.ensures.moved c.moved.ensures.count staged
+    moved_looks settled known more c.args.file c.args.at c.args.to_file c.args.to_at p s c.moved.new.self (map listed_of c.move_staged.new.staged.items) here moves c.moved.ensures.moved c.moved.ensures.count staged
+
+pub returns-clause-put : goal.returns-clause-put
+returns-clause-put c = λ token pointer may.
+    let p : Places = places_of c.self.inside in
+    let old : MayPut p token pointer = subst (λ (q : Places). MayPut q token pointer) (sym c.self.view_is) may in
+    let staged : map listed_of c.move_staged.new.staged.items ≡ map (moved c.args.file c.args.at c.args.to_file c.args.to_at) p.staged = c.move_staged.ensures.items in
+    record {
+      life = old.life;
+      room = subst (MayAdd (Put pointer)) (sym (c.moved.ensures.moved token.number)) (may_moved c.args.file c.args.at c.args.to_file c.args.to_at (Put pointer) (open_at p.opened token.number) old.room);
+      few = omega (arith, old.few, ap (λ (l : List Listed). puts_in l) staged, puts_in-moved c.args.file c.args.at c.args.to_file c.args.to_at p.staged);
+    }
+
+pub returns-clause-take : goal.returns-clause-take
+returns-clause-take c = λ token may.
+    let p : Places = places_of c.self.inside in
+    let old : MayTake p token = subst (λ (q : Places). MayTake q token) (sym c.self.view_is) may in
+    record { life = old.life; room = subst (MayAdd (Take 0)) (sym (c.moved.ensures.moved token.number)) (may_moved c.args.file c.args.at c.args.to_file c.args.to_at (Take 0) (open_at p.opened token.number) old.room) }

@@ -22,9 +22,10 @@ invariant_of-result c =
     let staged : map listed_of c.new-2.result.items ≡ [] = ap (λ (l : List Ended). map listed_of l) c.new-2.ensures.items in
     let ends = c.new-3.ensures.items in
     record {
+      settled = r.0;
       known = r.0;
       state = opening o;
-      looks = opened_looks r.0 _ o c.in-Ok.ensures staged refl (ap (λ l. record { rules = o.rules; first = c.args.first; txn = c.args.txn; broken = Rattle.std.proofs.Common.false; life = 1; frame = 1; ends = l }) ends) r.2 r.3;
+      looks = opened_looks r.0 r.0 _ o c.in-Ok.ensures staged refl (ap (λ l. record { rules = o.rules; first = c.args.first; txn = c.args.txn; broken = Rattle.std.proofs.Common.false; life = 1; frame = 1; ends = l }) ends) r.2 r.3;
       open_are = sym (ap (λ (t : Table). length t) c.in-Ok.ensures);
       open_few = omega arith;
       lists = λ txn. subst (λ (t : Table). IsWithinRoom (open_at t txn)) (sym c.in-Ok.ensures) tt;

@@ -18,9 +18,10 @@ invariant_of-self c =
     let has = subst (λ (n : ℕ). HasAt n (added (Put c.args.pointer) (open_at p.opened n)) p.opened c.add.new.self) c.number.ensures c.add.ensures.added in
     let event = content Rattle.std.proofs.Common.[] Rattle.std.proofs.Common.[] in
     record {
+      settled = i.settled;
       known = (c.args.pointer, event) ∷ i.known;
       state = add_put i.state token.number (puts_of i.state token) event;
-      looks = put_looks i.known p i.state c.add.new.self token c.args.pointer event i.looks may.life may.room has c.add.ensures.count;
+      looks = put_looks i.settled i.known p i.state c.add.new.self token c.args.pointer event i.looks may.life may.room has c.add.ensures.count;
       open_are = omega (arith, i.open_are, c.add.ensures.count);
       open_few = i.open_few;
       lists = rooms_stay p.opened c.add.new.self token.number (added (Put c.args.pointer) (open_at p.opened token.number)) has (put_within c.args.pointer (open_at p.opened token.number) may.room) i.lists;
@@ -35,10 +36,10 @@ invariant_of-self c =
     }
 
 pub returns : goal.returns
-returns c = λ known s event looks.
+returns c = λ settled known s event looks.
     let p : Places = places_of c.self.inside in
     let token = c.args.txn.now in
-    let here : Looks known p s = subst (λ (q : Places). Looks known q s) (sym c.self.view_is) looks in
+    let here : Looks settled known p s = subst (λ (q : Places). Looks settled known q s) (sym c.self.view_is) looks in
     let may : MayPut p token c.args.pointer = subst (λ (q : Places). MayPut q token c.args.pointer) (sym c.self.view_is) c.requires in
     let has = subst (λ (n : ℕ). HasAt n (added (Put c.args.pointer) (open_at p.opened n)) p.opened c.add.new.self) c.number.ensures c.add.ensures.added in
-    put_looks known p s c.add.new.self token c.args.pointer event here may.life may.room has c.add.ensures.count
+    put_looks settled known p s c.add.new.self token c.args.pointer event here may.life may.room has c.add.ensures.count

@@ -14,12 +14,12 @@ pub overflow_add-count-2 : goal.overflow_add-count-2
 overflow_add-count-2 c = omega (arith, c.self.invariant.within, c.self.invariant.few, c.self.invariant.staged_puts_are, c.len.ensures)
 
 pub returns-then-count-self-clause-refusal : goal.returns-then-count-self-clause-refusal
-returns-then-count-self-clause-refusal c = λ known s event looks size.
+returns-then-count-self-clause-refusal c = λ settled known s event looks size.
     let p : Places = places_of c.self.inside in
-    let here : Looks known p s = subst (λ (q : Places). Looks known q s) (sym c.self.view_is) looks in
-    let found = c.in-Some.ensures.found known s looks in
+    let here : Looks settled known p s = subst (λ (q : Places). Looks settled known q s) (sym c.self.view_is) looks in
+    let found = c.in-Some.ensures.found settled known s looks in
     let same : c.len.result + c.self.inside.open_puts + c.self.inside.staged_puts ≡ count s =
-    omega (arith, c.len.ensures, c.self.invariant.staged_puts_are, count_is known p s here) in
+    omega (arith, c.len.ensures, c.self.invariant.staged_puts_are, count_is settled known p s here) in
     ap (λ n. Some (Full n)) same
     ∙ sym (refuses_full s _ found.0 event found.1 (sym (ap (λ (n : Numbers). n.rules.kind) here.numbers)) (sym (ap (λ (n : Numbers). n.broken) here.numbers) ∙ c.if-self.false)
     (omega (arith, found.2, c.if-held-self.false, ap (λ (n : Numbers). n.rules.limits.txn_capacity) here.numbers))
@@ -27,12 +27,12 @@ returns-then-count-self-clause-refusal c = λ known s event looks size.
     (omega (arith, same, c.if-count-self.true, ap (λ (n : Numbers). n.rules.limits.capacity) here.numbers)))
 
 pub returns-clause-refusal : goal.returns-clause-refusal
-returns-clause-refusal c = λ known s event looks size.
+returns-clause-refusal c = λ settled known s event looks size.
     let p : Places = places_of c.self.inside in
-    let here : Looks known p s = subst (λ (q : Places). Looks known q s) (sym c.self.view_is) looks in
-    let found = c.in-Some.ensures.found known s looks in
+    let here : Looks settled known p s = subst (λ (q : Places). Looks settled known q s) (sym c.self.view_is) looks in
+    let found = c.in-Some.ensures.found settled known s looks in
     let same : c.len.result + c.self.inside.open_puts + c.self.inside.staged_puts ≡ count s =
-    omega (arith, c.len.ensures, c.self.invariant.staged_puts_are, count_is known p s here) in
+    omega (arith, c.len.ensures, c.self.invariant.staged_puts_are, count_is settled known p s here) in
     sym (refuses_none s _ found.0 event found.1 (sym (ap (λ (n : Numbers). n.rules.kind) here.numbers)) (sym (ap (λ (n : Numbers). n.broken) here.numbers) ∙ c.if-self.false)
     (omega (arith, found.2, c.if-held-self.false, ap (λ (n : Numbers). n.rules.limits.txn_capacity) here.numbers))
     (omega (arith, size, c.if-size-gt-MAX_SIZE.false))

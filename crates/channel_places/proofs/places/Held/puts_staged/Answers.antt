@@ -5,6 +5,6 @@ use Rattle.channel_places.proofs.Looking.{staged_length}
 use Rattle.channel_places.proofs.places.Held.puts_staged.Goals as goal
 
 pub returns : goal.returns
-returns c = λ known s looks.
-    let here : Looks known (places_of c.self.inside) s = subst (λ (q : Places). Looks known q s) (sym c.self.view_is) looks in
+returns c = λ settled known s looks.
+    let here : Looks settled known (places_of c.self.inside) s = subst (λ (q : Places). Looks settled known q s) (sym c.self.view_is) looks in
     c.self.invariant.staged_puts_are ∙ staged_length known (places_of c.self.inside).staged s.staged here.staged

@@ -19,9 +19,10 @@ invariant_of-self c =
     let ends = c.requires.ends ∙ sym (ap (λ (q : Places). q.numbers.ends ++ q.numbers.frame ∷ []) c.self.view_is) in
     let slots = c.requires.slots ∙ sym (ap (λ (q : Places). q.numbers.rules.limits.capacity) c.self.view_is) in
     record {
+      settled = given.0;
       known = given.0;
       state = after_reopen i.state (Ok r);
-      looks = renew_looks i.known given.0 p i.state r c.args.ring.live _ _ c.args.first c.args.txn c.args.ends.items i.looks c.end_all.ensures cleared refl refl ends given.2 given.3;
+      looks = renew_looks i.settled i.known given.0 given.0 p i.state r c.args.ring.live _ _ c.args.first c.args.txn c.args.ends.items i.looks c.end_all.ensures cleared refl refl ends given.2 given.3;
       open_are = sym (ap (λ (t : Table). length t) c.end_all.ensures);
       open_few = omega arith;
       lists = λ txn. subst (λ (t : Table). IsWithinRoom (open_at t txn)) (sym c.end_all.ensures) tt;
@@ -36,9 +37,9 @@ invariant_of-self c =
     }
 
 pub returns : goal.returns
-returns c = λ old known s r looks txn first left base.
+returns c = λ before old settled known s r looks txn first left base.
     let p : Places = places_of c.self.inside in
-    let here : Looks old p s = subst (λ (q : Places). Looks old q s) (sym c.self.view_is) looks in
+    let here : Looks before old p s = subst (λ (q : Places). Looks before old q s) (sym c.self.view_is) looks in
     let cleared : map listed_of c.clear.new.self.items ≡ [] = ap (λ (l : List Ended). map listed_of l) c.clear.ensures.items in
     let ends = c.requires.ends ∙ sym (ap (λ (q : Places). q.numbers.ends ++ q.numbers.frame ∷ []) c.self.view_is) in
-    renew_looks old known p s r c.args.ring.live _ _ c.args.first c.args.txn c.args.ends.items here c.end_all.ensures cleared first txn ends left base
+    renew_looks before old settled known p s r c.args.ring.live _ _ c.args.first c.args.txn c.args.ends.items here c.end_all.ensures cleared first txn ends left base

@@ -9,9 +9,10 @@ pub invariant_of-self : goal.invariant_of-self
 invariant_of-self c =
     let i = c.self.invariant in
     record {
+      settled = i.settled;
       known = i.known;
       state = broken_state i.state;
-      looks = broken_looks i.known (places_of c.self.inside) i.state i.looks;
+      looks = broken_looks i.settled i.known (places_of c.self.inside) i.state i.looks;
       open_are = i.open_are;
       open_few = i.open_few;
       lists = i.lists;
@@ -26,5 +27,5 @@ invariant_of-self c =
     }
 
 pub returns : goal.returns
-returns c = λ known s looks.
-    broken_looks known (places_of c.self.inside) s (subst (λ (q : Places). Looks known q s) (sym c.self.view_is) looks)
+returns c = λ settled known s looks.
+    broken_looks settled known (places_of c.self.inside) s (subst (λ (q : Places). Looks settled known q s) (sym c.self.view_is) looks)

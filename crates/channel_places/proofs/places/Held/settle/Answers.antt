@@ -1,12 +1,13 @@
-use Rattle.std.proofs.Common.{◌≡◌, ◌∙◌, ◌+◌, ℕ, List, ap, arith, length, length-append, map, refl, subst, sym}
+use Rattle.std.proofs.Common.{◌≡◌, ◌∙◌, ◌+◌, ◌++◌, ℕ, List, ap, arith, length, length-append, map, refl, subst, sym}
 use Rattle.open_table.specs.Tables.{Listed, listed_of}
 use Rattle.open_table.specs.declared.opened.Ended.{Ended}
 use Rattle.event_ring.specs.Slots.{Index, Left}
 use Rattle.channel_face.specs.Machine as face
 use Rattle.channel_places.specs.Ends.{AreApart, one_if_staged, placed, pointers_in, takes_in}
-use Rattle.channel_places.specs.Looks.{Looks, MayPut, MayTake, Places, puts_in}
+use Rattle.channel_places.specs.Looks.{Known, Looks, MayPut, MayTake, Places, puts_in}
 use Rattle.channel_places.specs.View.{places_of}
 use Rattle.channel_places.proofs.Batches.{length_placed}
+use Rattle.channel_places.proofs.Opening.{grows_behind, grows_front, looks_grow}
 use Rattle.channel_places.proofs.Leaving.{lacking_length, pointers_length, replaced, settle_looks, settled_same, staged_apart}
 use Rattle.channel_places.proofs.places.Held.settle.Goals as goal
 
@@ -15,7 +16,7 @@ remove_staged-requires c =
     let i = c.self.invariant in
     let p : Places = places_of c.self.inside in
     let same : map listed_of c.deref-2.result.now ≡ p.staged = ap (λ (l : List Ended). map listed_of l) c.deref-2.ensures.value in
-    subst (λ (l : List Listed). AreApart p.live (takes_in l)) (sym same) (staged_apart i.known p i.state i.looks)
+    subst (λ (l : List Listed). AreApart p.live (takes_in l)) (sym same) (staged_apart i.settled i.known p i.state i.looks)
 
 pub append_staged-self-inside-requires-clause-low : goal.append_staged-self-inside-requires-clause-low
 append_staged-self-inside-requires-clause-low c =
@@ -49,10 +50,12 @@ invariant_of-self c =
     let cleared : map listed_of c.clear.new.self.items ≡ Rattle.std.proofs.Common.[] = ap (λ (l : List Ended). map listed_of l) c.clear.ensures.items in
     let same = settled_same p _ _ _ _ _ _ _ _ counted removed added cleared (ap (λ (r : Index). r.live) c.remove_staged.ensures) c.append_staged-self-inside.ensures.appended.live c.append_staged-self-inside.ensures.next c.one_if_staged.ensures in
     let many : length (pointers_in (map listed_of c.deref-3.result.now)) ≡ puts_in p.staged = ap (λ (l : List Listed). length (pointers_in l)) added ∙ pointers_length p.staged in
+    let all : Known = i.settled ++ i.known in
     record {
-      known = i.known;
+      settled = all;
+      known = all;
       state = face.settle i.state;
-      looks = replaced i.known _ _ _ same (settle_looks i.known p i.state i.looks);
+      looks = replaced all all _ _ _ same (settle_looks all p i.state (looks_grow i.settled i.known all p i.state (grows_front i.settled i.known) (grows_behind i.settled i.known) i.looks));
       open_are = i.open_are;
       open_few = i.open_few;
       lists = i.lists;
@@ -81,13 +84,13 @@ invariant_of-self c =
 pub returns-clause-step : goal.returns-clause-step
 returns-clause-step c = λ known s looks.
     let p : Places = places_of c.self.inside in
-    let here : Looks known p s = subst (λ (q : Places). Looks known q s) (sym c.self.view_is) looks in
+    let here : Looks known known p s = subst (λ (q : Places). Looks known known q s) (sym c.self.view_is) looks in
     let counted : map listed_of c.deref.result.now ≡ p.staged = ap (λ (l : List Ended). map listed_of l) c.deref.ensures.value in
     let removed : map listed_of c.deref-2.result.now ≡ p.staged = ap (λ (l : List Ended). map listed_of l) c.deref-2.ensures.value in
     let added : map listed_of c.deref-3.result.now ≡ p.staged = ap (λ (l : List Ended). map listed_of l) c.deref-3.ensures.value in
     let cleared : map listed_of c.clear.new.self.items ≡ Rattle.std.proofs.Common.[] = ap (λ (l : List Ended). map listed_of l) c.clear.ensures.items in
     let same = settled_same p _ _ _ _ _ _ _ _ counted removed added cleared (ap (λ (r : Index). r.live) c.remove_staged.ensures) c.append_staged-self-inside.ensures.appended.live c.append_staged-self-inside.ensures.next c.one_if_staged.ensures in
-    replaced known _ _ _ same (settle_looks known p s here)
+    replaced known known _ _ _ same (settle_looks known p s here)
 
 pub returns-clause-put : goal.returns-clause-put
 returns-clause-put c = λ token pointer may.

@@ -4,4 +4,4 @@ use Rattle.channel_places.specs.Looks.{Numbers, eventless}
 use Rattle.channel_places.proofs.places.Held.settled.Goals as goal
 
 pub returns : goal.returns
-returns c = λ known s looks. c.settled_by_numbers.ensures ∙ ap (λ (n : Numbers). face.settled (eventless n) c.args.ticket.now) looks.numbers
+returns c = λ settled known s looks. c.settled_by_numbers.ensures ∙ ap (λ (n : Numbers). face.settled (eventless n) c.args.ticket.now) looks.numbers

@@ -5,6 +5,6 @@ use Rattle.channel_places.proofs.Looking.{size_is}
 use Rattle.channel_places.proofs.places.Held.size.Goals as goal
 
 pub returns : goal.returns
-returns c = λ known s looks.
+returns c = λ settled known s looks.
     let p : Places = places_of c.self.inside in
-    c.len.ensures ∙ size_is known p s (subst (λ (q : Places). Looks known q s) (sym c.self.view_is) looks)
+    c.len.ensures ∙ size_is settled known p s (subst (λ (q : Places). Looks settled known q s) (sym c.self.view_is) looks)

@@ -14,7 +14,7 @@ overflow_sub-self-2 c =
     let p : Places = places_of c.self.inside in
     let l : Listed = listed_of c.end-ended.result in
     let both = both_of i.known i.state.rules.limits.txn_capacity (open_at p.opened c.args.number) (entry_of c.args.number i.state.opened) l (i.looks.opened c.args.number) c.end-ended.ensures.ended in
-    omega (arith, open_fits i.known p i.state c.args.number l i.looks both, c.put_count-puts.ensures)
+    omega (arith, open_fits i.settled i.known p i.state c.args.number l i.looks both, c.put_count-puts.ensures)
 
 pub invariant_of-self : goal.invariant_of-self
 invariant_of-self c =
@@ -24,15 +24,16 @@ invariant_of-self c =
     let l : Listed = listed_of c.end-ended.result in
     let now : List Listed = map listed_of c.push_ended.new.staged.items in
     let both = both_of i.known i.state.rules.limits.txn_capacity (open_at p.opened n) (entry_of n i.state.opened) l (i.looks.opened n) c.end-ended.ensures.ended in
-    let fits = open_fits i.known p i.state n l i.looks both in
+    let fits = open_fits i.settled i.known p i.state n l i.looks both in
     let more : puts_in now ≡ puts_in p.staged + length (Rattle.open_table.specs.Tables.puts_of l) =
     omega (arith, ap (λ (x : List Listed). puts_in x) c.push_ended.ensures.items, puts_in-append p.staged (staged_of l), puts_in-staged l) in
     let below : p.numbers.first + puts_in p.staged + puts_of_open (open_at p.opened n) < 2 ^ 64 =
     subst (λ (q : Places). q.numbers.first + puts_in q.staged + puts_of_open (open_at q.opened n) < 2 ^ 64) (sym c.self.view_is) c.requires.numbers in
     record {
+      settled = i.settled;
       known = i.known;
       state = stage n (entry_of n i.state.opened) i.state;
-      looks = stage_looks i.known p i.state c.end-ended.new.self n l now (c.self.inside.open_puts - c.put_count-puts.result) i.looks both c.end-ended.ensures.rest c.end-ended.ensures.count c.push_ended.ensures.items (omega (arith, fits, c.put_count-puts.ensures));
+      looks = stage_looks i.settled i.known p i.state c.end-ended.new.self n l now (c.self.inside.open_puts - c.put_count-puts.result) i.looks both c.end-ended.ensures.rest c.end-ended.ensures.count c.push_ended.ensures.items (omega (arith, fits, c.put_count-puts.ensures));
       open_are = omega (arith, i.open_are, c.end-ended.ensures.count);
       open_few = omega (arith, i.open_few);
       lists = rooms_stay p.opened c.end-ended.new.self n None c.end-ended.ensures.rest tt i.lists;
@@ -47,11 +48,11 @@ invariant_of-self c =
     }
 
 pub returns : goal.returns
-returns c = λ known s looks.
+returns c = λ settled known s looks.
     let p : Places = places_of c.self.inside in
-    let here : Looks known p s = subst (λ (q : Places). Looks known q s) (sym c.self.view_is) looks in
+    let here : Looks settled known p s = subst (λ (q : Places). Looks settled known q s) (sym c.self.view_is) looks in
     let n = c.args.number in
     let l : Listed = listed_of c.end-ended.result in
     let both = both_of known s.rules.limits.txn_capacity (open_at p.opened n) (entry_of n s.opened) l (here.opened n) c.end-ended.ensures.ended in
-    stage_looks known p s c.end-ended.new.self n l (map listed_of c.push_ended.new.staged.items) (c.self.inside.open_puts - c.put_count-puts.result) here both c.end-ended.ensures.rest c.end-ended.ensures.count c.push_ended.ensures.items
-    (omega (arith, open_fits known p s n l here both, c.put_count-puts.ensures))
+    stage_looks settled known p s c.end-ended.new.self n l (map listed_of c.push_ended.new.staged.items) (c.self.inside.open_puts - c.put_count-puts.result) here both c.end-ended.ensures.rest c.end-ended.ensures.count c.push_ended.ensures.items
+    (omega (arith, open_fits settled known p s n l here both, c.put_count-puts.ensures))

@@ -12,7 +12,7 @@ use Rattle.channel_places.proofs.places.Held.take.Goals as goal
 pub mark-requires : goal.mark-requires
 mark-requires c =
     let i = c.self.invariant in
-    (some_free i.known (held_in i.state) c.self.inside.ring.live i.state.items c.in-Some.number i.looks.left (sym c.first_free.ensures ∙ c.in-Some.is)).live_is
+    (some_free i.settled (held_in i.state) c.self.inside.ring.live i.state.items c.in-Some.number i.looks.left (sym c.first_free.ensures ∙ c.in-Some.is)).live_is
 
 pub invariant_of-self : goal.invariant_of-self
 invariant_of-self c =
@@ -25,9 +25,10 @@ invariant_of-self c =
     let first = sym c.first_free.ensures ∙ c.in-Some.is in
     let live : c.mark.new.self.live ≡ marked number true p.live = ap (λ (x : Index). x.live) c.mark.ensures in
     record {
+      settled = i.settled;
       known = i.known;
       state = add_take i.state token.number (takes_of i.state token) (free i.state);
-      looks = relive i.known p _ _ c.add.new.self c.mark.new.self.live live (take_looks i.known p i.state c.add.new.self token number i.looks may.life may.room first has c.add.ensures.count);
+      looks = relive i.settled i.known p _ _ c.add.new.self c.mark.new.self.live live (take_looks i.settled i.known p i.state c.add.new.self token number i.looks may.life may.room first has c.add.ensures.count);
       open_are = omega (arith, i.open_are, c.add.ensures.count);
       open_few = i.open_few;
       lists = rooms_stay p.opened c.add.new.self token.number (added (Take number) (open_at p.opened token.number)) has (take_within number (open_at p.opened token.number) may.room) i.lists;
@@ -42,22 +43,22 @@ invariant_of-self c =
     }
 
 pub returns-in-Some : goal.returns-in-Some
-returns-in-Some c = λ known s looks.
+returns-in-Some c = λ settled known s looks.
     let p : Places = places_of c.self.inside in
     let token = c.args.txn.now in
     let number = c.in-Some.number in
-    let here : Looks known p s = subst (λ (q : Places). Looks known q s) (sym c.self.view_is) looks in
+    let here : Looks settled known p s = subst (λ (q : Places). Looks settled known q s) (sym c.self.view_is) looks in
     let may : MayTake p token = subst (λ (q : Places). MayTake q token) (sym c.self.view_is) c.requires in
     let has = subst (λ (n : ℕ). HasAt n (added (Take number) (open_at p.opened n)) p.opened c.add.new.self) c.number.ensures c.add.ensures.added in
     let first = sym c.first_free.ensures ∙ c.in-Some.is in
     let live : c.mark.new.self.live ≡ marked number true p.live = ap (λ (x : Index). x.live) c.mark.ensures in
-    relive known p _ _ c.add.new.self c.mark.new.self.live live (take_looks known p s c.add.new.self token number here may.life may.room first has c.add.ensures.count)
+    relive settled known p _ _ c.add.new.self c.mark.new.self.live live (take_looks settled known p s c.add.new.self token number here may.life may.room first has c.add.ensures.count)
 
 pub returns-in_default : goal.returns-in_default
-returns-in_default c = λ known s looks.
+returns-in_default c = λ settled known s looks.
     let p : Places = places_of c.self.inside in
     let token = c.args.txn.now in
-    let here : Looks known p s = subst (λ (q : Places). Looks known q s) (sym c.self.view_is) looks in
+    let here : Looks settled known p s = subst (λ (q : Places). Looks settled known q s) (sym c.self.view_is) looks in
     let may : MayTake p token = subst (λ (q : Places). MayTake q token) (sym c.self.view_is) c.requires in
     let none = sym c.first_free.ensures ∙ none_number c.first_free.result c.in_default.not-Some in
-    subst (λ (u : State). Looks known c.args.self.now u) (sym (take_none known p s token here may.life may.room none)) looks
+    subst (λ (u : State). Looks settled known c.args.self.now u) (sym (take_none settled known p s token here may.life may.room none)) looks

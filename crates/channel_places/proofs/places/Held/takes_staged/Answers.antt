@@ -9,6 +9,6 @@ use Rattle.channel_places.proofs.Leaving.{takes_same}
 use Rattle.channel_places.proofs.places.Held.takes_staged.Goals as goal
 
 pub returns : goal.returns
-returns c = λ known s looks.
-    let here : Looks known (places_of c.self.inside) s = subst (λ (q : Places). Looks known q s) (sym c.self.view_is) looks in
+returns c = λ settled known s looks.
+    let here : Looks settled known (places_of c.self.inside) s = subst (λ (q : Places). Looks settled known q s) (sym c.self.view_is) looks in
     c.count_takes.ensures ∙ (ap (λ (l : List Ended). capped (length (takes_in (map listed_of l)))) c.deref.ensures.value ∙ ap (λ (l : List ℕ). capped (length l)) (takes_same known (places_of c.self.inside).staged s.staged here.staged))

@@ -16,7 +16,7 @@ invariant_of-self g c =
     let whole : m.held.numbers.broken ≡ false = search rules in
     let s : State = c.self.invariant.0 in
     let is = c.self.invariant.1 in
-    let still : s.broken ≡ false = sym (same_broken is.known m.held s is.looks) ∙ whole in
+    let still : s.broken ≡ false = sym (same_broken is.settled is.known m.held s is.looks) ∙ whole in
     (after s (Flush (Err FlushNo.DiskFault)), (flush_faults told told' old new s is still (c.in-Err.ensures.failed s is still) c.in-Err.ensures.refused).stands)
 
 pub returns-in-Err-clause-step : goal.returns-in-Err-clause-step
@@ -27,7 +27,7 @@ returns-in-Err-clause-step g c = rw (← c.self.view_is) (λ s is.
     let old : Logged = record { places = m.held; log = m.writing.log; busy = m.writing.busy } in
     let new : Logged = record { places = c.settle_staged.new.held; log = c.settle_staged.new.writing.log; busy = c.settle_staged.new.writing.busy } in
     let whole : m.held.numbers.broken ≡ false = search rules in
-    let still : s.broken ≡ false = sym (same_broken is.known m.held s is.looks) ∙ whole in
+    let still : s.broken ≡ false = sym (same_broken is.settled is.known m.held s is.looks) ∙ whole in
     flush_faults told told' old new s is still (c.in-Err.ensures.failed s is still) c.in-Err.ensures.refused)
 
 pub invariant_of-self-2 : goal.invariant_of-self-2
@@ -40,7 +40,7 @@ invariant_of-self-2 g c =
     let whole : m.held.numbers.broken ≡ false = search rules in
     let s : State = c.self.invariant.0 in
     let is = c.self.invariant.1 in
-    let still : s.broken ≡ false = sym (same_broken is.known m.held s is.looks) ∙ whole in
+    let still : s.broken ≡ false = sym (same_broken is.settled is.known m.held s is.looks) ∙ whole in
     (after s (Flush (Ok tt)), (flush_steps told told' old new s is still (c.in-Ok.ensures.fits s is still) c.in-Ok.ensures.empty).stands)
 
 pub returns-clause-step : goal.returns-clause-step
@@ -51,5 +51,5 @@ returns-clause-step g c = rw (← c.self.view_is) (λ s is.
     let old : Logged = record { places = m.held; log = m.writing.log; busy = m.writing.busy } in
     let new : Logged = record { places = c.settle_staged.new.held; log = c.settle_staged.new.writing.log; busy = c.settle_staged.new.writing.busy } in
     let whole : m.held.numbers.broken ≡ false = search rules in
-    let still : s.broken ≡ false = sym (same_broken is.known m.held s is.looks) ∙ whole in
+    let still : s.broken ≡ false = sym (same_broken is.settled is.known m.held s is.looks) ∙ whole in
     flush_steps told told' old new s is still (c.in-Ok.ensures.fits s is still) c.in-Ok.ensures.empty)

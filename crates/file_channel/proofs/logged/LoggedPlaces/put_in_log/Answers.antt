@@ -21,7 +21,7 @@ returns-in-Some-clause-step g c = rw (← c.self.view_is) (λ s is.
     let token = c.args.txn.now in
     let event : Content = c.args.event.now in
     let old : Logged = record { places = m.held; log = m.writing.log; busy = m.writing.busy } in
-    let refused : put_refusal s (puts_of s token) event ≡ Some c.in-Some.refused = sym (c.put_refusal.ensures.refusal is.known s event is.looks (sym c.size.ensures.size)) ∙ c.in-Some.is in
+    let refused : put_refusal s (puts_of s token) event ≡ Some c.in-Some.refused = sym (c.put_refusal.ensures.refusal is.settled is.known s event is.looks (sym c.size.ensures.size)) ∙ c.in-Some.is in
     put_refuses told old token event c.in-Some.refused s is refused)
 
 pub returns-in-Some-clause-never : goal.returns-in-Some-clause-never
@@ -33,7 +33,7 @@ returns-in-Some-clause-never g c = λ counter spent.
     let old : Logged = record { places = m.held; log = m.writing.log; busy = m.writing.busy } in
     let s : State = c.self.invariant.0 in
     let is = c.self.invariant.1 in
-    let refused : put_refusal s (puts_of s token) event ≡ Some c.in-Some.refused = sym (c.put_refusal.ensures.refusal is.known s event is.looks (sym c.size.ensures.size)) ∙ c.in-Some.is in
+    let refused : put_refusal s (puts_of s token) event ≡ Some c.in-Some.refused = sym (c.put_refusal.ensures.refusal is.settled is.known s event is.looks (sym c.size.ensures.size)) ∙ c.in-Some.is in
     (put_quietly s (puts_of s token) event c.in-Some.refused refused).1 counter (let same : c.in-Some.refused ≡ PutNo.Spent counter = cc in same)
 
 pub returns-in-Some-clause-any_moment : goal.returns-in-Some-clause-any_moment
@@ -43,7 +43,7 @@ returns-in-Some-clause-any_moment g c = rw (← c.self.view_is) (λ s is flushed
     let token = c.args.txn.now in
     let event : Content = c.args.event.now in
     let old : Logged = record { places = m.held; log = m.writing.log; busy = m.writing.busy } in
-    let refused : put_refusal s (puts_of s token) event ≡ Some c.in-Some.refused = sym (c.put_refusal.ensures.refusal is.known s event is.looks (sym c.size.ensures.size)) ∙ c.in-Some.is in
+    let refused : put_refusal s (puts_of s token) event ≡ Some c.in-Some.refused = sym (c.put_refusal.ensures.refusal is.settled is.known s event is.looks (sym c.size.ensures.size)) ∙ c.in-Some.is in
     absurd ((put_quietly s (puts_of s token) event c.in-Some.refused refused).0 (flushes_put token event c.in-Some.refused flushed)))
 
 pub returns-in-Some-clause-fault : goal.returns-in-Some-clause-fault
@@ -55,7 +55,7 @@ returns-in-Some-clause-fault g c = λ fault.
     let old : Logged = record { places = m.held; log = m.writing.log; busy = m.writing.busy } in
     let s : State = c.self.invariant.0 in
     let is = c.self.invariant.1 in
-    let refused : put_refusal s (puts_of s token) event ≡ Some c.in-Some.refused = sym (c.put_refusal.ensures.refusal is.known s event is.looks (sym c.size.ensures.size)) ∙ c.in-Some.is in
+    let refused : put_refusal s (puts_of s token) event ≡ Some c.in-Some.refused = sym (c.put_refusal.ensures.refusal is.settled is.known s event is.looks (sym c.size.ensures.size)) ∙ c.in-Some.is in
     absurd ((put_quietly s (puts_of s token) event c.in-Some.refused refused).0 (let same : c.in-Some.refused ≡ PutNo.DiskFault = cc in same))
 
 pub returns-in-Some-clause-no_room : goal.returns-in-Some-clause-no_room
@@ -65,7 +65,7 @@ returns-in-Some-clause-no_room g c = rw (← c.self.view_is) (λ s is fault.
     let token = c.args.txn.now in
     let event : Content = c.args.event.now in
     let old : Logged = record { places = m.held; log = m.writing.log; busy = m.writing.busy } in
-    let refused : put_refusal s (puts_of s token) event ≡ Some c.in-Some.refused = sym (c.put_refusal.ensures.refusal is.known s event is.looks (sym c.size.ensures.size)) ∙ c.in-Some.is in
+    let refused : put_refusal s (puts_of s token) event ≡ Some c.in-Some.refused = sym (c.put_refusal.ensures.refusal is.settled is.known s event is.looks (sym c.size.ensures.size)) ∙ c.in-Some.is in
     absurd ((put_quietly s (puts_of s token) event c.in-Some.refused refused).0 (let same : c.in-Some.refused ≡ PutNo.DiskFault = cc in same)))
 
 pub has_room-requires : goal.has_room-requires
@@ -77,9 +77,9 @@ has_room-requires g c =
     let old : Logged = record { places = m.held; log = m.writing.log; busy = m.writing.busy } in
     let s : State = c.self.invariant.0 in
     let is = c.self.invariant.1 in
-    let allowed : put_refusal s (puts_of s token) event ≡ None = sym (c.put_refusal.ensures.refusal is.known s event is.looks (sym c.size.ensures.size)) ∙ c.in_default.is in
+    let allowed : put_refusal s (puts_of s token) event ≡ None = sym (c.put_refusal.ensures.refusal is.settled is.known s event is.looks (sym c.size.ensures.size)) ∙ c.in_default.is in
     let may : MayBePut s token event = may_be_put told old token event s is allowed in
-    let count : c.size_of_puts-first.result ≡ size_of_list (puts_of s token) = c.size_of_puts-first.ensures.size is.known s is.looks in
+    let count : c.size_of_puts-first.result ≡ size_of_list (puts_of s token) = c.size_of_puts-first.ensures.size is.settled is.known s is.looks in
     let log : IsLogged told old.log old.busy s = is.whole.logged may.still in
     let few : old.busy ≤ 1024 = busy_few told old.log old.busy s log in
     few
@@ -93,9 +93,9 @@ add_put-requires-clause-limit g c =
     let old : Logged = record { places = m.held; log = m.writing.log; busy = m.writing.busy } in
     let s : State = c.self.invariant.0 in
     let is = c.self.invariant.1 in
-    let allowed : put_refusal s (puts_of s token) event ≡ None = sym (c.put_refusal.ensures.refusal is.known s event is.looks (sym c.size.ensures.size)) ∙ c.in_default.is in
+    let allowed : put_refusal s (puts_of s token) event ≡ None = sym (c.put_refusal.ensures.refusal is.settled is.known s event is.looks (sym c.size.ensures.size)) ∙ c.in_default.is in
     let may : MayBePut s token event = may_be_put told old token event s is allowed in
-    let count : c.size_of_puts-first.result ≡ size_of_list (puts_of s token) = c.size_of_puts-first.ensures.size is.known s is.looks in
+    let count : c.size_of_puts-first.result ≡ size_of_list (puts_of s token) = c.size_of_puts-first.ensures.size is.settled is.known s is.looks in
     let log : IsLogged told old.log old.busy s = is.whole.logged may.still in
     let few : old.busy ≤ 1024 = busy_few told old.log old.busy s log in
     may.small
@@ -109,9 +109,9 @@ add_put-requires-clause-few g c =
     let old : Logged = record { places = m.held; log = m.writing.log; busy = m.writing.busy } in
     let s : State = c.self.invariant.0 in
     let is = c.self.invariant.1 in
-    let allowed : put_refusal s (puts_of s token) event ≡ None = sym (c.put_refusal.ensures.refusal is.known s event is.looks (sym c.size.ensures.size)) ∙ c.in_default.is in
+    let allowed : put_refusal s (puts_of s token) event ≡ None = sym (c.put_refusal.ensures.refusal is.settled is.known s event is.looks (sym c.size.ensures.size)) ∙ c.in_default.is in
     let may : MayBePut s token event = may_be_put told old token event s is allowed in
-    let count : c.size_of_puts-first.result ≡ size_of_list (puts_of s token) = c.size_of_puts-first.ensures.size is.known s is.looks in
+    let count : c.size_of_puts-first.result ≡ size_of_list (puts_of s token) = c.size_of_puts-first.ensures.size is.settled is.known s is.looks in
     let log : IsLogged told old.log old.busy s = is.whole.logged may.still in
     let few : old.busy ≤ 1024 = busy_few told old.log old.busy s log in
     few
@@ -125,9 +125,9 @@ invariant_of-self g c =
     let old : Logged = record { places = m.held; log = m.writing.log; busy = m.writing.busy } in
     let s : State = c.self.invariant.0 in
     let is = c.self.invariant.1 in
-    let allowed : put_refusal s (puts_of s token) event ≡ None = sym (c.put_refusal.ensures.refusal is.known s event is.looks (sym c.size.ensures.size)) ∙ c.in_default.is in
+    let allowed : put_refusal s (puts_of s token) event ≡ None = sym (c.put_refusal.ensures.refusal is.settled is.known s event is.looks (sym c.size.ensures.size)) ∙ c.in_default.is in
     let may : MayBePut s token event = may_be_put told old token event s is allowed in
-    let count : c.size_of_puts-first.result ≡ size_of_list (puts_of s token) = c.size_of_puts-first.ensures.size is.known s is.looks in
+    let count : c.size_of_puts-first.result ≡ size_of_list (puts_of s token) = c.size_of_puts-first.ensures.size is.settled is.known s is.looks in
     let log : IsLogged told old.log old.busy s = is.whole.logged may.still in
     let few : old.busy ≤ 1024 = busy_few told old.log old.busy s log in
     let told' = g.D.Disk.told c.add_put.new.writing.disk in
@@ -143,9 +143,9 @@ returns-then-has_room-clause-step g c = rw (← c.self.view_is) (λ s is.
     let token = c.args.txn.now in
     let event : Content = c.args.event.now in
     let old : Logged = record { places = m.held; log = m.writing.log; busy = m.writing.busy } in
-    let allowed : put_refusal s (puts_of s token) event ≡ None = sym (c.put_refusal.ensures.refusal is.known s event is.looks (sym c.size.ensures.size)) ∙ c.in_default.is in
+    let allowed : put_refusal s (puts_of s token) event ≡ None = sym (c.put_refusal.ensures.refusal is.settled is.known s event is.looks (sym c.size.ensures.size)) ∙ c.in_default.is in
     let may : MayBePut s token event = may_be_put told old token event s is allowed in
-    let count : c.size_of_puts-first.result ≡ size_of_list (puts_of s token) = c.size_of_puts-first.ensures.size is.known s is.looks in
+    let count : c.size_of_puts-first.result ≡ size_of_list (puts_of s token) = c.size_of_puts-first.ensures.size is.settled is.known s is.looks in
     let log : IsLogged told old.log old.busy s = is.whole.logged may.still in
     let few : old.busy ≤ 1024 = busy_few told old.log old.busy s log in
     let told' = g.D.Disk.told c.add_put.new.writing.disk in
@@ -161,9 +161,9 @@ returns-then-has_room-clause-room g c = rw (← c.self.view_is) (λ s is.
     let token = c.args.txn.now in
     let event : Content = c.args.event.now in
     let old : Logged = record { places = m.held; log = m.writing.log; busy = m.writing.busy } in
-    let allowed : put_refusal s (puts_of s token) event ≡ None = sym (c.put_refusal.ensures.refusal is.known s event is.looks (sym c.size.ensures.size)) ∙ c.in_default.is in
+    let allowed : put_refusal s (puts_of s token) event ≡ None = sym (c.put_refusal.ensures.refusal is.settled is.known s event is.looks (sym c.size.ensures.size)) ∙ c.in_default.is in
     let may : MayBePut s token event = may_be_put told old token event s is allowed in
-    let count : c.size_of_puts-first.result ≡ size_of_list (puts_of s token) = c.size_of_puts-first.ensures.size is.known s is.looks in
+    let count : c.size_of_puts-first.result ≡ size_of_list (puts_of s token) = c.size_of_puts-first.ensures.size is.settled is.known s is.looks in
     let log : IsLogged told old.log old.busy s = is.whole.logged may.still in
     let few : old.busy ≤ 1024 = busy_few told old.log old.busy s log in
     let needs : size event + 13 + kept old.busy (c.size_of_puts-first.result == 0) ≡ room_of s (size event + 13) (size_of_list (puts_of s token)) = room_is told old.log old.busy s (size event + 13) c.size_of_puts-first.result (size_of_list (puts_of s token)) log count in
@@ -179,9 +179,9 @@ settle_staged-requires g c =
     let old : Logged = record { places = m.held; log = m.writing.log; busy = m.writing.busy } in
     let s : State = c.self.invariant.0 in
     let is = c.self.invariant.1 in
-    let allowed : put_refusal s (puts_of s token) event ≡ None = sym (c.put_refusal.ensures.refusal is.known s event is.looks (sym c.size.ensures.size)) ∙ c.in_default.is in
+    let allowed : put_refusal s (puts_of s token) event ≡ None = sym (c.put_refusal.ensures.refusal is.settled is.known s event is.looks (sym c.size.ensures.size)) ∙ c.in_default.is in
     let may : MayBePut s token event = may_be_put told old token event s is allowed in
-    let count : c.size_of_puts-first.result ≡ size_of_list (puts_of s token) = c.size_of_puts-first.ensures.size is.known s is.looks in
+    let count : c.size_of_puts-first.result ≡ size_of_list (puts_of s token) = c.size_of_puts-first.ensures.size is.settled is.known s is.looks in
     let log : IsLogged told old.log old.busy s = is.whole.logged may.still in
     let few : old.busy ≤ 1024 = busy_few told old.log old.busy s log in
     (s, is, may.still)
@@ -195,9 +195,9 @@ invariant_of-self-in-Err g c =
     let old : Logged = record { places = m.held; log = m.writing.log; busy = m.writing.busy } in
     let s : State = c.self.invariant.0 in
     let is = c.self.invariant.1 in
-    let allowed : put_refusal s (puts_of s token) event ≡ None = sym (c.put_refusal.ensures.refusal is.known s event is.looks (sym c.size.ensures.size)) ∙ c.in_default.is in
+    let allowed : put_refusal s (puts_of s token) event ≡ None = sym (c.put_refusal.ensures.refusal is.settled is.known s event is.looks (sym c.size.ensures.size)) ∙ c.in_default.is in
     let may : MayBePut s token event = may_be_put told old token event s is allowed in
-    let count : c.size_of_puts-first.result ≡ size_of_list (puts_of s token) = c.size_of_puts-first.ensures.size is.known s is.looks in
+    let count : c.size_of_puts-first.result ≡ size_of_list (puts_of s token) = c.size_of_puts-first.ensures.size is.settled is.known s is.looks in
     let log : IsLogged told old.log old.busy s = is.whole.logged may.still in
     let few : old.busy ≤ 1024 = busy_few told old.log old.busy s log in
     let between = g.D.Disk.told c.settle_staged.new.writing.disk in
@@ -211,9 +211,9 @@ returns-in-Err-clause-step g c = rw (← c.self.view_is) (λ s is.
     let token = c.args.txn.now in
     let event : Content = c.args.event.now in
     let old : Logged = record { places = m.held; log = m.writing.log; busy = m.writing.busy } in
-    let allowed : put_refusal s (puts_of s token) event ≡ None = sym (c.put_refusal.ensures.refusal is.known s event is.looks (sym c.size.ensures.size)) ∙ c.in_default.is in
+    let allowed : put_refusal s (puts_of s token) event ≡ None = sym (c.put_refusal.ensures.refusal is.settled is.known s event is.looks (sym c.size.ensures.size)) ∙ c.in_default.is in
     let may : MayBePut s token event = may_be_put told old token event s is allowed in
-    let count : c.size_of_puts-first.result ≡ size_of_list (puts_of s token) = c.size_of_puts-first.ensures.size is.known s is.looks in
+    let count : c.size_of_puts-first.result ≡ size_of_list (puts_of s token) = c.size_of_puts-first.ensures.size is.settled is.known s is.looks in
     let log : IsLogged told old.log old.busy s = is.whole.logged may.still in
     let few : old.busy ≤ 1024 = busy_few told old.log old.busy s log in
     let between = g.D.Disk.told c.settle_staged.new.writing.disk in
@@ -227,9 +227,9 @@ returns-in-Err-clause-any_moment g c = rw (← c.self.view_is) (λ s is flushed.
     let token = c.args.txn.now in
     let event : Content = c.args.event.now in
     let old : Logged = record { places = m.held; log = m.writing.log; busy = m.writing.busy } in
-    let allowed : put_refusal s (puts_of s token) event ≡ None = sym (c.put_refusal.ensures.refusal is.known s event is.looks (sym c.size.ensures.size)) ∙ c.in_default.is in
+    let allowed : put_refusal s (puts_of s token) event ≡ None = sym (c.put_refusal.ensures.refusal is.settled is.known s event is.looks (sym c.size.ensures.size)) ∙ c.in_default.is in
     let may : MayBePut s token event = may_be_put told old token event s is allowed in
-    let count : c.size_of_puts-first.result ≡ size_of_list (puts_of s token) = c.size_of_puts-first.ensures.size is.known s is.looks in
+    let count : c.size_of_puts-first.result ≡ size_of_list (puts_of s token) = c.size_of_puts-first.ensures.size is.settled is.known s is.looks in
     let log : IsLogged told old.log old.busy s = is.whole.logged may.still in
     let few : old.busy ≤ 1024 = busy_few told old.log old.busy s log in
     c.settle_staged.ensures.any_moment s is may.still)
@@ -241,9 +241,9 @@ returns-in-Err-clause-no_room g c = rw (← c.self.view_is) (λ s is fault.
     let token = c.args.txn.now in
     let event : Content = c.args.event.now in
     let old : Logged = record { places = m.held; log = m.writing.log; busy = m.writing.busy } in
-    let allowed : put_refusal s (puts_of s token) event ≡ None = sym (c.put_refusal.ensures.refusal is.known s event is.looks (sym c.size.ensures.size)) ∙ c.in_default.is in
+    let allowed : put_refusal s (puts_of s token) event ≡ None = sym (c.put_refusal.ensures.refusal is.settled is.known s event is.looks (sym c.size.ensures.size)) ∙ c.in_default.is in
     let may : MayBePut s token event = may_be_put told old token event s is allowed in
-    let count : c.size_of_puts-first.result ≡ size_of_list (puts_of s token) = c.size_of_puts-first.ensures.size is.known s is.looks in
+    let count : c.size_of_puts-first.result ≡ size_of_list (puts_of s token) = c.size_of_puts-first.ensures.size is.settled is.known s is.looks in
     let log : IsLogged told old.log old.busy s = is.whole.logged may.still in
     let few : old.busy ≤ 1024 = busy_few told old.log old.busy s log in
     let needs : size event + 13 + kept old.busy (c.size_of_puts-first.result == 0) ≡ room_of s (size event + 13) (size_of_list (puts_of s token)) = room_is told old.log old.busy s (size event + 13) c.size_of_puts-first.result (size_of_list (puts_of s token)) log count in
@@ -262,9 +262,9 @@ add_put-requires-2-clause-limit g c =
     let old : Logged = record { places = m.held; log = m.writing.log; busy = m.writing.busy } in
     let s : State = c.self.invariant.0 in
     let is = c.self.invariant.1 in
-    let allowed : put_refusal s (puts_of s token) event ≡ None = sym (c.put_refusal.ensures.refusal is.known s event is.looks (sym c.size.ensures.size)) ∙ c.in_default.is in
+    let allowed : put_refusal s (puts_of s token) event ≡ None = sym (c.put_refusal.ensures.refusal is.settled is.known s event is.looks (sym c.size.ensures.size)) ∙ c.in_default.is in
     let may : MayBePut s token event = may_be_put told old token event s is allowed in
-    let count : c.size_of_puts-first.result ≡ size_of_list (puts_of s token) = c.size_of_puts-first.ensures.size is.known s is.looks in
+    let count : c.size_of_puts-first.result ≡ size_of_list (puts_of s token) = c.size_of_puts-first.ensures.size is.settled is.known s is.looks in
     let log : IsLogged told old.log old.busy s = is.whole.logged may.still in
     let few : old.busy ≤ 1024 = busy_few told old.log old.busy s log in
     may.small
@@ -278,9 +278,9 @@ add_put-requires-2-clause-few g c =
     let old : Logged = record { places = m.held; log = m.writing.log; busy = m.writing.busy } in
     let s : State = c.self.invariant.0 in
     let is = c.self.invariant.1 in
-    let allowed : put_refusal s (puts_of s token) event ≡ None = sym (c.put_refusal.ensures.refusal is.known s event is.looks (sym c.size.ensures.size)) ∙ c.in_default.is in
+    let allowed : put_refusal s (puts_of s token) event ≡ None = sym (c.put_refusal.ensures.refusal is.settled is.known s event is.looks (sym c.size.ensures.size)) ∙ c.in_default.is in
     let may : MayBePut s token event = may_be_put told old token event s is allowed in
-    let count : c.size_of_puts-first.result ≡ size_of_list (puts_of s token) = c.size_of_puts-first.ensures.size is.known s is.looks in
+    let count : c.size_of_puts-first.result ≡ size_of_list (puts_of s token) = c.size_of_puts-first.ensures.size is.settled is.known s is.looks in
     let log : IsLogged told old.log old.busy s = is.whole.logged may.still in
     let few : c.settle_staged.new.writing.busy ≤ 1024 = rw c.settle_staged.ensures.busy (busy_few told old.log old.busy s log) in
     few
@@ -294,9 +294,9 @@ add_put-requires-2-clause-room g c =
     let old : Logged = record { places = m.held; log = m.writing.log; busy = m.writing.busy } in
     let s : State = c.self.invariant.0 in
     let is = c.self.invariant.1 in
-    let allowed : put_refusal s (puts_of s token) event ≡ None = sym (c.put_refusal.ensures.refusal is.known s event is.looks (sym c.size.ensures.size)) ∙ c.in_default.is in
+    let allowed : put_refusal s (puts_of s token) event ≡ None = sym (c.put_refusal.ensures.refusal is.settled is.known s event is.looks (sym c.size.ensures.size)) ∙ c.in_default.is in
     let may : MayBePut s token event = may_be_put told old token event s is allowed in
-    let count : c.size_of_puts-first.result ≡ size_of_list (puts_of s token) = c.size_of_puts-first.ensures.size is.known s is.looks in
+    let count : c.size_of_puts-first.result ≡ size_of_list (puts_of s token) = c.size_of_puts-first.ensures.size is.settled is.known s is.looks in
     let log : IsLogged told old.log old.busy s = is.whole.logged may.still in
     let few : c.settle_staged.new.writing.busy ≤ 1024 = rw c.settle_staged.ensures.busy (busy_few told old.log old.busy s log) in
     room_enough c.settle_staged.new.writing.log c.settle_staged.new.writing.busy (size event) (c.size_of_puts-first.result == 0) c.in-Ok.ensures.empty may.small few
@@ -310,9 +310,9 @@ invariant_of-self-2 g c =
     let old : Logged = record { places = m.held; log = m.writing.log; busy = m.writing.busy } in
     let s : State = c.self.invariant.0 in
     let is = c.self.invariant.1 in
-    let allowed : put_refusal s (puts_of s token) event ≡ None = sym (c.put_refusal.ensures.refusal is.known s event is.looks (sym c.size.ensures.size)) ∙ c.in_default.is in
+    let allowed : put_refusal s (puts_of s token) event ≡ None = sym (c.put_refusal.ensures.refusal is.settled is.known s event is.looks (sym c.size.ensures.size)) ∙ c.in_default.is in
     let may : MayBePut s token event = may_be_put told old token event s is allowed in
-    let count : c.size_of_puts-first.result ≡ size_of_list (puts_of s token) = c.size_of_puts-first.ensures.size is.known s is.looks in
+    let count : c.size_of_puts-first.result ≡ size_of_list (puts_of s token) = c.size_of_puts-first.ensures.size is.settled is.known s is.looks in
     let log : IsLogged told old.log old.busy s = is.whole.logged may.still in
     let few : old.busy ≤ 1024 = busy_few told old.log old.busy s log in
     let between = g.D.Disk.told c.settle_staged.new.writing.disk in
@@ -331,9 +331,9 @@ returns-clause-step g c = rw (← c.self.view_is) (λ s is.
     let token = c.args.txn.now in
     let event : Content = c.args.event.now in
     let old : Logged = record { places = m.held; log = m.writing.log; busy = m.writing.busy } in
-    let allowed : put_refusal s (puts_of s token) event ≡ None = sym (c.put_refusal.ensures.refusal is.known s event is.looks (sym c.size.ensures.size)) ∙ c.in_default.is in
+    let allowed : put_refusal s (puts_of s token) event ≡ None = sym (c.put_refusal.ensures.refusal is.settled is.known s event is.looks (sym c.size.ensures.size)) ∙ c.in_default.is in
     let may : MayBePut s token event = may_be_put told old token event s is allowed in
-    let count : c.size_of_puts-first.result ≡ size_of_list (puts_of s token) = c.size_of_puts-first.ensures.size is.known s is.looks in
+    let count : c.size_of_puts-first.result ≡ size_of_list (puts_of s token) = c.size_of_puts-first.ensures.size is.settled is.known s is.looks in
     let log : IsLogged told old.log old.busy s = is.whole.logged may.still in
     let few : old.busy ≤ 1024 = busy_few told old.log old.busy s log in
     let between = g.D.Disk.told c.settle_staged.new.writing.disk in
@@ -352,9 +352,9 @@ returns-clause-any_moment g c = rw (← c.self.view_is) (λ s is flushed.
     let token = c.args.txn.now in
     let event : Content = c.args.event.now in
     let old : Logged = record { places = m.held; log = m.writing.log; busy = m.writing.busy } in
-    let allowed : put_refusal s (puts_of s token) event ≡ None = sym (c.put_refusal.ensures.refusal is.known s event is.looks (sym c.size.ensures.size)) ∙ c.in_default.is in
+    let allowed : put_refusal s (puts_of s token) event ≡ None = sym (c.put_refusal.ensures.refusal is.settled is.known s event is.looks (sym c.size.ensures.size)) ∙ c.in_default.is in
     let may : MayBePut s token event = may_be_put told old token event s is allowed in
-    let count : c.size_of_puts-first.result ≡ size_of_list (puts_of s token) = c.size_of_puts-first.ensures.size is.known s is.looks in
+    let count : c.size_of_puts-first.result ≡ size_of_list (puts_of s token) = c.size_of_puts-first.ensures.size is.settled is.known s is.looks in
     let log : IsLogged told old.log old.busy s = is.whole.logged may.still in
     let few : old.busy ≤ 1024 = busy_few told old.log old.busy s log in
     subst (λ (v : Option Told). Tells told v (λ t u. Flushed s t u)) (sym (ap g.D.Disk.told c.add_put-2.ensures.disk)) (c.settle_staged.ensures.any_moment s is may.still))
@@ -366,9 +366,9 @@ returns-clause-room g c = rw (← c.self.view_is) (λ s is.
     let token = c.args.txn.now in
     let event : Content = c.args.event.now in
     let old : Logged = record { places = m.held; log = m.writing.log; busy = m.writing.busy } in
-    let allowed : put_refusal s (puts_of s token) event ≡ None = sym (c.put_refusal.ensures.refusal is.known s event is.looks (sym c.size.ensures.size)) ∙ c.in_default.is in
+    let allowed : put_refusal s (puts_of s token) event ≡ None = sym (c.put_refusal.ensures.refusal is.settled is.known s event is.looks (sym c.size.ensures.size)) ∙ c.in_default.is in
     let may : MayBePut s token event = may_be_put told old token event s is allowed in
-    let count : c.size_of_puts-first.result ≡ size_of_list (puts_of s token) = c.size_of_puts-first.ensures.size is.known s is.looks in
+    let count : c.size_of_puts-first.result ≡ size_of_list (puts_of s token) = c.size_of_puts-first.ensures.size is.settled is.known s is.looks in
     let log : IsLogged told old.log old.busy s = is.whole.logged may.still in
     let few : old.busy ≤ 1024 = busy_few told old.log old.busy s log in
     let needs : size event + 13 + kept old.busy (c.size_of_puts-first.result == 0) ≡ room_of s (size event + 13) (size_of_list (puts_of s token)) = room_is told old.log old.busy s (size event + 13) c.size_of_puts-first.result (size_of_list (puts_of s token)) log count in
@@ -382,9 +382,9 @@ returns-clause-full g c = rw (← c.self.view_is) (λ s is spilled.
     let token = c.args.txn.now in
     let event : Content = c.args.event.now in
     let old : Logged = record { places = m.held; log = m.writing.log; busy = m.writing.busy } in
-    let allowed : put_refusal s (puts_of s token) event ≡ None = sym (c.put_refusal.ensures.refusal is.known s event is.looks (sym c.size.ensures.size)) ∙ c.in_default.is in
+    let allowed : put_refusal s (puts_of s token) event ≡ None = sym (c.put_refusal.ensures.refusal is.settled is.known s event is.looks (sym c.size.ensures.size)) ∙ c.in_default.is in
     let may : MayBePut s token event = may_be_put told old token event s is allowed in
-    let count : c.size_of_puts-first.result ≡ size_of_list (puts_of s token) = c.size_of_puts-first.ensures.size is.known s is.looks in
+    let count : c.size_of_puts-first.result ≡ size_of_list (puts_of s token) = c.size_of_puts-first.ensures.size is.settled is.known s is.looks in
     let log : IsLogged told old.log old.busy s = is.whole.logged may.still in
     let few : old.busy ≤ 1024 = busy_few told old.log old.busy s log in
     let needs : size event + 13 + kept old.busy (c.size_of_puts-first.result == 0) ≡ room_of s (size event + 13) (size_of_list (puts_of s token)) = room_is told old.log old.busy s (size event + 13) c.size_of_puts-first.result (size_of_list (puts_of s token)) log count in
@@ -392,7 +392,7 @@ returns-clause-full g c = rw (← c.self.view_is) (λ s is spilled.
     let between = g.D.Disk.told c.settle_staged.new.writing.disk in
     let mid : Logged = record { places = c.settle_staged.new.held; log = c.settle_staged.new.writing.log; busy = c.settle_staged.new.writing.busy } in
     let left : Tells told between (HadNoRoom (size event + 13 + kept old.busy (c.size_of_puts-first.result == 0))) =
-    had_no_room told between old.log mid.log old.busy mid.busy s (size event + 13 + kept old.busy (c.size_of_puts-first.result == 0)) (λ t u. Flushed s t u) (c.settle_staged.ensures.any_moment s is may.still) may.still log (c.in-Ok.ensures.fits s is may.still).logged c.in-Ok.ensures.moved full
+    had_no_room told between old.log mid.log old.busy mid.busy s (size event + 13 + kept old.busy (c.size_of_puts-first.result == 0)) (λ t u. Flushed s t u) (c.settle_staged.ensures.any_moment s is may.still) may.still log (c.in-Ok.ensures.fits s is may.still).logged c.in-Ok.ensures.writes_on full
     (λ empty. room_enough old.log old.busy (size event) (c.size_of_puts-first.result == 0) empty may.small few) in
     subst (λ (v : Option Told). Tells told v (HadNoRoom (room_of s (size event + 13) (size_of_list (puts_of s token))))) (sym (ap g.D.Disk.told c.add_put-2.ensures.disk))
     (subst (λ (n : ℕ). Tells told between (HadNoRoom n)) needs left))

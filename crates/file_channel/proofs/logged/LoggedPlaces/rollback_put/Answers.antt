@@ -8,7 +8,7 @@ use Rattle.channel_writing.specs.Written.{IsLogged}
 use Rattle.channel_writing.proofs.Whole.{did_put, put_was_done}
 use Rattle.file_channel.specs.Placed.{IsStateOf, Logged}
 use Rattle.file_channel.specs.Stepped.{Steps}
-use Rattle.file_channel.proofs.Stepping.{recorded_put, same_broken, unrecorded_put}
+use Rattle.file_channel.proofs.Stepping.{recorded_put, same_broken, stale_put, unrecorded_put}
 use Rattle.file_channel.proofs.logged.LoggedPlaces.rollback_put.Goals as goal
 
 pub add_rollback-requires : goal.add_rollback-requires
@@ -21,10 +21,10 @@ add_rollback-requires g c =
     let is = c.self.invariant.1 in
     let number : c.number-number.result ≡ token.number = c.number-number.ensures in
     let ended : c.has_puts-ends.result ≡ true = (let not = c.if-not-ends.false in search rules) in
-    let is_open : true ≡ is_some_of (puts_of s token) = sym ended ∙ c.has_puts-ends.ensures.tells is.known s is.looks in
-    let count : c.size_of_puts-count.result ≡ size_of_list (puts_of s token) = c.size_of_puts-count.ensures.size is.known s is.looks in
-    let places : (known : Known) → Looks known old.places s → Looks known c.drop_puts.new.self (close token.number s) = λ known looks. subst (λ (n : ℕ). Looks known c.drop_puts.new.self (close n s)) number (c.drop_puts.ensures known s looks) in
-    let broken : c.drop_puts.new.self.numbers.broken ≡ s.broken = same_broken is.known c.drop_puts.new.self (close token.number s) (places is.known is.looks) in
+    let is_open : true ≡ is_some_of (puts_of s token) = sym ended ∙ c.has_puts-ends.ensures.tells is.settled is.known s is.looks in
+    let count : c.size_of_puts-count.result ≡ size_of_list (puts_of s token) = c.size_of_puts-count.ensures.size is.settled is.known s is.looks in
+    let places : (settled known : Known) → Looks settled known old.places s → Looks settled known c.drop_puts.new.self (close token.number s) = λ settled known looks. subst (λ (n : ℕ). Looks settled known c.drop_puts.new.self (close n s)) number (c.drop_puts.ensures settled known s looks) in
+    let broken : c.drop_puts.new.self.numbers.broken ≡ s.broken = same_broken is.settled is.known c.drop_puts.new.self (close token.number s) (places is.settled is.known is.looks) in
     let both : (0 < c.size_of_puts-count.result) × (c.drop_puts.new.self.numbers.broken ≡ false) = (let wrote = c.is_recorded.ensures in search rules) in
     let held : 0 < size_of_list (puts_of s token) = subst (λ (n : ℕ). 0 < n) count both.0 in
     let still : s.broken ≡ false = sym broken ∙ both.1 in
@@ -42,10 +42,10 @@ invariant_of-self g c =
     let is = c.self.invariant.1 in
     let number : c.number-number.result ≡ token.number = c.number-number.ensures in
     let ended : c.has_puts-ends.result ≡ true = (let not = c.if-not-ends.false in search rules) in
-    let is_open : true ≡ is_some_of (puts_of s token) = sym ended ∙ c.has_puts-ends.ensures.tells is.known s is.looks in
-    let count : c.size_of_puts-count.result ≡ size_of_list (puts_of s token) = c.size_of_puts-count.ensures.size is.known s is.looks in
-    let places : (known : Known) → Looks known old.places s → Looks known c.drop_puts.new.self (close token.number s) = λ known looks. subst (λ (n : ℕ). Looks known c.drop_puts.new.self (close n s)) number (c.drop_puts.ensures known s looks) in
-    let broken : c.drop_puts.new.self.numbers.broken ≡ s.broken = same_broken is.known c.drop_puts.new.self (close token.number s) (places is.known is.looks) in
+    let is_open : true ≡ is_some_of (puts_of s token) = sym ended ∙ c.has_puts-ends.ensures.tells is.settled is.known s is.looks in
+    let count : c.size_of_puts-count.result ≡ size_of_list (puts_of s token) = c.size_of_puts-count.ensures.size is.settled is.known s is.looks in
+    let places : (settled known : Known) → Looks settled known old.places s → Looks settled known c.drop_puts.new.self (close token.number s) = λ settled known looks. subst (λ (n : ℕ). Looks settled known c.drop_puts.new.self (close n s)) number (c.drop_puts.ensures settled known s looks) in
+    let broken : c.drop_puts.new.self.numbers.broken ≡ s.broken = same_broken is.settled is.known c.drop_puts.new.self (close token.number s) (places is.settled is.known is.looks) in
     let both : (0 < c.size_of_puts-count.result) × (c.drop_puts.new.self.numbers.broken ≡ false) = (let wrote = c.is_recorded.ensures in search rules) in
     let held : 0 < size_of_list (puts_of s token) = subst (λ (n : ℕ). 0 < n) count both.0 in
     let still : s.broken ≡ false = sym broken ∙ both.1 in
@@ -66,10 +66,10 @@ returns-then-is_recorded-clause-step g c = rw (← c.self.view_is) (λ s is.
     let old : Logged = record { places = m.held; log = m.writing.log; busy = m.writing.busy } in
     let number : c.number-number.result ≡ token.number = c.number-number.ensures in
     let ended : c.has_puts-ends.result ≡ true = (let not = c.if-not-ends.false in search rules) in
-    let is_open : true ≡ is_some_of (puts_of s token) = sym ended ∙ c.has_puts-ends.ensures.tells is.known s is.looks in
-    let count : c.size_of_puts-count.result ≡ size_of_list (puts_of s token) = c.size_of_puts-count.ensures.size is.known s is.looks in
-    let places : (known : Known) → Looks known old.places s → Looks known c.drop_puts.new.self (close token.number s) = λ known looks. subst (λ (n : ℕ). Looks known c.drop_puts.new.self (close n s)) number (c.drop_puts.ensures known s looks) in
-    let broken : c.drop_puts.new.self.numbers.broken ≡ s.broken = same_broken is.known c.drop_puts.new.self (close token.number s) (places is.known is.looks) in
+    let is_open : true ≡ is_some_of (puts_of s token) = sym ended ∙ c.has_puts-ends.ensures.tells is.settled is.known s is.looks in
+    let count : c.size_of_puts-count.result ≡ size_of_list (puts_of s token) = c.size_of_puts-count.ensures.size is.settled is.known s is.looks in
+    let places : (settled known : Known) → Looks settled known old.places s → Looks settled known c.drop_puts.new.self (close token.number s) = λ settled known looks. subst (λ (n : ℕ). Looks settled known c.drop_puts.new.self (close n s)) number (c.drop_puts.ensures settled known s looks) in
+    let broken : c.drop_puts.new.self.numbers.broken ≡ s.broken = same_broken is.settled is.known c.drop_puts.new.self (close token.number s) (places is.settled is.known is.looks) in
     let both : (0 < c.size_of_puts-count.result) × (c.drop_puts.new.self.numbers.broken ≡ false) = (let wrote = c.is_recorded.ensures in search rules) in
     let held : 0 < size_of_list (puts_of s token) = subst (λ (n : ℕ). 0 < n) count both.0 in
     let still : s.broken ≡ false = sym broken ∙ both.1 in
@@ -92,10 +92,10 @@ invariant_of-self-else-is_recorded g c =
     let is = c.self.invariant.1 in
     let number : c.number-number.result ≡ token.number = c.number-number.ensures in
     let ended : c.has_puts-ends.result ≡ true = (let not = c.if-not-ends.false in search rules) in
-    let is_open : true ≡ is_some_of (puts_of s token) = sym ended ∙ c.has_puts-ends.ensures.tells is.known s is.looks in
-    let count : c.size_of_puts-count.result ≡ size_of_list (puts_of s token) = c.size_of_puts-count.ensures.size is.known s is.looks in
-    let places : (known : Known) → Looks known old.places s → Looks known c.drop_puts.new.self (close token.number s) = λ known looks. subst (λ (n : ℕ). Looks known c.drop_puts.new.self (close n s)) number (c.drop_puts.ensures known s looks) in
-    let broken : c.drop_puts.new.self.numbers.broken ≡ s.broken = same_broken is.known c.drop_puts.new.self (close token.number s) (places is.known is.looks) in
+    let is_open : true ≡ is_some_of (puts_of s token) = sym ended ∙ c.has_puts-ends.ensures.tells is.settled is.known s is.looks in
+    let count : c.size_of_puts-count.result ≡ size_of_list (puts_of s token) = c.size_of_puts-count.ensures.size is.settled is.known s is.looks in
+    let places : (settled known : Known) → Looks settled known old.places s → Looks settled known c.drop_puts.new.self (close token.number s) = λ settled known looks. subst (λ (n : ℕ). Looks settled known c.drop_puts.new.self (close n s)) number (c.drop_puts.ensures settled known s looks) in
+    let broken : c.drop_puts.new.self.numbers.broken ≡ s.broken = same_broken is.settled is.known c.drop_puts.new.self (close token.number s) (places is.settled is.known is.looks) in
     let no : (0 < c.size_of_puts-count.result) × (c.drop_puts.new.self.numbers.broken ≡ false) → ⊥ = (let lacks = c.is_recorded.ensures in search rules) in
     let not : (0 < size_of_list (puts_of s token)) × (s.broken ≡ false) → ⊥ = λ both. no (subst (λ (n : ℕ). 0 < n) (sym count) both.0, broken ∙ both.1) in
     (close token.number s, (unrecorded_put told old c.drop_puts.new.self token s is is_open places not).stands)
@@ -108,10 +108,16 @@ returns-else-is_recorded-clause-step g c = rw (← c.self.view_is) (λ s is.
     let old : Logged = record { places = m.held; log = m.writing.log; busy = m.writing.busy } in
     let number : c.number-number.result ≡ token.number = c.number-number.ensures in
     let ended : c.has_puts-ends.result ≡ true = (let not = c.if-not-ends.false in search rules) in
-    let is_open : true ≡ is_some_of (puts_of s token) = sym ended ∙ c.has_puts-ends.ensures.tells is.known s is.looks in
-    let count : c.size_of_puts-count.result ≡ size_of_list (puts_of s token) = c.size_of_puts-count.ensures.size is.known s is.looks in
-    let places : (known : Known) → Looks known old.places s → Looks known c.drop_puts.new.self (close token.number s) = λ known looks. subst (λ (n : ℕ). Looks known c.drop_puts.new.self (close n s)) number (c.drop_puts.ensures known s looks) in
-    let broken : c.drop_puts.new.self.numbers.broken ≡ s.broken = same_broken is.known c.drop_puts.new.self (close token.number s) (places is.known is.looks) in
+    let is_open : true ≡ is_some_of (puts_of s token) = sym ended ∙ c.has_puts-ends.ensures.tells is.settled is.known s is.looks in
+    let count : c.size_of_puts-count.result ≡ size_of_list (puts_of s token) = c.size_of_puts-count.ensures.size is.settled is.known s is.looks in
+    let places : (settled known : Known) → Looks settled known old.places s → Looks settled known c.drop_puts.new.self (close token.number s) = λ settled known looks. subst (λ (n : ℕ). Looks settled known c.drop_puts.new.self (close n s)) number (c.drop_puts.ensures settled known s looks) in
+    let broken : c.drop_puts.new.self.numbers.broken ≡ s.broken = same_broken is.settled is.known c.drop_puts.new.self (close token.number s) (places is.settled is.known is.looks) in
     let no : (0 < c.size_of_puts-count.result) × (c.drop_puts.new.self.numbers.broken ≡ false) → ⊥ = (let lacks = c.is_recorded.ensures in search rules) in
     let not : (0 < size_of_list (puts_of s token)) × (s.broken ≡ false) → ⊥ = λ both. no (subst (λ (n : ℕ). 0 < n) (sym count) both.0, broken ∙ both.1) in
     unrecorded_put told old c.drop_puts.new.self token s is is_open places not)
+
+pub returns-then-not-ends-clause-step : goal.returns-then-not-ends-clause-step
+returns-then-not-ends-clause-step g c = rw (← c.self.view_is) (λ s is.
+    let m = c.self.inside in
+    let stale : c.has_puts-ends.result ≡ false = (let not = c.if-not-ends.true in search rules) in
+    stale_put (g.D.Disk.told m.writing.disk) (record { places = m.held; log = m.writing.log; busy = m.writing.busy }) c.args.txn s is (sym stale ∙ c.has_puts-ends.ensures.tells is.settled is.known s is.looks))

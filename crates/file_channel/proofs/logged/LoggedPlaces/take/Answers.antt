@@ -11,7 +11,7 @@ returns-then-is_spent-clause-step g c = rw (← c.self.view_is) (λ s is.
     let old : Logged = record { places = m.held; log = m.writing.log; busy = m.writing.busy } in
     let token = c.args.txn.now in
     let has : c.has_takes.result ≡ true = search rules in
-    let some : true ≡ is_some_of (takes_of s token) = sym has ∙ c.has_takes.ensures.tells is.known s is.looks in
+    let some : true ≡ is_some_of (takes_of s token) = sym has ∙ c.has_takes.ensures.tells is.settled is.known s is.looks in
     let spent : IsTrue c.is_spent.result = search rules in
     let still : s.broken ≡ false = (c.is_spent.ensures.whole s (rw (← c.self.view_is) is) spent).0 in
     spent_take (g.D.Disk.told m.writing.disk) old token s is some still)
