@@ -10,3 +10,5 @@ pub mod Passing
 pub mod Ends
 pub mod Outcomes
 pub mod Checks
+pub mod Loading
+pub mod Loaded

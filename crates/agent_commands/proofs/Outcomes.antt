@@ -43,7 +43,7 @@ use Rattle.agent_commands.proofs.Passing.{Passed, passed, traced}
 use Rattle.agent_commands.proofs.Standing.{none_stops}
 
 -- two things at once
-tells_both : {T : Type 0} (old new : Option T) (P Q : T → T → Type 0) → Tells old new P → Tells old new Q → Tells old new (λ t u. P t u × Q t u)
+pub tells_both : {T : Type 0} (old new : Option T) (P Q : T → T → Type 0) → Tells old new P → Tells old new Q → Tells old new (λ t u. P t u × Q t u)
 tells_both None None P Q p q = tt
 tells_both None (Some u) P Q p q = p
 tells_both (Some t) None P Q p q = p
@@ -350,7 +350,7 @@ closed_at_once s before told a b faults c start st begins same is =
 pub untouched : (told : Option Told) → Tells told told IsUnopened
 untouched told = tells_same told IsUnopened (λ t _. record { reads = inl (λ name. refl); images = started t (λ image. IsImage t.now image ⊎ IsAsBefore t.reads image) (λ image left. inl left) })
 
-stays : (cause : OpenCause) (files folder : Files) → StaysAs cause files folder → IsAsBefore files folder
+pub stays : (cause : OpenCause) (files folder : Files) → StaysAs cause files folder → IsAsBefore files folder
 stays causes.DiskFault files folder is = is
 stays (causes.BadCheck file at) files folder is = inl is
 stays (causes.BadLog file at) files folder is = inl is
@@ -358,7 +358,7 @@ stays (causes.OverCapacity count) files folder is = inl is
 stays (causes.Spent counter) files folder is = inl is
 stays causes.NoMemory files folder is = inl is
 
-same_files : (cause : OpenCause) (files folder : Files) → IsOfFolder cause → StaysAs cause files folder → AreSame files folder
+pub same_files : (cause : OpenCause) (files folder : Files) → IsOfFolder cause → StaysAs cause files folder → AreSame files folder
 same_files causes.DiskFault files folder of is = absurd of
 same_files (causes.BadCheck file at) files folder of is = is
 same_files (causes.BadLog file at) files folder of is = is

@@ -5,3 +5,4 @@ pub mod Trails
 pub mod Puts
 pub mod Piped
 pub mod Checked
+pub mod Loads

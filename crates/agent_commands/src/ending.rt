@@ -3,15 +3,18 @@ ghost use Rattle.std.specs.Prelude.{◌≡◌, ◌⊎◌, List, ℕ, IfOk, Match
 ghost use Rattle.flume_host.specs.HostState.{ButDisk};
 ghost use Rattle.agent_words.specs.Statuses.{status_of};
 ghost use Rattle.agent_commands.specs.Checked.{Checked, IsCheckStatus};
+ghost use Rattle.agent_commands.specs.Loads.{IsLoadStatus, Loaded, face_status, unloaded_status};
 ghost use Rattle.agent_commands.specs.Piped.{Piped, IsPipeStatus, cause_status, pipe_status};
 
-use crate::check::check;
+use crate::check::{check, print};
+use crate::load::{LoadCause, LoadRun, load};
 use crate::pipe::{PipeEnd, PipeRun, pipe};
 use crate::traced::default_limits;
 use agent_words::RunError;
-use channel_face::OpenCause;
+use channel_face::{BeginRefused, FaceRefused, OpenCause, PutRefused, StageCause, TakeRefused};
 use flume_host::Host;
 use line_session::SessionEnd;
+use load_gen::LoadRefused;
 use netcat_source::LineVerdict;
 use shared_channel::Pass;
 use std::alloc::{AllocError, Global};
@@ -135,6 +138,125 @@ pub fn run_check<H: Host>(alloc: Global, agent: &str, file: &str, host: &mut H) 
         Err(error) => {
             say_error(alloc, host, &error);
             error.status()
+        }
+    }
+}
+
+/// What a run of `load` ended with.
+#[derive(Drop)]
+pub struct LoadEnded {
+    /// The exit status.
+    pub status: u8,
+    /// The pass of the folder's channel, if it was opened and shared. It has seen all calls.
+    pub pass: Option<Pass>,
+}
+
+// What is said of a generator that the channel of this folder refused. A channel that has room and that nobody else calls refuses
+// it for no other cause than a fault, a number at its end, a damaged event or want of memory.
+fn refused_by(dir: String, refused: FaceRefused) -> RunError
+    ensures { status_of result ≡ face_status refused }
+{
+    match refused {
+        FaceRefused::Begin(BeginRefused::Spent { .. })
+        | FaceRefused::Put(PutRefused::Spent { .. })
+        | FaceRefused::Take(TakeRefused::Spent { .. })
+        | FaceRefused::Stage(StageCause::Spent { .. }) => RunError::Spent { dir },
+        FaceRefused::Take(TakeRefused::Damaged { .. }) => RunError::Damaged { dir },
+        FaceRefused::Begin(BeginRefused::NoMemory)
+        | FaceRefused::Put(PutRefused::NoMemory)
+        | FaceRefused::Take(TakeRefused::NoMemory) => RunError::NoMemory,
+        _ => RunError::Fault,
+    }
+}
+
+// Why a run of `load` has no summary.
+fn load_error(alloc: Global, dir: &str, cause: LoadCause) -> Result<RunError, AllocError>
+    ensures { IfOk result (λ error. status_of error ≡ unloaded_status cause) }
+{
+    let dir = String::from_str(alloc, dir)?;
+    let capacity = default_limits().capacity;
+    Ok(match cause {
+        LoadCause::Unopened(cause) => unopened(dir, capacity, cause),
+        LoadCause::TooMany { count } => RunError::OverCapacity {
+            dir,
+            count,
+            capacity,
+        },
+        LoadCause::Refused(LoadRefused::Face(refused)) => refused_by(dir, refused),
+        LoadCause::Refused(LoadRefused::NoMemory) => RunError::NoMemory,
+    })
+}
+
+// The exit status of a run of `load` whose generator was refused so.
+fn face_status(refused: FaceRefused) -> u8
+    ensures { result ≡ face_status refused }
+{
+    match refused {
+        FaceRefused::Begin(BeginRefused::Spent { .. })
+        | FaceRefused::Put(PutRefused::Spent { .. })
+        | FaceRefused::Take(TakeRefused::Spent { .. } | TakeRefused::Damaged { .. })
+        | FaceRefused::Stage(StageCause::Spent { .. }) => 4,
+        FaceRefused::Begin(BeginRefused::NoMemory)
+        | FaceRefused::Put(PutRefused::NoMemory)
+        | FaceRefused::Take(TakeRefused::NoMemory) => 5,
+        _ => 3,
+    }
+}
+
+// The exit status of a run of `load` without a summary.
+fn unloaded_status(cause: LoadCause) -> u8
+    ensures { result ≡ unloaded_status cause }
+{
+    match cause {
+        LoadCause::Unopened(OpenCause::DiskFault) => 3,
+        LoadCause::Unopened(OpenCause::NoMemory) => 5,
+        LoadCause::Unopened(_) | LoadCause::TooMany { .. } => 4,
+        LoadCause::Refused(LoadRefused::Face(refused)) => face_status(refused),
+        LoadCause::Refused(LoadRefused::NoMemory) => 5,
+    }
+}
+
+// Says why a run of `load` has no summary.
+fn say_unloaded<H: Host>(alloc: Global, dir: &str, host: &mut H, cause: LoadCause)
+    ensures state { H.state host.new ≡ H.state host.old }
+    ensures folders { H.folders host.new ≡ H.folders host.old }
+{
+    match load_error(alloc, dir, cause) {
+        Ok(error) => say_error(alloc, host, &error),
+        Err(_) => host.say("flume: no memory"),
+    }
+}
+
+/// `load N DIR`: the generator of `n` events runs on the folder, and its summary is written to standard output; or there is a line on
+/// standard error that tells why not.
+pub fn run_load<R: Wait, H: Host>(
+    rt: &R,
+    alloc: Global,
+    n: u32,
+    dir: &str,
+    host: &mut H,
+) -> LoadEnded
+    ensures loaded { Loaded n (H.state host.old) (H.state host.new)
+        ((H.folders host.old).disks dir.now) ((H.folders host.new).disks dir.now)
+        result.status result.pass }
+    ensures status { IsLoadStatus result.status }
+    ensures others { ButDisk dir.now (H.folders host.old) (H.folders host.new) }
+{
+    let LoadRun { answer, pass } = load(rt, alloc, n, dir, host);
+    match answer {
+        Ok(text) => match print(host, text.as_str()) {
+            Ok(()) => LoadEnded { status: 0, pass },
+            Err(_) => {
+                say_error(alloc, host, &RunError::Fault);
+                LoadEnded { status: 3, pass }
+            }
+        },
+        Err(cause) => {
+            say_unloaded(alloc, dir, host, cause);
+            LoadEnded {
+                status: unloaded_status(cause),
+                pass,
+            }
         }
     }
 }

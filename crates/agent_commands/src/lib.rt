@@ -1,14 +1,16 @@
-//! The commands that run in one thread: `pipe` and `check`.
+//! The commands that run in one thread: `pipe`, `check` and `load`.
 #![tactic(auto)]
 
 mod check;
 mod ending;
+mod load;
 mod pass_lines;
 mod pipe;
 mod traced;
 
 pub use check::plan_agent;
-pub use ending::{PipeEnded, run_check, run_pipe, say_error, unopened};
+pub use ending::{LoadEnded, PipeEnded, run_check, run_load, run_pipe, say_error, unopened};
+pub use load::LoadCause;
 pub use pass_lines::PassLines;
 pub use pipe::PipeEnd;
 pub use traced::TracedChannel;

@@ -162,7 +162,7 @@ fn only(passes: Vec<Pass>) -> Pass
 }
 
 // Shares a channel that was opened on a disk that was so before, with one pass. Want of memory hands it back.
-fn share<D: Disk + Drop>(
+pub(crate) fn share<D: Disk + Drop>(
     alloc: Global,
     channel: TracedChannel<D>,
     before: &Snapshot<D>,
@@ -176,6 +176,7 @@ fn share<D: Disk + Drop>(
     ensures first { IfOk result
         (λ r. IsFirstPass r.0.turn.table.shared.table_id r.1 (D.told before.now.value)
         (D.faults before.now.value)) }
+    ensures base { IfOk result (λ r. r.1.view.base ≡ start) }
     ensures back { IfErr result (λ c. c ≡ channel) }
 {
     let _ = before;

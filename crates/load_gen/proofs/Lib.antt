@@ -4,3 +4,5 @@ pub mod Rounds
 pub mod Parting
 pub mod Taking
 pub mod Tallies
+pub mod Walking
+pub mod Refusing

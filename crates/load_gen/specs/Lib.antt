@@ -3,3 +3,4 @@ pub mod Calls
 pub mod Runs
 pub mod Parts
 pub mod Counted
+pub mod States

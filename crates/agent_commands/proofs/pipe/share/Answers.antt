@@ -1,5 +1,5 @@
 use contract.BorrowLft.{◌⊑◌, ⊑_meet, ⊑_static}
-use Rattle.std.proofs.Common.{◌≡◌, ◌∙◌, ◌++◌, [], ℕ, List, get_or, length, sym, ap}
+use Rattle.std.proofs.Common.{◌∙◌, ◌++◌, [], ℕ, List, get_or, length, sym, ap}
 use Rattle.shared_channel.specs.Passes.{Known}
 use Rattle.agent_commands.proofs.pipe.share.Goals as goal
 
@@ -26,3 +26,6 @@ returns-in-Ok-clause-first g c = record {
   begins = c.requires.1.1.0;
   faults_then = c.requires.1.1.1;
 }
+
+pub returns-in-Ok-clause-base : goal.returns-in-Ok-clause-base
+returns-in-Ok-clause-base g c = ap (λ (l : List Known). (get_or l 0 c.only.result).view.base) (sym c.only.ensures ∙ c.in-Ok.ensures.shared)

@@ -1,0 +1,207 @@
+-- What a run of `load` comes to, on its folder and at its host.
+use Rattle.std.proofs.Common.{◌≡◌, ◌≢◌, ◌⊎◌, inl, inr, ◌≤◌, ℕ, List, [], Option, Some, None, Result, Ok, Err, Bool, true, false, refl, sym, ◌∙◌, ap, subst, arith}
+use Rattle.std.specs.Prelude.{String, string_bytes}
+use Rattle.std.specs.Global.{Global}
+use Rattle.flume_host.specs.Causes.{Counts, RisesWhere, Rose}
+use Rattle.flume_host.specs.HostState.{HostState}
+use Rattle.flume_host.specs.Told.{Tells, Told}
+use Rattle.flume_host.proofs.Telling.{tells_more}
+use Rattle.channel_face.specs.History.{Opening, opening}
+use Rattle.std.specs.Io.KnownBytes.{Appends}
+use Rattle.agent_end.specs.Writes.{Fronts}
+use Rattle.agent_commands.specs.Checked.{IsBeside}
+use Rattle.channel_face.specs.declared.replies.BeginRefused.TheVariants as BeginNo
+use Rattle.channel_face.specs.declared.replies.FaceRefused.{FaceRefused}
+use Rattle.channel_face.specs.declared.replies.FaceRefused.TheVariants as face
+use Rattle.channel_face.specs.declared.replies.PutRefused.TheVariants as PutNo
+use Rattle.channel_face.specs.declared.replies.StageCause.TheVariants as StageNo
+use Rattle.channel_face.specs.declared.replies.TakeRefused.TheVariants as TakeNo
+use Rattle.channel_face.specs.declared.replies.OpenCause.{OpenCause}
+use Rattle.channel_face.specs.declared.replies.OpenCause.TheVariants as causes
+use Rattle.channel_writing.specs.Folders.{IsRefused, OpensFrom, OpensOver, StaysAs}
+use Rattle.file_channel.specs.Stands.{FileState}
+use Rattle.channel_laws.proofs.Until.{counted_calls_leave}
+use Rattle.load_gen.specs.declared.refused.LoadRefused.{LoadRefused}
+use Rattle.load_gen.specs.declared.refused.LoadRefused.TheVariants as load
+use Rattle.shared_channel.specs.Passes.{Known}
+use Rattle.agent_commands.specs.Loads.{IsClosedAtOnce, IsLeftClosed, IsLoadStatus, Loaded, Ran, RanOn, as_cause, face_status, load_status, unloaded_status}
+use Rattle.agent_commands.specs.Piped.{cause_status}
+use Rattle.agent_commands.specs.Puts.{BeginsOver}
+use Rattle.agent_commands.specs.Stored.{IsOfFolder, IsRefusedFolder, IsUnopened, default_limits}
+use Rattle.agent_commands.specs.Trails.{StandsTraced}
+use Rattle.agent_commands.specs.declared.load.LoadCause.{LoadCause}
+use Rattle.agent_commands.specs.declared.load.LoadCause.TheVariants.{Refused, TooMany, Unopened}
+use Rattle.agent_commands.proofs.Loading.{Closing, cause_three, load_three, trail_rests}
+use Rattle.agent_commands.proofs.Outcomes.{same_files, stays, tells_both, untouched}
+
+-- the folder's part, by the generator's answer
+pub ran_on : (n : ℕ) (before told : Option Told) (faults : ℕ) (start : Opening) (w : Known) (answer : Result (String Global) LoadRefused) → Closing n before told faults start w answer → RanOn n before told (Some w) (as_cause answer)
+ran_on n before told faults start w (Ok text) c = (w, refl, c.loads)
+ran_on n before told faults start w (Err why) c = (w, refl, c.loads)
+
+-- what a status says of the disk's faults
+by_three : (b : Bool) (status before now : ℕ) → ((b ≡ true) × (status ≡ 3)) ⊎ ((b ≡ false) × (status ≢ 3)) → before ≤ now → (b ≡ true → Rose before now) → (b ≡ false → now ≡ before) → RisesWhere (status ≡ 3) before now
+by_three b status before now (inl both) later rose same = record { later = later; rose = λ _. rose both.0; same = λ other. absurd (other both.1) }
+by_three b status before now (inr both) later rose same = record { later = later; rose = λ is. absurd (both.1 is); same = λ _. same both.0 }
+
+-- the disk's faults, by the generator's answer
+pub ran_faults : (n : ℕ) (before told : Option Told) (faults : ℕ) (start : Opening) (w : Known) (answer : Result (String Global) LoadRefused) → Closing n before told faults start w answer → RisesWhere (load_status (as_cause answer) ≡ 3) start.faults faults
+ran_faults n before told faults start w (Ok text) c = by_three false 0 start.faults faults (inr (refl, λ is. omega (arith, is))) c.later c.rose c.same
+ran_faults n before told faults start w (Err load.NoMemory) c = by_three false 5 start.faults faults (inr (refl, λ is. omega (arith, is))) c.later c.rose c.same
+ran_faults n before told faults start w (Err (load.Face why)) c = by_three (load_three (Err (load.Face why))) (load_status (as_cause (Err (load.Face why)))) start.faults faults which c.later c.rose c.same
+  where
+    which : ((load_three (Err (load.Face why)) ≡ true) × (load_status (as_cause (Err (load.Face why))) ≡ 3)) ⊎ ((load_three (Err (load.Face why)) ≡ false) × (load_status (as_cause (Err (load.Face why))) ≢ 3))
+    which = elim (cause_three why c.own) [
+      | inl both ↦ inl both
+      | inr both ↦ inr (both.0, λ is. elim both.1 [ inl four ↦ omega (arith, is, four) | inr five ↦ omega (arith, is, five) ])
+    ]
+
+-- a channel that was closed before any call
+pub closed_once : (before told : Option Told) (faults : ℕ) (c : FileState) (start : Opening) (P : Opening → Type 0) → StandsTraced told faults c start [] → BeginsOver before start → P start → IsClosedAtOnce before told P
+closed_once before told faults c start P st begins p = (start, begins, counted_calls_leave told faults c start [] ([], st.stands, refl), trail_rests (opening start) st.first told [] st.began.rests st.trail, p)
+
+-- a folder that was not opened
+pub left_closed : (before after : Option Told) (a b : ℕ) (cause : OpenCause) → IsRefused before after a b default_limits.capacity cause → (cause ≡ causes.DiskFault) ⊎ Tells before after OpensFrom → IsLeftClosed before after cause
+left_closed before after a b cause r settled = record {
+  unopened = tells_more before after (λ t u. StaysAs cause t.reads u.reads × OpensOver t u) IsUnopened (λ t u _ _ p. record { reads = stays cause t.reads u.reads p.0; images = p.1 }) (tells_both before after (λ t u. StaysAs cause t.reads u.reads) OpensOver r.stays r.images);
+  refused = λ of. elim settled [
+    | inl disk ↦ absurd (subst IsOfFolder disk of)
+    | inr from ↦ tells_more before after (λ t u. StaysAs cause t.reads u.reads × OpensFrom t u) IsRefusedFolder
+        (λ t u is_t _ p. record { cause = cause; folder = of; why = r.why t is_t; reads = same_files cause t.reads u.reads of p.0; images = p.1 }) (tells_both before after (λ t u. StaysAs cause t.reads u.reads) OpensFrom r.stays from)
+  ];
+}
+
+-- its faults
+pub left_faults : (before after : Option Told) (a b : ℕ) (cause : OpenCause) → IsRefused before after a b default_limits.capacity cause → RisesWhere (cause_status cause ≡ 3) a b
+left_faults before after a b causes.DiskFault r = record { later = r.later; rose = λ _. r.fault refl; same = λ other. absurd (other refl) }
+left_faults before after a b (causes.BadCheck file at) r = record { later = r.later; rose = λ is. absurd (omega (arith, is)); same = λ _. r.well (λ e. cc) }
+left_faults before after a b (causes.BadLog file at) r = record { later = r.later; rose = λ is. absurd (omega (arith, is)); same = λ _. r.well (λ e. cc) }
+left_faults before after a b (causes.OverCapacity count) r = record { later = r.later; rose = λ is. absurd (omega (arith, is)); same = λ _. r.well (λ e. cc) }
+left_faults before after a b (causes.Spent counter) r = record { later = r.later; rose = λ is. absurd (omega (arith, is)); same = λ _. r.well (λ e. cc) }
+left_faults before after a b causes.NoMemory r = record { later = r.later; rose = λ is. absurd (omega (arith, is)); same = λ _. r.well (λ e. cc) }
+
+-- a folder whose disk was not handed out
+pub not_handed : (told told' : Option Told) (cause : OpenCause) → (IsOfFolder cause → ⊥) → told' ≡ told → IsLeftClosed told told' cause
+not_handed told told' cause none same = subst (λ (o : Option Told). IsLeftClosed told o cause) (sym same) (record { unopened = untouched told; refused = λ of. absurd (none of) })
+
+-- the disk is handed out before, and given back after
+pub ran_back : (n : ℕ) (s0 s1 s3 : HostState) (before before' after after' : Option Told) (pass : Option Known) (answer : Result (String Global) LoadCause) (m k a own : ℕ) → s1 ≡ record s0 { faults = m } → m ≡ s0.faults → before' ≡ before → a ≡ 0 → s3 ≡ record s1 { disk_faults = k } → Counts s1.disk_faults k own
+    → after ≡ after' → RanOn n before' after' pass answer → RisesWhere (load_status answer ≡ 3) a own → Ran n s0 s3 before after pass answer
+ran_back n s0 s1 s3 before before' after after' pass answer m k a own opened same is_before zero kept counts is_after ran rises =
+    let faults : s3.faults ≡ s0.faults = ap (λ (s : HostState). s.faults) kept ∙ ap (λ (s : HostState). s.faults) opened ∙ same in
+    let disk0 : s1.disk_faults ≡ s0.disk_faults = ap (λ (s : HostState). s.disk_faults) opened in
+    let disk3 : s3.disk_faults ≡ k = ap (λ (s : HostState). s.disk_faults) kept in
+    record {
+      folder = subst (λ (p : Option Told × Option Told). RanOn n p.0 p.1 pass answer) (λ i. (is_before i, sym is_after i)) ran;
+      fault = λ three. inr (let r = rises.rose three in let up = counts.raised (omega (arith, r, zero)) in omega (arith, up, disk0, disk3));
+      host = λ _. faults;
+      disks = λ other. disk3 ∙ counts.clean (rises.same other ∙ zero) ∙ disk0;
+      later = (omega (arith, faults), (let l = counts.later in omega (arith, l, disk0, disk3)));
+      state = kept ∙ ap (λ (s : HostState). record s { disk_faults = k }) opened ∙ (λ i. record s0 { faults = (same ∙ sym faults) i; disk_faults = sym disk3 i });
+    }
+
+-- the disk was not handed out
+pub ran_none : (n : ℕ) (s0 s1 : HostState) (before after : Option Told) (pass : Option Known) (answer : Result (String Global) LoadCause) (m : ℕ) (cause : OpenCause) → s1 ≡ record s0 { faults = m } → pass ≡ None → answer ≡ Err (Unopened cause) → (IsOfFolder cause → ⊥) → after ≡ before → s0.faults ≤ m
+    → (cause_status cause ≡ 3 → Rose s0.faults m) → ((cause_status cause ≡ 0) ⊎ (cause_status cause ≡ 4) → ⊥) → Ran n s0 s1 before after pass answer
+ran_none n s0 s1 before after pass answer m cause is none answers of same later rose others =
+    let faults : s1.faults ≡ m = ap (λ (s : HostState). s.faults) is in
+    let disks : s1.disk_faults ≡ s0.disk_faults = ap (λ (s : HostState). s.disk_faults) is in
+    let status : load_status answer ≡ cause_status cause = ap load_status answers in
+    record {
+      folder = subst (λ (a : Result (String Global) LoadCause). RanOn n before after pass a) (sym answers) (none, inl (not_handed before after cause of same));
+      fault = λ three. inl (subst (Rose s0.faults) (sym faults) (rose (sym status ∙ three)));
+      host = λ either. absurd (others (elim either [ inl zero ↦ inl (sym status ∙ zero) | inr four ↦ inr (sym status ∙ four) ]));
+      disks = λ _. disks;
+      later = (omega (arith, faults, later), omega (arith, disks));
+      state = is ∙ (λ i. record s0 { faults = sym faults i; disk_faults = sym disks i });
+    }
+
+-- the run, where its summary was written
+pub loaded_well : (n : ℕ) (s0 s1 s2 : HostState) (before after : Option Told) (pass : Option Known) (answer : Result (String Global) LoadCause) (text : String Global) → Ran n s0 s1 before after pass answer → answer ≡ Ok text → Appends s1.output s2.output (string_bytes text) → s2.handed ≡ s2.output → s2.faults ≡ s1.faults → IsBeside s1 s2
+    → Loaded n s0 s2 before after 0 pass
+loaded_well n s0 s1 s2 before after pass answer text r is whole handed faults beside =
+    let status : load_status answer ≡ 0 = ap load_status is in
+    let output : s1.output ≡ s0.output = ap (λ (s : HostState). s.output) r.state in
+    record {
+      answer = Ok text;
+      folder = subst (RanOn n before after pass) is r.folder;
+      wrote = inl (refl, subst (λ (o : Option (List ℕ)). Appends o s2.output (string_bytes text)) output whole, handed);
+      fault = λ three. absurd (omega (arith, three));
+      well = λ _. (faults ∙ r.host (inl status), beside.disks ∙ r.disks (λ three. let e = sym status ∙ three in omega (arith, e)));
+      memory = λ five. absurd (omega (arith, five));
+      input = beside.input ∙ ap (λ (s : HostState). s.input) r.state;
+      files = beside.files ∙ ap (λ (s : HostState). s.files) r.state;
+    }
+
+-- where the output failed
+pub loaded_front : (n : ℕ) (s0 s1 s2 : HostState) (before after : Option Told) (pass : Option Known) (answer : Result (String Global) LoadCause) (text : String Global) → Ran n s0 s1 before after pass answer → answer ≡ Ok text → Fronts s1.output s2.output s1.faults s2.faults (string_bytes text) → Rose s1.faults s2.faults → IsBeside s1 s2
+    → Loaded n s0 s2 before after 3 pass
+loaded_front n s0 s1 s2 before after pass answer text r is front rose beside =
+    let status : load_status answer ≡ 0 = ap load_status is in
+    let output : s1.output ≡ s0.output = ap (λ (s : HostState). s.output) r.state in
+    let same : s1.faults ≡ s0.faults = r.host (inl status) in
+    record {
+      answer = Ok text;
+      folder = subst (RanOn n before after pass) is r.folder;
+      wrote = inr (refl, subst (λ (o : Option (List ℕ)). Fronts o s2.output s0.faults s2.faults (string_bytes text)) output (subst (λ (m : ℕ). Fronts s1.output s2.output m s2.faults (string_bytes text)) same front));
+      fault = λ _. inl (subst (λ (m : ℕ). Rose m s2.faults) same rose);
+      well = λ either. absurd (elim either [ inl zero ↦ omega (arith, zero) | inr four ↦ omega (arith, four) ]);
+      memory = λ five. absurd (omega (arith, five));
+      input = beside.input ∙ ap (λ (s : HostState). s.input) r.state;
+      files = beside.files ∙ ap (λ (s : HostState). s.files) r.state;
+    }
+
+-- where there is none
+pub loaded_none : (n : ℕ) (s0 s1 s2 : HostState) (before after : Option Told) (pass : Option Known) (answer : Result (String Global) LoadCause) (cause : LoadCause) → Ran n s0 s1 before after pass answer → answer ≡ Err cause → s2 ≡ s1 → Loaded n s0 s2 before after (unloaded_status cause) pass
+loaded_none n s0 s1 s2 before after pass answer cause r is same =
+    let status : load_status answer ≡ unloaded_status cause = ap load_status is in
+    subst (λ (s : HostState). Loaded n s0 s before after (unloaded_status cause) pass) (sym same) (record {
+      answer = Err cause;
+      folder = subst (RanOn n before after pass) is r.folder;
+      wrote = (refl, ap (λ (s : HostState). s.output) r.state);
+      fault = λ three. r.fault (status ∙ three);
+      well = λ either. (r.host (elim either [ inl zero ↦ inl (status ∙ zero) | inr four ↦ inr (status ∙ four) ]), r.disks (λ three. let e = sym three ∙ status in elim either [ inl zero ↦ omega (arith, e, zero) | inr four ↦ omega (arith, e, four) ]));
+      memory = λ five. r.disks (λ three. let e = sym three ∙ status in omega (arith, e, five));
+      input = ap (λ (s : HostState). s.input) r.state;
+      files = ap (λ (s : HostState). s.files) r.state;
+    })
+
+-- the status of a generator that was refused is one of `load`
+pub status_of_face : (why : FaceRefused) → IsLoadStatus (face_status why)
+status_of_face (face.Begin BeginNo.Broken) = inr (inl refl)
+status_of_face (face.Begin (BeginNo.TooManyOpen n)) = inr (inl refl)
+status_of_face (face.Begin (BeginNo.Spent n)) = inr (inr (inl refl))
+status_of_face (face.Begin BeginNo.NoMemory) = inr (inr (inr refl))
+status_of_face (face.Put PutNo.Stale) = inr (inl refl)
+status_of_face (face.Put PutNo.Broken) = inr (inl refl)
+status_of_face (face.Put (PutNo.Spent n)) = inr (inr (inl refl))
+status_of_face (face.Put (PutNo.TxnFull n)) = inr (inl refl)
+status_of_face (face.Put (PutNo.TooLarge n)) = inr (inl refl)
+status_of_face (face.Put (PutNo.Full n)) = inr (inl refl)
+status_of_face (face.Put PutNo.DiskFault) = inr (inl refl)
+status_of_face (face.Put PutNo.NoMemory) = inr (inr (inr refl))
+status_of_face (face.Take TakeNo.Stale) = inr (inl refl)
+status_of_face (face.Take TakeNo.Broken) = inr (inl refl)
+status_of_face (face.Take (TakeNo.Spent n)) = inr (inr (inl refl))
+status_of_face (face.Take (TakeNo.TxnFull n)) = inr (inl refl)
+status_of_face (face.Take TakeNo.ReadFault) = inr (inl refl)
+status_of_face (face.Take (TakeNo.Damaged n m)) = inr (inr (inl refl))
+status_of_face (face.Take TakeNo.NoMemory) = inr (inr (inr refl))
+status_of_face (face.Take TakeNo.DiskFault) = inr (inl refl)
+status_of_face (face.Stage StageNo.Stale) = inr (inl refl)
+status_of_face (face.Stage StageNo.Broken) = inr (inl refl)
+status_of_face (face.Stage (StageNo.Full n)) = inr (inl refl)
+status_of_face (face.Stage (StageNo.Spent n)) = inr (inr (inl refl))
+status_of_face face.InDoubt = inr (inl refl)
+
+-- so is that of each run without a summary
+pub status_of_cause : (cause : LoadCause) → IsLoadStatus (unloaded_status cause)
+status_of_cause (Unopened causes.DiskFault) = inr (inl refl)
+status_of_cause (Unopened (causes.BadCheck file at)) = inr (inr (inl refl))
+status_of_cause (Unopened (causes.BadLog file at)) = inr (inr (inl refl))
+status_of_cause (Unopened (causes.OverCapacity count)) = inr (inr (inl refl))
+status_of_cause (Unopened (causes.Spent counter)) = inr (inr (inl refl))
+status_of_cause (Unopened causes.NoMemory) = inr (inr (inr refl))
+status_of_cause (TooMany count) = inr (inr (inl refl))
+status_of_cause (Refused (load.Face why)) = status_of_face why
+status_of_cause (Refused load.NoMemory) = inr (inr (inr refl))
