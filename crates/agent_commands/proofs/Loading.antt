@@ -18,7 +18,8 @@ use Rattle.channel_face.specs.declared.replies.FlushRefused.TheVariants as Flush
 use Rattle.channel_face.specs.declared.replies.PutRefused.TheVariants as PutNo
 use Rattle.channel_face.specs.declared.replies.StageCause.TheVariants as StageNo
 use Rattle.channel_face.specs.declared.replies.TakeRefused.TheVariants as TakeNo
-use Rattle.file_channel.specs.Stands.{FileState, has_fault, is_fault}
+use Rattle.channel_writing.specs.Stands.{has_fault, is_fault}
+use Rattle.file_channel.specs.Stands.{FileState}
 use Rattle.channel_writing.specs.Touches.{Rests}
 use Rattle.channel_laws.proofs.Until.{counted_calls_leave}
 use Rattle.load_gen.specs.Calls.{IsBack, IsCalled, IsRefused, Makes, RollsBack, calls_of}
