@@ -1,21 +1,12 @@
 -- What a run of `load` comes to, on its folder and at its host.
-use Rattle.std.proofs.Common.{◌≡◌, ◌≢◌, ◌⊎◌, inl, inr, ◌≤◌, ℕ, List, [], Option, Some, None, Result, Ok, Err, Bool, true, false, refl, sym, ◌∙◌, ap, subst, arith}
-use Rattle.std.specs.Prelude.{String, string_bytes}
+use Rattle.std.proofs.Common.{◌≡◌, ◌≢◌, ◌⊎◌, inl, inr, ◌≤◌, ℕ, [], Option, Some, None, Result, Ok, Err, Bool, true, false, refl, sym, ◌∙◌, ap, subst, arith}
+use Rattle.std.specs.Prelude.{String}
 use Rattle.std.specs.Global.{Global}
 use Rattle.flume_host.specs.Causes.{Counts, RisesWhere, Rose}
 use Rattle.flume_host.specs.HostState.{HostState}
 use Rattle.flume_host.specs.Told.{Tells, Told}
 use Rattle.flume_host.proofs.Telling.{tells_more}
 use Rattle.channel_face.specs.History.{Opening, opening}
-use Rattle.std.specs.Io.KnownBytes.{Appends}
-use Rattle.agent_end.specs.Writes.{Fronts}
-use Rattle.agent_commands.specs.Checked.{IsBeside}
-use Rattle.channel_face.specs.declared.replies.BeginRefused.TheVariants as BeginNo
-use Rattle.channel_face.specs.declared.replies.FaceRefused.{FaceRefused}
-use Rattle.channel_face.specs.declared.replies.FaceRefused.TheVariants as face
-use Rattle.channel_face.specs.declared.replies.PutRefused.TheVariants as PutNo
-use Rattle.channel_face.specs.declared.replies.StageCause.TheVariants as StageNo
-use Rattle.channel_face.specs.declared.replies.TakeRefused.TheVariants as TakeNo
 use Rattle.channel_face.specs.declared.replies.OpenCause.{OpenCause}
 use Rattle.channel_face.specs.declared.replies.OpenCause.TheVariants as causes
 use Rattle.channel_writing.specs.Folders.{IsRefused, OpensFrom, OpensOver, StaysAs}
@@ -24,13 +15,13 @@ use Rattle.channel_laws.proofs.Until.{counted_calls_leave}
 use Rattle.load_gen.specs.declared.refused.LoadRefused.{LoadRefused}
 use Rattle.load_gen.specs.declared.refused.LoadRefused.TheVariants as load
 use Rattle.shared_channel.specs.Passes.{Known}
-use Rattle.agent_commands.specs.Loads.{IsClosedAtOnce, IsLeftClosed, IsLoadStatus, Loaded, Ran, RanOn, as_cause, face_status, load_status, unloaded_status}
+use Rattle.agent_commands.specs.Loads.{IsClosedAtOnce, IsLeftClosed, Ran, RanOn, as_cause, load_status}
 use Rattle.agent_commands.specs.Piped.{cause_status}
 use Rattle.agent_commands.specs.Puts.{BeginsOver}
 use Rattle.agent_commands.specs.Stored.{IsOfFolder, IsRefusedFolder, IsUnopened, default_limits}
 use Rattle.agent_commands.specs.Trails.{StandsTraced}
 use Rattle.agent_commands.specs.declared.load.LoadCause.{LoadCause}
-use Rattle.agent_commands.specs.declared.load.LoadCause.TheVariants.{Refused, TooMany, Unopened}
+use Rattle.agent_commands.specs.declared.load.LoadCause.TheVariants.{Unopened}
 use Rattle.agent_commands.proofs.Loading.{Closing, cause_three, load_three, trail_rests}
 use Rattle.agent_commands.proofs.Outcomes.{same_files, stays, tells_both, untouched}
 
@@ -115,93 +106,3 @@ ran_none n s0 s1 before after pass answer m cause is none answers of same later 
       later = (omega (arith, faults, later), omega (arith, disks));
       state = is ∙ (λ i. record s0 { faults = sym faults i; disk_faults = sym disks i });
     }
-
--- the run, where its summary was written
-pub loaded_well : (n : ℕ) (s0 s1 s2 : HostState) (before after : Option Told) (pass : Option Known) (answer : Result (String Global) LoadCause) (text : String Global) → Ran n s0 s1 before after pass answer → answer ≡ Ok text → Appends s1.output s2.output (string_bytes text) → s2.handed ≡ s2.output → s2.faults ≡ s1.faults → IsBeside s1 s2
-    → Loaded n s0 s2 before after 0 pass
-loaded_well n s0 s1 s2 before after pass answer text r is whole handed faults beside =
-    let status : load_status answer ≡ 0 = ap load_status is in
-    let output : s1.output ≡ s0.output = ap (λ (s : HostState). s.output) r.state in
-    record {
-      answer = Ok text;
-      folder = subst (RanOn n before after pass) is r.folder;
-      wrote = inl (refl, subst (λ (o : Option (List ℕ)). Appends o s2.output (string_bytes text)) output whole, handed);
-      fault = λ three. absurd (omega (arith, three));
-      well = λ _. (faults ∙ r.host (inl status), beside.disks ∙ r.disks (λ three. let e = sym status ∙ three in omega (arith, e)));
-      memory = λ five. absurd (omega (arith, five));
-      input = beside.input ∙ ap (λ (s : HostState). s.input) r.state;
-      files = beside.files ∙ ap (λ (s : HostState). s.files) r.state;
-    }
-
--- where the output failed
-pub loaded_front : (n : ℕ) (s0 s1 s2 : HostState) (before after : Option Told) (pass : Option Known) (answer : Result (String Global) LoadCause) (text : String Global) → Ran n s0 s1 before after pass answer → answer ≡ Ok text → Fronts s1.output s2.output s1.faults s2.faults (string_bytes text) → Rose s1.faults s2.faults → IsBeside s1 s2
-    → Loaded n s0 s2 before after 3 pass
-loaded_front n s0 s1 s2 before after pass answer text r is front rose beside =
-    let status : load_status answer ≡ 0 = ap load_status is in
-    let output : s1.output ≡ s0.output = ap (λ (s : HostState). s.output) r.state in
-    let same : s1.faults ≡ s0.faults = r.host (inl status) in
-    record {
-      answer = Ok text;
-      folder = subst (RanOn n before after pass) is r.folder;
-      wrote = inr (refl, subst (λ (o : Option (List ℕ)). Fronts o s2.output s0.faults s2.faults (string_bytes text)) output (subst (λ (m : ℕ). Fronts s1.output s2.output m s2.faults (string_bytes text)) same front));
-      fault = λ _. inl (subst (λ (m : ℕ). Rose m s2.faults) same rose);
-      well = λ either. absurd (elim either [ inl zero ↦ omega (arith, zero) | inr four ↦ omega (arith, four) ]);
-      memory = λ five. absurd (omega (arith, five));
-      input = beside.input ∙ ap (λ (s : HostState). s.input) r.state;
-      files = beside.files ∙ ap (λ (s : HostState). s.files) r.state;
-    }
-
--- where there is none
-pub loaded_none : (n : ℕ) (s0 s1 s2 : HostState) (before after : Option Told) (pass : Option Known) (answer : Result (String Global) LoadCause) (cause : LoadCause) → Ran n s0 s1 before after pass answer → answer ≡ Err cause → s2 ≡ s1 → Loaded n s0 s2 before after (unloaded_status cause) pass
-loaded_none n s0 s1 s2 before after pass answer cause r is same =
-    let status : load_status answer ≡ unloaded_status cause = ap load_status is in
-    subst (λ (s : HostState). Loaded n s0 s before after (unloaded_status cause) pass) (sym same) (record {
-      answer = Err cause;
-      folder = subst (RanOn n before after pass) is r.folder;
-      wrote = (refl, ap (λ (s : HostState). s.output) r.state);
-      fault = λ three. r.fault (status ∙ three);
-      well = λ either. (r.host (elim either [ inl zero ↦ inl (status ∙ zero) | inr four ↦ inr (status ∙ four) ]), r.disks (λ three. let e = sym three ∙ status in elim either [ inl zero ↦ omega (arith, e, zero) | inr four ↦ omega (arith, e, four) ]));
-      memory = λ five. r.disks (λ three. let e = sym three ∙ status in omega (arith, e, five));
-      input = ap (λ (s : HostState). s.input) r.state;
-      files = ap (λ (s : HostState). s.files) r.state;
-    })
-
--- the status of a generator that was refused is one of `load`
-pub status_of_face : (why : FaceRefused) → IsLoadStatus (face_status why)
-status_of_face (face.Begin BeginNo.Broken) = inr (inl refl)
-status_of_face (face.Begin (BeginNo.TooManyOpen n)) = inr (inl refl)
-status_of_face (face.Begin (BeginNo.Spent n)) = inr (inr (inl refl))
-status_of_face (face.Begin BeginNo.NoMemory) = inr (inr (inr refl))
-status_of_face (face.Put PutNo.Stale) = inr (inl refl)
-status_of_face (face.Put PutNo.Broken) = inr (inl refl)
-status_of_face (face.Put (PutNo.Spent n)) = inr (inr (inl refl))
-status_of_face (face.Put (PutNo.TxnFull n)) = inr (inl refl)
-status_of_face (face.Put (PutNo.TooLarge n)) = inr (inl refl)
-status_of_face (face.Put (PutNo.Full n)) = inr (inl refl)
-status_of_face (face.Put PutNo.DiskFault) = inr (inl refl)
-status_of_face (face.Put PutNo.NoMemory) = inr (inr (inr refl))
-status_of_face (face.Take TakeNo.Stale) = inr (inl refl)
-status_of_face (face.Take TakeNo.Broken) = inr (inl refl)
-status_of_face (face.Take (TakeNo.Spent n)) = inr (inr (inl refl))
-status_of_face (face.Take (TakeNo.TxnFull n)) = inr (inl refl)
-status_of_face (face.Take TakeNo.ReadFault) = inr (inl refl)
-status_of_face (face.Take (TakeNo.Damaged n m)) = inr (inr (inl refl))
-status_of_face (face.Take TakeNo.NoMemory) = inr (inr (inr refl))
-status_of_face (face.Take TakeNo.DiskFault) = inr (inl refl)
-status_of_face (face.Stage StageNo.Stale) = inr (inl refl)
-status_of_face (face.Stage StageNo.Broken) = inr (inl refl)
-status_of_face (face.Stage (StageNo.Full n)) = inr (inl refl)
-status_of_face (face.Stage (StageNo.Spent n)) = inr (inr (inl refl))
-status_of_face face.InDoubt = inr (inl refl)
-
--- so is that of each run without a summary
-pub status_of_cause : (cause : LoadCause) → IsLoadStatus (unloaded_status cause)
-status_of_cause (Unopened causes.DiskFault) = inr (inl refl)
-status_of_cause (Unopened (causes.BadCheck file at)) = inr (inr (inl refl))
-status_of_cause (Unopened (causes.BadLog file at)) = inr (inr (inl refl))
-status_of_cause (Unopened (causes.OverCapacity count)) = inr (inr (inl refl))
-status_of_cause (Unopened (causes.Spent counter)) = inr (inr (inl refl))
-status_of_cause (Unopened causes.NoMemory) = inr (inr (inr refl))
-status_of_cause (TooMany count) = inr (inr (inl refl))
-status_of_cause (Refused (load.Face why)) = status_of_face why
-status_of_cause (Refused load.NoMemory) = inr (inr (inr refl))
