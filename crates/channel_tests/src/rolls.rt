@@ -52,7 +52,8 @@ fn left_in(alloc: Global, disk: MemDisk) -> Result<Option<usize>, Fail> {
 // A disk on which so many of the calls were made.
 fn disk_after(alloc: Global, calls: usize) -> Result<MemDisk, Fail> {
     let mut tried = Tried::new(channel_on(alloc, MemDisk::new(alloc), FULL)?);
-    answer(alloc, "four events", &mut tried, &FOUR[..calls])?;
+    let made = FOUR.get(..calls).ok_or("there are fewer calls")?;
+    answer(alloc, "four events", &mut tried, made)?;
     let Tried { channel, ticket: _ } = tried;
     Ok(channel.close())
 }
@@ -83,7 +84,7 @@ fn a_stop_leaves_what_is_settled_across_files(rt: HostRuntime) -> Result<(), Fai
     let ends = ends(alloc)?;
     let disk = disk_after(alloc, FOUR.len())?;
     for stood in &STOOD {
-        for moment in 0..disk.moments() + 1 {
+        for moment in 0..disk.moments().saturating_add(1) {
             let found = left_in(alloc, disk.stopped_at(moment, &[*stood])?)?;
             let least = settled_by(&ends, moment);
             assert!(rt; matches!(found, Some(0 | 1 | 2 | 4)), "moment {moment}");
