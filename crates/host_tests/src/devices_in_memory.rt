@@ -60,11 +60,14 @@ fn sink_call(sink: &mut MemSink, bytes: Option<&[u8]>) -> Result<usize, Failed> 
     }
 }
 
+fn sink(alloc: Global, pieces: &[usize], fails: &[u64]) -> Result<MemSink, AllocError> {
+    let sink = MemSink::new(alloc).in_pieces(pieces.to_vec(alloc)?);
+    Ok(sink.failing_at(fails.to_vec(alloc)?))
+}
+
 #[test]
 fn a_sink_takes_pieces_and_fails_where_chosen(rt: HostRuntime) -> Result<(), Fail> {
-    let pieces = [2, 9].as_slice().to_vec(rt.alloc())?;
-    let fails = [2, 3].as_slice().to_vec(rt.alloc())?;
-    let mut sink = MemSink::new(rt.alloc()).in_pieces(pieces).failing_at(fails);
+    let mut sink = sink(rt.alloc(), &[2, 9], &[2, 3])?;
     for (row, case) in SINK_CALLS.iter().enumerate() {
         let (bytes, want) = *case;
         assert!(rt; sink_call(&mut sink, bytes) == want, "row {row}");
@@ -84,44 +87,75 @@ enum Step {
     Len(FileName),
 }
 
+fn try_make(disk: &mut MemDisk, name: FileName) -> Option<bool> {
+    match disk.file(name) {
+        None => Some(disk.make(name).is_ok()),
+        Some(_) => None,
+    }
+}
+
+fn try_write(disk: &mut MemDisk, name: FileName, at: u64, bytes: &[u8]) -> Option<bool> {
+    match disk.file(name) {
+        Some(was) if at <= was.len() as u64 => Some(disk.write_at(name, at, bytes).is_ok()),
+        _ => None,
+    }
+}
+
+fn try_sync(disk: &mut MemDisk, name: FileName) -> Option<bool> {
+    match disk.file(name) {
+        Some(_) => Some(disk.sync(name).is_ok()),
+        None => None,
+    }
+}
+
+fn try_remove(disk: &mut MemDisk, name: FileName) -> Option<bool> {
+    match disk.file(name) {
+        Some(_) => Some(disk.remove(name).is_ok()),
+        None => None,
+    }
+}
+
+fn try_len(disk: &mut MemDisk, name: FileName) -> Option<bool> {
+    match disk.file(name) {
+        Some(_) => Some(disk.len(name).is_ok()),
+        None => None,
+    }
+}
+
 // Makes a call whose condition holds, and says whether it answered Ok. A call whose condition does not hold is not made.
 fn try_step(disk: &mut MemDisk, step: Step) -> Option<bool> {
     match step {
-        Step::Make(name) => match disk.file(name) {
-            None => Some(disk.make(name).is_ok()),
-            Some(_) => None,
-        },
-        Step::Write(name, at, bytes) => match disk.file(name) {
-            Some(was) if at <= was.len() as u64 => Some(disk.write_at(name, at, bytes).is_ok()),
-            _ => None,
-        },
-        Step::Sync(name) => match disk.file(name) {
-            Some(_) => Some(disk.sync(name).is_ok()),
-            None => None,
-        },
+        Step::Make(name) => try_make(disk, name),
+        Step::Write(name, at, bytes) => try_write(disk, name, at, bytes),
+        Step::Sync(name) => try_sync(disk, name),
         Step::Settle => Some(disk.settle().is_ok()),
-        Step::Remove(name) => match disk.file(name) {
-            Some(_) => Some(disk.remove(name).is_ok()),
-            None => None,
-        },
-        Step::Len(name) => match disk.file(name) {
-            Some(_) => Some(disk.len(name).is_ok()),
-            None => None,
-        },
+        Step::Remove(name) => try_remove(disk, name),
+        Step::Len(name) => try_len(disk, name),
     }
+}
+
+fn file(alloc: Global, name: FileName, bytes: &[u8]) -> Result<MemFile, AllocError> {
+    Ok(MemFile {
+        name,
+        bytes: bytes.to_vec(alloc)?,
+    })
 }
 
 fn disk(alloc: Global) -> Result<MemDisk, AllocError> {
     let mut files = Vec::new(alloc);
-    files.push(MemFile {
-        name: THREE,
-        bytes: b"seven".to_vec(alloc)?,
-    })?;
-    files.push(MemFile {
-        name: ONE,
-        bytes: b"old".to_vec(alloc)?,
-    })?;
+    files.push(file(alloc, THREE, b"seven")?)?;
+    files.push(file(alloc, ONE, b"old")?)?;
     MemDisk::with_files(alloc, files)
+}
+
+// The place of the first call that is not answered Ok.
+fn first_not_done(disk: &mut MemDisk, steps: &[Step]) -> Option<usize> {
+    for (row, step) in steps.iter().enumerate() {
+        if try_step(disk, *step) != Some(true) {
+            return Some(row);
+        }
+    }
+    None
 }
 
 const CALLS_THAT_SUCCEED: [Step; 7] = [
@@ -147,21 +181,35 @@ const NEXT_NAMES: [(Option<FileName>, Option<FileName>); 3] = [
     (Some(THREE), None),
 ];
 
+// The first of the files that holds something else, or is there where none is to be.
+fn first_other_file(disk: &MemDisk) -> Option<FileName> {
+    for (name, bytes) in &FILES_AFTER_THEM {
+        if disk.file(*name) != *bytes {
+            return Some(*name);
+        }
+    }
+    None
+}
+
+// The place of the first name after which another one comes.
+fn first_other_next(disk: &mut MemDisk) -> Option<usize> {
+    for (row, (after, next)) in NEXT_NAMES.iter().enumerate() {
+        if disk.next_name(*after) != Ok(*next) {
+            return Some(row);
+        }
+    }
+    None
+}
+
 #[test]
 fn a_disk_does_what_is_asked(rt: HostRuntime) -> Result<(), Fail> {
     let mut disk = disk(rt.alloc())?;
-    for (row, step) in CALLS_THAT_SUCCEED.iter().enumerate() {
-        let step = *step;
-        assert!(rt; try_step(&mut disk, step) == Some(true), "row {row}");
-    }
-    for case in &FILES_AFTER_THEM {
-        let (name, bytes) = *case;
-        assert!(rt; disk.file(name) == bytes, "{name:?}");
-    }
-    for case in &NEXT_NAMES {
-        let (after, next) = *case;
-        assert!(rt; disk.next_name(after) == Ok(next), "{after:?}");
-    }
+    let wrong = first_not_done(&mut disk, &CALLS_THAT_SUCCEED);
+    assert!(rt; wrong.is_none(), "{wrong:?}");
+    let wrong = first_other_file(&disk);
+    assert!(rt; wrong.is_none(), "{wrong:?}");
+    let wrong = first_other_next(&mut disk);
+    assert!(rt; wrong.is_none(), "{wrong:?}");
     assert!(rt; (disk.calls(), disk.syncs(), disk.faults()) == (10, 1, 0));
     Ok(())
 }
@@ -224,15 +272,18 @@ const CALLS_THAT_FAIL: [(Step, bool); 11] = [
     (Step::Len(TWO), true),
 ];
 
+fn failing_disk(alloc: Global) -> Result<MemDisk, AllocError> {
+    Ok(disk(alloc)?.failing_at(FAULTS.to_vec(alloc)?))
+}
+
 #[test]
 fn a_disk_fails_where_chosen(rt: HostRuntime) -> Result<(), Fail> {
-    let mut disk = disk(rt.alloc())?.failing_at(FAULTS.to_vec(rt.alloc())?);
+    let mut disk = failing_disk(rt.alloc())?;
     for (row, case) in CALLS_THAT_FAIL.iter().enumerate() {
         let (step, ok) = *case;
         assert!(rt; try_step(&mut disk, step) == Some(ok), "row {row}");
     }
-    assert!(rt; disk.file(ONE).is_none());
-    assert!(rt; disk.file(TWO) == Some(b"ayz".as_slice()));
+    assert!(rt; disk.file(ONE).is_none() && disk.file(TWO) == Some(b"ayz".as_slice()));
     assert!(rt; (disk.calls(), disk.syncs(), disk.faults()) == (11, 1, 10));
     Ok(())
 }
@@ -323,10 +374,8 @@ fn is_left(disk: &MemDisk, stop: &Stop) -> Result<bool, AllocError> {
 #[test]
 fn a_stop_leaves_what_is_chosen(rt: HostRuntime) -> Result<(), Fail> {
     let mut disk = disk(rt.alloc())?;
-    for (row, step) in CALLS_BEFORE_A_STOP.iter().enumerate() {
-        let step = *step;
-        assert!(rt; try_step(&mut disk, step) == Some(true), "row {row}");
-    }
+    let wrong = first_not_done(&mut disk, &CALLS_BEFORE_A_STOP);
+    assert!(rt; wrong.is_none(), "{wrong:?}");
     assert!(rt; disk.moments() == 5);
     for (row, stop) in STOPS.iter().enumerate() {
         assert!(rt; is_left(&disk, stop)?, "row {row}");
@@ -334,14 +383,19 @@ fn a_stop_leaves_what_is_chosen(rt: HostRuntime) -> Result<(), Fail> {
     Ok(())
 }
 
-fn host(alloc: Global) -> Result<MemHost, AllocError> {
+fn kept_folder(alloc: Global) -> Result<Vec<Named<MemDisk>>, AllocError> {
     let mut folders = Vec::new(alloc);
     folders.push(Named {
         path: String::from_str(alloc, "kept")?,
         object: Some(disk(alloc)?),
     })?;
-    let input = source(alloc, b"in", &[], &[0])?;
+    Ok(folders)
+}
+
+fn host(alloc: Global) -> Result<MemHost, AllocError> {
+    let folders = kept_folder(alloc)?;
     let fails = [2].as_slice().to_vec(alloc)?;
+    let input = source(alloc, b"in", &[], &[0])?;
     Ok(MemHost::new(alloc, input, MemSink::new(alloc), folders).failing_opens(fails))
 }
 
@@ -462,19 +516,30 @@ fn roll_call(roll: &mut MemRoll, call: RollCall) -> Result<usize, Failed> {
 // The files, and what they hold then.
 const ROLLED: [(&str, &[u8]); 2] = [("one", b"ab"), ("two", b"z")];
 
+// The place of the first file that holds something else.
+fn first_other_roll(roll: &MemRoll) -> Option<usize> {
+    for (row, (name, want)) in ROLLED.iter().enumerate() {
+        if rolled(roll, name) != Some(*want) {
+            return Some(row);
+        }
+    }
+    None
+}
+
+fn roll(alloc: Global, pieces: &[usize], fails: &[u64]) -> Result<MemRoll, AllocError> {
+    let roll = MemRoll::new(alloc).in_pieces(pieces.to_vec(alloc)?);
+    Ok(roll.failing_at(fails.to_vec(alloc)?))
+}
+
 #[test]
 fn rolled_files_take_pieces_and_fail_where_chosen(rt: HostRuntime) -> Result<(), Fail> {
-    let fails = [4].as_slice().to_vec(rt.alloc())?;
-    let pieces = [2].as_slice().to_vec(rt.alloc())?;
-    let mut roll = MemRoll::new(rt.alloc()).in_pieces(pieces).failing_at(fails);
+    let mut roll = roll(rt.alloc(), &[2], &[4])?;
     for (row, case) in ROLL_CALLS.iter().enumerate() {
         let (call, want) = *case;
         assert!(rt; roll_call(&mut roll, call) == want, "row {row}");
     }
-    for case in &ROLLED {
-        let (name, want) = *case;
-        assert!(rt; rolled(&roll, name) == Some(want), "{name}");
-    }
+    let wrong = first_other_roll(&roll);
+    assert!(rt; wrong.is_none(), "{wrong:?}");
     assert!(rt; (roll.faults(), roll.calls()) == (4, 9));
     Ok(())
 }

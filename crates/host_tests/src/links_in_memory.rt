@@ -20,14 +20,38 @@ fn set_flag(alloc: Global) -> Result<LinkStep, AllocError> {
     Ok(LinkStep::Hold(flag))
 }
 
+#[derive(Clone, Copy)]
+enum Scripted {
+    Piece(&'static [u8]),
+    Quiet,
+    Fail,
+    // for a flag that is set
+    Hold,
+}
+
+const SCRIPT: [Scripted; 6] = [
+    Scripted::Piece(b"abcd"),
+    Scripted::Quiet,
+    Scripted::Piece(b""),
+    Scripted::Fail,
+    Scripted::Hold,
+    Scripted::Piece(b"e"),
+];
+
+fn step_of(alloc: Global, scripted: Scripted) -> Result<LinkStep, AllocError> {
+    match scripted {
+        Scripted::Piece(text) => piece(alloc, text),
+        Scripted::Quiet => Ok(LinkStep::Quiet),
+        Scripted::Fail => Ok(LinkStep::Fail),
+        Scripted::Hold => set_flag(alloc),
+    }
+}
+
 fn script(alloc: Global) -> Result<Vec<LinkStep>, AllocError> {
     let mut steps = Vec::new(alloc);
-    steps.push(piece(alloc, b"abcd")?)?;
-    steps.push(LinkStep::Quiet)?;
-    steps.push(piece(alloc, b"")?)?;
-    steps.push(LinkStep::Fail)?;
-    steps.push(set_flag(alloc)?)?;
-    steps.push(piece(alloc, b"e")?)?;
+    for scripted in &SCRIPT {
+        steps.push(step_of(alloc, *scripted)?)?;
+    }
     Ok(steps)
 }
 
@@ -65,18 +89,31 @@ const WRITES: [(&[u8], Result<usize, Failed>); 4] = [
     (b"f", Ok(1)),
 ];
 
+// A link that takes two bytes and then up to nine at a time, whose third write fails, and that sets the flag.
+fn taking_link(alloc: Global, flag: &Flag) -> Result<MemLink, AllocError> {
+    let pieces = [2, 9].as_slice().to_vec(alloc)?;
+    let fails = [2].as_slice().to_vec(alloc)?;
+    let link = MemLink::new(alloc, Vec::new(alloc)).setting(flag.handle()?);
+    Ok(link.in_pieces(pieces).failing_at(fails))
+}
+
+// The place of the first write that is answered otherwise.
+fn first_other_write(link: &mut MemLink) -> Option<usize> {
+    for (row, (bytes, want)) in WRITES.iter().enumerate() {
+        if link.write(bytes) != *want {
+            return Some(row);
+        }
+    }
+    None
+}
+
 #[test]
 fn a_link_takes_pieces_and_fails_where_chosen(rt: HostRuntime) -> Result<(), Fail> {
-    let pieces = [2, 9].as_slice().to_vec(rt.alloc())?;
-    let fails = [2].as_slice().to_vec(rt.alloc())?;
     let flag = Flag::new(rt.alloc())?;
-    let link = MemLink::new(rt.alloc(), Vec::new(rt.alloc())).setting(flag.handle()?);
-    let mut link = link.in_pieces(pieces).failing_at(fails);
+    let mut link = taking_link(rt.alloc(), &flag)?;
     assert!(rt; !flag.is_set());
-    for (row, case) in WRITES.iter().enumerate() {
-        let (bytes, want) = *case;
-        assert!(rt; link.write(bytes) == want, "row {row}");
-    }
+    let wrong = first_other_write(&mut link);
+    assert!(rt; wrong.is_none(), "{wrong:?}");
     assert!(rt; link.took() == b"abcdef".as_slice());
     assert!(rt; (link.faults(), flag.is_set()) == (1, true));
     Ok(())
@@ -104,12 +141,27 @@ fn accepted(listener: &mut MemListener) -> Result<Option<u8>, Failed>
     Ok(Some(byte))
 }
 
+// A link with the piece.
+fn offer_of(alloc: Global, scripted: Scripted) -> Result<Offer, AllocError> {
+    match scripted {
+        Scripted::Piece(text) => Ok(Offer::Link(link_of(alloc, text)?)),
+        Scripted::Fail => Ok(Offer::Fail),
+        _ => Ok(Offer::Quiet),
+    }
+}
+
+const OFFERS: [Scripted; 4] = [
+    Scripted::Piece(b"a"),
+    Scripted::Quiet,
+    Scripted::Fail,
+    Scripted::Piece(b"b"),
+];
+
 fn offers(alloc: Global) -> Result<Vec<Offer>, AllocError> {
     let mut offers = Vec::new(alloc);
-    offers.push(Offer::Link(link_of(alloc, b"a")?))?;
-    offers.push(Offer::Quiet)?;
-    offers.push(Offer::Fail)?;
-    offers.push(Offer::Link(link_of(alloc, b"b")?))?;
+    for scripted in &OFFERS {
+        offers.push(offer_of(alloc, *scripted)?)?;
+    }
     Ok(offers)
 }
 
@@ -168,33 +220,59 @@ fn a_dialer_gives_links_and_takes_them_back(rt: HostRuntime) -> Result<(), Fail>
     Ok(())
 }
 
+// A link whose read waits for a flag that nobody sets.
+fn held_link(alloc: Global) -> Result<MemLink, AllocError> {
+    let mut steps = Vec::new(alloc);
+    steps.push(LinkStep::Hold(Flag::new(alloc)?.looked_at(1_000)))?;
+    Ok(MemLink::new(alloc, steps))
+}
+
 // Who waits on one thread waits in vain, and fails.
 #[test]
 fn a_held_read_fails_on_one_thread(rt: HostRuntime) -> Result<(), Fail> {
-    let mut steps = Vec::new(rt.alloc());
-    let flag = Flag::new(rt.alloc())?.looked_at(1_000);
-    steps.push(LinkStep::Hold(flag))?;
-    let mut link = MemLink::new(rt.alloc(), steps);
+    let mut link = held_link(rt.alloc())?;
     assert!(rt; link.read(&mut [0u8; 1]) == Err(Failed));
     Ok(())
 }
 
-// A host with one listener and one dialer of the address `a` and port 1, whose opening number 2 fails, and number 4 has no
-// memory.
-fn host(alloc: Global) -> Result<MemHost, AllocError> {
+fn listeners(alloc: Global) -> Result<Vec<Placed<MemListener>>, AllocError> {
     let mut listeners = Vec::new(alloc);
     let listener = MemListener::new(alloc, offers(alloc)?);
     listeners.push(Placed::new(String::from_str(alloc, "a")?, 1, listener))?;
+    Ok(listeners)
+}
+
+fn dialers(alloc: Global) -> Result<Vec<Placed<MemDialer>>, AllocError> {
     let mut dialers = Vec::new(alloc);
     let dialer = MemDialer::new(alloc, dials(alloc)?);
     dialers.push(Placed::new(String::from_str(alloc, "a")?, 1, dialer))?;
+    Ok(dialers)
+}
+
+// A host with a name, whose opening number 2 fails, and number 4 has no memory.
+fn named_host(alloc: Global) -> Result<MemHost, AllocError> {
+    let fails = [2].as_slice().to_vec(alloc)?;
+    let lacks = [4].as_slice().to_vec(alloc)?;
+    let name = String::from_str(alloc, "box")?;
+    let address = String::from_str(alloc, "10.0.0.1")?;
     let input = MemSource::new(alloc, Vec::new(alloc));
     let host = MemHost::new(alloc, input, MemSink::new(alloc), Vec::new(alloc));
-    let name = String::from_str(alloc, "box")?;
-    let host = host.named(name, String::from_str(alloc, "10.0.0.1")?);
-    let host = host.with_listeners(listeners).with_dialers(dialers);
-    let host = host.failing_opens([2].as_slice().to_vec(alloc)?);
-    Ok(host.lacking_opens([4].as_slice().to_vec(alloc)?))
+    Ok(
+        host.named(name, address)
+            .failing_opens(fails)
+            .lacking_opens(lacks),
+    )
+}
+
+// Such a host with one listener and one dialer of the address `a` and port 1.
+fn host(alloc: Global) -> Result<MemHost, AllocError> {
+    let listeners = listeners(alloc)?;
+    let dialers = dialers(alloc)?;
+    Ok(
+        named_host(alloc)?
+            .with_listeners(listeners)
+            .with_dialers(dialers),
+    )
 }
 
 // What the first accept of a listener gives that a host hands out, and takes back.

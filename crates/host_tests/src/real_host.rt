@@ -26,19 +26,23 @@ fn written(sink: &mut impl Sink) -> Written {
     (sink.write(b"out\n"), sink.write(b""), sink.flush())
 }
 
-#[test]
-fn a_stream_is_handed_out(rt: HostRuntime) {
-    let mut host = RealHost::new(rt);
+// What a read of the host's input answers, and what writes to its output do. Both are handed out, and given back.
+fn streamed(host: &mut RealHost) -> (Result<usize, Failed>, Written) {
     let mut input = host.take_input();
     let read = nothing_read(&mut input);
     host.keep_input(input);
     let mut output = host.take_output();
     let wrote = written(&mut output);
     host.keep_output(output);
+    (read, wrote)
+}
+
+#[test]
+fn a_stream_is_handed_out(rt: HostRuntime) {
+    let mut host = RealHost::new(rt);
+    assert!(rt; streamed(&mut host) == (Ok(0), (Ok(4), Ok(0), Ok(()))));
     host.say("a line");
-    assert_eq!(rt; read, Ok(0));
-    assert_eq!(rt; wrote, (Ok(4), Ok(0), Ok(())));
-    assert_eq!(rt; (host.faults(), host.disk_faults()), (0, 0));
+    assert!(rt; (host.faults(), host.disk_faults()) == (0, 0));
 }
 
 // Whether the opening of a folder fails.
@@ -53,7 +57,7 @@ fn a_file_is_no_folder(rt: HostRuntime) -> Result<(), Fail> {
     for path in ["a-file", "a-file/inner"] {
         assert!(rt; fails_to_open(&mut host, path), "{path}");
     }
-    assert_eq!(rt; (host.faults(), host.disk_faults()), (2, 0));
+    assert!(rt; (host.faults(), host.disk_faults()) == (2, 0));
     Ok(())
 }
 
@@ -128,27 +132,36 @@ fn holds(rt: HostRuntime, path: &str, bytes: &[u8]) -> Result<bool, Fail> {
     Ok(fs::read(&rt, path)?.as_slice() == bytes)
 }
 
+// Whether the file can be removed, the other one is then the first, and no call has failed.
+fn is_removed(disk: &mut RealDisk) -> bool {
+    let is_done = disk.remove(SEVEN).is_ok();
+    is_done && disk.next_name(None) == Ok(Some(ZERO)) && disk.faults() == 0
+}
+
 #[test]
 fn a_disk_is_a_folder(rt: HostRuntime) -> Result<(), Fail> {
     let mut disk = new_disk(rt, "disk-test")?;
-    assert!(rt; first_wrong(&mut disk, CALLS_OF_A_FOLDER) == None);
+    let wrong = first_wrong(&mut disk, CALLS_OF_A_FOLDER);
+    assert!(rt; wrong.is_none(), "{wrong:?}");
     assert!(rt; reads_to_the_end(&mut disk));
     assert!(rt; holds(rt, "disk-test/inner/log-7", b"abxyz")?);
-    assert!(rt; first_wrong(&mut disk, &[(Remove(SEVEN), DONE)]) == None);
-    assert!(rt; disk.next_name(None) == Ok(Some(ZERO)));
-    assert!(rt; disk.faults() == 0);
+    assert!(rt; is_removed(&mut disk));
     Ok(())
+}
+
+// Why the folder of this path is not opened, if it is not, and how many faults the host has counted then.
+fn refused(host: &mut RealHost, path: &str) -> (Option<NameRefused>, u64) {
+    let cause = host.open_disk(path).err();
+    (cause, host.faults())
 }
 
 #[test]
 fn an_open_folder_is_locked(rt: HostRuntime) -> Result<(), Fail> {
     let first = new_disk(rt, "lock-test")?;
     let mut host = RealHost::new(rt);
-    assert!(rt; fails_to_open(&mut host, "lock-test/inner"));
-    assert_eq!(rt; host.faults(), 1);
+    assert!(rt; refused(&mut host, "lock-test/inner") == (Some(NameRefused::Failed), 1));
     drop(first);
-    assert!(rt; host.open_disk("lock-test/inner").is_ok());
-    assert_eq!(rt; host.faults(), 1);
+    assert!(rt; refused(&mut host, "lock-test/inner") == (None, 1));
     Ok(())
 }
 
@@ -166,8 +179,9 @@ const CALLS_THAT_FAIL: &[(Call, Result<u64, Failed>)] = &[
 #[test]
 fn a_disk_counts_its_faults(rt: HostRuntime) -> Result<(), Fail> {
     let mut disk = new_disk(rt, "faults-test")?;
-    assert_eq!(rt; first_wrong(&mut disk, CALLS_THAT_FAIL), None);
-    assert_eq!(rt; disk.faults(), 7);
+    let wrong = first_wrong(&mut disk, CALLS_THAT_FAIL);
+    assert!(rt; wrong.is_none(), "{wrong:?}");
+    assert!(rt; disk.faults() == 7);
     Ok(())
 }
 
@@ -206,7 +220,7 @@ fn names_of_other_files_are_ignored(rt: HostRuntime) -> Result<(), Fail> {
         let name = *name;
         add_file(rt, name)?;
     }
-    assert_eq!(rt; disk.next_name(None), Ok(None));
+    assert!(rt; disk.next_name(None) == Ok(None));
     for name in &NAMES {
         let name = *name;
         add_file(rt, name)?;
@@ -214,10 +228,10 @@ fn names_of_other_files_are_ignored(rt: HostRuntime) -> Result<(), Fail> {
     let mut after = None;
     for want in &IN_ORDER {
         let want = *want;
-        assert_eq!(rt; disk.next_name(after), Ok(Some(want)));
+        assert!(rt; disk.next_name(after) == Ok(Some(want)));
         after = Some(want);
     }
-    assert_eq!(rt; disk.next_name(after), Ok(None));
+    assert!(rt; disk.next_name(after) == Ok(None));
     Ok(())
 }
 
