@@ -20,7 +20,7 @@ use Rattle.agent_drafts.specs.declared.draft.SourceDraft.{SourceDraft}
 use Rattle.agent_drafts.specs.Copies.{IsSameSelector}
 use Rattle.agent_drafts.specs.Drafts.{AreRules, IsDraft, IsDraftAt}
 use Rattle.agent_drafts.specs.Fits.{IsFit}
-use Rattle.plan_support.specs.Least.{is_avro, is_plugin}
+use Rattle.plan_support.specs.Least.{is_plugin}
 
 -- ---- what is true of what is seen of each item
 
@@ -71,8 +71,8 @@ module _ {B : Type 0} (count : ℕ) (draft : SourceDraft B) where
 
 -- ---- sinks
 
-pub plain : (kind : SinkKind) → is_plugin kind ≡ false → is_avro kind ≡ false → IsPlain kind
-plain Null own is = tt
-plain (Roll folder interval) own is = tt
-plain (Avro' host port) own is = absurd (true≢false is)
-plain (Plugin name) own is = absurd (true≢false own)
+pub plain : (kind : SinkKind) → is_plugin kind ≡ false → IsPlain kind
+plain Null own = tt
+plain (Roll folder interval) own = tt
+plain (Avro' host port) own = tt
+plain (Plugin name) own = absurd (true≢false own)

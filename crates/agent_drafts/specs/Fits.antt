@@ -9,7 +9,7 @@ use Rattle.source_put.specs.declared.chain.HostNames.{HostNames}
 use Rattle.agent_drafts.specs.declared.draft.SourceDraft.{SourceDraft}
 use Rattle.agent_outside.specs.Sinks.{IsPlain}
 use Rattle.agent_drafts.specs.Drafts.{IsDraftAt}
-use Rattle.plan_support.specs.Least.{HasNoPlugin, IsSupported}
+use Rattle.plan_support.specs.Least.{HasNoPlugin}
 
 -- Its rules are rules of lines, its channels are some of so many, and its selector names its channels.
 pub record IsFit {B : Type 0} (count : ℕ) (draft : SourceDraft B) : Type 0 where
@@ -27,4 +27,4 @@ DraftsFit B =
 
 -- the sinks of a plan are those that a run opens
 abbrev pub SinksArePlain : Type 0
-SinksArePlain = (plan : Plan) → HasNoPlugin plan → IsSupported plan → All (λ sink. IsPlain sink.kind) plan.sinks.items
+SinksArePlain = (plan : Plan) → HasNoPlugin plan → All (λ sink. IsPlain sink.kind) plan.sinks.items

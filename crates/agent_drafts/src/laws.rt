@@ -13,8 +13,8 @@ pub fn drafts_can_serve<B: Drop>()
     numbers_are_limited();
 }
 
-/// Where nothing in a plan is handed in and all of it is supported, each of its sinks may be opened: it drops what it is handed, or
-/// writes rolled files.
+/// Where nothing in a plan is handed in, each of its sinks may be opened: it drops what it is handed, writes rolled files, or makes
+/// Avro calls.
 pub fn sinks_are_plain()
     ensures { SinksArePlain }
 {}

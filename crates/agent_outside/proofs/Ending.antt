@@ -16,16 +16,16 @@ use Rattle.agent_outside.specs.Ends.{AllBack, AreOfSources, AreOut, Listens, Lis
 
 -- ---- counts
 
-end_decides : (host : List ℕ) (port : ℕ) (end : Endpoint) → Decides (is_end host port end) ((end.port ≡ port) × (end.host ≡ host))
+pub end_decides : (host : List ℕ) (port : ℕ) (end : Endpoint) → Decides (is_end host port end) ((end.port ≡ port) × (end.host ≡ host))
 end_decides host port end = Decides-and (end.port == port) (bytes_eq end.host host) (Decides-eqb end.port port) (bytes_eq-Decides end.host host)
 
 pub count_append : (host : List ℕ) (port : ℕ) (a b : List Endpoint) → count_at host port (a ++ b) ≡ count_at host port a + count_at host port b
 count_append host port a b = sum_by-append (λ (end : Endpoint). cond (is_end host port end) 1 0) a b
 
-count_yes : (host : List ℕ) (port : ℕ) (end : Endpoint) → is_end host port end ≡ true → count_at host port (end ∷ []) ≡ 1
+pub count_yes : (host : List ℕ) (port : ℕ) (end : Endpoint) → is_end host port end ≡ true → count_at host port (end ∷ []) ≡ 1
 count_yes host port end is = rw is refl
 
-count_no : (host : List ℕ) (port : ℕ) (end : Endpoint) → is_end host port end ≡ false → count_at host port (end ∷ []) ≡ 0
+pub count_no : (host : List ℕ) (port : ℕ) (end : Endpoint) → is_end host port end ≡ false → count_at host port (end ∷ []) ≡ 0
 count_no host port end is = rw is refl
 
 -- one counts at its own address and port
@@ -34,7 +34,7 @@ count_own end = count_yes end.host end.port end ((end_decides end.host end.port 
 
 -- ---- one comes back
 
-all_one : (one : CameBack) (old new : HandedOut) → ComesBack one old new → AllBack (one ∷ []) old new
+pub all_one : (one : CameBack) (old new : HandedOut) → ComesBack one old new → AllBack (one ∷ []) old new
 all_one one old new back = record { out = λ host port. out host port (is_end host port (record { host = one.host; port = one.port })) refl; back = back.back }
   where
     out : (host : List ℕ) (port : ℕ) (b : Bool) → is_end host port (record { host = one.host; port = one.port }) ≡ b → old.out host port ≡ new.out host port + count_at host port (record { host = one.host; port = one.port } ∷ [])
@@ -61,7 +61,7 @@ came_one one old new listeners is back =
 pub ends_append : (a b : List CameBack) → ends_of (a ++ b) ≡ ends_of a ++ ends_of b
 ends_append a b = map-append (λ (back : CameBack). record { host = back.host; port = back.port }) a b
 
-all_then : (a b : List CameBack) (f g h : HandedOut) → AllBack a f g → AllBack b g h → AllBack (b ++ a) f h
+pub all_then : (a b : List CameBack) (f g h : HandedOut) → AllBack a f g → AllBack b g h → AllBack (b ++ a) f h
 all_then a b f g h first second = record {
   out = λ host port.
       let x = first.out host port in

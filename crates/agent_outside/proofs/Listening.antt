@@ -21,7 +21,7 @@ out_again end f None tells = tt
 out_again end None (Some g) tells = absurd tells
 out_again end (Some f) (Some g) tells = omega (arith, tells.out end.host end.port, count_own end)
 
-all_out_then : (a b : List Endpoint) (f g h : HandedOut) → AllOut a f g → AllOut b g h → AllOut (a ++ b) f h
+pub all_out_then : (a b : List Endpoint) (f g h : HandedOut) → AllOut a f g → AllOut b g h → AllOut (a ++ b) f h
 all_out_then a b f g h first second = record { out = λ host port. omega (arith, first.out host port, second.out host port, count_append host port a b); back = second.back ∙ first.back }
 
 listeners_then : (a b : List Endpoint) (f g h : HostState) → ListenersOut a f g → ListenersOut b g h → ListenersOut (a ++ b) f h
@@ -36,19 +36,19 @@ listeners_then a b f g h first second = record {
 settled : (f h : HostState) → h ≡ record f { listeners = h.listeners } → h ≡ record f { listeners = h.listeners; faults = h.faults }
 settled f h is = is ∙ ap (λ (n : ℕ). record f { listeners = h.listeners; faults = n }) (sym (ap (λ (s : HostState). s.faults) is))
 
-same_fresh : (f g : Option HandedOut) (P : HandedOut → HandedOut → Type 0) → Tells f g P → fresh_links g ≡ fresh_links f
+pub same_fresh : (f g : Option HandedOut) (P : HandedOut → HandedOut → Type 0) → Tells f g P → fresh_links g ≡ fresh_links f
 same_fresh None None P tells = refl
 same_fresh None (Some g) P tells = absurd tells
 same_fresh (Some f) None P tells = absurd tells
 same_fresh (Some f) (Some g) P tells = refl
 
-same_ends : (host : List ℕ) (port : ℕ) (f g : Option HandedOut) (P : HandedOut → HandedOut → Type 0) → Tells f g P → endpoint_of host port g ≡ endpoint_of host port f
+pub same_ends : (host : List ℕ) (port : ℕ) (f g : Option HandedOut) (P : HandedOut → HandedOut → Type 0) → Tells f g P → endpoint_of host port g ≡ endpoint_of host port f
 same_ends host port None None P tells = refl
 same_ends host port None (Some g) P tells = absurd tells
 same_ends host port (Some f) None P tells = absurd tells
 same_ends host port (Some f) (Some g) P tells = refl
 
-is_from : (host : List ℕ) (port : ℕ) (all : Option HandedOut) → IsFrom host port (endpoint_of host port all)
+pub is_from : (host : List ℕ) (port : ℕ) (all : Option HandedOut) → IsFrom host port (endpoint_of host port all)
 is_from host port None = tt
 is_from host port (Some all) = (refl, refl)
 
@@ -130,7 +130,7 @@ module _ {L : Type 0} (told : L → Option LinksTold) (endpoint : L → Option E
 
 -- ---- all come back
 
-out_unused : (ends others : List Endpoint) (f g h : Option HandedOut) → Tells f g (AllOut ends) → Tells g h (CameUnused others) → AreOut ends h
+pub out_unused : (ends others : List Endpoint) (f g h : Option HandedOut) → Tells f g (AllOut ends) → Tells g h (CameUnused others) → AreOut ends h
 out_unused ends others f g None first second = tt
 out_unused ends others None None (Some h) first second = absurd second
 out_unused ends others None (Some g) (Some h) first second = absurd first
@@ -144,17 +144,17 @@ pub all_take : {A : Type 0} (P : A → Type 0) (i : ℕ) (xs : List A) → All P
 all_take P i xs all = λ k d below. subst P (sym (get_or-take i xs k d (omega (arith, below, length-take i xs)))) (all k d (omega (arith, below, length-take i xs)))
 
 -- those that are out, and one more that came back unused
-record Between (ends others : List Endpoint) (old new : HandedOut) : Type 0 where
-  out : (host : List ℕ) (port : ℕ) → new.out host port ≡ old.out host port + count_at host port ends
-  back : new.back ≡ old.back ++ reverse (map unused others)
+pub record Between (ends others : List Endpoint) (old new : HandedOut) : Type 0 where
+  pub out : (host : List ℕ) (port : ℕ) → new.out host port ≡ old.out host port + count_at host port ends
+  pub back : new.back ≡ old.back ++ reverse (map unused others)
 
-between : (ends others : List Endpoint) (t u v : HandedOut) → AllOut ends t u → CameUnused others u v → Between ends others t v
+pub between : (ends others : List Endpoint) (t u v : HandedOut) → AllOut ends t u → CameUnused others u v → Between ends others t v
 between ends others t u v first second = record {
   out = λ host port. second.out host port ∙ first.out host port;
   back = second.back ∙ ap (λ (l : List CameBack). l ++ reverse (map unused others)) first.back;
 }
 
-whole : (ends others : List Endpoint) (backs : List CameBack) (t v w : HandedOut) → backs ≡ map unused ends → Between ends others t v → AllBack backs v w → CameUnused (ends ++ others) t w
+pub whole : (ends others : List Endpoint) (backs : List CameBack) (t v w : HandedOut) → backs ≡ map unused ends → Between ends others t v → AllBack backs v w → CameUnused (ends ++ others) t w
 whole ends others backs t v w is first second =
     let same : ends_of backs ≡ ends = ap ends_of is ∙ ends_unused ends in
     record {

@@ -1,7 +1,6 @@
 -- Sinks in the order of their plans.
-use Rattle.std.proofs.Common.{◌≡◌, ◌∙◌, ◌<◌, ◌≤◌, ◌+◌, ℕ, List, [], ◌∷◌, ◌++◌, length, get_or, take, zero, suc, IsTrue, Option, refl, sym, ap, arith, append_assoc, string_bytes}
-use Rattle.std.proofs.lemmas.List.{append-nil, take_more}
-use Rattle.std.proofs.lemmas.List.Concat.{flat_map-append}
+use Rattle.std.proofs.Common.{◌≡◌, ◌∙◌, ◌<◌, ◌≤◌, ℕ, List, [], ◌∷◌, ◌++◌, length, get_or, take, zero, suc, IsTrue, Option, refl, sym, ap, arith, append_assoc, string_bytes}
+use Rattle.std.proofs.lemmas.List.{append-nil}
 use Rattle.flume_host.specs.HostState.{Folders}
 use Rattle.flume_host.specs.Rolled.{Rolled}
 use Rattle.flume_config.specs.declared.plan.SinkPlan.{SinkPlan}
@@ -106,9 +105,3 @@ are_paths rolled f (p ∷ plans) (s ∷ sinks) are =
     paths_append (back_of rolled p.kind s) (backs_of rolled plans sinks)
     ∙ ap (λ (l : List (List ℕ)). l ++ paths_of (backs_of rolled plans sinks)) (kind_paths rolled f p.kind s are.0)
     ∙ ap (λ (l : List (List ℕ)). folder_of p.kind ++ l) (are_paths rolled f plans sinks are.1)
-
--- one plan more
-pub folders_more : (plans : List SinkPlan) (i : ℕ) (d : SinkPlan) → i < length plans → folders_of (take (i + 1) plans) ≡ folders_of (take i plans) ++ folder_of (get_or plans i d).kind
-folders_more plans i d below =
-    ap folders_of (take_more plans i d below) ∙ flat_map-append (λ (plan : SinkPlan). folder_of plan.kind) (take i plans) (get_or plans i d ∷ [])
-    ∙ ap (λ (l : List (List ℕ)). folders_of (take i plans) ++ l) (append-nil (folder_of (get_or plans i d).kind))

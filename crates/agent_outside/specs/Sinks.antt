@@ -1,10 +1,9 @@
 -- The sinks of an agent, by their plans.
-use Rattle.std.specs.Prelude.{◌≡◌, ◌≤◌, ◌⊎◌, ℕ, zero, suc, List, [], ◌∷◌, ◌++◌, flat_map, take, Option, None, Result, Ok, Err, IsTrue, string_bytes}
-use Rattle.flume_host.specs.Causes.{Rose}
+use Rattle.std.specs.Prelude.{◌≡◌, ◌⊎◌, ℕ, zero, suc, List, [], ◌∷◌, ◌++◌, flat_map, take, Option, None, IsTrue, string_bytes}
+use Rattle.flume_host.specs.HandedOut.{HandedOut}
 use Rattle.flume_host.specs.HostState.{Folders, HostState}
 use Rattle.flume_host.specs.Rolled.{Rolled}
 use Rattle.flume_host.specs.declared.names.NameRefused.{NameRefused}
-use Rattle.flume_host.specs.declared.names.NameRefused.TheVariants.{Failed}
 use Rattle.flume_config.specs.declared.plan.SinkPlan.{SinkPlan}
 use Rattle.flume_config.specs.declared.plan.SinkKind.{SinkKind}
 use Rattle.flume_config.specs.declared.plan.SinkKind.TheVariants as plan
@@ -12,12 +11,14 @@ use Rattle.roll_sink.specs.States.{state_of}
 use Rattle.agent_sinks.specs.declared.sink.AgentSink.{AgentSink}
 use Rattle.agent_sinks.specs.declared.sink.AgentSink.TheVariants.{Null, Roll, Avro, Boxed}
 use Rattle.agent_outside.specs.Backs.{Reopened, RollBack, RollsOut}
+use Rattle.avro_ends.specs.Dialing.{DialTold}
+use Rattle.agent_outside.specs.Dials.{DialsRefused, HasNewDial, dials_of}
 
--- it drops what it is handed, or writes rolled files
+-- it drops what it is handed, writes rolled files, or makes Avro calls
 abbrev pub IsPlain : SinkKind → Type 0
 IsPlain plan.Null = Unit {0}
 IsPlain (plan.Roll folder interval) = Unit {0}
-IsPlain (plan.Avro host port) = ⊥
+IsPlain (plan.Avro host port) = Unit {0}
 IsPlain (plan.Plugin name) = ⊥
 
 -- the path of its folder, if it has one
@@ -85,27 +86,25 @@ pub record SinksOpened {R A B : Type 0} (rolled : R → Option Rolled) (faults :
   pub made : AreNew faults plans sinks
   pub out : RollsOut (backs_of rolled plans sinks) old new
 
--- The sink of a plan was opened, and added to these.
-pub record SinkAdded {R A B : Type 0} (rolled : R → Option Rolled) (faults : R → ℕ) (kind : SinkKind) (old new : Folders) (before after : List (AgentSink R A B)) : Type 0 where
+-- The sink of a plan was opened, and added to these; these are the host's dialers then.
+pub record SinkAdded {R A B : Type 0} (rolled : R → Option Rolled) (faults : R → ℕ) (dial : DialTold A) (plan : SinkPlan) (all : Option HandedOut)
+    (old new : Folders) (before after : List (AgentSink R A B)) : Type 0 where
   pub sink : AgentSink R A B
   pub is : after ≡ before ++ sink ∷ []
-  pub of : IsOfKind new kind sink
-  pub made : IsNew faults kind sink
-  pub out : RollsOut (back_of rolled kind sink) old new
+  pub of : IsOfKind new plan.kind sink
+  pub made : IsNew faults plan.kind sink
+  pub out : RollsOut (back_of rolled plan.kind sink) old new
+  pub dialed : HasNewDial dial all plan.kind sink
 
 -- The sink of a plan was not opened, or came back unused.
-pub record SinkUnopened (kind : SinkKind) (old new : Folders) : Type 0 where
-  pub paths : List (List ℕ)
-  pub which : (paths ≡ []) ⊎ (paths ≡ folder_of kind)
-  pub back : Reopened paths old new
+pub record SinkUnopened (plan : SinkPlan) (refused : NameRefused) (old new : Folders) (before after : HostState) : Type 0 where
+  pub plans : List SinkPlan
+  pub which : (plans ≡ []) ⊎ (plans ≡ plan ∷ [])
+  pub folders : Reopened (folders_of plans) old new
+  pub dials : DialsRefused refused (dials_of plans) before after
 
 -- The sinks of the first of these plans were opened and came back unused.
-pub record SinksRefused (plans : List SinkPlan) (old new : Folders) : Type 0 where
+pub record SinksRefused (plans : List SinkPlan) (refused : NameRefused) (old new : Folders) (before after : HostState) : Type 0 where
   pub sinks : ℕ
-  pub back : Reopened (folders_of (take sinks plans)) old new
-
--- What a host tells of itself after it opened something or failed to: its count of faults alone may have changed, and it
--- rose where a fault is answered.
-abbrev pub OpensOrFails : {T : Type 0} → Result T NameRefused → HostState → HostState → Type 0
-OpensOrFails (Ok one) old new = new ≡ old
-OpensOrFails (Err refused) old new = (n : ℕ) × (new ≡ record old { faults = n }) × (old.faults ≤ n) × (refused ≡ Failed → Rose old.faults n)
+  pub folders : Reopened (folders_of (take sinks plans)) old new
+  pub dials : DialsRefused refused (dials_of (take sinks plans)) before after

@@ -3,23 +3,29 @@ ghost use Rattle.std.specs.Prelude.{◌≡◌, [], ◌∷◌, length};
 ghost use Rattle.flume_host.specs.HandedOut.{IsOut};
 ghost use Rattle.flume_host.specs.Listens.{IsFrom};
 ghost use Rattle.agent_outside.specs.Backs.{RollsBack};
+ghost use Rattle.agent_outside.specs.Dials.{AreDialed, DialersBack, IsDialed, dial_back, dials_back};
 ghost use Rattle.agent_outside.specs.Sinks.{AreOpened, IsOpened, back_of, backs_of};
 ghost use Rattle.agent_outside.specs.Ends.{AreOfSources, AreOut, ListenersBack, Listens, ListensAt, comes_back, come_back, end_at, end_back, end_of, ends_of};
 
 use crate::listener::SourceListener;
 use agent_sinks::AgentSink;
+use avro_ends::{AvroSink, HasDialer};
 use flume_config::{SinkKind, SinkPlan, SourceKind, SourcePlan};
 use flume_host::Host;
 
-// Gives the folder of a sink back, if it has one by its plan.
-pub(crate) fn give_back_sink<H: Host, A: Drop, B: Drop>(
+// Gives the folder or the dialer of a sink back, if it has one by its plan.
+pub(crate) fn give_back_sink<H: Host, B: Drop>(
     host: &mut H,
     plan: &SinkPlan,
-    sink: AgentSink<H::Roll, A, B>,
+    sink: AgentSink<H::Roll, AvroSink<H::Dialer>, B>,
 )
-    requires { IsOpened (H.folders host.old) plan.now.kind }
+    requires opened { IsOpened (H.folders host.old) plan.now.kind }
+    requires dialed { IsDialed ⟦<AvroSink<H::Dialer> as HasDialer>⟧.dial plan.now.kind sink }
+    requires out { AreOut (ends_of (dial_back ⟦<AvroSink<H::Dialer> as HasDialer>⟧.dial
+        plan.now.kind sink)) (H.state host.old).dialers }
     ensures folders { RollsBack (back_of H.Roll.rolled plan.now.kind sink) (H.folders host.old) (H.folders host.new) }
-    ensures state { H.state host.new ≡ H.state host.old }
+    ensures dials { DialersBack (dial_back ⟦<AvroSink<H::Dialer> as HasDialer>⟧.dial plan.now.kind sink)
+        (H.state host.old) (H.state host.new) }
 {
     match sink {
         AgentSink::Roll(sink) => match &plan.kind {
@@ -29,20 +35,31 @@ pub(crate) fn give_back_sink<H: Host, A: Drop, B: Drop>(
             } => host.keep_roll(folder.as_str(), sink.close()),
             SinkKind::Null | SinkKind::Avro { .. } | SinkKind::Plugin { .. } => (),
         },
-        AgentSink::Null(_) | AgentSink::Avro(_) | AgentSink::Boxed(_) => (),
+        AgentSink::Avro(sink) => match &plan.kind {
+            SinkKind::Avro {
+                host: address,
+                port,
+            } => host.keep_dialer(address.as_str(), *port, sink.close()),
+            SinkKind::Null | SinkKind::Roll { .. } | SinkKind::Plugin { .. } => (),
+        },
+        AgentSink::Null(_) | AgentSink::Boxed(_) => (),
     }
 }
 
-/// Gives back the folders of the sinks of the first of these plans, the last of them first, and drops the sinks. A sink that
+/// Gives back the folders and the dialers of the sinks of the first of these plans, the last of them first, and drops the sinks. A sink that
 /// isn't of the kind of its plan gives nothing back. It takes no memory and can't fail.
-pub fn give_back_sinks<H: Host, A: Drop, B: Drop>(
+pub fn give_back_sinks<H: Host, B: Drop>(
     host: &mut H,
     plans: &[SinkPlan],
-    sinks: Vec<AgentSink<H::Roll, A, B>>,
+    sinks: Vec<AgentSink<H::Roll, AvroSink<H::Dialer>, B>>,
 )
-    requires { AreOpened (H.folders host.old) plans.now (length sinks.items) }
+    requires opened { AreOpened (H.folders host.old) plans.now (length sinks.items) }
+    requires dialed { AreDialed ⟦<AvroSink<H::Dialer> as HasDialer>⟧.dial plans.now sinks.items }
+    requires out { AreOut (ends_of (dials_back ⟦<AvroSink<H::Dialer> as HasDialer>⟧.dial
+        plans.now sinks.items)) (H.state host.old).dialers }
     ensures folders { RollsBack (backs_of H.Roll.rolled plans.now sinks.items) (H.folders host.old) (H.folders host.new) }
-    ensures state { H.state host.new ≡ H.state host.old }
+    ensures dials { DialersBack (dials_back ⟦<AvroSink<H::Dialer> as HasDialer>⟧.dial plans.now sinks.items)
+        (H.state host.old) (H.state host.new) }
 {
     let mut left = sinks;
     while let Some(sink) = left.pop() {

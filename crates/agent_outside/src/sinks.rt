@@ -1,28 +1,33 @@
 // The sinks of an agent are opened.
-ghost use Rattle.std.specs.Prelude.{◌≡◌, All, IfOk, OnErr, OnOk, length};
+ghost use Rattle.std.specs.Prelude.{◌≡◌, [], All, IfErr, IfOk, OnErr, OnOk, length};
 ghost use Rattle.agent_outside.specs.Backs.{RollsOut};
-ghost use Rattle.agent_outside.specs.Sinks.{IsNew, IsOfKind, IsPlain, OpensOrFails, SinkAdded, SinkUnopened, SinksOpened, SinksRefused, back_of};
+ghost use Rattle.agent_outside.specs.Dials.{DialersOut, DialsOpened, DialsRefused, HasNewDial, dial_of};
+ghost use Rattle.agent_outside.specs.Sinks.{IsNew, IsOfKind, IsPlain, SinkAdded, SinkUnopened, SinksOpened, SinksRefused, back_of};
 
 use crate::give::{give_back_sink, give_back_sinks};
 use agent_sinks::AgentSink;
+use avro_ends::{AvroSink, HasDialer};
 use flume_config::{SinkKind, SinkPlan};
-use flume_host::{Host, NameRefused};
+use flume_host::{Host, NameRefused, NoMemory};
 use roll_sink::RollSink;
 use sink_runner::NullSink;
 use std::alloc::Global;
 
 // Opens the sink of a plan.
-fn open_sink<H: Host, A: Drop, B: Drop>(
+fn open_sink<H: Host, B: Drop>(
     alloc: Global,
     host: &mut H,
     plan: &SinkPlan,
-) -> Result<AgentSink<H::Roll, A, B>, NameRefused>
+) -> Result<AgentSink<H::Roll, AvroSink<H::Dialer>, B>, NameRefused>
     requires { IsPlain plan.now.kind }
     ensures of { IfOk result (λ sink. IsOfKind (H.folders host.new) plan.now.kind sink) }
     ensures made { IfOk result (λ sink. IsNew H.Roll.faults plan.now.kind sink) }
     ensures out { IfOk result (λ sink. RollsOut (back_of H.Roll.rolled plan.now.kind sink) (H.folders host.old) (H.folders host.new)) }
-    ensures refused { OnErr result (H.folders host.new ≡ H.folders host.old) }
-    ensures state { OpensOrFails result (H.state host.old) (H.state host.new) }
+    ensures dialed { IfOk result (λ sink. HasNewDial ⟦<AvroSink<H::Dialer> as HasDialer>⟧.dial
+        (H.state host.old).dialers plan.now.kind sink) }
+    ensures dials { OnOk result (DialersOut (dial_of plan.now.kind) (H.state host.old) (H.state host.new)) }
+    ensures folders { OnErr result (H.folders host.new ≡ H.folders host.old) }
+    ensures refused { IfErr result (λ refused. DialsRefused refused [] (H.state host.old) (H.state host.new)) }
 {
     match &plan.kind {
         SinkKind::Null => Ok(AgentSink::Null(NullSink)),
@@ -30,22 +35,34 @@ fn open_sink<H: Host, A: Drop, B: Drop>(
             Ok(dir) => Ok(AgentSink::Roll(RollSink::new(alloc, dir, *interval))),
             Err(refused) => Err(refused),
         },
-        SinkKind::Avro { .. } | SinkKind::Plugin { .. } => unreachable!(),
+        SinkKind::Avro {
+            host: address,
+            port,
+        } => match host.dialer(address.as_str(), *port) {
+            Ok(dialer) => match AvroSink::new(alloc, dialer) {
+                Ok(sink) => Ok(AgentSink::Avro(sink)),
+                Err(_) => unreachable!(),
+            },
+            Err(NoMemory) => Err(NameRefused::NoMemory),
+        },
+        SinkKind::Plugin { .. } => unreachable!(),
     }
 }
 
 // Opens the sink of a plan, and adds it to those that are open. Where there is no memory for that, it is given back.
-fn add_sink<H: Host, A: Drop, B: Drop>(
+fn add_sink<H: Host, B: Drop>(
     alloc: Global,
     host: &mut H,
     plan: &SinkPlan,
-    sinks: &mut Vec<AgentSink<H::Roll, A, B>>,
+    sinks: &mut Vec<AgentSink<H::Roll, AvroSink<H::Dialer>, B>>,
 ) -> Result<(), NameRefused>
     requires { IsPlain plan.now.kind }
-    ensures added { OnOk result (SinkAdded H.Roll.rolled H.Roll.faults plan.now.kind (H.folders host.old) (H.folders host.new) sinks.old.items sinks.new.items) }
+    ensures added { OnOk result (SinkAdded H.Roll.rolled H.Roll.faults ⟦<AvroSink<H::Dialer> as HasDialer>⟧.dial
+        plan.now (H.state host.old).dialers (H.folders host.old) (H.folders host.new) sinks.old.items sinks.new.items) }
+    ensures dials { OnOk result (DialersOut (dial_of plan.now.kind) (H.state host.old) (H.state host.new)) }
     ensures same { OnErr result (sinks.new.items ≡ sinks.old.items) }
-    ensures refused { OnErr result (SinkUnopened plan.now.kind (H.folders host.old) (H.folders host.new)) }
-    ensures state { OpensOrFails result (H.state host.old) (H.state host.new) }
+    ensures refused { IfErr result (λ refused. SinkUnopened plan.now refused
+        (H.folders host.old) (H.folders host.new) (H.state host.old) (H.state host.new)) }
 {
     let sink = match open_sink(alloc, host, plan) {
         Ok(sink) => sink,
@@ -60,18 +77,20 @@ fn add_sink<H: Host, A: Drop, B: Drop>(
     }
 }
 
-/// Opens the sinks of these plans, in their order: a sink of rolled files opens its folder. At a refusal all that was opened
+/// Opens the sinks of these plans, in their order: a sink of rolled files opens its folder, and one of Avro has a dialer. At a refusal all that was opened
 /// is given back, the last first; `Failed` comes only where the host has counted a fault.
-pub fn open_sinks<H: Host, A: Drop, B: Drop>(
+pub fn open_sinks<H: Host, B: Drop>(
     alloc: Global,
     host: &mut H,
     plans: &[SinkPlan],
-) -> Result<Vec<AgentSink<H::Roll, A, B>>, NameRefused>
+) -> Result<Vec<AgentSink<H::Roll, AvroSink<H::Dialer>, B>>, NameRefused>
     requires { All (λ plan. IsPlain plan.kind) plans.now }
     ensures many { IfOk result (λ sinks. length sinks.items ≡ length plans.now) }
     ensures opened { IfOk result (λ sinks. SinksOpened H.Roll.rolled H.Roll.faults plans.now (H.folders host.old) (H.folders host.new) sinks.items) }
-    ensures refused { OnErr result (SinksRefused plans.now (H.folders host.old) (H.folders host.new)) }
-    ensures state { OpensOrFails result (H.state host.old) (H.state host.new) }
+    ensures dialed { IfOk result (λ sinks. DialsOpened ⟦<AvroSink<H::Dialer> as HasDialer>⟧.dial
+        plans.now (H.state host.old) (H.state host.new) sinks.items) }
+    ensures refused { IfErr result (λ refused. SinksRefused plans.now refused
+        (H.folders host.old) (H.folders host.new) (H.state host.old) (H.state host.new)) }
 {
     let mut sinks = Vec::new(alloc);
     for plan in plans {

@@ -16,6 +16,7 @@ use Rattle.flume_host.specs.HandedOut.{HandedOut}
 use Rattle.flume_host.specs.Listens.{Endpoint}
 use Rattle.flume_host.specs.Rolled.{Rolled}
 use Rattle.agent_sinks.specs.declared.sink.AgentSink.{AgentSink}
+use Rattle.avro_ends.specs.Dialing.{DialTold}
 use Rattle.agent_run.specs.Outside.{IsOutside}
 use Rattle.agent_channels.specs.Openings.{HostTold}
 use Rattle.agent_end.specs.Statuses.{run_status}
@@ -183,7 +184,7 @@ pub if_ok : {T E : Type 0} (r : Result T E) (P Q : T → Type 0) → ((t : T) �
 if_ok (Ok t) P Q step p = step t p
 if_ok (Err e) P Q step p = tt
 
-pub outside_at : {R A B N : Type 0} {rolled : R → Option Rolled} {faults : R → ℕ} {Fresh : Endpoint → Option HandedOut → N → Type 0} {p : Plan} {l l' : List ℕ} {a b : HostTold}
-    {all : List (AgentSink R A B)} {bare : List N} → l ≡ l' → IsOutside rolled faults Fresh p l a b all bare → IsOutside rolled faults Fresh p l' a b all bare
-outside_at {rolled = rolled} {faults = faults} {Fresh = Fresh} {p = p} {a = a} {b = b} {all = all} {bare = bare} same is =
-    subst (λ (x : List ℕ). IsOutside rolled faults Fresh p x a b all bare) same is
+pub outside_at : {R A B N : Type 0} {rolled : R → Option Rolled} {faults : R → ℕ} {dial : DialTold A} {Fresh : Endpoint → Option HandedOut → N → Type 0} {p : Plan} {l l' : List ℕ} {a b : HostTold}
+    {all : List (AgentSink R A B)} {bare : List N} → l ≡ l' → IsOutside rolled faults dial Fresh p l a b all bare → IsOutside rolled faults dial Fresh p l' a b all bare
+outside_at {rolled = rolled} {faults = faults} {dial = dial} {Fresh = Fresh} {p = p} {a = a} {b = b} {all = all} {bare = bare} same is =
+    subst (λ (x : List ℕ). IsOutside rolled faults dial Fresh p x a b all bare) same is

@@ -1,5 +1,5 @@
 -- The mends at the stop of a run, and what they leave in its channels.
-use Rattle.std.proofs.Common.{◌≡◌, ◌∙◌, ◌<◌, ◌⊎◌, inl, inr, ℕ, zero, suc, List, [], ◌∷◌, Bool, true, false, Option, Some, Result, Ok, Err, String, length, map, get_or, refl, sym, ap, subst, true≢false, arith, string_bytes}
+use Rattle.std.proofs.Common.{◌≡◌, ◌∙◌, ◌<◌, ◌⊎◌, inl, inr, ℕ, zero, suc, List, [], ◌∷◌, Bool, true, false, Some, Result, Ok, Err, String, length, map, get_or, refl, sym, ap, subst, true≢false, arith, string_bytes}
 use Rattle.std.proofs.lemmas.List.{get_or-map, get_or_default, length-map}
 use Rattle.std.specs.declared.alloc.Global.{Global}
 use Rattle.channel_face.specs.History.{Opening, Step}
@@ -10,7 +10,6 @@ use Rattle.channel_face.specs.declared.replies.OpenCause.TheVariants as cause
 use Rattle.flume_config.specs.declared.plan.ChannelKind.{ChannelKind}
 use Rattle.flume_config.specs.declared.plan.ChannelKind.TheVariants.{File, Memory as InMemory}
 use Rattle.flume_config.specs.declared.plan.ChannelPlan.{ChannelPlan}
-use Rattle.shared_channel.specs.Calls.{state_seen}
 use Rattle.shared_channel.specs.Passes.{Known}
 use Rattle.sink_worker.specs.declared.worker.SinkWorker.{SinkWorker}
 use Rattle.turn_passes.specs.Views.{View, saw}

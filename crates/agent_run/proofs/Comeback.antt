@@ -1,7 +1,7 @@
 -- Channels that were opened and came back, with no call made.
 use Rattle.std.proofs.Common.{◌≡◌, ◌∙◌, ◌<◌, ◌++◌, inl, inr, ℕ, zero, suc, List, [], ◌∷◌, Bool, true, false, cond, Option, length, get_or, refl, sym, ap, subst, arith, bytes_eq, string_bytes, length-append}
 use Rattle.std.proofs.lemmas.Slice.Eq.{bytes_eq-Decides}
-use Rattle.flume_host.specs.HostState.{Folders, HostState}
+use Rattle.flume_host.specs.HostState.{Folders}
 use Rattle.flume_host.specs.Told.{Told}
 use Rattle.channel_face.specs.History.{Opening}
 use Rattle.channel_face.specs.declared.replies.Limits.{Limits}

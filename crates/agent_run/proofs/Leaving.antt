@@ -1,7 +1,6 @@
 -- What a run left that ended well, from the relation of its parts.
-use Rattle.std.proofs.Common.{◌≡◌, ◌∙◌, ◌<◌, inl, inr, ℕ, zero, suc, List, [], ◌∷◌, All, Bool, Option, Result, String, length, map, get_or, sym, ap, subst, arith}
+use Rattle.std.proofs.Common.{◌≡◌, ◌∙◌, ◌<◌, inl, inr, ℕ, zero, suc, List, [], ◌∷◌, Bool, Option, Result, String, length, map, get_or, sym, ap, subst, arith}
 use Rattle.std.proofs.lemmas.List.{length-map}
-use Rattle.std.proofs.lemmas.List.Elements.{All-head}
 use Rattle.std.specs.List.{AllByRecursion}
 use Rattle.std.specs.declared.alloc.Global.{Global}
 use Rattle.std.specs.declared.vec.Vec.{Vec}
@@ -10,9 +9,14 @@ use Rattle.channel_face.specs.declared.replies.Counts.{Counts}
 use Rattle.channel_face.specs.declared.replies.OpenCause.{OpenCause}
 use Rattle.flume_config.specs.declared.plan.Plan.{Plan}
 use Rattle.flume_config.specs.declared.plan.SinkPlan.{SinkPlan}
+use Rattle.flume_host.specs.HandedOut.{HandedOut}
 use Rattle.flume_host.specs.HostState.{Folders, HostState}
+use Rattle.flume_host.specs.Links.{LinkTold}
+use Rattle.flume_host.specs.Listens.{LinksTold}
 use Rattle.flume_host.specs.Rolled.{Rolled}
-use Rattle.flume_host.specs.Told.{Told as DiskTold}
+use Rattle.flume_host.specs.Told.{Tells, Told as DiskTold}
+use Rattle.event_core.specs.Content.{Content}
+use Rattle.plug_in.specs.declared.sink.SinkRefused.{SinkRefused}
 use Rattle.roll_sink.specs.Runs.{RunsFill}
 use Rattle.file_channel.specs.Stands.{FileState}
 use Rattle.memory_channel.specs.declared.channel.MemoryChannel.{MemoryChannel}
@@ -32,13 +36,18 @@ use Rattle.agent_channels.specs.declared.wish.ChannelWish.{ChannelWish}
 use Rattle.agent_end.specs.Statuses.{run_status}
 use Rattle.agent_end.specs.declared.draining.ChannelDrain.{ChannelDrain}
 use Rattle.agent_end.specs.declared.ends.RunEnds.{RunEnds}
-use Rattle.agent_outside.specs.Sinks.{SinksOpened}
+use Rattle.agent_outside.specs.Dials.{DialsOpened}
+use Rattle.agent_outside.specs.Sinks.{AreOfPlans, SinksOpened}
 use Rattle.agent_sinks.specs.declared.sink.AgentSink.{AgentSink}
+use Rattle.avro_ends.specs.Deliveries.{SinkLinks}
+use Rattle.avro_ends.specs.Dialing.{DialTold}
+use Rattle.avro_requests.specs.Requests.{RequestsAreOnLinks}
 use Rattle.run_tracks.specs.Closes.{IsClosed}
 use Rattle.run_tracks.specs.Places.{Zips}
 use Rattle.run_tracks.specs.Stops.{IsMended}
+use Rattle.agent_run.specs.DialedTold.{DialedTold, DialsTold}
 use Rattle.agent_run.specs.DrainedTold.{DrainedTold}
-use Rattle.agent_run.specs.Draining.{IsDrainedAt, IsSinkHome}
+use Rattle.agent_run.specs.Draining.{IsDrainedAt}
 use Rattle.agent_run.specs.Ends.{IsSinkEnded}
 use Rattle.agent_run.specs.FoldersTold.{FoldersAreApart, FoldersTold}
 use Rattle.agent_run.specs.Histories.{IsSinkTold}
@@ -63,8 +72,11 @@ use Rattle.agent_run.specs.declared.prepare.Prepared.{Prepared}
 use Rattle.agent_run.specs.declared.settle.Settled.{Settled}
 use Rattle.agent_run.specs.declared.workers.Returned.{Returned}
 use Rattle.agent_run.specs.declared.workers.Workers.{Workers}
+use Rattle.agent_run.proofs.Asking.{AsksOnLinks, ClosesSo, dialed_told}
 use Rattle.agent_run.proofs.Chaining.{drained_ends}
-use Rattle.agent_run.proofs.Course.{Course, Stands, closed_are_many, tells_of, there}
+use Rattle.agent_run.proofs.Comeback.{opened_state}
+use Rattle.agent_run.proofs.Course.{Course, Stands, closed_are_many, tells_of}
+use Rattle.agent_run.proofs.Dialing.{IsSameSink, some_share}
 use Rattle.agent_run.proofs.Emptied.{drained_told}
 use Rattle.agent_run.proofs.Folders.{folders_told}
 use Rattle.agent_run.proofs.Joining.{zips_long}
@@ -94,15 +106,9 @@ zips_at P (a ∷ xs) [] all i x y below = absurd all
 zips_at P (a ∷ xs) (b ∷ ys) all zero x y below = all.0
 zips_at P (a ∷ xs) (b ∷ ys) all (suc i) x y below = zips_at P xs ys all.1 i x y (omega (arith, below))
 
--- some channel, where there is a sink
-some_share : {A B S C : Type 0} (shares : List (EitherShared A B)) (homes : List Known) (ws : List (SinkWorker AtHome S C)) (place : ℕ) → All (IsSinkHome homes) ws
-    → place < length ws → length shares ≡ length homes → EitherShared A B
-some_share shares homes [] place at below many = absurd (omega (arith, below))
-some_share shares homes (w ∷ ws) place at below many = there shares w.channel (let l = (All-head (IsSinkHome homes) w ws at).0 in omega (arith, l, many))
-
 -- ---- the whole
 
-module _ {R D P Q N I O C K : Type 0} (rolled : R → Option Rolled) (told : D → Option DiskTold) (faults : D → ℕ) (moment : D × FileState → ℕ)
+module _ {R D P Q N I O C K : Type 0} (rolled : R → Option Rolled) (dial : DialTold P) (told : D → Option DiskTold) (faults : D → ℕ) (moment : D × FileState → ℕ)
     (memory : MemoryChannel → Begun → List Step → Type 0) (tells' : MemoryChannel → Bool) (sink : Told (AgentSink R P Q)) (moments : C → Option (ℕ → ℕ)) (plan : Plan)
     (Drafted : Prepared K C → Type 0) (Opens : Prepared K C → HostTold → HostTold → Outside (AgentSink R P Q) N → Type 0)
     (Takes : Manned (D × FileState) MemoryChannel (AgentSink R P Q) N I O C K → HostState → HostState → Type 0)
@@ -114,7 +120,7 @@ module _ {R D P Q N I O C K : Type 0} (rolled : R → Option Rolled) (told : D �
 
   abbrev Ran : RunEnds → List ChannelEnd → HostTold → HostTold → Type 0
   Ran ends channels a b =
-      PlanRan plan Drafted Opens (λ opening. RanThrough plan.sinks.items opening Takes Joins Settles (IsGivenBack rolled told faults plan.sinks.items)) ends channels a b
+      PlanRan plan Drafted Opens (λ opening. RanThrough plan.sinks.items opening Takes Joins Settles (IsGivenBack rolled dial told faults plan.sinks.items)) ends channels a b
 
   course : (ends : RunEnds) (channels : List ChannelEnd) (a b : HostTold) → Ran ends channels a b → Course told faults moment memory tells' (IsDrainedAt {S = AgentSink R P Q} {C = C} sink moments) plan.channels.items
   course ends channels a b ran =
@@ -166,7 +172,7 @@ module _ {R D P Q N I O C K : Type 0} (rolled : R → Option Rolled) (told : D �
         folders = subst (λ (f : Folders). FoldersTold plan.channels.items a.folders f (map pass_of goes.settled.closed.items)) (sym back.folders)
             (folders_told told faults moment memory tells' (IsDrainedAt sink moments) plan.channels.items r apart well back.rests back.behind_sinks back.behind_disks back.disks);
         report = report_told told faults moment memory tells' (IsDrainedAt sink moments) plan.channels.items r goes.joined.streams.output_failed ends.report goes.behind.output back.behind_disks.state b.state
-            (ap (λ (s : HostState). s.output) back.disks.state ∙ ap (λ (s : HostState). s.output) back.state) (was_reported ends good) back.report;
+            (ap (λ (s : HostState). s.output) back.disks.state ∙ ap (λ (s : HostState). s.output) back.dials.state) (was_reported ends good) back.report;
         drained = subst (λ (v : Vec ChannelDrain Global). DrainedTold sinks v.items goes.homes (map pass_of goes.settled.closed.items)) (sym goes.drains)
             (drained_told told faults moment memory tells' sink moments plan.channels.items r sinks goes.home goes.all many
             (λ place w s below. zips_at (λ (s : SinkPlan) (w : SinkWorker AtHome (AgentSink R P Q) C). w.channel ≡ s.channel) sinks workers both place s w below) finals);
@@ -190,3 +196,28 @@ module _ {R D P Q N I O C K : Type 0} (rolled : R → Option Rolled) (told : D �
         o.opening.outside.sinks.items (λ place below. some_share r.manned.crew.shares.items r.homes r.joined.sinks.items place r.home (let e = runs.0 in omega (arith, below, e)) many)
         whole is.own_sinks out.0 ran.behind.folders o.between.folders a.folders b.folders (opened_rolls ran.made.wishes.items ran.channels a ran.behind ran.opened) out.1
         (λ path. ap (λ (f : Folders). f.rolls path) r.back.folders ∙ ap (λ (f : List ℕ → Option Rolled). f path) r.back.disks.rolls ∙ r.back.rolls.rolls path)
+
+  module _ {L E : Type 0} (links_of : P → SinkLinks E L) (links : E → Option LinksTold) (troubles : E → ℕ) (link_told : L → Option LinkTold) (link_faults : L → ℕ)
+      (asks : AsksOnLinks dial links_of links troubles link_told link_faults sink) (law : RequestsAreOnLinks E L) (closes : ClosesSo dial links_of links troubles link_told link_faults sink)
+      (keeps : (s : AgentSink R P Q) (batch : List Content) (at : ℕ) (answer : Result (Unit {0}) SinkRefused) (t : AgentSink R P Q) → sink.delivers s batch at answer t → IsSameSink dial s t)
+      (outside : (p : Prepared K C) (a b : HostTold) (out : Outside (AgentSink R P Q) N) → Opens p a b out
+      → (length out.sinks.items ≡ length plan.sinks.items) × AreOfPlans b.folders plan.sinks.items out.sinks.items
+      × ((x : HostState) × DialsOpened dial plan.sinks.items a.state x out.sinks.items × (b.state.dialers ≡ x.dialers))) where
+    -- The links of a run's Avro sinks took the requests of what these were handed.
+    pub run_dialed : (ends : RunEnds) (channels : List ChannelEnd) (a b : HostTold) (finals : List Known) (ran : Ran ends channels a b)
+        → AreBeside (IsSinkWhole sink moments ran.ran.goes.manned.crew.shares.items finals) ran.ran.goes.manned.crew.jobs.sinks.items ran.ran.goes.settled.ends.items ran.ran.goes.settled.sinks.items
+        → DialedTold plan.sinks.items ran.ran.goes.manned.crew.jobs.sinks.items finals a.state b.state
+    run_dialed ends channels a b finals ran whole =
+        let o = ran.ran in
+        let r = o.goes in
+        let is = r.is_manned in
+        let out = outside ran.made ran.behind o.between o.opening.outside o.opens in
+        let runs = drained_ends (IsDrainedAt sink moments) r.joined.sinks.items r.homes r.settled.ends.items r.settled.sinks.items r.settles.drained r.settles.drains in
+        let many : length r.manned.crew.shares.items ≡ length r.homes = sym is.homes.as_many ∙ sym r.took.as_many in
+        let between = ap (λ (s : HostState). s.dialers) r.rest ∙ ap (λ (s : HostState). s.dialers) r.taken ∙ out.2.2 in
+        let last : b.state.dialers ≡ r.back.behind_sinks.state.dialers = ap (λ (s : HostState). s.dialers) r.back.rest ∙ ap (λ (s : HostState). s.dialers) r.back.disks.state in
+        subst (λ (d : Option HandedOut). Tells a.state.dialers d (DialsTold plan.sinks.items r.manned.crew.jobs.sinks.items finals)) (sym last)
+        (dialed_told dial links_of links troubles link_told link_faults sink asks law closes moments keeps plan.sinks.items r.manned.crew.shares.items finals r.manned.crew.jobs.sinks.items r.settled.ends.items r.settled.sinks.items
+        o.opening.outside.sinks.items (λ place below. some_share r.manned.crew.shares.items r.homes r.joined.sinks.items place r.home (let e = runs.0 in omega (arith, below, e)) many)
+        whole is.own_sinks out.0 o.between.folders out.1 a.state ran.behind.state out.2.0 r.back.behind_sinks.state
+        (sym (ap (λ (s : HostState). s.dialers) (opened_state ran.made.wishes.items ran.channels a ran.behind ran.opened))) out.2.1 r.behind.dialers between r.back.dials.told)

@@ -1,14 +1,12 @@
 -- Channels that a mend at the stop left broken.
-use Rattle.std.proofs.Common.{◌≡◌, ◌∙◌, ◌-◌, ◌^◌, ◌++◌, ◌⊎◌, inl, inr, ℕ, List, [], ◌∷◌, Bool, true, false, Result, Ok, Err, length, map, get_or, refl, sym, ap, subst, true≢false, append-nil, arith}
-use Rattle.std.proofs.lemmas.List.{get_or-map}
+use Rattle.std.proofs.Common.{◌≡◌, ◌∙◌, ◌-◌, ◌^◌, ◌++◌, ◌⊎◌, inl, inr, ℕ, List, [], ◌∷◌, Bool, true, false, Result, Ok, Err, length, refl, sym, ap, subst, true≢false, append-nil, arith}
 use Rattle.channel_face.specs.History.{Opening, Step, opening, reopen_reply}
 use Rattle.channel_face.specs.Keeps.{is_spent_open, mended}
-use Rattle.channel_face.specs.Machine.{Call, Reopen, Reopened, State, after}
+use Rattle.channel_face.specs.Machine.{Reopen, Reopened, State}
 use Rattle.channel_face.specs.declared.replies.OpenCause.{OpenCause}
 use Rattle.channel_face.proofs.Adding.{state-push}
 use Rattle.shared_channel.specs.Calls.{Counted, state_seen, step}
 use Rattle.shared_channel.specs.Durables.{Reopens, WasBroken, calls_of}
-use Rattle.shared_channel.specs.Passes.{Known}
 use Rattle.turn_passes.specs.Views.{View}
 use Rattle.two_channels.specs.Shares.{IsDisk, MendsIn}
 use Rattle.two_channels.specs.declared.shared.EitherShared.{EitherShared}

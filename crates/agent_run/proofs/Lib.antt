@@ -66,6 +66,8 @@ pub mod Ended
 pub mod Tidying
 pub mod Handing
 pub mod Rolling
+pub mod Dialing
+pub mod Asking
 pub mod Unstaged
 pub mod Leaving
 pub mod Caused

@@ -67,7 +67,7 @@ is_from : (host : List ℕ) (port : ℕ) (all : Option HandedOut) → IsFrom hos
 is_from host port None = tt
 is_from host port (Some all) = (refl, refl)
 
-is_out : (ends : List Endpoint) (f g : Option HandedOut) → Tells f g (AllOut ends) → AreOut ends g
+pub is_out : (ends : List Endpoint) (f g : Option HandedOut) → Tells f g (AllOut ends) → AreOut ends g
 is_out ends f None out = tt
 is_out ends None (Some g) out = absurd out
 is_out ends (Some f) (Some g) out = λ host port. omega (arith, out.out host port)

@@ -1,5 +1,5 @@
 -- How the reading of standard input ended, and what the host tells of it.
-use Rattle.std.proofs.Common.{◌≡◌, ◌∙◌, ◌<◌, ◌≤◌, ◌⊎◌, ◌++◌, inl, inr, ℕ, List, [], ◌∷◌, Bool, true, false, Option, Some, None, length, map, min, ◌-◌, ◌^◌, get_or, refl, sym, ap, subst, true≢false, arith}
+use Rattle.std.proofs.Common.{◌≡◌, ◌∙◌, ◌<◌, ◌≤◌, ◌⊎◌, ◌++◌, inl, inr, ℕ, List, [], ◌∷◌, true, false, Option, Some, None, length, map, min, ◌-◌, ◌^◌, get_or, refl, sym, ap, subst, true≢false, arith}
 use Rattle.std.specs.Io.KnownBytes.{Consumes, IsAtEnd}
 use Rattle.std.specs.declared.alloc.Global.{Global}
 use Rattle.std.specs.declared.vec.Vec.{Vec}
@@ -28,10 +28,10 @@ use Rattle.agent_run.specs.Causes.{IsTaken}
 use Rattle.agent_run.specs.Dialogue.{IsDialogue}
 use Rattle.agent_run.specs.Ends.{IsLineEnded}
 use Rattle.agent_run.specs.Histories.{IsLineTold}
-use Rattle.agent_run.specs.Joined.{AreTold, HaveReturned}
-use Rattle.agent_run.specs.Runs.{AreEnded, Runs}
+use Rattle.agent_run.specs.Joined.{HaveReturned}
+use Rattle.agent_run.specs.Runs.{Runs}
 use Rattle.agent_run.specs.Staff.{own_talk}
-use Rattle.agent_run.specs.Streams.{AreTaken, DrainKept, DrainTaken, InTurn, IsButTaken, TalkKept, TalkTaken, drain_ended, end_of_draining, end_of_session, ended_of, output_failed, talk_ended}
+use Rattle.agent_run.specs.Streams.{AreTaken, DrainKept, DrainTaken, InTurn, IsButTaken, TalkKept, TalkTaken, end_of_draining, end_of_session, ended_of, output_failed}
 use Rattle.agent_run.specs.declared.homes.LineEnded.{LineEnded}
 use Rattle.agent_run.specs.declared.streams.StreamsEnded.{StreamsEnded}
 use Rattle.agent_run.specs.declared.workers.Returned.{Returned}

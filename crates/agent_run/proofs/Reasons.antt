@@ -1,5 +1,5 @@
 -- The causes of the status of a run, from the relation of its parts.
-use Rattle.std.proofs.Common.{◌≡◌, ◌∙◌, ◌<◌, ◌≤◌, ◌⊎◌, ◌++◌, ◌^◌, inl, inr, ℕ, List, [], ◌∷◌, Bool, true, Option, Some, None, Result, Ok, Err, length, map, get_or, refl, sym, ap, subst, append_assoc, length-append, take, arith}
+use Rattle.std.proofs.Common.{◌≡◌, ◌∙◌, ◌≤◌, ◌⊎◌, ◌++◌, ◌^◌, inl, inr, ℕ, List, [], ◌∷◌, Bool, true, Option, Some, None, Result, Err, length, map, refl, sym, ap, subst, append_assoc, length-append, arith}
 use Rattle.std.proofs.lemmas.List.{take-append-le}
 use Rattle.std.specs.Io.KnownBytes.{Consumes, IsAtEnd}
 use Rattle.std.specs.declared.alloc.Global.{Global}
@@ -19,8 +19,6 @@ use Rattle.sink_worker.specs.Rounds.{Told}
 use Rattle.source_put.specs.Chains.{Meaning}
 use Rattle.source_worker.specs.Rounds.{Heard}
 use Rattle.line_worker.specs.declared.worker.LineWorker.{LineWorker}
-use Rattle.turn_passes.specs.Views.{View}
-use Rattle.two_channels.specs.Shares.{table_of}
 use Rattle.two_channels.specs.declared.port.EitherPort.{EitherPort}
 use Rattle.run_tracks.specs.Places.{Zips}
 use Rattle.agent_channels.specs.Openings.{HostTold}
@@ -36,7 +34,6 @@ use Rattle.agent_end.specs.declared.ends.RunEnds.{RunEnds}
 use Rattle.agent_run.specs.Causes.{CausesTold, IsCutBy, IsReadable, IsTaken, IsSpent, SomeInFolder, SomeIsLeft, line_limit}
 use Rattle.agent_run.specs.Draining.{IsDrainedAt}
 use Rattle.agent_run.specs.Errors.{IsRunStatus}
-use Rattle.agent_run.specs.Finals.{finals_of}
 use Rattle.agent_run.specs.Prepared.{uses_of}
 use Rattle.agent_run.specs.RunDid.{Steps, passes_of}
 use Rattle.agent_run.specs.Runs.{Runs}

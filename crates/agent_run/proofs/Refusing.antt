@@ -14,7 +14,6 @@ use Rattle.plan_support.specs.Least.{unsupported}
 use Rattle.agent_words.specs.Statuses.{status_of}
 use Rattle.agent_words.specs.declared.error.RunError.{RunError}
 use Rattle.agent_words.specs.declared.error.RunError.TheVariants as errors
-use Rattle.agent_commands.specs.Checked.{Unplanned}
 use Rattle.agent_commands.specs.Piped.{cause_status}
 use Rattle.agent_commands.specs.Stored.{IsOfFolder}
 use Rattle.agent_channels.specs.Openings.{GivesBack, HandsNone, HostTold, Refuses}
@@ -26,7 +25,8 @@ use Rattle.agent_channels.specs.declared.wish.ChannelWish.{ChannelWish}
 use Rattle.agent_outside.specs.Ends.{places}
 use Rattle.agent_run.specs.Errors.{IsCauseError}
 use Rattle.agent_run.specs.NotBegun.{AreWanted, ChannelNotOpened, IsCauseStatus, IsRefusedOutside, IsRunRefused, LeavesHost, NoPlan, NotPrepared, NotSupported, OutsideNotOpened}
-use Rattle.agent_run.specs.Outside.{FailsBy, OutsideRefused}
+use Rattle.agent_outside.specs.Dials.{FailsBy}
+use Rattle.agent_run.specs.Outside.{OutsideRefused}
 use Rattle.agent_run.specs.Prepared.{IsUnprepared, error_of}
 use Rattle.agent_run.proofs.Comeback.{come_back, come_states}
 
@@ -97,11 +97,12 @@ host_counted : (status : ℕ) (old new : HostState) → 2 ≤ status → status 
     → ((status ≡ 2) ⊎ (status ≡ 4) → new.faults ≡ old.faults) → LeavesHost status old new
 host_counted status old new from below state fault clean =
     let listeners : new.listeners ≡ old.listeners = ap (λ (s : HostState). s.listeners) state in
+    let dialers : new.dialers ≡ old.dialers = ap (λ (s : HostState). s.dialers) state in
     let disks : new.disk_faults ≡ old.disk_faults = ap (λ (s : HostState). s.disk_faults) state in
     record {
       from = from;
       below = below;
-      rest = state ∙ (λ i. record old { listeners = sym listeners i; faults = new.faults; disk_faults = sym disks i });
+      rest = state ∙ (λ i. record old { listeners = sym listeners i; dialers = sym dialers i; faults = new.faults; disk_faults = sym disks i });
       fault = λ three. inl (fault three);
       well = λ which. state ∙ ap (λ (n : ℕ). record old { faults = n }) (clean which);
     }
@@ -269,10 +270,11 @@ cause_leaves (place.Folder path) capacity a b cause (inr back) = back_leaves _ c
 by_cause : (cause : OpenCause) (status : ℕ) (old new : HostState) → IsCauseStatus cause status → CauseLeaves cause old new → LeavesHost status old new
 by_cause cause status old new is leaves =
     let listeners : new.listeners ≡ old.listeners = ap (λ (s : HostState). s.listeners) leaves.rest in
+    let dialers : new.dialers ≡ old.dialers = ap (λ (s : HostState). s.dialers) leaves.rest in
     record {
       from = from is;
       below = below is;
-      rest = leaves.rest ∙ (λ i. record old { listeners = sym listeners i; faults = new.faults; disk_faults = new.disk_faults });
+      rest = leaves.rest ∙ (λ i. record old { listeners = sym listeners i; dialers = sym dialers i; faults = new.faults; disk_faults = new.disk_faults });
       fault = λ three. leaves.fault (fault three is);
       well = λ which. leaves.well (folder which is);
     }
@@ -312,7 +314,7 @@ outside_fault : (why : NameRefused) (status before now : ℕ) → status ≡ sta
 outside_fault Failed status before now is fails three = fails
 outside_fault NoMemory status before now is fails three = absurd (omega (arith, is, three))
 
-outside_leaves : (why : NameRefused) (status : ℕ) (old new : HostState) → status ≡ status_of (error_of why) → new ≡ record old { listeners = new.listeners; faults = new.faults }
+outside_leaves : (why : NameRefused) (status : ℕ) (old new : HostState) → status ≡ status_of (error_of why) → new ≡ record old { listeners = new.listeners; dialers = new.dialers; faults = new.faults }
     → FailsBy why old.faults new.faults → LeavesHost status old new
 outside_leaves why status old new is state fails =
     let disks : new.disk_faults ≡ old.disk_faults = ap (λ (s : HostState). s.disk_faults) state in
@@ -320,7 +322,7 @@ outside_leaves why status old new is state fails =
     record {
       from = from which;
       below = below which;
-      rest = state ∙ (λ i. record old { listeners = new.listeners; faults = new.faults; disk_faults = sym disks i });
+      rest = state ∙ (λ i. record old { listeners = new.listeners; dialers = new.dialers; faults = new.faults; disk_faults = sym disks i });
       fault = λ three. inl (outside_fault why status old.faults new.faults is fails three);
       well = λ else. absurd (not_two_or_four status which else);
     }

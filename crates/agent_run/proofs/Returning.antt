@@ -12,6 +12,7 @@ use Rattle.agent_channels.specs.declared.wish.ChannelWish.{ChannelWish}
 use Rattle.agent_end.specs.declared.ends.ReportRefused.{ReportRefused}
 use Rattle.agent_end.specs.declared.ends.ReportRefused.TheVariants as report
 use Rattle.agent_sinks.specs.declared.sink.AgentSink.{AgentSink}
+use Rattle.avro_ends.specs.Dialing.{DialTold}
 use Rattle.agent_run.specs.Run.{IsGivenBack}
 use Rattle.agent_run.specs.Streams.{IsReported}
 use Rattle.agent_run.specs.declared.settle.Settled.{Settled}
@@ -34,15 +35,15 @@ report_fault false text (Ok done) old new is failed = absurd (cc)
 report_fault false text (Err report.Fault) old new is failed = inr is.1
 report_fault false text (Err report.NoMemory) old new is failed = absurd (cc)
 
-module _ {R D A B : Type 0} (rolled : R → Option Rolled) (told : D → Option Told) (faults : D → ℕ) (plans : List SinkPlan) where
+module _ {R D A B : Type 0} (rolled : R → Option Rolled) (dial : DialTold A) (told : D → Option Told) (faults : D → ℕ) (plans : List SinkPlan) where
   pub gone_back : (wishes : List ChannelWish) (settled : Settled (AgentSink R A B) (D × FileState) MemoryChannel) (failed : Bool) (answer : Result (Unit {0}) ReportRefused) (old new : HostTold)
-      → IsGivenBack rolled told faults plans wishes settled failed answer old new → GoesBack failed answer old.state new.state
+      → IsGivenBack rolled dial told faults plans wishes settled failed answer old new → GoesBack failed answer old.state new.state
   gone_back wishes settled failed answer old new is =
       let mid = is.behind_disks.state in
-      let same : mid.faults ≡ old.state.faults = ap (λ (s : HostState). s.faults) is.disks.state ∙ ap (λ (s : HostState). s.faults) is.state in
+      let same : mid.faults ≡ old.state.faults = ap (λ (s : HostState). s.faults) is.disks.state ∙ ap (λ (s : HostState). s.faults) is.dials.state in
       let later = report_later failed _ answer mid new.state is.report in
       record {
-        input = ap (λ (s : HostState). s.input) is.rest ∙ ap (λ (s : HostState). s.input) is.disks.state ∙ ap (λ (s : HostState). s.input) is.state;
+        input = ap (λ (s : HostState). s.input) is.rest ∙ ap (λ (s : HostState). s.input) is.disks.state ∙ ap (λ (s : HostState). s.input) is.dials.state;
         later = omega (arith, same, later);
         fault = λ no. elim (report_fault failed _ answer mid new.state is.report no) [
           | inl before ↦ inl before

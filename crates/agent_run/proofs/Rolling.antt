@@ -127,7 +127,7 @@ module _ {A B S C : Type 0} (sink : Told S) (moments : C → Option (ℕ → ℕ
       (record { from = ended track; sink = back; moments = (is.calls share home).0 }) (is.calls share home).1
 
   -- by all calls of its worker a sink was handed so much
-  whole_hands : let all = (get_or homes job.channel home).view in Hands sink.delivers (length all.seen) (own_calls (job.port.number ∷ []) (opening all.base) all.seen) job.sink back
+  pub whole_hands : let all = (get_or homes job.channel home).view in Hands sink.delivers (length all.seen) (own_calls (job.port.number ∷ []) (opening all.base) all.seen) job.sink back
   whole_hands = subst (λ (l : List Own). Hands sink.delivers (length track.whole) l job.sink back) (sym (ap (λ (t : Track). t.own) all_grew.calls)) all_grew.hands
 
   -- and each of their stages was settled or flushed

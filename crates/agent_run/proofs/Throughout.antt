@@ -6,6 +6,7 @@ use Rattle.agent_channels.specs.declared.wish.ChannelWish.{ChannelWish}
 use Rattle.agent_end.specs.declared.draining.ChannelDrain.{ChannelDrain}
 use Rattle.agent_end.specs.declared.ends.ReportRefused.{ReportRefused}
 use Rattle.agent_sinks.specs.declared.sink.AgentSink.{AgentSink}
+use Rattle.avro_ends.specs.Dialing.{DialTold}
 use Rattle.channel_face.specs.declared.replies.Counts.{Counts}
 use Rattle.channel_face.specs.declared.replies.OpenCause.{OpenCause}
 use Rattle.crew.specs.declared.draining.DrainWorker.{DrainWorker}
@@ -35,6 +36,7 @@ use Rattle.agent_run.specs.declared.homes.AtHome.{AtHome}
 use Rattle.agent_run.specs.declared.homes.LineEnded.{LineEnded}
 use Rattle.agent_run.specs.declared.joined.Joined.{Joined}
 use Rattle.agent_run.specs.declared.settle.Settled.{Settled}
+use Rattle.agent_run.specs.declared.workers.Returned.{Returned}
 use Rattle.agent_run.specs.declared.workers.Workers.{Workers}
 
 -- the workers came back over the same sources, places and channels
@@ -49,6 +51,13 @@ joined_same {R} {A} {B} runs sink Means moments heard talk Drained Talked told w
     IsJoined (λ returned. HaveReturned runs sink Means moments heard talk x.2 homes jobs returned) Drained Talked (AreBack told waits faults x.0 x.1) joined a b)
     (λ i. (e i, f i, h i)) is
 
+-- they returned over the same channels
+pub returned_same : {R A B S N I O C K : Type 0} (runs : Runs (EitherPort R A B) S N I O C K) (sink : Told S) (Means : Meaning K) (moments : C → Option (ℕ → ℕ)) (heard : N → Heard) (talk : I → O → Talk)
+    (homes : List Known) (jobs : Workers Known S N I O C K) (returned : Returned S N I O C) (shares shares' : List (EitherShared A B)) → shares ≡ shares'
+    → HaveReturned runs sink Means moments heard talk shares homes jobs returned → HaveReturned runs sink Means moments heard talk shares' homes jobs returned
+returned_same {R} {A} {B} runs sink Means moments heard talk homes jobs returned shares shares' e is =
+    subst (λ (l : List (EitherShared A B)). HaveReturned runs sink Means moments heard talk l homes jobs returned) e is
+
 -- the channels were settled through the same passes at home
 pub settled_same : {A B S C : Type 0} (Drained : SinkWorker AtHome S C → List Known → ChannelDrain → S → List Known → Type 0)
     (Mended : EitherShared A B → Known → Result Bool OpenCause → Known → Type 0) (Closed : EitherShared A B → Known → EitherClosed A B → Type 0)
@@ -58,10 +67,10 @@ settled_same Drained Mended Closed shares workers names s homes homes' e is =
     subst (λ (l : List Known). AreSettled Drained Mended Closed shares l workers names s) e is
 
 -- all was given back, by the same plans and folders
-pub back_same : {R D A B : Type 0} (rolled : R → Option Rolled) (told : D → Option DiskTold) (faults : D → ℕ) (wishes : List ChannelWish)
+pub back_same : {R D A B : Type 0} (rolled : R → Option Rolled) (dial : DialTold A) (told : D → Option DiskTold) (faults : D → ℕ) (wishes : List ChannelWish)
     (settled : Settled (AgentSink R A B) (D × FileState) MemoryChannel) (failed : Bool) (answer : Result (Unit {0}) ReportRefused) (state : HostState) (new : HostTold)
     (plans plans' : List SinkPlan) (folders folders' : Folders) → plans ≡ plans' → folders ≡ folders'
-    → IsGivenBack rolled told faults plans wishes settled failed answer (record { state = state; folders = folders }) new
-    → IsGivenBack rolled told faults plans' wishes settled failed answer (record { state = state; folders = folders' }) new
-back_same rolled told faults wishes settled failed answer state new plans plans' folders folders' e f is =
-    subst (λ (x : List SinkPlan × Folders). IsGivenBack rolled told faults x.0 wishes settled failed answer (record { state = state; folders = x.1 }) new) (λ i. (e i, f i)) is
+    → IsGivenBack rolled dial told faults plans wishes settled failed answer (record { state = state; folders = folders }) new
+    → IsGivenBack rolled dial told faults plans' wishes settled failed answer (record { state = state; folders = folders' }) new
+back_same rolled dial told faults wishes settled failed answer state new plans plans' folders folders' e f is =
+    subst (λ (x : List SinkPlan × Folders). IsGivenBack rolled dial told faults x.0 wishes settled failed answer (record { state = state; folders = x.1 }) new) (λ i. (e i, f i)) is

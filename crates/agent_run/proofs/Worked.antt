@@ -27,6 +27,7 @@ use Rattle.agent_end.specs.declared.ends.ReportRefused.{ReportRefused}
 use Rattle.agent_end.specs.declared.ends.RunEnds.{RunEnds}
 use Rattle.agent_run.specs.Alone.{IsAway}
 use Rattle.agent_run.specs.Causes.{CausesTold}
+use Rattle.agent_run.specs.DialedTold.{DialedTold}
 use Rattle.agent_run.specs.Dialogue.{EndsWell}
 use Rattle.agent_run.specs.Finals.{AreToldInFull, RunsAreTold, finals_of}
 use Rattle.agent_run.specs.Histories.{IsSinkTold}
@@ -121,15 +122,18 @@ module _ {R A B S N I O C K : Type 0} (runs : Runs (EitherPort R A B) S N I O C 
       staged_none sink moments disk tells moment memory tells' shares firsts r.homes r.joined.sinks.items r.manned.settled.report.items r.settled r.settles is.homes.as_many r.named r.took fresh
       (owners_of jobs) is.dealt full.goes_on owned jobs.sinks.items sinks away.0 place final below _ folder.run folder.whole counted
 
-  -- Steps are told of in all whose rolled files follow from what the sinks called, whose status has its causes, and whose folders, report and
+  -- Steps are told of in all whose rolled files and links follow from what the sinks called, whose status has its causes, and whose folders, report and
   -- drainings are told of at status 0.
   pub run_did : (ends : RunEnds) (channels : List ChannelEnd) (a b : HostTold) (ran : Made ends channels a b)
       → (AreBeside (IsSinkWhole sink moments ran.ran.goes.manned.crew.shares.items (passes_of channels)) ran.ran.goes.manned.crew.jobs.sinks.items
       ran.ran.goes.settled.ends.items ran.ran.goes.settled.sinks.items
       → RolledTold plan.sinks.items ran.ran.goes.manned.crew.jobs.sinks.items (passes_of channels) a.folders b.folders)
+      → (AreBeside (IsSinkWhole sink moments ran.ran.goes.manned.crew.shares.items (passes_of channels)) ran.ran.goes.manned.crew.jobs.sinks.items
+      ran.ran.goes.settled.ends.items ran.ran.goes.settled.sinks.items
+      → DialedTold plan.sinks.items ran.ran.goes.manned.crew.jobs.sinks.items (passes_of channels) a.state b.state)
       → CausesTold plan (run_status ends) (passes_of channels) a.state b.state
       → (run_status ends ≡ 0 → RunLeft plan ends ran.ran.goes.homes ran.ran.goes.behind.output (passes_of channels) a b) → Did ends channels a b
-  run_did ends channels a b ran rolls causes after =
+  run_did ends channels a b ran rolls dials causes after =
       let o = ran.ran in
       let r = o.goes in
       let j = r.joins in
@@ -149,6 +153,7 @@ module _ {R A B S N I O C K : Type 0} (runs : Runs (EitherPort R A B) S N I O C 
         output = output ran.made ran.behind o.between o.opening.outside o.opens ∙ ap (λ (s : HostState). s.output) state;
         full = whole;
         rolled = rolls whole.sinks;
+        dialed = dials whole.sinks;
         causes = causes;
         workers = λ zero. (did zero).0;
         served = λ zero. record {

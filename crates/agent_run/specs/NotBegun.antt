@@ -91,12 +91,12 @@ pub record IsRefusedOutside {A B : Type 0} (plan : Plan) (at : List ℕ) (wishes
 
 -- ---- what became of the host
 
--- Standard input and output are as they were. Nothing but listeners that came back and the counts of faults may have changed: at 3 a
+-- Standard input and output are as they were. Nothing but listeners and dialers that came back and the counts of faults may have changed: at 3 a
 -- count of the host or of its disks rose, and at 2 and 4 nothing has changed.
 pub record LeavesHost (status : ℕ) (old new : HostState) : Type 0 where
   pub from : 2 ≤ status
   pub below : status < 6
-  pub rest : new ≡ record old { listeners = new.listeners; faults = new.faults; disk_faults = new.disk_faults }
+  pub rest : new ≡ record old { listeners = new.listeners; dialers = new.dialers; faults = new.faults; disk_faults = new.disk_faults }
   pub fault : status ≡ 3 → Rose old.faults new.faults ⊎ Rose old.disk_faults new.disk_faults
   pub well : (status ≡ 2) ⊎ (status ≡ 4) → new ≡ old
 

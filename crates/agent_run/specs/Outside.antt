@@ -1,18 +1,18 @@
 -- What a run opens outside its channels.
-use Rattle.std.specs.Prelude.{◌≡◌, ◌≤◌, ℕ, List, length, map, take, Option}
-use Rattle.flume_host.specs.Causes.{Rose}
+use Rattle.std.specs.Prelude.{◌≡◌, ℕ, List, length, map, take, Option}
 use Rattle.flume_host.specs.HandedOut.{HandedOut}
 use Rattle.flume_host.specs.HostState.{Folders, HostState}
 use Rattle.flume_host.specs.Listens.{Endpoint, IsFrom, LinksTold}
 use Rattle.flume_host.specs.Rolled.{Rolled}
 use Rattle.flume_host.specs.Told.{Tells}
 use Rattle.flume_host.specs.declared.names.NameRefused.{NameRefused}
-use Rattle.flume_host.specs.declared.names.NameRefused.TheVariants.{Failed, NoMemory}
 use Rattle.flume_config.specs.declared.plan.Plan.{Plan}
 use Rattle.flume_config.specs.declared.plan.SourcePlan.{SourcePlan}
 use Rattle.agent_sinks.specs.declared.sink.AgentSink.{AgentSink}
+use Rattle.avro_ends.specs.Dialing.{DialTold}
 use Rattle.agent_channels.specs.Openings.{HostTold}
 use Rattle.agent_outside.specs.Backs.{Reopened}
+use Rattle.agent_outside.specs.Dials.{DialsOpened, FailsBy, dials_of}
 use Rattle.agent_outside.specs.Ends.{ListenersBack, come_back, end_at}
 use Rattle.agent_outside.specs.Listening.{CameUnused, ListenersOpened}
 use Rattle.agent_outside.specs.Sinks.{SinksOpened, folders_of}
@@ -34,28 +34,26 @@ pub record LeavesDisks (old new : Folders) : Type 0 where
   pub disks : new.disks ≡ old.disks
   pub opened : new.disk_opened ≡ old.disk_opened
 
--- `Failed` comes only where the count of faults rose
-abbrev pub FailsBy : NameRefused → ℕ → ℕ → Type 0
-FailsBy Failed old new = Rose old new
-FailsBy NoMemory old new = old ≤ new
-
--- The sinks of a plan were opened, and then its listeners, of the sources at these places.
-pub record IsOutside {R A B N : Type 0} (rolled : R → Option Rolled) (faults : R → ℕ) (Fresh : Endpoint → Option HandedOut → N → Type 0)
+-- The sinks of a plan were opened, each with a folder or a dialer if it has one, and then its listeners, of the sources at these places.
+pub record IsOutside {R A B N : Type 0} (rolled : R → Option Rolled) (faults : R → ℕ) (dial : DialTold A) (Fresh : Endpoint → Option HandedOut → N → Type 0)
     (plan : Plan) (places : List ℕ) (a b : HostTold) (all : List (AgentSink R A B)) (bare : List N) : Type 0 where
   pub many : length all ≡ length plan.sinks.items
   pub sinks : SinksOpened rolled faults plan.sinks.items a.folders b.folders all
+  pub between : HostState
+  pub dials : DialsOpened dial plan.sinks.items a.state between all
   pub named : List (SourceListener N)
   pub with_places : WithPlaces places bare named
-  pub opened : ListenersOpened Fresh plan.sources.items places a.state b.state named
+  pub opened : ListenersOpened Fresh plan.sources.items places between b.state named
 
--- A folder of a sink or a listener was refused, or memory ran out. The folders of the first sinks and listeners at the first of these places
--- came back unused, and nothing else changed but the count of faults.
+-- A folder of a sink or a listener was refused, or memory ran out. The folders and dialers of the first sinks and listeners at the first of
+-- these places came back unused, and nothing else changed but the count of faults.
 pub record OutsideRefused (plan : Plan) (places : List ℕ) (refused : NameRefused) (a b : HostTold) : Type 0 where
   pub sinks : ℕ
   pub folders : Reopened (folders_of (take sinks plan.sinks.items)) a.folders b.folders
+  pub dials : Tells a.state.dialers b.state.dialers (CameUnused (dials_of (take sinks plan.sinks.items)))
   pub listeners : ℕ
   pub told : Tells a.state.listeners b.state.listeners (CameUnused (map (end_at plan.sources.items) (take listeners places)))
-  pub state : b.state ≡ record a.state { listeners = b.state.listeners; faults = b.state.faults }
+  pub state : b.state ≡ record a.state { listeners = b.state.listeners; dialers = b.state.dialers; faults = b.state.faults }
   pub faults : FailsBy refused a.state.faults b.state.faults
 
 -- These listeners came back, of the sources at these places.

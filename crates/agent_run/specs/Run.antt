@@ -1,6 +1,7 @@
 -- A run of an agent, by what its plan asks for.
-use Rattle.std.specs.Prelude.{◌≡◌, ℕ, Bool, List, All, map, Option, Result}
+use Rattle.std.specs.Prelude.{◌≡◌, ℕ, Bool, List, All, length, map, Option, Result}
 use Rattle.flume_host.specs.HandedOut.{HandedOut}
+use Rattle.flume_host.specs.HostState.{Folders}
 use Rattle.flume_host.specs.Listens.{Endpoint}
 use Rattle.flume_host.specs.Rolled.{Rolled}
 use Rattle.flume_host.specs.Told.{Told}
@@ -9,9 +10,11 @@ use Rattle.flume_config.specs.declared.plan.SourcePlan.{SourcePlan}
 use Rattle.agent_words.specs.Report.{report_text}
 use Rattle.agent_end.specs.declared.ends.ReportRefused.{ReportRefused}
 use Rattle.agent_sinks.specs.declared.sink.AgentSink.{AgentSink}
+use Rattle.avro_ends.specs.Dialing.{DialTold}
 use Rattle.agent_outside.specs.Backs.{RollsBack}
-use Rattle.agent_outside.specs.Ends.{AreOut, ListensAt, end_at}
-use Rattle.agent_outside.specs.Sinks.{backs_of as rolls_of}
+use Rattle.agent_outside.specs.Dials.{AreDialed, DialersBack, dials_back, dials_of}
+use Rattle.agent_outside.specs.Ends.{AreOut, ListensAt, end_at, ends_of}
+use Rattle.agent_outside.specs.Sinks.{AreOfPlans, backs_of as rolls_of}
 use Rattle.channel_face.specs.History.{Shows}
 use Rattle.agent_channels.specs.Closings.{DisksBack, backs_of as disks_of}
 use Rattle.agent_channels.specs.Openings.{HostTold}
@@ -32,18 +35,30 @@ pub record CanListenAt {N : Type 0} (endpoint : N → Option Endpoint) (sources 
   pub from : AreFrom endpoint sources places listeners
   pub out : AreOut (map (end_at sources) places) all
 
+-- The sinks are of the kinds of their plans, and each dialer was handed out for the address and port of its plan.
+pub record CanDial {R A B : Type 0} (dial : DialTold A) (folders : Folders) (plans : List SinkPlan) (sinks : List (AgentSink R A B)) (all : Option HandedOut) : Type 0 where
+  pub many : length sinks ≡ length plans
+  pub are : AreOfPlans folders plans sinks
+  pub dialed : AreDialed dial plans sinks
+  pub out : AreOut (dials_of plans) all
+
+-- Each dialer was handed out for the address and port of its plan, and as many are out: so they may come back.
+pub record DialsMayReturn {R A B : Type 0} (dial : DialTold A) (plans : List SinkPlan) (sinks : List (AgentSink R A B)) (all : Option HandedOut) : Type 0 where
+  pub dialed : AreDialed dial plans sinks
+  pub out : AreOut (ends_of (dials_back dial plans sinks)) all
+
 -- Unless a closed channel is broken, whatever a stop now leaves of its folder opens to just what is settled.
 abbrev pub IsAtRest : {D B : Type 0} → (D → Option Told) → (D → ℕ) → EitherClosed (D × FileState) B → Type 0
 IsAtRest told faults (closed.Disk c) = Shows (StandsOver (told c.channel.0) (faults c.channel.0) c.channel.1) (Rests (told c.channel.0))
 IsAtRest told faults (closed.Memory c) = Unit {0}
 
--- Behind a run the sinks' folders came back, then the channels' disks, and then the report was written, unless the output had failed.
-pub record IsGivenBack {R D A B : Type 0} (rolled : R → Option Rolled) (told : D → Option Told) (faults : D → ℕ) (plans : List SinkPlan)
+-- Behind a run the sinks' folders and dialers came back, then the channels' disks, and then the report was written, unless the output had failed.
+pub record IsGivenBack {R D A B : Type 0} (rolled : R → Option Rolled) (dial : DialTold A) (told : D → Option Told) (faults : D → ℕ) (plans : List SinkPlan)
     (wishes : List ChannelWish) (settled : Settled (AgentSink R A B) (D × FileState) MemoryChannel) (failed : Bool)
     (answer : Result (Unit {0}) ReportRefused) (old new : HostTold) : Type 0 where
   pub behind_sinks : HostTold
   pub behind_disks : HostTold
-  pub state : behind_sinks.state ≡ old.state
+  pub dials : DialersBack (dials_back dial plans settled.sinks.items) old.state behind_sinks.state
   pub rolls : RollsBack (rolls_of rolled plans settled.sinks.items) old.folders behind_sinks.folders
   pub rests : All (IsAtRest told faults) settled.closed.items
   pub disks : DisksBack (disks_of told faults wishes settled.closed.items) behind_sinks behind_disks

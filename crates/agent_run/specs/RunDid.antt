@@ -23,6 +23,7 @@ use Rattle.agent_end.specs.Statuses.{run_status}
 use Rattle.agent_end.specs.declared.ends.ReportRefused.{ReportRefused}
 use Rattle.agent_end.specs.declared.ends.RunEnds.{RunEnds}
 use Rattle.agent_run.specs.Causes.{CausesTold}
+use Rattle.agent_run.specs.DialedTold.{DialedTold}
 use Rattle.agent_run.specs.Dialogue.{IsDialogue}
 use Rattle.agent_run.specs.Draining.{IsDrainedAt}
 use Rattle.agent_run.specs.Finals.{AreToldInFull}
@@ -81,8 +82,8 @@ module _ {R A B S N I O C K : Type 0} (runs : Runs (EitherPort R A B) S N I O C 
     Steps = PlanRan plan Drafted Opens (λ o. RanThrough plan.sinks.items o Takes (Joins Given) Settles Back)
 
     -- A run made its steps. Each channel that comes back is named with its workers, and its pass saw all calls. In these the calls of each
-    -- sink, of each session and of the worker of lines are all calls with their numbers, and the folders of rolled files hold what the calls of
-    -- their sinks commit. It is told why the status is what it is. At status 0 the workers ran, standard input had its dialogue, nothing is
+    -- sink, of each session and of the worker of lines are all calls with their numbers, the folders of rolled files hold what the calls of
+    -- their sinks commit, and the links of Avro sinks took the requests of what these commit. It is told why the status is what it is. At status 0 the workers ran, standard input had its dialogue, nothing is
     -- staged in a folder's channel, and it is told what the channels' folders hold, what the report says, and which sinks emptied their channels.
     pub record RunDid (ends : RunEnds) (channels : List ChannelEnd) (a b : HostTold) : Type 0 where
       pub steps : Steps ends channels a b
@@ -92,6 +93,7 @@ module _ {R A B S N I O C K : Type 0} (runs : Runs (EitherPort R A B) S N I O C 
       pub full : AreToldInFull sink Means moments heard talk steps.ran.goes.manned.crew.shares.items steps.ran.goes.homes (passes_of channels)
           steps.ran.goes.manned.crew.jobs steps.ran.goes.joins.returned steps.ran.goes.settled
       pub rolled : RolledTold plan.sinks.items steps.ran.goes.manned.crew.jobs.sinks.items (passes_of channels) a.folders b.folders
+      pub dialed : DialedTold plan.sinks.items steps.ran.goes.manned.crew.jobs.sinks.items (passes_of channels) a.state b.state
       pub causes : CausesTold plan (run_status ends) (passes_of channels) a.state b.state
       pub workers : run_status ends ≡ 0
           → AreTold runs sink Means moments heard talk steps.ran.goes.manned.crew.shares.items steps.ran.goes.homes steps.ran.goes.manned.crew.jobs steps.ran.goes.joins.returned

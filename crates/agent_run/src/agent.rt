@@ -15,13 +15,14 @@ ghost use Rattle.agent_run.specs.Prepared.{IsPlanned, IsPrepared};
 ghost use Rattle.agent_outside.specs.Listening.{IsFresh};
 ghost use Rattle.agent_run.specs.Outside.{IsOutside};
 ghost use Rattle.agent_run.specs.NotBegun.{IsRefusedOutside, IsRunRefused};
-ghost use Rattle.agent_run.specs.Run.{CanListenAt, IsGivenBack};
+ghost use Rattle.agent_run.specs.Run.{CanDial, CanListenAt, DialsMayReturn, IsGivenBack};
 ghost use Rattle.agent_run.specs.Through.{AgentEndsAs, EndsAs, OpenedAndRan};
 ghost use Rattle.agent_run.specs.Errors.{IsBrokenCause, IsBrokenError, IsCauseError, IsRunStatus, IsSaid};
 
 use crate::assemble::Crew;
 use crate::joined::{Joined, run_crew};
 use crate::labels::add_ends;
+use crate::laws::runs_are_told;
 use crate::opening::{Manned, Opening, Room, man, room_of};
 use crate::outcome::ChannelEnd;
 use crate::outside::open_outside;
@@ -40,6 +41,7 @@ use agent_drafts::sinks_are_plain;
 use agent_end::RunEnds;
 use agent_outside::give_back_sinks;
 use agent_words::RunError;
+use avro_ends::{AvroSink, HasDialer};
 use channel_face::OpenCause;
 use file_channel::FileChannel;
 use flume_config::{ChannelKind, ChannelPlan, Plan, SinkPlan};
@@ -95,6 +97,8 @@ fn run_opened<'a, R: Threads + Wait + Sync + 'a, H: Host + 'a, K: Interceptor + 
         (H.state host.old).listeners }
     requires sinks { AreOpened (H.folders host.old) plan.now.sinks.items
         (length plan.now.sinks.items) }
+    requires dials { CanDial ⟦<AvroSink<H::Dialer> as HasDialer>⟧.dial (H.folders host.old)
+        plan.now.sinks.items opening.outside.sinks.items (H.state host.old).dialers }
     requires disks { AreOut (H.folders host.old) opening.prepared.wishes.items }
     requires settle { HasSettleRoom plan.now.channels.items (length plan.now.sinks.items)
         opening.settled }
@@ -134,6 +138,18 @@ fn run_opened<'a, R: Threads + Wait + Sync + 'a, H: Host + 'a, K: Interceptor + 
     );
     let settled = settle(rt, shares, homes, sinks, settled);
     closed_channels_fit::<FileChannel<H::Disk>, MemoryChannel>();
+    runs_are_told::<
+        'a,
+        R,
+        FileChannel<H::Disk>,
+        MemoryChannel,
+        SinkOf<H>,
+        H::Listener,
+        H::Source,
+        H::Sink,
+        H::Clock,
+        K,
+    >();
     let ends = give_rest(
         alloc,
         host,
@@ -158,6 +174,8 @@ fn give_rest<H: Host>(
     streams: StreamsEnded,
 ) -> RunEnds
     requires sinks { AreOpened (H.folders host.old) plans.now (length settled.sinks.items) }
+    requires dials { DialsMayReturn ⟦<AvroSink<H::Dialer> as HasDialer>⟧.dial
+        plans.now settled.sinks.items (H.state host.old).dialers }
     requires of { AreOfWishes (H.folders host.old) wishes.items settled.closed.items }
     requires room { length passes.old.items + length settled.closed.items
         ≤ vec_capacity passes.old }
@@ -166,7 +184,8 @@ fn give_rest<H: Host>(
     ensures input { result.input ≡ streams.input }
     ensures drains { result.drains ≡ settled.ends }
     ensures mends { result.mends ≡ settled.mends }
-    ensures back { IsGivenBack H.Roll.rolled H.Disk.told H.Disk.faults plans.now wishes.items settled
+    ensures back { IsGivenBack H.Roll.rolled
+        ⟦<AvroSink<H::Dialer> as HasDialer>⟧.dial H.Disk.told H.Disk.faults plans.now wishes.items settled
         streams.output_failed result.report
         (record { state = H.state host.old; folders = H.folders host.old })
         (record { state = H.state host.new; folders = H.folders host.new }) }
@@ -221,6 +240,7 @@ fn run_channels<'a, R: Threads + Wait + Sync + 'a, H: Host + 'a, K: Interceptor 
         (record { state = H.state host.new; folders = H.folders host.new })) }
     ensures ran { IfOk result (λ run. OpenedAndRan plan.now.channels.items opened.items prepared
         (λ old new outside. IsOutside H.Roll.rolled H.Roll.faults
+        ⟦<AvroSink<H::Dialer> as HasDialer>⟧.dial
         (IsFresh H.Listener.told H.Listener.endpoint H.Listener.waits H.Listener.faults)
         plan.now prepared.places.items old new outside.sinks.items outside.listeners.items)
         (⟦<RunOf<'a, R, H, K> as Goes<OpeningOf<H, K>>>⟧.goes plan.now)

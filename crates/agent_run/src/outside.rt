@@ -11,6 +11,7 @@ use agent_outside::{
     SourceListener, give_back_listeners, give_back_sinks, open_listeners, open_sinks,
 };
 use agent_sinks::AgentSink;
+use avro_ends::{AvroSink, HasDialer};
 use flume_config::{Plan, SourcePlan};
 use flume_host::{Host, NameRefused};
 use sink_runner::NullSink;
@@ -76,11 +77,12 @@ pub(crate) fn open_outside<H: Host>(
     plan: &Plan,
     places: &[usize],
     room: Vec<H::Listener>,
-) -> Result<Outside<AgentSink<H::Roll, NullSink, NullSink>, H::Listener>, NameRefused>
+) -> Result<Outside<AgentSink<H::Roll, AvroSink<H::Dialer>, NullSink>, H::Listener>, NameRefused>
     requires plain { All (λ sink. IsPlain sink.kind) plan.now.sinks.items }
     requires listen { All (ListensAt plan.now.sources.items) places.now }
     requires room { IsEmptyFor (length places.now) room }
     ensures opened { IfOk result (λ outside. IsOutside H.Roll.rolled H.Roll.faults
+        ⟦<AvroSink<H::Dialer> as HasDialer>⟧.dial
         (IsFresh H.Listener.told H.Listener.endpoint H.Listener.waits H.Listener.faults)
         plan.now places.now
         (record { state = H.state host.old; folders = H.folders host.old })

@@ -13,6 +13,7 @@ ghost use Rattle.std.specs.Prelude.{List};
 
 use crate::opening::Opening;
 use agent_sinks::AgentSink;
+use avro_ends::{AvroSink, HasDialer};
 use channel_face::Channel;
 use crew::{DrainWorker, Work};
 use event_core::Event;
@@ -55,7 +56,7 @@ pub struct RunOf<'a, R, H, K> {
 }
 
 /// The sinks of a run.
-pub(crate) type SinkOf<H> = AgentSink<<H as Host>::Roll, NullSink, NullSink>;
+pub(crate) type SinkOf<H> = AgentSink<<H as Host>::Roll, AvroSink<<H as Host>::Dialer>, NullSink>;
 
 /// The ports of a run's channels.
 pub(crate) type PortOf<'a, R, H> = EitherPort<'a, R, FileChannel<<H as Host>::Disk>, MemoryChannel>;
@@ -111,7 +112,8 @@ impl<'a, R: Threads + Wait + Sync + 'a, H: Host + 'a, K: Interceptor + Send + Dr
         (IsClosed ⟦<FileChannel<H::Disk> as Channel>⟧.stands
         ⟦<FileChannel<H::Disk> as Channel>⟧.tells
         ⟦<MemoryChannel as Channel>⟧.stands ⟦<MemoryChannel as Channel>⟧.tells))
-        (IsGivenBack H.Roll.rolled H.Disk.told H.Disk.faults plan.sinks.items) };
+        (IsGivenBack H.Roll.rolled
+        ⟦<AvroSink<H::Dialer> as HasDialer>⟧.dial H.Disk.told H.Disk.faults plan.sinks.items) };
 }
 
 impl<'a, R: Threads + Wait + Sync + 'a, H: Host + 'a, K: Interceptor + Send + Drop> Steps
@@ -123,6 +125,7 @@ impl<'a, R: Threads + Wait + Sync + 'a, H: Host + 'a, K: Interceptor + Send + Dr
     ghost steps = { λ plan ends channels a b.
         PlanRan plan (IsDrafted a.state.name a.state.address plan)
         (λ prepared old new outside. IsOutside H.Roll.rolled H.Roll.faults
+        ⟦<AvroSink<H::Dialer> as HasDialer>⟧.dial
         (IsFresh H.Listener.told H.Listener.endpoint H.Listener.waits H.Listener.faults)
         plan prepared.places.items old new outside.sinks.items outside.listeners.items)
         (⟦<RunOf<'a, R, H, K> as Goes<OpeningOf<H, K>>>⟧.goes plan)
@@ -151,11 +154,13 @@ impl<'a, R: Threads + Wait + Sync + 'a, H: Host + 'a, K: Interceptor + Send + Dr
         ⟦<MemoryChannel as Channel>⟧.stands ⟦<MemoryChannel as Channel>⟧.tells
         plan (IsDrafted a.state.name a.state.address plan)
         (λ prepared old new outside. IsOutside H.Roll.rolled H.Roll.faults
+        ⟦<AvroSink<H::Dialer> as HasDialer>⟧.dial
         (IsFresh H.Listener.told H.Listener.endpoint H.Listener.waits H.Listener.faults)
         plan prepared.places.items old new outside.sinks.items outside.listeners.items)
         (λ manned. AreBack H.Listener.told H.Listener.waits H.Listener.faults
         plan.sources.items manned.places.items)
-        (IsGivenBack H.Roll.rolled H.Disk.told H.Disk.faults plan.sinks.items)
+        (IsGivenBack H.Roll.rolled
+        ⟦<AvroSink<H::Dialer> as HasDialer>⟧.dial H.Disk.told H.Disk.faults plan.sinks.items)
         ends channels a b };
 }
 

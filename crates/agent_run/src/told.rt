@@ -9,8 +9,9 @@ ghost use Rattle.agent_run.specs.declared.outcome.ChannelEnd.{ChannelEnd};
 
 use crate::laws::{lines_stay_told, runs_are_told, workers_ran};
 use crate::through::{RunOf, Runs, SinkOf, Steps};
+use avro_requests::requests_are_on_links;
 use file_channel::FileChannel;
-use flume_host::Host;
+use flume_host::{Dialer, Host};
 use memory_channel::MemoryChannel;
 use netcat_source::one_cut;
 use plug_in::Interceptor;
@@ -19,7 +20,7 @@ use std::sync::Wait;
 use std::thread::Threads;
 
 /// What the steps of a run come to: in all calls of its channels those of each worker are told of, the folders of rolled files hold what
-/// the calls of their sinks commit, and the status has its causes. At status 0 it is told what the channels' folders hold, what the report
+/// the calls of their sinks commit, the links of Avro sinks took the requests of what these commit, and the status has its causes. At status 0 it is told what the channels' folders hold, what the report
 /// says, which sinks emptied their channels, and what was said on standard input and output.
 pub fn steps_are_told<
     'a,
@@ -68,6 +69,7 @@ pub fn steps_are_told<
         K,
     >();
     delivered_batches_are_in_files();
+    requests_are_on_links::<H::Dialer, <<H as Host>::Dialer as Dialer>::Link>();
     one_cut();
 }
 

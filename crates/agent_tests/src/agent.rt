@@ -113,8 +113,13 @@ pub struct Written {
 }
 
 pub fn is_written(host: &MemHost, want: &Written) -> bool {
-    match number_in(written(host), want.front.as_bytes(), want.end.as_bytes()) {
-        Some(takes) => takes >= want.least,
+    is_between(host, want.front, want.least, want.end)
+}
+
+// Whether at least this number was written between a front and an end.
+pub fn is_between(host: &MemHost, front: &str, least: u64, end: &str) -> bool {
+    match number_in(written(host), front.as_bytes(), end.as_bytes()) {
+        Some(number) => number >= least,
         None => false,
     }
 }
@@ -473,11 +478,11 @@ const REFUSED: [Refused; 6] = [
         ("c2.type = file", "c2.type = kafka"),
         (2, "flume: line 11: unknown type"),
     ),
-    // An Avro sink is not run yet.
+    // An Avro source is not run yet.
     (
         &["agent", "-n", "a1", "--conf-file", "x.conf"],
-        AS_IS,
-        (2, "flume: line 16: unsupported"),
+        ("r1.type = netcat", "r1.type = avro"),
+        (2, "flume: line 5: unsupported"),
     ),
     // A sink that nobody handed in.
     (

@@ -5,6 +5,8 @@
 #[cfg(test)]
 mod agent;
 #[cfg(test)]
+mod avro;
+#[cfg(test)]
 mod beside;
 #[cfg(test)]
 mod check;

@@ -3,8 +3,10 @@ ghost use Rattle.std.specs.Prelude.{◌≡◌, ◌+◌, ◌≤◌, ◌<◌, Some
 ghost use Rattle.flume_host.specs.Causes.{Rose};
 ghost use Rattle.flume_host.specs.Listens.{IsOwed, IsSettled, gave_one, kept_in, refused_link};
 ghost use Rattle.plug_in.specs.Sinks.{IsRefused};
+ghost use Rattle.avro_ends.specs.Dialing.{closed_links};
 ghost use Rattle.avro_ends.specs.Deliveries.{WentBack, Connects, Delivers, HasBack, IsOut, StaysOrWentBack, SinkLinks, OpenWentBack, Stands, Stands-prop, last_of, said, sink_answer, stays};
 
+use crate::dialing::HasDialer;
 use crate::dials::Dials;
 use crate::exchange::{exchange, request_of};
 use crate::open::Open;
@@ -197,9 +199,12 @@ impl<D: Dialer + Drop> AvroSink<D> {
     }
 
     /// Hands the dialer back, which has the open link back.
+    #[tactic(auto, using(crate::proofs::Closing::closed_tells, crate::proofs::Closing::closed_counts))]
     pub fn close(self) -> D
         ensures shuts { OpenWentBack D.told D.faults D.Link.told D.Link.faults self.dialer self.opened
             (record { dialer = result; opened = None }) }
+        ensures told { D.told result ≡ closed_links D.told D.Link.told self.dialer self.opened }
+        ensures count { D.faults result ≡ D.faults self.dialer }
         ensures back { HasBack (D.told self.dialer) self.opened → IsSettled (D.told result) }
         ensures endpoint { D.endpoint result ≡ D.endpoint self.dialer }
     {
@@ -212,6 +217,20 @@ impl<D: Dialer + Drop> AvroSink<D> {
         shut(&mut dialer, &mut opened);
         dialer
     }
+}
+
+impl<D: Dialer + Drop> HasDialer for AvroSink<D> {
+    ghost use Rattle.std.specs.Prelude.{◌≡◌, None};
+    ghost use Rattle.avro_ends.specs.Deliveries.{HasBack};
+    ghost use Rattle.avro_ends.specs.Dialing.{closed_links};
+
+    ghost dial = { record {
+      endpoint = λ s. D.endpoint s.dialer;
+      links = λ s. closed_links D.told D.Link.told s.dialer s.opened;
+      faults = λ s. D.faults s.dialer;
+      IsIdle = λ s. s.opened ≡ None;
+      HasAllBack = λ s. HasBack (D.told s.dialer) s.opened;
+    } };
 }
 
 impl<D: Dialer + Drop> EventSink for AvroSink<D> {

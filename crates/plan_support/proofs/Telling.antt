@@ -9,7 +9,7 @@ use Rattle.flume_config.specs.declared.plan.StepPlan.{StepPlan}
 use Rattle.flume_config.specs.declared.plan.StepPlan.TheVariants.{Step, Regex, Plugin}
 use Rattle.flume_config.specs.declared.plan.SinkPlan.{SinkPlan}
 use Rattle.flume_config.specs.declared.plan.GroupPlan.{GroupPlan}
-use Rattle.plan_support.specs.Least.{HasNoPlugin, HasOwnSteps, IsOwn, IsSupported, TakesLines, first_plugin, group_lines, is_avro, is_plugin, line_at, nearer, plugin_lines, sink_avro_lines, sink_plugin_lines, source_avro_lines, source_plugin_lines, takes_avro, unsupported}
+use Rattle.plan_support.specs.Least.{HasNoPlugin, HasOwnSteps, IsOwn, IsSupported, TakesLines, first_plugin, group_lines, is_plugin, line_at, nearer, plugin_lines, sink_plugin_lines, source_avro_lines, source_plugin_lines, takes_avro, unsupported}
 
 -- ---- lists
 
@@ -87,12 +87,9 @@ no_member sinks (place ∷ places) is = absurd (no_cons (line_at sinks place) (m
 pub none_unsupported : (plan : Plan) → unsupported plan ≡ None → IsSupported plan
 none_unsupported plan is =
     let sources = flat_map source_avro_lines plan.sources.items in
-    let sinks = flat_map sink_avro_lines plan.sinks.items in
     let groups = flat_map (group_lines plan.sinks.items) plan.groups.items in
-    let none = no_lines (sources ++ (sinks ++ groups)) is in
-    let behind = nil_back sources (sinks ++ groups) none in
+    let none = no_lines (sources ++ groups) is in
     record {
-      sources = each_none source_avro_lines (λ (s : SourcePlan). TakesLines s.kind) (λ s no. takes_lines s.kind (untold (takes_avro s.kind) s.line no)) plan.sources.items (nil_front sources (sinks ++ groups) none);
-      sinks = each_none sink_avro_lines (λ (s : SinkPlan). is_avro s.kind ≡ false) (λ s no. untold (is_avro s.kind) s.line no) plan.sinks.items (nil_front sinks groups behind);
-      groups = each_none (group_lines plan.sinks.items) (λ (g : GroupPlan). g.sinks.items ≡ []) (λ g no. no_member plan.sinks.items g.sinks.items no) plan.groups.items (nil_back sinks groups behind);
+      sources = each_none source_avro_lines (λ (s : SourcePlan). TakesLines s.kind) (λ s no. takes_lines s.kind (untold (takes_avro s.kind) s.line no)) plan.sources.items (nil_front sources groups none);
+      groups = each_none (group_lines plan.sinks.items) (λ (g : GroupPlan). g.sinks.items ≡ []) (λ g no. no_member plan.sinks.items g.sinks.items no) plan.groups.items (nil_back sources groups none);
     }

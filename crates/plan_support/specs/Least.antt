@@ -65,16 +65,6 @@ takes_avro (source.Stdin max_line ack) = false
 abbrev pub source_avro_lines : SourcePlan → List ℕ
 source_avro_lines s = if takes_avro s.kind then s.line ∷ [] else []
 
--- it makes Avro calls
-abbrev pub is_avro : SinkKind → Bool
-is_avro Null = false
-is_avro (Roll folder interval) = false
-is_avro (Avro host port) = true
-is_avro (Plugin name) = false
-
-abbrev pub sink_avro_lines : SinkPlan → List ℕ
-sink_avro_lines s = if is_avro s.kind then s.line ∷ [] else []
-
 -- the line of the sink at a place, which is one of these, and else 0
 abbrev pub line_at : List SinkPlan → ℕ → ℕ
 line_at sinks place = slice_index (map (λ (s : SinkPlan). s.line) sinks) place
@@ -85,8 +75,7 @@ group_lines sinks g = map (line_at sinks) (take 1 g.sinks.items)
 
 -- the least of those lines
 abbrev pub unsupported : Plan → Option ℕ
-unsupported p = fold nearer None (flat_map source_avro_lines p.sources.items
-    ++ (flat_map sink_avro_lines p.sinks.items ++ flat_map (group_lines p.sinks.items) p.groups.items))
+unsupported p = fold nearer None (flat_map source_avro_lines p.sources.items ++ flat_map (group_lines p.sinks.items) p.groups.items)
 
 -- it takes lines
 abbrev pub TakesLines : SourceKind → Type 0
@@ -94,8 +83,7 @@ TakesLines (source.Netcat bind port max_line ack threads) = Unit {0}
 TakesLines (source.Avro bind port threads) = ⊥
 TakesLines (source.Stdin max_line ack) = Unit {0}
 
--- each source takes lines, no sink makes Avro calls, and no group has a sink
+-- each source takes lines, and no group has a sink
 pub record IsSupported (p : Plan) : Type 0 where
   pub sources : All (λ s. TakesLines s.kind) p.sources.items
-  pub sinks : All (λ s. is_avro s.kind ≡ false) p.sinks.items
   pub groups : All (λ g. g.sinks.items ≡ []) p.groups.items

@@ -1,6 +1,6 @@
 // The least line of what an agent does not run.
 ghost use Rattle.std.specs.Prelude.{◌≡◌, IfNone, None, flat_map, fold};
-ghost use Rattle.plan_support.specs.Least.{HasNoPlugin, IsSupported, first_plugin, group_lines, is_avro, is_plugin, line_at, nearer, plugin_lines, sink_avro_lines, sink_plugin_lines, source_avro_lines, source_plugin_lines, takes_avro, unsupported};
+ghost use Rattle.plan_support.specs.Least.{HasNoPlugin, IsSupported, first_plugin, group_lines, is_plugin, line_at, nearer, plugin_lines, sink_plugin_lines, source_avro_lines, source_plugin_lines, takes_avro, unsupported};
 
 use flume_config::{GroupPlan, Plan, SinkKind, SinkPlan, SourceKind, SourcePlan, StepPlan};
 
@@ -85,25 +85,6 @@ fn nearest_avro_source(sources: &[SourcePlan]) -> Option<u32>
     first
 }
 
-fn is_avro(kind: &SinkKind) -> bool
-    ensures { result ≡ is_avro kind.now }
-{
-    matches!(kind, SinkKind::Avro { .. })
-}
-
-// The nearest of a line and those of the sinks that make Avro calls.
-fn nearest_avro_sink(first: Option<u32>, sinks: &[SinkPlan]) -> Option<u32>
-    ensures { result ≡ fold nearer first (flat_map sink_avro_lines sinks.now) }
-{
-    let mut first = first;
-    for sink in sinks {
-        if is_avro(&sink.kind) {
-            first = nearer(first, sink.line);
-        }
-    }
-    first
-}
-
 // The line of the sink at a place.
 fn line_at(sinks: &[SinkPlan], place: u32) -> u32
     ensures { result ≡ line_at sinks.now place }
@@ -138,14 +119,12 @@ fn nearest_group(first: Option<u32>, sinks: &[SinkPlan], groups: &[GroupPlan]) -
     first
 }
 
-/// The least line of what a run of an agent does not support yet: a source or a sink of Avro, and the first sink of a group, as a
-/// group has no line of its own. Where there is none, the plan has no source and no sink of Avro, and no group with a sink.
+/// The least line of what a run of an agent does not support yet: a source of Avro, and the first sink of a group, as a group has no
+/// line of its own. Where there is none, the plan has no source of Avro and no group with a sink.
 pub fn unsupported(plan: &Plan) -> Option<u32>
     ensures least { result ≡ unsupported plan.now }
     ensures none { IfNone result (IsSupported plan.now) }
 {
-    let sinks = plan.sinks.as_slice();
     let first = nearest_avro_source(plan.sources.as_slice());
-    let first = nearest_avro_sink(first, sinks);
-    nearest_group(first, sinks, plan.groups.as_slice())
+    nearest_group(first, plan.sinks.as_slice(), plan.groups.as_slice())
 }

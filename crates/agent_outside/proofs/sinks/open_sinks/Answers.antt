@@ -1,22 +1,51 @@
-use Rattle.std.proofs.Common.{◌≡◌, ◌<◌, ◌∙◌, ℕ, List, [], ◌∷◌, length, get_or, sym, ap, subst, arith, length-append}
+use Rattle.std.proofs.Common.{◌≡◌, ◌<◌, ◌∙◌, ℕ, [], ◌∷◌, length, get_or, sym, ap, subst, arith, length-append}
 use Rattle.flume_config.specs.declared.plan.SinkPlan.{SinkPlan}
-use Rattle.agent_sinks.specs.declared.sink.AgentSink.{AgentSink}
 use Rattle.agent_outside.specs.Backs.{RollsBack}
-use Rattle.agent_outside.specs.Sinks.{AreOpened, SinkAdded, SinkUnopened, backs_of}
+use Rattle.agent_outside.specs.Dials.{AreDialed, DialersBack, DialersOut, DialsOpened, dial_of as dial_by, dials_back}
+use Rattle.agent_outside.specs.Ends.{AreOut, ends_of}
+use Rattle.agent_outside.specs.Sinks.{AreOpened, SinkAdded, SinkUnopened, SinksOpened, backs_of}
 use Rattle.agent_outside.proofs.Backing.{reopened_marks}
+use Rattle.agent_outside.proofs.Dialing.{are_dialed, dialed_more, dials_may_come_back, none_dialed}
 use Rattle.agent_outside.proofs.Ordering.{are_later, are_opened}
-use Rattle.agent_outside.proofs.Opening.{opened_more, refused_at}
+use Rattle.agent_outside.proofs.Opening.{none_opened, opened_more, refused_at}
+use Rattle.agent_outside.proofs.sinks.open_sinks.Invariants.{dial_of}
 use Rattle.agent_outside.proofs.sinks.open_sinks.Goals as goal
 
-pub give_back_sinks-requires-after_bounds : goal.give_back_sinks-requires-after_bounds
-give_back_sinks-requires-after_bounds g c κs within =
+pub loop-plan-init : goal.loop-plan-init
+loop-plan-init g c =
+    let plans = c.args.plans.now in
+    let folders = g.H.Host.folders c.args.host.now in
+    let state = g.H.Host.state c.args.host.now in
+    let none = sym c.new-sinks.ensures.items in
+    record {
+      many = ap length c.new-sinks.ensures.items;
+      opened = subst (λ l. SinksOpened g.H.Roll.RollDir.rolled g.H.Roll.RollDir.faults plans folders folders l) none (none_opened g.H.Roll.RollDir.rolled g.H.Roll.RollDir.faults (dial_of g) plans folders);
+      dialed = subst (λ l. DialsOpened (dial_of g) plans state state l) none (none_dialed (dial_of g) plans state);
+    }
+
+pub give_back_sinks-requires-clause-opened : goal.give_back_sinks-requires-clause-opened
+give_back_sinks-requires-clause-opened g c κs within =
     let plans = c.args.plans.now in
     let old = g.H.Host.folders c.loop-plan.host in
     let new = g.H.Host.folders c.add_sink.new.host in
     let un = c.in-Err.ensures.refused in
-    subst (λ (l : List (AgentSink g.row.H-Roll.Denot g.row.A.Denot g.row.B.Denot)). AreOpened new plans (length l)) (sym c.in-Err.ensures.same)
+    subst (λ l. AreOpened new plans (length l)) (sym c.in-Err.ensures.same)
     (are_opened new plans c.loop-plan.sinks.items
-    (are_later old new (reopened_marks un.paths old new un.back) plans c.loop-plan.sinks.items c.loop-plan.invariant.opened.are))
+    (are_later old new (reopened_marks _ old new un.folders) plans c.loop-plan.sinks.items c.loop-plan.invariant.opened.are))
+
+pub give_back_sinks-requires-clause-dialed : goal.give_back_sinks-requires-clause-dialed
+give_back_sinks-requires-clause-dialed g c κs within =
+    let plans = c.args.plans.now in
+    subst (λ l. AreDialed (dial_of g) plans l) (sym c.in-Err.ensures.same)
+    (are_dialed (dial_of g) (g.H.Host.state c.args.host.now).dialers plans c.loop-plan.sinks.items c.loop-plan.invariant.dialed.made)
+
+pub give_back_sinks-requires-clause-out : goal.give_back_sinks-requires-clause-out
+give_back_sinks-requires-clause-out g c κs within =
+    let plans = c.args.plans.now in
+    let inv = c.loop-plan.invariant in
+    let new = g.H.Host.state c.add_sink.new.host in
+    subst (λ l. AreOut (ends_of (dials_back (dial_of g) plans l)) new.dialers) (sym c.in-Err.ensures.same)
+    (dials_may_come_back (dial_of g) plans (g.H.Host.folders c.loop-plan.host) _ _ (g.H.Host.state c.args.host.now) (g.H.Host.state c.loop-plan.host) new c.loop-plan.sinks.items inv.opened.are inv.dialed c.in-Err.ensures.refused.dials)
 
 pub returns-in-Err-clause-refused : goal.returns-in-Err-clause-refused
 returns-in-Err-clause-refused g c =
@@ -29,11 +58,16 @@ returns-in-Err-clause-refused g c =
     let old = g.H.Host.folders c.loop-plan.host in
     let new = g.H.Host.folders c.add_sink.new.host in
     let end = g.H.Host.folders c.give_back_sinks.new.host in
+    let s = g.H.Host.state c.args.host.now in
+    let t = g.H.Host.state c.loop-plan.host in
+    let u = g.H.Host.state c.add_sink.new.host in
+    let v = g.H.Host.state c.give_back_sinks.new.host in
     let below : length sinks < length plans = let many = inv.many in let test = c.loop-plan-test.true in omega arith in
     let is : plan ≡ get_or plans (length sinks) plan = c.plan-item.is ∙ ap (λ (n : ℕ). get_or plans n plan) (sym inv.many) in
-    refused_at rolled g.H.Roll.RollDir.faults plans start old new end sinks plan below inv.opened
-    (subst (λ (p : SinkPlan). SinkUnopened p.kind old new) is c.in-Err.ensures.refused)
-    (subst (λ (l : List (AgentSink g.row.H-Roll.Denot g.row.A.Denot g.row.B.Denot)). RollsBack (backs_of rolled plans l) new end) c.in-Err.ensures.same c.give_back_sinks.ensures.folders)
+    refused_at rolled g.H.Roll.RollDir.faults (dial_of g) plans c.in-Err.refused start old new end s t u v sinks plan below inv.opened inv.dialed
+    (subst (λ (p : SinkPlan). SinkUnopened p c.in-Err.refused old new t u) is c.in-Err.ensures.refused)
+    (subst (λ l. RollsBack (backs_of rolled plans l) new end) c.in-Err.ensures.same c.give_back_sinks.ensures.folders)
+    (subst (λ l. DialersBack (dials_back (dial_of g) plans l) u v) c.in-Err.ensures.same c.give_back_sinks.ensures.dials)
 
 pub loop-plan-preserved : goal.loop-plan-preserved
 loop-plan-preserved g c =
@@ -46,12 +80,16 @@ loop-plan-preserved g c =
     let start = g.H.Host.folders c.args.host.now in
     let old = g.H.Host.folders c.loop-plan.host in
     let new = g.H.Host.folders c.add_sink.new.host in
+    let s = g.H.Host.state c.args.host.now in
+    let t = g.H.Host.state c.loop-plan.host in
+    let u = g.H.Host.state c.add_sink.new.host in
     let after = c.add_sink.new.sinks.items in
-    let added = c.in_default.ensures.added in
     let below : length sinks < length plans = let many = inv.many in let test = c.loop-plan-test.true in omega arith in
     let is : plan ≡ get_or plans (length sinks) plan = c.plan-item.is ∙ ap (λ (n : ℕ). get_or plans n plan) (sym inv.many) in
+    let added = subst (λ (p : SinkPlan). SinkAdded rolled faults (dial_of g) p t.dialers old new sinks after) is c.in_default.ensures.added in
+    let out = subst (λ (p : SinkPlan). DialersOut (dial_by p.kind) t u) is c.in_default.ensures.dials in
     record {
       many = let many = inv.many in let one = ap length added.is ∙ length-append sinks (added.sink ∷ []) in omega (arith, one);
-      opened = opened_more rolled faults plans start old new sinks after plan below inv.opened (subst (λ (p : SinkPlan). SinkAdded rolled faults p.kind old new sinks after) is added);
-      state = c.in_default.ensures.state ∙ inv.state;
+      opened = opened_more rolled faults (dial_of g) plans t.dialers start old new sinks after plan below inv.opened added;
+      dialed = dialed_more (dial_of g) plans s t u sinks after added.sink plan below inv.dialed added.dialed added.is out;
     }

@@ -28,7 +28,7 @@ returns-clause-back g c =
     record {
       behind_sinks = sunk;
       behind_disks = shut;
-      state = c.give_back_sinks.ensures.state;
+      dials = c.give_back_sinks.ensures.dials;
       rolls = c.give_back_sinks.ensures.folders;
       rests = subst (λ (l : List (EitherClosed (g.row.H-Disk.Denot × FileState) MemoryChannel)). All (IsAtRest g.H.Disk.Disk.told g.H.Disk.Disk.faults) l) c.as_slice.ensures.value c.channels_rest.ensures;
       disks = subst (λ (w : List ChannelWish). DisksBack (backs_of g.H.Disk.Disk.told g.H.Disk.Disk.faults w c.args.settled.closed.items) sunk shut) c.as_slice-2.ensures.value c.close_channels.ensures.back;

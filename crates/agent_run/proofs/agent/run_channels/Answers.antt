@@ -9,6 +9,7 @@ use Rattle.agent_channels.specs.declared.wish.ChannelWish.{ChannelWish}
 use Rattle.agent_run.specs.Outside.{OutsideRefused, WithPlaces}
 use Rattle.agent_run.specs.Run.{CanListenAt}
 use Rattle.agent_run.proofs.Answering.{outside_at}
+use Rattle.agent_run.proofs.Dialing.{can_dial}
 use Rattle.agent_run.proofs.Naming.{given_back}
 use Rattle.agent_run.proofs.Readying.{can_be_manned, still_out}
 use Rattle.agent_run.proofs.agent.run_channels.Goals as goal
@@ -28,7 +29,7 @@ run_opened-requires-clause-listen g c κs within =
     let sources = c.args.plan.now.sources.items in
     let all = (g.H.Host.state c.open_outside.new.host).listeners in
     let back = given_back g.H.Listener.Listener.told g.H.Listener.Listener.endpoint g.H.Listener.Listener.waits g.H.Listener.Listener.faults sources c.as_slice.result.now bare out.named
-    (g.H.Host.state c.args.host.now) (g.H.Host.state c.open_outside.new.host) out.with_places out.opened in
+    out.between (g.H.Host.state c.open_outside.new.host) out.with_places out.opened in
     subst (λ (l : List ℕ). CanListenAt g.H.Listener.Listener.endpoint sources l bare all) c.as_slice.ensures.value
     (record {
       listen = subst (λ (l : List ℕ). All (ListensAt sources) l) (sym c.as_slice.ensures.value) c.requires.prepared.listen;
@@ -42,6 +43,9 @@ run_opened-requires-clause-sinks g c κs within =
     let sinks = c.in-Ok.outside.sinks.items in
     let folders = g.H.Host.folders c.open_outside.new.host in
     subst (λ (n : ℕ). AreOpened folders c.args.plan.now.sinks.items n) out.many (are_opened folders c.args.plan.now.sinks.items sinks out.sinks.are)
+
+pub run_opened-requires-clause-dials : goal.run_opened-requires-clause-dials
+run_opened-requires-clause-dials g c κs within = can_dial _ _ _ _ c.args.plan.now c.as_slice.result.now _ _ c.in-Ok.outside.sinks.items c.in-Ok.outside.listeners.items c.in-Ok.ensures.opened
 
 pub run_opened-requires-clause-disks : goal.run_opened-requires-clause-disks
 run_opened-requires-clause-disks g c κs within =

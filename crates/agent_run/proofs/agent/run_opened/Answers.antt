@@ -1,4 +1,4 @@
-use Rattle.std.proofs.Common.{◌≡◌, ◌∙◌, ◌≤◌, ℕ, List, Option, All, length, map, sym, ap, subst}
+use Rattle.std.proofs.Common.{◌≡◌, ◌∙◌, ◌≤◌, ℕ, List, None, Option, All, refl, length, map, sym, ap, subst}
 use Rattle.std.specs.Vec.{vec_capacity, with_items}
 use Rattle.std.specs.declared.alloc.Global.{Global}
 use Rattle.std.specs.declared.vec.Vec.{Vec}
@@ -27,14 +27,35 @@ use Rattle.agent_run.specs.Outside.{AreFrom}
 use Rattle.agent_run.specs.Runs.{AreWorkers, owners_of}
 use Rattle.agent_run.specs.declared.labels.ChannelLabel.{ChannelLabel}
 use Rattle.agent_run.specs.declared.settle.Settled.{Settled}
+use Rattle.agent_run.specs.Run.{CanDial, DialsMayReturn}
 use Rattle.agent_run.proofs.Closing.{closed_of}
+use Rattle.agent_run.proofs.Asking.{agent_stays}
+use Rattle.agent_run.proofs.Dialing.{may_return}
+use Rattle.agent_run.proofs.agent.run_opened.Given.{Over}
+use Rattle.avro_ends.specs.Deliveries.{HasBack, SinkLinks}
+use Rattle.avro_ends.specs.Dialing.{DialTold, closed_links}
+use Rattle.avro_ends.specs.declared.sink.AvroSink.{AvroSink}
 use Rattle.agent_run.proofs.Manning.{room_for}
 use Rattle.agent_run.proofs.Owning.{own_kept}
 use Rattle.agent_run.proofs.Resting.{closed_of_wishes, drained_many, ends_fit, from_many, homes_many, labels_fit, names_many, only_passes, passes_fit}
 use Rattle.agent_run.proofs.Joining.{zips_long}
-use Rattle.agent_run.proofs.Throughout.{back_same, joined_same, settled_same}
+use Rattle.agent_run.proofs.Throughout.{back_same, joined_same, returned_same, settled_same}
 use Rattle.agent_run.specs.Staff.{IsSinkOf}
 use Rattle.agent_run.proofs.agent.run_opened.Goals as goal
+
+-- what the Avro sinks of the host tell of their dialers
+abbrev dial_of : (g : Over) → DialTold (AvroSink g.row.H-Dialer.Denot g.row.H-Dialer-Link.Denot g.H.Dialer.Dialer g.H.Dialer.Link.Link)
+dial_of g = record {
+  endpoint = λ s. g.H.Dialer.Dialer.endpoint s.dialer;
+  links = λ s. closed_links g.H.Dialer.Dialer.told g.H.Dialer.Link.Link.told s.dialer s.opened;
+  faults = λ s. g.H.Dialer.Dialer.faults s.dialer;
+  IsIdle = λ s. s.opened ≡ None;
+  HasAllBack = λ s. HasBack (g.H.Dialer.Dialer.told s.dialer) s.opened;
+}
+
+-- the dialer of one, and the link that is open
+abbrev links_of : (g : Over) → AvroSink g.row.H-Dialer.Denot g.row.H-Dialer-Link.Denot g.H.Dialer.Dialer g.H.Dialer.Link.Link → SinkLinks g.row.H-Dialer.Denot g.row.H-Dialer-Link.Denot
+links_of g s = record { dialer = s.dialer; opened = s.opened }
 
 pub man-crew-requires-clause-can : goal.man-crew-requires-clause-can
 man-crew-requires-clause-can g c κs within =
@@ -161,6 +182,30 @@ give_rest-ends-requires-clause-sinks g c κs within =
     let folders = c.run_crew-sinks.ensures.folders ∙ c.man-crew.ensures.folders in
     subst (λ (x : Folders × List SinkPlan × ℕ). AreOpened x.0 x.1 x.2) (λ i. (sym folders i, sym c.as_slice-5.ensures.value i, sym many i)) c.requires.sinks
 
+pub give_rest-ends-requires-clause-dials : goal.give_rest-ends-requires-clause-dials
+give_rest-ends-requires-clause-dials g c κs within =
+    let is = c.man-crew.ensures.manned in
+    let homes = c.man-crew.result.crew.homes in
+    let size : length c.run_crew-sinks.new.homes ≡ homes.len = c.run_crew-sinks.ensures.kept.as_many ∙ ap length c.as_mut_slice.ensures.value ∙ sym homes.ok.0 in
+    let dealt = subst (λ (l : List Known). AreDealt l (owners_of c.man-crew.result.crew.jobs)) (sym c.as_mut_slice.ensures.value) is.dealt in
+    let many : length homes.items ≡ length c.args.plan.now.channels.items = homes_many c.as_slice.result.now c.args.opening c.man-crew.result (subst (λ (p : List SinkPlan). CanBeManned p c.args.opening) (sym c.as_slice.ensures.value) c.requires.can) is ∙ c.requires.many in
+    let all = ap (λ (s : HostState). s.dialers) c.run_crew-sinks.ensures.rest ∙ ap (λ (s : HostState). s.dialers) c.man-crew.ensures.rest in
+    let joins = c.run_crew-sinks.ensures.joined in
+    let may = may_return _ _ _ _ _ _ _ _ _ _ _ (dial_of g) c.runs_are_told.ensures (λ s batch moment answer t one. agent_stays g.H.Roll.RollDir.rolled (links_of g) g.H.Dialer.Dialer.told g.H.Dialer.Dialer.faults g.H.Dialer.Link.Link.told g.H.Dialer.Link.Link.faults g.H.Dialer.Dialer.endpoint
+    batch moment answer (dial_of g) (λ x. refl) s t one)
+    c.args.plan.now.sinks.items c.args.opening c.man-crew.result c.run_crew-sinks.new.homes c.run_crew-sinks.result joins.returned c.settle-settled.result
+    (subst (λ (p : List SinkPlan). IsManned p c.args.opening c.man-crew.result) c.as_slice.ensures.value is)
+    (subst (λ (l : List Known). EachTook l c.run_crew-sinks.new.homes) c.as_mut_slice.ensures.value c.run_crew-sinks.ensures.kept)
+    (c.run_crew-sinks.ensures.all dealt)
+    (returned_same _ _ _ _ _ _ c.run_crew-sinks.new.homes c.man-crew.result.crew.jobs joins.returned _ _ c.as_slice-4.ensures.value joins.back)
+    joins.sinks c.run_crew-sinks.ensures.home
+    (ap (λ (r : Settled _ _ _). length r.report.items) is.settled ∙ names_many c.args.plan.now.channels.items c.args.opening.settled.report.items c.requires.settle.report ∙ sym (size ∙ homes.ok.0 ∙ many))
+    (settled_same _ _ _ c.man-crew.result.crew.shares.items c.run_crew-sinks.result.sinks.items c.man-crew.result.settled.report.items c.settle-settled.result _ _
+    (with_items_is homes c.run_crew-sinks.new.homes size) c.settle-settled.ensures.settled)
+    (g.H.Host.folders c.args.host.now) (g.H.Host.state c.run_crew-sinks.new.host).dialers
+    (subst (λ (l : Option HandedOut). CanDial (dial_of g) (g.H.Host.folders c.args.host.now) c.args.plan.now.sinks.items c.args.opening.outside.sinks.items l) (sym all) c.requires.dials) in
+    subst (λ (p : List SinkPlan). DialsMayReturn (dial_of g) p c.settle-settled.result.sinks.items (g.H.Host.state c.run_crew-sinks.new.host).dialers) (sym c.as_slice-5.ensures.value) may
+
 pub give_rest-ends-requires-clause-of : goal.give_rest-ends-requires-clause-of
 give_rest-ends-requires-clause-of g c κs within =
     let is = c.man-crew.ensures.manned in
@@ -216,7 +261,7 @@ returns g c =
       settled = c.settle-settled.result;
       settles = settled_same _ _ _ c.man-crew.result.crew.shares.items c.run_crew-sinks.result.sinks.items c.man-crew.result.settled.report.items c.settle-settled.result _ _
           (with_items_is homes c.run_crew-sinks.new.homes size) c.settle-settled.ensures.settled;
-      back = back_same _ _ _ c.man-crew.result.wishes.items c.settle-settled.result _ _ _ _ _ _ _ _ c.as_slice-5.ensures.value (c.run_crew-sinks.ensures.folders ∙ c.man-crew.ensures.folders) c.give_rest-ends.ensures.back;
+      back = back_same _ _ _ _ c.man-crew.result.wishes.items c.settle-settled.result _ _ _ _ _ _ _ _ c.as_slice-5.ensures.value (c.run_crew-sinks.ensures.folders ∙ c.man-crew.ensures.folders) c.give_rest-ends.ensures.back;
       input = c.give_rest-ends.ensures.input;
       drains = c.give_rest-ends.ensures.drains;
       mends = c.give_rest-ends.ensures.mends;

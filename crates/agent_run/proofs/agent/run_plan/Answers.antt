@@ -2,7 +2,7 @@ use Rattle.std.proofs.Common.{rules, ◌≡◌, ◌∙◌, ◌<◌, inl, inr, �
 use Rattle.agent_channels.specs.Openings.{HostTold}
 use Rattle.agent_channels.specs.Several.{AreOpened}
 use Rattle.agent_channels.specs.declared.wish.ChannelWish.{ChannelWish}
-use Rattle.plan_support.specs.Least.{IsSupported, unsupported}
+use Rattle.plan_support.specs.Least.{unsupported}
 use Rattle.agent_words.specs.Statuses.{status_of}
 use Rattle.agent_words.specs.declared.error.RunError.{RunError}
 use Rattle.agent_run.proofs.Readying.{few_users, were_opened}
@@ -20,8 +20,7 @@ open_channels-requires-clause-users g c κs within =
 
 pub run_channels-requires-clause-plain : goal.run_channels-requires-clause-plain
 run_channels-requires-clause-plain g c κs within =
-    let supported : IsSupported c.args.plan.now = search rules in
-    c.sinks_are_plain.ensures c.args.plan.now c.requires.own supported
+    c.sinks_are_plain.ensures c.args.plan.now c.requires.own
 
 pub run_channels-requires-clause-opened : goal.run_channels-requires-clause-opened
 run_channels-requires-clause-opened g c κs within =

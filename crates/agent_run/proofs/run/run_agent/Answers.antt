@@ -1,4 +1,4 @@
-use Rattle.std.proofs.Common.{◌≡◌, List, ℕ, codes, inr, ap, sym, subst, ◌∙◌, arith}
+use Rattle.std.proofs.Common.{◌≡◌, List, ℕ, codes, sym, subst, ◌∙◌}
 use Rattle.flume_host.proofs.Folders.{but_same}
 use Rattle.agent_words.specs.Words.{texts}
 use Rattle.agent_words.proofs.Unique.{one_asked}
