@@ -2,6 +2,7 @@
 use Rattle.std.proofs.Common.{◌≡◌, ℕ, List, [], ◌∷◌, codes, get_or, ap, sym, ◌∙◌, subst, arith, Option, Some, None, MatchOption}
 use Rattle.agent_words.specs.Commands.{IsPipe, IsLoad, IsAgent, IsCheck, IsNone, IsCommand}
 use Rattle.agent_words.specs.declared.command.Command.{Command}
+use Rattle.std.specs.Str.Parse.{digits_value}
 use Rattle.agent_run.specs.Words.{IsNoCommand}
 
 -- the second letter of the first word
@@ -37,17 +38,24 @@ agent_is_no_pipe words name file dir is p = let a = agent_letter words name file
 pub agent_is_no_check : (words : List (List ℕ)) (name file name' file' : List ℕ) → IsAgent words name file → IsCheck words name' file' → ⊥
 agent_is_no_check words name file name' file' is c = let a = agent_letter words name file is in let b = check_letter words name' file' c in omega (arith, a, b)
 
-pub load_does_not_run : (words : List (List ℕ)) (n : ℕ) (dir : List ℕ) → IsLoad words n dir → IsNoCommand words
-load_does_not_run words n dir is =
-    let a = load_letter words n dir is in
-    record {
-      no_pipe = λ other p. let b = pipe_letter words other p in omega (arith, a, b);
-      no_check = λ name file c. let b = check_letter words name file c in omega (arith, a, b);
-      no_agent = λ name file g. let b = agent_letter words name file g in omega (arith, a, b);
-    }
+pub agent_is_no_load : (words : List (List ℕ)) (name file : List ℕ) (n : ℕ) (dir : List ℕ) → IsAgent words name file → IsLoad words n dir → ⊥
+agent_is_no_load words name file n dir is l = let a = agent_letter words name file is in let b = load_letter words n dir l in omega (arith, a, b)
+
+abbrev third_word : List (List ℕ) → List ℕ
+third_word [] = []
+third_word (w ∷ []) = []
+third_word (w ∷ v ∷ []) = []
+third_word (w ∷ v ∷ u ∷ ws) = u
+
+-- the words of `load` have one number and one folder
+pub one_load : (words : List (List ℕ)) (n m : ℕ) (dir other : List ℕ) → IsLoad words n dir → IsLoad words m other → (n ≡ m) × (dir ≡ other)
+one_load words n m dir other is also = (
+    is.2.0.value ∙ ap (digits_value 10) (ap second_word (sym is.1 ∙ also.1)) ∙ sym also.2.0.value,
+    ap third_word (sym is.1 ∙ also.1),
+  )
 
 pub none_runs : (words : List (List ℕ)) → IsNone words → IsNoCommand words
-none_runs words is = record { no_pipe = is.pipe; no_check = is.check; no_agent = is.agent }
+none_runs words is = record { no_pipe = is.pipe; no_check = is.check; no_agent = is.agent; no_load = is.load }
 
 -- what was read of the words
 pub read_some : (words : List (List ℕ)) (found : Option Command) (first command : Command) → MatchOption found (IsNone words) (λ c. IsCommand words c) → found ≡ Some first → first ≡ command → IsCommand words command

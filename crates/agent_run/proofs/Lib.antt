@@ -1,5 +1,6 @@
 pub mod Commands
 pub mod Piping
+pub mod LoadOff
 pub mod Zipping
 pub mod Ending
 pub mod Same

@@ -34,3 +34,4 @@ pub mod RunLeft
 pub mod Causes
 pub mod RunDid
 pub mod PipeRan
+pub mod LoadRan

@@ -2,20 +2,22 @@
 ghost use Rattle.std.specs.Prelude.{◌≡◌, ◌≤◌, ◌⊎◌, List, [], ℕ, string_bytes};
 ghost use Rattle.std.specs.Vec.{vec_capacity};
 ghost use Rattle.flume_host.specs.HostState.{ButDisk};
-ghost use Rattle.agent_words.specs.Commands.{IsAgent, IsCheck, IsPipe};
+ghost use Rattle.agent_words.specs.Commands.{IsAgent, IsCheck, IsLoad, IsPipe};
 ghost use Rattle.agent_words.specs.Statuses.{status_of};
 ghost use Rattle.agent_words.specs.Words.{texts};
 ghost use Rattle.agent_run.specs.Named.{AgentEnds};
 ghost use Rattle.agent_run.specs.Through.{AgentEndsAs};
 ghost use Rattle.agent_run.specs.Words.{IsNoCommand};
 ghost use Rattle.agent_commands.specs.Checked.{Checked, IsCheckStatus};
+ghost use Rattle.agent_commands.specs.Loads.{IsLoadStatus};
 ghost use Rattle.agent_commands.specs.Piped.{IsPipeStatus};
+ghost use Rattle.agent_run.specs.LoadRan.{LoadRan};
 ghost use Rattle.agent_run.specs.PipeRan.{IsChannelOf, PipeRan};
 
 use crate::agent::{Ended, run_named};
 use crate::outcome::{ChannelEnd, Outcome};
 use crate::through::{NoStep, RunOf, Runs};
-use agent_commands::{PipeEnded, run_check, run_pipe, say_error};
+use agent_commands::{LoadEnded, PipeEnded, run_check, run_load, run_pipe, say_error};
 use agent_words::{Command, RunError, read_words};
 use flume_host::Host;
 use plug_in::Plugins;
@@ -110,11 +112,35 @@ fn run_piped<R: Wait, H: Host>(rt: &R, alloc: Global, dir: String, host: &mut H)
     }
 }
 
+// `load N DIR`. Its one channel comes back as that of `pipe` does.
+fn run_loaded<R: Wait, H: Host>(
+    rt: &R,
+    alloc: Global,
+    n: u32,
+    dir: String,
+    host: &mut H,
+) -> Outcome
+    ensures loaded { LoadRan n (string_bytes dir) result.status result.channels.items
+        (record { state = H.state host.old; folders = H.folders host.old })
+        (record { state = H.state host.new; folders = H.folders host.new }) }
+    ensures status { IsLoadStatus result.status }
+    ensures others { ButDisk (string_bytes dir) (H.folders host.old) (H.folders host.new) }
+{
+    let Ok(channels) = Vec::with_capacity(alloc, 1) else {
+        return refuse(alloc, host, &RunError::NoMemory);
+    };
+    let LoadEnded { status, pass } = run_load(rt, alloc, n, dir.as_str(), host);
+    Outcome {
+        status,
+        channels: listed(alloc, dir, pass, channels),
+    }
+}
+
 /// All that the program does: takes the words after its name, and answers the exit status.
 ///
 /// `pipe DIR` makes each line of standard input one transaction of the file channel in the folder `DIR`, which it opens, and
 /// answers `OK` for it once it is on the disk. `check -n NAME -f FILE` reads the configuration file `FILE`, plans the agent `NAME` in it and prints
-/// how many components it has. `agent -n NAME -f FILE` runs that agent: its sources, channels and sinks, each worker in a thread of its
+/// how many components it has. `load N DIR` runs the generator of N events on the folder `DIR`, and prints its summary. `agent -n NAME -f FILE` runs that agent: its sources, channels and sinks, each worker in a thread of its
 /// own, until standard input has ended. Each other status than 0 has its line on standard error. What was handed in is dropped.
 pub fn run_agent<'a, R: Threads + Wait + Sync + 'a, H: Host + 'a>(
     rt: &'a R,
@@ -144,6 +170,15 @@ pub fn run_agent<'a, R: Threads + Wait + Sync + 'a, H: Host + 'a>(
     ensures check_statuses { (agent file : List ℕ) → IsCheck (texts words.now) agent file → IsCheckStatus result.status }
     ensures unopened { (agent file : List ℕ) → IsCheck (texts words.now) agent file → H.folders host.new ≡ H.folders host.old }
 
+    // What `load` called, wrote and left of its folder, and when each status comes; and the folder's channel, once it was opened and shared,
+    // with the generator's calls as the history of its pass.
+    ensures loaded { (n : ℕ) (dir : List ℕ) → IsLoad (texts words.now) n dir
+        → LoadRan n dir result.status result.channels.items
+        (record { state = H.state host.old; folders = H.folders host.old })
+        (record { state = H.state host.new; folders = H.folders host.new }) }
+    ensures load_statuses { (n : ℕ) (dir : List ℕ) → IsLoad (texts words.now) n dir → IsLoadStatus result.status }
+    ensures load_others { (n : ℕ) (dir : List ℕ) → IsLoad (texts words.now) n dir → ButDisk dir (H.folders host.old) (H.folders host.new) }
+
     // What the configuration file of `agent` holds where the status is 2, and which statuses come.
     ensures agent { (name file : List ℕ) → IsAgent (texts words.now) name file
         → AgentEnds ((H.state host.old).files file) name result.status }
@@ -158,8 +193,9 @@ pub fn run_agent<'a, R: Threads + Wait + Sync + 'a, H: Host + 'a>(
         (record { state = H.state host.old; folders = H.folders host.old })
         (record { state = H.state host.new; folders = H.folders host.new }) }
 
-    // But by `pipe` and `agent` no channel comes back.
+    // But by `pipe`, `load` and `agent` no channel comes back.
     ensures channels { ((dir : List ℕ) → ¬ IsPipe (texts words.now) dir)
+        → ((n : ℕ) (dir : List ℕ) → ¬ IsLoad (texts words.now) n dir)
         → ((name file : List ℕ) → ¬ IsAgent (texts words.now) name file)
         → result.channels.items ≡ [] }
 
@@ -176,7 +212,7 @@ pub fn run_agent<'a, R: Threads + Wait + Sync + 'a, H: Host + 'a>(
         Ok(Some(Command::Agent { name, file })) => {
             run_configured(rt, alloc, name.as_str(), file.as_str(), host)
         }
-        Ok(Some(Command::Load { .. })) => refuse(alloc, host, &RunError::Usage),
+        Ok(Some(Command::Load { n, dir })) => run_loaded(rt, alloc, n, dir, host),
         Ok(None) => refuse(alloc, host, &RunError::Usage),
         Err(_) => refuse(alloc, host, &RunError::NoMemory),
     }

@@ -15,6 +15,8 @@ mod ends;
 #[cfg(test)]
 mod left;
 #[cfg(test)]
+mod load;
+#[cfg(test)]
 mod mended;
 #[cfg(test)]
 mod openings;

@@ -246,7 +246,7 @@ const OTHER_WORDS: [&[&str]; 8] = [
     &["pipe", "d", "e"],
     &["Pipe", "d"],
     &["--help"],
-    &["load", "1", "d"],
+    &["load", "d"],
 ];
 
 const USAGE: &str =

@@ -5,9 +5,11 @@ use Rattle.agent_words.proofs.Unique.{one_asked}
 use Rattle.agent_commands.specs.Checked.{Checked}
 use Rattle.agent_run.specs.Named.{AgentEnds}
 use Rattle.agent_run.proofs.Answering.{agent_named, never_one}
-use Rattle.agent_run.proofs.Commands.{agent_is_no_check, agent_is_no_pipe, load_does_not_run, none_runs, one_folder, read_none, read_some}
+use Rattle.agent_run.proofs.Commands.{agent_is_no_check, agent_is_no_load, agent_is_no_pipe, none_runs, one_folder, one_load, read_none, read_some}
 use Rattle.agent_channels.specs.Openings.{HostTold}
 use Rattle.agent_run.specs.PipeRan.{PipeRan}
+use Rattle.agent_run.specs.LoadRan.{LoadRan}
+use Rattle.agent_run.proofs.LoadOff.{not_loaded}
 use Rattle.agent_run.proofs.Piping.{not_piped}
 use Rattle.agent_run.proofs.run.run_agent.Goals as goal
 
@@ -25,9 +27,6 @@ returns-in-Ok-Some-Check-clause-checked g c = λ agent file is.
     let status : c.run_check.result ≡ c.ended.result.status = sym c.ended.ensures.status in
     let C : List ℕ × (List ℕ × ℕ) → Type 0 = λ x. Checked ((g.H.Host.state c.args.host.now).files x.1.0) x.0 (g.H.Host.state c.args.host.now) (g.H.Host.state c.run_check.new.host) x.1.1 in
     subst C (λ i. (n i, (f i, status i))) c.run_check.ensures.checked
-
-pub returns-in-Ok-Some-Load-clause-usage : goal.returns-in-Ok-Some-Load-clause-usage
-returns-in-Ok-Some-Load-clause-usage g c = λ one. load_does_not_run _ _ _ (read_some _ _ _ _ c.in-Ok-Some-Load.ensures c.in-Ok-Some-Load.field-0-is c.in-Ok-Some-Load.field-0-0-is)
 
 pub returns-in-Ok-None-clause-usage : goal.returns-in-Ok-None-clause-usage
 returns-in-Ok-None-clause-usage g c = λ one. none_runs _ (read_none _ _ c.in-Ok-None.ensures c.in-Ok-None.field-0-is)
@@ -47,13 +46,10 @@ pub returns-clause-piped : goal.returns-clause-piped
 returns-clause-piped g c = λ dir is. not_piped dir _ _ _ _ c.refuse-in-Err.ensures.channels c.refuse-in-Err.ensures.status c.refuse-in-Err.ensures.state c.refuse-in-Err.ensures.folders
 
 pub returns-in-Ok-Some-Pipe-clause-channels : goal.returns-in-Ok-Some-Pipe-clause-channels
-returns-in-Ok-Some-Pipe-clause-channels g c = λ none agent. absurd (none _ (read_some _ _ _ _ c.in-Ok-Some-Pipe.ensures c.in-Ok-Some-Pipe.field-0-is c.in-Ok-Some-Pipe.field-0-0-is))
+returns-in-Ok-Some-Pipe-clause-channels g c = λ none load agent. absurd (none _ (read_some _ _ _ _ c.in-Ok-Some-Pipe.ensures c.in-Ok-Some-Pipe.field-0-is c.in-Ok-Some-Pipe.field-0-0-is))
 
 pub returns-in-Ok-Some-Check-clause-others : goal.returns-in-Ok-Some-Check-clause-others
 returns-in-Ok-Some-Check-clause-others g c = λ dir is. but_same _ _ _ c.run_check.ensures.folders
-
-pub returns-in-Ok-Some-Load-clause-others : goal.returns-in-Ok-Some-Load-clause-others
-returns-in-Ok-Some-Load-clause-others g c = λ dir is. but_same _ _ _ c.refuse.ensures.folders
 
 pub returns-in-Ok-None-clause-others : goal.returns-in-Ok-None-clause-others
 returns-in-Ok-None-clause-others g c = λ dir is. but_same _ _ _ c.refuse-in-Ok-None.ensures.folders
@@ -113,7 +109,45 @@ returns-in-Ok-Some-Agent-clause-agent_ran g c = λ name file is.
     agent_named (g.H.Host.state c.args.host.now).files f n c.run_configured.ensures.ran
 
 pub returns-in-Ok-Some-Agent-clause-channels : goal.returns-in-Ok-Some-Agent-clause-channels
-returns-in-Ok-Some-Agent-clause-channels g c = λ pipe none. absurd (none _ _ (read_some _ _ _ _ c.in-Ok-Some-Agent.ensures c.in-Ok-Some-Agent.field-0-is c.in-Ok-Some-Agent.field-0-0-is))
+returns-in-Ok-Some-Agent-clause-channels g c = λ pipe load none. absurd (none _ _ (read_some _ _ _ _ c.in-Ok-Some-Agent.ensures c.in-Ok-Some-Agent.field-0-is c.in-Ok-Some-Agent.field-0-0-is))
 
 pub returns-in-Ok-None-clause-agent_ran : goal.returns-in-Ok-None-clause-agent_ran
 returns-in-Ok-None-clause-agent_ran g c = λ name file is. absurd ((read_none _ _ c.in-Ok-None.ensures c.in-Ok-None.field-0-is).agent name file is)
+
+pub returns-in-Ok-Some-Load-clause-loaded : goal.returns-in-Ok-Some-Load-clause-loaded
+returns-in-Ok-Some-Load-clause-loaded g c = λ n dir is.
+    let same = one_load (texts c.args.words.now) _ n _ dir (read_some _ _ _ _ c.in-Ok-Some-Load.ensures c.in-Ok-Some-Load.field-0-is c.in-Ok-Some-Load.field-0-0-is) is in
+    let r = c.run_loaded.result in
+    let a : HostTold = record { state = g.H.Host.state c.args.host.now; folders = g.H.Host.folders c.args.host.now } in
+    let b : HostTold = record { state = g.H.Host.state c.run_loaded.new.host; folders = g.H.Host.folders c.run_loaded.new.host } in
+    subst (λ (x : ℕ × List ℕ). LoadRan x.0 x.1 r.status r.channels.items a b) (λ i. (same.0 i, same.1 i)) c.run_loaded.ensures.loaded
+
+pub returns-in-Ok-Some-Load-clause-channels : goal.returns-in-Ok-Some-Load-clause-channels
+returns-in-Ok-Some-Load-clause-channels g c = λ pipe none agent. absurd (none _ _ (read_some _ _ _ _ c.in-Ok-Some-Load.ensures c.in-Ok-Some-Load.field-0-is c.in-Ok-Some-Load.field-0-0-is))
+
+pub returns-clause-loaded : goal.returns-clause-loaded
+returns-clause-loaded g c = λ n dir is. not_loaded n dir _ _ _ _ c.refuse-in-Err.ensures.channels c.refuse-in-Err.ensures.status c.refuse-in-Err.ensures.state c.refuse-in-Err.ensures.folders
+
+pub returns-clause-load_others : goal.returns-clause-load_others
+returns-clause-load_others g c = λ n dir is. but_same _ _ _ c.refuse-in-Err.ensures.folders
+
+pub returns-in-Ok-Some-Check-clause-load_others : goal.returns-in-Ok-Some-Check-clause-load_others
+returns-in-Ok-Some-Check-clause-load_others g c = λ n dir is. but_same _ _ _ c.run_check.ensures.folders
+
+pub returns-in-Ok-None-clause-load_others : goal.returns-in-Ok-None-clause-load_others
+returns-in-Ok-None-clause-load_others g c = λ n dir is. but_same _ _ _ c.refuse-in-Ok-None.ensures.folders
+
+pub returns-in-Ok-Some-Agent-clause-loaded : goal.returns-in-Ok-Some-Agent-clause-loaded
+returns-in-Ok-Some-Agent-clause-loaded g c = λ n dir is. absurd (agent_is_no_load _ _ _ n dir (read_some _ _ _ _ c.in-Ok-Some-Agent.ensures c.in-Ok-Some-Agent.field-0-is c.in-Ok-Some-Agent.field-0-0-is) is)
+
+pub returns-in-Ok-Some-Agent-clause-load_statuses : goal.returns-in-Ok-Some-Agent-clause-load_statuses
+returns-in-Ok-Some-Agent-clause-load_statuses g c = λ n dir is. absurd (agent_is_no_load _ _ _ n dir (read_some _ _ _ _ c.in-Ok-Some-Agent.ensures c.in-Ok-Some-Agent.field-0-is c.in-Ok-Some-Agent.field-0-0-is) is)
+
+pub returns-in-Ok-Some-Agent-clause-load_others : goal.returns-in-Ok-Some-Agent-clause-load_others
+returns-in-Ok-Some-Agent-clause-load_others g c = λ n dir is. absurd (agent_is_no_load _ _ _ n dir (read_some _ _ _ _ c.in-Ok-Some-Agent.ensures c.in-Ok-Some-Agent.field-0-is c.in-Ok-Some-Agent.field-0-0-is) is)
+
+pub returns-in-Ok-None-clause-loaded : goal.returns-in-Ok-None-clause-loaded
+returns-in-Ok-None-clause-loaded g c = λ n dir is. absurd ((read_none _ _ c.in-Ok-None.ensures c.in-Ok-None.field-0-is).load n dir is)
+
+pub returns-in-Ok-None-clause-load_statuses : goal.returns-in-Ok-None-clause-load_statuses
+returns-in-Ok-None-clause-load_statuses g c = λ n dir is. absurd ((read_none _ _ c.in-Ok-None.ensures c.in-Ok-None.field-0-is).load n dir is)
