@@ -588,13 +588,16 @@ fn a_host_hands_out_rolled_files(rt: HostRuntime) -> Result<(), Fail> {
     Ok(())
 }
 
-// A host with files of these sizes.
+// Files of a host, and their sizes.
+const FILES: [(&str, usize); 3] = [("small", 3), ("largest", 1_048_576), ("large", 1_048_577)];
+
+// A host with these files.
 fn host_with_files(alloc: Global) -> Result<MemHost, AllocError> {
     let mut files = Vec::new(alloc);
-    for (path, size) in [("small", 3), ("largest", 1_048_576), ("large", 1_048_577)] {
+    for (path, size) in &FILES {
         files.push(Named {
             path: String::from_str(alloc, path)?,
-            object: Some(vec![in alloc; b'x'; size]?),
+            object: Some(vec![in alloc; b'x'; *size]?),
         })?;
     }
     Ok(host(alloc)?.with_files(files))

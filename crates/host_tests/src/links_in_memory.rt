@@ -320,16 +320,35 @@ fn a_host_hands_listeners_out(rt: HostRuntime) -> Result<(), Fail> {
     Ok(())
 }
 
+// Addresses of dialers that are handed out one after the other, and what comes first.
+const CALLED: [(&str, u8); 3] = [("b", 0), ("a", b'a'), ("a", 0)];
+
+// Whether the address is asked for, and what the host then is named.
+const NAMES: [(bool, &str); 2] = [(false, "box"), (true, "10.0.0.1")];
+
+fn is_named(host: &mut MemHost, use_ip: bool, name: &str) -> bool {
+    match host.host_name(use_ip) {
+        Ok(found) => found.as_str() == name,
+        Err(_) => false,
+    }
+}
+
+fn has_no_name(host: &mut MemHost) -> bool {
+    matches!(host.host_name(false), Err(NameRefused::Failed))
+}
+
 #[test]
 fn a_host_hands_dialers_and_names_out(rt: HostRuntime) -> Result<(), Fail> {
     let mut host = host(rt.alloc())?;
-    for case in [("b", 0), ("a", b'a'), ("a", 0)] {
-        assert!(rt; called(&mut host, case.0, 1) == Some(case.1));
+    for (row, case) in CALLED.iter().enumerate() {
+        let (address, byte) = *case;
+        assert!(rt; called(&mut host, address, 1) == Some(byte), "row {row}");
     }
-    for case in [(false, "box"), (true, "10.0.0.1")] {
-        assert!(rt; host.host_name(case.0)?.as_str() == case.1);
+    for case in &NAMES {
+        let (use_ip, name) = *case;
+        assert!(rt; is_named(&mut host, use_ip, name), "{name}");
     }
-    assert!(rt; matches!(host.host_name(false), Err(NameRefused::Failed)));
+    assert!(rt; has_no_name(&mut host));
     assert!(rt; (host.dialers().len(), host.faults()) == (3, 1));
     Ok(())
 }
