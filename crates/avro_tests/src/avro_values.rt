@@ -295,12 +295,11 @@ fn is_long(alloc: Global, value: i64, bytes: &[u8]) -> Result<bool, NoMemory> {
 }
 
 #[test]
-fn longs_are_written_and_read_again(rt: HostRuntime) -> Result<(), Fail> {
+fn longs_are_written_and_read_again(rt: HostRuntime) {
     for case in &LONGS {
         let (value, bytes) = *case;
-        assert!(rt; is_long(rt.alloc(), value, bytes)?, "{value}");
+        assert!(rt; is_long(rt.alloc(), value, bytes) == Ok(true), "{value}");
     }
-    Ok(())
 }
 
 fn read_place(kind: Place, bytes: &[u8], at: usize) -> Result<(usize, usize), ValueRefused>
@@ -399,9 +398,8 @@ fn is_batch(alloc: Global, bytes: &[u8]) -> Result<bool, Fail> {
 }
 
 #[test]
-fn an_empty_batch_is_written(rt: HostRuntime) -> Result<(), Fail> {
-    assert!(rt; are_written_so(rt.alloc(), &Batch::new(rt.alloc()), &[0])?);
-    Ok(())
+fn an_empty_batch_is_written(rt: HostRuntime) {
+    assert!(rt; are_written_so(rt.alloc(), &Batch::new(rt.alloc()), &[0]) == Ok(true));
 }
 
 #[test]
