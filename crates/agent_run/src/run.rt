@@ -113,13 +113,7 @@ fn run_piped<R: Wait, H: Host>(rt: &R, alloc: Global, dir: String, host: &mut H)
 }
 
 // `load N DIR`. Its one channel comes back as that of `pipe` does.
-fn run_loaded<R: Wait, H: Host>(
-    rt: &R,
-    alloc: Global,
-    n: u32,
-    dir: String,
-    host: &mut H,
-) -> Outcome
+fn run_loaded<R: Wait, H: Host>(rt: &R, alloc: Global, n: u32, dir: String, host: &mut H) -> Outcome
     ensures loaded { LoadRan n (string_bytes dir) result.status result.channels.items
         (record { state = H.state host.old; folders = H.folders host.old })
         (record { state = H.state host.new; folders = H.folders host.new }) }
