@@ -50,7 +50,7 @@ third_word (w ∷ v ∷ u ∷ ws) = u
 -- the words of `load` have one number and one folder
 pub one_load : (words : List (List ℕ)) (n m : ℕ) (dir other : List ℕ) → IsLoad words n dir → IsLoad words m other → (n ≡ m) × (dir ≡ other)
 one_load words n m dir other is also = (
-  is.2.0.value ∙ ap (digits_value 10) (ap second_word (sym is.1 ∙ also.1)) ∙ sym also.2.0.value,
+  is.2.value ∙ ap (digits_value 10) (ap second_word (sym is.1 ∙ also.1)) ∙ sym also.2.value,
   ap third_word (sym is.1 ∙ also.1),
 )
 

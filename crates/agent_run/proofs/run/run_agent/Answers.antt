@@ -42,8 +42,8 @@ returns-in-Ok-Some-Pipe-clause-piped g c = λ dir is.
     let b : HostTold = record { state = g.H.Host.state c.run_piped.new.host; folders = g.H.Host.folders c.run_piped.new.host } in
     subst (λ (d : List ℕ). PipeRan d r.status r.channels.items a b) same c.run_piped.ensures.piped
 
-pub returns-clause-piped : goal.returns-clause-piped
-returns-clause-piped g c = λ dir is. not_piped dir _ _ _ _ c.refuse-in-Err.ensures.channels c.refuse-in-Err.ensures.status c.refuse-in-Err.ensures.state c.refuse-in-Err.ensures.folders
+pub returns-in-Err-clause-piped : goal.returns-in-Err-clause-piped
+returns-in-Err-clause-piped g c = λ dir is. not_piped dir _ _ _ _ c.refuse-in-Err.ensures.channels c.refuse-in-Err.ensures.status c.refuse-in-Err.ensures.state c.refuse-in-Err.ensures.folders
 
 pub returns-in-Ok-Some-Pipe-clause-channels : goal.returns-in-Ok-Some-Pipe-clause-channels
 returns-in-Ok-Some-Pipe-clause-channels g c = λ none load agent. absurd (none _ (read_some _ _ _ _ c.in-Ok-Some-Pipe.ensures c.in-Ok-Some-Pipe.field-0-is c.in-Ok-Some-Pipe.field-0-0-is))
@@ -52,10 +52,10 @@ pub returns-in-Ok-Some-Check-clause-others : goal.returns-in-Ok-Some-Check-claus
 returns-in-Ok-Some-Check-clause-others g c = λ dir is. but_same _ _ _ c.run_check.ensures.folders
 
 pub returns-in-Ok-None-clause-others : goal.returns-in-Ok-None-clause-others
-returns-in-Ok-None-clause-others g c = λ dir is. but_same _ _ _ c.refuse-in-Ok-None.ensures.folders
+returns-in-Ok-None-clause-others g c = λ dir is. but_same _ _ _ c.refuse.ensures.folders
 
-pub returns-clause-others : goal.returns-clause-others
-returns-clause-others g c = λ dir is. but_same _ _ _ c.refuse-in-Err.ensures.folders
+pub returns-in-Err-clause-others : goal.returns-in-Err-clause-others
+returns-in-Err-clause-others g c = λ dir is. but_same _ _ _ c.refuse-in-Err.ensures.folders
 
 pub returns-in-Ok-Some-Agent-clause-usage : goal.returns-in-Ok-Some-Agent-clause-usage
 returns-in-Ok-Some-Agent-clause-usage g c = λ one. absurd (never_one c.run_configured.result.status c.run_configured.ensures.ends.which one)
@@ -125,17 +125,17 @@ returns-in-Ok-Some-Load-clause-loaded g c = λ n dir is.
 pub returns-in-Ok-Some-Load-clause-channels : goal.returns-in-Ok-Some-Load-clause-channels
 returns-in-Ok-Some-Load-clause-channels g c = λ pipe none agent. absurd (none _ _ (read_some _ _ _ _ c.in-Ok-Some-Load.ensures c.in-Ok-Some-Load.field-0-is c.in-Ok-Some-Load.field-0-0-is))
 
-pub returns-clause-loaded : goal.returns-clause-loaded
-returns-clause-loaded g c = λ n dir is. not_loaded n dir _ _ _ _ c.refuse-in-Err.ensures.channels c.refuse-in-Err.ensures.status c.refuse-in-Err.ensures.state c.refuse-in-Err.ensures.folders
+pub returns-in-Err-clause-loaded : goal.returns-in-Err-clause-loaded
+returns-in-Err-clause-loaded g c = λ n dir is. not_loaded n dir _ _ _ _ c.refuse-in-Err.ensures.channels c.refuse-in-Err.ensures.status c.refuse-in-Err.ensures.state c.refuse-in-Err.ensures.folders
 
-pub returns-clause-load_others : goal.returns-clause-load_others
-returns-clause-load_others g c = λ n dir is. but_same _ _ _ c.refuse-in-Err.ensures.folders
+pub returns-in-Err-clause-load_others : goal.returns-in-Err-clause-load_others
+returns-in-Err-clause-load_others g c = λ n dir is. but_same _ _ _ c.refuse-in-Err.ensures.folders
 
 pub returns-in-Ok-Some-Check-clause-load_others : goal.returns-in-Ok-Some-Check-clause-load_others
 returns-in-Ok-Some-Check-clause-load_others g c = λ n dir is. but_same _ _ _ c.run_check.ensures.folders
 
 pub returns-in-Ok-None-clause-load_others : goal.returns-in-Ok-None-clause-load_others
-returns-in-Ok-None-clause-load_others g c = λ n dir is. but_same _ _ _ c.refuse-in-Ok-None.ensures.folders
+returns-in-Ok-None-clause-load_others g c = λ n dir is. but_same _ _ _ c.refuse.ensures.folders
 
 pub returns-in-Ok-Some-Agent-clause-loaded : goal.returns-in-Ok-Some-Agent-clause-loaded
 returns-in-Ok-Some-Agent-clause-loaded g c = λ n dir is. absurd (agent_is_no_load _ _ _ n dir (read_some _ _ _ _ c.in-Ok-Some-Agent.ensures c.in-Ok-Some-Agent.field-0-is c.in-Ok-Some-Agent.field-0-0-is) is)
@@ -151,3 +151,12 @@ returns-in-Ok-None-clause-loaded g c = λ n dir is. absurd ((read_none _ _ c.in-
 
 pub returns-in-Ok-None-clause-load_statuses : goal.returns-in-Ok-None-clause-load_statuses
 returns-in-Ok-None-clause-load_statuses g c = λ n dir is. absurd ((read_none _ _ c.in-Ok-None.ensures c.in-Ok-None.field-0-is).load n dir is)
+
+pub returns-in-Ok-Some-Load-clause-no_command : goal.returns-in-Ok-Some-Load-clause-no_command
+returns-in-Ok-Some-Load-clause-no_command g c = λ none. absurd (none.no_load _ _ (read_some _ _ _ _ c.in-Ok-Some-Load.ensures c.in-Ok-Some-Load.field-0-is c.in-Ok-Some-Load.field-0-0-is))
+
+pub returns-in-Ok-Some-Load-clause-nothing : goal.returns-in-Ok-Some-Load-clause-nothing
+returns-in-Ok-Some-Load-clause-nothing g c = λ none. absurd (none.no_load _ _ (read_some _ _ _ _ c.in-Ok-Some-Load.ensures c.in-Ok-Some-Load.field-0-is c.in-Ok-Some-Load.field-0-0-is))
+
+pub returns-in-Ok-Some-Load-clause-nothing_opened : goal.returns-in-Ok-Some-Load-clause-nothing_opened
+returns-in-Ok-Some-Load-clause-nothing_opened g c = λ none. absurd (none.no_load _ _ (read_some _ _ _ _ c.in-Ok-Some-Load.ensures c.in-Ok-Some-Load.field-0-is c.in-Ok-Some-Load.field-0-0-is))
