@@ -11,7 +11,7 @@ use netcat_source::LineRules;
 use plug_in::{Intercepted, Interceptor};
 use selectors::Selector;
 use source_put::HostNames;
-use source_worker::ListenWorker;
+use source_worker::{ListenWorker, SessionRules};
 use std::alloc::Global;
 use std::marker::PhantomData;
 use std::sync::Wait;
@@ -81,10 +81,10 @@ fn worker_of(alloc: Global, port: ScriptPort, texts: &[&str]) -> Result<Listenin
             optional: Vec::new(alloc),
         },
         host: names_of(alloc)?,
-        rules: LineRules {
+        rules: SessionRules::Lines(LineRules {
             max: 512,
             ack: true,
-        },
+        }),
         listener: listener_of(alloc, texts)?,
         clock: MemClock { moment: 0, step: 1 },
         of: PhantomData,

@@ -2,20 +2,20 @@
 use Rattle.std.proofs.Common.{◌≡◌, ℕ, List, [], ◌∷◌, ◌++◌, Bool, false, true≢false, Option, Some, None, Ok, Err, ◌∙◌, refl, sym, ap, subst}
 use Rattle.std.specs.List.{AllByRecursion}
 use Rattle.flume_host.specs.Links.{LinkTold}
-use Rattle.netcat_source.specs.declared.session.SessionEnd.{SessionEnd}
 use Rattle.selectors.specs.declared.selector.Selector.{Selector}
 use Rattle.source_put.specs.Chains.{Meaning}
 use Rattle.source_put.specs.Into.{Into}
 use Rattle.source_put.specs.Tries.{Giving}
 use Rattle.source_put.specs.declared.chain.HostNames.{HostNames}
-use Rattle.netcat_source.specs.Into.{TakesLine}
 use Rattle.source_worker.specs.Rounds.{Answer, Found, IsStopped, IsUnserved, Makes, MendsIf, Round, Rounds, Serves, Serving, Session, WorksBy, is_due}
+use Rattle.source_worker.specs.declared.ends.LinkEnd.{LinkEnd}
+use Rattle.source_worker.specs.declared.ends.SessionRules.{SessionRules}
 
 all_push : {A : Type 0} (P : A → Type 0) (l : List A) (x : A) → AllByRecursion P l → P x → AllByRecursion P (l ++ x ∷ [])
 all_push P [] x all one = (one, tt)
 all_push P (y ∷ l) x all one = (all.0, all_push P l x all.1 one)
 
-module _ {S : Type 0} (Sessions : S → Option LinkTold → SessionEnd → S → Option LinkTold → Type 0) (Mends : S → List Answer → S → Type 0) where
+module _ {S : Type 0} (Sessions : S → Option LinkTold → LinkEnd → S → Option LinkTold → Type 0) (Mends : S → List Answer → S → Type 0) where
   none_due : (due : Bool) (found : Found) → is_due due found ≡ false → due ≡ false
   none_due due (Ok (Some end)) is = absurd (true≢false is)
   none_due due (Ok None) is = is
@@ -69,7 +69,7 @@ module _ {S : Type 0} (Sessions : S → Option LinkTold → SessionEnd → S →
   }
 
 -- a round by the same selector and names
-pub by_same : {F B : Type 0} (Put : Giving F) (Means : Meaning B) (max : ℕ) (ack : Bool) (Mends : Into F B → List Answer → Into F B → Type 0) (selector selector' : Selector) (host host' : HostNames) (round : Round) (a b : Serving (Into F B))
-    → selector ≡ selector' → host ≡ host' → Makes (Session max ack (TakesLine Put selector Means host)) Mends round a b → Makes (Session max ack (TakesLine Put selector' Means host')) Mends round a b
-by_same Put Means max ack Mends selector selector' host host' round a b s h one =
-    subst (λ (x : Selector × HostNames). Makes (Session max ack (TakesLine Put x.0 Means x.1)) Mends round a b) (λ k. (s k, h k)) one
+pub by_same : {F B : Type 0} (Put : Giving F) (Means : Meaning B) (rules : SessionRules) (Mends : Into F B → List Answer → Into F B → Type 0) (selector selector' : Selector) (host host' : HostNames) (round : Round) (a b : Serving (Into F B))
+    → selector ≡ selector' → host ≡ host' → Makes (Session rules Put selector Means host) Mends round a b → Makes (Session rules Put selector' Means host') Mends round a b
+by_same Put Means rules Mends selector selector' host host' round a b s h one =
+    subst (λ (x : Selector × HostNames). Makes (Session rules Put x.0 Means x.1) Mends round a b) (λ k. (s k, h k)) one

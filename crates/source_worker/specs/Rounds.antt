@@ -11,15 +11,27 @@ use Rattle.channel_face.specs.History.{Opening, Step}
 use Rattle.channel_face.specs.Keeps.{IsMend}
 use Rattle.channel_face.specs.Machine.{State}
 use Rattle.channel_face.specs.declared.replies.OpenCause.{OpenCause}
+use Rattle.selectors.specs.declared.selector.Selector.{Selector}
+use Rattle.source_put.specs.Chains.{Meaning}
 use Rattle.source_put.specs.Into.{Into}
-use Rattle.source_put.specs.declared.intake.Verdict.{Verdict}
+use Rattle.source_put.specs.Tries.{Giving}
+use Rattle.source_put.specs.declared.chain.HostNames.{HostNames}
+use Rattle.netcat_source.specs.Into.{TakesLine}
 use Rattle.netcat_source.specs.Sessions.{Served}
 use Rattle.netcat_source.specs.declared.session.SessionEnd.{SessionEnd}
-use Rattle.netcat_source.specs.declared.session.SessionEnd.TheVariants.{Stopped, NoMemory}
+use Rattle.netcat_source.specs.declared.session.SessionEnd.TheVariants as lines
+use Rattle.avro_ends.specs.Exchanges.{TakesBatch}
+use Rattle.avro_ends.specs.Sessions.{Served as AvroServed}
+use Rattle.avro_ends.specs.declared.session.AvroEnd.{AvroEnd}
+use Rattle.avro_ends.specs.declared.session.AvroEnd.TheVariants as avro
+use Rattle.source_worker.specs.declared.ends.LinkEnd.{LinkEnd}
+use Rattle.source_worker.specs.declared.ends.LinkEnd.TheVariants as ended
+use Rattle.source_worker.specs.declared.ends.SessionRules.{SessionRules}
+use Rattle.source_worker.specs.declared.ends.SessionRules.TheVariants.{Lines, Avro}
 
 -- what an accept brought: the end of a link's session, or none, or a fault
 abbrev pub Found : Type 0
-Found = Result (Option SessionEnd) Failed
+Found = Result (Option LinkEnd) Failed
 
 -- the answer to a mend: whether the channel was reopened
 abbrev pub Answer : Type 0
@@ -31,7 +43,7 @@ pub record Heard : Type 0 where
   pub faults : ℕ
   pub waits : ℕ
 
--- a worker between two rounds: where its lines go, its listener, and whether a mend was refused that is to be tried again
+-- a worker between two rounds: where its events go, its listener, and whether a mend was refused that is to be tried again
 pub record Serving (S : Type 0) : Type 0 where
   pub into : S
   pub heard : Heard
@@ -54,24 +66,50 @@ is_due due (Ok (Some end)) = true
 is_due due (Ok None) = due
 is_due due (Err failed) = due
 
+-- there was no memory for the session
+abbrev pub IsUnservedEnd : LinkEnd → Type 0
+IsUnservedEnd (ended.Lines end) = end ≡ lines.NoMemory
+IsUnservedEnd (ended.Avro end) = end ≡ avro.NoMemory
+
+-- the session was told to stop
+abbrev pub IsStoppedEnd : LinkEnd → Type 0
+IsStoppedEnd (ended.Lines end) = end ≡ lines.Stopped
+IsStoppedEnd (ended.Avro end) = end ≡ avro.Stopped
+
 -- no session began: where there was a link, there was no memory for it
 abbrev pub IsUnserved : Found → Type 0
-IsUnserved (Ok (Some end)) = end ≡ NoMemory
+IsUnserved (Ok (Some end)) = IsUnservedEnd end
 IsUnserved (Ok None) = Unit {0}
 IsUnserved (Err failed) = Unit {0}
 
--- whether a session was told to stop
+-- there was a session, and it was told to stop
 abbrev pub IsStopped : Found → Type 0
-IsStopped found = found ≡ Ok (Some Stopped)
+IsStopped (Ok (Some end)) = IsStoppedEnd end
+IsStopped (Ok None) = ⊥
+IsStopped (Err failed) = ⊥
 
--- a session by its rules on a new link; or there was no memory for one to begin
-abbrev pub Session : ℕ → Bool → {S : Type 0} → (S → List ℕ → Verdict → S → Type 0)
-    → S → Option LinkTold → SessionEnd → S → Option LinkTold → Type 0
-Session max ack Takes old told end new now =
-    Served max ack Takes (record { into = old; told = told }) (record { into = new; told = now }) end
-    ⊎ ((end ≡ NoMemory) × (now ≡ told) × (new ≡ old))
+module _ {F B : Type 0} (Given : Giving F) (selector : Selector) (Means : Meaning B) (host : HostNames) where
+  -- a session of lines on a new link; or there was no memory for one to begin
+  abbrev pub LineSession : ℕ → Bool → Into F B → Option LinkTold → SessionEnd → Into F B → Option LinkTold → Type 0
+  LineSession max ack old told end new now =
+      Served max ack (TakesLine Given selector Means host) (record { into = old; told = told }) (record { into = new; told = now }) end
+      ⊎ ((end ≡ lines.NoMemory) × (now ≡ told) × (new ≡ old))
 
-module _ {S : Type 0} (Session : S → Option LinkTold → SessionEnd → S → Option LinkTold → Type 0) where
+  -- a session of Avro calls on one; or there was no memory
+  abbrev pub AvroSession : Into F B → Option LinkTold → AvroEnd → Into F B → Option LinkTold → Type 0
+  AvroSession old told end new now =
+      AvroServed (TakesBatch Given selector Means host) old new told now end
+      ⊎ ((end ≡ avro.NoMemory) × (now ≡ told) × (new ≡ old))
+
+-- a session by its rules on a new link, and it ended by them
+abbrev pub Session : SessionRules → {F B : Type 0} → Giving F → Selector → Meaning B → HostNames
+    → Into F B → Option LinkTold → LinkEnd → Into F B → Option LinkTold → Type 0
+Session (Lines rules) Given selector Means host old told (ended.Lines end) new now =
+    LineSession Given selector Means host rules.max rules.ack old told end new now
+Session Avro Given selector Means host old told (ended.Avro end) new now = AvroSession Given selector Means host old told end new now
+Session rules Given selector Means host old told end new now = ⊥
+
+module _ {S : Type 0} (Session : S → Option LinkTold → LinkEnd → S → Option LinkTold → Type 0) where
   -- A link is served and given back; or none came for a while; or the listener failed.
   abbrev pub Finds : Found → Serving S → Serving S → Type 0
   Finds (Ok (Some end)) old new =
@@ -88,7 +126,7 @@ module _ {S : Type 0} (Session : S → Option LinkTold → SessionEnd → S → 
     pub waits : old.heard.waits ≤ new.heard.waits
     pub due : new.due ≡ old.due
 
-module _ {S : Type 0} (Session : S → Option LinkTold → SessionEnd → S → Option LinkTold → Type 0)
+module _ {S : Type 0} (Session : S → Option LinkTold → LinkEnd → S → Option LinkTold → Type 0)
     (Mends : S → List Answer → S → Type 0) where
   -- mends where they are due
   abbrev pub MendsIf : Bool → S → List Answer → S → Type 0
@@ -131,7 +169,7 @@ module _ {F : Type 0} (Mend : F → Answer → F → Type 0) where
   MendsEach (old ∷ olds) (answer ∷ answers) (new ∷ news) = Mend old answer new × MendsEach olds answers news
   MendsEach olds answers news = ⊥
 
-  -- the channels where lines go
+  -- the channels where events go
   abbrev pub MendsInto : {B : Type 0} → Into F B → List Answer → Into F B → Type 0
   MendsInto old answers new =
       (new.moments ≡ old.moments) × (new.route.links ≡ old.route.links) × MendsEach old.route.ports answers new.route.ports

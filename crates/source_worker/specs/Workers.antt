@@ -8,13 +8,20 @@ use Rattle.source_put.specs.declared.intake.Intake.{Intake}
 use Rattle.source_put.specs.declared.chain.ChainLink.{ChainLink}
 use Rattle.chain_plan.specs.Builds.{AreBuilt}
 use Rattle.netcat_source.specs.Lines.{IsLineLimit}
-use Rattle.netcat_source.specs.declared.session.SessionEnd.{SessionEnd}
 use Rattle.source_worker.specs.Rounds.{Answer, Heard, Serving, WorksBy}
+use Rattle.source_worker.specs.declared.ends.LinkEnd.{LinkEnd}
+use Rattle.source_worker.specs.declared.ends.SessionRules.{SessionRules}
+use Rattle.source_worker.specs.declared.ends.SessionRules.TheVariants.{Lines, Avro}
 use Rattle.source_worker.specs.declared.worker.ListenWorker.{ListenWorker}
 
--- Its rules are rules of lines, and its selector names its channels.
+-- the limit of lines is an allowed one; Avro calls have none
+abbrev pub HasLimit : SessionRules → Type 0
+HasLimit (Lines rules) = IsLineLimit rules.max
+HasLimit Avro = Unit {0}
+
+-- Its limit of lines, if any, is an allowed one, and its selector names its channels.
 pub record CanListen {F N C B : Type 0} (w : ListenWorker F N C B) : Type 0 where
-  pub max : IsLineLimit w.rules.max
+  pub max : HasLimit w.rules
   pub few : length w.ports.items < 2 ^ 32
   pub named : NamesBelow w.selector (length w.ports.items)
 
@@ -22,7 +29,7 @@ pub record CanListen {F N C B : Type 0} (w : ListenWorker F N C B) : Type 0 wher
 abbrev pub heard_of : {N : Type 0} → (N → Option LinksTold) → (N → ℕ) → (N → ℕ) → N → Heard
 heard_of told faults waits listener = record { links = told listener; faults = faults listener; waits = waits listener }
 
--- where lines go, what a listener tells, and whether a mend was refused
+-- where events go, what a listener tells, and whether a mend was refused
 abbrev pub stood : {F B : Type 0} → Intake F B → Option (ℕ → ℕ) → Heard → Bool → Serving (Into F B)
 stood intake moments heard due = record { into = into_of intake moments; heard = heard; due = due }
 
@@ -37,7 +44,7 @@ serving moments heard w links due = record {
 -- It built the chain that was planned, or there was no memory for it. Then it made rounds one after the other, and no other
 -- call of its channels. Its listener took back as many links as it gave.
 pub record ListenRan {F N C B : Type 0}
-    (Session : Into F B → Option LinkTold → SessionEnd → Into F B → Option LinkTold → Type 0)
+    (Session : Into F B → Option LinkTold → LinkEnd → Into F B → Option LinkTold → Type 0)
     (Mends : Into F B → List Answer → Into F B → Type 0) (moments : C → Option (ℕ → ℕ)) (heard : N → Heard)
     (stands : N → Option Endpoint) (old new : ListenWorker F N C B) : Type 0 where
   pub built : Bool

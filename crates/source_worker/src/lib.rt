@@ -1,9 +1,10 @@
-//! The worker of a netcat listener: it accepts one link after the other and serves the lines of each until it is told to stop,
-//! and mends its channels after each session.
+//! The worker of a listener: it accepts one link after the other and serves the lines or the Avro calls of each until it is told
+//! to stop, and mends its channels after each session.
 #![tactic(auto)]
 
 mod answers;
 mod begin;
+mod ends;
 mod listens;
 mod mending;
 mod round;
@@ -12,5 +13,6 @@ mod worker;
 mod working;
 
 pub use begin::chain_of;
+pub use ends::{LinkEnd, SessionRules};
 pub use mending::mend_all;
 pub use worker::ListenWorker;

@@ -1,12 +1,12 @@
 // The worker of a listener.
+use crate::ends::SessionRules;
 use chain_plan::LinkPlan;
-use netcat_source::LineRules;
 use selectors::Selector;
 use source_put::HostNames;
 use std::alloc::Global;
 use std::marker::PhantomData;
 
-/// A listener, the rules of its sessions, and all that the lines need on their way into the channels. The chain is a plan: it
+/// A listener, the rules of its sessions, and all that the events need on their way into the channels. The chain is a plan: it
 /// is built in the worker's thread.
 #[derive(Drop)]
 pub struct ListenWorker<F, N, C, B> {
@@ -23,10 +23,10 @@ pub struct ListenWorker<F, N, C, B> {
     /// What interceptors are told of this host.
     pub host: HostNames,
     /// The rules of the sessions.
-    pub rules: LineRules,
+    pub rules: SessionRules,
     /// Gives the links.
     pub listener: N,
-    /// Gives the moment of each line, and makes the pauses.
+    /// Gives the moment of each batch, and makes the pauses.
     pub clock: C,
     /// The kind of the ports.
     pub of: PhantomData<F>,

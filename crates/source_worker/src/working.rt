@@ -3,19 +3,17 @@ ghost use Rattle.std.specs.Prelude.{◌≡◌};
 ghost use Rattle.flume_host.specs.Causes.{Rose};
 ghost use Rattle.flume_host.specs.Listens.{IsSettled};
 ghost use Rattle.source_put.specs.Tries.{Puts};
-ghost use Rattle.netcat_source.specs.Into.{TakesLine};
-ghost use Rattle.netcat_source.specs.Lines.{IsLineLimit};
 ghost use Rattle.source_worker.specs.Rounds.{MendsInto, MendsPort, Session, WorksBy};
-ghost use Rattle.source_worker.specs.Workers.{CanListen, ListenRan, heard_of, stood};
+ghost use Rattle.source_worker.specs.Workers.{CanListen, HasLimit, ListenRan, heard_of, stood};
 
 use crate::answers::{is_stopped, pause_after};
+use crate::ends::SessionRules;
 use crate::listens::Listens;
 use crate::service::Service;
 use crate::worker::ListenWorker;
 use channel_face::{MendFace, PutFace};
 use crew::{Stop, Watch, Work, rest};
 use flume_host::{Clock, Halt, Link, Listener};
-use netcat_source::LineRules;
 use plug_in::Interceptor;
 use std::alloc::Global;
 use std::sync::Wait;
@@ -27,16 +25,16 @@ impl<F: PutFace + MendFace + Drop, B: Interceptor> Service<F, B> {
         alloc: Global,
         rt: &R,
         listener: &mut N,
-        rules: &LineRules,
+        rules: &SessionRules,
         clock: &mut C,
         halt: &mut H,
     )
-        requires { IsLineLimit rules.now.max }
+        requires { HasLimit rules.now }
         ensures works { WorksBy
-            (Session rules.now.max rules.now.ack (TakesLine
+            (Session rules.now
             (Puts ⟦<F as PutFace>⟧.own ⟦<F as PutFace>⟧.saw ⟦<F as PutFace>⟧.seen
             ⟦<F as PutFace>⟧.kept)
-            self.old.intake.selector B.intercepts self.old.intake.host))
+            self.old.intake.selector B.intercepts self.old.intake.host)
             (MendsInto (MendsPort ⟦<F as MendFace>⟧.own ⟦<F as MendFace>⟧.saw ⟦<F as MendFace>⟧.seen
             ⟦<F as MendFace>⟧.kept ⟦<F as MendFace>⟧.on_disk))
             self.old.built
@@ -76,9 +74,9 @@ fn listen_until<
 >(rt: &R, worker: &mut ListenWorker<F, N, C, B>, halt: &mut H)
     requires { CanListen worker.old }
     ensures ran { ListenRan
-        (Session worker.old.rules.max worker.old.rules.ack (TakesLine
+        (Session worker.old.rules
         (Puts ⟦<F as PutFace>⟧.own ⟦<F as PutFace>⟧.saw ⟦<F as PutFace>⟧.seen ⟦<F as PutFace>⟧.kept)
-        worker.old.selector B.intercepts worker.old.host))
+        worker.old.selector B.intercepts worker.old.host)
         (MendsInto (MendsPort ⟦<F as MendFace>⟧.own ⟦<F as MendFace>⟧.saw ⟦<F as MendFace>⟧.seen
         ⟦<F as MendFace>⟧.kept ⟦<F as MendFace>⟧.on_disk))
         C.moments (heard_of N.told N.faults N.waits) N.endpoint worker.old worker.new }
@@ -108,10 +106,10 @@ impl<F: PutFace + MendFace + Drop, N: Listener, C: Clock, B: Interceptor> Listen
     pub fn work_until<R: Wait, H: Halt>(&mut self, rt: &R, halt: &mut H)
         requires { CanListen self.old }
         ensures ran { ListenRan
-            (Session self.old.rules.max self.old.rules.ack (TakesLine
+            (Session self.old.rules
             (Puts ⟦<F as PutFace>⟧.own ⟦<F as PutFace>⟧.saw ⟦<F as PutFace>⟧.seen
             ⟦<F as PutFace>⟧.kept)
-            self.old.selector B.intercepts self.old.host))
+            self.old.selector B.intercepts self.old.host)
             (MendsInto (MendsPort ⟦<F as MendFace>⟧.own ⟦<F as MendFace>⟧.saw ⟦<F as MendFace>⟧.seen
             ⟦<F as MendFace>⟧.kept ⟦<F as MendFace>⟧.on_disk))
             C.moments (heard_of N.told N.faults N.waits) N.endpoint self.old self.new }
@@ -127,9 +125,9 @@ impl<F: PutFace + MendFace + Drop, N: Listener, C: Clock, B: Interceptor> Work
     ghost ready = { λ w. CanListen w };
 
     ghost ran = { λ old new. ListenRan
-        (Session old.rules.max old.rules.ack (TakesLine
+        (Session old.rules
         (Puts ⟦<F as PutFace>⟧.own ⟦<F as PutFace>⟧.saw ⟦<F as PutFace>⟧.seen ⟦<F as PutFace>⟧.kept)
-        old.selector B.intercepts old.host))
+        old.selector B.intercepts old.host)
         (MendsInto (MendsPort ⟦<F as MendFace>⟧.own ⟦<F as MendFace>⟧.saw ⟦<F as MendFace>⟧.seen
         ⟦<F as MendFace>⟧.kept ⟦<F as MendFace>⟧.on_disk))
         C.moments (heard_of N.told N.faults N.waits) N.endpoint old new };

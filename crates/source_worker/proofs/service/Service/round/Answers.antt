@@ -1,6 +1,5 @@
 use Rattle.std.proofs.Common.{◌∙◌, sym}
 use Rattle.source_put.specs.Tries.{Puts}
-use Rattle.netcat_source.specs.Into.{TakesLine}
 use Rattle.source_worker.specs.Rounds.{MendsInto, MendsPort, Session}
 use Rattle.source_worker.specs.Workers.{heard_of, stood}
 use Rattle.source_worker.proofs.Works.{not_due}
@@ -10,7 +9,7 @@ pub returns-else-is_due-clause-makes : goal.returns-else-is_due-clause-makes
 returns-else-is_due-clause-makes g c =
     let old = c.args.self.now in
     let heard = heard_of g.N.Listens.told g.N.Listens.faults g.N.Listens.waits in
-    not_due (Session c.args.rules.now.max c.args.rules.now.ack (TakesLine (Puts g.F.PutFace.own g.F.PutFace.saw g.F.PutFace.seen g.F.PutFace.kept) old.intake.selector g.B.Interceptor.intercepts old.intake.host))
+    not_due (Session c.args.rules.now (Puts g.F.PutFace.own g.F.PutFace.saw g.F.PutFace.seen g.F.PutFace.kept) old.intake.selector g.B.Interceptor.intercepts old.intake.host)
     (MendsInto (MendsPort g.F.MendFace.own g.F.MendFace.saw g.F.MendFace.seen g.F.MendFace.kept g.F.MendFace.on_disk))
     (stood old.intake (g.C.Clock.moments c.args.clock.now) (heard c.args.listener.now) old.due)
     (stood c.serve-found.new.self.intake (g.C.Clock.moments c.serve-found.new.clock) (heard c.serve-found.new.listener) c.serve-found.new.self.due)

@@ -1,7 +1,6 @@
 use Rattle.std.proofs.Common.{◌∙◌, ℕ, Option, refl, sym, subst}
 use Rattle.flume_host.specs.Causes.{Rose}
 use Rattle.source_put.specs.Tries.{Puts}
-use Rattle.netcat_source.specs.Into.{TakesLine}
 use Rattle.source_worker.specs.Rounds.{Makes, MendsInto, MendsPort, Round, Session, WorksBy}
 use Rattle.source_worker.specs.Workers.{heard_of, stood}
 use Rattle.source_worker.proofs.Works.{WorkedSo, by_same, worked_last, worked_more, worked_none}
@@ -11,7 +10,7 @@ pub loop-init : goal.loop-init
 loop-init g c =
     let old = c.args.self.now in
     let heard = heard_of g.N.Listens.told g.N.Listens.faults g.N.Listens.waits in
-    let Sessions = Session c.args.rules.now.max c.args.rules.now.ack (TakesLine (Puts g.F.PutFace.own g.F.PutFace.saw g.F.PutFace.seen g.F.PutFace.kept) old.intake.selector g.B.Interceptor.intercepts old.intake.host) in
+    let Sessions = Session c.args.rules.now (Puts g.F.PutFace.own g.F.PutFace.saw g.F.PutFace.seen g.F.PutFace.kept) old.intake.selector g.B.Interceptor.intercepts old.intake.host in
     let Mends = MendsInto (MendsPort g.F.MendFace.own g.F.MendFace.saw g.F.MendFace.seen g.F.MendFace.kept g.F.MendFace.on_disk) in
     (tt, tt, worked_none Sessions Mends old.built (stood old.intake (g.C.Clock.moments c.args.clock.now) (heard c.args.listener.now) old.due), refl, refl, refl, refl, λ s. s, refl)
 
@@ -22,13 +21,13 @@ returns-then-is_stopped-clause-works g c =
     let one = c.round-found in
     let heard = heard_of g.N.Listens.told g.N.Listens.faults g.N.Listens.waits in
     let Put = Puts g.F.PutFace.own g.F.PutFace.saw g.F.PutFace.seen g.F.PutFace.kept in
-    let Sessions = Session c.args.rules.now.max c.args.rules.now.ack (TakesLine Put old.intake.selector g.B.Interceptor.intercepts old.intake.host) in
+    let Sessions = Session c.args.rules.now Put old.intake.selector g.B.Interceptor.intercepts old.intake.host in
     let Mends = MendsInto (MendsPort g.F.MendFace.own g.F.MendFace.saw g.F.MendFace.seen g.F.MendFace.kept g.F.MendFace.on_disk) in
     let start = stood old.intake (g.C.Clock.moments c.args.clock.now) (heard c.args.listener.now) old.due in
     let now = stood c.loop.self.intake (g.C.Clock.moments c.loop.clock) (heard c.loop.listener) c.loop.self.due in
     let next = stood one.new.self.intake (g.C.Clock.moments one.new.clock) (heard one.new.listener) one.new.self.due in
     let round : Round = record { found = one.result; mends = one.ensures.makes.0 } in
-    let made : Makes Sessions Mends round now next = by_same Put g.B.Interceptor.intercepts c.args.rules.now.max c.args.rules.now.ack Mends _ _ _ _ round now next i.3 i.4 one.ensures.makes.1 in
+    let made : Makes Sessions Mends round now next = by_same Put g.B.Interceptor.intercepts c.args.rules.now Mends _ _ _ _ round now next i.3 i.4 one.ensures.makes.1 in
     worked_last Sessions Mends old.built start now next round i.2 made (λ is. one.ensures.unserved (i.5 ∙ is))
 
 pub returns-then-is_stopped-clause-settled : goal.returns-then-is_stopped-clause-settled
@@ -48,13 +47,13 @@ returns-then-asked-clause-works g c =
     let one = c.round-found in
     let heard = heard_of g.N.Listens.told g.N.Listens.faults g.N.Listens.waits in
     let Put = Puts g.F.PutFace.own g.F.PutFace.saw g.F.PutFace.seen g.F.PutFace.kept in
-    let Sessions = Session c.args.rules.now.max c.args.rules.now.ack (TakesLine Put old.intake.selector g.B.Interceptor.intercepts old.intake.host) in
+    let Sessions = Session c.args.rules.now Put old.intake.selector g.B.Interceptor.intercepts old.intake.host in
     let Mends = MendsInto (MendsPort g.F.MendFace.own g.F.MendFace.saw g.F.MendFace.seen g.F.MendFace.kept g.F.MendFace.on_disk) in
     let start = stood old.intake (g.C.Clock.moments c.args.clock.now) (heard c.args.listener.now) old.due in
     let now = stood c.loop.self.intake (g.C.Clock.moments c.loop.clock) (heard c.loop.listener) c.loop.self.due in
     let next = stood one.new.self.intake (g.C.Clock.moments one.new.clock) (heard one.new.listener) one.new.self.due in
     let round : Round = record { found = one.result; mends = one.ensures.makes.0 } in
-    let made : Makes Sessions Mends round now next = by_same Put g.B.Interceptor.intercepts c.args.rules.now.max c.args.rules.now.ack Mends _ _ _ _ round now next i.3 i.4 one.ensures.makes.1 in
+    let made : Makes Sessions Mends round now next = by_same Put g.B.Interceptor.intercepts c.args.rules.now Mends _ _ _ _ round now next i.3 i.4 one.ensures.makes.1 in
     worked_last Sessions Mends old.built start now next round i.2 made (λ is. one.ensures.unserved (i.5 ∙ is))
 
 pub returns-then-asked-clause-settled : goal.returns-then-asked-clause-settled
@@ -74,13 +73,13 @@ returns-then-rest-clause-works g c =
     let one = c.round-found in
     let heard = heard_of g.N.Listens.told g.N.Listens.faults g.N.Listens.waits in
     let Put = Puts g.F.PutFace.own g.F.PutFace.saw g.F.PutFace.seen g.F.PutFace.kept in
-    let Sessions = Session c.args.rules.now.max c.args.rules.now.ack (TakesLine Put old.intake.selector g.B.Interceptor.intercepts old.intake.host) in
+    let Sessions = Session c.args.rules.now Put old.intake.selector g.B.Interceptor.intercepts old.intake.host in
     let Mends = MendsInto (MendsPort g.F.MendFace.own g.F.MendFace.saw g.F.MendFace.seen g.F.MendFace.kept g.F.MendFace.on_disk) in
     let start = stood old.intake (g.C.Clock.moments c.args.clock.now) (heard c.args.listener.now) old.due in
     let now = stood c.loop.self.intake (g.C.Clock.moments c.loop.clock) (heard c.loop.listener) c.loop.self.due in
     let next = stood one.new.self.intake (g.C.Clock.moments one.new.clock) (heard one.new.listener) one.new.self.due in
     let round : Round = record { found = one.result; mends = one.ensures.makes.0 } in
-    let made : Makes Sessions Mends round now next = by_same Put g.B.Interceptor.intercepts c.args.rules.now.max c.args.rules.now.ack Mends _ _ _ _ round now next i.3 i.4 one.ensures.makes.1 in
+    let made : Makes Sessions Mends round now next = by_same Put g.B.Interceptor.intercepts c.args.rules.now Mends _ _ _ _ round now next i.3 i.4 one.ensures.makes.1 in
     subst (λ (m : Option (ℕ → ℕ)). WorksBy Sessions Mends old.built start (stood one.new.self.intake m (heard one.new.listener) one.new.self.due)) (sym c.rest.ensures.moments)
     (worked_last Sessions Mends old.built start now next round i.2 made (λ is. one.ensures.unserved (i.5 ∙ is)))
 
@@ -101,13 +100,13 @@ loop-preserved g c =
     let one = c.round-found in
     let heard = heard_of g.N.Listens.told g.N.Listens.faults g.N.Listens.waits in
     let Put = Puts g.F.PutFace.own g.F.PutFace.saw g.F.PutFace.seen g.F.PutFace.kept in
-    let Sessions = Session c.args.rules.now.max c.args.rules.now.ack (TakesLine Put old.intake.selector g.B.Interceptor.intercepts old.intake.host) in
+    let Sessions = Session c.args.rules.now Put old.intake.selector g.B.Interceptor.intercepts old.intake.host in
     let Mends = MendsInto (MendsPort g.F.MendFace.own g.F.MendFace.saw g.F.MendFace.seen g.F.MendFace.kept g.F.MendFace.on_disk) in
     let start = stood old.intake (g.C.Clock.moments c.args.clock.now) (heard c.args.listener.now) old.due in
     let now = stood c.loop.self.intake (g.C.Clock.moments c.loop.clock) (heard c.loop.listener) c.loop.self.due in
     let next = stood one.new.self.intake (g.C.Clock.moments one.new.clock) (heard one.new.listener) one.new.self.due in
     let round : Round = record { found = one.result; mends = one.ensures.makes.0 } in
-    let made : Makes Sessions Mends round now next = by_same Put g.B.Interceptor.intercepts c.args.rules.now.max c.args.rules.now.ack Mends _ _ _ _ round now next i.3 i.4 one.ensures.makes.1 in
+    let made : Makes Sessions Mends round now next = by_same Put g.B.Interceptor.intercepts c.args.rules.now Mends _ _ _ _ round now next i.3 i.4 one.ensures.makes.1 in
     let going = c.is_stopped.ensures.no c.if-is_stopped.false in (
       tt,
       tt,

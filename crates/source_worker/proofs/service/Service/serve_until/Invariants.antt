@@ -1,7 +1,6 @@
 use Rattle.std.proofs.Common.{◌≡◌}
 use Rattle.flume_host.specs.Listens.{IsSettled}
 use Rattle.source_put.specs.Tries.{Puts}
-use Rattle.netcat_source.specs.Into.{TakesLine}
 use Rattle.source_worker.specs.Rounds.{MendsInto, MendsPort, Session}
 use Rattle.source_worker.specs.Workers.{heard_of, stood}
 use Rattle.source_worker.proofs.Works.{WorkedSo}
@@ -12,7 +11,7 @@ invariant-loop g l =
     let old = l.initial.self in
     let heard = heard_of g.N.Listens.told g.N.Listens.faults g.N.Listens.waits in
     (goal.iterator-loop g).can_next l.iterator' × (goal.iterator-loop g).is_finite l.iterator'
-    × WorkedSo (Session l.rules.max l.rules.ack (TakesLine (Puts g.F.PutFace.own g.F.PutFace.saw g.F.PutFace.seen g.F.PutFace.kept) old.intake.selector g.B.Interceptor.intercepts old.intake.host))
+    × WorkedSo (Session l.rules (Puts g.F.PutFace.own g.F.PutFace.saw g.F.PutFace.seen g.F.PutFace.kept) old.intake.selector g.B.Interceptor.intercepts old.intake.host)
     (MendsInto (MendsPort g.F.MendFace.own g.F.MendFace.saw g.F.MendFace.seen g.F.MendFace.kept g.F.MendFace.on_disk)) old.built
     (stood old.intake (g.C.Clock.moments l.initial.clock) (heard l.initial.listener) old.due)
     (stood l.self.intake (g.C.Clock.moments l.clock) (heard l.listener) l.self.due)
