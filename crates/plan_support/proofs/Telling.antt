@@ -1,15 +1,13 @@
 -- What it tells that there is no least line.
-use Rattle.std.proofs.Common.{◌≡◌, ◌++◌, ℕ, min, List, [], ◌∷◌, Bool, true, false, cond, All, map, flat_map, fold, take, Option, Some, None, IfNone, refl, sym, subst, true≢false}
+use Rattle.std.proofs.Common.{◌≡◌, ◌++◌, ℕ, min, List, [], ◌∷◌, Bool, true, false, cond, All, map, flat_map, fold, take, Option, Some, None, IfNone, refl, sym, subst}
 use Rattle.std.proofs.lemmas.List.Elements.{All-cons, All-nil}
 use Rattle.flume_config.specs.declared.plan.Plan.{Plan}
 use Rattle.flume_config.specs.declared.plan.SourcePlan.{SourcePlan}
-use Rattle.flume_config.specs.declared.plan.SourceKind.{SourceKind}
-use Rattle.flume_config.specs.declared.plan.SourceKind.TheVariants.{Netcat, Avro, Stdin}
 use Rattle.flume_config.specs.declared.plan.StepPlan.{StepPlan}
 use Rattle.flume_config.specs.declared.plan.StepPlan.TheVariants.{Step, Regex, Plugin}
 use Rattle.flume_config.specs.declared.plan.SinkPlan.{SinkPlan}
 use Rattle.flume_config.specs.declared.plan.GroupPlan.{GroupPlan}
-use Rattle.plan_support.specs.Least.{HasNoPlugin, HasOwnSteps, IsOwn, IsSupported, TakesLines, first_plugin, group_lines, is_plugin, line_at, nearer, plugin_lines, sink_plugin_lines, source_avro_lines, source_plugin_lines, takes_avro, unsupported}
+use Rattle.plan_support.specs.Least.{HasNoPlugin, HasOwnSteps, IsOwn, IsSupported, first_plugin, group_lines, is_plugin, line_at, nearer, plugin_lines, sink_plugin_lines, source_plugin_lines, unsupported}
 
 -- ---- lists
 
@@ -75,21 +73,11 @@ no_plugin plan is =
 
 -- ---- what an agent does not run yet
 
-takes_lines : (kind : SourceKind) → takes_avro kind ≡ false → TakesLines kind
-takes_lines (Netcat bind port max_line ack threads) is = tt
-takes_lines (Avro bind port threads) is = absurd (true≢false is)
-takes_lines (Stdin max_line ack) is = tt
-
 no_member : (sinks : List SinkPlan) (places : List ℕ) → map (line_at sinks) (take 1 places) ≡ [] → places ≡ []
 no_member sinks [] is = refl
 no_member sinks (place ∷ places) is = absurd (no_cons (line_at sinks place) (map (line_at sinks) (take 0 places)) is)
 
 pub none_unsupported : (plan : Plan) → unsupported plan ≡ None → IsSupported plan
-none_unsupported plan is =
-    let sources = flat_map source_avro_lines plan.sources.items in
-    let groups = flat_map (group_lines plan.sinks.items) plan.groups.items in
-    let none = no_lines (sources ++ groups) is in
-    record {
-      sources = each_none source_avro_lines (λ (s : SourcePlan). TakesLines s.kind) (λ s no. takes_lines s.kind (untold (takes_avro s.kind) s.line no)) plan.sources.items (nil_front sources groups none);
-      groups = each_none (group_lines plan.sinks.items) (λ (g : GroupPlan). g.sinks.items ≡ []) (λ g no. no_member plan.sinks.items g.sinks.items no) plan.groups.items (nil_back sources groups none);
-    }
+none_unsupported plan is = record {
+  groups = each_none (group_lines plan.sinks.items) (λ (g : GroupPlan). g.sinks.items ≡ []) (λ g no. no_member plan.sinks.items g.sinks.items no) plan.groups.items (no_lines (flat_map (group_lines plan.sinks.items) plan.groups.items) is);
+}

@@ -2,8 +2,6 @@
 use Rattle.std.specs.Prelude.{◌≡◌, ◌++◌, ℕ, min, Bool, true, false, List, [], ◌∷◌, All, map, flat_map, fold, take, slice_index, if◌then◌else◌, Option, Some, None}
 use Rattle.flume_config.specs.declared.plan.Plan.{Plan}
 use Rattle.flume_config.specs.declared.plan.SourcePlan.{SourcePlan}
-use Rattle.flume_config.specs.declared.plan.SourceKind.{SourceKind}
-use Rattle.flume_config.specs.declared.plan.SourceKind.TheVariants as source
 use Rattle.flume_config.specs.declared.plan.StepPlan.{StepPlan}
 use Rattle.flume_config.specs.declared.plan.StepPlan.TheVariants as step
 use Rattle.flume_config.specs.declared.plan.SinkPlan.{SinkPlan}
@@ -56,15 +54,6 @@ pub record HasNoPlugin (p : Plan) : Type 0 where
 
 -- ---- what an agent does not run yet
 
--- it takes Avro calls
-abbrev pub takes_avro : SourceKind → Bool
-takes_avro (source.Netcat bind port max_line ack threads) = false
-takes_avro (source.Avro bind port threads) = true
-takes_avro (source.Stdin max_line ack) = false
-
-abbrev pub source_avro_lines : SourcePlan → List ℕ
-source_avro_lines s = if takes_avro s.kind then s.line ∷ [] else []
-
 -- the line of the sink at a place, which is one of these, and else 0
 abbrev pub line_at : List SinkPlan → ℕ → ℕ
 line_at sinks place = slice_index (map (λ (s : SinkPlan). s.line) sinks) place
@@ -75,15 +64,8 @@ group_lines sinks g = map (line_at sinks) (take 1 g.sinks.items)
 
 -- the least of those lines
 abbrev pub unsupported : Plan → Option ℕ
-unsupported p = fold nearer None (flat_map source_avro_lines p.sources.items ++ flat_map (group_lines p.sinks.items) p.groups.items)
+unsupported p = fold nearer None (flat_map (group_lines p.sinks.items) p.groups.items)
 
--- it takes lines
-abbrev pub TakesLines : SourceKind → Type 0
-TakesLines (source.Netcat bind port max_line ack threads) = Unit {0}
-TakesLines (source.Avro bind port threads) = ⊥
-TakesLines (source.Stdin max_line ack) = Unit {0}
-
--- each source takes lines, and no group has a sink
+-- no group has a sink
 pub record IsSupported (p : Plan) : Type 0 where
-  pub sources : All (λ s. TakesLines s.kind) p.sources.items
   pub groups : All (λ g. g.sinks.items ≡ []) p.groups.items

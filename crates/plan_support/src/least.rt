@@ -1,8 +1,8 @@
 // The least line of what an agent does not run.
 ghost use Rattle.std.specs.Prelude.{◌≡◌, IfNone, None, flat_map, fold};
-ghost use Rattle.plan_support.specs.Least.{HasNoPlugin, IsSupported, first_plugin, group_lines, is_plugin, line_at, nearer, plugin_lines, sink_plugin_lines, source_avro_lines, source_plugin_lines, takes_avro, unsupported};
+ghost use Rattle.plan_support.specs.Least.{HasNoPlugin, IsSupported, first_plugin, group_lines, is_plugin, line_at, nearer, plugin_lines, sink_plugin_lines, source_plugin_lines, unsupported};
 
-use flume_config::{GroupPlan, Plan, SinkKind, SinkPlan, SourceKind, SourcePlan, StepPlan};
+use flume_config::{GroupPlan, Plan, SinkKind, SinkPlan, SourcePlan, StepPlan};
 
 // The nearer of two lines.
 fn nearer(first: Option<u32>, line: u32) -> Option<u32>
@@ -66,25 +66,6 @@ pub fn first_plugin(plan: &Plan) -> Option<u32>
     nearest_sink(first, plan.sinks.as_slice())
 }
 
-fn takes_avro(kind: &SourceKind) -> bool
-    ensures { result ≡ takes_avro kind.now }
-{
-    matches!(kind, SourceKind::Avro { .. })
-}
-
-// The nearest line of a source that takes Avro calls.
-fn nearest_avro_source(sources: &[SourcePlan]) -> Option<u32>
-    ensures { result ≡ fold nearer None (flat_map source_avro_lines sources.now) }
-{
-    let mut first: Option<u32> = None;
-    for source in sources {
-        if takes_avro(&source.kind) {
-            first = nearer(first, source.line);
-        }
-    }
-    first
-}
-
 // The line of the sink at a place.
 fn line_at(sinks: &[SinkPlan], place: u32) -> u32
     ensures { result ≡ line_at sinks.now place }
@@ -109,22 +90,21 @@ fn nearest_member(first: Option<u32>, sinks: &[SinkPlan], group: &GroupPlan) -> 
 }
 
 // The same over groups.
-fn nearest_group(first: Option<u32>, sinks: &[SinkPlan], groups: &[GroupPlan]) -> Option<u32>
-    ensures { result ≡ fold nearer first (flat_map (group_lines sinks.now) groups.now) }
+fn nearest_group(sinks: &[SinkPlan], groups: &[GroupPlan]) -> Option<u32>
+    ensures { result ≡ fold nearer None (flat_map (group_lines sinks.now) groups.now) }
 {
-    let mut first = first;
+    let mut first: Option<u32> = None;
     for group in groups {
         first = nearest_member(first, sinks, group);
     }
     first
 }
 
-/// The least line of what a run of an agent does not support yet: a source of Avro, and the first sink of a group, as a group has no
-/// line of its own. Where there is none, the plan has no source of Avro and no group with a sink.
+/// The least line of what a run of an agent does not support yet: that of the first sink of a group, as a group has no line of its
+/// own. Where there is none, the plan has no group with a sink.
 pub fn unsupported(plan: &Plan) -> Option<u32>
     ensures least { result ≡ unsupported plan.now }
     ensures none { IfNone result (IsSupported plan.now) }
 {
-    let first = nearest_avro_source(plan.sources.as_slice());
-    nearest_group(first, plan.sinks.as_slice(), plan.groups.as_slice())
+    nearest_group(plan.sinks.as_slice(), plan.groups.as_slice())
 }
