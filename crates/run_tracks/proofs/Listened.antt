@@ -3,6 +3,7 @@ use Rattle.std.proofs.Common.{◌≡◌, ◌∙◌, inl, inr, ℕ, suc, List, []
 use Rattle.std.specs.List.{AllByRecursion}
 use Rattle.flume_host.specs.Links.{LinkTold}
 use Rattle.flume_host.specs.Listens.{fresh_from}
+use Rattle.event_core.specs.Content.{Content}
 use Rattle.channel_face.specs.Faces.{Own}
 use Rattle.channel_face.specs.Machine.{State}
 use Rattle.selectors.specs.declared.selector.Selector.{Selector}
@@ -12,10 +13,20 @@ use Rattle.source_put.specs.Chains.{Meaning}
 use Rattle.source_put.specs.Into.{Into}
 use Rattle.source_put.specs.declared.chain.HostNames.{HostNames}
 use Rattle.source_put.specs.declared.intake.Verdict.{Verdict}
+use Rattle.source_put.specs.declared.intake.Verdict.TheVariants as verdicts
 use Rattle.netcat_source.specs.Into.{TakesAll, TakesLine}
 use Rattle.netcat_source.specs.Judged.{Judged, event_of}
-use Rattle.netcat_source.specs.declared.session.SessionEnd.{SessionEnd}
+use Rattle.avro_hop.specs.declared.hop.Asked.TheVariants.{Reply, Events}
+use Rattle.avro_ends.specs.Exchanges.{Exchange, Exchanged, Exchanges, TakesBatch}
+use Rattle.avro_ends.specs.Sessions.{EndsBy, IsNext}
+use Rattle.avro_ends.specs.declared.session.AvroEnd.{AvroEnd}
+use Rattle.avro_ends.specs.declared.session.AvroEnd.TheVariants as avro
 use Rattle.source_worker.specs.Rounds.{Answer, Finds, Found, Makes, MendsEach, MendsIf, MendsInto, Round, Rounds, Serves, Serving, Session, is_due}
+use Rattle.source_worker.specs.declared.ends.LinkEnd.{LinkEnd}
+use Rattle.source_worker.specs.declared.ends.LinkEnd.TheVariants as ended
+use Rattle.source_worker.specs.declared.ends.SessionRules.{SessionRules}
+use Rattle.source_worker.specs.declared.ends.SessionRules.TheVariants.{Lines, Avro}
+use Rattle.source_worker.proofs.Nexts.{NextOf, next_of}
 use Rattle.run_tracks.specs.Listening.{IsDiskAt, ListenedHome, ListenedInTracks, MendedEach, MendedInto, MendedPort, PortMends, along, home_tracks, serving_along}
 use Rattle.run_tracks.specs.Homes.{TookAt}
 use Rattle.run_tracks.specs.Places.{Zips}
@@ -24,6 +35,10 @@ use Rattle.run_tracks.specs.Tracks.{Gave, Stood, Track, ended, track_of}
 use Rattle.run_tracks.proofs.Moving.{mend}
 use Rattle.run_tracks.proofs.Staying.{makes_stay, rounds_stay, serves_stay}
 use Rattle.run_tracks.proofs.Tracking.{AllMatch, Before, accepts, back, before_none, behind_then, matches_back, matches_home, prefix_short, stood}
+
+-- the same message, of which something else is true
+next_as : (rest : List ℕ) (P Q : List ℕ → Type 0) (n : NextOf rest P) → Q n.payload → IsNext rest Q
+next_as rest P Q n is = (n.first, n.behind, n.serial, n.payload, n.split, n.pack, is)
 
 module _ {F : Type 0} (pass : F → Known) (saw : F → List Own → State → Type 0) (kept : F → F → Type 0) (face : IsFace pass saw kept) (on_disk : F → Type 0) (steady : IsSteady kept on_disk) where
   -- a port is on a disk exactly where another is
@@ -108,22 +123,92 @@ module _ {F : Type 0} (pass : F → Known) (saw : F → List Own → State → T
         let first = line_in a next j.line j.verdict later.us later.all one in
         record { us = first.us; all = first.all; behind = behind_then first.us later.us ts first.behind later.behind; holds = (along later.us next, first.holds, later.holds) }
 
-    module _ (max : ℕ) (ack : Bool) where
-      abbrev pub Sessions : Into F B → Option LinkTold → SessionEnd → Into F B → Option LinkTold → Type 0
-      Sessions = Session max ack Line
+    abbrev pub Batch : Into F B → List Content → Verdict → Into F B → Type 0
+    Batch = TakesBatch (PortPuts pass saw kept) selector Means host
 
-      abbrev pub SessionsIn : Into Track B → Option LinkTold → SessionEnd → Into Track B → Option LinkTold → Type 0
-      SessionsIn = Session max ack LineIn
+    abbrev pub BatchIn : Into Track B → List Content → Verdict → Into Track B → Type 0
+    BatchIn = TakesBatch Gave selector Means host
 
-      session_in : (a b : Into F B) (told now : Option LinkTold) (end : SessionEnd) (ts : List Track) → AllMatch pass saw kept face b.route.ports ts → Sessions a told end b now → Before pass saw kept face a.route.ports ts (λ us. SessionsIn (along us a) told end (along ts b) now)
-      session_in a b told now end ts m (inl s) =
-          let l = lines_in s.done a b ts m s.takes in
-          record { us = l.us; all = l.all; behind = l.behind; holds = inl (record { done = s.done; takes = l.holds; each = s.each; rest = s.rest; sent = s.sent; turns = s.turns; talk = s.talk; ends = s.ends; leaves = s.leaves; after = s.after }) }
-      session_in a b told now end ts m (inr (is, kept, same)) = same_in a b ts (λ us. SessionsIn (along us a) told end (along ts b) now) m same (inr (is, kept, λ i. along ts (same i)))
+    batch_in : (a b : Into F B) (batch : List Content) (verdict : Verdict) (ts : List Track) → AllMatch pass saw kept face b.route.ports ts → Batch a batch verdict b → Before pass saw kept face a.route.ports ts (λ us. BatchIn (along us a) batch verdict (along ts b))
+    batch_in a b batch verdict ts m (moment, next, accepted) =
+        let g = accepts pass saw kept face Means selector host moment a.route b.route batch verdict ts m accepted in
+        record { us = g.us; all = g.all; behind = g.behind; holds = (moment, next, g.holds) }
+
+    exchange_in : (greeted after : Bool) (x : Exchange) (a b : Into F B) (ts : List Track) → AllMatch pass saw kept face b.route.ports ts → Exchanged Batch greeted a x after b → Before pass saw kept face a.route.ports ts (λ us. Exchanged BatchIn greeted (along us a) x after (along ts b))
+    exchange_in greeted after x a b ts m (Reply bytes, answers, (none, is, same)) = same_in a b ts (λ us. Exchanged BatchIn greeted (along us a) x after (along ts b)) m same (Reply bytes, answers, (none, is, λ i. along ts (same i)))
+    exchange_in greeted after x a b ts m (Events front batch, answers, (verdict, status, is, taken, said, reply)) =
+        let g = batch_in a b batch verdict ts m taken in
+        record { us = g.us; all = g.all; behind = g.behind; holds = (Events front batch, answers, (verdict, status, is, g.holds, said, reply)) }
+
+    exchanges_in : (greeted after : Bool) (done : List Exchange) (a b : Into F B) (ts : List Track) → AllMatch pass saw kept face b.route.ports ts → Exchanges Batch greeted a done after b → Before pass saw kept face a.route.ports ts (λ us. Exchanges BatchIn greeted (along us a) done after (along ts b))
+    exchanges_in greeted after [] a b ts m (is, same) = same_in a b ts (λ us. Exchanges BatchIn greeted (along us a) [] after (along ts b)) m same (is, λ i. along ts (same i))
+    exchanges_in greeted after (x ∷ done) a b ts m (next, state, one, others) =
+        let later = exchanges_in next after done state b ts m others in
+        let first = exchange_in greeted next x a state later.us later.all one in
+        record { us = first.us; all = first.all; behind = behind_then first.us later.us ts first.behind later.behind; holds = (next, along later.us state, first.holds, later.holds) }
+
+    -- how a session of Avro calls ended
+    avro_end_in : (end : AvroEnd) (greeted : Bool) (a b : Into F B) (done : List Exchange) (rest sent : List ℕ) (ts : List Track) → AllMatch pass saw kept face b.route.ports ts → EndsBy Batch end greeted a b done rest sent
+        → Before pass saw kept face a.route.ports ts (λ us. EndsBy BatchIn end greeted (along us a) (along ts b) done rest sent)
+    avro_end_in avro.End greeted a b done rest sent ts m is = same_in a b ts (λ us. EndsBy BatchIn avro.End greeted (along us a) (along ts b) done rest sent) m is.0 (λ i. along ts (is.0 i), is.1, is.2)
+    avro_end_in avro.Stopped greeted a b done rest sent ts m is = same_in a b ts (λ us. EndsBy BatchIn avro.Stopped greeted (along us a) (along ts b) done rest sent) m is.0 (λ i. along ts (is.0 i), is.1)
+    avro_end_in avro.LinkFault greeted a b done rest sent ts m is = same_in a b ts (λ us. EndsBy BatchIn avro.LinkFault greeted (along us a) (along ts b) done rest sent) m is.0 (λ i. along ts (is.0 i), is.1)
+    avro_end_in avro.Turns greeted a b done rest sent ts m is = same_in a b ts (λ us. EndsBy BatchIn avro.Turns greeted (along us a) (along ts b) done rest sent) m is.0 (λ i. along ts (is.0 i), is.1, is.2)
+    avro_end_in (avro.TooMany n) greeted a b done rest sent ts m is = same_in a b ts (λ us. EndsBy BatchIn (avro.TooMany n) greeted (along us a) (along ts b) done rest sent) m is.0 (λ i. along ts (is.0 i), is.1, is.2)
+    avro_end_in (avro.TooLarge n) greeted a b done rest sent ts m is = same_in a b ts (λ us. EndsBy BatchIn (avro.TooLarge n) greeted (along us a) (along ts b) done rest sent) m is.0 (λ i. along ts (is.0 i), is.1, is.2)
+    avro_end_in (avro.BadHandshake at) greeted a b done rest sent ts m is = same_in a b ts (λ us. EndsBy BatchIn (avro.BadHandshake at) greeted (along us a) (along ts b) done rest sent) m is.0 (λ i. along ts (is.0 i), is.1, is.2)
+    avro_end_in avro.OtherProtocol greeted a b done rest sent ts m is = same_in a b ts (λ us. EndsBy BatchIn avro.OtherProtocol greeted (along us a) (along ts b) done rest sent) m is.0 (λ i. along ts (is.0 i), is.1, is.2)
+    avro_end_in avro.NoMemory greeted a b done rest sent ts m (is, inl same) = same_in a b ts (λ us. EndsBy BatchIn avro.NoMemory greeted (along us a) (along ts b) done rest sent) m same (is, inl (λ i. along ts (same i)))
+    avro_end_in avro.NoMemory greeted a b done rest sent ts m (is, inr next) =
+        let n = next_of rest _ next in
+        let g = batch_in a b n.is.2 verdicts.NoMemory ts m n.is.4 in
+        record { us = g.us; all = g.all; behind = g.behind; holds = (is, inr (next_as rest _ _ n (n.is.0, n.is.1, n.is.2, n.is.3, g.holds))) }
+
+    session_in : (rules : SessionRules) (a b : Into F B) (told now : Option LinkTold) (end : LinkEnd) (ts : List Track) → AllMatch pass saw kept face b.route.ports ts → Session rules (PortPuts pass saw kept) selector Means host a told end b now
+        → Before pass saw kept face a.route.ports ts (λ us. Session rules Gave selector Means host (along us a) told end (along ts b) now)
+    session_in (Lines rules) a b told now (ended.Lines end) ts m (inl s) =
+        let l = lines_in s.done a b ts m s.takes in
+        record { us = l.us; all = l.all; behind = l.behind; holds = inl (record { done = s.done; takes = l.holds; each = s.each; rest = s.rest; sent = s.sent; turns = s.turns; talk = s.talk; ends = s.ends; leaves = s.leaves; after = s.after }) }
+    session_in (Lines rules) a b told now (ended.Lines end) ts m (inr (is, kept, same)) =
+        same_in a b ts (λ us. Session (Lines rules) Gave selector Means host (along us a) told (ended.Lines end) (along ts b) now) m same (inr (is, kept, λ i. along ts (same i)))
+    session_in (Lines rules) a b told now (ended.Avro end) ts m none = absurd none
+    session_in Avro a b told now (ended.Lines end) ts m none = absurd none
+    session_in Avro a b told now (ended.Avro end) ts m (inl s) =
+        let later = avro_end_in end s.after s.between b s.done s.rest s.sent ts m s.ends in
+        let first = exchanges_in false s.after s.done a s.between later.us later.all s.exchanged in
+        record {
+          us = first.us;
+          all = first.all;
+          behind = behind_then first.us later.us ts first.behind later.behind;
+          holds = inl (record {
+            done = s.done;
+            after = s.after;
+            between = along later.us s.between;
+            exchanged = first.holds;
+            front = s.front;
+            packs = s.packs;
+            rest = s.rest;
+            sent = s.sent;
+            turns = s.turns;
+            talk = s.talk;
+            ends = later.holds;
+            leaves = s.leaves;
+            count = s.count;
+          });
+        }
+    session_in Avro a b told now (ended.Avro end) ts m (inr (is, kept, same)) =
+        same_in a b ts (λ us. Session Avro Gave selector Means host (along us a) told (ended.Avro end) (along ts b) now) m same (inr (is, kept, λ i. along ts (same i)))
+
+    module _ (rules : SessionRules) where
+      abbrev pub Sessions : Into F B → Option LinkTold → LinkEnd → Into F B → Option LinkTold → Type 0
+      Sessions = Session rules (PortPuts pass saw kept) selector Means host
+
+      abbrev pub SessionsIn : Into Track B → Option LinkTold → LinkEnd → Into Track B → Option LinkTold → Type 0
+      SessionsIn = Session rules Gave selector Means host
 
       finds_in : (found : Found) (a b : Serving (Into F B)) (ts : List Track) → AllMatch pass saw kept face b.into.route.ports ts → Finds Sessions found a b → Before pass saw kept face a.into.route.ports ts (λ us. Finds SessionsIn found (serving_along us a) (serving_along ts b))
       finds_in (Ok (Some end)) a b ts m (now, kept, one) =
-          let s = session_in a.into b.into (fresh_from a.heard.links) now end ts m one in
+          let s = session_in rules a.into b.into (fresh_from a.heard.links) now end ts m one in
           record { us = s.us; all = s.all; behind = s.behind; holds = (now, kept, s.holds) }
       finds_in (Ok None) a b ts m (gave, same, waited) = same_in a.into b.into ts (λ us. Finds SessionsIn (Ok None) (serving_along us a) (serving_along ts b)) m same (gave, (λ i. along ts (same i)), waited)
       finds_in (Err failed) a b ts m (links, same) = same_in a.into b.into ts (λ us. Finds SessionsIn (Err failed) (serving_along us a) (serving_along ts b)) m same (links, λ i. along ts (same i))
@@ -144,7 +229,7 @@ module _ {F : Type 0} (pass : F → Known) (saw : F → List Own → State → T
         makes_in : (round : Round) (a b : Serving (Into F B)) (ts : List Track) → AllMatch pass saw kept face b.into.route.ports ts → AreDisks D a.into.route.ports → Makes Sessions (MendsInto (PortMends pass saw kept on_disk)) round a b
             → Before pass saw kept face a.into.route.ports ts (λ us. Makes SessionsIn (MendedInto D) round (serving_along us a) (serving_along ts b))
         makes_in round a b ts m same one =
-            let stays = serves_stay SameDisk disk_self disk_then (PortPuts pass saw kept) (λ p q events result put. steady p q put.same) Means selector host max ack round.found a one.between one.serves in
+            let stays = serves_stay SameDisk disk_self disk_then (PortPuts pass saw kept) (λ p q events result put. steady p q put.same) Means selector host rules round.found a one.between one.serves in
             let later = mends_in (is_due a.due round.found) one.between.into b.into round.mends ts m (disks_later D a.into.route.ports one.between.into.route.ports stays same) one.mends in
             let first = serves_in round.found a one.between later.us later.all one.serves in
             record {
@@ -159,15 +244,15 @@ module _ {F : Type 0} (pass : F → Known) (saw : F → List Own → State → T
         rounds_in [] a b ts m disks same =
             before_none pass saw kept face a.into.route.ports ts (λ us. Rounds SessionsIn (MendedInto D) [] (serving_along us a) (serving_along ts b)) (subst (λ (x : Serving (Into F B)). AllMatch pass saw kept face x.into.route.ports ts) same m) (λ i. serving_along ts (same i))
         rounds_in (round ∷ rounds) a b ts m disks (next, one, others) =
-            let stays = makes_stay SameDisk disk_self disk_then (PortPuts pass saw kept) (λ p q events result put. steady p q put.same) Means selector host max ack (PortMends pass saw kept on_disk) (λ p q answer did. steady p q did.same) round a next one in
+            let stays = makes_stay SameDisk disk_self disk_then (PortPuts pass saw kept) (λ p q events result put. steady p q put.same) Means selector host rules (PortMends pass saw kept on_disk) (λ p q answer did. steady p q did.same) round a next one in
             let later = rounds_in rounds next b ts m (disks_later D a.into.route.ports next.into.route.ports stays disks) others in
             let first = makes_in round a next later.us later.all disks one in
             record { us = first.us; all = first.all; behind = behind_then first.us later.us ts first.behind later.behind; holds = (serving_along later.us next, first.holds, later.holds) }
 
   -- the rounds of a listener's worker are in the tracks of its ports
   pub listened : {B : Type 0} (Means : Meaning B) → ListenedInTracks pass saw kept on_disk Means
-  listened Means max ack selector host rounds old new after m ran =
-      let before = rounds_in Means selector host max ack (IsDiskAt on_disk old.into.route.ports) rounds old new after m (disks_self old.into.route.ports) ran in
+  listened Means rules selector host rounds old new after m ran =
+      let before = rounds_in Means selector host rules (IsDiskAt on_disk old.into.route.ports) rounds old new after m (disks_self old.into.route.ports) ran in
       (before.us, before.all, before.behind, before.holds)
 
   abbrev pub StaysLater : F → F → Type 0
@@ -202,11 +287,11 @@ module _ {F : Type 0} (pass : F → Known) (saw : F → List Own → State → T
 
   -- once their passes are at home, the rounds are all calls with their numbers
   pub listened_home : {B : Type 0} (Means : Meaning B) → ListenedHome pass saw kept on_disk Means
-  listened_home {B} Means max ack selector host rounds old new homes channels fresh took ran =
+  listened_home {B} Means rules selector host rounds old new homes channels fresh took ran =
       let ports = old.into.route.ports in
-      let later = rounds_stay StaysLater (λ p. later_none (pass p)) (λ p q r f g. later_then (pass p) (pass q) (pass r) f g) (PortPuts pass saw kept) (λ p q events result put. face.laters p q put.same) Means selector host max ack
+      let later = rounds_stay StaysLater (λ p. later_none (pass p)) (λ p q r f g. later_then (pass p) (pass q) (pass r) f g) (PortPuts pass saw kept) (λ p q events result put. face.laters p q put.same) Means selector host rules
       (PortMends pass saw kept on_disk) (λ p q answer did. face.laters p q did.same) rounds old new ran in
       let tracks = home_tracks pass homes channels ports in
-      let before = listened Means max ack selector host rounds old new (map ended tracks) (all_home homes channels ports new.into.route.ports later fresh took) ran in
+      let before = listened Means rules selector host rounds old new (map ended tracks) (all_home homes channels ports new.into.route.ports later fresh took) ran in
       let is : before.0 ≡ tracks = all_new homes channels ports before.0 before.1 before.2 fresh in
-      subst (λ (us : List Track). Rounds (Session max ack (TakesLine Gave selector Means host)) (MendedInto (IsDiskAt on_disk ports)) rounds (serving_along us old) (serving_along (map ended tracks) new)) is before.3
+      subst (λ (us : List Track). Rounds (Session rules Gave selector Means host) (MendedInto (IsDiskAt on_disk ports)) rounds (serving_along us old) (serving_along (map ended tracks) new)) is before.3

@@ -15,10 +15,20 @@ use Rattle.source_put.specs.declared.chain.Stopped.{Stopped}
 use Rattle.source_put.specs.declared.chain.Stopped.TheVariants as stop
 use Rattle.source_put.specs.declared.put.Refusal.{Refusal}
 use Rattle.source_put.specs.declared.intake.Verdict.{Verdict}
+use Rattle.source_put.specs.declared.intake.Verdict.TheVariants as verdicts
 use Rattle.netcat_source.specs.Into.{TakesAll, TakesLine}
 use Rattle.netcat_source.specs.Judged.{Judged, event_of}
-use Rattle.netcat_source.specs.declared.session.SessionEnd.{SessionEnd}
+use Rattle.avro_hop.specs.declared.hop.Asked.TheVariants.{Reply, Events}
+use Rattle.avro_ends.specs.Exchanges.{Exchange, Exchanged, Exchanges, TakesBatch}
+use Rattle.avro_ends.specs.Sessions.{EndsBy}
+use Rattle.avro_ends.specs.declared.session.AvroEnd.{AvroEnd}
+use Rattle.avro_ends.specs.declared.session.AvroEnd.TheVariants as avro
 use Rattle.source_worker.specs.Rounds.{Answer, Finds, Found, Makes, MendsEach, MendsIf, MendsInto, Round, Rounds, Serves, Serving, Session, is_due}
+use Rattle.source_worker.specs.declared.ends.LinkEnd.{LinkEnd}
+use Rattle.source_worker.specs.declared.ends.LinkEnd.TheVariants as ended
+use Rattle.source_worker.specs.declared.ends.SessionRules.{SessionRules}
+use Rattle.source_worker.specs.declared.ends.SessionRules.TheVariants.{Lines, Avro}
+use Rattle.source_worker.proofs.Nexts.{next_of}
 use Rattle.run_tracks.specs.Places.{Zips}
 
 module _ {F : Type 0} (R : F → F → Type 0) (self : (p : F) → R p p) (trans : (p q r : F) → R p q → R q r → R p r) where
@@ -91,18 +101,52 @@ module _ {F : Type 0} (R : F → F → Type 0) (self : (p : F) → R p p) (trans
       lines_stay [] a b same = into_same a b same
       lines_stay (j ∷ done) a b (next, one, others) = stay_then a.route.ports next.route.ports b.route.ports (line_stays a next j.line j.verdict one) (lines_stay done next b others)
 
-      module _ (max : ℕ) (ack : Bool) where
-        session_stays : (a b : Into F B) (told now : Option LinkTold) (end : SessionEnd) → Session max ack Line a told end b now → AllStay a.route.ports b.route.ports
-        session_stays a b told now end (inl served) = lines_stay served.done a b served.takes
-        session_stays a b told now end (inr (is, kept, same)) = into_same a b same
+      abbrev pub Batch : Into F B → List Content → Verdict → Into F B → Type 0
+      Batch = TakesBatch Put selector Means host
 
-        finds_stay : (found : Found) (a b : Serving (Into F B)) → Finds (Session max ack Line) found a b → AllStay a.into.route.ports b.into.route.ports
-        finds_stay (Ok (Some end)) a b (now, kept, one) = session_stays a.into b.into _ now end one
+      -- the ports are the same after a batch of an Avro call
+      pub batch_stays : (a b : Into F B) (batch : List Content) (verdict : Verdict) → Batch a batch verdict b → AllStay a.route.ports b.route.ports
+      batch_stays a b batch verdict (moment, next, accepted) = accepts_stay moment a.route b.route batch verdict accepted
+
+      exchange_stays : (greeted after : Bool) (x : Exchange) (a b : Into F B) → Exchanged Batch greeted a x after b → AllStay a.route.ports b.route.ports
+      exchange_stays greeted after x a b (Reply bytes, answers, (none, is, same)) = into_same a b same
+      exchange_stays greeted after x a b (Events front batch, answers, (verdict, status, is, taken, said, reply)) = batch_stays a b batch verdict taken
+
+      exchanges_stay : (greeted after : Bool) (done : List Exchange) (a b : Into F B) → Exchanges Batch greeted a done after b → AllStay a.route.ports b.route.ports
+      exchanges_stay greeted after [] a b (is, same) = into_same a b same
+      exchanges_stay greeted after (x ∷ done) a b (next, state, one, others) =
+          stay_then a.route.ports state.route.ports b.route.ports (exchange_stays greeted next x a state one) (exchanges_stay next after done state b others)
+
+      avro_end_stays : (end : AvroEnd) (greeted : Bool) (a b : Into F B) (done : List Exchange) (rest sent : List ℕ) → EndsBy Batch end greeted a b done rest sent → AllStay a.route.ports b.route.ports
+      avro_end_stays avro.End greeted a b done rest sent is = into_same a b is.0
+      avro_end_stays avro.Stopped greeted a b done rest sent is = into_same a b is.0
+      avro_end_stays avro.LinkFault greeted a b done rest sent is = into_same a b is.0
+      avro_end_stays avro.Turns greeted a b done rest sent is = into_same a b is.0
+      avro_end_stays (avro.TooMany n) greeted a b done rest sent is = into_same a b is.0
+      avro_end_stays (avro.TooLarge n) greeted a b done rest sent is = into_same a b is.0
+      avro_end_stays (avro.BadHandshake at) greeted a b done rest sent is = into_same a b is.0
+      avro_end_stays avro.OtherProtocol greeted a b done rest sent is = into_same a b is.0
+      avro_end_stays avro.NoMemory greeted a b done rest sent (is, inl same) = into_same a b same
+      avro_end_stays avro.NoMemory greeted a b done rest sent (is, inr next) = let n = next_of rest _ next in batch_stays a b n.is.2 verdicts.NoMemory n.is.4
+
+      session_stays : (rules : SessionRules) (a b : Into F B) (told now : Option LinkTold) (end : LinkEnd) → Session rules Put selector Means host a told end b now → AllStay a.route.ports b.route.ports
+      session_stays (Lines rules) a b told now (ended.Lines end) (inl served) = lines_stay served.done a b served.takes
+      session_stays (Lines rules) a b told now (ended.Lines end) (inr (is, kept, same)) = into_same a b same
+      session_stays (Lines rules) a b told now (ended.Avro end) none = absurd none
+      session_stays Avro a b told now (ended.Lines end) none = absurd none
+      session_stays Avro a b told now (ended.Avro end) (inl served) =
+          stay_then a.route.ports served.between.route.ports b.route.ports (exchanges_stay false served.after served.done a served.between served.exchanged)
+          (avro_end_stays end served.after served.between b served.done served.rest served.sent served.ends)
+      session_stays Avro a b told now (ended.Avro end) (inr (is, kept, same)) = into_same a b same
+
+      module _ (rules : SessionRules) where
+        finds_stay : (found : Found) (a b : Serving (Into F B)) → Finds (Session rules Put selector Means host) found a b → AllStay a.into.route.ports b.into.route.ports
+        finds_stay (Ok (Some end)) a b (now, kept, one) = session_stays rules a.into b.into _ now end one
         finds_stay (Ok None) a b (gave, same, waited) = into_same a.into b.into same
         finds_stay (Err failed) a b (links, same) = into_same a.into b.into same
 
         -- the ports are the same after an accept with its session
-        pub serves_stay : (found : Found) (a b : Serving (Into F B)) → Serves (Session max ack Line) found a b → AllStay a.into.route.ports b.into.route.ports
+        pub serves_stay : (found : Found) (a b : Serving (Into F B)) → Serves (Session rules Put selector Means host) found a b → AllStay a.into.route.ports b.into.route.ports
         serves_stay found a b one = finds_stay found a b one.finds
 
         module _ (Mend : F → Answer → F → Type 0) (mend : (p q : F) (answer : Answer) → Mend p answer q → R p q) where
@@ -114,16 +158,16 @@ module _ {F : Type 0} (R : F → F → Type 0) (self : (p : F) → R p p) (trans
           each_stays (p ∷ olds) (answer ∷ answers) [] none = absurd none
           each_stays (p ∷ olds) (answer ∷ answers) (q ∷ news) (one, others) = (mend p q answer one, each_stays olds answers news others)
 
-          mends_stay : (due : Bool) (a b : Into F B) (answers : List Answer) → MendsIf (Session max ack Line) (MendsInto Mend) due a answers b → AllStay a.route.ports b.route.ports
+          mends_stay : (due : Bool) (a b : Into F B) (answers : List Answer) → MendsIf (Session rules Put selector Means host) (MendsInto Mend) due a answers b → AllStay a.route.ports b.route.ports
           mends_stay true a b answers (moments, links, each) = each_stays a.route.ports answers b.route.ports each
           mends_stay false a b answers (none, same) = into_same a b same
 
           -- the ports are the same after a round
-          pub makes_stay : (round : Round) (a b : Serving (Into F B)) → Makes (Session max ack Line) (MendsInto Mend) round a b → AllStay a.into.route.ports b.into.route.ports
+          pub makes_stay : (round : Round) (a b : Serving (Into F B)) → Makes (Session rules Put selector Means host) (MendsInto Mend) round a b → AllStay a.into.route.ports b.into.route.ports
           makes_stay round a b one =
               stay_then a.into.route.ports one.between.into.route.ports b.into.route.ports (serves_stay round.found a one.between one.serves) (mends_stay (is_due a.due round.found) one.between.into b.into round.mends one.mends)
 
           -- and after rounds
-          pub rounds_stay : (rounds : List Round) (a b : Serving (Into F B)) → Rounds (Session max ack Line) (MendsInto Mend) rounds a b → AllStay a.into.route.ports b.into.route.ports
+          pub rounds_stay : (rounds : List Round) (a b : Serving (Into F B)) → Rounds (Session rules Put selector Means host) (MendsInto Mend) rounds a b → AllStay a.into.route.ports b.into.route.ports
           rounds_stay [] a b same = stay_same a.into.route.ports b.into.route.ports (λ i. (same i).into.route.ports)
           rounds_stay (round ∷ rounds) a b (next, one, others) = stay_then a.into.route.ports next.into.route.ports b.into.route.ports (makes_stay round a next one) (rounds_stay rounds next b others)

@@ -1,5 +1,5 @@
 -- What a listener's worker did, in the whole histories of its channels.
-use Rattle.std.specs.Prelude.{◌≡◌, ℕ, zero, suc, List, [], ◌∷◌, length, map, slice_index_or, Bool}
+use Rattle.std.specs.Prelude.{◌≡◌, ℕ, zero, suc, List, [], ◌∷◌, length, map, slice_index_or}
 use Rattle.std.specs.List.{AllByRecursion}
 use Rattle.channel_face.specs.Faces.{Own}
 use Rattle.channel_face.specs.Keeps.{IsMend}
@@ -10,8 +10,8 @@ use Rattle.shared_channel.specs.Ports.{AreOwned}
 use Rattle.source_put.specs.Chains.{Meaning}
 use Rattle.source_put.specs.Into.{Into}
 use Rattle.source_put.specs.declared.chain.HostNames.{HostNames}
-use Rattle.netcat_source.specs.Into.{TakesLine}
 use Rattle.source_worker.specs.Rounds.{Answer, MendsInto, MendsPort, Round, Rounds, Serving, Session}
+use Rattle.source_worker.specs.declared.ends.SessionRules.{SessionRules}
 use Rattle.run_tracks.specs.Places.{TookEach, Zips}
 use Rattle.run_tracks.specs.Told.{IsBehind, IsNew, Matches, PortPuts}
 use Rattle.run_tracks.specs.Tracks.{Calls, Gave, Stood, Track, ended, track_of}
@@ -28,7 +28,7 @@ MendedEach OnDisk (old ∷ olds) (answer ∷ answers) (new ∷ news) =
     MendedPort (OnDisk 0) old answer new × MendedEach (λ place. OnDisk (suc place)) olds answers news
 MendedEach OnDisk olds answers news = ⊥
 
--- the channels where lines go
+-- the channels where events go
 abbrev pub MendedInto : (ℕ → Type 0) → {B : Type 0} → Into Track B → List Answer → Into Track B → Type 0
 MendedInto OnDisk old answers new =
     (new.moments ≡ old.moments) × (new.route.links ≡ old.route.links) × MendedEach OnDisk old.route.ports answers new.route.ports
@@ -59,24 +59,24 @@ module _ {F : Type 0} (pass : F → Known) (saw : F → List Own → State → T
   PortMends = MendsPort (λ p. AreOwned (pass p).view) saw (λ p. length (pass p).view.seen) kept
 
   -- Rounds that a listener's worker made through its ports are in their tracks: where these stand at the tracks after them, there
-  -- are tracks before them that differ in their own calls alone, and the rounds, the batch of each line and the mends, are from the
+  -- are tracks before them that differ in their own calls alone, and the rounds, each batch and the mends, are from the
   -- ones to the others.
   abbrev pub ListenedInTracks : (F → Type 0) → {B : Type 0} → Meaning B → Type 0
   ListenedInTracks on_disk {B} Means =
-      (max : ℕ) (ack : Bool) (selector : Selector) (host : HostNames) (rounds : List Round) (old new : Serving (Into F B)) (after : List Track)
+      (rules : SessionRules) (selector : Selector) (host : HostNames) (rounds : List Round) (old new : Serving (Into F B)) (after : List Track)
       → Zips (λ port t. Matches (pass port) t) new.into.route.ports after
-      → Rounds (Session max ack (TakesLine (PortPuts pass saw kept) selector Means host)) (MendsInto (PortMends on_disk)) rounds old new
+      → Rounds (Session rules (PortPuts pass saw kept) selector Means host) (MendsInto (PortMends on_disk)) rounds old new
       → (before : List Track) × Zips (λ port t. Matches (pass port) t) old.into.route.ports before × Zips IsBehind before after
-      × Rounds (Session max ack (TakesLine Gave selector Means host)) (MendedInto (IsDiskAt on_disk old.into.route.ports)) rounds
+      × Rounds (Session rules Gave selector Means host) (MendedInto (IsDiskAt on_disk old.into.route.ports)) rounds
       (serving_along before old) (serving_along after new)
 
   -- Of new ports they are, once their passes are at home, all calls with their numbers in the whole histories.
   abbrev pub ListenedHome : (F → Type 0) → {B : Type 0} → Meaning B → Type 0
   ListenedHome on_disk {B} Means =
-      (max : ℕ) (ack : Bool) (selector : Selector) (host : HostNames) (rounds : List Round) (old new : Serving (Into F B))
+      (rules : SessionRules) (selector : Selector) (host : HostNames) (rounds : List Round) (old new : Serving (Into F B))
       (homes : List Known) (channels : List ℕ)
       → AllByRecursion (λ port. IsNew (pass port)) old.into.route.ports → TookEach homes pass channels new.into.route.ports
-      → Rounds (Session max ack (TakesLine (PortPuts pass saw kept) selector Means host)) (MendsInto (PortMends on_disk)) rounds old new
+      → Rounds (Session rules (PortPuts pass saw kept) selector Means host) (MendsInto (PortMends on_disk)) rounds old new
       → let tracks = home_tracks pass homes channels old.into.route.ports in
-      Rounds (Session max ack (TakesLine Gave selector Means host)) (MendedInto (IsDiskAt on_disk old.into.route.ports)) rounds
+      Rounds (Session rules Gave selector Means host) (MendedInto (IsDiskAt on_disk old.into.route.ports)) rounds
       (serving_along tracks old) (serving_along (map ended tracks) new)

@@ -1,2 +1,3 @@
 mod Mended
 mod Works
+pub mod Nexts

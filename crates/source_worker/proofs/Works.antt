@@ -1,5 +1,5 @@
 -- Rounds one after the other.
-use Rattle.std.proofs.Common.{◌≡◌, ℕ, List, [], ◌∷◌, ◌++◌, Bool, false, true≢false, Option, Some, None, Ok, Err, ◌∙◌, refl, sym, ap, subst}
+use Rattle.std.proofs.Common.{◌≡◌, List, [], ◌∷◌, ◌++◌, Bool, false, true≢false, Option, Some, None, Ok, Err, ◌∙◌, refl, sym, ap, subst}
 use Rattle.std.specs.List.{AllByRecursion}
 use Rattle.flume_host.specs.Links.{LinkTold}
 use Rattle.selectors.specs.declared.selector.Selector.{Selector}

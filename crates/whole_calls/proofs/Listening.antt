@@ -8,7 +8,11 @@ use Rattle.flume_host.specs.Links.{LinkTold}
 use Rattle.flume_host.specs.Listens.{fresh_from}
 use Rattle.netcat_source.specs.Into.{TakesAll, TakesLine}
 use Rattle.netcat_source.specs.Judged.{Judged, event_of}
-use Rattle.netcat_source.specs.declared.session.SessionEnd.{SessionEnd}
+use Rattle.avro_hop.specs.declared.hop.Asked.TheVariants.{Reply, Events}
+use Rattle.avro_ends.specs.Exchanges.{Exchange, Exchanges, TakesBatch}
+use Rattle.avro_ends.specs.Sessions.{EndsBy}
+use Rattle.avro_ends.specs.declared.session.AvroEnd.{AvroEnd}
+use Rattle.avro_ends.specs.declared.session.AvroEnd.TheVariants as avro
 use Rattle.selectors.specs.Choices.{optional, required}
 use Rattle.selectors.specs.declared.selector.Selector.{Selector}
 use Rattle.shared_channel.specs.Calls.{state_seen}
@@ -23,9 +27,15 @@ use Rattle.source_put.specs.declared.chain.HostNames.{HostNames}
 use Rattle.source_put.specs.declared.chain.Stopped.{Stopped}
 use Rattle.source_put.specs.declared.chain.Stopped.TheVariants as stop
 use Rattle.source_put.specs.declared.intake.Verdict.{Verdict}
+use Rattle.source_put.specs.declared.intake.Verdict.TheVariants as verdicts
 use Rattle.source_put.specs.declared.put.Refusal.{Refusal}
 use Rattle.source_worker.specs.Rounds as Listens
 use Rattle.source_worker.specs.Rounds.{Answer, Finds, Found, MendsEach, MendsInto, MendsPort, Round, Serving, Session, is_due}
+use Rattle.source_worker.specs.declared.ends.LinkEnd.{LinkEnd}
+use Rattle.source_worker.specs.declared.ends.LinkEnd.TheVariants as ended
+use Rattle.source_worker.specs.declared.ends.SessionRules.{SessionRules}
+use Rattle.source_worker.specs.declared.ends.SessionRules.TheVariants.{Lines, Avro}
+use Rattle.source_worker.proofs.Nexts.{next_of}
 use Rattle.whole_calls.specs.Leaving.{PortPuts}
 use Rattle.whole_calls.specs.Listening.{BatchesAreOver, EachStaysOver, ListensAreOver}
 use Rattle.whole_calls.proofs.Leaving.{Goes, IsFace, goes_face, goes_none, goes_then, mend_over, put}
@@ -109,19 +119,45 @@ module _ {F : Type 0} (pass : F → Known) (saw : F → List Own → State → T
     lines a b (j ∷ done) (next, inl (moment, is, taken), rest) = into_then a next b (accepts moment a.route next.route (event_of j.line ∷ []) j.verdict taken) (lines next b done rest)
     lines a b (j ∷ done) (next, inr (is, same), rest) = into_then a next b (into_same a next same) (lines next b done rest)
 
-    module _ (on_disk : F → Type 0) (max : ℕ) (ack : Bool) where
-      abbrev Serves : Into F B → Option LinkTold → SessionEnd → Into F B → Option LinkTold → Type 0
-      Serves = Session max ack (TakesLine Puts selector Means host)
+    abbrev Batch : Into F B → List Content → Verdict → Into F B → Type 0
+    Batch = TakesBatch Puts selector Means host
+
+    exchanges : (greeted after : Bool) (a b : Into F B) (done : List Exchange) → Exchanges Batch greeted a done after b → IntoGoes a b
+    exchanges greeted after a b [] (is, same) = into_same a b same
+    exchanges greeted after a b (x ∷ done) (next, state, (Reply bytes, answers, (none, is, same)), rest) = into_then a state b (into_same a state same) (exchanges next after state b done rest)
+    exchanges greeted after a b (x ∷ done) (next, state, (Events front batch, answers, (verdict, status, is, (moment, gave, taken), said, reply)), rest) =
+        into_then a state b (accepts moment a.route state.route batch verdict taken) (exchanges next after state b done rest)
+
+    avro_ends : (end : AvroEnd) (greeted : Bool) (a b : Into F B) (done : List Exchange) (rest sent : List ℕ) → EndsBy Batch end greeted a b done rest sent → IntoGoes a b
+    avro_ends avro.End greeted a b done rest sent is = into_same a b is.0
+    avro_ends avro.Stopped greeted a b done rest sent is = into_same a b is.0
+    avro_ends avro.LinkFault greeted a b done rest sent is = into_same a b is.0
+    avro_ends avro.Turns greeted a b done rest sent is = into_same a b is.0
+    avro_ends (avro.TooMany n) greeted a b done rest sent is = into_same a b is.0
+    avro_ends (avro.TooLarge n) greeted a b done rest sent is = into_same a b is.0
+    avro_ends (avro.BadHandshake at) greeted a b done rest sent is = into_same a b is.0
+    avro_ends avro.OtherProtocol greeted a b done rest sent is = into_same a b is.0
+    avro_ends avro.NoMemory greeted a b done rest sent (is, inl same) = into_same a b same
+    avro_ends avro.NoMemory greeted a b done rest sent (is, inr next) = let n = next_of rest _ next in accepts n.is.4.0 a.route b.route n.is.2 verdicts.NoMemory n.is.4.2
+
+    session : (rules : SessionRules) (a b : Into F B) (told now : Option LinkTold) (end : LinkEnd) → Session rules Puts selector Means host a told end b now → IntoGoes a b
+    session (Lines rules) a b told now (ended.Lines end) (inl served) = lines a b served.done served.takes
+    session (Lines rules) a b told now (ended.Lines end) (inr (is, kept, same)) = into_same a b same
+    session (Lines rules) a b told now (ended.Avro end) none = absurd none
+    session Avro a b told now (ended.Lines end) none = absurd none
+    session Avro a b told now (ended.Avro end) (inl served) =
+        into_then a served.between b (exchanges false served.after a served.between served.done served.exchanged) (avro_ends end served.after served.between b served.done served.rest served.sent served.ends)
+    session Avro a b told now (ended.Avro end) (inr (is, kept, same)) = into_same a b same
+
+    module _ (on_disk : F → Type 0) (rules : SessionRules) where
+      abbrev Serves : Into F B → Option LinkTold → LinkEnd → Into F B → Option LinkTold → Type 0
+      Serves = Session rules Puts selector Means host
 
       abbrev Mend : F → Answer → F → Type 0
       Mend = MendsPort (λ p. AreOwned (pass p).view) saw (λ p. length (pass p).view.seen) kept on_disk
 
-      session : (a b : Into F B) (told now : Option LinkTold) (end : SessionEnd) → Serves a told end b now → IntoGoes a b
-      session a b told now end (inl served) = lines a b served.done served.takes
-      session a b told now end (inr (is, kept, same)) = into_same a b same
-
       finds : (found : Found) (a b : Serving (Into F B)) → Finds Serves found a b → IntoGoes a.into b.into
-      finds (Ok (Some end)) a b (now, links, served) = session a.into b.into (fresh_from a.heard.links) now end served
+      finds (Ok (Some end)) a b (now, links, served) = session rules a.into b.into (fresh_from a.heard.links) now end served
       finds (Ok None) a b (links, same, rose) = into_same a.into b.into same
       finds (Err failed) a b (links, same) = into_same a.into b.into same
 
@@ -150,4 +186,4 @@ module _ {F : Type 0} (pass : F → Known) (saw : F → List Own → State → T
   batches_over Means selector host moment old new batch verdict accepted = all_stay old.ports new.ports (accepts Means selector host moment old new batch verdict accepted)
 
   pub listens_over : (on_disk : F → Type 0) {B : Type 0} (Means : Meaning B) → ListensAreOver pass saw kept on_disk Means
-  listens_over on_disk Means max ack selector host made old new ran = all_stay old.into.route.ports new.into.route.ports (rounds Means selector host on_disk max ack made old new ran)
+  listens_over on_disk Means rules selector host made old new ran = all_stay old.into.route.ports new.into.route.ports (rounds Means selector host on_disk rules made old new ran)

@@ -1,9 +1,8 @@
 -- Listeners' rounds and batches of sources that leave no transaction open.
-use Rattle.std.specs.Prelude.{ℕ, List, [], ◌∷◌, Bool, length}
+use Rattle.std.specs.Prelude.{ℕ, List, [], ◌∷◌, length}
 use Rattle.channel_face.specs.Faces.{Own}
 use Rattle.channel_face.specs.Machine.{State}
 use Rattle.event_core.specs.Content.{Content}
-use Rattle.netcat_source.specs.Into.{TakesLine}
 use Rattle.selectors.specs.declared.selector.Selector.{Selector}
 use Rattle.shared_channel.specs.Passes.{Known}
 use Rattle.shared_channel.specs.Ports.{AreOwned}
@@ -13,6 +12,7 @@ use Rattle.source_put.specs.Routes.{Accepts, Route}
 use Rattle.source_put.specs.declared.chain.HostNames.{HostNames}
 use Rattle.source_put.specs.declared.intake.Verdict.{Verdict}
 use Rattle.source_worker.specs.Rounds.{MendsInto, MendsPort, Round, Rounds, Serving, Session}
+use Rattle.source_worker.specs.declared.ends.SessionRules.{SessionRules}
 use Rattle.whole_calls.specs.Leaving.{PortPuts, StaysOver}
 
 -- of each port, in order
@@ -31,7 +31,7 @@ module _ {F : Type 0} (pass : F → Known) (saw : F → List Own → State → T
   -- nor behind the rounds of a listener
   abbrev pub ListensAreOver : (F → Type 0) → {B : Type 0} → Meaning B → Type 0
   ListensAreOver on_disk {B} Means =
-      (max : ℕ) (ack : Bool) (selector : Selector) (host : HostNames) (rounds : List Round) (old new : Serving (Into F B))
-      → Rounds (Session max ack (TakesLine (PortPuts pass saw kept) selector Means host))
+      (rules : SessionRules) (selector : Selector) (host : HostNames) (rounds : List Round) (old new : Serving (Into F B))
+      → Rounds (Session rules (PortPuts pass saw kept) selector Means host)
       (MendsInto (MendsPort (λ p. AreOwned (pass p).view) saw (λ p. length (pass p).view.seen) kept on_disk)) rounds old new
       → EachStaysOver pass old.into.route.ports new.into.route.ports

@@ -46,7 +46,7 @@ pub fn batches_are_over<'a, R: Wait + 'a, A: Channel + 'a, B: Channel + 'a, I: I
         (SawIn A.stands B.stands) LaterPort I.intercepts }
 {}
 
-/// So it is with the rounds of a listener: the batch of each line, and the mends of its channels.
+/// So it is with the rounds of a listener: the batch of each line or call, and the mends of its channels.
 pub fn listens_are_over<'a, R: Wait + 'a, A: Channel + 'a, B: Channel + 'a, I: Interceptor>()
     ensures port { ListensAreOver ⟦<Port<'a, R, A> as Carries>⟧.pass
         (λ p. Saw A.stands p.pass.view) (λ p q. Later p.pass q.pass)
