@@ -1,8 +1,8 @@
 -- A draft has what its worker asks for.
 use Rattle.std.proofs.Common.{◌≡◌, ◌<◌, ◌≤◌, ℕ, List, [], ◌∷◌, All, length, get_or, map, sym, ap, subst, arith, false, true≢false}
 use Rattle.std.proofs.lemmas.List.Elements.{All-cons, All-head, All-map, All-nil, All-tail}
-use Rattle.netcat_source.specs.Lines.{IsLineLimit}
-use Rattle.netcat_source.specs.declared.session.LineRules.{LineRules}
+use Rattle.source_worker.specs.Workers.{HasLimit}
+use Rattle.source_worker.specs.declared.ends.SessionRules.{SessionRules}
 use Rattle.selectors.specs.declared.selector.Selector.{Selector}
 use Rattle.selectors.specs.declared.selector.Selector.TheVariants.{Replicating, Multiplexing}
 use Rattle.source_put.specs.Accepts.{NamesBelow}
@@ -48,10 +48,10 @@ same_named (Multiplexing header mapping default optional) (Multiplexing copy map
 
 -- ---- rules
 
-limited : (kind : SourceKind) (rules : LineRules) → AreRules kind rules → IsSourceLimited kind → IsLineLimit rules.max
-limited (Netcat bind port max_line ack threads) rules is limits = subst (λ (r : LineRules). IsLineLimit r.max) (sym is) (let low = limits.1.0 in omega arith, limits.1.1)
-limited (Avro bind port threads) rules is limits = absurd is
-limited (Stdin max_line ack) rules is limits = subst (λ (r : LineRules). IsLineLimit r.max) (sym is) (let low = limits.0 in omega arith, limits.1)
+limited : (kind : SourceKind) (rules : SessionRules) → AreRules kind rules → IsSourceLimited kind → HasLimit rules
+limited (Netcat bind port max_line ack threads) rules is limits = subst HasLimit (sym is) (let low = limits.1.0 in omega arith, limits.1.1)
+limited (Avro bind port threads) rules is limits = subst HasLimit (sym is) tt
+limited (Stdin max_line ack) rules is limits = subst HasLimit (sym is) (let low = limits.0 in omega arith, limits.1)
 
 -- ---- drafts
 

@@ -2,3 +2,4 @@ mod Copying
 mod Ordered
 mod Fitting
 mod Meaning
+mod Lining

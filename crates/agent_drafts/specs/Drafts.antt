@@ -9,8 +9,9 @@ use Rattle.flume_config.specs.declared.plan.SourceKind.{SourceKind}
 use Rattle.flume_config.specs.declared.plan.SourceKind.TheVariants.{Netcat, Avro, Stdin}
 use Rattle.flume_config.specs.declared.plan.StepPlan.{StepPlan}
 use Rattle.flume_config.specs.declared.plan.StepPlan.TheVariants as plan
-use Rattle.netcat_source.specs.declared.session.LineRules.{LineRules}
 use Rattle.source_put.specs.declared.chain.HostNames.{HostNames}
+use Rattle.source_worker.specs.declared.ends.SessionRules.{SessionRules}
+use Rattle.source_worker.specs.declared.ends.SessionRules.TheVariants as rule
 use Rattle.agent_outside.specs.Ends.{listeners_of, places_by}
 use Rattle.agent_drafts.specs.declared.draft.SourceDraft.{SourceDraft}
 use Rattle.agent_drafts.specs.Copies.{AreSameKeys, AreSameNames, IsSameSelector, IsSameStep}
@@ -21,11 +22,16 @@ IsLink (plan.Step step) (link.Step copy) = IsSameStep step copy
 IsLink (plan.Regex keys line) (link.Regex copy) = AreSameKeys keys copy
 IsLink step link = ⊥
 
--- the rules of its lines
-abbrev pub AreRules : SourceKind → LineRules → Type 0
-AreRules (Netcat bind port max_line ack threads) rules = rules ≡ record { max = max_line; ack = ack }
-AreRules (Stdin max_line ack) rules = rules ≡ record { max = max_line; ack = ack }
-AreRules (Avro bind port threads) rules = ⊥
+-- the rules of its sessions
+abbrev pub AreRules : SourceKind → SessionRules → Type 0
+AreRules (Netcat bind port max_line ack threads) rules = rules ≡ rule.Lines (record { max = max_line; ack = ack })
+AreRules (Stdin max_line ack) rules = rules ≡ rule.Lines (record { max = max_line; ack = ack })
+AreRules (Avro bind port threads) rules = rules ≡ rule.Avro
+
+-- they are rules of lines
+abbrev pub TakesLines : SessionRules → Type 0
+TakesLines (rule.Lines rules) = Unit {0}
+TakesLines rule.Avro = ⊥
 
 -- a draft of a session worker of this source, whose interceptors are told these names
 pub record IsDraft {B : Type 0} (source : SourcePlan) (names : HostNames) (draft : SourceDraft B) : Type 0 where

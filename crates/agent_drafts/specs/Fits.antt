@@ -3,17 +3,17 @@ use Rattle.std.specs.Prelude.{◌<◌, ◌^◌, ℕ, List, All, length, Ok}
 use Rattle.prop_text.specs.Pairs.{Pair}
 use Rattle.flume_config.specs.declared.plan.Plan.{Plan}
 use Rattle.flume_config.specs.Plans.{Plans}
-use Rattle.netcat_source.specs.Lines.{IsLineLimit}
 use Rattle.source_put.specs.Accepts.{NamesBelow}
 use Rattle.source_put.specs.declared.chain.HostNames.{HostNames}
+use Rattle.source_worker.specs.Workers.{HasLimit}
 use Rattle.agent_drafts.specs.declared.draft.SourceDraft.{SourceDraft}
 use Rattle.agent_outside.specs.Sinks.{IsPlain}
 use Rattle.agent_drafts.specs.Drafts.{IsDraftAt}
 use Rattle.plan_support.specs.Least.{HasNoPlugin}
 
--- Its rules are rules of lines, its channels are some of so many, and its selector names its channels.
+-- Its limit of lines, if any, is an allowed one, its channels are some of so many, and its selector names its channels.
 pub record IsFit {B : Type 0} (count : ℕ) (draft : SourceDraft B) : Type 0 where
-  pub max : IsLineLimit draft.rules.max
+  pub max : HasLimit draft.rules
   pub few : length draft.channels.items < 2 ^ 32
   pub there : All (λ place. place < count) draft.channels.items
   pub named : NamesBelow draft.selector (length draft.channels.items)

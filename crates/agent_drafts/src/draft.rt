@@ -1,9 +1,9 @@
 // A draft of a session worker.
 use chain_plan::LinkPlan;
-use netcat_source::LineRules;
 use plug_in::Interceptor;
 use selectors::Selector;
 use source_put::HostNames;
+use source_worker::SessionRules;
 
 /// All that a session worker needs of its source.
 #[derive(Drop)]
@@ -21,5 +21,5 @@ pub struct SourceDraft<B = Box<dyn Interceptor + Send>> {
     /// What its interceptors are told of the host.
     pub host: HostNames,
     /// The rules of its sessions.
-    pub rules: LineRules,
+    pub rules: SessionRules,
 }

@@ -2,8 +2,8 @@
 ghost use Rattle.std.specs.Prelude.{◌≡◌, ◌++◌, ◌<◌, All, IfOk, OnOk, length, map, replicate};
 ghost use Rattle.selectors.specs.Choices.{places_below};
 ghost use Rattle.agent_outside.specs.Ends.{listeners_of};
-ghost use Rattle.plan_support.specs.Least.{HasOwnSteps, TakesLines};
-ghost use Rattle.agent_drafts.specs.Drafts.{AreDrafts, AreRules, IsDraft, IsDraftAt, inputs_of, sessions_of};
+ghost use Rattle.plan_support.specs.Least.{HasOwnSteps};
+ghost use Rattle.agent_drafts.specs.Drafts.{AreDrafts, AreRules, IsDraft, IsDraftAt, TakesLines, inputs_of, sessions_of};
 
 use crate::copies::{copied_channels, copied_names, copied_selector};
 use crate::draft::SourceDraft;
@@ -12,11 +12,11 @@ use agent_outside::listeners_of;
 use flume_config::{Plan, SourceKind, SourcePlan};
 use netcat_source::LineRules;
 use source_put::HostNames;
+use source_worker::SessionRules;
 use std::alloc::{AllocError, Global};
 
 // The rules of a source's sessions.
-fn rules_of(kind: &SourceKind) -> LineRules
-    requires { TakesLines kind.now }
+fn rules_of(kind: &SourceKind) -> SessionRules
     ensures { AreRules kind.now result }
 {
     match kind {
@@ -26,15 +26,15 @@ fn rules_of(kind: &SourceKind) -> LineRules
             max_line,
             ack,
             threads: _,
-        } => LineRules {
+        } => SessionRules::Lines(LineRules {
             max: *max_line,
             ack: *ack,
-        },
-        SourceKind::Stdin { max_line, ack } => LineRules {
+        }),
+        SourceKind::Stdin { max_line, ack } => SessionRules::Lines(LineRules {
             max: *max_line,
             ack: *ack,
-        },
-        SourceKind::Avro { .. } => unreachable!(),
+        }),
+        SourceKind::Avro { .. } => SessionRules::Avro,
     }
 }
 
@@ -47,7 +47,6 @@ fn draft<B: Drop>(
     place: u32,
 ) -> Result<SourceDraft<B>, AllocError>
     requires steps { HasOwnSteps source.now }
-    requires lines { TakesLines source.now.kind }
     ensures draft { IfOk result (IsDraft source.now names.now) }
     ensures source { IfOk result (λ draft. draft.source ≡ at) }
     ensures place { IfOk result (λ draft. draft.place ≡ place) }
@@ -79,7 +78,6 @@ fn draft_at<B: Drop>(
     requires sources { at < length sources.now }
     requires names { at < length names.now }
     requires steps { All HasOwnSteps sources.now }
-    requires lines { All (λ source. TakesLines source.kind) sources.now }
     ensures draft { IfOk result (IsDraftAt sources.now names.now) }
     ensures source { IfOk result (λ draft. draft.source ≡ at) }
     ensures place { IfOk result (λ draft. draft.place ≡ place) }
@@ -100,7 +98,6 @@ fn add_drafts<B: Drop>(
     requires sources { at < length sources.now }
     requires names { at < length names.now }
     requires steps { All HasOwnSteps sources.now }
-    requires lines { All (λ source. TakesLines source.kind) sources.now }
     requires each { All (IsDraftAt sources.now names.now) drafts.old.items }
     ensures order { OnOk result (map (λ draft. draft.source) drafts.new.items
         ≡ map (λ draft. draft.source) drafts.old.items ++ replicate count at) }
@@ -144,7 +141,6 @@ fn draft_all<B: Drop>(
 ) -> Result<Vec<SourceDraft<B>>, AllocError>
     requires names { length names.now ≡ length sources.now }
     requires steps { All HasOwnSteps sources.now }
-    requires lines { All (λ source. TakesLines source.kind) sources.now }
     ensures { IfOk result (λ drafts. AreDrafts (sessions_of input) sources.now names.now drafts.items) }
 {
     let mut drafts = Vec::new(alloc);
@@ -155,8 +151,8 @@ fn draft_all<B: Drop>(
     Ok(drafts)
 }
 
-/// A draft of the session worker of each source of standard input, in the order of the plan. The names are those of the host for
-/// each source.
+/// A draft of the session worker of each source of standard input, in the order of the plan: each takes lines. The names are those
+/// of the host for each source.
 pub fn draft_lines<B: Drop>(
     alloc: Global,
     plan: &Plan,
@@ -164,8 +160,8 @@ pub fn draft_lines<B: Drop>(
 ) -> Result<Vec<SourceDraft<B>>, AllocError>
     requires names { length names.now ≡ length plan.now.sources.items }
     requires steps { All HasOwnSteps plan.now.sources.items }
-    requires lines { All (λ source. TakesLines source.kind) plan.now.sources.items }
-    ensures { IfOk result (λ drafts. AreDrafts inputs_of plan.now.sources.items names.now drafts.items) }
+    ensures drafts { IfOk result (λ drafts. AreDrafts inputs_of plan.now.sources.items names.now drafts.items) }
+    ensures lines { IfOk result (λ drafts. All (λ draft. TakesLines draft.rules) drafts.items) }
 {
     let drafts = draft_all(alloc, plan.sources.as_slice(), names, true)?;
     Ok(drafts)
@@ -180,7 +176,6 @@ pub fn draft_listeners<B: Drop>(
 ) -> Result<Vec<SourceDraft<B>>, AllocError>
     requires names { length names.now ≡ length plan.now.sources.items }
     requires steps { All HasOwnSteps plan.now.sources.items }
-    requires lines { All (λ source. TakesLines source.kind) plan.now.sources.items }
     ensures { IfOk result (λ drafts. AreDrafts listeners_of plan.now.sources.items names.now drafts.items) }
 {
     let drafts = draft_all(alloc, plan.sources.as_slice(), names, false)?;

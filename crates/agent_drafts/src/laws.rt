@@ -4,7 +4,7 @@ ghost use Rattle.agent_drafts.specs.Means.{ChainsAreAsPlanned, CopiesDoTheSame};
 
 use plan_laws::{numbers_are_limited, sources_name_what_is_there};
 
-/// A draft of a source of a plan that `plan_of` may answer has what its worker asks for: the limit of its lines is one, its
+/// A draft of a source of a plan that `plan_of` may answer has what its worker asks for: the limit of its lines is one, where it takes lines, its
 /// channels are channels of the plan and fewer than 2^32, and its selector names these.
 pub fn drafts_can_serve<B: Drop>()
     ensures { DraftsFit B }

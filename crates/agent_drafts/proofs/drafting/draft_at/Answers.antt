@@ -1,14 +1,10 @@
 use Rattle.std.proofs.Common.{sym, subst}
-use Rattle.flume_config.specs.declared.plan.SourcePlan.{SourcePlan}
-use Rattle.plan_support.specs.Least.{HasOwnSteps, TakesLines}
+use Rattle.plan_support.specs.Least.{HasOwnSteps}
 use Rattle.agent_drafts.proofs.Ordered.{draft_there}
 use Rattle.agent_drafts.proofs.drafting.draft_at.Goals as goal
 
-pub draft-requires-clause-steps : goal.draft-requires-clause-steps
-draft-requires-clause-steps g c = subst HasOwnSteps (sym c.index-sources-at.is) (c.requires.steps c.args.at c.index-sources-at.result c.requires.sources)
-
-pub draft-requires-clause-lines : goal.draft-requires-clause-lines
-draft-requires-clause-lines g c = subst (λ (s : SourcePlan). TakesLines s.kind) (sym c.index-sources-at.is) (c.requires.lines c.args.at c.index-sources-at.result c.requires.sources)
+pub draft-requires : goal.draft-requires
+draft-requires g c = record { steps = subst HasOwnSteps (sym c.index-sources-at.is) (c.requires.steps c.args.at c.index-sources-at.result c.requires.sources) }
 
 pub returns-clause-draft : goal.returns-clause-draft
 returns-clause-draft g c =
