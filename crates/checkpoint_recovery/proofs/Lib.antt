@@ -1,0 +1,4 @@
+pub mod Elsewhere
+pub mod Readings
+pub mod SomeReading
+pub mod Fronts
