@@ -98,7 +98,7 @@ front_elsewhere files later found same newest all = Front newest refl (record { 
 -- which checkpoint is the newest
 
 -- a file that is passed over is not one that is not
-not_both : (file : Option (List ℕ)) → IsPassedFile file → IsSomeAnd file (λ bytes. IsPassed bytes → ⊥) → ⊥
+pub not_both : (file : Option (List ℕ)) → IsPassedFile file → IsSomeAnd file (λ bytes. IsPassed bytes → ⊥) → ⊥
 not_both None passed is = is
 not_both (Some bytes) passed is = is passed
 

@@ -75,3 +75,22 @@ FrontRecovers = (files : Files) (left : Base) (txn : ℕ) → IsNewest files Non
 -- and its first fault is theirs
 abbrev pub FrontIsBad : Type 0
 FrontIsBad = (files : Files) (file at : ℕ) → IsNewest files None → IsBadLogFrom files file at ↔ IsBadLog files file at
+
+-- A folder recovers to the same while a checkpoint is laid, whose file is passed over before and then.
+abbrev pub LaidRecovers : Type 0
+LaidRecovers =
+    (files later : Files) (n : ℕ) (left : Base) (txn : ℕ) → SameFrom 0 files later → IsPassedFile (files (Check n)) → IsPassedFile (later (Check n)) → ((m : ℕ) → m ≢ n → later (Check m) ≡ files (Check m))
+    → RecoversTo files left txn → RecoversTo later left txn
+
+-- A folder's newest checkpoint has this number or a greater one, and names files from the least one on.
+pub record NeedsFrom (files : Files) (least laid : ℕ) : Type 0 where
+  pub number : ℕ
+  pub newest : IsNewest files (Some number)
+  pub late : laid ≤ number
+  pub names : (c : CheckText) (start : Start) → IsCheck files number c start → NamesFrom least c
+
+-- And it recovers to the same without the files below these.
+abbrev pub PrunedRecovers : Type 0
+PrunedRecovers =
+    (files later : Files) (least laid : ℕ) (left : Base) (txn : ℕ) → SameFrom least files later → ((m : ℕ) → laid ≤ m → later (Check m) ≡ files (Check m)) → NeedsFrom files least laid
+    → RecoversTo files left txn → RecoversTo later left txn

@@ -1,5 +1,5 @@
 // Laws of what a folder recovers to from its newest checkpoint.
-ghost use Rattle.checkpoint_recovery.specs.Laws.{FrontElsewhere, FrontIsBad, FrontRecovers, HasOneNewest, HasOneReading, HasSomeReading, OpenIsNewest, PassedIsNotNewest, ReadsOn, ServesElsewhere};
+ghost use Rattle.checkpoint_recovery.specs.Laws.{FrontElsewhere, FrontIsBad, FrontRecovers, HasOneNewest, HasOneReading, HasSomeReading, LaidRecovers, OpenIsNewest, PassedIsNotNewest, PrunedRecovers, ReadsOn, ServesElsewhere};
 
 /// From a place on a folder has one list of lines.
 pub fn one_reading()
@@ -49,4 +49,14 @@ pub fn front_recovers()
 /// And its first fault is theirs.
 pub fn front_is_bad()
     ensures { FrontIsBad }
+{}
+
+/// A folder recovers to the same, whatever is left of a checkpoint that is being laid.
+pub fn laying_changes_nothing()
+    ensures { LaidRecovers }
+{}
+
+/// And without the files that its newest checkpoint does not name.
+pub fn pruning_changes_nothing()
+    ensures { PrunedRecovers }
 {}
