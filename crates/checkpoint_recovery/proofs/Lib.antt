@@ -1,0 +1,5 @@
+pub mod Elsewhere
+pub mod Readings
+pub mod SomeReading
+pub mod Fronts
+pub mod Kept

@@ -1,0 +1,5 @@
+pub mod Files
+pub mod Folders
+pub mod Places
+pub mod Opened
+pub mod Checked
