@@ -3,3 +3,4 @@ pub mod Newest
 pub mod Right
 pub mod Files
 pub mod Says
+pub mod Stands
