@@ -1,0 +1,4 @@
+pub mod Fields
+pub mod Reader
+pub mod Laws
+pub mod Logs
