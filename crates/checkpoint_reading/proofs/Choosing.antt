@@ -1,13 +1,13 @@
 -- The choice of the newest checkpoint.
-use Rattle.std.specs.Prelude.{IfSome, IsSome, IsSomeAnd, get_or, min}
-use Rattle.std.proofs.Common.{◌⊎◌, inl, inr, ◌≡◌, ◌≢◌, ◌≤◌, ◌<◌, ◌+◌, ◌-◌, ◌^◌, ◌++◌, ◌∷◌, [], ℕ, List, length, take, drop, nat_lt, nat_eq, ◌==◌, ◌&&◌, Option, Some, None, Bool, true, false, cond, refl, sym, ap, subst, ◌∙◌, arith}
+use Rattle.std.specs.Prelude.{IsSomeAnd, get_or, min}
+use Rattle.std.proofs.Common.{◌⊎◌, inl, inr, ◌≡◌, ◌≢◌, ◌≤◌, ◌<◌, ◌+◌, ◌-◌, ◌^◌, ◌++◌, ℕ, List, length, take, drop, nat_lt, ◌==◌, Option, Some, None, Bool, true, false, cond, refl, sym, subst, ◌∙◌, arith}
 use Rattle.std.proofs.lemmas.Bool.Decides.{eqb_tells, nat_tests}
 use Rattle.std.proofs.lemmas.Bool.{ltb-true, cases_lt}
 use Rattle.flume_host.specs.declared.names.FileName.{FileName}
 use Rattle.flume_host.specs.declared.names.FileName.TheVariants.{Check, Log}
 use Rattle.flume_host.specs.Folder.{Files, IsAbove, IsNext, name_below}
 use Rattle.flume_host.specs.Told.{Told, WhereTold}
-use Rattle.checkpoint.specs.Newest.{ArePassedAbove, IsNewest, IsPassed, IsPassedFile}
+use Rattle.checkpoint.specs.Newest.{IsNewest, IsPassed, IsPassedFile}
 
 -- above this number, or any
 abbrev pub IsLater : Option ℕ → ℕ → Type 0

@@ -1,5 +1,5 @@
 -- What is spelled and right is read.
-use Rattle.std.proofs.Common.{◌⊎◌, inl, inr, ◌≡◌, ◌<◌, ◌≤◌, ◌+◌, ◌^◌, ◌++◌, ◌∷◌, [], ℕ, zero, suc, List, length, Bool, true, false, refl, sym, ap, subst, ◌∙◌, arith, append_assoc, length-append}
+use Rattle.std.proofs.Common.{inl, ◌≡◌, ◌<◌, ◌≤◌, ◌+◌, ◌^◌, ◌++◌, ◌∷◌, [], ℕ, zero, List, length, false, refl, sym, ap, subst, ◌∙◌, arith, append_assoc, length-append}
 use Rattle.std.specs.Prelude.{codes, flat_map, map, IsSome, IsSomeAnd, Option, Some, None}
 use Rattle.std.specs.List.{AllByRecursion}
 use Rattle.std.proofs.lemmas.List.{append-nil}
@@ -11,11 +11,9 @@ use Rattle.event_core.specs.declared.journal.Entry.{Entry}
 use Rattle.event_core.specs.declared.journal.Entry.TheVariants.{Puts, Takes}
 use Rattle.event_core.specs.Numbers.{u32_bytes, u64_bytes}
 use Rattle.record_form.specs.declared.record.Pointer.{Pointer}
-use Rattle.checkpoint.specs.declared.place.Next.{Next}
-use Rattle.checkpoint.specs.declared.place.Place.{Place}
-use Rattle.checkpoint.specs.Right.{AreApartFrom, AreOnceAmong, EventsAre, HasSome, IsRight, IsRightText, LiveAre, OpenAre, PutIn, all_of, number_of}
-use Rattle.checkpoint.specs.Text.{CheckText, FitCounts, Rise, check_bytes, counted, entry_bytes, head_bytes, live_bytes, pointer_bytes}
-use Rattle.checkpoint_reading.specs.Fields.{Bad, Field, FitsFields, Gives, Good, Is32, Is64, IsEntry, IsLive, IsOpenPut, IsOpenTake, IsPlace, IsPut, ListsGive, LiveGive, NumbersGive, Outcome, PlaceGives, PutsGive, TakesGive, head_text, with_live, with_put, with_take}
+use Rattle.checkpoint.specs.Right.{AreApartFrom, AreOnceAmong, EventsAre, HasSome, IsRight, LiveAre, OpenAre, PutIn, all_of, number_of}
+use Rattle.checkpoint.specs.Text.{CheckText, Rise, check_bytes, counted, entry_bytes, live_bytes, pointer_bytes}
+use Rattle.checkpoint_reading.specs.Fields.{Bad, FitsFields, Good, Is64, IsPut, LiveGive, PutsGive, TakesGive, head_text, with_live, with_put, with_take}
 use Rattle.checkpoint_reading.specs.Laws.{FaultIsWrong, Fits, RightIsRead}
 use Rattle.checkpoint_reading.proofs.Unique.{one_outcome}
 
@@ -67,16 +65,16 @@ takes_read c low (o ∷ more) to =
         held = once_front (map number_of c.live) (all_of c.takes ++ o.1) (all_of more) (subst (λ (l : List ℕ). AreOnceAmong (map number_of c.live) l) (sym (append_assoc (all_of c.takes) o.1 (all_of more))) to.held);
       },
       subst (λ (l : List (ℕ × List ℕ)). TakesGive (Good (record c { takes = l })) (with_take c o) (o.0 + 1) (length more) (flat_map (entry_bytes u64_bytes) more)) (append_assoc c.takes (o ∷ []) more)
-      (takes_read (with_take c o) (o.0 + 1) more (record {
-        rise = to.rise.2;
-        txn = to.txn;
-        few = omega (arith, to.few, length-append c.takes (o ∷ []));
-        some = to.some.1;
-        counts = to.counts.1;
-        apart = to.apart.1;
-        held = subst (λ (l : List ℕ). AreOnceAmong (map number_of c.live) l) (sym (ap (λ (l : List ℕ). l ++ all_of more) (all_one c.takes o) ∙ append_assoc (all_of c.takes) o.1 (all_of more))) to.held;
-        fits = to.fits.1;
-      }))
+          (takes_read (with_take c o) (o.0 + 1) more (record {
+            rise = to.rise.2;
+            txn = to.txn;
+            few = omega (arith, to.few, length-append c.takes (o ∷ []));
+            some = to.some.1;
+            counts = to.counts.1;
+            apart = to.apart.1;
+            held = subst (λ (l : List ℕ). AreOnceAmong (map number_of c.live) l) (sym (ap (λ (l : List ℕ). l ++ all_of more) (all_one c.takes o) ∙ append_assoc (all_of c.takes) o.1 (all_of more))) to.held;
+            fits = to.fits.1;
+          })),
     )
 
 -- what stands behind the events that are left
@@ -110,16 +108,16 @@ puts_read files c low (o ∷ more) takes to =
         puts = to.stand.0;
       },
       subst (λ (l : List (ℕ × List Pointer)). PutsGive files (Good (takes_on (record c { puts = l }) takes)) (with_put c o) (o.0 + 1) (length more) rest) (append_assoc c.puts (o ∷ []) more)
-      (puts_read files (with_put c o) (o.0 + 1) more takes (record {
-        rise = to.rise.2;
-        txn = to.txn;
-        few = omega (arith, to.few, length-append c.puts (o ∷ []));
-        some = to.some.1;
-        counts = to.counts.1;
-        stand = to.stand.1;
-        many = to.many;
-        behind = subst (λ (l : List (ℕ × List Pointer)). TakesTo (record c { puts = l }) 1 takes) (sym (append_assoc c.puts (o ∷ []) more)) to.behind;
-      }))
+          (puts_read files (with_put c o) (o.0 + 1) more takes (record {
+            rise = to.rise.2;
+            txn = to.txn;
+            few = omega (arith, to.few, length-append c.puts (o ∷ []));
+            some = to.some.1;
+            counts = to.counts.1;
+            stand = to.stand.1;
+            many = to.many;
+            behind = subst (λ (l : List (ℕ × List Pointer)). TakesTo (record c { puts = l }) 1 takes) (sym (append_assoc c.puts (o ∷ []) more)) to.behind;
+          })),
     )
 
 -- events that are left and right behind a text, and what is open behind them
@@ -149,13 +147,13 @@ live_read files c low (l ∷ more) puts takes to =
       append_assoc (live_bytes l) (flat_map live_bytes more) rest,
       record { above = to.rise.0; below = to.rise.1; fits = omega (arith, to.rise.1, to.number); pointer = to.stand.0.0; event = to.stand.0.1; stands = to.stand.0.2 },
       subst (λ (k : List (ℕ × Pointer)). LiveGive files (Good (takes_on (puts_on (record c { live = k }) puts) takes)) (with_live c l) (l.0 + 1) (length more) (flat_map live_bytes more ++ rest)) (append_assoc c.live (l ∷ []) more)
-      (live_read files (with_live c l) (l.0 + 1) more puts takes (record {
-        rise = to.rise.2;
-        number = to.number;
-        stand = to.stand.1;
-        many = to.many;
-        behind = subst (λ (k : List (ℕ × Pointer)). PutsTo files (record c { live = k }) 1 puts takes) (sym (append_assoc c.live (l ∷ []) more)) to.behind;
-      }))
+          (live_read files (with_live c l) (l.0 + 1) more puts takes (record {
+            rise = to.rise.2;
+            number = to.number;
+            stand = to.stand.1;
+            many = to.many;
+            behind = subst (λ (k : List (ℕ × Pointer)). PutsTo files (record c { live = k }) 1 puts takes) (sym (append_assoc c.live (l ∷ []) more)) to.behind;
+          })),
     )
 
 live_stand : (files : Files) (live : List (ℕ × Pointer)) (items : List (ℕ × Content)) → LiveAre files live items → AllByRecursion (λ l. FitsFields l.1) live
@@ -216,15 +214,49 @@ right_is_read files c fits right =
     let offset : List ℕ = u64_bytes c.place.at ++ numbers in
     let file : List ℕ = u32_bytes c.place.file ++ offset in
     let form : List ℕ = u32_bytes 1 ++ file in
-    inl (codes "FLUMECHK", form ++ lists, append_assoc (codes "FLUMECHK") form lists, refl,
-    inl (1, file ++ lists, append_assoc (u32_bytes 1) file lists, refl,
-    inl (c.place.file, offset ++ lists, append_assoc (u32_bytes c.place.file) offset lists, (fits.file, some_there _ (files (Log c.place.file)) r.place),
-    inl (c.place.at, numbers ++ lists, append_assoc (u64_bytes c.place.at) numbers lists, (fits.at, r.place),
-    inl (c.next.number, u64_bytes c.next.txn ++ lists, append_assoc (u64_bytes c.next.number) (u64_bytes c.next.txn) lists, fits.number,
-    inl (c.next.txn, lists, refl, (r.next, fits.txn),
-    inl (length c.live, flat_map live_bytes c.live ++ (counted (entry_bytes pointer_bytes) c.puts ++ counted (entry_bytes u64_bytes) c.takes),
-      append_assoc (u32_bytes (length c.live)) (flat_map live_bytes c.live) (counted (entry_bytes pointer_bytes) c.puts ++ counted (entry_bytes u64_bytes) c.takes),
-      r.few_live, live_read files (head_text c.place c.next) 0 c.live c.puts c.takes (lists_to files c fits right.left right.opened r))))))))
+    inl (
+      codes "FLUMECHK",
+      form ++ lists,
+      append_assoc (codes "FLUMECHK") form lists,
+      refl,
+      inl (
+        1,
+        file ++ lists,
+        append_assoc (u32_bytes 1) file lists,
+        refl,
+        inl (
+          c.place.file,
+          offset ++ lists,
+          append_assoc (u32_bytes c.place.file) offset lists,
+          (fits.file, some_there _ (files (Log c.place.file)) r.place),
+          inl (
+            c.place.at,
+            numbers ++ lists,
+            append_assoc (u64_bytes c.place.at) numbers lists,
+            (fits.at, r.place),
+            inl (
+              c.next.number,
+              u64_bytes c.next.txn ++ lists,
+              append_assoc (u64_bytes c.next.number) (u64_bytes c.next.txn) lists,
+              fits.number,
+              inl (
+                c.next.txn,
+                lists,
+                refl,
+                (r.next, fits.txn),
+                inl (
+                  length c.live,
+                  flat_map live_bytes c.live ++ (counted (entry_bytes pointer_bytes) c.puts ++ counted (entry_bytes u64_bytes) c.takes),
+                  append_assoc (u32_bytes (length c.live)) (flat_map live_bytes c.live) (counted (entry_bytes pointer_bytes) c.puts ++ counted (entry_bytes u64_bytes) c.takes),
+                  r.few_live,
+                  live_read files (head_text c.place c.next) 0 c.live c.puts c.takes (lists_to files c fits right.left right.opened r),
+                ),
+              ),
+            ),
+          ),
+        ),
+      ),
+    )
 
 pub fault_is_wrong : FaultIsWrong
 fault_is_wrong files c rest fits right bad = differ (one_outcome files (check_bytes c) (Good c) (Bad rest) (right_is_read files c fits right) bad)

@@ -1,13 +1,12 @@
 -- What a pointer names.
-use Rattle.std.specs.Prelude.{◌↔◌, IsSome, IsSomeAnd, Bool, true, false}
-use Rattle.std.proofs.Common.{◌⊎◌, inl, inr, ◌≡◌, ◌≢◌, ◌≤◌, ◌<◌, ◌+◌, ◌++◌, ◌∷◌, [], ℕ, List, length, take, drop, nat_lt, nat_eq, ◌==◌, Option, Some, None, refl, sym, ap, subst, ◌∙◌, arith, append_assoc, length-append}
+use Rattle.std.specs.Prelude.{◌↔◌, IsSome, IsSomeAnd, true, false}
+use Rattle.std.proofs.Common.{◌⊎◌, inl, inr, ◌≡◌, ◌≢◌, ◌≤◌, ◌<◌, ◌+◌, ◌++◌, ◌∷◌, [], ℕ, List, length, take, drop, nat_lt, ◌==◌, Option, Some, None, refl, sym, ap, subst, ◌∙◌, arith, append_assoc, length-append}
 use Rattle.std.proofs.lemmas.Bool.Decides.{eqb_tells}
 use Rattle.std.proofs.lemmas.Bool.{ltb-true}
 use Rattle.std.proofs.lemmas.List.{drop_at, length-drop, length-take, take-append-drop}
 use Rattle.flume_host.specs.declared.names.FileName.{FileName}
 use Rattle.flume_host.specs.declared.names.FileName.TheVariants.{Check, Log}
 use Rattle.flume_host.specs.Folder.{Files, IsAbove, IsNext, name_below}
-use Rattle.flume_host.specs.Told.{Told}
 use Rattle.event_core.specs.Content.{Content, size}
 use Rattle.record_form.specs.declared.record.Pointer.{Pointer}
 use Rattle.record_form.specs.declared.record.Rec.{Rec}
@@ -17,7 +16,6 @@ use Rattle.record_form.specs.Record.{Spells, record_length, spelling}
 use Rattle.record_form.proofs.Again.{length-spelling, one-spelling}
 use Rattle.channel_log.proofs.Pointed.{front, no_put, seen_long}
 use Rattle.channel_log.specs.Pointers.{PutAt}
-use Rattle.checkpoint.specs.Right.{PutIn, PutOf}
 use Rattle.checkpoint_reading.specs.Logs.{IsBefore, IsPutAt, IsPutIn, IsPutRec}
 
 less_true : (a b : ℕ) → a < b → nat_lt a b ≡ true

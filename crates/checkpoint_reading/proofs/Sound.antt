@@ -1,11 +1,9 @@
 -- What is read without a fault is spelled and right.
-use Rattle.std.proofs.Common.{◌⊎◌, inl, inr, ◌≡◌, ◌<◌, ◌≤◌, ◌+◌, ◌^◌, ◌++◌, ◌∷◌, [], ℕ, zero, suc, List, length, Bool, true, false, refl, sym, ap, subst, ◌∙◌, arith, append_assoc, length-append}
-use Rattle.std.specs.Prelude.{codes, flat_map, map, IsSome, IsSomeAnd, Option, Some, None, ◌==◌, ◌||◌}
+use Rattle.std.proofs.Common.{inl, inr, ◌≡◌, ◌<◌, ◌≤◌, ◌+◌, ◌^◌, ◌++◌, ◌∷◌, [], ℕ, zero, suc, List, length, false, refl, sym, ap, subst, ◌∙◌, arith, append_assoc, length-append}
+use Rattle.std.specs.Prelude.{codes, flat_map, map}
 use Rattle.std.specs.List.{AllByRecursion}
 use Rattle.std.proofs.lemmas.List.{append-nil}
-use Rattle.std.proofs.lemmas.Grind.{flat_map-append}
 use Rattle.flume_host.specs.Folder.{Files}
-use Rattle.flume_host.specs.declared.names.FileName.TheVariants.{Log}
 use Rattle.event_core.specs.Content.{Content}
 use Rattle.event_core.specs.Journal.{is_among}
 use Rattle.event_core.specs.declared.journal.Entry.{Entry}
@@ -14,9 +12,9 @@ use Rattle.event_core.specs.Numbers.{u32_bytes, u64_bytes}
 use Rattle.record_form.specs.declared.record.Pointer.{Pointer}
 use Rattle.checkpoint.specs.declared.place.Next.{Next}
 use Rattle.checkpoint.specs.declared.place.Place.{Place}
-use Rattle.checkpoint.specs.Right.{AreApartFrom, AreOnceAmong, EventsAre, HasSome, IsRight, IsRightText, LiveAre, OpenAre, PutIn, all_of, number_of}
-use Rattle.checkpoint.specs.Text.{CheckText, FitCounts, Rise, check_bytes, counted, entry_bytes, head_bytes, live_bytes, pointer_bytes}
-use Rattle.checkpoint_reading.specs.Fields.{Bad, Field, FitsFields, Gives, Good, Is32, Is64, IsEntry, IsLive, IsOpenPut, IsOpenTake, IsPlace, IsPut, ListsGive, LiveGive, NumbersGive, Outcome, PlaceGives, PutsGive, TakesGive, head_text, with_live, with_put, with_take}
+use Rattle.checkpoint.specs.Right.{AreApartFrom, AreOnceAmong, EventsAre, HasSome, IsRightText, LiveAre, OpenAre, PutIn, all_of, number_of}
+use Rattle.checkpoint.specs.Text.{CheckText, Rise, check_bytes, counted, entry_bytes, head_bytes, live_bytes, pointer_bytes}
+use Rattle.checkpoint_reading.specs.Fields.{Bad, Good, IsLive, IsOpenPut, IsOpenTake, IsPlace, IsPut, ListsGive, LiveGive, PutsGive, TakesGive, head_text, with_live, with_put, with_take}
 use Rattle.checkpoint_reading.specs.Laws.{ReadIsRight}
 
 good_bad : (c : CheckText) (bytes : List ℕ) → Good c ≡ Bad bytes → ⊥
@@ -30,7 +28,7 @@ pub rise_more : {A : Type 0} (low high : ℕ) (xs : List (ℕ × A)) (x : ℕ ×
 rise_more low high [] x rise less above = (omega (arith, less, above), omega arith, tt)
 rise_more low high (y ∷ xs) x rise less above = (rise.0, omega (arith, rise.1, above), rise_more (y.0 + 1) high xs x rise.2 (omega (arith, rise.1)) above)
 
-rise_within : {A : Type 0} (low high top : ℕ) (xs : List (ℕ × A)) → Rise low high xs → high ≤ top → Rise low top xs
+pub rise_within : {A : Type 0} (low high top : ℕ) (xs : List (ℕ × A)) → Rise low high xs → high ≤ top → Rise low top xs
 rise_within low high top [] rise le = tt
 rise_within low high top (x ∷ xs) rise le = (rise.0, omega (arith, rise.1, le), rise_within (x.0 + 1) high top xs rise.2 le)
 
@@ -364,8 +362,7 @@ read_is_right files bytes c (inl (text, m1, is1, tag, inl (form, m2, is2, one, i
 read_is_right files bytes c (inl (text, m1, is1, tag, inl (form, m2, is2, one, inl (file, m3, is3, there, inl (at, m4, is4, place, inr none))))) = absurd (good_bad c m4 none.1)
 read_is_right files bytes c (inl (text, m1, is1, tag, inl (form, m2, is2, one, inl (file, m3, is3, there, inl (at, m4, is4, place, inl (number, m5, is5, fits, inr none)))))) = absurd (good_bad c m5 none.1)
 read_is_right files bytes c (inl (text, m1, is1, tag, inl (form, m2, is2, one, inl (file, m3, is3, there, inl (at, m4, is4, place, inl (number, m5, is5, fits, inl (txn, m6, is6, some, lists))))))) =
-    let e = lists_good files c (record { file = file; at = at }) (record { number = number; txn = txn }) m6 place some.0 lists in
-    (
+    let e = lists_good files c (record { file = file; at = at }) (record { number = number; txn = txn }) m6 place some.0 lists in (
       spelled e.text file at number txn bytes e.place_is e.next_is (joined bytes text m1 m2 m3 m4 m5 m6 (lists_of e.text) (codes "FLUMECHK") form file at number txn is1 tag is2 one is3 is4 is5 is6 e.split)
           ∙ ap check_bytes (sym e.is),
       subst (λ (d : CheckText). IsRightText files d) (sym e.is) e.right,

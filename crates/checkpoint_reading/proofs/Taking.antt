@@ -1,5 +1,5 @@
 -- What a reader took of its file.
-use Rattle.std.proofs.Common.{◌≡◌, ◌≤◌, ◌<◌, ◌+◌, ◌-◌, ◌++◌, ◌∷◌, [], ℕ, List, length, take, drop, min, refl, sym, ap, ◌∙◌, subst, arith, Bool, true, false, append_assoc, length-append, length-drop}
+use Rattle.std.proofs.Common.{◌≡◌, ◌≤◌, ◌+◌, ◌-◌, ◌++◌, ℕ, List, length, take, drop, refl, sym, ap, ◌∙◌, subst, arith, Bool, true, false, append_assoc, length-append, length-drop}
 use Rattle.std.proofs.lemmas.List.{drop-drop, drop-take, drop_at, length-take, take-append-drop, take_at}
 use Rattle.std.specs.Prelude.{◌↔◌, IsSome, IsTrue, Option}
 use Rattle.flume_host.specs.Told.{Told, WhereTold}
@@ -7,7 +7,6 @@ use Rattle.flume_host.specs.declared.names.FileName.TheVariants.{Check}
 use Rattle.byteorder.specs.Endian.{big_number}
 use Rattle.event_core.proofs.Sizes.{length-u32_bytes, length-u64_bytes}
 use Rattle.event_core.specs.Numbers.{u32_bytes, u64_bytes}
-use Rattle.record_form.specs.Grammar.{u32_of, u64_of}
 use Rattle.channel_log.proofs.Keeping.{take_take}
 use Rattle.record_form.proofs.Spelled.{AreBytes, u32_part, u64_part}
 use Rattle.record_form.proofs.Values.{u32_of-take, u64_of-take}

@@ -1,6 +1,6 @@
 -- Bytes are read in one way.
-use Rattle.std.proofs.Common.{◌⊎◌, inl, inr, ◌≡◌, ◌<◌, ◌≤◌, ◌+◌, ◌^◌, ◌++◌, ◌∷◌, [], ℕ, zero, suc, List, length, take, drop, refl, sym, ap, subst, ◌∙◌, arith, append_assoc, length-append}
-use Rattle.std.specs.Prelude.{codes, flat_map, map, IsSome}
+use Rattle.std.proofs.Common.{inl, inr, ◌≡◌, ◌≤◌, ◌+◌, ◌++◌, ◌∷◌, [], ℕ, zero, suc, List, length, take, drop, refl, sym, ap, subst, ◌∙◌, arith, append_assoc}
+use Rattle.std.specs.Prelude.{codes, flat_map, IsSome}
 use Rattle.std.specs.List.{AllByRecursion}
 use Rattle.std.proofs.lemmas.List.{drop_at, take_at}
 use Rattle.flume_host.specs.Folder.{Files}
@@ -13,7 +13,7 @@ use Rattle.record_form.proofs.Values.{u32_of-u32_bytes, u64_of-u64_bytes}
 use Rattle.checkpoint.specs.declared.place.Next.{Next}
 use Rattle.checkpoint.specs.declared.place.Place.{Place}
 use Rattle.checkpoint.specs.Text.{CheckText, entry_bytes, live_bytes, pointer_bytes}
-use Rattle.checkpoint_reading.specs.Fields.{Bad, End, Field, FitsFields, Gives, Good, Is32, Is64, IsEntry, IsLive, IsOpenPut, IsOpenTake, IsPlace, IsPut, ListsGive, LiveGive, NumbersGive, Outcome, PlaceGives, PutsGive, TakesGive, head_text, with_live, with_put, with_take}
+use Rattle.checkpoint_reading.specs.Fields.{End, Field, FitsFields, Is32, Is64, IsLive, IsOpenPut, IsOpenTake, IsPlace, IsPut, ListsGive, LiveGive, NumbersGive, Outcome, PlaceGives, PutsGive, TakesGive, head_text, with_live, with_put, with_take}
 use Rattle.checkpoint_reading.specs.Laws.{HasOneOutcome}
 use Rattle.checkpoint_reading.proofs.Taking.{length_pointer}
 
@@ -141,8 +141,8 @@ numbers_one : (files : Files) (place : Place) (bytes : List ℕ) (one other : Ou
 numbers_one files place bytes one other g h =
     field_one u64_bytes Is64 (λ o number. Field u64_bytes (λ txn. (1 ≤ txn) × Is64 txn) (λ txn. ListsGive files o place (record { number = number; txn = txn })) o) bytes one other one_u64
     (λ number more i j.
-      field_one u64_bytes (λ txn. (1 ≤ txn) × Is64 txn) (λ o txn. ListsGive files o place (record { number = number; txn = txn })) more one other
-      (λ a b x y is right right'. one_u64 a b x y is right.1 right'.1) (λ txn more' k l. lists_one files place (record { number = number; txn = txn }) more' one other k l) i j)
+    field_one u64_bytes (λ txn. (1 ≤ txn) × Is64 txn) (λ o txn. ListsGive files o place (record { number = number; txn = txn })) more one other
+    (λ a b x y is right right'. one_u64 a b x y is right.1 right'.1) (λ txn more' k l. lists_one files place (record { number = number; txn = txn }) more' one other k l) i j)
     g h
 
 place_one : (files : Files) (bytes : List ℕ) (one other : Outcome) → PlaceGives files one bytes → PlaceGives files other bytes → one ≡ other
@@ -151,8 +151,8 @@ place_one files bytes one other g h =
     (λ o file. Field u64_bytes (λ at. IsPlace files (record { file = file; at = at })) (λ at. NumbersGive files o (record { file = file; at = at })) o) bytes one other
     (λ a b x y is right right'. one_u32 a b x y is right.0 right'.0)
     (λ file more i j.
-      field_one u64_bytes (λ at. IsPlace files (record { file = file; at = at })) (λ o at. NumbersGive files o (record { file = file; at = at })) more one other
-      (λ a b x y is right right'. one_u64 a b x y is right.0 right'.0) (λ at more' k l. numbers_one files (record { file = file; at = at }) more' one other k l) i j)
+    field_one u64_bytes (λ at. IsPlace files (record { file = file; at = at })) (λ o at. NumbersGive files o (record { file = file; at = at })) more one other
+    (λ a b x y is right right'. one_u64 a b x y is right.0 right'.0) (λ at more' k l. numbers_one files (record { file = file; at = at }) more' one other k l) i j)
     g h
 
 pub one_outcome : HasOneOutcome

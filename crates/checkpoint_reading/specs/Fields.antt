@@ -110,19 +110,29 @@ IsPlace files place = (place.at < 2 ^ 64) × IsSomeAnd (files (Log place.file)) 
 abbrev pub ListsGive : Files → Outcome → Place → Next → List ℕ → Type 0
 ListsGive files o place next = Field u32_bytes Is32 (LiveGive files o (head_text place next) 0) o
 
--- the next numbers
-abbrev pub NumbersGive : Files → Outcome → Place → List ℕ → Type 0
-NumbersGive files o place = Field u64_bytes Is64 (λ number. Field u64_bytes (λ txn. (1 ≤ txn) × Is64 txn) (λ txn. ListsGive files o place (record { number = number; txn = txn })) o) o
+-- the next transaction's number
+abbrev pub TxnGives : Files → Outcome → Place → ℕ → List ℕ → Type 0
+TxnGives files o place number = Field u64_bytes (λ txn. (1 ≤ txn) × Is64 txn) (λ txn. ListsGive files o place (record { number = number; txn = txn })) o
 
--- the place: a file that is there, and an offset in it
+-- the next event's number
+abbrev pub NumbersGive : Files → Outcome → Place → List ℕ → Type 0
+NumbersGive files o place = Field u64_bytes Is64 (TxnGives files o place) o
+
+-- the offset of the place
+abbrev pub OffsetGives : Files → Outcome → ℕ → List ℕ → Type 0
+OffsetGives files o file = Field u64_bytes (λ at. IsPlace files (record { file = file; at = at })) (λ at. NumbersGive files o (record { file = file; at = at })) o
+
+-- the file of the place, which is there
 abbrev pub PlaceGives : Files → Outcome → List ℕ → Type 0
-PlaceGives files o =
-    Field u32_bytes (λ file. Is32 file × IsSome (files (Log file)))
-    (λ file. Field u64_bytes (λ at. IsPlace files (record { file = file; at = at })) (λ at. NumbersGive files o (record { file = file; at = at })) o) o
+PlaceGives files o = Field u32_bytes (λ file. Is32 file × IsSome (files (Log file))) (OffsetGives files o) o
+
+-- the form
+abbrev pub FormGives : Files → Outcome → List ℕ → Type 0
+FormGives files o = Field u32_bytes (λ form. form ≡ 1) (λ form. PlaceGives files o) o
 
 -- The bytes behind a checkpoint's commit byte give this: its text, its form, and what follows.
 abbrev pub Gives : Files → Outcome → List ℕ → Type 0
-Gives files o = Field (λ text. text) (λ text. text ≡ codes "FLUMECHK") (λ text. Field u32_bytes (λ form. form ≡ 1) (λ form. PlaceGives files o) o) o
+Gives files o = Field (λ text. text) (λ text. text ≡ codes "FLUMECHK") (λ text. FormGives files o) o
 
 -- the bytes of a checkpoint's file, if it is there
 abbrev pub bytes_of : Option (List ℕ) → List ℕ

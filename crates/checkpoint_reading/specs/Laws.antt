@@ -1,9 +1,7 @@
 -- Laws of reading a checkpoint.
-use Rattle.std.specs.Prelude.{◌≡◌, ◌<◌, ◌^◌, ℕ, List, drop}
+use Rattle.std.specs.Prelude.{◌≡◌, ℕ, List}
 use Rattle.std.specs.List.{AllByRecursion}
 use Rattle.flume_host.specs.Folder.{Files}
-use Rattle.event_core.specs.Content.{Content}
-use Rattle.record_form.specs.declared.record.Pointer.{Pointer}
 use Rattle.checkpoint.specs.Right.{IsRightText}
 use Rattle.checkpoint.specs.Text.{CheckText, check_bytes}
 use Rattle.checkpoint_reading.specs.Fields.{Bad, FitsFields, Gives, Good, Is32, Is64, Outcome}

@@ -2,3 +2,4 @@ pub mod Fields
 pub mod Reader
 pub mod Laws
 pub mod Logs
+pub mod Draft

@@ -3,7 +3,8 @@ use Rattle.std.specs.Prelude.{◌≡◌, ◌<◌, ◌≤◌, ◌+◌, ◌-◌, �
 use Rattle.flume_host.specs.Causes.{Rose}
 use Rattle.flume_host.specs.Told.{Told, WhereTold}
 use Rattle.flume_host.specs.declared.names.FileName.TheVariants.{Check, Log}
-use Rattle.checkpoint_reading.specs.Fields.{check_file}
+use Rattle.flume_host.specs.Folder.{Files}
+use Rattle.checkpoint_reading.specs.Fields.{Bad, Outcome, check_file}
 use Rattle.checkpoint_reading.specs.declared.refused.CheckReadRefused.{CheckReadRefused}
 use Rattle.checkpoint_reading.specs.declared.refused.CheckReadRefused.TheVariants as refusals
 
@@ -77,3 +78,11 @@ pub record IsHonest {T : Type 0} (before now : ℕ) (result : Result T CheckRead
   pub later : before ≤ now
   pub fault : IsErrOf result refusals.DiskFault → Rose before now
   pub well : (IsErrOf result refusals.DiskFault → ⊥) → now ≡ before
+
+-- What is left behind gives what is left before.
+abbrev pub Goes : Option Told → Reader → Reader → (Files → Outcome → List ℕ → Type 0) → (Files → Outcome → List ℕ → Type 0) → Type 0
+Goes told old new Before Behind = WhereTold told (λ t. (o : Outcome) → Behind t.reads o (rest t new) → Before t.reads o (rest t old))
+
+-- A fault names the file, and the bytes give what is left of it from the fault's offset on.
+abbrev pub Faults : Option Told → Reader → (Files → Outcome → List ℕ → Type 0) → CheckReadRefused → Type 0
+Faults told old Before e = WhereBad e (λ file at. (file ≡ old.number) × (at ≤ old.size) × WhereTold told (λ t. Before t.reads (Bad (drop at (check_file t.reads old.number))) (rest t old)))

@@ -1,7 +1,10 @@
 //! Reading the newest checkpoint of a channel's folder.
 #![tactic(auto)]
 
+mod draft;
+mod head;
 mod laws;
+mod live;
 mod logs;
 mod newest;
 mod reader;

@@ -1,10 +1,11 @@
 // Reads the file of a checkpoint in pieces.
-ghost use Rattle.std.specs.Prelude.{◌≡◌, ◌≤◌, ◌<◌, ◌+◌, ◌++◌, ◌^◌, ℕ, List, length, min, drop, take, IfErr, IfOk, OnOk, IsSome, MatchOption, IsTrue, ◌↔◌, true, false};
+ghost use Rattle.std.specs.Prelude.{◌≡◌, ◌≤◌, ◌<◌, ◌+◌, ◌++◌, ◌^◌, ℕ, List, length, min, drop, take, IfErr, IfOk, OnOk, IsSome, MatchOption, IfSome, IsTrue, ◌↔◌, true, false};
 ghost use Rattle.flume_host.specs.Causes.{HasCause};
 ghost use Rattle.flume_host.specs.Told.{WhereTold};
 ghost use Rattle.flume_host.specs.declared.names.FileName.TheVariants.{Check};
 ghost use Rattle.event_core.specs.Numbers.{u32_bytes, u64_bytes};
 ghost use Rattle.checkpoint.specs.Text.{live_bytes, pointer_bytes};
+ghost use Rattle.checkpoint_reading.specs.Fields.{FitsFields};
 ghost use Rattle.checkpoint_reading.specs.Reader.{Holds, IfTrue, IsHonest, IsPlain, IsSameFile, IsShort, IsTaken, Takes, rest};
 
 use crate::refused::CheckReadRefused;
@@ -80,7 +81,8 @@ impl CheckReader {
 
     /// The offset of the next field.
     pub fn at(&self) -> u64
-        ensures { result ≡ self.now.at }
+        ensures at { result ≡ self.now.at }
+        ensures within { result ≤ self.now.size }
     {
         self.at
     }
@@ -150,7 +152,8 @@ impl CheckReader {
     // The pointer of the next sixteen bytes.
     fn take_pointer(&mut self) -> Pointer
         requires { 16 ≤ length self.old.held }
-        ensures { IsTaken self.old self.new (pointer_bytes result) }
+        ensures taken { IsTaken self.old self.new (pointer_bytes result) }
+        ensures fits { FitsFields result }
     {
         let file = self.take_u32();
         let at = self.take_u64();
@@ -173,7 +176,10 @@ impl CheckReader {
     }
 
     /// The number of the next four bytes, unless the file ends before.
-    pub(crate) fn next_u32<D: Disk>(&mut self, disk: &mut D) -> Result<Option<u32>, CheckReadRefused>
+    pub(crate) fn next_u32<D: Disk>(
+        &mut self,
+        disk: &mut D,
+    ) -> Result<Option<u32>, CheckReadRefused>
         requires { Holds (D.told disk.old) self.old }
         ensures held { OnOk result (Holds (D.told disk.new) self.new) }
         ensures taken { IfOk result (λ next. MatchOption next (IsShort (D.told disk.old) self.old 4) (λ n. Takes (D.told disk.old) self.old self.new (u32_bytes n))) }
@@ -190,7 +196,10 @@ impl CheckReader {
     }
 
     /// The number of the next eight bytes, unless the file ends before.
-    pub(crate) fn next_u64<D: Disk>(&mut self, disk: &mut D) -> Result<Option<u64>, CheckReadRefused>
+    pub(crate) fn next_u64<D: Disk>(
+        &mut self,
+        disk: &mut D,
+    ) -> Result<Option<u64>, CheckReadRefused>
         requires { Holds (D.told disk.old) self.old }
         ensures held { OnOk result (Holds (D.told disk.new) self.new) }
         ensures taken { IfOk result (λ next. MatchOption next (IsShort (D.told disk.old) self.old 8) (λ n. Takes (D.told disk.old) self.old self.new (u64_bytes n))) }
@@ -207,10 +216,14 @@ impl CheckReader {
     }
 
     /// The pointer of the next sixteen bytes, unless the file ends before.
-    pub(crate) fn next_pointer<D: Disk>(&mut self, disk: &mut D) -> Result<Option<Pointer>, CheckReadRefused>
+    pub(crate) fn next_pointer<D: Disk>(
+        &mut self,
+        disk: &mut D,
+    ) -> Result<Option<Pointer>, CheckReadRefused>
         requires { Holds (D.told disk.old) self.old }
         ensures held { OnOk result (Holds (D.told disk.new) self.new) }
         ensures taken { IfOk result (λ next. MatchOption next (IsShort (D.told disk.old) self.old 16) (λ p. Takes (D.told disk.old) self.old self.new (pointer_bytes p))) }
+        ensures fits { IfOk result (λ next. IfSome next FitsFields) }
         ensures file { IsSameFile self.old self.new }
         ensures same { D.told disk.new ≡ D.told disk.old }
         ensures plain { IfErr result IsPlain }
@@ -231,6 +244,7 @@ impl CheckReader {
         requires { Holds (D.told disk.old) self.old }
         ensures held { OnOk result (Holds (D.told disk.new) self.new) }
         ensures taken { IfOk result (λ next. MatchOption next (IsShort (D.told disk.old) self.old 24) (λ l. Takes (D.told disk.old) self.old self.new (live_bytes l))) }
+        ensures fits { IfOk result (λ next. IfSome next (λ l. (l.0 < 2 ^ 64) × FitsFields l.1)) }
         ensures file { IsSameFile self.old self.new }
         ensures same { D.told disk.new ≡ D.told disk.old }
         ensures plain { IfErr result IsPlain }
@@ -245,7 +259,10 @@ impl CheckReader {
     }
 
     /// The number and the count with which an open transaction begins, unless the file ends before.
-    pub(crate) fn next_entry<D: Disk>(&mut self, disk: &mut D) -> Result<Option<(u64, u32)>, CheckReadRefused>
+    pub(crate) fn next_entry<D: Disk>(
+        &mut self,
+        disk: &mut D,
+    ) -> Result<Option<(u64, u32)>, CheckReadRefused>
         requires { Holds (D.told disk.old) self.old }
         ensures held { OnOk result (Holds (D.told disk.new) self.new) }
         ensures taken { IfOk result (λ next. MatchOption next (IsShort (D.told disk.old) self.old 12) (λ e. Takes (D.told disk.old) self.old self.new (u64_bytes e.0 ++ u32_bytes e.1))) }
