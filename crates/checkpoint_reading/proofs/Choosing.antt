@@ -14,6 +14,7 @@ abbrev pub IsLater : Option ℕ → ℕ → Type 0
 IsLater None n = Unit {0}
 IsLater (Some k) n = k < n
 
+-- a checkpoint of this number counts, if one is chosen
 abbrev pub Counts : Files → Option ℕ → Type 0
 Counts files None = Unit {0}
 Counts files (Some k) = IsSomeAnd (files (Check k)) (λ bytes. IsPassed bytes → ⊥)
@@ -36,6 +37,7 @@ order None = 0
 order (Some (Log n)) = n + 1
 order (Some (Check n)) = 2 ^ 32 + (n + 1)
 
+-- before the first name none is chosen
 pub chosen_none : (told : Option Told) (faults : ℕ) → ChosenUpTo told told faults faults None None
 chosen_none told faults = record { same = refl; well = refl; low = λ n is. absurd (cc); newest_is = λ t is. record { counts = tt; passed = λ n above later. absurd (above tt) } }
 
@@ -52,6 +54,7 @@ above_or (Some a) name = by (name_below a name) refl
     by true is = inl is
     by false is = inr (λ above. let e : false ≡ true = sym is ∙ above in absurd (cc))
 
+-- a log file changes nothing
 pub log_on : (files : Files) (after : Option FileName) (newest : Option ℕ) (m : ℕ) → NewestUpTo files after newest → NewestUpTo files (Some (Log m)) newest
 log_on files after newest m up = record { counts = up.counts; passed = λ n above later. absurd (above refl) }
 
@@ -65,6 +68,7 @@ not_above m n not_so = by (cases_lt m n)
 less_true : (a b : ℕ) → a < b → nat_lt a b ≡ true
 less_true a b less = grind (arith)
 
+-- a checkpoint is the newest one so far, if it counts
 pub check_on : (files : Files) (after : Option FileName) (newest : Option ℕ) (m : ℕ) (counted : Bool) → NewestUpTo files after newest → IsNext files after (Some (Check m))
     → (counted ≡ true → IsSomeAnd (files (Check m)) (λ bytes. IsPassed bytes → ⊥)) → (counted ≡ false → IsPassedFile (files (Check m))) → NewestUpTo files (Some (Check m)) (cond counted (Some m) newest)
 check_on files after newest m true up next counts passed = record { counts = counts refl; passed = λ n above later. absurd (omega (arith, later, not_above m n above)) }
@@ -78,6 +82,7 @@ check_on files after newest m false up next counts passed = record { counts = up
     at n later (inl same) le = subst (λ (k : ℕ). IsPassedFile (files (Check k))) (sym same.1) (passed refl)
     at n later (inr other) le = old n later (omega (arith, le, other.1)) (above_or after (Check n))
 
+-- behind the last name the one that is chosen is the newest
 pub all_chosen : (files : Files) (after : Option FileName) (newest : Option ℕ) → NewestUpTo files after newest → IsNext files after None → IsNewest files newest
 all_chosen files after newest up none = by newest up.counts each
   where
@@ -92,6 +97,7 @@ all_chosen files after newest up none = by newest up.counts each
     by None counts all = λ n. all n tt
     by (Some k) counts all = (counts, all)
 
+-- each name stands higher in the order than the one before: the loop over names ends
 pub order_rises : (after : Option FileName) (name : FileName) → IsAbove after name → ((n : ℕ) → name ≡ Log n → n < 2 ^ 32) → ((n : ℕ) → after ≡ Some (Log n) → n < 2 ^ 32) → order after < order (Some name)
 order_rises None (Log n) above low low' = omega arith
 order_rises None (Check n) above low low' = omega arith

@@ -205,6 +205,7 @@ lists_to files c fits left opened r = record {
   };
 }
 
+-- a text that is right, field by field
 pub right_is_read : RightIsRead
 unfolding check_bytes
 right_is_read files c fits right =
@@ -258,6 +259,7 @@ right_is_read files c fits right =
       ),
     )
 
+-- since bytes give one outcome
 pub fault_is_wrong : FaultIsWrong
 fault_is_wrong files c rest fits right bad = differ (one_outcome files (check_bytes c) (Good c) (Bad rest) (right_is_read files c fits right) bad)
   where

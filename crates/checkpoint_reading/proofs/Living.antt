@@ -28,14 +28,17 @@ use Rattle.checkpoint_reading.proofs.Unique.{one_live}
 length_live : (l : ℕ × Pointer) → length (live_bytes l) ≡ 24
 length_live l = omega (arith, length-append (u64_bytes l.0) (pointer_bytes l.1), length-u64_bytes l.0, length_pointer l.1)
 
+-- where fewer bytes are left than an event that is left has, none stands there
 pub short_live : (bytes : List ℕ) → length bytes < 24 → (l : ℕ × Pointer) (more : List ℕ) → bytes ≡ live_bytes l ++ more → ⊥
 short_live bytes short l more is = omega (arith, short, ap (λ (b : List ℕ). length b) is, length-append (live_bytes l) more, length_live l)
 
+-- where one stands that is not right, no other one does
 pub other_live : (files : Files) (c : CheckText) (low : ℕ) (bytes behind : List ℕ) (l : ℕ × Pointer) → Is64 l.0 → FitsFields l.1 → bytes ≡ live_bytes l ++ behind → (IsLive files c low l → ⊥)
     → (a : ℕ × Pointer) (more : List ℕ) → bytes ≡ live_bytes a ++ more → IsLive files c low a → ⊥
 other_live files c low bytes behind l fits pointer is wrong a more there right =
     wrong (subst (λ (m : ℕ × Pointer). IsLive files c low m) (sym (one_live l a behind more (sym is ∙ there) fits right.fits pointer right.pointer).0) right)
 
+-- a PUT of a transaction is a PUT
 pub put_of_in : (files : Files) (txn : ℕ) (p : Pointer) (event : Content) → PutOf files txn p event → PutIn files p event
 put_of_in files txn p event put = from (files (Log p.file)) put
   where
@@ -110,9 +113,11 @@ pub live_stop : (was later : Option Told) (start now : Reader) (place : Place) (
 live_stop was later start now place next d low more same some goes none = λ t is.
     goes t is (Bad (rest t now)) (subst (λ (n : ℕ). LiveGive t.reads (Bad (rest t now)) (live_text d) low n (rest t now)) (sym (some_more more some)) (inr (none t (same ∙ is), refl)))
 
+-- what is said of what there may be, of what there is
 pub if_some : {A : Type 0} (next : Option A) (a : A) (P : A → Type 0) → next ≡ Some a → IfSome next P → P a
 if_some {A} next a P same is = subst (λ (o : Option A). IfSome o P) same is
 
+-- where no PUT was found, none stands at the pointer
 pub none_put : (files : Files) (p : Pointer) (txn : Option ℕ) → txn ≡ None → IsPutIn files p txn → (event : Content) → PutIn files p event → ⊥
 none_put files p txn same is = subst (λ (o : Option ℕ). IsPutIn files p o) same is
 
@@ -124,6 +129,7 @@ pub record LiveOnWay (was told : Option Told) (faulty faults : ℕ) (start now :
 fresh_text : (d : Draft) → IsFresh d.place d.next d → live_text d ≡ head_text d.place d.next
 fresh_text d fresh = ap (λ (x : List Left). record { place = d.place; next = d.next; live = map live_at x; puts = []; takes = [] }) fresh.empty
 
+-- the loop begins behind the count
 pub live_begun : (was : Option Told) (start now : Reader) (d : Draft) (count : ℕ) → IsFresh d.place d.next d → count < 2 ^ 32 → Takes was start now (u32_bytes count) → LiveLoop was start now d.place d.next d 0 count
 live_begun was start now d count fresh fits takes = record {
   of = fresh.of;
@@ -131,6 +137,7 @@ live_begun was start now d count fresh fits takes = record {
   goes = λ t is o behind. inl (count, rest t now, takes t is, fits, subst (λ (c : CheckText). LiveGive t.reads o c 0 count (rest t now)) (fresh_text d fresh) behind);
 }
 
+-- the loop goes on over an event that is right
 pub live_more : (was later : Option Told) (start now then' : Reader) (place : Place) (next : Next) (d e : Draft) (low more number : ℕ) (pointer : Pointer) → LiveLoop was start now place next d low more → later ≡ was → 1 ≤ more
     → Takes later now then' (live_bytes (number, pointer)) → WhereTold later (λ t. IsLive t.reads (live_text d) low (number, pointer)) → low ≤ number → number < d.next.number
     → e ≡ record d { ring = e.ring; slots = e.slots } → e.ring ≡ record { slots = e.slots; top = number + 1; live = d.ring.live ++ record { number = number; pointer = pointer; held = false } ∷ [] } → length d.ring.live + 1 ≤ e.slots
@@ -139,10 +146,12 @@ live_more was later start now then' place next d e low more number pointer loop 
     let p = live_pushed place next d e low number pointer loop.of loop.live above below rest ring room in
     record { of = p.0; live = p.1; goes = live_step was later start now then' place next d e low more (number, pointer) same some loop.goes takes right p.2 }
 
+-- where none is to come, the count of open puts is next
 pub live_ended : (was : Option Told) (start now : Reader) (place : Place) (next : Next) (d : Draft) (low more : ℕ) → LiveLoop was start now place next d low more → more ≡ 0
     → Goes was start now (λ files o. ListsGive files o place next) (λ files o. OpenGive files o (live_text d))
 live_ended was start now place next d low more loop none = λ t is o behind. loop.goes t is o (subst (λ (n : ℕ). LiveGive t.reads o (live_text d) low n (rest t now)) (sym none) behind)
 
+-- all numbers are below the next one
 pub live_all : (d : Draft) (low : ℕ) → HasLive d low → HasLive d d.next.number
 live_all d low live = record {
   upto = omega arith;

@@ -45,9 +45,11 @@ log_next files after file found before next = at (eqb_tells found file)
         let more : file ≤ found = not_below after file found before next.1 in
         (λ yes. absurd (cc), λ some. absurd (none_there (files (Log file)) (next.2 (Log file) (above_before after file before) (less_true file found (omega (arith, more, other.1)))) some))
 
+-- where a checkpoint comes next, it is not there
 pub check_next : (files : Files) (after : Option FileName) (file found : ℕ) → IsBefore after file → IsNext files after (Some (Check found)) → (false ≡ true) ↔ IsSome (files (Log file))
 check_next files after file found before next = (λ yes. absurd (cc), λ some. absurd (none_there (files (Log file)) (next.2 (Log file) (above_before after file before) refl) some))
 
+-- where nothing comes next, it is not there
 pub none_next : (files : Files) (after : Option FileName) (file : ℕ) → IsBefore after file → IsNext files after None → (false ≡ true) ↔ IsSome (files (Log file))
 none_next files after file before next = (λ yes. absurd (cc), λ some. absurd (none_there (files (Log file)) (next (Log file) (above_before after file before)) some))
 

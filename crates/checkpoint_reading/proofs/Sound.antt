@@ -28,6 +28,7 @@ pub rise_more : {A : Type 0} (low high : ℕ) (xs : List (ℕ × A)) (x : ℕ ×
 rise_more low high [] x rise less above = (omega (arith, less, above), omega arith, tt)
 rise_more low high (y ∷ xs) x rise less above = (rise.0, omega (arith, rise.1, above), rise_more (y.0 + 1) high xs x rise.2 (omega (arith, rise.1)) above)
 
+-- numbers that stay below one stay below a greater one
 pub rise_within : {A : Type 0} (low high top : ℕ) (xs : List (ℕ × A)) → Rise low high xs → high ≤ top → Rise low top xs
 rise_within low high top [] rise le = tt
 rise_within low high top (x ∷ xs) rise le = (rise.0, omega (arith, rise.1, le), rise_within (x.0 + 1) high top xs rise.2 le)
@@ -354,6 +355,7 @@ spelled text file at number txn bytes place next is =
     is ∙ (sym (regroup (codes "FLUMECHK") (u32_bytes 1) (u32_bytes file) (u64_bytes at) (u64_bytes number) (u64_bytes txn) (lists_of text))
     ∙ (ap (λ (p : Place). head_bytes p (record { number = number; txn = txn }) ++ lists_of text) (sym place) ∙ ap (λ (n : Next). head_bytes text.place n ++ lists_of text) (sym next)))
 
+-- each field was right, and what is behind it gave the rest
 pub read_is_right : ReadIsRight
 read_is_right files bytes c (inr none) = absurd (good_bad c bytes none.1)
 read_is_right files bytes c (inl (text, m1, is1, tag, inr none)) = absurd (good_bad c m1 none.1)

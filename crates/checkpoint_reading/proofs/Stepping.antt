@@ -29,9 +29,11 @@ faults_before told later old mid Before Mid (BadCheck f at) same file goes fault
       (subst (λ (k : ℕ). Mid t.reads (Bad (drop at (check_file t.reads k))) (rest t mid)) file.number (faults.2 t (same ∙ is))),
 )
 
+-- two steps are one
 pub goes_then : (told later : Option Told) (a b c : Reader) (A B C : Files → Outcome → List ℕ → Type 0) → later ≡ told → Goes told a b A B → Goes later b c B C → Goes told a c A C
 goes_then told later a b c A B C same one two = λ t is o behind. one t is o (two t (same ∙ is) o behind)
 
+-- a reader stays on its file
 pub same_then : (a b c : Reader) → IsSameFile a b → IsSameFile b c → IsSameFile a c
 same_then a b c one two = record { number = two.number ∙ one.number; size = two.size ∙ one.size }
 
@@ -39,6 +41,7 @@ same_then a b c one two = record { number = two.number ∙ one.number; size = tw
 pub short_u32 : (bytes : List ℕ) → length bytes < 4 → (a : ℕ) (more : List ℕ) → bytes ≡ u32_bytes a ++ more → ⊥
 short_u32 bytes short a more is = omega (arith, short, ap (λ (l : List ℕ). length l) is, length-append (u32_bytes a) more, length-u32_bytes a)
 
+-- the same of eight bytes
 pub short_u64 : (bytes : List ℕ) → length bytes < 8 → (a : ℕ) (more : List ℕ) → bytes ≡ u64_bytes a ++ more → ⊥
 short_u64 bytes short a more is = omega (arith, short, ap (λ (l : List ℕ). length l) is, length-append (u64_bytes a) more, length-u64_bytes a)
 
@@ -46,13 +49,16 @@ short_u64 bytes short a more is = omega (arith, short, ap (λ (l : List ℕ). le
 pub other_u32 : (P : ℕ → Type 0) (bytes behind : List ℕ) (n : ℕ) → Is32 n → bytes ≡ u32_bytes n ++ behind → ((a : ℕ) → P a → Is32 a) → (P n → ⊥) → (a : ℕ) (more : List ℕ) → bytes ≡ u32_bytes a ++ more → P a → ⊥
 other_u32 P bytes behind n fits is small wrong a more there right = wrong (subst P (sym (one_u32 n a behind more (sym is ∙ there) fits (small a right)).0) right)
 
+-- the same of eight bytes
 pub other_u64 : (P : ℕ → Type 0) (bytes behind : List ℕ) (n : ℕ) → Is64 n → bytes ≡ u64_bytes n ++ behind → ((a : ℕ) → P a → Is64 a) → (P n → ⊥) → (a : ℕ) (more : List ℕ) → bytes ≡ u64_bytes a ++ more → P a → ⊥
 other_u64 P bytes behind n fits is small wrong a more there right = wrong (subst P (sym (one_u64 n a behind more (sym is ∙ there) fits (small a right)).0) right)
 
+-- what is said where nothing came next
 pub when_none : {A : Type 0} (next : Option A) (P : Type 0) (Q : A → Type 0) → ((a : A) → next ≡ Some a → ⊥) → MatchOption next P Q → P
 when_none None P Q none is = is
 when_none (Some a) P Q none is = absurd (none a refl)
 
+-- what is said of what came next
 pub when_some : {A : Type 0} (next : Option A) (a : A) (P : Type 0) (Q : A → Type 0) → next ≡ Some a → MatchOption next P Q → Q a
 when_some {A} next a P Q same is = subst (λ (o : Option A). MatchOption o P Q) same is
 

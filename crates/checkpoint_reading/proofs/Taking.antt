@@ -21,6 +21,7 @@ front_u32 bytes n are long is =
     let spelled : u32_bytes n ≡ take 4 bytes = ap u32_bytes (is ∙ sym (u32_of-take bytes)) ∙ u32_part 0 bytes are long in
     sym (ap (λ (l : List ℕ). l ++ drop 4 bytes) spelled ∙ take-append-drop 4 bytes)
 
+-- the same of eight bytes
 pub front_u64 : (bytes : List ℕ) (n : ℕ) → AreBytes bytes → 8 ≤ length bytes → n ≡ big_number 8 bytes → bytes ≡ u64_bytes n ++ drop 8 bytes
 front_u64 bytes n are long is =
     let spelled : u64_bytes n ≡ take 8 bytes = ap u64_bytes (is ∙ sym (u64_of-take bytes)) ∙ u64_part 0 bytes are long in
@@ -69,6 +70,7 @@ next_took told start mid new bytes held same at taken = (λ t is. (begun t ∙ (
     begun : (t : Told) → rest t start ≡ rest t mid
     begun t = ap (λ (k : ℕ). drop start.at (check_file t.reads k)) (sym same.number) ∙ ap (λ (k : ℕ). drop k (check_file t.reads mid.number)) (sym at)
 
+-- two fields taken one after the other
 pub taken_more : (a b c : Reader) (x y : List ℕ) → IsTaken a b x → IsTaken b c y → IsTaken a c (x ++ y)
 taken_more a b c x y one two = record {
   held = one.held ∙ (ap (λ (l : List ℕ). x ++ l) two.held ∙ sym (append_assoc x y c.held));
@@ -76,6 +78,7 @@ taken_more a b c x y one two = record {
   same = record { number = two.same.number ∙ one.same.number; size = two.same.size ∙ one.same.size };
 }
 
+-- a pointer has sixteen bytes
 pub length_pointer : (p : Pointer) → length (pointer_bytes p) ≡ 16
 length_pointer p =
     omega (

@@ -24,11 +24,13 @@ split_front p q x y same is = (
   sym (drop_at p x (length p) refl) ∙ (ap (λ (l : List ℕ). drop (length p) l) is ∙ drop_at q y (length p) (sym same)),
 )
 
+-- four bytes spell one number
 pub one_u32 : (a b : ℕ) (x y : List ℕ) → u32_bytes a ++ x ≡ u32_bytes b ++ y → Is32 a → Is32 b → (a ≡ b) × (x ≡ y)
 one_u32 a b x y is fits fits' =
     let both = split_front (u32_bytes a) (u32_bytes b) x y (length-u32_bytes a ∙ sym (length-u32_bytes b)) is in
     (sym (u32_of-u32_bytes a fits) ∙ (ap u32_of both.0 ∙ u32_of-u32_bytes b fits'), both.1)
 
+-- eight bytes spell one number
 pub one_u64 : (a b : ℕ) (x y : List ℕ) → u64_bytes a ++ x ≡ u64_bytes b ++ y → Is64 a → Is64 b → (a ≡ b) × (x ≡ y)
 one_u64 a b x y is fits fits' =
     let both = split_front (u64_bytes a) (u64_bytes b) x y (length-u64_bytes a ∙ sym (length-u64_bytes b)) is in
@@ -40,6 +42,7 @@ make_pointer file at length' = record { file = file; at = at; length = length' }
 same_pointer : (a b c d e f : ℕ) → a ≡ d → b ≡ e → c ≡ f → make_pointer a b c ≡ make_pointer d e f
 same_pointer a b c d e f one two three = ap (λ (n : ℕ). make_pointer n b c) one ∙ (ap (λ (n : ℕ). make_pointer d n c) two ∙ ap (λ (n : ℕ). make_pointer d e n) three)
 
+-- sixteen bytes spell one pointer
 pub one_pointer : (p q : Pointer) (x y : List ℕ) → pointer_bytes p ++ x ≡ pointer_bytes q ++ y → FitsFields p → FitsFields q → (p ≡ q) × (x ≡ y)
 one_pointer p q x y is fits fits' =
     let both = split_front (pointer_bytes p) (pointer_bytes q) x y (length_pointer p ∙ sym (length_pointer q)) is in
@@ -54,6 +57,7 @@ pair_of n a = (n, a)
 same_pair : {A : Type 0} (a b : ℕ) (p q : A) → a ≡ b → p ≡ q → pair_of a p ≡ pair_of b q
 same_pair {A} a b p q one two = ap (λ (n : ℕ). pair_of n p) one ∙ ap (λ (r : A). pair_of b r) two
 
+-- bytes begin with one event that is left
 pub one_live : (l m : ℕ × Pointer) (x y : List ℕ) → live_bytes l ++ x ≡ live_bytes m ++ y → Is64 l.0 → Is64 m.0 → FitsFields l.1 → FitsFields m.1 → (l ≡ m) × (x ≡ y)
 one_live l m x y is fits fits' point point' =
     let number = one_u64 l.0 m.0 (pointer_bytes l.1 ++ x) (pointer_bytes m.1 ++ y) (sym (append_assoc (u64_bytes l.0) (pointer_bytes l.1) x) ∙ (is ∙ append_assoc (u64_bytes m.0) (pointer_bytes m.1) y)) fits fits' in
@@ -71,6 +75,7 @@ one_list {A} spell Fits one (a ∷ ps) (b ∷ qs) x y many is fits fits' =
     let rest = one_list spell Fits one ps qs x y (omega (arith, many)) first.1 fits.1 fits'.1 in
     (ap (λ (h : A). h ∷ ps) first.0 ∙ ap (λ (l : List A). b ∷ l) rest.0, rest.1)
 
+-- bytes begin with one open transaction
 pub one_entry : {A : Type 0} (spell : A → List ℕ) (Fits : A → Type 0) → ((a b : A) (x y : List ℕ) → spell a ++ x ≡ spell b ++ y → Fits a → Fits b → (a ≡ b) × (x ≡ y))
     → (o p : ℕ × List A) (x y : List ℕ) → entry_bytes spell o ++ x ≡ entry_bytes spell p ++ y → Is64 o.0 → Is64 p.0 → Is32 (length o.1) → Is32 (length p.1) → AllByRecursion Fits o.1 → AllByRecursion Fits p.1
     → (o ≡ p) × (x ≡ y)
@@ -104,6 +109,7 @@ puts_fit : (files : Files) (txn : ℕ) (pointers : List Pointer) → AllByRecurs
 puts_fit files txn [] all = tt
 puts_fit files txn (p ∷ pointers) all = (all.0.0, puts_fit files txn pointers all.1)
 
+-- so many open takes, and the end, give one outcome
 pub takes_one : (c : CheckText) (low n : ℕ) (bytes : List ℕ) (one other : Outcome) → TakesGive one c low n bytes → TakesGive other c low n bytes → one ≡ other
 takes_one c low zero bytes one other g h = end_one c bytes one other g h
 takes_one c low (suc n) bytes one other g h =
@@ -111,6 +117,7 @@ takes_one c low (suc n) bytes one other g h =
     (λ a b x y is right right'. one_entry u64_bytes Is64 one_u64 a b x y is right.entry.fits right'.entry.fits right.entry.count right'.entry.count right.numbers right'.numbers)
     (λ e more i j. takes_one (with_take c e) (e.0 + 1) n more one other i j) g h
 
+-- so do open puts, and what is behind them
 pub puts_one : (files : Files) (c : CheckText) (low n : ℕ) (bytes : List ℕ) (one other : Outcome) → PutsGive files one c low n bytes → PutsGive files other c low n bytes → one ≡ other
 puts_one files c low zero bytes one other g h =
     field_one u32_bytes Is32 (λ o count. TakesGive o c 1 count) bytes one other one_u32 (λ count more i j. takes_one c 1 count more one other i j) g h
@@ -119,6 +126,7 @@ puts_one files c low (suc n) bytes one other g h =
     (λ a b x y is right right'. one_entry pointer_bytes FitsFields one_pointer a b x y is right.entry.fits right'.entry.fits right.entry.count right'.entry.count (puts_fit files a.0 a.1 right.puts) (puts_fit files b.0 b.1 right'.puts))
     (λ e more i j. puts_one files (with_put c e) (e.0 + 1) n more one other i j) g h
 
+-- and events that are left, and what is behind them
 pub live_one : (files : Files) (c : CheckText) (low n : ℕ) (bytes : List ℕ) (one other : Outcome) → LiveGive files one c low n bytes → LiveGive files other c low n bytes → one ≡ other
 live_one files c low zero bytes one other g h =
     field_one u32_bytes Is32 (λ o count. PutsGive files o c 1 count) bytes one other one_u32 (λ count more i j. puts_one files c 1 count more one other i j) g h
@@ -155,6 +163,7 @@ place_one files bytes one other g h =
     (λ a b x y is right right'. one_u64 a b x y is right.0 right'.0) (λ at more' k l. numbers_one files (record { file = file; at = at }) more' one other k l) i j)
     g h
 
+-- and a whole checkpoint
 pub one_outcome : HasOneOutcome
 one_outcome files bytes one other g h =
     field_one (λ text. text) (λ text. text ≡ codes "FLUMECHK") (λ o text. Field u32_bytes (λ form. form ≡ 1) (λ form. PlaceGives files o) o) bytes one other (one_text (codes "FLUMECHK"))
