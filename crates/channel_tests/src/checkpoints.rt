@@ -1,9 +1,8 @@
 // The file of a checkpoint, byte by byte. The disk shows nothing to contracts, so that a checkpoint may name any place.
 use checkpoint::{Next, Place, lay, open_gate};
-use checkpoint_reading::newest_number;
 use event_ring::Ring;
 use flume_host::FileName;
-use host_memory::{MemDisk, MemFile};
+use host_memory::MemDisk;
 use open_table::{Item, OpenTable, TableRefused};
 use record_form::Pointer;
 use std::alloc::{AllocError, Global};
@@ -134,72 +133,5 @@ fn many_events_go_in_pieces(rt: HostRuntime) -> Result<(), Fail> {
     assert!(rt; part(&opened, 41, 45) == 5_000u32.to_be_bytes().as_slice());
     assert!(rt; part(&opened, 120_021, 120_029) == 4_999u64.to_be_bytes().as_slice());
     assert!(rt; part(&opened, 120_033, 120_041) == 244_968u64.to_be_bytes().as_slice());
-    Ok(())
-}
-
-// Checkpoints by their numbers, and which of them is the newest.
-struct Folder<'a> {
-    files: &'a [(u32, &'a [u8])],
-    newest: Option<u32>,
-}
-
-// A file of at most one byte, or whose first byte is not 1, is passed over.
-const FOLDERS: [Folder; 8] = [
-    Folder {
-        files: &[],
-        newest: None,
-    },
-    Folder {
-        files: &[(1, &[1])],
-        newest: None,
-    },
-    Folder {
-        files: &[(1, &[]), (2, &[0, 70]), (3, &[2, 70])],
-        newest: None,
-    },
-    Folder {
-        files: &[(0, &[1, 70])],
-        newest: Some(0),
-    },
-    Folder {
-        files: &[(1, &[1, 70]), (2, &[1, 0])],
-        newest: Some(2),
-    },
-    Folder {
-        files: &[(1, &[1, 70]), (7, &[0, 70]), (8, &[1])],
-        newest: Some(1),
-    },
-    Folder {
-        files: &[(3, &[0, 70]), (4, &[1, 70, 76]), (u32::MAX, &[255, 70])],
-        newest: Some(4),
-    },
-    Folder {
-        files: &[(u32::MAX, &[1, 70])],
-        newest: Some(u32::MAX),
-    },
-];
-
-// The disk has a log file too.
-fn newest_of(alloc: Global, files: &[(u32, &[u8])]) -> Result<Option<u32>, Fail> {
-    let mut all = Vec::new(alloc);
-    all.push(MemFile {
-        name: FileName::Log(u32::MAX),
-        bytes: Vec::new(alloc),
-    })?;
-    for (number, bytes) in files {
-        all.push(MemFile {
-            name: FileName::Check(*number),
-            bytes: bytes.to_vec(alloc)?,
-        })?;
-    }
-    let mut disk = MemDisk::with_files(alloc, all)?;
-    Ok(newest_number(&mut disk)?)
-}
-
-#[test]
-fn newest_is_the_greatest_that_counts(rt: HostRuntime) -> Result<(), Fail> {
-    for folder in &FOLDERS {
-        assert!(rt; newest_of(rt.alloc(), folder.files)? == folder.newest);
-    }
     Ok(())
 }
