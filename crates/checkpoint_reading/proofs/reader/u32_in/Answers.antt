@@ -1,0 +1,6 @@
+use Rattle.std.proofs.Common.{arith}
+use Rattle.checkpoint_reading.proofs.Taking.{front_u32}
+use Rattle.checkpoint_reading.proofs.reader.u32_in.Goals as goal
+
+pub returns : goal.returns
+returns c = front_u32 c.args.bytes.now c.read_u32.result (λ i. omega (arith, c.type_inv.bytes i)) c.requires c.read_u32.ensures

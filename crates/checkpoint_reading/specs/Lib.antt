@@ -1,0 +1,5 @@
+pub mod Fields
+pub mod Reader
+pub mod Laws
+pub mod Logs
+pub mod Draft

@@ -1,0 +1,16 @@
+//! Reading the newest checkpoint of a channel's folder.
+#![tactic(auto)]
+
+mod draft;
+mod head;
+mod laws;
+mod live;
+mod logs;
+mod newest;
+mod reader;
+mod refused;
+
+pub use laws::{fault_is_wrong, one_outcome, read_is_right, right_is_read};
+pub use newest::newest_number;
+pub use reader::CheckReader;
+pub use refused::CheckReadRefused;
