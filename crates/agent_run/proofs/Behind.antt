@@ -62,7 +62,7 @@ module _ {R A B : Type 0} (disk : A → Opening → List Step → Type 0) (memor
   module _ {N C K : Type 0} (Means : Meaning K) (moments : C → Option (ℕ → ℕ)) (heard : N → Heard) (stands : N → Option Endpoint) where
     abbrev pub ListenRuns : ListenWorker (EitherPort R A B) N C K → ListenWorker (EitherPort R A B) N C K → Type 0
     ListenRuns old new =
-        ListenRan (Session old.rules.max old.rules.ack (TakesLine (PortPuts pass_of Saws LaterPort) old.selector Means old.host))
+        ListenRan (Session old.rules (PortPuts pass_of Saws LaterPort) old.selector Means old.host)
         (MendsInto (PortMends pass_of Saws LaterPort IsOnDisk)) moments heard stands old new
 
     pub listen_same : (shares : List (EitherShared A B)) (job : ListenWorker Known N C K) (v w : ListenWorker (EitherPort R A B) N C K) → IsListenOpened shares job v → ListenRuns v w
@@ -71,7 +71,7 @@ module _ {R A B : Type 0} (disk : A → Opening → List Step → Type 0) (memor
       channels' = ap (λ (c : Vec ℕ Global). c.items) (ran.channels ∙ opened.channels);
       ports' = zips_then (λ p port. pass_of port ≡ p) (λ p q. Later (pass_of p) (pass_of q)) (λ p port. Same p (pass_of port))
           (λ p q r is later. same_from p (pass_of q) (pass_of r) is later) job.ports.items v.ports.items w.ports.items opened.passes
-          (listen_later pass_of Saws LaterPort (either_face disk memory) IsOnDisk Means v.selector v.host v.rules.max v.rules.ack _
+          (listen_later pass_of Saws LaterPort (either_face disk memory) IsOnDisk Means v.selector v.host v.rules _
           (serving moments heard v ran.before false) (serving moments heard w ran.after ran.due) ran.rounds.made);
     }
 

@@ -8,13 +8,11 @@ use Rattle.std.specs.declared.vec.Vec.{Vec}
 use Rattle.std.proofs.lemmas.Bool.{ne_eqb}
 use Rattle.std.proofs.lemmas.List.{append_assoc}
 use Rattle.std.proofs.lemmas.List.Elements.{All-from_recursion, recursion_from_All}
-use Rattle.netcat_source.specs.Lines.{IsLineLimit}
-use Rattle.netcat_source.specs.declared.session.LineRules.{LineRules}
 use Rattle.selectors.specs.declared.selector.Selector.{Selector}
 use Rattle.source_put.specs.Accepts.{NamesBelow}
 use Rattle.shared_channel.specs.Passes.{Known}
 use Rattle.sink_worker.specs.declared.worker.SinkWorker.{SinkWorker}
-use Rattle.source_worker.specs.Workers.{CanListen}
+use Rattle.source_worker.specs.Workers.{CanListen, HasLimit}
 use Rattle.source_worker.specs.declared.worker.ListenWorker.{ListenWorker}
 use Rattle.line_worker.specs.Workers.{CanServe}
 use Rattle.line_worker.specs.declared.worker.LineWorker.{LineWorker}
@@ -85,7 +83,7 @@ listen_can : {N K C : Type 0} (count : ℕ) (seat : Seat K C) (job : ListenWorke
 listen_can count seat job fit of =
     let same : length job.ports.items ≡ length seat.draft.channels.items = of.many ∙ ap (λ (v : Vec ℕ Global). length v.items) of.channels in
     record {
-      max = subst (λ (r : LineRules). IsLineLimit r.max) (sym of.rules) fit.max;
+      max = subst HasLimit (sym of.rules) fit.max;
       few = subst (λ (n : ℕ). n < 2 ^ 32) (sym same) fit.few;
       named = subst (λ (x : Selector × ℕ). NamesBelow x.0 x.1) (λ i. (sym of.selector i, sym same i)) fit.named;
     }
@@ -94,7 +92,7 @@ line_can : {I O K C : Type 0} (count : ℕ) (seat : Seat K C) (job : LineWorker 
 line_can count seat job fit of =
     let same : length job.ports.items ≡ length seat.draft.channels.items = of.many ∙ ap (λ (v : Vec ℕ Global). length v.items) of.channels in
     record {
-      max = subst (λ (r : LineRules). IsLineLimit r.max) (sym of.rules) fit.max;
+      max = subst HasLimit of.rules fit.max;
       few = subst (λ (n : ℕ). n < 2 ^ 32) (sym same) fit.few;
       named = subst (λ (x : Selector × ℕ). NamesBelow x.0 x.1) (λ i. (sym of.selector i, sym same i)) fit.named;
       timed = of.timed;

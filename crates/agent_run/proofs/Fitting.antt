@@ -5,7 +5,7 @@ use Rattle.netcat_source.specs.declared.session.LineRules.{LineRules}
 use Rattle.selectors.specs.declared.selector.Selector.{Selector}
 use Rattle.shared_channel.specs.Passes.{Known}
 use Rattle.source_put.specs.Accepts.{NamesBelow}
-use Rattle.source_worker.specs.Workers.{CanListen}
+use Rattle.source_worker.specs.Workers.{CanListen, HasLimit}
 use Rattle.source_worker.specs.declared.worker.ListenWorker.{ListenWorker}
 use Rattle.line_worker.specs.Workers.{CanServe}
 use Rattle.line_worker.specs.declared.worker.LineWorker.{LineWorker}
@@ -20,7 +20,7 @@ module _ {R A B : Type 0} (shares : List (EitherShared A B)) where
   listen_fits job v can opened =
       let many = zips_length (λ (p : Known) (port : EitherPort R A B). pass_of port ≡ p) job.ports.items v.ports.items opened.passes in
       record {
-        max = subst (λ (r : LineRules). IsLineLimit r.max) (sym opened.rules) can.max;
+        max = subst HasLimit (sym opened.rules) can.max;
         few = subst (λ (n : ℕ). n < 2 ^ 32) many can.few;
         named = subst (λ (x : Selector × ℕ). NamesBelow x.0 x.1) (λ i. (sym opened.selector i, many i)) can.named;
       }

@@ -1,5 +1,5 @@
 -- What a run leaves of a worker's ports: each has the channel and the numbers of the pass that it was made with.
-use Rattle.std.proofs.Common.{ℕ, List, Bool}
+use Rattle.std.proofs.Common.{ℕ, List}
 use Rattle.channel_face.specs.Faces.{Own}
 use Rattle.channel_face.specs.Machine.{State}
 use Rattle.selectors.specs.declared.selector.Selector.{Selector}
@@ -12,6 +12,7 @@ use Rattle.source_put.specs.Into.{Into}
 use Rattle.source_put.specs.declared.chain.HostNames.{HostNames}
 use Rattle.netcat_source.specs.Into.{TakesLine}
 use Rattle.source_worker.specs.Rounds.{MendsInto, Round, Rounds, Serving, Session}
+use Rattle.source_worker.specs.declared.ends.SessionRules.{SessionRules}
 use Rattle.line_session.specs.Handled.{Handled, TakesAll}
 use Rattle.line_worker.specs.Turns.{Feeding, TakesTurn}
 use Rattle.run_tracks.specs.Listening.{PortMends}
@@ -39,11 +40,11 @@ module _ {F : Type 0} (pass : F → Known) (saw : F → List Own → State → T
 
   module _ {B : Type 0} (Means : Meaning B) (selector : Selector) (host : HostNames) where
     -- of a listener
-    pub listen_later : (max : ℕ) (ack : Bool) (rounds : List Round) (a b : Serving (Into F B))
-        → Rounds (Session max ack (TakesLine (PortPuts pass saw kept) selector Means host)) (MendsInto (PortMends pass saw kept on_disk)) rounds a b
+    pub listen_later : (rules : SessionRules) (rounds : List Round) (a b : Serving (Into F B))
+        → Rounds (Session rules (PortPuts pass saw kept) selector Means host) (MendsInto (PortMends pass saw kept on_disk)) rounds a b
         → Zips IsLater a.into.route.ports b.into.route.ports
-    listen_later max ack rounds a b ran =
-        rounds_stay IsLater self trans (PortPuts pass saw kept) (λ p q events result put. face.laters p q put.same) Means selector host max ack
+    listen_later rules rounds a b ran =
+        rounds_stay IsLater self trans (PortPuts pass saw kept) (λ p q events result put. face.laters p q put.same) Means selector host rules
         (PortMends pass saw kept on_disk) (λ p q answer did. face.laters p q did.same) rounds a b ran
 
     -- of a worker of lines

@@ -21,8 +21,8 @@ use Rattle.plan_judging.specs.declared.claims.Claimed.TheVariants.{Input}
 use Rattle.plan_judging.specs.declared.findings.FaultKind.TheVariants.{Clash, UnknownType}
 use Rattle.plan_judging.specs.declared.rules.Rule.TheVariants as rules
 use Rattle.plan_laws.proofs.Names.{Clean, both_clean}
-use Rattle.netcat_source.specs.declared.session.LineRules.{LineRules}
 use Rattle.source_put.specs.declared.chain.HostNames.{HostNames}
+use Rattle.source_worker.specs.declared.ends.SessionRules.{SessionRules}
 use Rattle.agent_outside.specs.Ends.{places_by}
 use Rattle.agent_drafts.specs.Drafts.{AreDrafts, AreRules, IsDraftAt, inputs_of}
 use Rattle.agent_drafts.specs.declared.draft.SourceDraft.{SourceDraft}
@@ -31,7 +31,7 @@ use Rattle.agent_run.specs.Prepared.{IsPlanned}
 use Rattle.agent_run.specs.declared.seats.Seat.{Seat}
 use Rattle.agent_run.proofs.Apart.{Whole, both_whole, clashes_back, each_back, plan_clear}
 use Rattle.agent_run.proofs.Course.{there}
-use Rattle.agent_run.proofs.Reasons.{OneSeat}
+use Rattle.agent_run.proofs.Reasons.{OneSeat, most_of}
 
 -- ---- what a source of standard input claims
 
@@ -179,10 +179,10 @@ inputs_at : (place : ℕ) (ss : List SourcePlan) → IsLone ss → Inputs place 
 inputs_at place [] lone = inl (refl, refl)
 inputs_at place (x ∷ ss) lone = inputs_one place x.kind x ss refl lone.0 (inputs_at (place + 1) ss lone.1)
 
-rules_max : (kind : SourceKind) (rules : LineRules) (most : ℕ) → limit_of kind ≡ Some most → AreRules kind rules → rules.max ≡ most
+rules_max : (kind : SourceKind) (rules : SessionRules) (most : ℕ) → limit_of kind ≡ Some most → AreRules kind rules → most_of rules ≡ Some most
 rules_max (Netcat bind port max_line ack threads) rules most limit are = absurd (cc)
 rules_max (Avro bind port threads) rules most limit are = absurd (cc)
-rules_max (Stdin max_line ack) rules most limit are = let same : max_line ≡ most = cc in ap (λ (r : LineRules). r.max) are ∙ same
+rules_max (Stdin max_line ack) rules most limit are = ap most_of are ∙ limit
 
 module _ {K C : Type 0} where
   abbrev draft_of : Seat K C → SourceDraft K
@@ -215,4 +215,4 @@ module _ {K C : Type 0} where
           let s = there sources draft.source is.there in
           let kind : limit_of (get_or sources draft.source s).kind ≡ Some most = ap (λ (n : ℕ). limit_of (get_or sources n s).kind) one.2 ∙ at s in
           let rule = rules_max (get_or sources draft.source s).kind draft.rules most kind (is.is s draft.host).rules in
-          inr (one.0, one.1, limit ∙ ap Some (sym rule))
+          inr (one.0, one.1, limit ∙ sym rule)

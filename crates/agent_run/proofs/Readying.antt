@@ -98,6 +98,7 @@ can_be_manned {A} {B} {S} {N} {I} {O} {C} {K} plan o named names limits planned 
       hearers = as_many p.places.items o.outside.listeners.items named p.listeners.items w is.sources;
       listeners = subst (λ (n : ℕ). All (IsSeat n) p.listeners.items) many is.listeners;
       lines = subst (λ (n : ℕ). All (IsSeat n) p.lines.items) many is.lines;
+      lined = is.lined;
       labels = labels_many (users_of plan p.listeners.items p.lines.items) 0 plan.channels.items p.labels.items is.labels ∙ many;
       channels = subst (λ (n : ℕ). HaveChannelLists n o.channels) many channels;
       workers = workers;

@@ -12,12 +12,13 @@ use Rattle.crew.specs.declared.draining.DrainWorker.{DrainWorker}
 use Rattle.flume_config.specs.declared.plan.Plan.{Plan}
 use Rattle.flume_host.specs.Causes.{Rose}
 use Rattle.flume_host.specs.HostState.{HostState}
-use Rattle.netcat_source.specs.declared.session.LineRules.{LineRules}
 use Rattle.netcat_source.specs.Lines.{IsCut, IsTooLong, IsUnbroken, LinesEnd, OneCut, Rest, TooLong, joined}
 use Rattle.shared_channel.specs.Passes.{Known}
 use Rattle.sink_worker.specs.Rounds.{Told}
 use Rattle.source_put.specs.Chains.{Meaning}
 use Rattle.source_worker.specs.Rounds.{Heard}
+use Rattle.source_worker.specs.declared.ends.SessionRules.{SessionRules}
+use Rattle.source_worker.specs.declared.ends.SessionRules.TheVariants as rule
 use Rattle.line_worker.specs.declared.worker.LineWorker.{LineWorker}
 use Rattle.two_channels.specs.declared.port.EitherPort.{EitherPort}
 use Rattle.run_tracks.specs.Places.{Zips}
@@ -112,9 +113,14 @@ pub record GoesBack (failed : Bool) (answer : Result (Unit {0}) ReportRefused) (
   pub later : NoLess old.faults new.faults
   pub fault : answer ≡ Err report.Fault → (failed ≡ true) ⊎ Rose old.faults new.faults
 
+-- the limit of lines, where there is one
+abbrev pub most_of : SessionRules → Option ℕ
+most_of (rule.Lines rules) = Some rules.max
+most_of rule.Avro = None
+
 -- one worker of lines was wanted, whose lines have this limit, or none
 abbrev pub OneSeat : {K C : Type 0} → Option ℕ → List (Seat K C) → Type 0
-OneSeat {K} {C} limit seats = ((limit ≡ None) × (seats ≡ [])) ⊎ ((seat : Seat K C) × (seats ≡ seat ∷ []) × (limit ≡ Some seat.draft.rules.max))
+OneSeat {K} {C} limit seats = ((limit ≡ None) × (seats ≡ [])) ⊎ ((seat : Seat K C) × (seats ≡ seat ∷ []) × (limit ≡ most_of seat.draft.rules))
 
 no_jobs : {X Y : Type 0} (R : X → Y → Type 0) (ys : List Y) → Zips R [] ys → ys ≡ []
 no_jobs R [] z = refl
@@ -124,7 +130,7 @@ seats_lines : {I O C K : Type 0} (limit : Option ℕ) (seats : List (Seat K C)) 
 seats_lines {I} {O} {C} {K} limit seats jobs (inl (is, none)) zips = inl (is, no_jobs IsLineOf jobs (subst (λ (l : List (Seat K C)). Zips IsLineOf l jobs) none zips))
 seats_lines {I} {O} {C} {K} limit seats jobs (inr (seat, one, is)) zips =
     let back = only_one IsLineOf seat jobs (subst (λ (l : List (Seat K C)). Zips IsLineOf l jobs) one zips) in
-    inr (back.0, back.1, is ∙ ap (λ (r : LineRules). Some r.max) (sym back.2.rules))
+    inr (back.0, back.1, is ∙ ap most_of back.2.rules)
 
 -- ---- the law of completeness
 

@@ -23,3 +23,15 @@ seats_each {K} {C} count Is f (seat ∷ seats) all roomy =
 pub are_seats : {K C : Type 0} (count : ℕ) (Is : SourceDraft K → Type 0) → ((seat : Seat K C) → Is seat.draft → IsRoomy seat → IsSeat count seat)
     → (drafts : List (SourceDraft K)) (seats : List (Seat K C)) → map (λ (seat : Seat K C). seat.draft) seats ≡ drafts → All Is drafts → All IsRoomy seats → All (IsSeat count) seats
 are_seats count Is f drafts seats are all roomy = seats_each count Is f seats (subst (λ (l : List (SourceDraft _)). All Is l) (sym are) all) roomy
+
+-- what is true of the drafts
+lined_each : {K C : Type 0} (Is : SourceDraft K → Type 0) (seats : List (Seat K C)) → All Is (map (λ (seat : Seat K C). seat.draft) seats) → All (λ (seat : Seat K C). Is seat.draft) seats
+lined_each {K} {C} Is [] all = All-nil (λ (seat : Seat K C). Is seat.draft)
+lined_each {K} {C} Is (seat ∷ seats) all =
+    let drafts = map (λ (seat : Seat K C). seat.draft) seats in
+    All-cons (λ (seat : Seat K C). Is seat.draft) seat seats (All-head Is seat.draft drafts all) (lined_each Is seats (All-tail Is seat.draft drafts all))
+
+-- what is true of each draft is true of that of each seat
+pub are_lined : {K C : Type 0} (Is : SourceDraft K → Type 0) (drafts : List (SourceDraft K)) (seats : List (Seat K C)) → map (λ (seat : Seat K C). seat.draft) seats ≡ drafts → All Is drafts
+    → All (λ (seat : Seat K C). Is seat.draft) seats
+are_lined Is drafts seats are all = lined_each Is seats (subst (λ (l : List (SourceDraft _)). All Is l) (sym are) all)

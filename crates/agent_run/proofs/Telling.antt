@@ -12,11 +12,12 @@ use Rattle.chain_plan.specs.Builds.{AreBuilt}
 use Rattle.chain_plan.specs.declared.plan.LinkPlan.{LinkPlan}
 use Rattle.netcat_source.specs.Into.{TakesLine}
 use Rattle.netcat_source.specs.declared.session.LineRules.{LineRules}
-use Rattle.netcat_source.specs.declared.session.SessionEnd.{SessionEnd}
 use Rattle.flume_host.specs.Links.{LinkTold}
 use Rattle.source_put.specs.Into.{Into}
 use Rattle.source_worker.specs.Rounds.{Answer, Heard, MendsIf, Round, Rounds as ListenRounds, Serving, Session, is_due}
 use Rattle.source_worker.specs.Workers.{serving}
+use Rattle.source_worker.specs.declared.ends.LinkEnd.{LinkEnd}
+use Rattle.source_worker.specs.declared.ends.SessionRules.{SessionRules}
 use Rattle.source_worker.specs.declared.worker.ListenWorker.{ListenWorker}
 use Rattle.line_worker.specs.Turns.{TakesTurn}
 use Rattle.line_worker.specs.Workers.{Session as LineSession, Talk, feeding, told_by}
@@ -126,7 +127,7 @@ mended_each D E same (t ∷ olds) (answer ∷ answers) (u ∷ news) (one, others
   mended_each (λ i. D (suc i)) (λ i. E (suc i)) (λ i. same (suc i)) olds answers news others,
 )
 
-module _ {B : Type 0} (Served : Into Track B → Option LinkTold → SessionEnd → Into Track B → Option LinkTold → Type 0) (D E : ℕ → Type 0) (same : (i : ℕ) → (D i → E i) × (E i → D i)) where
+module _ {B : Type 0} (Served : Into Track B → Option LinkTold → LinkEnd → Into Track B → Option LinkTold → Type 0) (D E : ℕ → Type 0) (same : (i : ℕ) → (D i → E i) × (E i → D i)) where
   mends_same : (due : Bool) (a : Into Track B) (answers : List Answer) (b : Into Track B) → MendsIf Served (MendedInto D) due a answers b → MendsIf Served (MendedInto E) due a answers b
   mends_same true a answers b (moments, links, each) = (moments, links, mended_each D E same a.route.ports answers b.route.ports each)
   mends_same false a answers b none = none
@@ -165,7 +166,7 @@ module _ {R A B : Type 0} (disk : A → Opening → List Step → Type 0) (memor
       let cs = job.channels.items in
       let channels : w.channels.items ≡ cs = ap (λ (c : Vec ℕ Global). c.items) (ran.channels ∙ opened.channels) in
       let took : TookEach homes pass_of cs w.ports.items = subst (λ (l : List ℕ). TookEach homes pass_of l w.ports.items) channels gone.took in
-      let got = listened_home pass_of saws LaterPort (either_face disk memory) IsOnDisk either_steady Means v.rules.max v.rules.ack v.selector v.host made
+      let got = listened_home pass_of saws LaterPort (either_face disk memory) IsOnDisk either_steady Means v.rules v.selector v.host made
       (serving moments heard v ran.before false) (serving moments heard w ran.after ran.due) homes cs (new_ports job.ports.items v.ports.items fresh opened.passes) took ran.rounds.made in
       let same = tracks_same homes cs job.ports.items v.ports.items opened.passes in
       record {
@@ -178,10 +179,10 @@ module _ {R A B : Type 0} (disk : A → Opening → List Step → Type 0) (memor
         made = made;
         unserved = ran.rounds.unserved;
         rounds = λ share.
-            rounds_same (Session job.rules.max job.rules.ack (TakesLine Gave job.selector Means job.host)) (IsDiskAt IsOnDisk v.ports.items) (IsDiskOf shares cs share) (disks_at shares share cs v.ports.items opened.kinds)
+            rounds_same (Session job.rules Gave job.selector Means job.host) (IsDiskAt IsOnDisk v.ports.items) (IsDiskOf shares cs share) (disks_at shares share cs v.ports.items opened.kinds)
             made _ _
-            (subst (λ (x : LineRules × Selector × HostNames × List Track × C × N × N).
-            ListenRounds (Session x.0.max x.0.ack (TakesLine Gave x.1 Means x.2)) (MendedInto (IsDiskAt IsOnDisk v.ports.items)) made
+            (subst (λ (x : SessionRules × Selector × HostNames × List Track × C × N × N).
+            ListenRounds (Session x.0 Gave x.1 Means x.2) (MendedInto (IsDiskAt IsOnDisk v.ports.items)) made
             (record { into = record { route = record { links = ran.before; ports = x.3 }; moments = moments x.4 }; heard = heard x.5; due = false })
             (record { into = record { route = record { links = ran.after; ports = map ended x.3 }; moments = moments w.clock }; heard = heard x.6; due = ran.due }))
             (λ i. (opened.rules i, opened.selector i, opened.host i, same i, opened.clock i, opened.listener i, sym gone.same i)) got);

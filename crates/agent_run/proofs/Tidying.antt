@@ -15,8 +15,8 @@ use Rattle.source_put.specs.Into.{Into}
 use Rattle.source_put.specs.declared.chain.HostNames.{HostNames}
 use Rattle.netcat_source.specs.Into.{TakesLine}
 use Rattle.netcat_source.specs.declared.replies.LineVerdict.{LineVerdict}
-use Rattle.netcat_source.specs.declared.session.SessionEnd.{SessionEnd}
 use Rattle.source_worker.specs.Rounds.{Answer, Heard, MendsEach, MendsIf, MendsInto, Round, Rounds, Serving, Session, any_refused, is_due as is_round_due}
+use Rattle.source_worker.specs.declared.ends.LinkEnd.{LinkEnd}
 use Rattle.source_worker.specs.declared.worker.ListenWorker.{ListenWorker}
 use Rattle.line_session.specs.Handled.{Handled, TakesAll}
 use Rattle.line_worker.specs.Turns.{Feeding, MendsWhere, TakesTurn, is_due}
@@ -70,7 +70,7 @@ tidy_each D (t ∷ olds) (answer ∷ answers) (u ∷ news) (one, others) =
 
 -- ---- listeners
 
-module _ {B : Type 0} (Served : Into Track B → Option LinkTold → SessionEnd → Into Track B → Option LinkTold → Type 0) (D : ℕ → Type 0) where
+module _ {B : Type 0} (Served : Into Track B → Option LinkTold → LinkEnd → Into Track B → Option LinkTold → Type 0) (D : ℕ → Type 0) where
   mends_as : (due : Bool) (a : Into Track B) (answers : List Answer) (b : Into Track B) → MendsIf Served (MendedInto D) due a answers b → MendsIf Served (MendsInto TidyMend) due a answers b
   mends_as true a answers b (moments, links, each) = (moments, links, (tidy_each D a.route.ports answers b.route.ports each).0)
   mends_as false a answers b none = none
@@ -146,10 +146,9 @@ module _ {A B N I O C K : Type 0} (Means : Meaning K) (moments : C → Option (�
   pub listen_tidy : (job : ListenWorker Known N C K) (listener : N) → IsListenTold Means moments heard shares finals job listener → Owned (owners_at job.channels.items job.ports.items)
   listen_tidy job listener is =
       let D = IsDiskOf shares job.channels.items share in
-      let Line = TakesLine Gave job.selector Means job.host in
       tracks_tidy finals job.channels.items job.ports.items
-      (rounds_stay Tidy tidy_self tidy_then Gave tidy_put Means job.selector job.host job.rules.max job.rules.ack TidyMend (λ p q answer t. t) is.made _ _
-      (rounds_as (Session job.rules.max job.rules.ack Line) D is.made _ _ (is.rounds share)))
+      (rounds_stay Tidy tidy_self tidy_then Gave tidy_put Means job.selector job.host job.rules TidyMend (λ p q answer t. t) is.made _ _
+      (rounds_as (Session job.rules Gave job.selector Means job.host) D is.made _ _ (is.rounds share)))
 
   pub listens_tidy : (jobs : List (ListenWorker Known N C K)) (listeners : List N) → Zips (IsListenTold Means moments heard shares finals) jobs listeners
       → Owned (flat_map (λ (l : ListenWorker Known N C K). owners_at l.channels.items l.ports.items) jobs)

@@ -5,6 +5,7 @@ use Rattle.flume_config.specs.declared.plan.SinkPlan.{SinkPlan}
 use Rattle.two_channels.specs.Shares.{table_of}
 use Rattle.agent_channels.specs.declared.opened.OpenedChannel.{OpenedChannel}
 use Rattle.agent_channels.specs.declared.wish.ChannelWish.{ChannelWish}
+use Rattle.agent_drafts.specs.Drafts.{TakesLines}
 use Rattle.agent_drafts.specs.Fits.{IsFit}
 use Rattle.run_tracks.specs.Dealt.{AreDealt}
 use Rattle.run_tracks.specs.Homes.{AreHomes}
@@ -30,6 +31,7 @@ pub record ArePartsOf {S N I O C K : Type 0} (plans : List SinkPlan) (parts : Pa
   pub talks : length parts.talks.items ≡ length parts.lines.items
   pub listen_rooms : All IsRoomy parts.listeners.items
   pub line_rooms : All IsRoomy parts.lines.items
+  pub lined : All (λ seat. TakesLines seat.draft.rules) parts.lines.items
   pub sink_jobs : IsEmptyFor (length plans) parts.room.sinks
   pub listen_jobs : IsEmptyFor (length parts.listeners.items) parts.room.listeners
   pub line_jobs : IsEmptyFor (length parts.lines.items) parts.room.lines

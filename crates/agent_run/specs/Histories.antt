@@ -40,8 +40,8 @@ pub record IsSinkTold {A B S C : Type 0} (sink : Told S) (moments : C → Option
 abbrev pub IsDiskOf : {A B : Type 0} → List (EitherShared A B) → List ℕ → EitherShared A B → ℕ → Type 0
 IsDiskOf shares channels share i = (i < length channels) × IsDisk (slice_index_or shares (slice_index_or channels i 0) share)
 
--- It built the chain that was planned, or there was no memory for it. Its rounds, in order, the batch of each line and each mend,
--- are all calls with the numbers of its passes in the histories that the passes at home have seen.
+-- It built the chain that was planned, or there was no memory for it. Its rounds, in order, the batch of each line or Avro call and each
+-- mend, are all calls with the numbers of its passes in the histories that the passes at home have seen.
 pub record IsListenTold {A B N C K : Type 0} (Means : Meaning K) (moments : C → Option (ℕ → ℕ)) (heard : N → Heard) (shares : List (EitherShared A B))
     (homes : List Known) (job : ListenWorker Known N C K) (listener : N) : Type 0 where
   pub built : Bool
@@ -53,7 +53,7 @@ pub record IsListenTold {A B N C K : Type 0} (Means : Meaning K) (moments : C �
   pub made : List Round
   pub unserved : built ≡ false → AllByRecursion (λ round. IsUnserved round.found) made
   pub rounds : (share : EitherShared A B) → let tracks = home_tracks (λ (p : Known). p) homes job.channels.items job.ports.items in
-      Rounds (Session job.rules.max job.rules.ack (TakesLine Gave job.selector Means job.host)) (MendedInto (IsDiskOf shares job.channels.items share)) made
+      Rounds (Session job.rules Gave job.selector Means job.host) (MendedInto (IsDiskOf shares job.channels.items share)) made
       (record { into = record { route = record { links = before; ports = tracks }; moments = moments job.clock }; heard = heard job.listener; due = false })
       (record { into = record { route = record { links = after; ports = map ended tracks }; moments = later }; heard = heard listener; due = due })
 

@@ -5,6 +5,7 @@ use Rattle.shared_channel.specs.Passes.{Known}
 use Rattle.two_channels.specs.Shares.{table_of}
 use Rattle.agent_channels.specs.Several.{WereOpened}
 use Rattle.agent_channels.specs.declared.opened.OpenedChannel.{OpenedChannel}
+use Rattle.agent_drafts.specs.Drafts.{TakesLines}
 use Rattle.run_tracks.specs.Dealt.{AreDealt}
 use Rattle.run_tracks.specs.Homes.{AreHomes}
 use Rattle.run_tracks.specs.Places.{Zips}
@@ -30,6 +31,7 @@ pub record CanBeManned {A B S N I O C K : Type 0} (plans : List SinkPlan) (o : O
   pub hearers : length o.outside.listeners.items ≡ length o.prepared.listeners.items
   pub listeners : All (IsSeat (length o.prepared.wishes.items)) o.prepared.listeners.items
   pub lines : All (IsSeat (length o.prepared.wishes.items)) o.prepared.lines.items
+  pub lined : All (λ seat. TakesLines seat.draft.rules) o.prepared.lines.items
   pub labels : length o.prepared.labels.items ≡ length o.prepared.wishes.items
   pub channels : HaveChannelLists (length o.prepared.wishes.items) o.channels
   pub workers : HaveWorkerLists (length plans) (length o.prepared.listeners.items) (length o.prepared.lines.items) o.workers

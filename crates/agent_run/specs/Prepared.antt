@@ -14,7 +14,7 @@ use Rattle.agent_words.specs.declared.error.RunError.TheVariants as errors
 use Rattle.source_put.specs.declared.chain.HostNames.{HostNames}
 use Rattle.agent_outside.specs.Ends.{ListensAt, listeners_of, places}
 use Rattle.agent_outside.specs.Names.{AreTold}
-use Rattle.agent_drafts.specs.Drafts.{AreDrafts, inputs_of}
+use Rattle.agent_drafts.specs.Drafts.{AreDrafts, TakesLines, inputs_of}
 use Rattle.agent_drafts.specs.Fits.{IsFit}
 use Rattle.agent_run.specs.Labels.{AreLabels, users_of}
 use Rattle.agent_run.specs.Staff.{IsRoomy, seat_channels}
@@ -45,6 +45,7 @@ pub record IsPrepared {K C : Type 0} (plan : Plan) (p : Prepared K C) : Type 0 w
   pub wishes : AreWishes (uses_of plan.sinks.items p.listeners.items p.lines.items) plan.channels.items p.wishes.items
   pub listeners : All (IsSeat (length plan.channels.items)) p.listeners.items
   pub lines : All (IsSeat (length plan.channels.items)) p.lines.items
+  pub lined : All (λ seat. TakesLines seat.draft.rules) p.lines.items
   pub places : p.places.items ≡ places 0 plan.sources.items
   pub sources : map (λ (seat : Seat K C). seat.draft.source) p.listeners.items ≡ p.places.items
   pub listen : All (ListensAt plan.sources.items) p.places.items

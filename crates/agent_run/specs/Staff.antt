@@ -4,6 +4,7 @@ use Rattle.std.specs.Vec.{vec_capacity}
 use Rattle.shared_channel.specs.Passes.{Known}
 use Rattle.flume_config.specs.declared.plan.SinkPlan.{SinkPlan}
 use Rattle.sink_worker.specs.declared.worker.SinkWorker.{SinkWorker}
+use Rattle.source_worker.specs.declared.ends.SessionRules.TheVariants as rule
 use Rattle.source_worker.specs.declared.worker.ListenWorker.{ListenWorker}
 use Rattle.line_worker.specs.declared.worker.LineWorker.{LineWorker}
 use Rattle.agent_run.specs.declared.homes.LineEnded.{LineEnded}
@@ -61,5 +62,5 @@ pub record IsLineOf {I O C K : Type 0} (seat : Seat K C) (job : LineWorker Known
   pub plan : job.plan ≡ seat.draft.plan
   pub selector : job.selector ≡ seat.draft.selector
   pub host : job.host ≡ seat.draft.host
-  pub rules : job.rules ≡ seat.draft.rules
+  pub rules : seat.draft.rules ≡ rule.Lines job.rules
   pub timed : job.clock ≢ None

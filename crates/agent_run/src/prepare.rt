@@ -1,6 +1,6 @@
 // What a run of an agent is made of, before anything of it is opened.
 ghost use Rattle.std.specs.Prelude.{◌≡◌, IfErr, IfOk, OnOk, length};
-ghost use Rattle.plan_support.specs.Least.{HasNoPlugin, IsSupported};
+ghost use Rattle.plan_support.specs.Least.{HasNoPlugin};
 ghost use Rattle.agent_run.specs.Prepared.{IsDrafted, IsPlanned, IsPrepared, IsUnprepared, error_of};
 
 use crate::labels::{ChannelLabel, labels_of};
@@ -62,7 +62,6 @@ pub(crate) fn prepare<H: Host, K: Drop>(
     plan: &Plan,
 ) -> Result<Prepared<K, H::Clock>, RunError>
     requires planned { IsPlanned plan.now }
-    requires supported { IsSupported plan.now }
     requires none { HasNoPlugin plan.now }
     ensures prepared { IfOk result (IsPrepared plan.now) }
     ensures drafted { IfOk result

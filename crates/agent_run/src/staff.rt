@@ -1,6 +1,7 @@
 // The workers of a run are made of what was opened, each with a pass of each of its channels.
 ghost use Rattle.std.specs.Prelude.{◌≡◌, ◌≤◌, [], All, flat_map, length, map};
 ghost use Rattle.std.specs.Vec.{vec_capacity};
+ghost use Rattle.agent_drafts.specs.Drafts.{TakesLines};
 ghost use Rattle.run_tracks.specs.Deals.{Deals, DealsEach, Suffice, hands_of};
 ghost use Rattle.run_tracks.specs.Places.{Zips};
 ghost use Rattle.agent_run.specs.Staff.{IsLineOf, IsListenOf, IsRoomy, IsSinkOf, line_channels, line_ports, listen_channels, listen_ports, own_talk, seat_channels, sink_channels, sink_ports};
@@ -13,7 +14,7 @@ use line_worker::LineWorker;
 use run_tracks::{deal, draw};
 use shared_channel::Pass;
 use sink_worker::SinkWorker;
-use source_worker::ListenWorker;
+use source_worker::{ListenWorker, SessionRules};
 use std::alloc::Global;
 use std::marker::PhantomData;
 
@@ -143,6 +144,7 @@ fn staff_line<I: Drop, O: Drop, C: Drop, K: Drop>(
     talk: LineEnded<I, O>,
 ) -> LineWorker<Pass, I, O, C, K>
     requires room { IsRoomy seat }
+    requires lines { TakesLines seat.draft.rules }
     requires enough { Suffice (hands_of hands.old) (seat_channels seat) }
     ensures dealt { Deals (hands_of hands.old) (line_channels result) (line_ports result) (hands_of hands.new) }
     ensures of { IsLineOf seat result }
@@ -162,6 +164,9 @@ fn staff_line<I: Drop, O: Drop, C: Drop, K: Drop>(
         host,
         rules,
     } = draft;
+    let SessionRules::Lines(rules) = rules else {
+        unreachable!()
+    };
     let LineEnded { input, output, end } = talk;
     let mut ports = ports;
     deal(hands, channels.as_slice(), &mut ports);
@@ -192,6 +197,7 @@ pub(crate) fn staff_lines<I: Drop, O: Drop, C: Drop, K: Drop>(
 )
     requires talks { length talks.items ≡ length seats.items }
     requires rooms { All IsRoomy seats.items }
+    requires lines { All (λ seat. TakesLines seat.draft.rules) seats.items }
     requires enough { Suffice (hands_of hands.old) (flat_map seat_channels seats.items) }
     requires none { jobs.old.items ≡ [] }
     requires room { length seats.items ≤ vec_capacity jobs.old }

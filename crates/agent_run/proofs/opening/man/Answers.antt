@@ -24,6 +24,7 @@ crew_of-crew-requires-clause-parts g c =
       talks = talks;
       listen_rooms = seats_roomy (length c.args.opening.prepared.wishes.items) c.args.opening.prepared.listeners.items can.listeners;
       line_rooms = seats_roomy (length c.args.opening.prepared.wishes.items) c.args.opening.prepared.lines.items can.lines;
+      lined = can.lined;
       sink_jobs = can.workers.sink_jobs;
       listen_jobs = can.workers.listen_jobs;
       line_jobs = can.workers.line_jobs;

@@ -5,14 +5,14 @@ use Rattle.flume_config.specs.declared.plan.SourcePlan.{SourcePlan}
 use Rattle.source_put.specs.declared.chain.HostNames.{HostNames}
 use Rattle.agent_outside.specs.Ends.{ListensAt, listeners_of, places}
 use Rattle.agent_outside.specs.Names.{AreTold}
-use Rattle.agent_drafts.specs.Drafts.{AreDrafts, IsDraftAt, inputs_of}
+use Rattle.agent_drafts.specs.Drafts.{AreDrafts, IsDraftAt, TakesLines, inputs_of}
 use Rattle.agent_drafts.specs.declared.draft.SourceDraft.{SourceDraft}
 use Rattle.agent_run.specs.Labels.{AreLabels, users_of}
 use Rattle.agent_run.specs.Prepared.{IsSeat, uses_of}
 use Rattle.agent_run.specs.Staff.{IsRoomy}
 use Rattle.agent_run.specs.Wishes.{AreWishes}
 use Rattle.agent_run.specs.declared.seats.Seat.{Seat}
-use Rattle.agent_run.proofs.Seating.{are_seats, draft_sources}
+use Rattle.agent_run.proofs.Seating.{are_lined, are_seats, draft_sources}
 use Rattle.agent_run.proofs.prepare.prepare.Goals as goal
 
 pub returns-clause-prepared : goal.returns-clause-prepared
@@ -36,7 +36,8 @@ returns-clause-prepared g c =
       listeners = are_seats count (λ (draft : D). IsDraftAt sources c.as_slice-2.result.now draft) (fits c.as_slice-2.result.now) c.in_ok-listeners.listeners.items listeners
           c.in_ok-listeners-2.ensures.drafts c.in_ok-listeners.ensures.each c.in_ok-listeners-2.ensures.room;
       lines = are_seats count (λ (draft : D). IsDraftAt sources c.as_slice-3.result.now draft) (fits c.as_slice-3.result.now) c.in_ok-lines.lines.items lines
-          c.in_ok-lines-2.ensures.drafts c.in_ok-lines.ensures.each c.in_ok-lines-2.ensures.room;
+          c.in_ok-lines-2.ensures.drafts c.in_ok-lines.ensures.drafts.each c.in_ok-lines-2.ensures.room;
+      lined = are_lined (λ (draft : D). TakesLines draft.rules) c.in_ok-lines.lines.items lines c.in_ok-lines-2.ensures.drafts c.in_ok-lines.ensures.lines;
       places = at;
       sources = draft_sources listeners ∙ ap (map (λ (draft : D). draft.source)) c.in_ok-listeners-2.ensures.drafts ∙ c.in_ok-listeners.ensures.order ∙ sym at;
       listen = subst (λ (l : List SourcePlan). All (ListensAt l) found) c.as_slice-8.ensures.value c.in_ok-places.ensures.listen;
@@ -55,5 +56,5 @@ returns-clause-drafted g c =
       names = names;
       told = subst (λ (l : List SourcePlan). AllZip (AreTold host.name host.address) l names) c.as_slice.ensures.value c.in-Ok.ensures.told;
       listeners = subst (λ (x : List HostNames × List D). AreDrafts listeners_of sources x.0 x.1) (λ i. (c.as_slice-2.ensures.value i, sym c.in_ok-listeners-2.ensures.drafts i)) c.in_ok-listeners.ensures;
-      lines = subst (λ (x : List HostNames × List D). AreDrafts inputs_of sources x.0 x.1) (λ i. (c.as_slice-3.ensures.value i, sym c.in_ok-lines-2.ensures.drafts i)) c.in_ok-lines.ensures;
+      lines = subst (λ (x : List HostNames × List D). AreDrafts inputs_of sources x.0 x.1) (λ i. (c.as_slice-3.ensures.value i, sym c.in_ok-lines-2.ensures.drafts i)) c.in_ok-lines.ensures.drafts;
     }

@@ -3,6 +3,7 @@ use Rattle.std.proofs.lemmas.List.{length-append}
 use Rattle.std.proofs.lemmas.List.Elements.{All-pop}
 use Rattle.shared_channel.specs.Passes.{Known}
 use Rattle.line_worker.specs.declared.worker.LineWorker.{LineWorker}
+use Rattle.agent_drafts.specs.Drafts.{TakesLines}
 use Rattle.run_tracks.specs.Deals.{DealsEach, hands_of}
 use Rattle.run_tracks.specs.Places.{Zips}
 use Rattle.run_tracks.proofs.Homing.{zips_length, zips_push}
@@ -17,17 +18,23 @@ staff_lines-requires g t c κs within =
     let e = c.in-Some.ensures.items in
     let enough = last_seat (hands_of c.args.hands.now) c.args.seats.items c.pop.new.self.items c.in-Some.seat e c.requires.enough in
     let rooms = All-pop (λ (s : S). IsRoomy s) c.args.seats.items c.pop.new.self.items (Some c.in-Some.seat) e c.requires.rooms in
+    let lines = All-pop (λ (s : S). TakesLines s.draft.rules) c.args.seats.items c.pop.new.self.items (Some c.in-Some.seat) e c.requires.lines in
     let many : length c.args.seats.items ≡ length c.pop.new.self.items + 1 = ap length e ∙ length-append c.pop.new.self.items (c.in-Some.seat ∷ []) in
     let others : length c.args.talks.items ≡ length c.pop-2.new.self.items + 1 = ap length c.in-Some-pop.ensures.items ∙ length-append c.pop-2.new.self.items (c.in-Some-pop.talk ∷ []) in
     let r = c.requires.room in
     let s = c.requires.talks in
     let d = c.decreases in
-    (omega arith, (within.0, (within.1.0, (within.1.1.0, (within.1.1.1, (omega arith, (rooms.0, (suffice_front (hands_of c.args.hands.now) (flat_map (λ (s : S). seat_channels s) c.pop.new.self.items) (seat_channels c.in-Some.seat) enough, (c.requires.none, omega arith)))))))))
+    (omega arith, (within.0, (within.1.0, (within.1.1.0, (within.1.1.1, (omega arith, (rooms.0, (lines.0, (suffice_front (hands_of c.args.hands.now) (flat_map (λ (s : S). seat_channels s) c.pop.new.self.items) (seat_channels c.in-Some.seat) enough, (c.requires.none, omega arith))))))))))
 
 pub staff_line-requires-clause-room : goal.staff_line-requires-clause-room
 staff_line-requires-clause-room g t c =
     let S = Seat g.row.K.Denot g.row.C.Denot in
     (All-pop (λ (s : S). IsRoomy s) c.args.seats.items c.pop.new.self.items (Some c.in-Some.seat) c.in-Some.ensures.items c.requires.rooms).1
+
+pub staff_line-requires-clause-lines : goal.staff_line-requires-clause-lines
+staff_line-requires-clause-lines g t c =
+    let S = Seat g.row.K.Denot g.row.C.Denot in
+    (All-pop (λ (s : S). TakesLines s.draft.rules) c.args.seats.items c.pop.new.self.items (Some c.in-Some.seat) c.in-Some.ensures.items c.requires.lines).1
 
 pub staff_line-requires-clause-enough : goal.staff_line-requires-clause-enough
 staff_line-requires-clause-enough g t c =
