@@ -478,11 +478,14 @@ const REFUSED: [Refused; 6] = [
         ("c2.type = file", "c2.type = kafka"),
         (2, "flume: line 11: unknown type"),
     ),
-    // An Avro source is not run yet.
+    // A group of sinks is not run yet. It is refused with the line of its first sink.
     (
         &["agent", "-n", "a1", "--conf-file", "x.conf"],
-        ("r1.type = netcat", "r1.type = avro"),
-        (2, "flume: line 5: unsupported"),
+        (
+            "a1.sinks.k1.type = file_roll",
+            "a1.sinkgroups = g\na1.sinkgroups.g.sinks = k1\na1.sinks.k1.type = file_roll",
+        ),
+        (2, "flume: line 15: unsupported"),
     ),
     // A sink that nobody handed in.
     (

@@ -9,6 +9,8 @@ mod avro;
 #[cfg(test)]
 mod beside;
 #[cfg(test)]
+mod calls;
+#[cfg(test)]
 mod check;
 #[cfg(test)]
 mod ends;
@@ -22,6 +24,8 @@ mod mended;
 mod openings;
 #[cfg(test)]
 mod own_host;
+#[cfg(test)]
+mod packs;
 #[cfg(test)]
 mod pipe;
 #[cfg(test)]
