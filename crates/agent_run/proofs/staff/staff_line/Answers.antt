@@ -13,6 +13,6 @@ returns-clause-of g c = record {
   plan = refl;
   selector = refl;
   host = refl;
-  rules = refl;
+  rules = c.in-Lines.is;
   timed = λ e. cc;
 }
