@@ -1,0 +1,3 @@
+mod Lining
+mod Names
+pub mod Taking
