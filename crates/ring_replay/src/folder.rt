@@ -165,8 +165,9 @@ fn apply_files<D: Disk, L: Ledger>(
     }
 }
 
-// The ring with as many slots as the capacity, which refuses more events.
-fn within(index: Indexing, capacity: u32) -> Result<Replayed, ReplayRefused>
+/// The ring of a replay with as many slots as the capacity, and its next numbers. More events than that are refused as
+/// OverCapacity.
+pub fn within(index: Indexing, capacity: u32) -> Result<Replayed, ReplayRefused>
     ensures ok { IfOk result (λ r. (r.ring ≡ record index.ring { slots = capacity }) × (r.next ≡ index.next) × (length index.ring.live ≤ capacity)) }
     ensures over { IfErr result (λ e. WhereOver e (λ count. (count ≡ length index.ring.live) × (capacity < count))) }
     ensures not_bad { IfErr result (λ e. WhereBadLog e (λ file at. ⊥)) }

@@ -102,6 +102,19 @@ impl Indexing {
         })
     }
 
+    /// What a checkpoint has: the ring of the events that are left, with room for so many, the table of what is open, and the
+    /// next numbers.
+    pub fn of(ring: Ring, slots: u32, table: OpenTable, next: Next) -> Indexing
+        ensures { result ≡ record { ring = ring; slots = slots; table = table; next = next } }
+    {
+        Indexing {
+            ring,
+            slots,
+            table,
+            next,
+        }
+    }
+
     // The next transaction is above this one.
     fn see(&mut self, txn: u64)
         requires { IsTxn txn }
