@@ -114,7 +114,7 @@ const CASES: [Case; 5] = [
         takes: &[HELLO_REPLY, BATCH_FAILED],
         written: Written {
             front: "{\"CHANNEL.c1\":{\"ChannelCapacity\":\"1\",\"ChannelSize\":\"0\",\"EventPutAttemptCount\":\"2\",\"EventPutSuccessCount\":\"0\",\"EventTakeAttemptCount\":\"",
-            least: 1,
+            least: 0,
             end: "\",\"EventTakeSuccessCount\":\"0\"}}\n",
         },
         rolled: b"",
