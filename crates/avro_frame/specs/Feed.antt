@@ -3,7 +3,7 @@ use Rattle.std.specs.Prelude.{◌≡◌, ℕ, ◌≤◌, List, [], ◌++◌, len
 use Rattle.avro_frame.specs.declared.packs.Message.{Message}
 use Rattle.avro_frame.specs.declared.packs.PackRefused.{PackRefused}
 use Rattle.avro_frame.specs.declared.packs.PackRefused.TheVariants.{TooMany, TooLarge, NoMemory}
-use Rattle.avro_frame.specs.Pack.{IsPack, IsPart, PassesCount, PassesSize}
+use Rattle.avro_frame.specs.Pack.{IsPack, IsPart, PassesCount, PassesSize, room_kept}
 
 -- what contracts see of a stream of packs: the bytes of the present pack so far, or the refusal that ended it
 pub data Packing : Type 0 where
@@ -14,10 +14,11 @@ abbrev pub packing : Option PackRefused → List ℕ → Packing
 packing None bytes = Holds bytes
 packing (Some e) bytes = Failed e
 
--- and how many bytes may be fed for which no memory is wanted
+-- and how many bytes may be fed for which no memory is wanted, and how many bytes of memory are kept for this
 pub record PackState : Type 0 where
   pub packing : Packing
   pub room : ℕ
+  pub kept : ℕ
 
 -- the bytes of the present pack, or of none
 abbrev pub Refuses : List ℕ → List ℕ → PackRefused → Packing → Type 0
@@ -37,6 +38,14 @@ FeedsBytes old piece (Err e) new = Refuses old piece e new
 abbrev pub Feeds : Packing → List ℕ → Result (ℕ × Option Message) PackRefused → Packing → Type 0
 Feeds (Holds old) piece result new = FeedsBytes old piece result new
 Feeds (Failed e) piece result new = (result ≡ Err e) × (new ≡ Failed e)
+
+-- after a pack, and after a refusal for good, little memory is kept
+abbrev pub GivesBack : Result (ℕ × Option Message) PackRefused → ℕ → Type 0
+GivesBack (Ok (n, None)) kept = Unit {0}
+GivesBack (Ok (n, Some m)) kept = kept ≤ room_kept
+GivesBack (Err (TooMany n)) kept = kept ≤ room_kept
+GivesBack (Err (TooLarge n)) kept = kept ≤ room_kept
+GivesBack (Err NoMemory) kept = Unit {0}
 
 -- the same bytes taken, the same message and the same stream behind it; want of memory may come in place of any
 abbrev pub SameFeed : Result (ℕ × Option Message) PackRefused → Packing → Result (ℕ × Option Message) PackRefused → Packing → Type 0

@@ -14,6 +14,10 @@ max_buffers = 65536
 abbrev pub max_bytes : ℕ
 max_bytes = 67108864
 
+-- the most bytes of room that are kept between packs
+abbrev pub room_kept : ℕ
+room_kept = 65536
+
 abbrev pub head : ℕ → ℕ → List ℕ
 head serial count = u32_bytes serial ++ u32_bytes count
 

@@ -1,11 +1,11 @@
 // Cuts a stream of packs into messages.
 ghost use Rattle.std.specs.Prelude.{◌≡◌, ◌+◌, ◌≤◌, ◌<◌, [], List, ℕ, min, length, IfOk, IsErrOf, OnErr, OnOk, vec_len, vec_capacity};
 ghost use Rattle.avro_frame.specs.Pack.{IsPack, OnePack, NoPackInPart, NoPackInLarge};
-ghost use Rattle.avro_frame.specs.Feed.{Holds, packing, Feeds, FeedsBytes, OneFeed};
+ghost use Rattle.avro_frame.specs.Feed.{Holds, packing, Feeds, FeedsBytes, GivesBack, OneFeed};
 ghost use Rattle.avro_frame.specs.Pending.{IsAt, IsBehind, IsEnded};
 ghost use Rattle.avro_frame.specs.Stream.{FeedingCuts, OneCut, WrittenIsPack};
 
-use crate::pending::{Cursor, Step, at_start, fill, join, make_room, number_at};
+use crate::pending::{Cursor, Step, at_start, fill, give_back, join, make_room, number_at};
 use std::alloc::{AllocError, Global};
 use std::marker::Model;
 use std::mem;
@@ -39,13 +39,13 @@ pub struct Packs {
 }
 
 impl Model for Packs {
-    ghost use Rattle.std.specs.Prelude.{◌≡◌, ◌-◌, [], min, vec_capacity, vec_len};
+    ghost use Rattle.std.specs.Prelude.{◌≡◌, ◌+◌, ◌-◌, [], min, vec_capacity, vec_len};
     ghost use Rattle.avro_frame.specs.Feed.{PackState, packing};
     ghost use Rattle.avro_frame.specs.Pending.{IsAt, IsBehind};
 
     ghost Value = { PackState };
 
-    ghost view = { λ p. record { packing = packing p.refused p.held.items; room = min (vec_capacity p.held) (vec_capacity p.spare) - vec_len p.held } };
+    ghost view = { λ p. record { packing = packing p.refused p.held.items; room = min (vec_capacity p.held) (vec_capacity p.spare) - vec_len p.held; kept = vec_capacity p.held + vec_capacity p.spare } };
 
     ghost invariant = { λ p. IsAt p.held.items p.cursor × IsBehind p.held.items p.cursor.need p.cursor.due × (p.spare.items ≡ []) };
 }
@@ -57,6 +57,7 @@ fn message_of(held: &[u8], spare: &mut Vec<u8>) -> Result<Message, AllocError>
     ensures pack { IfOk result (λ m. IsPack held.now m.serial m.payload.items) }
     ensures there { OnErr result (vec_capacity spare.old < length held.now) }
     ensures none { spare.new.items ≡ [] }
+    ensures given { OnOk result (vec_capacity spare.new ≡ 0) }
 {
     make_room(spare, held.len())?;
     let (_, bytes) = held.split_at(8);
@@ -86,6 +87,7 @@ fn feed_pending(
     ensures here { IsAt held.new.items cursor.new }
     ensures behind { IsBehind held.new.items cursor.new.need cursor.new.due }
     ensures none { spare.new.items ≡ [] }
+    ensures back { GivesBack result (vec_capacity held.new + vec_capacity spare.new) }
 {
     if make_room(held, piece.len()).is_err() {
         return Err(PackRefused::NoMemory);
@@ -97,7 +99,7 @@ fn feed_pending(
         Step::More => Ok((taken, None)),
         Step::Ends => match message_of(held, spare) {
             Ok(message) => {
-                held.clear();
+                give_back(held);
                 *cursor = at_start();
                 Ok((taken, Some(message)))
             }
@@ -108,7 +110,8 @@ fn feed_pending(
             }
         },
         Step::Passes(e) => {
-            held.clear();
+            give_back(held);
+            *spare = Vec::new(*held.allocator());
             *cursor = at_start();
             *refused = Some(e);
             Err(e)
@@ -119,7 +122,8 @@ fn feed_pending(
 impl Packs {
     /// At the start of a pack.
     pub fn new(alloc: Global) -> Packs
-        ensures { result.packing ≡ Holds [] }
+        ensures start { result.packing ≡ Holds [] }
+        ensures none { result.kept ≡ 0 }
     {
         Packs {
             held: Vec::new(alloc),
@@ -140,10 +144,12 @@ impl Packs {
 
     /// Takes that many bytes of the piece's front: those up to the end of the present pack where it ends in the
     /// piece, whose message is then given, and otherwise the whole piece. After `TooMany` or `TooLarge` every later
-    /// call answers the same. A piece for which room was made wants no memory.
+    /// call answers the same. A piece for which room was made wants no memory. Where a message is given, or a limit is
+    /// passed, the room is given back but for 65,536 bytes.
     pub fn feed(&mut self, piece: &[u8]) -> Result<(usize, Option<Message>), PackRefused>
         ensures feeds { Feeds self.old.packing piece.now result self.new.packing }
         ensures room { (bytes : List ℕ) → self.old.packing ≡ Holds bytes → 0 < length piece.now → length piece.now ≤ self.old.room → ¬ IsErrOf result PackRefused.NoMemory }
+        ensures back { (bytes : List ℕ) → self.old.packing ≡ Holds bytes → GivesBack result self.new.kept }
     {
         if let Some(e) = self.refused {
             return Err(e);

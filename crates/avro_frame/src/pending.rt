@@ -1,7 +1,7 @@
 // The walk over the numbers of one pack, as they come.
 ghost use Rattle.std.specs.Prelude.{◌≡◌, ℕ, ◌+◌, ◌≤◌, ◌<◌, ◌^◌, ◌++◌, [], List, length, take, drop, IfSome, IsSomeAnd, OnErr, OnOk, vec_len, vec_capacity};
 ghost use Rattle.std.specs.List.{flat_map};
-ghost use Rattle.avro_frame.specs.Pack.{u32_bytes, buffer, joined};
+ghost use Rattle.avro_frame.specs.Pack.{u32_bytes, buffer, joined, room_kept};
 ghost use Rattle.avro_frame.specs.Pending.{IsAt, IsBehind, InBuffers, Steps, Fills};
 
 use crate::packs::PackRefused;
@@ -12,6 +12,9 @@ pub const MAX_BUFFERS: u32 = 65_536;
 
 /// The most bytes in all buffers of a pack.
 pub const MAX_BYTES: u64 = 67_108_864;
+
+// The most bytes of room that are kept between packs.
+const ROOM_KEPT: usize = 65_536;
 
 // What stands at the end of the bytes that the next step needs.
 #[derive(Clone, Copy)]
@@ -192,4 +195,15 @@ pub fn make_room(bytes: &mut Vec<u8>, more: usize) -> Result<(), AllocError>
         return Ok(());
     }
     bytes.reserve(more)
+}
+
+/// Lets go of all bytes, and of the room if it is larger than what is kept.
+pub fn give_back(bytes: &mut Vec<u8>)
+    ensures none { bytes.new.items ≡ [] }
+    ensures small { vec_capacity bytes.new ≤ room_kept }
+{
+    bytes.clear();
+    if bytes.capacity() > ROOM_KEPT {
+        *bytes = Vec::new(*bytes.allocator());
+    }
 }

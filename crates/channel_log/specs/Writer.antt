@@ -70,11 +70,12 @@ abbrev pub IsBlank : Option (List ℕ) → Type 0
 IsBlank file = IfSome file (λ bytes. length bytes ≤ 17)
 
 -- what is true of each writer: END and a commit byte fit behind the frame, the commit byte stands behind the header, and further behind it
--- once the file has a frame, and offsets fit their type
+-- just where the file has a frame, and offsets fit their type
 pub record IsWithin (gate count : ℕ) (started : Bool) (bytes : List ℕ) (capacity : ℕ) : Type 0 where
   pub room : 2_097_152 ≤ capacity
   pub fits : length bytes + 6 ≤ 2_097_152
   pub few : count ≤ length bytes
   pub first : 16 ≤ gate
   pub later : started ≡ true → 16 < gate
+  pub earlier : 16 < gate → started ≡ true
   pub low : gate < 2 ^ 63

@@ -258,6 +258,7 @@ impl LogWriter {
     pub fn must_roll(&self) -> bool
         ensures must { IsTrue result ↔ MustRoll self.now }
         ensures framed { IsTrue result → 16 < self.now.gate }
+        ensures started { 16 < self.now.gate → self.now.started ≡ true }
     {
         self.count > 0
             && self.started

@@ -15,7 +15,9 @@ ghost use Rattle.record_form.specs.declared.record.Pointer as pointers;
 ghost use Rattle.channel_places.specs.Looks.{IsFree, IsOpenFor, Known, LookLeft, Looks, MayPut, MayStage, MayTake, Moves, Steps, eventless, puts_in, puts_of_open, with_begun};
 
 use crate::moving::move_staged;
-use crate::settling::{append_staged, end_all, free_takes, one_if_staged, remove_staged};
+use crate::settling::{
+    append_staged, end_all, free_takes, hand_back_all, one_if_staged, remove_staged,
+};
 use crate::staging::{count_takes, push_ended, put_count};
 use channel_face::{
     BeginRefused, Counter, Limits, PutRefused, PutTxn, Settled, StageCause, TakeRefused, TakeTxn,
@@ -434,6 +436,7 @@ impl Held {
         let ended = self.table.end(number);
         self.open_txns -= 1;
         self.open_puts -= put_count(&ended);
+        self.table.hand_back(ended);
     }
 
     /// Takes a transaction of takes that is open out of the open ones: what it took is free again, in its place. It takes no memory.
@@ -444,6 +447,7 @@ impl Held {
         let ended = self.table.end(number);
         self.open_txns -= 1;
         free_takes(&mut self.ring, &ended);
+        self.table.hand_back(ended);
     }
 
     /// What is staged counts from now on: the events that were taken leave, and behind the others come those that were put, with
@@ -456,7 +460,7 @@ impl Held {
         self.frame += one_if_staged(&self.staged);
         remove_staged(&mut self.ring, &self.staged);
         self.first = append_staged(&mut self.ring, &self.staged, self.first);
-        self.staged.clear();
+        hand_back_all(&mut self.staged, &mut self.table);
         self.staged_puts = 0;
     }
 

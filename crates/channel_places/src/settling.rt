@@ -1,5 +1,5 @@
 // What the end of transactions does to a ring. Nothing here takes memory.
-ghost use Rattle.std.specs.Prelude.{◌≡◌, ◌<◌, ◌≤◌, ◌+◌, ◌^◌, [], length, map};
+ghost use Rattle.std.specs.Prelude.{◌≡◌, ◌<◌, ◌≤◌, ◌+◌, ◌^◌, [], length, map, vec_capacity};
 ghost use Rattle.open_table.specs.Tables.{listed_of, puts_of, takes_of};
 ghost use Rattle.channel_places.specs.Ends.{AreApart, AreLive, IsAppended, freed, lacking, one_if_staged, pointers_in, takes_in};
 
@@ -108,11 +108,23 @@ pub(crate) fn one_if_staged(staged: &[Ended]) -> u64
     if staged.is_empty() { 0 } else { 1 }
 }
 
+// Hands the lists of staged transactions back to the table.
+pub(crate) fn hand_back_all(staged: &mut Vec<Ended>, table: &mut OpenTable)
+    ensures items { staged.new.items ≡ [] }
+    ensures room { vec_capacity staged.new ≡ vec_capacity staged.old }
+    ensures same { table.new ≡ table.old }
+{
+    while let Some(ended) = staged.pop() {
+        table.hand_back(ended);
+    }
+}
+
 // Ends all open transactions.
 pub(crate) fn end_all(table: &mut OpenTable)
     ensures { table.new ≡ [] }
 {
     while let Some(txn) = table.next_txn(None) {
-        let _ended = table.end(txn);
+        let ended = table.end(txn);
+        table.hand_back(ended);
     }
 }

@@ -28,7 +28,7 @@ pub enum ReplayRefused {
 }
 
 /// The refusal of a file that can't be read.
-pub(crate) fn of_frame(refused: FrameRefused) -> ReplayRefused
+pub fn of_frame(refused: FrameRefused) -> ReplayRefused
     ensures { result ≡ as_frame refused }
 {
     match refused {
@@ -39,7 +39,7 @@ pub(crate) fn of_frame(refused: FrameRefused) -> ReplayRefused
 }
 
 /// The refusal of a record that can't be applied.
-pub(crate) fn of_record(refused: RecoverRefused) -> ReplayRefused
+pub fn of_record(refused: RecoverRefused) -> ReplayRefused
     ensures { result ≡ as_record refused }
 {
     match refused {

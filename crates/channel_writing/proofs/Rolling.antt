@@ -1,5 +1,5 @@
 -- A log that goes on in a next file: what a crash leaves meanwhile, and the log after it.
-use Rattle.std.proofs.Common.{◌⊎◌, inl, inr, ◌≡◌, ◌<◌, ◌≤◌, ◌+◌, ◌-◌, ◌++◌, ◌∷◌, [], ℕ, List, length, length-append, Option, None, Bool, true, false, refl, sym, ◌∙◌, ap, subst, arith}
+use Rattle.std.proofs.Common.{zero, suc, ◌⊎◌, inl, inr, ◌≡◌, ◌<◌, ◌≤◌, ◌+◌, ◌-◌, ◌++◌, ◌∷◌, [], ℕ, List, length, length-append, Option, Some, None, Bool, true, false, refl, sym, ◌∙◌, ap, subst, arith}
 use Rattle.std.proofs.lemmas.List.{append-nil}
 use Rattle.std.specs.Prelude.{IsSome, IsSomeAnd}
 use Rattle.flume_host.specs.Folder.{Allows, Entry, Files, same_name, settle_entry}
@@ -10,7 +10,7 @@ use Rattle.flume_host.proofs.Images.{same_name_is}
 use Rattle.flume_host.proofs.Telling.{back, follows, tells_more}
 use Rattle.record_form.specs.declared.record.Rec.{Rec}
 use Rattle.channel_log.specs.Frames.{Content, Holds, Whole, header, opened}
-use Rattle.channel_log.specs.Writer.{HasFrames, IsAtRest, IsBlank, IsReady, IsUnused, Writer, file_of}
+use Rattle.channel_log.specs.Writer.{HasFrames, IsAtRest, IsBlank, IsPending, IsReady, IsUnused, MustRoll, Writer, file_of}
 use Rattle.channel_face.specs.Machine.{State, base_of}
 use Rattle.channel_replay.specs.declared.line.Line.{Line}
 use Rattle.channel_replay.specs.Marks.{Past}
@@ -19,9 +19,9 @@ use Rattle.channel_replay.proofs.Lines.{lines-append, past_lines-append, sound_a
 use Rattle.channel_writing.specs.Folders.{IsAsBefore, IsNextFile}
 use Rattle.channel_writing.specs.Logs.{HasLog, Logs, begun, flat}
 use Rattle.channel_writing.specs.Mirrors.{Mirrors, applied}
-use Rattle.channel_writing.specs.Touches.{ChangesAlone, WritesLast}
+use Rattle.channel_writing.specs.Touches.{ChangesAlone, FillsFiles, IsFullFor, WritesLast}
 use Rattle.channel_writing.specs.Written.{IsLogged, OnDisk, RecoversSettled, Waits}
-use Rattle.channel_writing.proofs.Flushing.{as_read, closed_frames, other_log, same_logs}
+use Rattle.channel_writing.proofs.Flushing.{as_read, closed_frames, none_waits, other_log, same_logs}
 use Rattle.channel_writing.proofs.Opening.{as_before_opens, only_more}
 use Rattle.channel_writing.proofs.Recovering.{settled_recovers, whole_past, whole_sound}
 
@@ -171,4 +171,76 @@ writes_next told mid told' w s waits begins changes =
       others = λ name other. second.others name other ∙ (first.others name other).1;
       syncs = omega (arith, first.syncs, second.syncs);
     })))
+    begins changes
+
+-- where a flush writes
+
+-- the file's bytes and its closed commit byte
+file_long : (birth number gate : ℕ) (frames : List (List Rec)) → gate ≡ length (header birth number ++ opened frames) → length (file_of birth number frames) ≡ gate + 1
+file_long birth number gate frames offset = omega (arith, offset, length-append (header birth number ++ opened frames) (0 ∷ []))
+
+-- where records wait, bytes do
+bytes_wait : (told : Option Told) (w : Writer) (s : State) → Waits told w s → 1 ≤ w.count → 1 ≤ length w.bytes
+bytes_wait told w s waits some = by (length w.bytes) refl
+  where
+    by : (n : ℕ) → length w.bytes ≡ n → 1 ≤ length w.bytes
+    by zero none = absurd (omega (arith, some, none_waits told w s waits none))
+    by (suc n) is = omega (arith, is)
+
+-- and where bytes do, records do
+records_wait : (w : Writer) (records : List Rec) → IsPending w records → 1 ≤ length w.bytes → 1 ≤ w.count
+records_wait w [] pending some = absurd (omega (arith, some, ap (λ (l : List ℕ). length l) pending.spelled))
+records_wait w (rec ∷ records) pending some = omega (arith, pending.counted)
+
+-- the last file where it is not full
+fills_last : (told : Option Told) (t u : Told) (w : Writer) (busy : ℕ) (s : State) → IsLogged told w busy s → s.broken ≡ false → told ≡ Some t → (MustRoll w → ⊥) → (16 < w.gate → w.started ≡ true) → ChangesAlone w.file 2 t u → FillsFiles s.rules.limits.max_file (length w.bytes) t u
+fills_last told t u w busy s log still is fits started changes =
+    let waits : Waits told w s = log.waits still in
+    let disk : OnDisk t w s waits.records = waits.disk t is in
+    let long = file_long disk.birth w.file w.gate disk.frames disk.rest.offset in
+    record {
+      file = w.file;
+      was = file_of disk.birth w.file disk.frames;
+      there = disk.rest.reads;
+      last = disk.none;
+      here = λ not. changes;
+      next = λ full. absurd (fits (records_wait w waits.records waits.pending full.0, started (omega (arith, long, full.1)), omega (arith, long, full.2, log.limit), full.3));
+    }
+
+-- the next one where it is
+fills_next : (told : Option Told) (t u : Told) (w : Writer) (busy : ℕ) (s : State) → IsLogged told w busy s → s.broken ≡ false → told ≡ Some t → MustRoll w → 16 < w.gate → ChangesAlone (w.file + 1) 3 t u → FillsFiles s.rules.limits.max_file (length w.bytes) t u
+fills_next told t u w busy s log still is must framed changes =
+    let waits : Waits told w s = log.waits still in
+    let disk : OnDisk t w s waits.records = waits.disk t is in
+    let long = file_long disk.birth w.file w.gate disk.frames disk.rest.offset in
+    record {
+      file = w.file;
+      was = file_of disk.birth w.file disk.frames;
+      there = disk.rest.reads;
+      last = disk.none;
+      here = λ not. absurd (not (bytes_wait told w s waits must.0, omega (arith, long, framed), omega (arith, long, must.2, log.limit), must.3));
+      next = λ full. changes;
+    }
+
+-- in the last file
+pub fills_here : (told told' : Option Told) (w : Writer) (busy : ℕ) (s : State) → IsLogged told w busy s → s.broken ≡ false → (MustRoll w → ⊥) → (16 < w.gate → w.started ≡ true) → Tells told told' (ChangesAlone w.file 2) → Tells told told' (FillsFiles s.rules.limits.max_file (length w.bytes))
+fills_here told told' w busy s log still fits started changes =
+    tells_more told told' (ChangesAlone w.file 2) (FillsFiles s.rules.limits.max_file (length w.bytes)) (λ t u old new alone. fills_last told t u w busy s log still old fits started alone) changes
+
+-- where the next one could not be begun
+pub fills_begun : (told told' : Option Told) (w : Writer) (busy : ℕ) (s : State) → IsLogged told w busy s → s.broken ≡ false → MustRoll w → 16 < w.gate → Tells told told' (Changes (Log (w.file + 1)) IsBlank 1) → Tells told told' (FillsFiles s.rules.limits.max_file (length w.bytes))
+fills_begun told told' w busy s log still must framed changes =
+    tells_more told told' (Changes (Log (w.file + 1)) IsBlank 1) (FillsFiles s.rules.limits.max_file (length w.bytes))
+    (λ t u old new begins. fills_next told t u w busy s log still old must framed (record { others = λ name other. (begins.others name other).1; syncs = omega (arith, begins.syncs) }))
+    changes
+
+-- in the next one, once it was begun
+pub fills_then : (told mid told' : Option Told) (w : Writer) (busy : ℕ) (s : State) → IsLogged told w busy s → s.broken ≡ false → MustRoll w → 16 < w.gate → Tells told mid (Changes (Log (w.file + 1)) IsBlank 1) → Tells mid told' (ChangesAlone (w.file + 1) 2)
+    → Tells told told' (FillsFiles s.rules.limits.max_file (length w.bytes))
+fills_then told mid told' w busy s log still must framed begins changes =
+    follows told mid told' (Changes (Log (w.file + 1)) IsBlank 1) (ChangesAlone (w.file + 1) 2) (FillsFiles s.rules.limits.max_file (length w.bytes))
+    (λ t m u old between new first second. fills_next told t u w busy s log still old must framed (record {
+      others = λ name other. second.others name other ∙ (first.others name other).1;
+      syncs = omega (arith, first.syncs, second.syncs);
+    }))
     begins changes

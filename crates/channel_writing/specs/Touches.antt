@@ -36,6 +36,20 @@ pub record WritesLast (t u : Told) : Type 0 where
   pub last : (n : ℕ) → file < n → t.reads (Log n) ≡ None
   pub writes : ChangesAlone file 2 t u ⊎ ChangesAlone (file + 1) 3 t u
 
+-- A frame of so many bytes of records does not go into the log file of this number any more: with it the file, which has a frame, would be
+-- longer than this, and another file may follow.
+abbrev pub IsFullFor : ℕ → ℕ → ℕ → List ℕ → Type 0
+IsFullFor max_file waiting file was = (1 ≤ waiting) × (17 < length was) × (max_file < length was + waiting + 6) × (file < 4_294_967_295)
+
+-- Log files are filled: the last one alone may read otherwise now, unless it is full for so many waiting bytes; then the next one alone.
+pub record FillsFiles (max_file waiting : ℕ) (t u : Told) : Type 0 where
+  pub file : ℕ
+  pub was : List ℕ
+  pub there : t.reads (Log file) ≡ Some was
+  pub last : (n : ℕ) → file < n → t.reads (Log n) ≡ None
+  pub here : (IsFullFor max_file waiting file was → ⊥) → ChangesAlone file 2 t u
+  pub next : IsFullFor max_file waiting file was → ChangesAlone (file + 1) 3 t u
+
 -- A channel that was not broken flushed: a stop at any moment leaves what was settled, or that with what was staged.
 pub record Flushed (s : State) (t u : Told) : Type 0 where
   pub whole : s.broken ≡ false

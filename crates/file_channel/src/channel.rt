@@ -19,7 +19,7 @@ ghost use Rattle.channel_replay.specs.Replay.{record_count};
 ghost use Rattle.channel_writing.specs.Folders.{FailsToSettle, GainsLog, IsBegun, IsRefused, Opens, OpensFrom, OpensOver};
 ghost use Rattle.channel_writing.specs.Stands.{is_fault};
 ghost use Rattle.channel_writing.specs.Written.{MayRecover};
-ghost use Rattle.channel_writing.specs.Touches.{Flushed, HadNoRoom, HasNoRoom, IsSpentLog, Rests, flushes, room_of};
+ghost use Rattle.channel_writing.specs.Touches.{FillsFiles, Flushed, HadNoRoom, HasNoRoom, IsSpentLog, Rests, flushes, room_of};
 ghost use Rattle.file_channel.specs.Stands.{IsStanding, StandsOver, flush_settles, opened_as, put_spills, take_spills};
 
 use crate::logged::LoggedPlaces;
@@ -299,6 +299,10 @@ impl<D: Disk + Drop> Channel for FileChannel<D> {
         ensures any_moment { Shows (StandsOver (D.told self.old.0) (D.faults self.old.0) self.old.1)
             (λ s. flushes (Face.Put txn.old event.now result) ≡ true
             → Tells (D.told self.old.0) (D.told self.new.0) (Flushed s)) }
+        ensures fills { Shows (StandsOver (D.told self.old.0) (D.faults self.old.0) self.old.1)
+            (λ s. flushes (Face.Put txn.old event.now result) ≡ true
+            → Tells (D.told self.old.0) (D.told self.new.0)
+            (FillsFiles s.rules.limits.max_file self.old.1.waiting)) }
         ensures room { Shows (StandsOver (D.told self.old.0) (D.faults self.old.0) self.old.1)
             (λ s. IfOk result (λ done. (done.spilled ≡ true)
             ↔ HasNoRoom self.old.1.waiting
@@ -339,6 +343,10 @@ impl<D: Disk + Drop> Channel for FileChannel<D> {
         ensures any_moment { Shows (StandsOver (D.told self.old.0) (D.faults self.old.0) self.old.1)
             (λ s. flushes (Face.Take txn.old result) ≡ true
             → Tells (D.told self.old.0) (D.told self.new.0) (Flushed s)) }
+        ensures fills { Shows (StandsOver (D.told self.old.0) (D.faults self.old.0) self.old.1)
+            (λ s. flushes (Face.Take txn.old result) ≡ true
+            → Tells (D.told self.old.0) (D.told self.new.0)
+            (FillsFiles s.rules.limits.max_file self.old.1.waiting)) }
         ensures room { Shows (StandsOver (D.told self.old.0) (D.faults self.old.0) self.old.1)
             (λ s. IfOk result (λ taken. (taken.spilled ≡ true) ↔ IsSome taken.event
             × HasNoRoom self.old.1.waiting (room_of s 17 (size_of_list (takes_of s txn.old))))) }
@@ -407,6 +415,10 @@ impl<D: Disk + Drop> Channel for FileChannel<D> {
         ensures any_moment { Shows (StandsOver (D.told self.old.0) (D.faults self.old.0) self.old.1)
             (λ s. flushes (Flush result) ≡ true
             → Tells (D.told self.old.0) (D.told self.new.0) (Flushed s)) }
+        ensures fills { Shows (StandsOver (D.told self.old.0) (D.faults self.old.0) self.old.1)
+            (λ s. flushes (Flush result) ≡ true
+            → Tells (D.told self.old.0) (D.told self.new.0)
+            (FillsFiles s.rules.limits.max_file self.old.1.waiting)) }
         ensures later { D.faults self.old.0 ≤ D.faults self.new.0 }
         ensures well { is_fault (Flush result) ≡ false → D.faults self.new.0 ≡ D.faults self.old.0 }
         ensures fault { IsErrOf result FlushRefused.DiskFault

@@ -15,7 +15,7 @@ ghost use Rattle.channel_face.specs.declared.replies.FlushRefused.{FlushRefused}
 ghost use Rattle.channel_face.specs.declared.replies.PutRefused.{PutRefused};
 ghost use Rattle.channel_face.specs.declared.replies.TakeRefused.{TakeRefused};
 ghost use Rattle.channel_writing.specs.Stands.{is_fault};
-ghost use Rattle.channel_writing.specs.Touches.{Flushed, HadNoRoom, HasNoRoom, IsSpentLog, flushes, room_of};
+ghost use Rattle.channel_writing.specs.Touches.{FillsFiles, Flushed, HadNoRoom, HasNoRoom, IsSpentLog, flushes, room_of};
 ghost use Rattle.file_channel.specs.Stepped.{ShowsOf, StepsOn};
 
 use crate::reading::{of_read, read_event};
@@ -185,6 +185,10 @@ impl<D: Disk + Drop> LoggedPlaces<D> {
         ensures any_moment { ShowsOf (D.told self.old.0) self.old.1
             (λ s. flushes (Face.Put txn.now event.now result) ≡ true
             → Tells (D.told self.old.0) (D.told self.new.0) (λ t u. Flushed s t u)) }
+        ensures fills { ShowsOf (D.told self.old.0) self.old.1
+            (λ s. flushes (Face.Put txn.now event.now result) ≡ true
+            → Tells (D.told self.old.0) (D.told self.new.0)
+            (FillsFiles s.rules.limits.max_file (length self.old.1.log.bytes))) }
         ensures room { ShowsOf (D.told self.old.0) self.old.1 (λ s. IfOk result
             (λ done. (done.spilled ≡ true) ↔ HasNoRoom (length self.old.1.log.bytes)
             (room_of s (size event.now + 13) (size_of_list (puts_of s txn.now))))) }
@@ -228,6 +232,10 @@ impl<D: Disk + Drop> LoggedPlaces<D> {
         ensures any_moment { ShowsOf (D.told self.old.0) self.old.1
             (λ s. flushes (Face.Take txn.now result) ≡ true
             → Tells (D.told self.old.0) (D.told self.new.0) (λ t u. Flushed s t u)) }
+        ensures fills { ShowsOf (D.told self.old.0) self.old.1
+            (λ s. flushes (Face.Take txn.now result) ≡ true
+            → Tells (D.told self.old.0) (D.told self.new.0)
+            (FillsFiles s.rules.limits.max_file (length self.old.1.log.bytes))) }
         ensures room { ShowsOf (D.told self.old.0) self.old.1 (λ s. IfOk result
             (λ taken. (taken.spilled ≡ true) ↔ IsSome taken.event
             × HasNoRoom (length self.old.1.log.bytes)
@@ -274,6 +282,10 @@ impl<D: Disk + Drop> LoggedPlaces<D> {
         ensures any_moment { ShowsOf (D.told self.old.0) self.old.1
             (λ s. flushes (Flush result) ≡ true
             → Tells (D.told self.old.0) (D.told self.new.0) (λ t u. Flushed s t u)) }
+        ensures fills { ShowsOf (D.told self.old.0) self.old.1
+            (λ s. flushes (Flush result) ≡ true
+            → Tells (D.told self.old.0) (D.told self.new.0)
+            (FillsFiles s.rules.limits.max_file (length self.old.1.log.bytes))) }
         ensures later { D.faults self.old.0 ≤ D.faults self.new.0 }
         ensures well { is_fault (Flush result) ≡ false
             → D.faults self.new.0 ≡ D.faults self.old.0 }
@@ -302,6 +314,10 @@ impl<D: Disk + Drop> LoggedPlaces<D> {
         ensures any_moment { ShowsOf (D.told self.old.0) self.old.1
             (λ s. flushes (Face.Put txn.now event.now result) ≡ true
             → Tells (D.told self.old.0) (D.told self.new.0) (λ t u. Flushed s t u)) }
+        ensures fills { ShowsOf (D.told self.old.0) self.old.1
+            (λ s. flushes (Face.Put txn.now event.now result) ≡ true
+            → Tells (D.told self.old.0) (D.told self.new.0)
+            (FillsFiles s.rules.limits.max_file (length self.old.1.log.bytes))) }
         ensures room { ShowsOf (D.told self.old.0) self.old.1 (λ s. IfOk result
             (λ done. (done.spilled ≡ true) ↔ HasNoRoom (length self.old.1.log.bytes)
             (room_of s (size event.now + 13) (size_of_list (puts_of s txn.now))))) }
@@ -338,6 +354,10 @@ impl<D: Disk + Drop> LoggedPlaces<D> {
         ensures any_moment { ShowsOf (D.told self.old.0) self.old.1
             (λ s. flushes (Face.Take txn.now result) ≡ true
             → Tells (D.told self.old.0) (D.told self.new.0) (λ t u. Flushed s t u)) }
+        ensures fills { ShowsOf (D.told self.old.0) self.old.1
+            (λ s. flushes (Face.Take txn.now result) ≡ true
+            → Tells (D.told self.old.0) (D.told self.new.0)
+            (FillsFiles s.rules.limits.max_file (length self.old.1.log.bytes))) }
         ensures room { ShowsOf (D.told self.old.0) self.old.1 (λ s. IfOk result
             (λ taken. (taken.spilled ≡ true) ↔ IsSome taken.event
             × HasNoRoom (length self.old.1.log.bytes)

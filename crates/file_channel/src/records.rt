@@ -12,7 +12,7 @@ ghost use Rattle.channel_face.specs.Machine.{State, broken_state, free, puts_of,
 ghost use Rattle.channel_face.specs.declared.replies.TakeRefused.{TakeRefused};
 ghost use Rattle.channel_places.specs.Looks.{MayPut, MayTake};
 ghost use Rattle.channel_writing.specs.Written.{MayRecover, RecoversSettled, kept};
-ghost use Rattle.channel_writing.specs.Touches.{ChangesAlone, Flushed, HadNoRoom, HasNoRoom, WritesOn, flushes, room_of};
+ghost use Rattle.channel_writing.specs.Touches.{ChangesAlone, FillsFiles, Flushed, HadNoRoom, HasNoRoom, WritesOn, flushes, room_of};
 ghost use Rattle.file_channel.specs.Placed.{Fits, IsStateOf};
 ghost use Rattle.file_channel.specs.Stepped.{Steps};
 
@@ -201,6 +201,10 @@ pub(crate) fn settle_staged<D: Disk + Drop>(
         (record { places = held.old; log = writing.old.log; busy = writing.old.busy }) s
         → s.broken ≡ false
         → Tells (D.told writing.old.disk) (D.told writing.new.disk) (λ t u. Flushed s t u) }
+    ensures fills { (s : State) → IsStateOf (D.told writing.old.disk)
+        (record { places = held.old; log = writing.old.log; busy = writing.old.busy }) s
+        → s.broken ≡ false → Tells (D.told writing.old.disk) (D.told writing.new.disk)
+        (FillsFiles s.rules.limits.max_file (length writing.old.log.bytes)) }
     ensures writes_on { OnOk result (1 ≤ writing.old.log.count
         → WritesOn writing.old.log writing.new.log) }
     ensures empty { OnOk result (writing.new.log.bytes ≡ []) }
@@ -253,6 +257,11 @@ pub(crate) fn take_read<D: Disk + Drop>(
         (record { places = held.old; log = writing.old.log; busy = writing.old.busy }) s
         → s.broken ≡ false → flushes (Face.Take txn.now result) ≡ true
         → Tells (D.told writing.old.disk) (D.told writing.new.disk) (λ t u. Flushed s t u) }
+    ensures fills { (s : State) → IsStateOf (D.told writing.old.disk)
+        (record { places = held.old; log = writing.old.log; busy = writing.old.busy }) s
+        → s.broken ≡ false → flushes (Face.Take txn.now result) ≡ true
+        → Tells (D.told writing.old.disk) (D.told writing.new.disk)
+        (FillsFiles s.rules.limits.max_file (length writing.old.log.bytes)) }
     ensures room { (s : State) → IsStateOf (D.told writing.old.disk)
         (record { places = held.old; log = writing.old.log; busy = writing.old.busy }) s
         → s.broken ≡ false → IfOk result

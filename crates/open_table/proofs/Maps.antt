@@ -1,11 +1,11 @@
 -- The table of a map, and after a change of the map.
-use Rattle.std.proofs.Common.{◌≡◌, ℕ, List, [], ◌∷◌, Option, None, Some, IsSome, is_some, Result, Ok, Err, OnOk, OnErr, BTreeMap, nat_cmp, refl, sym, ap, ◌∙◌, subst}
+use Rattle.std.proofs.Common.{◌≡◌, ℕ, List, [], ◌∷◌, Option, None, Some, IsSome, is_some, Bool, true, false, Result, Ok, Err, OnOk, OnErr, BTreeMap, nat_cmp, refl, sym, ap, ◌∙◌, subst}
 use Rattle.std.specs.Option.{option_map}
 use Rattle.std.specs.BTreeMap.{WritesThrough, Updates, get_by}
 use Rattle.std.specs.BTreeMap.Range.{IsRangeOf}
 use Rattle.std.specs.declared.ops.Bound.TheVariants.{Unbounded}
 use Rattle.event_core.specs.declared.refused.NoMemory.{NoMemory}
-use Rattle.open_table.specs.Tables.{Open, Table, HasAt, IsNext, open_at}
+use Rattle.open_table.specs.Tables.{Listed, Open, Table, HasAt, IsNext, begun, open_at}
 use Rattle.open_table.proofs.Orders.{apart, start_of, inside, above, at_most}
 
 -- what the map has at the number
@@ -65,3 +65,8 @@ first after m old next o r rest same is range = subst (λ (t : Table). IsNext t 
 -- an empty one
 pub none_above : (after : Option ℕ) (m : BTreeMap ℕ Open) (old : Table) (r : List (ℕ × Open)) → m.entries ≡ old → r ≡ [] → IsRangeOf nat_cmp (start_of after) Unbounded m r → IsNext old after None
 none_above after m old r same is range = subst (λ (t : Table). IsNext t after None) same (λ txn up. range.5 is txn (inside after txn up))
+
+-- a transaction that has just begun, by its list
+pub begun_in : (puts : Bool) (room : ℕ) (listed : Listed) (o : Open) → o ≡ record { listed = listed; room = room } → listed ≡ (begun puts room).listed → o ≡ begun puts room
+begun_in true room listed o is nothing = is ∙ ap (λ (l : Listed). record { listed = l; room = room }) nothing
+begun_in false room listed o is nothing = is ∙ ap (λ (l : Listed). record { listed = l; room = room }) nothing

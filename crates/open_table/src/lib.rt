@@ -2,6 +2,7 @@
 #![tactic(auto)]
 
 mod opened;
+mod spare;
 mod table;
 
 pub use opened::{Ended, Item};

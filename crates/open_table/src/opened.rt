@@ -1,10 +1,9 @@
 // What one transaction has open.
-ghost use Rattle.std.specs.Prelude.{◌≡◌, ◌<◌, ◌≤◌, ◌+◌, ◌-◌, ◌^◌, true, map, IfOk, OnErr, OnOk, vec_capacity};
-ghost use Rattle.open_table.specs.Tables.{Puts, is_behind, moved_pointer, IsOf, size, with_item, begun, capacity_of, listed_of, moved, wider, MayMove, MayMoveOne, is_puts, puts_of, takes_of};
+ghost use Rattle.std.specs.Prelude.{◌≡◌, ◌<◌, ◌≤◌, ◌+◌, ◌-◌, ◌^◌, true, map, OnErr, OnOk, vec_capacity};
+ghost use Rattle.open_table.specs.Tables.{Puts, is_behind, moved_pointer, IsOf, size, with_item, capacity_of, listed_of, moved, wider, MayMove, MayMoveOne, is_puts, puts_of, takes_of};
 
 use event_core::NoMemory;
 use record_form::Pointer;
-use std::alloc::Global;
 use std::marker::Model;
 
 /// A put or a take.
@@ -79,7 +78,7 @@ impl Ended {
 const MOST_WIDENED: usize = 0x7fff_ffff;
 
 // Makes room for so many in all, at least.
-fn room_for<T: Drop>(list: &mut Vec<T>, room: u32) -> Result<(), NoMemory>
+pub(crate) fn room_for<T: Drop>(list: &mut Vec<T>, room: u32) -> Result<(), NoMemory>
     ensures items { list.new.items ≡ list.old.items }
     ensures room { OnOk result (room ≤ vec_capacity list.new) }
     ensures kept { vec_capacity list.old ≤ vec_capacity list.new }
@@ -104,22 +103,12 @@ fn make_room(list: &mut Ended, room: u32) -> Result<(), NoMemory>
 }
 
 impl Opened {
-    /// A transaction of puts, or of takes, that has none yet.
-    pub fn new(alloc: Global, puts: bool, room: u32) -> Result<Opened, NoMemory>
-        ensures { IfOk result (λ o. o ≡ begun puts room) }
+    /// A transaction that has what is in this list, which has room for so many.
+    pub fn new(list: Ended, room: u32) -> Opened
+        requires { room ≤ capacity_of list }
+        ensures { result ≡ record { listed = listed_of list; room = room } }
     {
-        let list = if puts {
-            match Vec::with_capacity(alloc, room as usize) {
-                Ok(pointers) => Ended::Puts(pointers),
-                Err(_) => return Err(NoMemory),
-            }
-        } else {
-            match Vec::with_capacity(alloc, room as usize) {
-                Ok(numbers) => Ended::Takes(numbers),
-                Err(_) => return Err(NoMemory),
-            }
-        };
-        Ok(Opened { list, room })
+        Opened { list, room }
     }
 
     /// Adds a put or a take. It takes no memory.

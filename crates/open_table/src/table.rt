@@ -4,6 +4,7 @@ ghost use Rattle.open_table.specs.Tables.{open_at, HasAt, MayAdd, MayMove, IsNex
 ghost use Rattle.open_table.specs.declared.table.TableRefused.TheVariants.{TooManyOpen};
 
 use crate::opened::{Ended, Item, Opened};
+use crate::spare::Spare;
 use event_core::NoMemory;
 use record_form::Pointer;
 use std::alloc::Global;
@@ -28,6 +29,7 @@ pub enum TableRefused {
 pub struct OpenTable {
     alloc: Global,
     opened: BTreeMap<u64, Opened>,
+    spare: Spare,
 }
 
 impl Model for OpenTable {
@@ -46,10 +48,12 @@ impl OpenTable {
         Ok(OpenTable {
             alloc,
             opened: BTreeMap::new(alloc),
+            spare: Spare::new(alloc)?,
         })
     }
 
-    /// Begins a transaction of puts, or of takes where `puts` is false, with room for so many.
+    /// Begins a transaction of puts, or of takes where `puts` is false, with room for so many. It goes on in a list that was handed
+    /// back, where there is one: then it takes memory for its list only where that one's room is less.
     ///
     /// `TooManyOpen` comes exactly where 1,024 are open.
     pub fn begin(&mut self, txn: u64, puts: bool, room: u32) -> Result<(), TableRefused>
@@ -61,9 +65,10 @@ impl OpenTable {
         if self.opened.len() >= MOST_OPEN {
             return Err(TableRefused::TooManyOpen);
         }
-        let Ok(opened) = Opened::new(self.alloc, puts, room) else {
+        let Ok(list) = self.spare.list(self.alloc, puts, room) else {
             return Err(TableRefused::NoMemory);
         };
+        let opened = Opened::new(list, room);
         match self.opened.insert(txn, opened) {
             Ok(_) => Ok(()),
             Err(_) => Err(TableRefused::NoMemory),
@@ -102,6 +107,14 @@ impl OpenTable {
         ensures count { length self.new + 1 ≡ length self.old }
     {
         self.opened.remove(&txn).unwrap().into_list()
+    }
+
+    /// Hands back what an ended transaction had, so that one that begins takes no memory for its list. Four lists of puts and four of
+    /// takes are kept. It takes no memory.
+    pub fn hand_back(&mut self, ended: Ended)
+        ensures { self.new ≡ self.old }
+    {
+        self.spare.keep(ended);
     }
 
     /// The least open transaction above `after`, or the least of all. It takes no memory.

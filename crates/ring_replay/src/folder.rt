@@ -5,13 +5,13 @@ ghost use Rattle.flume_host.specs.Told.{WhereTold};
 ghost use Rattle.record_form.specs.declared.record.Rec.{Rec};
 ghost use Rattle.channel_log.specs.Reader.{HasFile, IsThere, Remains};
 ghost use Rattle.channel_replay.specs.Recover.{AreSound, IsBadLog, WhereLogs, empty_base, empty_start, fault_lines, file_lines, lines, past_lines, record_lines};
-ghost use Rattle.channel_replay.specs.Replay.{LeavesCount, WhereBadLog, WhereHolds, WhereOver, as_frame, as_record, drop_lines, record_count};
+ghost use Rattle.channel_replay.specs.Replay.{LeavesCount, WhereBadLog, WhereHolds, WhereOver, drop_lines, record_count};
 ghost use Rattle.ring_replay.specs.Indexing.{GoesThrough, IsKept, Keeps, LinesStand, Places};
 ghost use Rattle.ring_replay.specs.Folder.{AreReplayed, IsReady, StopsIn};
 
 use crate::indexing::Indexing;
-use channel_log::{FrameRefused, LogReader};
-use channel_replay::{Line, Next, RecoverRefused, ReplayRefused};
+use channel_log::LogReader;
+use channel_replay::{Line, Next, ReplayRefused, of_frame, of_record};
 use event_ring::Ring;
 use flume_host::{Disk, FileName, Steps};
 use std::alloc::Global;
@@ -26,25 +26,6 @@ pub struct Replayed {
 
 // The offset of the first commit byte.
 const FIRST_GATE: u64 = 16;
-
-fn of_frame(refused: FrameRefused) -> ReplayRefused
-    ensures { result ≡ as_frame refused }
-{
-    match refused {
-        FrameRefused::DiskFault => ReplayRefused::DiskFault,
-        FrameRefused::BadLog { file, at } => ReplayRefused::BadLog { file, at },
-        FrameRefused::NoMemory => ReplayRefused::NoMemory,
-    }
-}
-
-fn of_record(refused: RecoverRefused) -> ReplayRefused
-    ensures { result ≡ as_record refused }
-{
-    match refused {
-        RecoverRefused::BadLog { file, at } => ReplayRefused::BadLog { file, at },
-        RecoverRefused::NoMemory => ReplayRefused::NoMemory,
-    }
-}
 
 // Room for the events of a log, which may be more than the capacity in its middle.
 fn begin(alloc: Global, capacity: u32) -> Result<Indexing, ReplayRefused>

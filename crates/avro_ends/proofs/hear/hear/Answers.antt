@@ -4,7 +4,7 @@ use Rattle.avro_ends.proofs.Listening.{heard_none, reply_fails, reply_comes, rep
 use Rattle.avro_ends.proofs.hear.hear.Goals as goal
 
 pub loop-turns-init : goal.loop-turns-init
-loop-turns-init g c = record { few = omega arith; less = omega arith; opened = rw c.new-packs.ensures first_part; well = refl; heard = rw c.new-packs.ensures (heard_none _) }
+loop-turns-init g c = record { few = omega arith; less = omega arith; opened = rw c.new-packs.ensures.start first_part; well = refl; heard = rw c.new-packs.ensures.start (heard_none _) }
 
 pub returns-in-Ok-Whole-clause-hears : goal.returns-in-Ok-Whole-clause-hears
 returns-in-Ok-Whole-clause-hears g c =

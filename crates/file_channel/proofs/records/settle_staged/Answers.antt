@@ -1,11 +1,11 @@
-use Rattle.std.proofs.Common.{◌≡◌, ◌+◌, ℕ, ap, arith, refl, subst, sym}
+use Rattle.std.proofs.Common.{rules, ◌≡◌, ◌+◌, ℕ, ap, arith, refl, subst, sym}
 use Rattle.flume_host.specs.Told.{LeavesOnly, Tells}
-use Rattle.channel_log.specs.Writer.{Writer}
+use Rattle.channel_log.specs.Writer.{MustRoll, Writer}
 use Rattle.channel_places.specs.Looks.{Looks, Places}
 use Rattle.channel_writing.specs.Touches.{ChangesAlone}
 use Rattle.channel_writing.specs.Written.{MayRecover}
 use Rattle.channel_writing.proofs.Flushing.{none_waits}
-use Rattle.channel_writing.proofs.Rolling.{writes_begun, writes_here, writes_next}
+use Rattle.channel_writing.proofs.Rolling.{fills_begun, fills_here, fills_then, writes_begun, writes_here, writes_next}
 use Rattle.file_channel.specs.Placed.{Logged}
 use Rattle.file_channel.proofs.Adding.{failed_state, flushed_both, goes_over, goes_then, ok_then}
 use Rattle.file_channel.proofs.records.settle_staged.Goals as goal
@@ -16,7 +16,30 @@ returns-then-not-must_roll-clause-any_moment g c = λ s is still.
     let told' = g.D.Disk.told c.settle_here.new.writing.disk in
     flushed_both told told' s still (c.settle_here.ensures.any_moment s is still) (writes_here told told' c.args.writing.now.log s ((is.whole.logged still).waits still) c.settle_here.ensures.writes)
 
+pub returns-then-not-must_roll-clause-fills : goal.returns-then-not-must_roll-clause-fills
+returns-then-not-must_roll-clause-fills g c = λ s is still.
+    let told = g.D.Disk.told c.args.writing.now.disk in
+    let told' = g.D.Disk.told c.settle_here.new.writing.disk in
+    let w = c.args.writing.now.log in
+    let fits : MustRoll w → ⊥ = (let tells = c.must_roll.ensures.must in search rules) in
+    fills_here told told' w c.args.writing.now.busy s (is.whole.logged still) still fits c.must_roll.ensures.started c.settle_here.ensures.writes
+
 -- in the next file
+
+pub returns-in-Ok-clause-fills : goal.returns-in-Ok-clause-fills
+returns-in-Ok-clause-fills g c = λ s is still.
+    let told = g.D.Disk.told c.args.writing.now.disk in
+    let mid = g.D.Disk.told c.go_on.new.writing.disk in
+    let told' = g.D.Disk.told c.settle_here-in-Ok.new.writing.disk in
+    let file : c.go_on.new.writing.log.file ≡ c.args.writing.now.log.file + 1 = ap (λ (w : Writer). w.file) c.in-Ok.ensures.moved in
+    fills_then told mid told' c.args.writing.now.log c.args.writing.now.busy s (is.whole.logged still) still (c.if-not-must_roll.ensures.must.0 refl) (c.if-not-must_roll.ensures.framed refl) c.go_on.ensures.begins
+    (subst (λ (n : ℕ). Tells mid told' (ChangesAlone n 2)) file c.settle_here-in-Ok.ensures.writes)
+
+pub returns-in-Err-clause-fills : goal.returns-in-Err-clause-fills
+returns-in-Err-clause-fills g c = λ s is still.
+    let told = g.D.Disk.told c.args.writing.now.disk in
+    let told' = g.D.Disk.told c.go_on.new.writing.disk in
+    fills_begun told told' c.args.writing.now.log c.args.writing.now.busy s (is.whole.logged still) still (c.if-not-must_roll.ensures.must.0 refl) (c.if-not-must_roll.ensures.framed refl) c.go_on.ensures.begins
 
 pub returns-in-Ok-clause-put : goal.returns-in-Ok-clause-put
 returns-in-Ok-clause-put g c = ok_then c.settle_here-in-Ok.result _ _ (λ put token pointer may. put token pointer (c.in-Ok.ensures.put token pointer may)) c.settle_here-in-Ok.ensures.put

@@ -24,7 +24,7 @@ invariant_of-self c =
     let both = both_of i.known i.state.rules.limits.txn_capacity (open_at p.opened n) (entry_of n i.state.opened) l (i.looks.opened n) c.end-ended.ensures.ended in
     let fits = open_fits i.settled i.known p i.state n l i.looks both in
     let are = puts_of_one (open_at p.opened n) l (subst (λ (q : Places). is_open true (open_at q.opened n) ≡ true) (sym c.self.view_is) c.requires) c.end-ended.ensures.ended in
-    record {
+    rw c.hand_back.ensures (record {
       settled = i.settled;
       known = i.known;
       state = close n i.state;
@@ -40,7 +40,7 @@ invariant_of-self c =
       numbers = i.numbers;
       fits = omega (arith, i.fits);
       frames = omega (arith, i.frames, c.end-ended.ensures.count);
-    }
+    })
 
 pub returns : goal.returns
 returns c = λ settled known s looks.
@@ -50,5 +50,5 @@ returns c = λ settled known s looks.
     let l : Listed = listed_of c.end-ended.result in
     let both = both_of known s.rules.limits.txn_capacity (open_at p.opened n) (entry_of n s.opened) l (here.opened n) c.end-ended.ensures.ended in
     let are = puts_of_one (open_at p.opened n) l (subst (λ (q : Places). is_open true (open_at q.opened n) ≡ true) (sym c.self.view_is) c.requires) c.end-ended.ensures.ended in
-    drop_looks settled known p s c.end-ended.new.self n l (c.self.inside.open_puts - c.put_count.result) here both are c.end-ended.ensures.rest c.end-ended.ensures.count
-    (omega (arith, open_fits settled known p s n l here both, c.put_count.ensures))
+    rw c.hand_back.ensures (drop_looks settled known p s c.end-ended.new.self n l (c.self.inside.open_puts - c.put_count.result) here both are c.end-ended.ensures.rest c.end-ended.ensures.count
+    (omega (arith, open_fits settled known p s n l here both, c.put_count.ensures)))

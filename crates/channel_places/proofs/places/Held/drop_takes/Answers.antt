@@ -30,7 +30,7 @@ invariant_of-self c =
     let are = takes_of_one (open_at p.opened n) l (subst (λ (q : Places). is_open false (open_at q.opened n) ≡ true) (sym c.self.view_is) c.requires) c.end-ended.ensures.ended in
     let has = taken_of i.known l (entry_of n i.state.opened) both are in
     let live = ap (λ (x : Index). x.live) c.free_takes.ensures in
-    record {
+    rw c.hand_back.ensures (record {
       settled = i.settled;
       known = i.known;
       state = close n i.state;
@@ -46,7 +46,7 @@ invariant_of-self c =
       numbers = i.numbers;
       fits = omega (arith, i.fits);
       frames = omega (arith, i.frames, c.end-ended.ensures.count);
-    }
+    })
 
 pub returns : goal.returns
 returns c = λ settled known s looks.
@@ -56,5 +56,5 @@ returns c = λ settled known s looks.
     let l : Listed = listed_of c.end-ended.result in
     let both = both_of known s.rules.limits.txn_capacity (open_at p.opened n) (entry_of n s.opened) l (here.opened n) c.end-ended.ensures.ended in
     let are = takes_of_one (open_at p.opened n) l (subst (λ (q : Places). is_open false (open_at q.opened n) ≡ true) (sym c.self.view_is) c.requires) c.end-ended.ensures.ended in
-    relive settled known p _ _ c.end-ended.new.self c.free_takes.new.ring.live (ap (λ (x : Index). x.live) c.free_takes.ensures)
-    (drop_takes_looks settled known p s c.end-ended.new.self n l here (taken_of known l (entry_of n s.opened) both are) c.end-ended.ensures.rest c.end-ended.ensures.count)
+    rw c.hand_back.ensures (relive settled known p _ _ c.end-ended.new.self c.free_takes.new.ring.live (ap (λ (x : Index). x.live) c.free_takes.ensures)
+    (drop_takes_looks settled known p s c.end-ended.new.self n l here (taken_of known l (entry_of n s.opened) both are) c.end-ended.ensures.rest c.end-ended.ensures.count))

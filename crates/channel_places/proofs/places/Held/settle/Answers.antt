@@ -47,11 +47,11 @@ invariant_of-self c =
     let counted : map listed_of c.deref.result.now ≡ p.staged = ap (λ (l : List Ended). map listed_of l) c.deref.ensures.value in
     let removed : map listed_of c.deref-2.result.now ≡ p.staged = ap (λ (l : List Ended). map listed_of l) c.deref-2.ensures.value in
     let added : map listed_of c.deref-3.result.now ≡ p.staged = ap (λ (l : List Ended). map listed_of l) c.deref-3.ensures.value in
-    let cleared : map listed_of c.clear.new.self.items ≡ Rattle.std.proofs.Common.[] = ap (λ (l : List Ended). map listed_of l) c.clear.ensures.items in
+    let cleared : map listed_of c.hand_back_all.new.staged.items ≡ Rattle.std.proofs.Common.[] = ap (λ (l : List Ended). map listed_of l) c.hand_back_all.ensures.items in
     let same = settled_same p _ _ _ _ _ _ _ _ counted removed added cleared (ap (λ (r : Index). r.live) c.remove_staged.ensures) c.append_staged-self-inside.ensures.appended.live c.append_staged-self-inside.ensures.next c.one_if_staged.ensures in
     let many : length (pointers_in (map listed_of c.deref-3.result.now)) ≡ puts_in p.staged = ap (λ (l : List Listed). length (pointers_in l)) added ∙ pointers_length p.staged in
     let all : Known = i.settled ++ i.known in
-    record {
+    rw c.hand_back_all.ensures.same (record {
       settled = all;
       known = all;
       state = face.settle i.state;
@@ -77,9 +77,9 @@ invariant_of-self c =
       );
       below = omega (arith, c.append_staged-self-inside.ensures.appended.top, c.append_staged-self-inside.ensures.next);
       numbers = omega (arith, i.numbers, i.staged_puts_are, c.append_staged-self-inside.ensures.next, many);
-      fits = omega (arith, i.fits, c.clear.ensures.capacity, ap (λ (l : List Listed). length l) cleared);
+      fits = omega (arith, i.fits, c.hand_back_all.ensures.room, ap (λ (l : List Listed). length l) cleared);
       frames = omega (arith, i.frames, c.one_if_staged.ensures, ap (λ (l : List Listed). one_if_staged l) counted, ap (λ (l : List Listed). one_if_staged l) cleared);
-    }
+    })
 
 pub returns-clause-step : goal.returns-clause-step
 returns-clause-step c = λ known s looks.
@@ -88,20 +88,20 @@ returns-clause-step c = λ known s looks.
     let counted : map listed_of c.deref.result.now ≡ p.staged = ap (λ (l : List Ended). map listed_of l) c.deref.ensures.value in
     let removed : map listed_of c.deref-2.result.now ≡ p.staged = ap (λ (l : List Ended). map listed_of l) c.deref-2.ensures.value in
     let added : map listed_of c.deref-3.result.now ≡ p.staged = ap (λ (l : List Ended). map listed_of l) c.deref-3.ensures.value in
-    let cleared : map listed_of c.clear.new.self.items ≡ Rattle.std.proofs.Common.[] = ap (λ (l : List Ended). map listed_of l) c.clear.ensures.items in
+    let cleared : map listed_of c.hand_back_all.new.staged.items ≡ Rattle.std.proofs.Common.[] = ap (λ (l : List Ended). map listed_of l) c.hand_back_all.ensures.items in
     let same = settled_same p _ _ _ _ _ _ _ _ counted removed added cleared (ap (λ (r : Index). r.live) c.remove_staged.ensures) c.append_staged-self-inside.ensures.appended.live c.append_staged-self-inside.ensures.next c.one_if_staged.ensures in
-    replaced known known _ _ _ same (settle_looks known p s here)
+    rw c.hand_back_all.ensures.same (replaced known known _ _ _ same (settle_looks known p s here))
 
 pub returns-clause-put : goal.returns-clause-put
 returns-clause-put c = λ token pointer may.
     let p : Places = places_of c.self.inside in
     let old : MayPut p token pointer = subst (λ (q : Places). MayPut q token pointer) (sym c.self.view_is) may in
     let added : map listed_of c.deref-3.result.now ≡ p.staged = ap (λ (l : List Ended). map listed_of l) c.deref-3.ensures.value in
-    let cleared : map listed_of c.clear.new.self.items ≡ Rattle.std.proofs.Common.[] = ap (λ (l : List Ended). map listed_of l) c.clear.ensures.items in
+    let cleared : map listed_of c.hand_back_all.new.staged.items ≡ Rattle.std.proofs.Common.[] = ap (λ (l : List Ended). map listed_of l) c.hand_back_all.ensures.items in
     let many : length (pointers_in (map listed_of c.deref-3.result.now)) ≡ puts_in p.staged = ap (λ (l : List Listed). length (pointers_in l)) added ∙ pointers_length p.staged in
     record {
       life = old.life;
-      room = old.room;
+      room = rw c.hand_back_all.ensures.same old.room;
       few = omega (
         arith,
         old.few,
@@ -118,4 +118,4 @@ returns-clause-put c = λ token pointer may.
 pub returns-clause-take : goal.returns-clause-take
 returns-clause-take c = λ token may.
     let old : MayTake (places_of c.self.inside) token = subst (λ (q : Places). MayTake q token) (sym c.self.view_is) may in
-    record { life = old.life; room = old.room }
+    record { life = old.life; room = rw c.hand_back_all.ensures.same old.room }

@@ -1,7 +1,7 @@
 use Rattle.std.proofs.Common.{◌≡◌, length, true, ap}
 use Rattle.channel_face.specs.Machine.{State, Flush}
 use Rattle.flume_host.specs.Told.{Tells}
-use Rattle.channel_writing.specs.Touches.{Flushed, flushes}
+use Rattle.channel_writing.specs.Touches.{FillsFiles, Flushed, flushes}
 use Rattle.channel_writing.proofs.Standing.{flush_fault}
 use Rattle.file_channel.specs.Placed.{IsStateOf}
 use Rattle.file_channel.specs.Stands.{FileState}
@@ -61,3 +61,14 @@ returns-clause-any_moment g c =
     let old : FileState = record { logged = m.logged.1; tally = tally_of m.counts; waiting = length m.logged.1.log.bytes } in
     let new : FileState = record { logged = c.flush-result.new.self.1; tally = tally_of c.note.new.counts; waiting = length c.flush-result.new.self.1.log.bytes } in
     rw (← c.self.view_is) (shows_each told f old (λ s. flushes (Flush c.flush-result.result) ≡ true → Tells told told' (Flushed s)) c.flush-result.ensures.any_moment)
+
+pub returns-clause-fills : goal.returns-clause-fills
+returns-clause-fills g c =
+    let m = c.self.inside in
+    let told = g.D.Disk.told m.logged.0 in
+    let told' = g.D.Disk.told c.flush-result.new.self.0 in
+    let f = g.D.Disk.faults m.logged.0 in
+    let f' = g.D.Disk.faults c.flush-result.new.self.0 in
+    let old : FileState = record { logged = m.logged.1; tally = tally_of m.counts; waiting = length m.logged.1.log.bytes } in
+    let new : FileState = record { logged = c.flush-result.new.self.1; tally = tally_of c.note.new.counts; waiting = length c.flush-result.new.self.1.log.bytes } in
+    rw (← c.self.view_is) (shows_each told f old (λ s. flushes (Flush c.flush-result.result) ≡ true → Tells told told' (FillsFiles s.rules.limits.max_file old.waiting)) c.flush-result.ensures.fills)

@@ -5,7 +5,7 @@ use Rattle.flume_host.specs.Told.{Tells, WhereTold}
 use Rattle.event_core.specs.Content.{size}
 use Rattle.channel_face.specs.declared.replies.Counter.TheVariants.{File}
 use Rattle.channel_face.specs.declared.replies.PutRefused.TheVariants as PutNo
-use Rattle.channel_writing.specs.Touches.{Flushed, HadNoRoom, HasNoRoom, IsSpentLog, flushes, room_of}
+use Rattle.channel_writing.specs.Touches.{FillsFiles, Flushed, HadNoRoom, HasNoRoom, IsSpentLog, flushes, room_of}
 use Rattle.channel_writing.proofs.Standing.{put_fault}
 use Rattle.file_channel.specs.Placed.{IsStateOf}
 use Rattle.file_channel.specs.Stands.{FileState}
@@ -109,3 +109,14 @@ returns-clause-no_room g c =
     let old : FileState = record { logged = m.logged.1; tally = tally_of m.counts; waiting = length m.logged.1.log.bytes } in
     let new : FileState = record { logged = c.put-result.new.self.1; tally = tally_of c.note.new.counts; waiting = length c.put-result.new.self.1.log.bytes } in
     rw (← c.self.view_is) (shows_each told f old (λ s. IsErrOf c.put-result.result PutNo.DiskFault → HasNoRoom old.waiting (room_of s (size c.args.event.now + 13) (size_of_list (puts_of s c.args.txn.now)))) c.put-result.ensures.no_room)
+
+pub returns-clause-fills : goal.returns-clause-fills
+returns-clause-fills g c =
+    let m = c.self.inside in
+    let told = g.D.Disk.told m.logged.0 in
+    let told' = g.D.Disk.told c.put-result.new.self.0 in
+    let f = g.D.Disk.faults m.logged.0 in
+    let f' = g.D.Disk.faults c.put-result.new.self.0 in
+    let old : FileState = record { logged = m.logged.1; tally = tally_of m.counts; waiting = length m.logged.1.log.bytes } in
+    let new : FileState = record { logged = c.put-result.new.self.1; tally = tally_of c.note.new.counts; waiting = length c.put-result.new.self.1.log.bytes } in
+    rw (← c.self.view_is) (shows_each told f old (λ s. flushes (Put c.args.txn.now c.args.event.now c.put-result.result) ≡ true → Tells told told' (FillsFiles s.rules.limits.max_file old.waiting)) c.put-result.ensures.fills)

@@ -5,7 +5,7 @@ use Rattle.std.specs.Prelude.{◌↔◌, IfOk, IsErrOf, IsSome}
 use Rattle.flume_host.specs.Told.{Tells, WhereTold}
 use Rattle.channel_face.specs.declared.replies.Counter.TheVariants.{File}
 use Rattle.channel_face.specs.declared.replies.TakeRefused.TheVariants as TakeNo
-use Rattle.channel_writing.specs.Touches.{Flushed, HadNoRoom, HasNoRoom, IsSpentLog, flushes, room_of}
+use Rattle.channel_writing.specs.Touches.{FillsFiles, Flushed, HadNoRoom, HasNoRoom, IsSpentLog, flushes, room_of}
 use Rattle.file_channel.specs.Placed.{IsStateOf}
 use Rattle.file_channel.specs.Stands.{FileState}
 use Rattle.txn_core.specs.Counted.{tally_of}
@@ -108,3 +108,14 @@ returns-clause-no_room g c =
     let old : FileState = record { logged = m.logged.1; tally = tally_of m.counts; waiting = length m.logged.1.log.bytes } in
     let new : FileState = record { logged = c.take-result.new.self.1; tally = tally_of c.note.new.counts; waiting = length c.take-result.new.self.1.log.bytes } in
     rw (← c.self.view_is) (shows_each told f old (λ s. IsErrOf c.take-result.result TakeNo.DiskFault → HasNoRoom old.waiting (room_of s 17 (size_of_list (takes_of s c.args.txn.now)))) c.take-result.ensures.no_room)
+
+pub returns-clause-fills : goal.returns-clause-fills
+returns-clause-fills g c =
+    let m = c.self.inside in
+    let told = g.D.Disk.told m.logged.0 in
+    let told' = g.D.Disk.told c.take-result.new.self.0 in
+    let f = g.D.Disk.faults m.logged.0 in
+    let f' = g.D.Disk.faults c.take-result.new.self.0 in
+    let old : FileState = record { logged = m.logged.1; tally = tally_of m.counts; waiting = length m.logged.1.log.bytes } in
+    let new : FileState = record { logged = c.take-result.new.self.1; tally = tally_of c.note.new.counts; waiting = length c.take-result.new.self.1.log.bytes } in
+    rw (← c.self.view_is) (shows_each told f old (λ s. flushes (Take c.args.txn.now c.take-result.result) ≡ true → Tells told told' (FillsFiles s.rules.limits.max_file old.waiting)) c.take-result.ensures.fills)

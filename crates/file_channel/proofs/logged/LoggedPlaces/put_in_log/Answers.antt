@@ -5,7 +5,7 @@ use Rattle.event_core.specs.Content.{Content, size}
 use Rattle.channel_log.specs.Writer.{HasRoom}
 use Rattle.channel_face.specs.Machine.{State, Put, after, put_refusal, puts_of, settle, size_of_list}
 use Rattle.channel_face.specs.declared.replies.PutRefused.TheVariants as PutNo
-use Rattle.channel_writing.specs.Touches.{Flushed, HadNoRoom, HasNoRoom, room_of}
+use Rattle.channel_writing.specs.Touches.{FillsFiles, Flushed, HadNoRoom, HasNoRoom, room_of}
 use Rattle.channel_writing.specs.Written.{IsLogged, kept}
 use Rattle.channel_writing.proofs.Putting.{busy_few, put_in, room_enough}
 use Rattle.channel_writing.proofs.Rooms.{has_enough, has_none, lacks}
@@ -396,3 +396,41 @@ returns-clause-full g c = rw (← c.self.view_is) (λ s is spilled.
     (λ empty. room_enough old.log old.busy (size event) (c.size_of_puts-first.result == 0) empty may.small few) in
     subst (λ (v : Option Told). Tells told v (HadNoRoom (room_of s (size event + 13) (size_of_list (puts_of s token))))) (sym (ap g.D.Disk.told c.add_put-2.ensures.disk))
     (subst (λ (n : ℕ). Tells told between (HadNoRoom n)) needs left))
+
+pub returns-in-Some-clause-fills : goal.returns-in-Some-clause-fills
+returns-in-Some-clause-fills g c = rw (← c.self.view_is) (λ s is flushed.
+    let m = c.self.inside in
+    let told = g.D.Disk.told m.writing.disk in
+    let token = c.args.txn.now in
+    let event : Content = c.args.event.now in
+    let old : Logged = record { places = m.held; log = m.writing.log; busy = m.writing.busy } in
+    let refused : put_refusal s (puts_of s token) event ≡ Some c.in-Some.refused = sym (c.put_refusal.ensures.refusal is.settled is.known s event is.looks (sym c.size.ensures.size)) ∙ c.in-Some.is in
+    absurd ((put_quietly s (puts_of s token) event c.in-Some.refused refused).0 (flushes_put token event c.in-Some.refused flushed)))
+
+pub returns-in-Err-clause-fills : goal.returns-in-Err-clause-fills
+returns-in-Err-clause-fills g c = rw (← c.self.view_is) (λ s is flushed.
+    let m = c.self.inside in
+    let told = g.D.Disk.told m.writing.disk in
+    let token = c.args.txn.now in
+    let event : Content = c.args.event.now in
+    let old : Logged = record { places = m.held; log = m.writing.log; busy = m.writing.busy } in
+    let allowed : put_refusal s (puts_of s token) event ≡ None = sym (c.put_refusal.ensures.refusal is.settled is.known s event is.looks (sym c.size.ensures.size)) ∙ c.in_default.is in
+    let may : MayBePut s token event = may_be_put told old token event s is allowed in
+    let count : c.size_of_puts-first.result ≡ size_of_list (puts_of s token) = c.size_of_puts-first.ensures.size is.settled is.known s is.looks in
+    let log : IsLogged told old.log old.busy s = is.whole.logged may.still in
+    let few : old.busy ≤ 1024 = busy_few told old.log old.busy s log in
+    c.settle_staged.ensures.fills s is may.still)
+
+pub returns-clause-fills : goal.returns-clause-fills
+returns-clause-fills g c = rw (← c.self.view_is) (λ s is flushed.
+    let m = c.self.inside in
+    let told = g.D.Disk.told m.writing.disk in
+    let token = c.args.txn.now in
+    let event : Content = c.args.event.now in
+    let old : Logged = record { places = m.held; log = m.writing.log; busy = m.writing.busy } in
+    let allowed : put_refusal s (puts_of s token) event ≡ None = sym (c.put_refusal.ensures.refusal is.settled is.known s event is.looks (sym c.size.ensures.size)) ∙ c.in_default.is in
+    let may : MayBePut s token event = may_be_put told old token event s is allowed in
+    let count : c.size_of_puts-first.result ≡ size_of_list (puts_of s token) = c.size_of_puts-first.ensures.size is.settled is.known s is.looks in
+    let log : IsLogged told old.log old.busy s = is.whole.logged may.still in
+    let few : old.busy ≤ 1024 = busy_few told old.log old.busy s log in
+    subst (λ (v : Option Told). Tells told v (FillsFiles s.rules.limits.max_file (length old.log.bytes))) (sym (ap g.D.Disk.told c.add_put-2.ensures.disk)) (c.settle_staged.ensures.fills s is may.still))

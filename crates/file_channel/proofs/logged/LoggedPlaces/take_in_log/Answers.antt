@@ -7,7 +7,7 @@ use Rattle.channel_face.specs.Machine.{State, Gives, Take, after, free, is_some_
 use Rattle.channel_face.specs.declared.replies.TakeRefused.{TakeRefused}
 use Rattle.channel_face.specs.declared.replies.TakeRefused.TheVariants as TakeNo
 use Rattle.channel_places.specs.Looks.{IsFree}
-use Rattle.channel_writing.specs.Touches.{Flushed, HadNoRoom, HasNoRoom, room_of}
+use Rattle.channel_writing.specs.Touches.{FillsFiles, Flushed, HadNoRoom, HasNoRoom, room_of}
 use Rattle.file_channel.specs.Placed.{IsStateOf, Logged}
 use Rattle.file_channel.specs.Stepped.{Steps}
 use Rattle.file_channel.proofs.Calls.{MayBeTaken, flushes_take, free_first, kept_state, may_be_taken, own_file, read_then, take_quietly, take_refuses, unread_steps}
@@ -265,3 +265,30 @@ returns-in-Some-clause-no_room g c = rw (← c.self.view_is) (λ s is fault.
     let token = c.args.txn.now in
     let refused : take_refusal s (takes_of s token) ≡ Some c.in-Some.refused = sym (c.take_refusal.ensures.refusal is.settled is.known s is.looks) ∙ c.in-Some.is in
     absurd ((take_quietly s (takes_of s token) c.in-Some.refused refused).1 (let same : c.in-Some.refused ≡ TakeNo.DiskFault = cc in same)))
+
+pub returns-in-Ok-clause-fills : goal.returns-in-Ok-clause-fills
+returns-in-Ok-clause-fills g c = rw (← c.self.view_is) (λ s is flushed.
+    let m = c.self.inside in
+    let told = g.D.Disk.told m.writing.disk in
+    let token = c.args.txn.now in
+    let old : Logged = record { places = m.held; log = m.writing.log; busy = m.writing.busy } in
+    let allowed : take_refusal s (takes_of s token) ≡ None = sym (c.take_refusal.ensures.refusal is.settled is.known s is.looks) ∙ c.in_default.is in
+    let may : MayBeTaken s token = may_be_taken s token allowed in
+    let found : IsFree is.settled (Some (c.in-Some-first_free.number, c.in-Some-first_free.pointer)) (free s) = subst (λ (o : Option (ℕ × Pointer)). IsFree is.settled o (free s)) c.in-Some-first_free.is (c.first_free.ensures is.settled is.known s is.looks) in
+    let free_is = free_first is.settled c.in-Some-first_free.number c.in-Some-first_free.pointer (free s) found in
+    let between = g.D.Disk.told c.read_event.new.writing.disk in
+    let mid : Logged = record { places = m.held; log = c.read_event.new.writing.log; busy = c.read_event.new.writing.busy } in
+    let same : between ≡ told = c.read_event.ensures.same in
+    let bytes : mid.log.bytes ≡ old.log.bytes = ap (λ (w : Writer). w.bytes) c.read_event.ensures.log in
+    let state : IsStateOf between mid s = subst (λ (n : ℕ). IsStateOf between (record old { log = mid.log; busy = n }) s) (sym c.read_event.ensures.busy) (kept_state told between old mid.log s same c.read_event.ensures.log c.read_event.ensures.placed is) in
+    let told' = g.D.Disk.told c.take_read.new.writing.disk in
+    let new : Logged = record { places = c.take_read.new.held; log = c.take_read.new.writing.log; busy = c.take_read.new.writing.busy } in
+    subst (λ (v : Option Told). Tells v told' (FillsFiles s.rules.limits.max_file (length old.log.bytes))) same
+    (subst (λ (b : List ℕ). Tells between told' (FillsFiles s.rules.limits.max_file (length b))) bytes (c.take_read.ensures.fills s state may.still flushed)))
+
+pub returns-in-Some-clause-fills : goal.returns-in-Some-clause-fills
+returns-in-Some-clause-fills g c = rw (← c.self.view_is) (λ s is flushed.
+    let m = c.self.inside in
+    let token = c.args.txn.now in
+    let refused : take_refusal s (takes_of s token) ≡ Some c.in-Some.refused = sym (c.take_refusal.ensures.refusal is.settled is.known s is.looks) ∙ c.in-Some.is in
+    absurd ((take_quietly s (takes_of s token) c.in-Some.refused refused).1 (flushes_take token c.in-Some.refused flushed)))
