@@ -1,294 +1,198 @@
-// Channels that break in a run and are mended: answers, report, status, and what is left.
-use crate::agent::{LINES, ON_DISK, WORDS, given, host_of, is_rolled, status_of, text_of};
-use crate::left::left_in;
-use crate::pipe::{is_said, written};
-use crate::rolls::is_somewhere;
-use crate::sessions::placed;
-use flume_host::Host;
-use host_memory::{DiskFault, Flag, LinkStep, MemHost, MemLink, Offer, Part};
-use std::alloc::{AllocError, Global};
-use std::sync::Wait;
+// Channels that break in a run and are mended: answers, report, status, and what is left. Opening takes eight calls of the disk, and
+// the first line four: a write, a sync, the write of the byte that commits it, and a sync. A reopening begins with the next call.
+use crate::scenarios::pass;
 use std::test::Fail;
-use std::thread::Threads;
 
-// What is rolled in the end where this call of the disk fails alone. Opening takes eight calls, and the first line four: a write, a
-// sync, the write of the byte that commits it, and a sync. Where that byte is there, mending reads the line back.
-fn rolled_after(fault: DiskFault) -> &'static [u8] {
-    match fault.call {
-        11 => b"a\nb\n",
-        10 if fault.part == Part::Front(1) => b"a\nb\n",
-        _ => b"b\n",
-    }
-}
+// The line at which the disk failed is in doubt, the next one is stored, and the run ends well.
+const ONCE: &str =
+    r#"The byte that commits the line was not written, for fails 8, fails 9, fails 10, fails-with-1 8, fails-with-1 9
+use LINES
+use ON_DISK
+$
+input a\nb\n
+run agent -n a -f x.conf
+status 0
+said
+disk-faults 1
+begins FAILED: channel in doubt\nOK\n{"CHANNEL.c1":{"ChannelCapacity":"1000000","ChannelSize":"0",
+rolled 5000-1=b\n
 
-const MENDED: &str = "FAILED: channel in doubt
-OK
-{\"CHANNEL.c1\":{\"ChannelCapacity\":\"1000000\",\"ChannelSize\":\"0\",";
-
-// Whether the line at which the disk failed is in doubt, the next one is stored, and the run ends well.
-fn is_mended<R: Threads + Wait + Sync>(
-    rt: &R,
-    alloc: Global,
-    fault: DiskFault,
-) -> Result<bool, AllocError> {
-    let rolled = rolled_after(fault);
-    let text = text_of(alloc, LINES, ON_DISK, "")?;
-    let mut outside = given(alloc, b"a\nb\n")?;
-    outside.disk = outside.disk.failing_at(vec![in alloc; fault]?);
-    let mut host = host_of(alloc, text.as_str(), outside)?;
-    let status = status_of(rt, alloc, &WORDS, &mut host)?;
-    let is_told = status == 0 && is_said(&host, "") && host.disk_faults() == 1;
-    Ok(
-        is_told
-            && written(&host).starts_with(MENDED.as_bytes())
-            && is_rolled(&host, "5000-1", rolled),
-    )
-}
+Where that byte is there, mending reads the line back, for fails 11, fails-with-1 10, fails-with-1 11
+use LINES
+use ON_DISK
+$
+input a\nb\n
+run agent -n a -f x.conf
+status 0
+said
+disk-faults 1
+begins FAILED: channel in doubt\nOK\n{"CHANNEL.c1":{"ChannelCapacity":"1000000","ChannelSize":"0",
+rolled 5000-1=a\nb\n"#;
 
 #[test]
 fn a_disk_that_failed_once_is_mended(rt: HostRuntime) -> Result<(), Fail> {
-    for call in 8..12 {
-        for part in [Part::Nothing, Part::Front(1)] {
-            let is_so = is_mended(&rt, rt.alloc(), DiskFault { call, part })?;
-            assert!(rt; is_so, "call {call}, {part:?}");
-        }
-    }
-    Ok(())
+    pass(&rt, rt.alloc(), ONCE)
 }
 
-// What a line may be answered where the disk fails in its commit, or in that of the sink before it.
-const ANSWERS: [&[u8]; 3] = [
-    b"OK\n",
-    b"FAILED: channel in doubt\n",
-    b"FAILED: channel refused\n",
-];
+// Eight calls of the opening, four for each commit, of two lines and of one delivery or two, and readings of what is taken. Which
+// calls are of a line and which are of the sink depends on when that looks at the channel.
+const EACH_CALL: &str =
+    r#"A run with a sink ends well and loses no line that was answered well, for 8, 9, 10, 11, 12, 13, 14, 15, 16, 17, 18, 19, 20, 21, 22, 23, 24, 25, 26, 27, 28, 29, 30, 31, 32, 33, 34, 35, 36, 37, 38, 39
+use LINES
+use ON_DISK
+fails $
+input x\ny\n
+run agent -n a -f x.conf
+status 0
+said
+answered-there
 
-// What is written behind the first answer, if one stands there.
-fn behind_answer(text: &[u8]) -> Option<&[u8]> {
-    for answer in &ANSWERS {
-        if let Some(rest) = text.strip_prefix(*answer) {
-            return Some(rest);
-        }
-    }
-    None
-}
-
-// Whether two lines were answered in front of the report, and each that was answered well is left or rolled.
-fn are_answered_lines_there(host: &MemHost, left: &[u8]) -> bool {
-    let text = written(host);
-    let Some(rest) = behind_answer(text) else {
-        return false;
-    };
-    let Some(report) = behind_answer(rest) else {
-        return false;
-    };
-    report.starts_with(b"{\"CHANNEL.c1\":")
-        && (!text.starts_with(b"OK") || is_somewhere(host, left, b'x'))
-        && (!rest.starts_with(b"OK") || is_somewhere(host, left, b'y'))
-}
-
-// Whether a run with a sink ends well and loses no line that was answered well, where this call of the disk fails, if it comes to
-// it, and how often the disk failed. Which calls are of a line and which are of the sink depends on when that looks at the channel.
-fn is_kept_where_it_fails<R: Threads + Wait + Sync>(
-    rt: &R,
-    alloc: Global,
-    call: u64,
-) -> Result<(bool, u64), Fail> {
-    let fault = DiskFault {
-        call,
-        part: Part::Nothing,
-    };
-    let text = text_of(alloc, LINES, ON_DISK, "")?;
-    let mut outside = given(alloc, b"x\ny\n")?;
-    outside.disk = outside.disk.failing_at(vec![in alloc; fault]?);
-    let mut host = host_of(alloc, text.as_str(), outside)?;
-    let status = status_of(rt, alloc, &WORDS, &mut host)?;
-    let left = left_in(alloc, &host)?;
-    let is_so = status == 0 && is_said(&host, "") && are_answered_lines_there(&host, &left);
-    Ok((is_so, host.disk_faults()))
-}
+No run makes so many calls, for 39
+use LINES
+use ON_DISK
+fails $
+input x\ny\n
+run agent -n a -f x.conf
+status 0
+said
+answered-there
+disk-faults 0"#;
 
 #[test]
 fn each_call_of_the_disk_fails_once(rt: HostRuntime) -> Result<(), Fail> {
-    // eight calls of the opening, four for each commit, of two lines and of one delivery or two, and readings of what is taken
-    for call in 8..40 {
-        let (is_so, faults) = is_kept_where_it_fails(&rt, rt.alloc(), call)?;
-        assert!(rt; is_so, "call {call}");
-        if faults == 0 {
-            return Ok(());
-        }
-    }
-    Err("each run had a fault")?
+    pass(&rt, rt.alloc(), EACH_CALL)
 }
 
-// Lines go into a channel on a disk, which nobody takes from: so only their worker mends it, and the caller at the end. The sink
-// that each agent has is of another channel.
-pub const UNTAKEN: &str = "a.sources = r
-a.sources.r.type = stdin
-a.sources.r.channels = c1
-a.channels = c1 c2
-a.channels.c1.type = file
-a.channels.c1.dataDirs = d
-a.channels.c2.type = memory
-a.sinks = k
-a.sinks.k.type = null
-a.sinks.k.channel = c2
-";
+// A mend that was refused is tried again before the next line, and where that is refused too, none follows this line.
+const BROKEN: &str = r#"The first line fails in its first sync.
+use UNTAKEN
+fails 9
+input a\nb\n
+run agent -n a -f x.conf
+status 0
+said
+disk-faults 1
+begins FAILED: channel in doubt\nOK\n{"CHANNEL.c1":{"ChannelCapacity":"1000000","ChannelSize":"1","EventPutAttemptCount":"2","EventPutSuccessCount":"1","EventTakeAttemptCount":"0","EventTakeSuccessCount":"0"},
+left b\n
 
-// The calls of the disk that fail, the lines, how the run ends, what it writes first, and what the channel of the folder then gives.
-struct Row {
-    calls: &'static [u64],
-    lines: &'static [u8],
-    status: u8,
-    said: &'static str,
-    written: &'static str,
-    left: &'static [u8],
-}
+It fails in its second sync: what a reopening reads back is left, and is no success.
+use UNTAKEN
+fails 11
+input a\nb\n
+run agent -n a -f x.conf
+status 0
+said
+disk-faults 1
+begins FAILED: channel in doubt\nOK\n{"CHANNEL.c1":{"ChannelCapacity":"1000000","ChannelSize":"2","EventPutAttemptCount":"2","EventPutSuccessCount":"1","EventTakeAttemptCount":"0","EventTakeSuccessCount":"0"},
+left a\nb\n
 
-// The first line fails in its first sync, with call 9, or in its second, with call 11. A reopening begins with the next call. A mend
-// that was refused is tried again before the next line, and where that is refused too, none follows this line.
-const ROWS: [Row; 6] = [
-    Row {
-        calls: &[9],
-        lines: b"a\nb\n",
-        status: 0,
-        said: "",
-        written: "FAILED: channel in doubt\nOK\n{\"CHANNEL.c1\":{\"ChannelCapacity\":\"1000000\",\"ChannelSize\":\"1\",\"EventPutAttemptCount\":\"2\",\"EventPutSuccessCount\":\"1\",\"EventTakeAttemptCount\":\"0\",\"EventTakeSuccessCount\":\"0\"},",
-        left: b"b\n",
-    },
-    // what a reopening reads back is left, and is no success
-    Row {
-        calls: &[11],
-        lines: b"a\nb\n",
-        status: 0,
-        said: "",
-        written: "FAILED: channel in doubt\nOK\n{\"CHANNEL.c1\":{\"ChannelCapacity\":\"1000000\",\"ChannelSize\":\"2\",\"EventPutAttemptCount\":\"2\",\"EventPutSuccessCount\":\"1\",\"EventTakeAttemptCount\":\"0\",\"EventTakeSuccessCount\":\"0\"},",
-        left: b"a\nb\n",
-    },
-    // the mends behind the first line and before the second are refused
-    Row {
-        calls: &[9, 10, 11],
-        lines: b"a\nb\nc\n",
-        status: 0,
-        said: "",
-        written: "FAILED: channel in doubt\nFAILED: channel refused\nOK\n{\"CHANNEL.c1\":{\"ChannelCapacity\":\"1000000\",\"ChannelSize\":\"1\",\"EventPutAttemptCount\":\"2\",\"EventPutSuccessCount\":\"1\",\"EventTakeAttemptCount\":\"0\",\"EventTakeSuccessCount\":\"0\"},",
-        left: b"c\n",
-    },
-    // the mend behind the line is refused, and that at the end is not
-    Row {
-        calls: &[9, 10],
-        lines: b"a\n",
-        status: 0,
-        said: "",
-        written: "FAILED: channel in doubt\n{\"CHANNEL.c1\":{\"ChannelCapacity\":\"1000000\",\"ChannelSize\":\"0\",\"EventPutAttemptCount\":\"1\",\"EventPutSuccessCount\":\"0\",\"EventTakeAttemptCount\":\"0\",\"EventTakeSuccessCount\":\"0\"},",
-        left: b"",
-    },
-    // both are refused: the channel has what it had, and a later run opens its folder
-    Row {
-        calls: &[9, 10, 11],
-        lines: b"a\n",
-        status: 3,
-        said: "flume: fault outside",
-        written: "FAILED: channel in doubt\n{\"CHANNEL.c1\":{\"ChannelCapacity\":\"1000000\",\"ChannelSize\":\"0\",\"EventPutAttemptCount\":\"1\",\"EventPutSuccessCount\":\"0\",\"EventTakeAttemptCount\":\"0\",\"EventTakeSuccessCount\":\"0\"},",
-        left: b"",
-    },
-    Row {
-        calls: &[11, 12, 13],
-        lines: b"a\n",
-        status: 3,
-        said: "flume: fault outside",
-        written: "FAILED: channel in doubt\n{\"CHANNEL.c1\":{\"ChannelCapacity\":\"1000000\",\"ChannelSize\":\"0\",\"EventPutAttemptCount\":\"1\",\"EventPutSuccessCount\":\"0\",\"EventTakeAttemptCount\":\"0\",\"EventTakeSuccessCount\":\"0\"},",
-        left: b"a\n",
-    },
-];
+The mends behind the first line and before the second are refused.
+use UNTAKEN
+fails 9 10 11
+input a\nb\nc\n
+run agent -n a -f x.conf
+status 0
+said
+disk-faults 1
+begins FAILED: channel in doubt\nFAILED: channel refused\nOK\n{"CHANNEL.c1":{"ChannelCapacity":"1000000","ChannelSize":"1","EventPutAttemptCount":"2","EventPutSuccessCount":"1","EventTakeAttemptCount":"0","EventTakeSuccessCount":"0"},
+left c\n
 
-// The status and the host of a run on these lines of which these calls of the disk fail.
-fn run_failing<R: Threads + Wait + Sync>(
-    rt: &R,
-    alloc: Global,
-    calls: &[u64],
-    lines: &[u8],
-) -> Result<(u8, MemHost), AllocError> {
-    let mut faults = Vec::new(alloc);
-    for call in calls {
-        faults.push(DiskFault {
-            call: *call,
-            part: Part::Nothing,
-        })?;
-    }
-    let mut outside = given(alloc, lines)?;
-    outside.disk = outside.disk.failing_at(faults);
-    let mut host = host_of(alloc, UNTAKEN, outside)?;
-    let status = status_of(rt, alloc, &WORDS, &mut host)?;
-    Ok((status, host))
-}
+The mend behind the line is refused, and that at the end is not.
+use UNTAKEN
+fails 9 10
+input a\n
+run agent -n a -f x.conf
+status 0
+said
+disk-faults 1
+begins FAILED: channel in doubt\n{"CHANNEL.c1":{"ChannelCapacity":"1000000","ChannelSize":"0","EventPutAttemptCount":"1","EventPutSuccessCount":"0","EventTakeAttemptCount":"0","EventTakeSuccessCount":"0"},
+left -
 
-// Whether a run whose disk fails at these calls does as the row has it.
-fn goes_on<R: Threads + Wait + Sync>(
-    rt: &R,
-    alloc: Global,
-    calls: &[u64],
-    row: &Row,
-) -> Result<bool, Fail> {
-    let (status, host) = run_failing(rt, alloc, calls, row.lines)?;
-    let is_told = status == row.status && is_said(&host, row.said) && host.disk_faults() == 1;
-    let is_written = written(&host).starts_with(row.written.as_bytes());
-    Ok(is_told && is_written && left_in(alloc, &host)?.as_slice() == row.left)
-}
+Both are refused: the channel has what it had, and a later run opens its folder.
+use UNTAKEN
+fails 9 10 11
+input a\n
+run agent -n a -f x.conf
+status 3
+said flume: fault outside
+disk-faults 1
+begins FAILED: channel in doubt\n{"CHANNEL.c1":{"ChannelCapacity":"1000000","ChannelSize":"0","EventPutAttemptCount":"1","EventPutSuccessCount":"0","EventTakeAttemptCount":"0","EventTakeSuccessCount":"0"},
+left -
+
+Both are refused behind the second sync.
+use UNTAKEN
+fails 11 12 13
+input a\n
+run agent -n a -f x.conf
+status 3
+said flume: fault outside
+disk-faults 1
+begins FAILED: channel in doubt\n{"CHANNEL.c1":{"ChannelCapacity":"1000000","ChannelSize":"0","EventPutAttemptCount":"1","EventPutSuccessCount":"0","EventTakeAttemptCount":"0","EventTakeSuccessCount":"0"},
+left a\n"#;
 
 #[test]
 fn a_broken_channel_goes_on_once_it_is_mended(rt: HostRuntime) -> Result<(), Fail> {
-    for (row, want) in ROWS.iter().enumerate() {
-        let is_so = goes_on(&rt, rt.alloc(), want.calls, want)?;
-        assert!(rt; is_so, "row {row}");
-    }
-    Ok(())
+    pass(&rt, rt.alloc(), BROKEN)
 }
 
-// How many calls of the disk a run makes, whose only line fails in its first sync.
-fn calls_with_a_reopening<R: Threads + Wait + Sync>(
-    rt: &R,
-    alloc: Global,
-) -> Result<u64, AllocError> {
-    let (_, host) = run_failing(rt, alloc, &[9], b"a\n")?;
-    Ok(match host.disk("d") {
-        Some(disk) => disk.calls(),
-        None => 0,
-    })
-}
+const REOPENING: &str =
+    r#"Each call of a reopening fails, of as many as a run makes whose only line fails in its first sync, for 10, 11, 12, 13, 14, 15, 16, 17, 18, 19, 20, 21, 22, 23, 24, 25, 26, 27, 28, 29
+use UNTAKEN
+fails 9
+input a\n
+run agent -n a -f x.conf
+note
+only-below-noted $
+anew
+use UNTAKEN
+fails 9 $
+input a\nb\n
+run agent -n a -f x.conf
+status 0
+said
+disk-faults 1
+begins FAILED: channel in doubt\nOK\n{"CHANNEL.c1":{"ChannelCapacity":"1000000","ChannelSize":"1","EventPutAttemptCount":"2","EventPutSuccessCount":"1","EventTakeAttemptCount":"0","EventTakeSuccessCount":"0"},
+left b\n
+
+At least the folder is settled and searched, its log is read, and a new one is begun.
+use UNTAKEN
+fails 9
+input a\n
+run agent -n a -f x.conf
+note
+noted-in 17 30"#;
 
 #[test]
 fn each_call_of_a_reopening_fails_once(rt: HostRuntime) -> Result<(), Fail> {
-    let end = calls_with_a_reopening(&rt, rt.alloc())?;
-    for call in 10..end {
-        let is_so = goes_on(&rt, rt.alloc(), &[9, call], &ROWS[0])?;
-        assert!(rt; is_so, "call {call}");
-    }
-    // at least the folder is settled and searched, its log is read, and a new one is begun
-    assert!(rt; end >= 17);
-    Ok(())
+    pass(&rt, rt.alloc(), REOPENING)
 }
 
-// The first sync of the first line fails, and then that of the second.
-const TWICE: Row = Row {
-    calls: &[],
-    lines: b"a\nb\nc\n",
-    status: 0,
-    said: "",
-    written: "FAILED: channel in doubt\nFAILED: channel in doubt\nOK\n{\"CHANNEL.c1\":{\"ChannelCapacity\":\"1000000\",\"ChannelSize\":\"1\",\"EventPutAttemptCount\":\"3\",\"EventPutSuccessCount\":\"1\",\"EventTakeAttemptCount\":\"0\",\"EventTakeSuccessCount\":\"0\"},",
-    left: b"c\n",
-};
+const TWICE: &str = r#"The first sync of the first line fails, and then that of the second.
+use UNTAKEN
+fails 9
+input a\n
+run agent -n a -f x.conf
+note
+anew
+use UNTAKEN
+fails 9
+fails-behind-noted
+input a\nb\nc\n
+run agent -n a -f x.conf
+status 0
+said
+disk-faults 1
+begins FAILED: channel in doubt\nFAILED: channel in doubt\nOK\n{"CHANNEL.c1":{"ChannelCapacity":"1000000","ChannelSize":"1","EventPutAttemptCount":"3","EventPutSuccessCount":"1","EventTakeAttemptCount":"0","EventTakeSuccessCount":"0"},
+left c\n"#;
 
 #[test]
 fn a_channel_that_breaks_again_is_mended_again(rt: HostRuntime) -> Result<(), Fail> {
-    let end = calls_with_a_reopening(&rt, rt.alloc())?;
-    let is_so = goes_on(&rt, rt.alloc(), &[9, end.saturating_add(1)], &TWICE)?;
-    assert!(rt; is_so);
-    Ok(())
+    pass(&rt, rt.alloc(), TWICE)
 }
 
-// Lines of links go into a channel on a disk, which nobody takes from.
-const OF_LINKS: &str = "a.sources = n
+const SESSION: &str =
+    r#"The first line of two links fails in its first sync. The input ends once the second is answered.
+a.sources = n
 a.sources.n.type = netcat
 a.sources.n.bind = localhost
 a.sources.n.port = 44444
@@ -301,60 +205,19 @@ a.channels.c2.type = memory
 a.sinks = k
 a.sinks.k.type = null
 a.sinks.k.channel = c2
-";
-
-fn link(alloc: Global, line: &[u8]) -> Result<MemLink, AllocError> {
-    let piece = LinkStep::Piece(line.to_vec(alloc)?);
-    Ok(MemLink::new(alloc, vec![in alloc; piece]?))
-}
-
-// A host whose port has two links, of which the first line fails in its first sync. The input ends once the second is answered.
-fn host_of_links(alloc: Global) -> Result<MemHost, AllocError> {
-    let begun = Flag::new(alloc)?;
-    let second = Flag::new(alloc)?;
-    let first = Offer::Link(link(alloc, b"x\n")?);
-    let other = Offer::Link(link(alloc, b"y\n")?.setting(second.handle()?));
-    let mut outside = given(alloc, b"")?;
-    let fault = DiskFault {
-        call: 9,
-        part: Part::Nothing,
-    };
-    outside.disk = outside.disk.failing_at(vec![in alloc; fault]?);
-    outside
-        .listeners
-        .push(placed(alloc, vec![in alloc; first, other]?)?)?;
-    outside.source = outside.source.held(begun, second);
-    host_of(alloc, OF_LINKS, outside)
-}
-
-// Whether the two links that came back were answered so.
-fn are_answered(host: &MemHost, first: &[u8], other: &[u8]) -> bool {
-    match host.listeners() {
-        [only] => match only.object.back() {
-            [one, two] => one.took() == first && two.took() == other,
-            _ => false,
-        },
-        _ => false,
-    }
-}
-
-// Whether a session whose line is left in doubt has its channel mended behind it, for the next one.
-fn is_mended_behind_a_session<R: Threads + Wait + Sync>(
-    rt: &R,
-    alloc: Global,
-) -> Result<bool, Fail> {
-    let mut host = host_of_links(alloc)?;
-    let status = status_of(rt, alloc, &WORDS, &mut host)?;
-    let is_told = status == 0 && is_said(&host, "") && host.disk_faults() == 1;
-    Ok(
-        is_told
-            && are_answered(&host, b"FAILED: channel in doubt\n", b"OK\n")
-            && left_in(alloc, &host)?.as_slice() == b"y\n".as_slice(),
-    )
-}
+fails 9
+listen 44444
+link x\n
+link y\n sets 1
+input-held 0 1
+run agent -n a -f x.conf
+status 0
+said
+disk-faults 1
+links 44444 FAILED:\schannel\sin\sdoubt\n OK\n
+left y\n"#;
 
 #[test]
 fn a_session_leaves_its_channel_mended(rt: HostRuntime) -> Result<(), Fail> {
-    assert!(rt; is_mended_behind_a_session(&rt, rt.alloc())?);
-    Ok(())
+    pass(&rt, rt.alloc(), SESSION)
 }

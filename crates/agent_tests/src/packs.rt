@@ -1,52 +1,112 @@
 // Packs of Avro messages by the specification's rules, byte for byte.
 
-/// Serial 6: a handshake of the hash that both have (RFC 1321 of the text, by another program), and no call behind it.
-pub const HELLO: &[u8] =
+// Serial 6: a handshake of the hash that both have (RFC 1321 of the text, by another program), and no call behind it.
+const HELLO: &[u8] =
     b"\x00\x00\x00\x06\x00\x00\x00\x01\x00\x00\x00\x24\x30\xda\x54\x05\x9d\xf7\x2d\x95\x84\xb8\x67\xd5\x20\x2e\x20\x69\x00\x30\xda\x54\x05\x9d\xf7\x2d\x95\x84\xb8\x67\xd5\x20\x2e\x20\x69\x00\x00\x00";
 
-/// BOTH.
-pub const HELLO_REPLY: &[u8] = b"\x00\x00\x00\x06\x00\x00\x00\x01\x00\x00\x00\x04\x00\x00\x00\x00";
+// BOTH.
+const HELLO_REPLY: &[u8] = b"\x00\x00\x00\x06\x00\x00\x00\x01\x00\x00\x00\x04\x00\x00\x00\x00";
 
-/// Serial 7: append of the body `a` with h = v.
-pub const APPEND: &[u8] =
+// Serial 7: append of the body `a` with h = v.
+const APPEND: &[u8] =
     b"\x00\x00\x00\x07\x00\x00\x00\x01\x00\x00\x00\x10\x00\x0cappend\x02\x02h\x02v\x00\x02a";
 
-/// Serial 7: the same, whose headers are a block of the count -1 with its size.
-pub const APPEND_SIZED: &[u8] =
+// Serial 7: the same, whose headers are a block of the count -1 with its size.
+const APPEND_SIZED: &[u8] =
     b"\x00\x00\x00\x07\x00\x00\x00\x01\x00\x00\x00\x11\x00\x0cappend\x01\x08\x02h\x02v\x00\x02a";
 
-/// OK to either.
-pub const APPENDED: &[u8] = b"\x00\x00\x00\x07\x00\x00\x00\x01\x00\x00\x00\x03\x00\x00\x00";
+// OK to either.
+const APPENDED: &[u8] = b"\x00\x00\x00\x07\x00\x00\x00\x01\x00\x00\x00\x03\x00\x00\x00";
 
-/// Serial 8: appendBatch of the bodies `x` and `y`.
-pub const BATCH: &[u8] =
+// Serial 8: appendBatch of the bodies `x` and `y`.
+const BATCH: &[u8] =
     b"\x00\x00\x00\x08\x00\x00\x00\x01\x00\x00\x00\x15\x00\x16appendBatch\x04\x00\x02x\x00\x02y\x00";
 
-/// OK to it.
-pub const BATCH_TAKEN: &[u8] = b"\x00\x00\x00\x08\x00\x00\x00\x01\x00\x00\x00\x03\x00\x00\x00";
+// OK to it.
+const BATCH_TAKEN: &[u8] = b"\x00\x00\x00\x08\x00\x00\x00\x01\x00\x00\x00\x03\x00\x00\x00";
 
-/// FAILED to it.
-pub const BATCH_FAILED: &[u8] = b"\x00\x00\x00\x08\x00\x00\x00\x01\x00\x00\x00\x03\x00\x00\x02";
+// FAILED to it.
+const BATCH_FAILED: &[u8] = b"\x00\x00\x00\x08\x00\x00\x00\x01\x00\x00\x00\x03\x00\x00\x02";
 
-/// Serial 1: a client of the hash 07.. without its text, and its call.
-pub const STRANGE: &[u8] =
+// Serial 1: a client of the hash 07.. without its text, and its call.
+const STRANGE: &[u8] =
     b"\x00\x00\x00\x01\x00\x00\x00\x01\x00\x00\x00\x37\x07\x07\x07\x07\x07\x07\x07\x07\x07\x07\x07\x07\x07\x07\x07\x07\x00\x00\x00\x00\x00\x00\x00\x00\x00\x00\x00\x00\x00\x00\x00\x00\x00\x00\x00\x16appendBatch\x04\x00\x02x\x00\x02y\x00";
 
-/// NONE, in front of this agent's text.
-pub const NONE: &[u8] = b"\x00\x00\x00\x01\x00\x00\x00\x01\x00\x00\x02\x13\x04\x02\xfa\x07";
+// NONE, in front of this agent's text.
+const NONE: &[u8] = b"\x00\x00\x00\x01\x00\x00\x00\x01\x00\x00\x02\x13\x04\x02\xfa\x07";
 
-/// Its hash, behind the text.
-pub const NONE_END: &[u8] =
-    b"\x02\x30\xda\x54\x05\x9d\xf7\x2d\x95\x84\xb8\x67\xd5\x20\x2e\x20\x69\x00";
+// Its hash, behind the text.
+const NONE_END: &[u8] = b"\x02\x30\xda\x54\x05\x9d\xf7\x2d\x95\x84\xb8\x67\xd5\x20\x2e\x20\x69\x00";
 
-/// Serial 2: the hash 07.., in front of the client's text.
-pub const TOLD: &[u8] =
+// Serial 2: the hash 07.., in front of the client's text.
+const TOLD: &[u8] =
     b"\x00\x00\x00\x02\x00\x00\x00\x01\x00\x00\x02\x36\x07\x07\x07\x07\x07\x07\x07\x07\x07\x07\x07\x07\x07\x07\x07\x07\x02\xfa\x07";
 
-/// Behind the text: the server's hash, no metadata, and appendBatch of the bodies `x` and `y`.
-pub const TOLD_END: &[u8] =
+// Behind the text: the server's hash, no metadata, and appendBatch of the bodies `x` and `y`.
+const TOLD_END: &[u8] =
     b"\x30\xda\x54\x05\x9d\xf7\x2d\x95\x84\xb8\x67\xd5\x20\x2e\x20\x69\x00\x00\x16appendBatch\x04\x00\x02x\x00\x02y\x00";
 
-/// BOTH, and OK.
-pub const TOLD_REPLY: &[u8] =
+// BOTH, and OK.
+const TOLD_REPLY: &[u8] =
     b"\x00\x00\x00\x02\x00\x00\x00\x01\x00\x00\x00\x07\x00\x00\x00\x00\x00\x00\x00";
+
+// In front of the text of a first request: serial 1, one buffer of 563 bytes, the client's hash, and its text to come.
+const CLIENT_HELLO: &[u8] =
+    b"\x00\x00\x00\x01\x00\x00\x00\x01\x00\x00\x02\x33\x30\xda\x54\x05\x9d\xf7\x2d\x95\x84\xb8\x67\xd5\x20\x2e\x20\x69\x02\xfa\x07";
+
+// Behind the text: the server's hash, no metadata, and appendBatch of one event without headers, up to its body.
+const CALL: &[u8] =
+    b"\x30\xda\x54\x05\x9d\xf7\x2d\x95\x84\xb8\x67\xd5\x20\x2e\x20\x69\x00\x00\x16appendBatch\x02\x00\x02";
+
+// The second request: serial 2, one buffer of 18 bytes, and no handshake.
+const SECOND: &[u8] =
+    b"\x00\x00\x00\x02\x00\x00\x00\x01\x00\x00\x00\x12\x00\x16appendBatch\x02\x00\x02";
+
+// Serial 1: BOTH and OK.
+const REPLY_OK: &[u8] =
+    b"\x00\x00\x00\x01\x00\x00\x00\x01\x00\x00\x00\x07\x00\x00\x00\x00\x00\x00\x00";
+
+// The same, and a byte behind it.
+const REPLY_OK_AND_MORE: &[u8] =
+    b"\x00\x00\x00\x01\x00\x00\x00\x01\x00\x00\x00\x07\x00\x00\x00\x00\x00\x00\x00\x00";
+
+// Serial 1: BOTH and FAILED.
+const REPLY_FAILED: &[u8] =
+    b"\x00\x00\x00\x01\x00\x00\x00\x01\x00\x00\x00\x07\x00\x00\x00\x00\x00\x00\x02";
+
+// Serial 8 in place of 1: BOTH and OK.
+const REPLY_OTHER: &[u8] =
+    b"\x00\x00\x00\x08\x00\x00\x00\x01\x00\x00\x00\x07\x00\x00\x00\x00\x00\x00\x00";
+
+// Serial 2: OK.
+const SECOND_OK: &[u8] = b"\x00\x00\x00\x02\x00\x00\x00\x01\x00\x00\x00\x03\x00\x00\x00";
+
+// The front of a reply.
+const REPLY_CUT: &[u8] = b"\x00\x00\x00\x01\x00";
+
+/// Each by its name.
+pub const PACKS: [(&str, &[u8]); 23] = [
+    ("HELLO", HELLO),
+    ("HELLO_REPLY", HELLO_REPLY),
+    ("APPEND", APPEND),
+    ("APPEND_SIZED", APPEND_SIZED),
+    ("APPENDED", APPENDED),
+    ("BATCH", BATCH),
+    ("BATCH_TAKEN", BATCH_TAKEN),
+    ("BATCH_FAILED", BATCH_FAILED),
+    ("STRANGE", STRANGE),
+    ("NONE", NONE),
+    ("NONE_END", NONE_END),
+    ("TOLD", TOLD),
+    ("TOLD_END", TOLD_END),
+    ("TOLD_REPLY", TOLD_REPLY),
+    ("CLIENT_HELLO", CLIENT_HELLO),
+    ("CALL", CALL),
+    ("SECOND", SECOND),
+    ("REPLY_OK", REPLY_OK),
+    ("REPLY_OK_AND_MORE", REPLY_OK_AND_MORE),
+    ("REPLY_FAILED", REPLY_FAILED),
+    ("REPLY_OTHER", REPLY_OTHER),
+    ("SECOND_OK", SECOND_OK),
+    ("REPLY_CUT", REPLY_CUT),
+];

@@ -1,183 +1,214 @@
-// The worked examples of `pipe`, by an agent with a source of lines: its channel is shared, and the answers, the log files and what
-// is left are the same. Behind the answers the report is written.
-use crate::agent::{WORDS, given, host_of, status_of};
-use crate::left::{left, left_in};
-use crate::mended::UNTAKEN;
-use crate::pipe::{CALLS_OF_A_LINE, LINES, LOGS, Lines, Log, file_of, is_said, long_line, written};
-use crate::written::{FOLDERS, Folder, RERUNS, Rerun, STOPS, as_is, has_logs, one_file, stopped};
-use flume_host::FileName;
-use host_memory::{MemDisk, MemHost, Stood};
-use std::alloc::{AllocError, Global};
-use std::sync::Wait;
+// The worked examples of `pipe`, by an agent with a source of lines: its channel is shared, and the answers, the log files and what is
+// left are the same. Behind the answers the report is written.
+use crate::scenarios::pass;
 use std::test::Fail;
-use std::thread::Threads;
 
-// A host with this folder and this input for such an agent.
-fn host_on(alloc: Global, disk: MemDisk, input: &[u8]) -> Result<MemHost, AllocError> {
-    let mut outside = given(alloc, input)?;
-    outside.disk = disk;
-    host_of(alloc, UNTAKEN, outside)
-}
+const FRAMES: &str = r#"Two lines.
+use UNTAKEN
+input a\nb\n
+run agent -n a -f x.conf
+status 0
+begins OK\nOK\n{"CHANNEL.c1":{"ChannelCapacity":"1000000","ChannelSize":"2","EventPutAttemptCount":"2","EventPutSuccessCount":"2","EventTakeAttemptCount":"0","EventTakeSuccessCount":"0"},
+file log 1 = TWO_LINES
+said
 
-// Whether these answers were written, and then a report of so many events that were put and so many that are left.
-fn is_answered(
-    alloc: Global,
-    host: &MemHost,
-    answers: &[u8],
-    stored: u64,
-    left: u64,
-) -> Result<bool, AllocError> {
-    let report = format!(in alloc;
-        "{{\"CHANNEL.c1\":{{\"ChannelCapacity\":\"1000000\",\"ChannelSize\":\"{left}\",\"EventPutAttemptCount\":\"{stored}\",\"EventPutSuccessCount\":\"{stored}\",\"EventTakeAttemptCount\":\"0\",\"EventTakeSuccessCount\":\"0\"}},"
-    )?;
-    Ok(match written(host).strip_prefix(answers) {
-        Some(rest) => rest.starts_with(report.as_bytes()),
-        None => false,
-    })
-}
-
-// Whether the agent ends with this status and these answers, as many lines are stored, and so many are left.
-fn is_run<R: Threads + Wait + Sync>(
-    rt: &R,
-    alloc: Global,
-    host: &mut MemHost,
-    outcome: (u8, u64),
-    answers: &[u8],
-    left: u64,
-) -> Result<bool, AllocError> {
-    let status = status_of(rt, alloc, &WORDS, host)?;
-    Ok(status == outcome.0 && is_answered(alloc, host, answers, outcome.1, left)?)
-}
-
-// The status of a row of `pipe`, and how many lines it stores.
-fn stored_of(outcome: (u8, u64)) -> (u8, u64) {
-    (outcome.0, outcome.1 / CALLS_OF_A_LINE)
-}
-
-// Whether a run on the input of a row makes its log, and nothing is said.
-fn is_logged<R: Threads + Wait + Sync>(
-    rt: &R,
-    alloc: Global,
-    row: &Log,
-) -> Result<bool, AllocError> {
-    let (input, outcome, answers, log) = *row;
-    let stored = stored_of(outcome);
-    let mut host = host_on(alloc, MemDisk::new(alloc), input)?;
-    let is_so = is_run(rt, alloc, &mut host, stored, answers, stored.1)?;
-    Ok(is_so && file_of(&host, FileName::Log(1)) == Some(log) && is_said(&host, ""))
-}
+None.
+use UNTAKEN
+input
+run agent -n a -f x.conf
+status 0
+begins {"CHANNEL.c1":{"ChannelCapacity":"1000000","ChannelSize":"0","EventPutAttemptCount":"0","EventPutSuccessCount":"0","EventTakeAttemptCount":"0","EventTakeSuccessCount":"0"},
+file log 1 = BEGUN
+said"#;
 
 #[test]
 fn each_line_of_an_agent_makes_a_frame(rt: HostRuntime) -> Result<(), Fail> {
-    for row in &LOGS {
-        let is_so = is_logged(&rt, rt.alloc(), row)?;
-        assert!(rt; is_so, "{:?}", row.0);
-    }
-    Ok(())
+    pass(&rt, rt.alloc(), FRAMES)
 }
 
-// Whether the lines of a row are answered so.
-fn are_lines_answered<R: Threads + Wait + Sync>(
-    rt: &R,
-    alloc: Global,
-    lines: &Lines,
-) -> Result<bool, AllocError> {
-    let input = long_line(alloc, lines.front, lines.count, lines.end)?;
-    let stored = stored_of(lines.outcome);
-    let mut host = host_on(alloc, MemDisk::new(alloc), &input)?;
-    is_run(rt, alloc, &mut host, stored, lines.answers, stored.1)
-}
+const ANSWERS: &str = r#"A line and a rest.
+use UNTAKEN
+input a\nb
+run agent -n a -f x.conf
+status 0
+begins OK\n{"CHANNEL.c1":{"ChannelCapacity":"1000000","ChannelSize":"1","EventPutAttemptCount":"1","EventPutSuccessCount":"1","EventTakeAttemptCount":"0","EventTakeSuccessCount":"0"},
+
+An empty line.
+use UNTAKEN
+input \n
+run agent -n a -f x.conf
+status 0
+begins OK\n{"CHANNEL.c1":{"ChannelCapacity":"1000000","ChannelSize":"1","EventPutAttemptCount":"1","EventPutSuccessCount":"1","EventTakeAttemptCount":"0","EventTakeSuccessCount":"0"},
+
+Three lines, of which one ends with a return and one is empty.
+use UNTAKEN
+input a\r\n\nb\n
+run agent -n a -f x.conf
+status 0
+begins OK\nOK\nOK\n{"CHANNEL.c1":{"ChannelCapacity":"1000000","ChannelSize":"3","EventPutAttemptCount":"3","EventPutSuccessCount":"3","EventTakeAttemptCount":"0","EventTakeSuccessCount":"0"},
+
+A line of the greatest length.
+use UNTAKEN
+many 511
+input \n
+run agent -n a -f x.conf
+status 0
+begins OK\n{"CHANNEL.c1":{"ChannelCapacity":"1000000","ChannelSize":"1","EventPutAttemptCount":"1","EventPutSuccessCount":"1","EventTakeAttemptCount":"0","EventTakeSuccessCount":"0"},
+
+The same without its end.
+use UNTAKEN
+many 511
+run agent -n a -f x.conf
+status 0
+begins {"CHANNEL.c1":{"ChannelCapacity":"1000000","ChannelSize":"0","EventPutAttemptCount":"0","EventPutSuccessCount":"0","EventTakeAttemptCount":"0","EventTakeSuccessCount":"0"},
+
+A line with a byte more.
+use UNTAKEN
+many 512
+input \n
+run agent -n a -f x.conf
+status 7
+begins FAILED: line too long\n{"CHANNEL.c1":{"ChannelCapacity":"1000000","ChannelSize":"0","EventPutAttemptCount":"0","EventPutSuccessCount":"0","EventTakeAttemptCount":"0","EventTakeSuccessCount":"0"},
+
+The same behind a line, and without its end.
+use UNTAKEN
+input a\n
+many 512
+run agent -n a -f x.conf
+status 7
+begins OK\nFAILED: line too long\n{"CHANNEL.c1":{"ChannelCapacity":"1000000","ChannelSize":"1","EventPutAttemptCount":"1","EventPutSuccessCount":"1","EventTakeAttemptCount":"0","EventTakeSuccessCount":"0"},
+
+A long line in front of a line.
+use UNTAKEN
+many 9000
+input \na\n
+run agent -n a -f x.conf
+status 7
+begins FAILED: line too long\n{"CHANNEL.c1":{"ChannelCapacity":"1000000","ChannelSize":"0","EventPutAttemptCount":"0","EventPutSuccessCount":"0","EventTakeAttemptCount":"0","EventTakeSuccessCount":"0"},"#;
 
 #[test]
 fn every_line_of_an_agent_has_its_answer(rt: HostRuntime) -> Result<(), Fail> {
-    for (row, lines) in LINES.iter().enumerate() {
-        let is_so = are_lines_answered(&rt, rt.alloc(), lines)?;
-        assert!(rt; is_so, "row {row}");
-    }
-    Ok(())
+    pass(&rt, rt.alloc(), ANSWERS)
 }
 
-// The host of a run on these lines, if it ends as it has to.
-fn host_after<R: Threads + Wait + Sync>(
-    rt: &R,
-    alloc: Global,
-    input: &[u8],
-    status: u8,
-) -> Result<MemHost, Fail> {
-    let mut host = host_on(alloc, MemDisk::new(alloc), input)?;
-    if status_of(rt, alloc, &WORDS, &mut host)? != status {
-        return Err("the first run")?;
-    }
-    Ok(host)
-}
+const RERUNS: &str = r#"A line behind two.
+use UNTAKEN
+input a\nb\n
+run agent -n a -f x.conf
+status 0
+then
+use UNTAKEN
+input c\n
+run agent -n a -f x.conf
+status 0
+begins OK\n{"CHANNEL.c1":{"ChannelCapacity":"1000000","ChannelSize":"3","EventPutAttemptCount":"1","EventPutSuccessCount":"1","EventTakeAttemptCount":"0","EventTakeSuccessCount":"0"},
+file log 1 = TWO_LINES
+file log 2 = THIRD_LINE
+left a\nb\nc\n
 
-// Whether the second run of a row goes on behind the first.
-fn is_rerun<R: Threads + Wait + Sync>(rt: &R, alloc: Global, case: &Rerun) -> Result<bool, Fail> {
-    let first = host_after(rt, alloc, case.first, case.first_outcome.0)?;
-    let mut host = host_on(alloc, as_is(&first)?, case.second)?;
-    let before = stored_of(case.first_outcome).1;
-    let second = stored_of(case.second_outcome);
-    let all = before.saturating_add(second.1);
-    if !is_run(rt, alloc, &mut host, second, case.answers, all)? {
-        return Ok(false);
-    }
-    Ok(has_logs(&host, &case.logs) && left_in(alloc, &host)?.as_slice() == case.left)
-}
+None behind none.
+use UNTAKEN
+input
+run agent -n a -f x.conf
+status 0
+then
+use UNTAKEN
+input
+run agent -n a -f x.conf
+status 0
+begins {"CHANNEL.c1":{"ChannelCapacity":"1000000","ChannelSize":"0","EventPutAttemptCount":"0","EventPutSuccessCount":"0","EventTakeAttemptCount":"0","EventTakeSuccessCount":"0"},
+file log 1 = BEGUN
+file log 2 = BEGUN_2
+left -"#;
 
 #[test]
 fn an_agent_goes_on_behind_an_earlier_run(rt: HostRuntime) -> Result<(), Fail> {
-    for case in &RERUNS {
-        let is_so = is_rerun(&rt, rt.alloc(), case)?;
-        assert!(rt; is_so, "{:?}", case.first);
-    }
-    Ok(())
+    pass(&rt, rt.alloc(), RERUNS)
 }
 
-// Whether what a crash leaves at a moment has the line of a run, or not.
-fn is_left(
-    alloc: Global,
-    host: &MemHost,
-    moment: u64,
-    stood: Stood,
-    there: bool,
-) -> Result<bool, Fail> {
-    let want: &[u8] = if there { b"a\n" } else { b"" };
-    Ok(left(alloc, stopped(host, moment, stood)?)?.as_slice() == want)
-}
+const CRASHES: &str =
+    r#"The line is gone, for 5:old, 5:new, 5:front:20, 5:garbage:1, 6:old, 7:old, 7:garbage:255
+use UNTAKEN
+input a\n
+run agent -n a -f x.conf
+status 0
+crash $
+left -
+
+The line is there, for 7:new, 8:old, 8:new, 8:garbage:255
+use UNTAKEN
+input a\n
+run agent -n a -f x.conf
+status 0
+crash $
+left a\n"#;
 
 #[test]
 fn a_crash_leaves_a_line_of_an_agent_or_not(rt: HostRuntime) -> Result<(), Fail> {
-    let first = host_after(&rt, rt.alloc(), b"a\n", 0)?;
-    for case in &STOPS {
-        let (moment, stood, there) = *case;
-        let is_so = is_left(rt.alloc(), &first, moment, stood, there)?;
-        assert!(rt; is_so, "moment {moment}, {stood:?}");
-    }
-    Ok(())
+    pass(&rt, rt.alloc(), CRASHES)
 }
 
-// Whether a folder of one file is refused with its line, or taken where there is none, and the file stays as it is.
-fn is_refused<R: Threads + Wait + Sync>(
-    rt: &R,
-    alloc: Global,
-    folder: &Folder,
-) -> Result<bool, AllocError> {
-    let (name, bytes, line) = *folder;
-    let mut host = host_on(alloc, one_file(alloc, name, bytes)?, b"a\n")?;
-    let status = status_of(rt, alloc, &WORDS, &mut host)?;
-    let is_so = if line.is_empty() {
-        status == 0 && is_answered(alloc, &host, b"OK\n", 1, 1)?
-    } else {
-        status == 4 && written(&host).is_empty()
-    };
-    Ok(is_so && is_said(&host, line) && file_of(&host, name) == Some(bytes))
-}
+const FOLDERS: &str = r#"A header in front of nothing.
+use UNTAKEN
+folder log 1 = CUT_FRAME
+input a\n
+run agent -n a -f x.conf
+status 4
+writes
+said flume: d: bad log 1 at 16
+file log 1 = CUT_FRAME
+
+A frame with another end.
+use UNTAKEN
+folder log 1 = BAD_END
+input a\n
+run agent -n a -f x.conf
+status 4
+writes
+said flume: d: bad log 1 at 16
+file log 1 = BAD_END
+
+Takes of an event that is not there.
+use UNTAKEN
+folder log 1 = BAD_TAKE
+input a\n
+run agent -n a -f x.conf
+status 4
+writes
+said flume: d: bad log 1 at 17
+file log 1 = BAD_TAKE
+
+No header: nothing was ever stable in it.
+use UNTAKEN
+folder log 1 = GARBAGE
+input a\n
+run agent -n a -f x.conf
+status 0
+begins OK\n{"CHANNEL.c1":{"ChannelCapacity":"1000000","ChannelSize":"1","EventPutAttemptCount":"1","EventPutSuccessCount":"1","EventTakeAttemptCount":"0","EventTakeSuccessCount":"0"},
+said
+file log 1 = GARBAGE
+
+An empty checkpoint.
+use UNTAKEN
+folder check 3 = -
+input a\n
+run agent -n a -f x.conf
+status 4
+writes
+said flume: d: bad checkpoint 3 at 0
+file check 3 = -
+
+The last number of a log.
+use UNTAKEN
+folder log 4294967295 = -
+input a\n
+run agent -n a -f x.conf
+status 4
+writes
+said flume: d: number at its end
+file log 4294967295 = -"#;
 
 #[test]
 fn an_agent_refuses_a_folder_for_what_it_holds(rt: HostRuntime) -> Result<(), Fail> {
-    for (row, folder) in FOLDERS.iter().enumerate() {
-        let is_so = is_refused(&rt, rt.alloc(), folder)?;
-        assert!(rt; is_so, "row {row}");
-    }
-    Ok(())
+    pass(&rt, rt.alloc(), FOLDERS)
 }
