@@ -275,6 +275,7 @@ fn host_number(host: &MemHost, word: &str) -> Option<u64> {
         "disk-faults" => Some(host.disk_faults()),
         "roll-faults" => Some(roll_faults(host)),
         "last-opened" => host.opens().checked_sub(1),
+        "listeners" => Some(host.listeners().len() as u64),
         _ => None,
     }
 }
@@ -339,6 +340,14 @@ fn is_so_if_sound(scene: &Scene, line: &str) -> bool {
     }
 }
 
+// Whether fewer calls than so many of the rolled files failed.
+fn has_fewer_roll_faults(scene: &Scene, most: &str) -> bool {
+    match (number(scene, "roll-faults"), number_of(most)) {
+        (Some(faults), Some(most)) => faults < most,
+        _ => false,
+    }
+}
+
 // What has a first word of its own.
 fn is_pair(scene: &Scene, word: &str, rest: &str) -> bool {
     let (first, second) = rest.split_once(' ').unwrap_or((rest, ""));
@@ -364,6 +373,7 @@ fn is_seen_in(scene: &Scene, word: &str, rest: &str) -> bool {
         "numbered" => are_numbered(&scene.channels),
         "worker" => is_worker(&scene.channels, rest),
         "noted-in" => is_noted_in(scene.noted, rest),
+        "roll-faults-below" => has_fewer_roll_faults(scene, rest),
         _ => is_pair(scene, word, rest),
     }
 }

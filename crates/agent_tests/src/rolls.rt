@@ -20,6 +20,7 @@ status 0
 said
 writes {"CHANNEL.c1":{"ChannelCapacity":"1000000","ChannelSize":"0","EventPutAttemptCount":"1","EventPutSuccessCount":"1","EventTakeAttemptCount":"<4>","EventTakeSuccessCount":"1"}}\n
 roll-faults 1
+listeners 1
 links 44444 OK\n
 rolled 5000-2=x\n
 
@@ -39,6 +40,7 @@ status 0
 said
 writes {"CHANNEL.c1":{"ChannelCapacity":"1000000","ChannelSize":"0","EventPutAttemptCount":"1","EventPutSuccessCount":"1","EventTakeAttemptCount":"<4>","EventTakeSuccessCount":"1"}}\n
 roll-faults 1
+listeners 1
 links 44444 OK\n
 rolled 5000-1= 5000-2=x\n
 
@@ -58,6 +60,7 @@ status 0
 said
 writes {"CHANNEL.c1":{"ChannelCapacity":"1000000","ChannelSize":"0","EventPutAttemptCount":"1","EventPutSuccessCount":"1","EventTakeAttemptCount":"<4>","EventTakeSuccessCount":"1"}}\n
 roll-faults 1
+listeners 1
 links 44444 OK\n
 rolled 5000-1=x 5000-2=x\n
 
@@ -77,6 +80,7 @@ status 0
 said
 writes {"CHANNEL.c1":{"ChannelCapacity":"1000000","ChannelSize":"0","EventPutAttemptCount":"1","EventPutSuccessCount":"1","EventTakeAttemptCount":"<4>","EventTakeSuccessCount":"1"}}\n
 roll-faults 1
+listeners 1
 links 44444 OK\n
 rolled 5000-1=x\n 5000-2=x\n
 
@@ -96,6 +100,7 @@ status 0
 said
 writes {"CHANNEL.c1":{"ChannelCapacity":"1000000","ChannelSize":"0","EventPutAttemptCount":"1","EventPutSuccessCount":"1","EventTakeAttemptCount":"<2>","EventTakeSuccessCount":"1"}}\n
 roll-faults 0
+listeners 1
 links 44444 OK\n
 rolled 5000-1=x\n"#;
 
@@ -120,6 +125,7 @@ where-left - OK\nOK\n{"CHANNEL.c1":{"ChannelCapacity":"1000000","ChannelSize":"0
 where-left y\n OK\nOK\n{"CHANNEL.c1":{"ChannelCapacity":"1000000","ChannelSize":"1","EventPutAttemptCount":"2","EventPutSuccessCount":"2","EventTakeAttemptCount":"<2>","EventTakeSuccessCount":"1"}}\n
 where-left x\ny\n OK\nOK\n{"CHANNEL.c1":{"ChannelCapacity":"1000000","ChannelSize":"2","EventPutAttemptCount":"2","EventPutSuccessCount":"2","EventTakeAttemptCount":"<3>","EventTakeSuccessCount":"0"}}\n
 there xy
+roll-faults-below 2
 if-sound left -
 if-sound rolled 5000-1=x\ny\n
 

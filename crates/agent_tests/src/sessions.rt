@@ -20,6 +20,7 @@ status 0
 said
 writes {"CHANNEL.c1":{"ChannelCapacity":"100","ChannelSize":"0","EventPutAttemptCount":"1","EventPutSuccessCount":"1","EventTakeAttemptCount":"<2>","EventTakeSuccessCount":"1"}}\n
 rolled 5000-1=x\n
+listeners 1
 links 44444 OK\n
 
 Where no source reads the input, its bytes are dropped, and its end is the end of the run.
@@ -36,6 +37,7 @@ status 0
 said
 writes {"CHANNEL.c1":{"ChannelCapacity":"100","ChannelSize":"0","EventPutAttemptCount":"1","EventPutSuccessCount":"1","EventTakeAttemptCount":"<2>","EventTakeSuccessCount":"1"}}\n
 rolled 5000-1=x\n
+listeners 1
 links 44444 OK\n"#;
 
 #[test]
@@ -58,6 +60,7 @@ run agent -n a -f x.conf
 status 0
 said
 ends \n
+listeners 2
 links 44444 OK\n OK\n
 rolled 5000-1=y\nx\n
 
@@ -77,6 +80,7 @@ run agent -n a -f x.conf
 status 0
 said
 ends "CHANNEL.c2":{"ChannelCapacity":"100","ChannelSize":"2","EventPutAttemptCount":"2","EventPutSuccessCount":"2","EventTakeAttemptCount":"0","EventTakeSuccessCount":"0"}}\n
+listeners 2
 links 44444 OK\n OK\n
 rolled 5000-1=y\nx\n"#;
 
