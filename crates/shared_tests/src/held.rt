@@ -73,7 +73,7 @@ fn puts_beside_a_sync<A: Channel + Drop + Send, B: Channel + Drop + Send, R: Thr
 }
 
 // Two flags that are not set.
-fn gate(alloc: Global) -> Result<Gate, Fail> {
+fn new_gate(alloc: Global) -> Result<Gate, Fail> {
     let waits = Flag::new(alloc)?;
     let answered = Flag::new(alloc)?;
     Ok(Gate { waits, answered })
@@ -89,7 +89,7 @@ fn held_disk(alloc: Global, gate: &Gate) -> Result<HeldDisk, Fail> {
 #[test]
 fn gate_sync(rt: HostRuntime) -> Result<(), Fail> {
     let alloc = rt.alloc();
-    let gate = gate(alloc)?;
+    let gate = new_gate(alloc)?;
     // no sync of the opening waits
     gate.answered.set();
     let Some((held, mut passes)) = opened(alloc, held_disk(alloc, &gate)?) else {
