@@ -7,6 +7,8 @@ mod held;
 #[cfg(test)]
 mod in_memory;
 #[cfg(test)]
+mod intakes;
+#[cfg(test)]
 mod many;
 #[cfg(test)]
 mod mended;
