@@ -19,7 +19,7 @@ use Rattle.checkpoint.specs.Text.{CheckText, Rise, live_bytes, pointer_bytes}
 use Rattle.checkpoint_reading.specs.declared.draft.Draft.{Draft}
 use Rattle.checkpoint_reading.specs.Draft.{HasLive, IsFresh, IsOf, OpenGive, live_text}
 use Rattle.checkpoint_reading.specs.Fields.{Bad, FitsFields, Is64, IsLive, ListsGive, LiveGive, head_text, with_live}
-use Rattle.checkpoint_reading.specs.Logs.{IsKnown, IsPutIn}
+use Rattle.checkpoint_reading.specs.Logs.{IsKnown, IsPutIn, IsSized}
 use Rattle.checkpoint_reading.specs.Reader.{Goes, Holds, IsSameFile, Reader, Takes, rest}
 use Rattle.checkpoint_reading.proofs.Sound.{all_more, rise_more, rise_within}
 use Rattle.checkpoint_reading.proofs.Taking.{length_pointer}
@@ -66,9 +66,9 @@ map_one (x ∷ live) l = ap (λ (r : List (ℕ × Pointer)). live_at x ∷ r) (m
 
 -- an event that was added
 pub live_pushed : (place : Place) (next : Next) (d e : Draft) (low number : ℕ) (pointer : Pointer) → IsOf place next d → HasLive d low → low ≤ number → number < d.next.number
-    → e ≡ record d { ring = e.ring; slots = e.slots } → e.ring ≡ record { slots = e.slots; top = number + 1; live = d.ring.live ++ record { number = number; pointer = pointer; held = false } ∷ [] } → length d.ring.live + 1 ≤ e.slots
+    → e ≡ record d { ring = e.ring; slots = e.slots } → e.ring ≡ record { slots = e.slots; top = number + 1; live = d.ring.live ++ record { number = number; pointer = pointer; held = false } ∷ [] } → length d.ring.live + 1 ≤ e.slots → IsSized pointer
     → IsOf place next e × HasLive e (number + 1) × (live_text e ≡ with_live (live_text d) (number, pointer))
-live_pushed place next d e low number pointer of live above below rest ring room =
+live_pushed place next d e low number pointer of live above below rest ring room long =
     let place_same : e.place ≡ d.place = ap (λ (x : Draft). x.place) rest in
     let next_same : e.next ≡ d.next = ap (λ (x : Draft). x.next) rest in
     let table_same : e.table ≡ d.table = ap (λ (x : Draft). x.table) rest in
@@ -82,6 +82,7 @@ live_pushed place next d e low number pointer of live above below rest ring room
         free = subst (λ (x : List Left). AllByRecursion (λ l. l.held ≡ false) x) (sym list) (all_more (λ (l : Left). l.held ≡ false) d.ring.live (record { number = number; pointer = pointer; held = false }) live.free refl);
         slots = ap (λ (x : Index). x.slots) ring;
         within = omega (arith, room, ap (λ (x : List Left). length x) list, length-append d.ring.live ((record { number = number; pointer = pointer; held = false }) ∷ []));
+        sized = subst (λ (x : List Left). AllByRecursion (λ l. IsSized l.pointer) x) (sym list) (all_more (λ (l : Left). IsSized l.pointer) d.ring.live (record { number = number; pointer = pointer; held = false }) live.sized long);
         closed = table_same ∙ live.closed;
       },
       texts e d place_same next_same events,
@@ -140,10 +141,10 @@ live_begun was start now d count fresh fits takes = record {
 -- the loop goes on over an event that is right
 pub live_more : (was later : Option Told) (start now then' : Reader) (place : Place) (next : Next) (d e : Draft) (low more number : ℕ) (pointer : Pointer) → LiveLoop was start now place next d low more → later ≡ was → 1 ≤ more
     → Takes later now then' (live_bytes (number, pointer)) → WhereTold later (λ t. IsLive t.reads (live_text d) low (number, pointer)) → low ≤ number → number < d.next.number
-    → e ≡ record d { ring = e.ring; slots = e.slots } → e.ring ≡ record { slots = e.slots; top = number + 1; live = d.ring.live ++ record { number = number; pointer = pointer; held = false } ∷ [] } → length d.ring.live + 1 ≤ e.slots
+    → e ≡ record d { ring = e.ring; slots = e.slots } → e.ring ≡ record { slots = e.slots; top = number + 1; live = d.ring.live ++ record { number = number; pointer = pointer; held = false } ∷ [] } → length d.ring.live + 1 ≤ e.slots → IsSized pointer
     → LiveLoop was start then' place next e (number + 1) (more - 1)
-live_more was later start now then' place next d e low more number pointer loop same some takes right above below rest ring room =
-    let p = live_pushed place next d e low number pointer loop.of loop.live above below rest ring room in
+live_more was later start now then' place next d e low more number pointer loop same some takes right above below rest ring room long =
+    let p = live_pushed place next d e low number pointer loop.of loop.live above below rest ring room long in
     record { of = p.0; live = p.1; goes = live_step was later start now then' place next d e low more (number, pointer) same some loop.goes takes right p.2 }
 
 -- where none is to come, the count of open puts is next
@@ -160,5 +161,6 @@ live_all d low live = record {
   free = live.free;
   slots = live.slots;
   within = live.within;
+  sized = live.sized;
   closed = live.closed;
 }

@@ -1,5 +1,5 @@
 -- What a pointer names.
-use Rattle.std.specs.Prelude.{◌↔◌, IsSome, IsSomeAnd, true, false}
+use Rattle.std.specs.Prelude.{◌↔◌, IfSome, IsSome, IsSomeAnd, true, false}
 use Rattle.std.proofs.Common.{◌⊎◌, inl, inr, ◌≡◌, ◌≢◌, ◌≤◌, ◌<◌, ◌+◌, ◌++◌, ◌∷◌, [], ℕ, List, length, take, drop, nat_lt, ◌==◌, Option, Some, None, refl, sym, ap, subst, ◌∙◌, arith, append_assoc, length-append}
 use Rattle.std.proofs.lemmas.Bool.Decides.{eqb_tells}
 use Rattle.std.proofs.lemmas.Bool.{ltb-true}
@@ -16,7 +16,7 @@ use Rattle.record_form.specs.Record.{Spells, record_length, spelling}
 use Rattle.record_form.proofs.Again.{length-spelling, one-spelling}
 use Rattle.channel_log.proofs.Pointed.{front, no_put, seen_long}
 use Rattle.channel_log.specs.Pointers.{PutAt}
-use Rattle.checkpoint_reading.specs.Logs.{IsBefore, IsPutAt, IsPutIn, IsPutRec}
+use Rattle.checkpoint_reading.specs.Logs.{IsBefore, IsPutAt, IsPutIn, IsPutRec, IsSized}
 
 less_true : (a b : ℕ) → a < b → nat_lt a b ≡ true
 less_true a b less = grind (arith)
@@ -138,6 +138,11 @@ put_too_long files p long = λ event put. from (files (Log p.file)) event put
     from : (file : Option (List ℕ)) (event : Content) → IsSomeAnd file (λ bytes. PutAt bytes p event) → ⊥
     from None event put = absurd put
     from (Some bytes) event put = omega (arith, put.limits, put.long, long)
+
+-- the PUT that was found has an event of the pointer's length
+pub sized_put : (bytes : List ℕ) (p : Pointer) (txn : Option ℕ) → ((q : Pointer) → q.at ≡ 0 → q.length ≡ p.length → IsPutAt bytes q txn) → IfSome txn (λ _. IsSized p)
+sized_put bytes p None is = tt
+sized_put bytes p (Some txn) is = let here = is (front p) refl refl in (here.0, here.1.long)
 
 -- one transaction has the PUT at a pointer
 pub one_txn : (bytes : List ℕ) (p : Pointer) (event other : Content) → (one : PutAt bytes p event) → (two : PutAt bytes p other) → one.txn ≡ two.txn

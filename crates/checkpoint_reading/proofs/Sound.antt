@@ -38,11 +38,13 @@ pub all_more : {A : Type 0} (P : A → Type 0) (xs : List A) (x : A) → AllByRe
 all_more P [] x all is = (is, tt)
 all_more P (y ∷ xs) x all is = (all.0, all_more P xs x all.1 is)
 
-map_more : {A : Type 0} (xs : List (ℕ × A)) (x : ℕ × A) → map number_of (xs ++ x ∷ []) ≡ map number_of xs ++ x.0 ∷ []
+-- the numbers with one more
+pub map_more : {A : Type 0} (xs : List (ℕ × A)) (x : ℕ × A) → map number_of (xs ++ x ∷ []) ≡ map number_of xs ++ x.0 ∷ []
 map_more [] x = refl
 map_more (y ∷ xs) x = ap (λ (l : List ℕ). y.0 ∷ l) (map_more xs x)
 
-all_of_more : {A : Type 0} (takes : List (ℕ × List A)) (o : ℕ × List A) → all_of (takes ++ o ∷ []) ≡ all_of takes ++ o.1
+-- what is listed with one more
+pub all_of_more : {A : Type 0} (takes : List (ℕ × List A)) (o : ℕ × List A) → all_of (takes ++ o ∷ []) ≡ all_of takes ++ o.1
 all_of_more [] o = append-nil o.1
 all_of_more {A} (x ∷ takes) o = ap (λ (l : List A). x.1 ++ l) (all_of_more takes o) ∙ sym (append_assoc x.1 (all_of takes) o.1)
 

@@ -105,7 +105,8 @@ end_one c bytes one other (inl e) (inr f) = absurd (omega (arith, f.0, ap (λ (l
 end_one c bytes one other (inr e) (inl f) = absurd (omega (arith, e.0, ap (λ (l : List ℕ). length l) f.0))
 end_one c bytes one other (inr e) (inr f) = e.1 ∙ sym f.1
 
-puts_fit : (files : Files) (txn : ℕ) (pointers : List Pointer) → AllByRecursion (IsPut files txn) pointers → AllByRecursion FitsFields pointers
+-- what a transaction may put fits its fields
+pub puts_fit : (files : Files) (txn : ℕ) (pointers : List Pointer) → AllByRecursion (IsPut files txn) pointers → AllByRecursion FitsFields pointers
 puts_fit files txn [] all = tt
 puts_fit files txn (p ∷ pointers) all = (all.0.0, puts_fit files txn pointers all.1)
 

@@ -9,6 +9,7 @@ use Rattle.checkpoint.specs.Says.{live_at}
 use Rattle.checkpoint.specs.Text.{CheckText, Rise}
 use Rattle.checkpoint_reading.specs.declared.draft.Draft.{Draft}
 use Rattle.checkpoint_reading.specs.Fields.{Field, Is32, Outcome, PutsGive}
+use Rattle.checkpoint_reading.specs.Logs.{IsSized}
 
 -- what was read, as long as only events that are left were
 abbrev pub live_text : Draft → CheckText
@@ -22,6 +23,7 @@ pub record HasLive (d : Draft) (low : ℕ) : Type 0 where
   pub free : AllByRecursion (λ l. l.held ≡ false) d.ring.live
   pub slots : d.ring.slots ≡ d.slots
   pub within : length d.ring.live ≤ d.slots
+  pub sized : AllByRecursion (λ l. IsSized l.pointer) d.ring.live
   pub closed : d.table ≡ []
 
 -- it has this place and these next numbers

@@ -3,3 +3,5 @@ pub mod Reader
 pub mod Laws
 pub mod Logs
 pub mod Draft
+pub mod Opens
+pub mod Newest

@@ -17,6 +17,10 @@ abbrev pub IsKnown : Option Told → Option ℕ → Type 0
 IsKnown told None = Unit {0}
 IsKnown told (Some file) = HasLog told file
 
+-- its length is that of an event
+abbrev pub IsSized : Pointer → Type 0
+IsSized p = (event : Content) × (size event ≡ p.length)
+
 -- the name before that of a log file, if there may be one
 abbrev pub IsBefore : Option FileName → ℕ → Type 0
 IsBefore None file = file ≡ 0

@@ -1,11 +1,14 @@
 // A checkpoint as far as it was read.
-ghost use Rattle.std.specs.Prelude.{◌≡◌, ◌<◌, ◌≤◌, ◌+◌, ◌-◌, ◌^◌, ◌++◌, [], ◌∷◌, length, IfOk, OnOk, false};
+ghost use Rattle.std.specs.Prelude.{◌≡◌, ◌<◌, ◌≤◌, ◌+◌, ◌-◌, ◌^◌, ◌++◌, [], ◌∷◌, ℕ, List, length, map, IfOk, OnOk, None, true, false};
+ghost use Rattle.open_table.specs.Tables.{Listed, Table, open_at, with_item};
+ghost use Rattle.checkpoint.specs.Says.{live_at};
 ghost use Rattle.checkpoint_reading.specs.Draft.{IsFresh};
+ghost use Rattle.checkpoint_reading.specs.Opens.{HasTaken, IsListing, Lists, MayList, MayTake, nothing};
 
 use checkpoint::{Next, Place};
 use event_core::NoMemory;
 use event_ring::Ring;
-use open_table::OpenTable;
+use open_table::{Item, OpenTable, TableRefused};
 use record_form::Pointer;
 use std::alloc::Global;
 
@@ -68,5 +71,48 @@ impl Draft {
         self.widen()?;
         self.ring.push(number, pointer);
         Ok(())
+    }
+
+    /// Begins an open transaction that has nothing yet. Whether it may be one more: 1,024 are open where it may not.
+    pub(crate) fn begin(&mut self, txn: u64, puts: bool) -> Result<bool, NoMemory>
+        requires { open_at self.old.table txn ≡ None }
+        ensures begun { IfOk result (λ few. few ≡ true → Lists txn (nothing puts) self.old.table self.new.table × (length self.old.table < 1024)) }
+        ensures many { IfOk result (λ few. few ≡ false → 1024 ≤ length self.old.table) }
+        ensures rest { self.new ≡ record self.old { table = self.new.table } }
+    {
+        match self.table.begin(txn, puts, 0) {
+            Ok(()) => Ok(true),
+            Err(TableRefused::TooManyOpen) => Ok(false),
+            Err(TableRefused::NoMemory) => Err(NoMemory),
+        }
+    }
+
+    /// Adds a put or a take to an open transaction. Its room grows with what is read.
+    pub(crate) fn add(&mut self, txn: u64, item: Item) -> Result<(), NoMemory>
+        requires { MayList item (open_at self.old.table txn) }
+        ensures added { OnOk result ((base : Table) (listed : Listed) → Lists txn listed base self.old.table → Lists txn (with_item item listed) base self.new.table) }
+        ensures here { OnOk result ((listed : Listed) → IsListing txn listed self.old.table → IsListing txn (with_item item listed) self.new.table) }
+        ensures rest { self.new ≡ record self.old { table = self.new.table } }
+    {
+        self.table.widen(txn)?;
+        self.table.add(txn, item);
+        Ok(())
+    }
+
+    /// Holds an event, if it is left and no open transaction takes it.
+    pub(crate) fn hold(&mut self, number: u64) -> bool
+        ensures held { result ≡ true → (taken : List ℕ) → HasTaken taken self.old.ring.live → HasTaken (taken ++ number ∷ []) self.new.ring.live }
+        ensures other { result ≡ false → (taken behind : List ℕ) → HasTaken taken self.old.ring.live → MayTake self.old.ring.live taken (number ∷ behind) → ⊥ }
+        ensures events { map live_at self.new.ring.live ≡ map live_at self.old.ring.live }
+        ensures rest { self.new ≡ record self.old { ring = record self.old.ring { live = self.new.ring.live } } }
+    {
+        let Some((_, held)) = self.ring.look(number) else {
+            return false;
+        };
+        if held {
+            return false;
+        }
+        self.ring.mark(number);
+        true
     }
 }

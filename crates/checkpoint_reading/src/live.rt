@@ -1,11 +1,11 @@
 // Reads the events that a checkpoint says are left.
-ghost use Rattle.std.specs.Prelude.{◌≡◌, ◌≤◌, ◌+◌, ◌^◌, ◌<◌, ℕ, List, ◌++◌, IfErr, IfOk, MatchOption, IsTrue, ◌↔◌, OnOk};
+ghost use Rattle.std.specs.Prelude.{◌≡◌, ◌≤◌, ◌+◌, ◌^◌, ◌<◌, ℕ, List, ◌++◌, IfErr, IfOk, IfSome, MatchOption, IsTrue, ◌↔◌, OnOk};
 ghost use Rattle.flume_host.specs.Told.{WhereTold};
 ghost use Rattle.record_form.specs.declared.record.Pointer as pointers;
 ghost use Rattle.checkpoint.specs.Text.{live_bytes};
 ghost use Rattle.checkpoint_reading.specs.Draft.{HasLive, IsFresh, IsOf, OpenGive, live_text};
 ghost use Rattle.checkpoint_reading.specs.Fields.{IsLive, ListsGive};
-ghost use Rattle.checkpoint_reading.specs.Logs.{IsKnown};
+ghost use Rattle.checkpoint_reading.specs.Logs.{IsKnown, IsSized};
 ghost use Rattle.checkpoint_reading.specs.Reader.{Faults, Goes, Holds, IsHonest, IsPlain, IsSameFile, Takes, rest};
 
 use crate::draft::Draft;
@@ -16,8 +16,8 @@ use flume_host::Disk;
 use record_form::Pointer;
 use std::alloc::Global;
 
-// Whether a number is not below this one, and is below that.
-fn is_between(number: u64, low: u64, high: u64) -> bool
+/// Whether a number is not below this one, and is below that.
+pub(crate) fn is_between(number: u64, low: u64, high: u64) -> bool
     ensures { IsTrue result ↔ ((low ≤ number) × (number < high)) }
 {
     low <= number && number < high
@@ -42,6 +42,7 @@ fn next_right<D: Disk>(
         (WhereTold (D.told disk.old) (λ t. (l : ℕ × pointers.Pointer) (more : List ℕ) → rest t reader.old ≡ live_bytes l ++ more → IsLive t.reads (live_text draft.now) low l → ⊥))
         (λ l. Takes (D.told disk.old) reader.old reader.new (live_bytes l) × WhereTold (D.told disk.old) (λ t. IsLive t.reads (live_text draft.now) low l))) }
     ensures between { IfOk result (λ next. MatchOption next (0 ≤ low) (λ l. (low ≤ l.0) × (l.0 < draft.now.next.number) × (draft.now.next.number < 2 ^ 64))) }
+    ensures sized { IfOk result (λ next. IfSome next (λ l. IsSized l.1)) }
     ensures plain { IfErr result IsPlain }
     ensures same { D.told disk.new ≡ D.told disk.old }
     ensures cause { IsHonest (D.faults disk.old) (D.faults disk.new) result }

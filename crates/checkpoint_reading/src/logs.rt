@@ -1,10 +1,10 @@
 // The PUT that a pointer names, in the log files of a folder.
-ghost use Rattle.std.specs.Prelude.{◌≡◌, ◌↔◌, ℕ, List, take, drop, IfErr, IfOk, IsSome, Some, true};
+ghost use Rattle.std.specs.Prelude.{◌≡◌, ◌↔◌, ℕ, List, take, drop, IfErr, IfOk, IfSome, IsSome, Some, true};
 ghost use Rattle.flume_host.specs.Causes.{HasCause};
 ghost use Rattle.flume_host.specs.Told.{WhereTold};
 ghost use Rattle.flume_host.specs.declared.names.FileName.TheVariants.{Log};
 ghost use Rattle.record_form.specs.declared.record.Pointer as pointers;
-ghost use Rattle.checkpoint_reading.specs.Logs.{IsBefore, IsKnown, IsPutAt, IsPutIn, IsPutRec};
+ghost use Rattle.checkpoint_reading.specs.Logs.{IsBefore, IsKnown, IsPutAt, IsPutIn, IsPutRec, IsSized};
 ghost use Rattle.checkpoint_reading.specs.Reader.{HasLog, IsHonest, IsPlain};
 
 use crate::refused::CheckReadRefused;
@@ -118,6 +118,7 @@ pub(crate) fn put_txn<D: Disk>(
     requires { IsKnown (D.told disk.old) known.old }
     ensures known { IsKnown (D.told disk.new) known.new }
     ensures put { IfOk result (λ txn. WhereTold (D.told disk.old) (λ t. IsPutIn t.reads p txn)) }
+    ensures sized { IfOk result (λ txn. IfSome txn (λ _. IsSized p)) }
     ensures plain { IfErr result IsPlain }
     ensures same { D.told disk.new ≡ D.told disk.old }
     ensures cause { IsHonest (D.faults disk.old) (D.faults disk.new) result }

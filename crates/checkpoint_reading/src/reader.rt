@@ -12,6 +12,7 @@ use crate::refused::CheckReadRefused;
 use byteorder::{BigEndian, ByteOrder};
 use flume_host::{Disk, Failed, FileName};
 use record_form::Pointer;
+use std::alloc::Global;
 use std::marker::Model;
 
 // How many bytes are read at a time.
@@ -72,6 +73,44 @@ fn begins(bytes: &[u8], text: &[u8; 8]) -> bool
 }
 
 impl CheckReader {
+    /// Reads the file of this number, from behind its commit byte.
+    pub(crate) fn begin<D: Disk>(
+        alloc: Global,
+        disk: &mut D,
+        number: u32,
+    ) -> Result<CheckReader, CheckReadRefused>
+        requires { WhereTold (D.told disk.old) (λ t. IsSome (t.reads (Check number))) }
+        ensures held { IfOk result (λ r. Holds (D.told disk.new) r) }
+        ensures number { IfOk result (λ r. r.number ≡ number) }
+        ensures place { IfOk result (λ r. r.at ≡ min r.size 1) }
+        ensures same { D.told disk.new ≡ D.told disk.old }
+        ensures plain { IfErr result IsPlain }
+        ensures cause { IsHonest (D.faults disk.old) (D.faults disk.new) result }
+    {
+        let mut piece = Vec::new(alloc);
+        if piece.resize(PIECE, 0).is_err() {
+            return Err(CheckReadRefused::NoMemory);
+        }
+        let Ok(size) = disk.len(FileName::Check(number)) else {
+            return Err(CheckReadRefused::DiskFault);
+        };
+        Ok(CheckReader {
+            number,
+            size,
+            at: size.min(1),
+            piece,
+            filled: 0,
+            place: 0,
+        })
+    }
+
+    /// Whether no field is left.
+    pub(crate) fn is_at_end(&self) -> bool
+        ensures { IsTrue result ↔ (self.now.at ≡ self.now.size) }
+    {
+        self.at == self.size
+    }
+
     /// The number of the file.
     pub fn number(&self) -> u32
         ensures { result ≡ self.now.number }
@@ -266,6 +305,7 @@ impl CheckReader {
         requires { Holds (D.told disk.old) self.old }
         ensures held { OnOk result (Holds (D.told disk.new) self.new) }
         ensures taken { IfOk result (λ next. MatchOption next (IsShort (D.told disk.old) self.old 12) (λ e. Takes (D.told disk.old) self.old self.new (u64_bytes e.0 ++ u32_bytes e.1))) }
+        ensures fits { IfOk result (λ next. IfSome next (λ e. (e.0 < 2 ^ 64) × (e.1 < 2 ^ 32))) }
         ensures file { IsSameFile self.old self.new }
         ensures same { D.told disk.new ≡ D.told disk.old }
         ensures plain { IfErr result IsPlain }

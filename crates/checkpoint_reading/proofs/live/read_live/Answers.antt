@@ -1,7 +1,7 @@
 use Rattle.std.proofs.Common.{◌∙◌, ◌≤◌, inr, refl, arith}
 use Rattle.flume_host.specs.Folder.{Files}
 use Rattle.checkpoint_reading.specs.Fields.{ListsGive, Outcome}
-use Rattle.checkpoint_reading.proofs.Living.{live_all, live_ended, live_more, live_stop}
+use Rattle.checkpoint_reading.proofs.Living.{if_some, live_all, live_ended, live_more, live_stop}
 use Rattle.checkpoint_reading.proofs.Stepping.{faults_here, faults_there, same_then, short_u32, when_none, when_some}
 use Rattle.checkpoint_reading.proofs.live.read_live.Goals as goal
 
@@ -30,7 +30,7 @@ loop-more-preserved g c =
         known_is = c.next_right.ensures.known;
       };
       loop = live_more _ _ c.args.reader.now c.loop-more.reader c.next_right.new.reader _ _ c.loop-more.draft c.push.new.self c.loop-more.low c.loop-more.more c.in-Some-2.number c.in-Some-2.pointer c.loop-more.invariant.loop c.loop-more.invariant.way.same some
-          right.0 right.1 between.0 between.1 c.push.ensures.rest c.in-Ok.ensures.ring c.in-Ok.ensures.within;
+          right.0 right.1 between.0 between.1 c.push.ensures.rest c.in-Ok.ensures.ring c.in-Ok.ensures.within (if_some _ (c.in-Some-2.number, c.in-Some-2.pointer) _ c.in-Some-2.is c.in_ok-number.ensures.sized);
     }
 
 pub returns-clause-goes : goal.returns-clause-goes

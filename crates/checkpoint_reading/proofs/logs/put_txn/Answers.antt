@@ -1,6 +1,6 @@
 use Rattle.std.proofs.Common.{◌∙◌, refl}
 use Rattle.channel_log.proofs.Pointed.{front}
-use Rattle.checkpoint_reading.proofs.Naming.{put_in}
+use Rattle.checkpoint_reading.proofs.Naming.{put_in, sized_put}
 use Rattle.checkpoint_reading.proofs.logs.put_txn.Goals as goal
 
 pub returns-clause-put : goal.returns-clause-put
@@ -8,3 +8,6 @@ returns-clause-put g c = λ t is.
     put_in t.reads c.args.p c.deref.result.now c.in_ok-txn.txn ((c.in-Ok.ensures.there t is).0 c.if-not-there.false)
     (λ bytes has. c.deref.ensures.value ∙ c.in_ok-block.ensures.read t (c.in-Ok.ensures.same ∙ is) bytes has)
     (c.in_ok-txn.ensures.put (front c.args.p) refl refl)
+
+pub returns-clause-sized : goal.returns-clause-sized
+returns-clause-sized g c = sized_put c.deref.result.now c.args.p c.in_ok-txn.txn c.in_ok-txn.ensures.put
