@@ -146,11 +146,12 @@ put_refused s o event PutNo.NoMemory is = tt
 put_refused s o event PutNo.DiskFault is = absurd (put_not s o event PutNo.DiskFault tt is)
 put_refused s o event (PutNo.Spent counter) is = absurd (put_not s o event (PutNo.Spent counter) tt is)
 
--- a put that was refused by its state came to no flush
-pub put_quietly : (s : State) (o : Option (List Content)) (event : Content) (e : PutRefused) → put_refusal s o event ≡ Some e → (e ≡ PutNo.DiskFault → ⊥) × ((counter : Counter) → e ≡ PutNo.Spent counter → ⊥)
+-- a put that was refused by its state came to no flush, and did not lack memory
+pub put_quietly : (s : State) (o : Option (List Content)) (event : Content) (e : PutRefused) → put_refusal s o event ≡ Some e → (e ≡ PutNo.DiskFault → ⊥) × ((counter : Counter) → e ≡ PutNo.Spent counter → ⊥) × (e ≡ PutNo.NoMemory → ⊥)
 put_quietly s o event e is = (
   (λ same. put_not s o event PutNo.DiskFault tt (is ∙ ap (λ (x : PutRefused). Some x) same)),
   (λ counter same. put_not s o event (PutNo.Spent counter) tt (is ∙ ap (λ (x : PutRefused). Some x) same)),
+  (λ same. put_not s o event PutNo.NoMemory tt (is ∙ ap (λ (x : PutRefused). Some x) same)),
 )
 
 pub put_refuses : (told : Option Told) (old : Logged) (token : Token) (event : Content) (e : PutRefused) (s : State) → IsStateOf told old s → put_refusal s (puts_of s token) event ≡ Some e → Steps told told old old (Put token event (Err e)) s

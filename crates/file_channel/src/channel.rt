@@ -40,7 +40,7 @@ pub struct OpenRefused<D> {
     pub cause: OpenCause,
 }
 
-/// A channel in a folder of a disk that keeps no bodies of events in memory (Flume User Guide, "File Channel"). Each change has
+/// A channel in a folder of a disk that keeps pointers to its events in memory (Flume User Guide, "File Channel"). Each change has
 /// its record in a log file, an event is read there when it is taken, and what a flush settled a stop leaves there.
 #[derive(Drop)]
 pub struct FileChannel<D: Disk + Drop> {
@@ -294,6 +294,7 @@ impl<D: Disk + Drop> Channel for FileChannel<D> {
             (λ s. s.broken ≡ false → IsSome (puts_of s txn.old)
             → WhereTold (D.told self.old.0) (λ t. (result ≡ Err (PutRefused.Spent File))
             ↔ IsSpentLog t s.rules.limits.max_file)) }
+        ensures memory { result ≡ Err PutRefused.NoMemory → ⊥ }
         ensures quiet { flushes (Face.Put txn.old event.now result) ≡ false
             → D.told self.new.0 ≡ D.told self.old.0 }
         ensures any_moment { Shows (StandsOver (D.told self.old.0) (D.faults self.old.0) self.old.1)

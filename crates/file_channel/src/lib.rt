@@ -1,4 +1,4 @@
-//! A channel on a disk. In memory it keeps pointers to its events, and no bodies.
+//! A channel on a disk. In memory it keeps pointers to its events.
 #![tactic(auto)]
 
 mod channel;

@@ -180,6 +180,7 @@ impl<D: Disk + Drop> LoggedPlaces<D> {
         ensures step { StepsOn (D.told self.old.0) (D.told self.new.0) self.old.1 self.new.1
             (Face.Put txn.now event.now result) }
         ensures never { (counter : Counter) → result ≡ Err (PutRefused.Spent counter) → ⊥ }
+        ensures memory { result ≡ Err PutRefused.NoMemory → ⊥ }
         ensures quiet { flushes (Face.Put txn.now event.now result) ≡ false
             → self.new.0 ≡ self.old.0 }
         ensures any_moment { ShowsOf (D.told self.old.0) self.old.1
@@ -309,6 +310,7 @@ impl<D: Disk + Drop> LoggedPlaces<D> {
         ensures spent { ShowsOf (D.told self.old.0) self.old.1 (λ s. s.broken ≡ false
             → IsSome (puts_of s txn.now) → WhereTold (D.told self.old.0)
             (λ t. (result ≡ Err (PutRefused.Spent File)) ↔ IsSpentLog t s.rules.limits.max_file)) }
+        ensures memory { result ≡ Err PutRefused.NoMemory → ⊥ }
         ensures quiet { flushes (Face.Put txn.now event.now result) ≡ false
             → D.told self.new.0 ≡ D.told self.old.0 }
         ensures any_moment { ShowsOf (D.told self.old.0) self.old.1

@@ -36,6 +36,18 @@ returns-in-Some-clause-never g c = λ counter spent.
     let refused : put_refusal s (puts_of s token) event ≡ Some c.in-Some.refused = sym (c.put_refusal.ensures.refusal is.settled is.known s event is.looks (sym c.size.ensures.size)) ∙ c.in-Some.is in
     (put_quietly s (puts_of s token) event c.in-Some.refused refused).1 counter (let same : c.in-Some.refused ≡ PutNo.Spent counter = cc in same)
 
+pub returns-in-Some-clause-memory : goal.returns-in-Some-clause-memory
+returns-in-Some-clause-memory g c = λ none.
+    let m = c.self.inside in
+    let told = g.D.Disk.told m.writing.disk in
+    let token = c.args.txn.now in
+    let event : Content = c.args.event.now in
+    let old : Logged = record { places = m.held; log = m.writing.log; busy = m.writing.busy } in
+    let s : State = c.self.invariant.0 in
+    let is = c.self.invariant.1 in
+    let refused : put_refusal s (puts_of s token) event ≡ Some c.in-Some.refused = sym (c.put_refusal.ensures.refusal is.settled is.known s event is.looks (sym c.size.ensures.size)) ∙ c.in-Some.is in
+    (put_quietly s (puts_of s token) event c.in-Some.refused refused).2 (let same : c.in-Some.refused ≡ PutNo.NoMemory = cc in same)
+
 pub returns-in-Some-clause-any_moment : goal.returns-in-Some-clause-any_moment
 returns-in-Some-clause-any_moment g c = rw (← c.self.view_is) (λ s is flushed.
     let m = c.self.inside in
