@@ -461,7 +461,7 @@ type Refused = (
 // Nothing of the worked configuration is replaced.
 const AS_IS: (&str, &str) = ("c2.type = file", "c2.type = file");
 
-const REFUSED: [Refused; 6] = [
+const REFUSED: [Refused; 5] = [
     (&["agent", "-n", "a1"], AS_IS, (1, USAGE)),
     (
         &["agent", "-n", "a1", "-f", "x.conf", "-n", "a1"],
@@ -477,15 +477,6 @@ const REFUSED: [Refused; 6] = [
         &["agent", "-n", "a1", "-f", "x.conf", "-Dx=y"],
         ("c2.type = file", "c2.type = kafka"),
         (2, "flume: line 11: unknown type"),
-    ),
-    // A group of sinks is not run yet. It is refused with the line of its first sink.
-    (
-        &["agent", "-n", "a1", "--conf-file", "x.conf"],
-        (
-            "a1.sinks.k1.type = file_roll",
-            "a1.sinkgroups = g\na1.sinkgroups.g.sinks = k1\na1.sinks.k1.type = file_roll",
-        ),
-        (2, "flume: line 15: unsupported"),
     ),
     // A sink that nobody handed in.
     (

@@ -1,3 +1,4 @@
 pub mod Names
 pub mod Sinks
 mod Limits
+mod Once

@@ -64,7 +64,7 @@ either : (P : List ℕ → Type 0) (seen : Bool) (name : List ℕ) (rest : List 
 either P true name rest p h = h
 either P false name rest p h = All-cons P name rest p h
 
-kept : (P : List ℕ → Type 0) (before names : List (List ℕ)) → All P names → All P (first_times before names)
+pub kept : (P : List ℕ → Type 0) (before names : List (List ℕ)) → All P names → All P (first_times before names)
 kept P before [] h = h
 kept P before (name ∷ names) h =
     either P (is_among name before) name (first_times (before ++ name ∷ []) names) (All-head P name names h) (kept P (before ++ name ∷ []) names (All-tail P name names h))

@@ -1,6 +1,7 @@
 // Laws of a plan.
 ghost use Rattle.plan_laws.specs.Names.{GroupsNameWhatIsThere, SinksNameWhatIsThere, SourcesNameWhatIsThere};
 ghost use Rattle.plan_laws.specs.Limits.{NumbersAreLimited};
+ghost use Rattle.plan_laws.specs.Once.{SinksStandOnce};
 
 /// In each plan that `plan_of` may answer, the channels of a source are channels of the plan, and those that its selector names are
 /// channels of the source. So an intake over as many ports as the source has channels may be made without a further test.
@@ -23,4 +24,9 @@ pub fn groups_name_what_is_there()
 /// channel holds 1 to 10,000,000, a transaction 1 to 100,000, and a longest line has 1 to 1,048,568 bytes.
 pub fn numbers_are_limited()
     ensures { NumbersAreLimited }
+{}
+
+/// No sink of a plan stands in a group twice, or in two.
+pub fn sinks_stand_once()
+    ensures { SinksStandOnce }
 {}

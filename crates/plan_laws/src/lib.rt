@@ -4,6 +4,6 @@
 mod laws;
 
 pub use laws::{
-    groups_name_what_is_there, numbers_are_limited, sinks_name_what_is_there,
+    groups_name_what_is_there, numbers_are_limited, sinks_name_what_is_there, sinks_stand_once,
     sources_name_what_is_there,
 };

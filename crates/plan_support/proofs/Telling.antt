@@ -1,13 +1,13 @@
 -- What it tells that there is no least line.
-use Rattle.std.proofs.Common.{◌≡◌, ◌++◌, ℕ, min, List, [], ◌∷◌, Bool, true, false, cond, All, map, flat_map, fold, take, Option, Some, None, IfNone, refl, sym, subst}
+use Rattle.std.proofs.Common.{◌≡◌, ◌==◌, ◌++◌, ◌||◌, eq-eqb, ℕ, min, List, [], ◌∷◌, Bool, true, false, cond, All, flat_map, fold, Option, Some, None, IfNone, refl, sym, subst}
 use Rattle.std.proofs.lemmas.List.Elements.{All-cons, All-nil}
 use Rattle.flume_config.specs.declared.plan.Plan.{Plan}
 use Rattle.flume_config.specs.declared.plan.SourcePlan.{SourcePlan}
 use Rattle.flume_config.specs.declared.plan.StepPlan.{StepPlan}
 use Rattle.flume_config.specs.declared.plan.StepPlan.TheVariants.{Step, Regex, Plugin}
 use Rattle.flume_config.specs.declared.plan.SinkPlan.{SinkPlan}
-use Rattle.flume_config.specs.declared.plan.GroupPlan.{GroupPlan}
-use Rattle.plan_support.specs.Least.{HasNoPlugin, HasOwnSteps, IsOwn, IsSupported, first_plugin, group_lines, is_plugin, line_at, nearer, plugin_lines, sink_plugin_lines, source_plugin_lines, unsupported}
+use Rattle.std.specs.Option.{option_map}
+use Rattle.plan_support.specs.Least.{AreDistinct, AreOthers, HasNoPlugin, HasOwnSteps, IsOwn, IsSupported, first_plugin, first_twice, group_places, is_among, is_plugin, line_at, nearer, plugin_lines, sink_plugin_lines, source_plugin_lines, unsupported}
 
 -- ---- lists
 
@@ -71,13 +71,27 @@ no_plugin plan is =
           (nil_back (flat_map source_plugin_lines plan.sources.items) (flat_map sink_plugin_lines plan.sinks.items) none);
     }
 
--- ---- what an agent does not run yet
+-- ---- what an agent does not run
 
-no_member : (sinks : List SinkPlan) (places : List ℕ) → map (line_at sinks) (take 1 places) ≡ [] → places ≡ []
-no_member sinks [] is = refl
-no_member sinks (place ∷ places) is = absurd (no_cons (line_at sinks place) (map (line_at sinks) (take 0 places)) is)
+others_of : (place : ℕ) (places : List ℕ) → is_among place places ≡ false → AreOthers place places
+others_of place [] is = tt
+others_of place (other ∷ places) is = by (others_of place places) (other == place) refl is
+  where
+    by : (is_among place places ≡ false → AreOthers place places) → (b : Bool) → (other == place) ≡ b → (b || is_among place places) ≡ false → AreOthers place (other ∷ places)
+    by rest true same is = absurd (cc)
+    by rest false differ is = ((λ same. let equal = eq-eqb other place same in absurd (cc)), rest is)
+
+none_twice : (places : List ℕ) → first_twice places ≡ None → AreDistinct places
+none_twice [] is = tt
+none_twice (place ∷ places) is = by (none_twice places) (is_among place places) refl is
+  where
+    by : (first_twice places ≡ None → AreDistinct places) → (b : Bool) → is_among place places ≡ b → cond b (Some place) (first_twice places) ≡ None → AreDistinct (place ∷ places)
+    by rest true here is = absurd (cc)
+    by rest false no_more is = (others_of place places no_more, rest is)
+
+mapped_none : {A B : Type 0} (f : A → B) (o : Option A) → option_map f o ≡ None → o ≡ None
+mapped_none f None is = refl
+mapped_none f (Some x) is = absurd (cc)
 
 pub none_unsupported : (plan : Plan) → unsupported plan ≡ None → IsSupported plan
-none_unsupported plan is = record {
-  groups = each_none (group_lines plan.sinks.items) (λ (g : GroupPlan). g.sinks.items ≡ []) (λ g no. no_member plan.sinks.items g.sinks.items no) plan.groups.items (no_lines (flat_map (group_lines plan.sinks.items) plan.groups.items) is);
-}
+none_unsupported plan is = record { apart = none_twice (group_places plan.groups.items) (mapped_none (line_at plan.sinks.items) (first_twice (group_places plan.groups.items)) is) }

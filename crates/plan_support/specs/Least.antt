@@ -1,5 +1,7 @@
 -- The least line of what an agent does not run.
-use Rattle.std.specs.Prelude.{◌≡◌, ◌++◌, ℕ, min, Bool, true, false, List, [], ◌∷◌, All, map, flat_map, fold, take, slice_index, if◌then◌else◌, Option, Some, None}
+use Rattle.std.specs.Prelude.{◌≡◌, ◌≢◌, ◌==◌, ◌++◌, ℕ, min, Bool, true, false, List, [], ◌∷◌, All, map, flat_map, fold, slice_index, if◌then◌else◌, Option, Some, None}
+use Rattle.std.specs.List.{AllByRecursion, list_any}
+use Rattle.std.specs.Option.{option_map}
 use Rattle.flume_config.specs.declared.plan.Plan.{Plan}
 use Rattle.flume_config.specs.declared.plan.SourcePlan.{SourcePlan}
 use Rattle.flume_config.specs.declared.plan.StepPlan.{StepPlan}
@@ -52,20 +54,38 @@ pub record HasNoPlugin (p : Plan) : Type 0 where
   pub steps : All HasOwnSteps p.sources.items
   pub sinks : All (λ s. is_plugin s.kind ≡ false) p.sinks.items
 
--- ---- what an agent does not run yet
+-- ---- what an agent does not run
 
 -- the line of the sink at a place, which is one of these, and else 0
 abbrev pub line_at : List SinkPlan → ℕ → ℕ
 line_at sinks place = slice_index (map (λ (s : SinkPlan). s.line) sinks) place
 
--- the line of the first sink of a group, which has no line of its own
-abbrev pub group_lines : List SinkPlan → GroupPlan → List ℕ
-group_lines sinks g = map (line_at sinks) (take 1 g.sinks.items)
+-- one of the places is this one
+abbrev pub is_among : ℕ → List ℕ → Bool
+is_among place places = list_any (λ other. other == place) places
 
--- the least of those lines
+-- the first place that stands there again behind itself
+abbrev pub first_twice : List ℕ → Option ℕ
+first_twice [] = None
+first_twice (place ∷ places) = if is_among place places then Some place else first_twice places
+
+-- the places of the groups' sinks, one group after the other
+abbrev pub group_places : List GroupPlan → List ℕ
+group_places groups = flat_map (λ (g : GroupPlan). g.sinks.items) groups
+
+-- The line of the first sink that stands in groups twice. No plan that is answered has one: it would be a clash.
 abbrev pub unsupported : Plan → Option ℕ
-unsupported p = fold nearer None (flat_map (group_lines p.sinks.items) p.groups.items)
+unsupported p = option_map (line_at p.sinks.items) (first_twice (group_places p.groups.items))
 
--- no group has a sink
+-- none of these is the place
+abbrev pub AreOthers : ℕ → List ℕ → Type 0
+AreOthers place places = AllByRecursion (λ other. other ≢ place) places
+
+-- none stands twice
+abbrev pub AreDistinct : List ℕ → Type 0
+AreDistinct [] = Unit {0}
+AreDistinct (place ∷ places) = AreOthers place places × AreDistinct places
+
+-- no sink stands in groups twice
 pub record IsSupported (p : Plan) : Type 0 where
-  pub groups : All (λ g. g.sinks.items ≡ []) p.groups.items
+  pub apart : AreDistinct (group_places p.groups.items)

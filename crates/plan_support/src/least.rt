@@ -1,6 +1,7 @@
 // The least line of what an agent does not run.
-ghost use Rattle.std.specs.Prelude.{◌≡◌, IfNone, None, flat_map, fold};
-ghost use Rattle.plan_support.specs.Least.{HasNoPlugin, IsSupported, first_plugin, group_lines, is_plugin, line_at, nearer, plugin_lines, sink_plugin_lines, source_plugin_lines, unsupported};
+ghost use Rattle.std.specs.Prelude.{◌≡◌, ◌++◌, IfNone, None, flat_map, fold};
+ghost use Rattle.std.specs.Option.{option_or};
+ghost use Rattle.plan_support.specs.Least.{HasNoPlugin, IsSupported, first_plugin, first_twice, group_places, is_among, is_plugin, line_at, nearer, plugin_lines, sink_plugin_lines, source_plugin_lines, unsupported};
 
 use flume_config::{GroupPlan, Plan, SinkKind, SinkPlan, SourcePlan, StepPlan};
 
@@ -78,33 +79,64 @@ fn line_at(sinks: &[SinkPlan], place: u32) -> u32
     }
 }
 
-// The nearest of a line and that of the first sink of a group.
-fn nearest_member(first: Option<u32>, sinks: &[SinkPlan], group: &GroupPlan) -> Option<u32>
-    ensures { result ≡ fold nearer first (group_lines sinks.now group.now) }
+// Whether one of the places is this one.
+fn is_among(place: u32, places: &[u32]) -> bool
+    ensures { result ≡ is_among place places.now }
 {
-    if group.sinks.is_empty() {
-        first
-    } else {
-        nearer(first, line_at(sinks, group.sinks[0]))
+    for other in places {
+        if *other == place {
+            return true;
+        }
     }
+    false
 }
 
-// The same over groups.
-fn nearest_group(sinks: &[SinkPlan], groups: &[GroupPlan]) -> Option<u32>
-    ensures { result ≡ fold nearer None (flat_map (group_lines sinks.now) groups.now) }
+// Whether a group has the sink at this place.
+fn is_in_group(place: u32, groups: &[GroupPlan]) -> bool
+    ensures { result ≡ is_among place (group_places groups.now) }
 {
-    let mut first: Option<u32> = None;
     for group in groups {
-        first = nearest_member(first, sinks, group);
+        if is_among(place, group.sinks.as_slice()) {
+            return true;
+        }
     }
-    first
+    false
 }
 
-/// The least line of what a run of an agent does not support yet: that of the first sink of a group, as a group has no line of its
-/// own. Where there is none, the plan has no group with a sink.
+// The first of these places that stands again among those behind it, or in a group.
+fn twice_in(places: &[u32], groups: &[GroupPlan]) -> Option<u32>
+    ensures { first_twice (places.now ++ group_places groups.now) ≡ option_or result (first_twice (group_places groups.now)) }
+{
+    let Some((place, others)) = places.split_first() else {
+        return None;
+    };
+    if is_among(*place, others) || is_in_group(*place, groups) {
+        return Some(*place);
+    }
+    twice_in(others, groups)
+}
+
+// The first place that groups have twice.
+fn first_twice(groups: &[GroupPlan]) -> Option<u32>
+    ensures { result ≡ first_twice (group_places groups.now) }
+{
+    let Some((group, others)) = groups.split_first() else {
+        return None;
+    };
+    match twice_in(group.sinks.as_slice(), others) {
+        Some(place) => Some(place),
+        None => first_twice(others),
+    }
+}
+
+/// The least line of what a run of an agent does not support: that of a sink that stands in groups twice. Where there is none, no sink
+/// does. A plan that is answered never has one.
 pub fn unsupported(plan: &Plan) -> Option<u32>
     ensures least { result ≡ unsupported plan.now }
     ensures none { IfNone result (IsSupported plan.now) }
 {
-    nearest_group(plan.sinks.as_slice(), plan.groups.as_slice())
+    match first_twice(plan.groups.as_slice()) {
+        Some(place) => Some(line_at(plan.sinks.as_slice(), place)),
+        None => None,
+    }
 }

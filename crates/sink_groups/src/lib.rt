@@ -15,4 +15,5 @@ pub use laws::{
 };
 pub use rules::{GroupKind, GroupRefused, GroupRules};
 pub use run::GroupRun;
+pub use schedule::Schedule;
 pub use sink::GroupSink;

@@ -14,7 +14,7 @@ use std::alloc::Global;
 /// Sinks of which one takes each batch (Flume User Guide, "Flume Sink Processors"). A member is named by its place in the
 /// list, from 0.
 #[derive(Drop)]
-pub struct GroupRun<S: EventSink> {
+pub struct GroupRun<S> {
     alloc: Global,
     schedule: Schedule,
     members: Vec<S>,
@@ -48,6 +48,19 @@ impl<S: EventSink> GroupRun<S> {
                 members,
             }),
             Err(_) => Err(NoMemory),
+        }
+    }
+
+    /// A group of these members by a schedule for as many. It takes no memory.
+    pub fn of(alloc: Global, schedule: Schedule, members: Vec<S>) -> GroupRun<S>
+        requires { length members.items ≡ length schedule.members }
+        ensures group { result.schedule ≡ schedule }
+        ensures members { result.members ≡ members }
+    {
+        GroupRun {
+            alloc,
+            schedule,
+            members,
         }
     }
 

@@ -11,7 +11,7 @@ use plug_in::{EventSink, SinkRefused};
 
 /// A group of sinks as a sink, with a source of random numbers. Each delivery draws once.
 #[derive(Drop)]
-pub struct GroupSink<S: EventSink, N: Random + Drop> {
+pub struct GroupSink<S, N> {
     run: GroupRun<S>,
     random: N,
     // how often all members that were due failed

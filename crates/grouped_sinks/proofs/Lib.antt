@@ -1,0 +1,4 @@
+pub mod Splitting
+pub mod Picking
+mod Placing
+pub mod Limits

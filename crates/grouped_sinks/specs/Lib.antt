@@ -1,0 +1,5 @@
+pub mod Runners
+pub mod Splits
+pub mod Rows
+pub mod Frames
+pub mod Picks
