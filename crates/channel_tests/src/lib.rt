@@ -9,9 +9,13 @@ mod checkpoints;
 #[cfg(test)]
 mod events;
 #[cfg(test)]
+mod folder_openings;
+#[cfg(test)]
 mod folders;
 #[cfg(test)]
 mod frames;
+#[cfg(test)]
+mod newest_checks;
 #[cfg(test)]
 mod open_transactions;
 #[cfg(test)]
@@ -24,6 +28,8 @@ mod records;
 mod ring;
 #[cfg(test)]
 mod rolls;
+#[cfg(test)]
+mod slow_checks;
 #[cfg(test)]
 mod spelled;
 #[cfg(test)]
