@@ -5,7 +5,7 @@ use Rattle.flume_host.specs.HostState.{Folders}
 use Rattle.channel_face.specs.History.{Opening, Step}
 use Rattle.channel_face.specs.declared.replies.OpenCause.{OpenCause}
 use Rattle.channel_face.specs.declared.replies.OpenCause.TheVariants.{NoMemory}
-use Rattle.turn_passes.specs.Views.{View}
+use Rattle.channel_lock.specs.Views.{View}
 use Rattle.two_channels.specs.Shares.{LeftIn, table_of}
 use Rattle.two_channels.specs.declared.shared.EitherClosed.{EitherClosed}
 use Rattle.two_channels.specs.declared.shared.EitherClosed.TheVariants as closed
@@ -201,7 +201,7 @@ module _ {A B : Type 0} where
   closed_fit (wish ∷ wishes) (c ∷ cs) (e ∷ ends) folders a b opened of out =
       (place_of_kind folders wish.place c.share e opened.1.kind of.0 out.0, closed_fit wishes cs ends folders opened.0 b opened.2 of.1 out.1)
 
--- behind those that were refused there may be more
+-- after those that were refused there may be more
 pub refuses_more : (front : List ChannelWish) (wish : ChannelWish) (wishes : List ChannelWish) (a b : HostTold) (place : ℕ) (cause : OpenCause) → wishes ≡ front ++ wish ∷ [] → RefusesAt front a b place cause → RefusesAt wishes a b place cause
 refuses_more front wish wishes a b place cause split r = record {
   front = r.front;

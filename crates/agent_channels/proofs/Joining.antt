@@ -6,10 +6,10 @@ use native.Mathlib.Decide.{ℕ_discrete}
 use Rattle.atomic_table.specs.Seated.{TableId}
 use Rattle.channel_face.specs.History.{Opening, Step}
 use Rattle.shared_channel.specs.Passes.{Known, new_pass, new_passes}
-use Rattle.turn_passes.specs.Calls.{has}
-use Rattle.turn_passes.specs.Turns.{HasAll}
-use Rattle.turn_passes.specs.Views.{View, both, joined, longer}
-use Rattle.turn_passes.proofs.Histories.{has_left, has_right}
+use Rattle.channel_lock.specs.Calls.{has}
+use Rattle.channel_lock.specs.Turns.{HasAll}
+use Rattle.channel_lock.specs.Views.{View, both, joined, longer}
+use Rattle.channel_lock.proofs.Histories.{has_left, has_right}
 use Rattle.agent_channels.specs.Several.{AreNew, TookOthers}
 use Rattle.agent_channels.proofs.Opening.{length_new}
 

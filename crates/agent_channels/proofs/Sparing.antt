@@ -4,7 +4,7 @@ use Rattle.std.specs.Prelude.{◌||◌, string_bytes}
 use Rattle.flume_host.specs.Told.{Told}
 use Rattle.channel_face.specs.History.{Opening, Step}
 use Rattle.channel_face.specs.Machine.{Call, BeginPut, BeginTake, Put, Take, StagePut, StageTake, Flush, RollbackPut, RollbackTake, Checkpoint, Prune, Reopen}
-use Rattle.turn_passes.specs.Calls.{keep}
+use Rattle.channel_lock.specs.Calls.{keep}
 use Rattle.channel_writing.specs.Stands.{has_fault, is_fault}
 use Rattle.file_channel.specs.Stands.{FileState, StandsOver}
 use Rattle.shared_channel.specs.Counting.{StandsAgreeing, counted_calls, is_counted}

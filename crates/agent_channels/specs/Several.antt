@@ -8,8 +8,8 @@ use Rattle.channel_face.specs.declared.replies.OpenCause.{OpenCause}
 use Rattle.file_channel.specs.Stands.{FileState, StandsOver}
 use Rattle.shared_channel.specs.Counting.{StandsAgreeing}
 use Rattle.shared_channel.specs.Passes.{Known, new_passes}
-use Rattle.turn_passes.specs.Calls.{has}
-use Rattle.turn_passes.specs.Views.{View}
+use Rattle.channel_lock.specs.Calls.{has}
+use Rattle.channel_lock.specs.Views.{View}
 use Rattle.two_channels.specs.Shares.{LeftIn}
 use Rattle.two_channels.specs.declared.shared.EitherClosed.{EitherClosed}
 use Rattle.two_channels.specs.declared.shared.EitherShared.{EitherShared}
@@ -83,7 +83,7 @@ pub record RefusesAt (wishes : List ChannelWish) (a b : HostTold) (place : ℕ) 
   pub why : Refuses wish.place wish.limits.capacity come left cause
   pub others : ComeBack front a come left b
 
--- The channel that is wanted behind these was refused for this cause, and these came back.
+-- The channel that is wanted after these was refused for this cause, and these came back.
 pub record RefusesLast {A B : Type 0} (front : List ChannelWish) (cs : List (OpenedChannel A B)) (wish : ChannelWish) (a b : HostTold) (place : ℕ) (cause : OpenCause) : Type 0 where
   pub at : length front ≡ place
   pub left : HostTold

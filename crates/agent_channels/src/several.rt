@@ -45,7 +45,7 @@ fn add_one<H: Host>(
     }
 }
 
-// Opens the channel that is wanted behind those that are open. Where it is refused, those are given back.
+// Opens the channel that is wanted after those that are open. Where it is refused, those are given back.
 fn add_behind<H: Host, R: Wait>(
     rt: &R,
     alloc: Global,

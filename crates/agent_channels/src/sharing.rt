@@ -35,7 +35,7 @@ struct Parts<C: Channel> {
     others: Vec<Pass>,
 }
 
-// Shares a channel that has made no call. Want of memory hands it back.
+// Shares a channel that has made no call. Out of memory hands it back.
 fn share<C: Channel>(alloc: Global, channel: C, users: u32) -> Result<Parts<C>, C>
     ghost start: { Opening }
     requires users { users < 4_294_967_295 }
@@ -58,7 +58,7 @@ fn share<C: Channel>(alloc: Global, channel: C, users: u32) -> Result<Parts<C>, 
     }
 }
 
-// Shares the channel of a folder, whose disk was so before. Want of memory closes it.
+// Shares the channel of a folder, whose disk was so before. Out of memory closes it.
 pub(crate) fn share_on_disk<D: Disk + Drop>(
     alloc: Global,
     channel: FileChannel<D>,

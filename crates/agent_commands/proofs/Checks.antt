@@ -12,7 +12,7 @@ use Rattle.agent_words.specs.declared.error.RunError.TheVariants.{Usage, FileToo
 use Rattle.agent_end.specs.Writes.{Fronts}
 use Rattle.agent_commands.specs.Checked.{IsConfigFault, IsPlanIn, IsPlanOf, IsAtFault, IsBeside, Checked, Judges, PlansAgent, Unplanned, end_of, plan_line}
 
--- a fault of the bytes has the status 2, and want of memory 5
+-- a fault of the bytes has the status 2, and out of memory 5
 pub fault_status : (bytes agent : List ℕ) (e : RunError) → IsConfigFault bytes agent e → (status_of e ≡ 2) ⊎ (status_of e ≡ 5)
 fault_status bytes agent Usage is = absurd is.2
 fault_status bytes agent FileTooLarge is = absurd is.2

@@ -146,7 +146,7 @@ put_below start s s' token event done idle has moves =
     let capacity : s.rules.limits.capacity ≡ 1000000 = ap (λ (l : Limits). l.capacity) its.0 in
     omega (arith, few, capacity, counts start s token [] has)
 
--- an event that was not put finds the channel full or no log file left, but for want of memory and a fault of the disk
+-- an event that was not put finds the channel full or no log file left, except when out of memory and a fault of the disk
 pub not_put : (start s s' : State) (token : Token) (event : Content) (e : PutRefused) → IsIdle start → HasOpen start s token [] → size event ≤ 1048576 → (e ≢ PutNo.NoMemory) → (e ≢ PutNo.DiskFault) → Moves true s (Put token event (Err e)) s'
     → (default_limits.capacity ≤ length start.items) ⊎ (e ≡ PutNo.Spent File)
 not_put start s s' token event e idle has small memory fault moves = by_cause e memory fault (subst (λ (l : Option (List Content)). AdmitsPut s l event (Err e)) list moves.admitted)

@@ -29,7 +29,7 @@ pub all_go : (vs : List LineVerdict) → All (Continues ends_run) vs → All Goe
 all_go [] all = All-nil GoesOn
 all_go (v ∷ vs) all = All-cons GoesOn v vs (goes v (All-head (Continues ends_run) v vs all)) (all_go vs (All-tail (Continues ends_run) v vs all))
 
--- no line is in doubt behind which the session went on
+-- no line is in doubt after which the session went on
 pub none_in_doubt : (vs : List LineVerdict) → All GoesOn vs → has_doubt vs ≡ false
 none_in_doubt [] all = refl
 none_in_doubt (v ∷ vs) all = ap (λ (b : Bool). b || has_doubt vs) (certain v (All-head GoesOn v vs all)) ∙ none_in_doubt vs (All-tail GoesOn v vs all)
@@ -186,7 +186,7 @@ module _ {T : Type 0} (Takes : T → List ℕ → LineVerdict → T → Type 0) 
         append-nil (flat_map (reply true) vs) ∙ ap (λ (l : List LineVerdict). flat_map (reply true) l) is ∙ flat_map-append (reply true) first (last ∷ [])
         ∙ ap (λ (l : List ℕ). flat_map (reply true) first ++ l) (append-nil (reply true last))
 
-    -- a fault or want of memory ended it
+    -- a fault or out of memory ended it
     stopped_by : (x : SessionEnd) → EndsBy true ends_run 512 x (verdicts_of s.done) s.rest s.sent → (x ≡ WriteFault → Rose before now) → ((x ≡ End → ⊥) × (x ≡ TooLongLine → ⊥) × (x ≡ Full → ⊥)) → Stopped 512 old.left new.left old.took new.took before now Stands
     stopped_by End e rose not = absurd (not.0 refl)
     stopped_by TooLongLine e rose not = absurd (not.1 refl)

@@ -33,7 +33,7 @@ one_put event = Puts (event ∷ []) ∷ []
 abbrev pub Keeps : Base → Files → Type 0
 Keeps base image = (txn : ℕ) × OpensTo image base txn
 
--- an image opens to a base, or to it and one event behind it
+-- an image opens to a base, or to it and one event after it
 abbrev pub MayGain : Base → Content → Files → Type 0
 MayGain base event image = (txn : ℕ) × (OpensTo image base txn ⊎ OpensTo image (after_journal base (one_put event)) txn)
 

@@ -29,9 +29,9 @@ use Rattle.load_gen.specs.declared.refused.LoadRefused.{LoadRefused}
 use Rattle.load_gen.specs.declared.refused.LoadRefused.TheVariants as load
 use Rattle.load_gen.proofs.Refusing.{flush_fault, own_cause}
 use Rattle.load_gen.proofs.Walking.{AdmitsAll, IsAt, IsReady, after_all, walk_end, walk_to, walks_load}
-use Rattle.turn_passes.specs.Calls.{Below, has}
-use Rattle.turn_passes.specs.Turns.{HasAll}
-use Rattle.turn_passes.specs.Views.{View}
+use Rattle.channel_lock.specs.Calls.{Below, has}
+use Rattle.channel_lock.specs.Turns.{HasAll}
+use Rattle.channel_lock.specs.Views.{View}
 use Rattle.shared_channel.specs.Calls.{Left, state_seen}
 use Rattle.shared_channel.specs.Counting.{StandsAgreeing}
 use Rattle.shared_channel.specs.Passes.{Known, new_pass}

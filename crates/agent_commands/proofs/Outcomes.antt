@@ -29,7 +29,7 @@ use Rattle.file_channel.specs.Stands.{FileState}
 use Rattle.shared_channel.specs.Calls.{Left}
 use Rattle.shared_channel.specs.Counting.{StandsAgreeing}
 use Rattle.shared_channel.specs.Passes.{Known, new_pass}
-use Rattle.turn_passes.specs.Turns.{HasAll}
+use Rattle.channel_lock.specs.Turns.{HasAll}
 use Rattle.agent_commands.specs.Handled.{GoesOn, doubted, ends_run, has_doubt, is_in_doubt}
 use Rattle.agent_commands.specs.Session.{Served, Stopped}
 use Rattle.agent_commands.specs.Stored.{Holds, IsOfFolder, IsRefusedFolder, IsUnopened, default_limits}
@@ -260,7 +260,7 @@ module _ {T : Type 0} (Takes : T → List ℕ → LineVerdict → T → Type 0) 
       by_fault s0 s4 before after start.faults f' (Some w)
       (stopped Takes _ _ WriteFault s (Interrupted before after start.faults f' (Some w)) (some_stored s.done p) s0.faults s4.faults (λ _. cause) (λ is. absurd cc) (λ is. absurd cc) (λ is. absurd cc)) (inl cause)
 
--- all of that, by the pass before, behind the session and behind the close
+-- all of that, by the pass before, after the session and after the close
 pub piped_by : {C : Type 0} (told_by : C → Option Told) (faults_by : C → ℕ) (state_by : C → FileState) (s0 s4 : HostState) (before after : Option Told) (f f' : ℕ) (start : Opening) (table : TableId) (p q w : Known) (c : C) (e : SessionEnd) → p ≡ new_pass table start 1 0
     → ServedLines 512 true ends_run (PutsLine (traced told_by faults_by state_by)) (ends_of s0.input p s0.output) (ends_of s4.input q s4.output) e → Left (traced told_by faults_by state_by) (λ x. is_some_of (told_by x)) q.view [] w.view c
     → StandsAgreeing (traced told_by faults_by state_by) c q.view.base w.view.seen → (HasAll q.view → w.view.seen ≡ q.view.seen) → BeginsOver before start → start.faults ≡ f → HostCause e s0.faults s4.faults → (e ≢ WriteFault → s4.handed ≡ s4.output)

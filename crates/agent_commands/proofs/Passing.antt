@@ -18,10 +18,10 @@ use Rattle.shared_channel.specs.Counting.{StandsAgreeing}
 use Rattle.shared_channel.specs.Passes.{Known, new_pass}
 use Rattle.shared_channel.specs.Ports.{Later, Saw, Stood, later_none, later_then, own_calls, owned}
 use Rattle.shared_channel.proofs.Fronts.{front_few, front_then, stood}
-use Rattle.turn_passes.specs.Calls.{Below, has}
-use Rattle.turn_passes.specs.Turns.{HasAll}
-use Rattle.turn_passes.specs.Views.{View}
-use Rattle.turn_passes.proofs.Histories.{begins_self}
+use Rattle.channel_lock.specs.Calls.{Below, has}
+use Rattle.channel_lock.specs.Turns.{HasAll}
+use Rattle.channel_lock.specs.Views.{View}
+use Rattle.channel_lock.proofs.Histories.{begins_self}
 use Rattle.agent_commands.specs.Handled.{GoesOn, has_doubt}
 use Rattle.agent_commands.specs.Puts.{ArePutsOf, BeginsOver, IsPutOf, PutsLine, PutsLines}
 use Rattle.agent_commands.specs.Stored.{event_of}
@@ -32,7 +32,7 @@ use Rattle.agent_commands.proofs.Recording.{AllOf, all_of, all_recorded, all_und
 use Rattle.agent_commands.proofs.Trails.{fault_counted, trail_counted}
 use Rattle.agent_commands.proofs.Walking.{FirstGo, puts_of_few, walk}
 
--- A pass after lines, by all that is seen in the end: it made their calls behind its earlier ones.
+-- A pass after lines, by all that is seen in the end: it made their calls after its earlier ones.
 pub record Made (o : Opening) (h : List Step) (numbers : List ℕ) (p q : Known) (done : List Handled) : Type 0 where
   pub later : Later p q
   pub own : List Own
@@ -112,7 +112,7 @@ module _ {C : Type 0} (told_by : C → Option Told) (faults_by : C → ℕ) (sta
       let zero : n ≡ 0 = omega (arith, below, one) in
       ap (λ (l : List ℕ). has l n) later.numbers ∙ ap (λ (k : ℕ). has (0 ∷ []) k) zero
 
-  -- the pass behind the session, and the one that came back when the channel was closed
+  -- the pass after the session, and the one that came back when the channel was closed
   pub passed : (q w : Known) (c : C) → TakesAll (PutsLine TracedBy) fresh done q → Left TracedBy (λ x. is_some_of (told_by x)) q.view [] w.view c → StandsAgreeing TracedBy c q.view.base w.view.seen → (HasAll q.view → w.view.seen ≡ q.view.seen)
       → BeginsOver before start → FirstGo done → All (IsLine 512) (lines_of done) → length done ≤ 2 ^ 40 → Passed before (told_by c) (faults_by c) start w done
   passed q w c takes left agrees whole begins go each few =

@@ -7,9 +7,9 @@ use Rattle.channel_face.specs.Faces.{Own, one}
 use Rattle.channel_face.specs.History.{IsRun, Opening, Step, journal, kept_by, opening, state_after}
 use Rattle.channel_face.specs.Machine.{Admits, Call, State, after}
 use Rattle.channel_writing.specs.Stands.{has_fault, is_fault}
-use Rattle.turn_passes.specs.Calls.{Below, has}
-use Rattle.turn_passes.specs.Turns.{HasAll}
-use Rattle.turn_passes.specs.Views.{View}
+use Rattle.channel_lock.specs.Calls.{Below, has}
+use Rattle.channel_lock.specs.Turns.{HasAll}
+use Rattle.channel_lock.specs.Views.{View}
 use Rattle.shared_channel.specs.Ports.{AreUnder, Stood, own_calls, own_if}
 use Rattle.agent_commands.specs.Trails.{Touches, Trail}
 

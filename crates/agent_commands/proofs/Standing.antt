@@ -24,7 +24,7 @@ use Rattle.agent_commands.specs.Handled.{GoesOn, all_with, and_then, doubted}
 use Rattle.agent_commands.specs.Stored.{Acknowledged, GivesFront, GivesLines, Holds, IsAtEnd, behind, by, default_limits, event_of, lines_in}
 use Rattle.agent_commands.proofs.Idle.{Follows, IsFull, IsIdle, Keeps, MayGain, PutsOne, Stands, one_put}
 
--- one line more behind a base
+-- one line more after a base
 pub behind-push : (base : Base) (lines : List (List ℕ)) (line : List ℕ) → after_journal (behind base lines) (one_put (event_of line)) ≡ behind base (lines ++ line ∷ [])
 behind-push base lines line = λ i. record { items = items i; first = first i }
   where

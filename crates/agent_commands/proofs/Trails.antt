@@ -5,7 +5,7 @@ use Rattle.flume_host.specs.Told.{Tells, Told}
 use Rattle.channel_face.specs.History.{AddsOne, Opening, Shows, Step, opening, state_after}
 use Rattle.channel_face.specs.Machine.{State, Call, BeginPut, BeginTake, Put, Take, StagePut, StageTake, Flush, RollbackPut, RollbackTake, Checkpoint, Prune, Reopen, after, close}
 use Rattle.channel_face.proofs.Adding.{state-push}
-use Rattle.turn_passes.specs.Calls.{keep}
+use Rattle.channel_lock.specs.Calls.{keep}
 use Rattle.channel_writing.specs.Stands.{has_fault, is_fault}
 use Rattle.file_channel.specs.Stands.{FileState, StandsOver}
 use Rattle.channel_writing.specs.Touches.{Flushed, Rests, flushes}
@@ -68,6 +68,6 @@ pub fault_counted : (s : State) (all : List Step) → has_fault all ≡ has_faul
 fault_counted s [] = refl
 fault_counted s (step ∷ all) = fault_keep (is_counted step.call) step all (counted_calls all) refl s (fault_counted s all)
 
--- behind an opening: the first trail is none
+-- after an opening: the first trail is none
 pub traced_at_first : (told : Option Told) (faults : ℕ) (c : FileState) (start : Opening) → StandsOver told faults c start [] → Began told start → StandsTraced told faults c start []
 traced_at_first told faults c start stands began = record { stands = stands; first = told; began = began; trail = refl }

@@ -139,7 +139,7 @@ module _ (before end : Option Told) (o : Opening) (all : List Step) (numbers : L
     fault = refl;
   }
 
-  -- a line and those behind it
+  -- a line and those after it
   and_more : (first done : List Handled) (x : Handled) (s : State) (told : Option Told) (its rest own : List Own) → own ≡ its ++ rest → (l : LineMade tells end its rest (event_of x.line) x.verdict s told) → Walked before end done l.state rest (and_then first x.line x.verdict)
       → Walked before end (x ∷ done) s own first
   and_more first done x s told its rest own is l w = record {

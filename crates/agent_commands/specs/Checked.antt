@@ -36,7 +36,7 @@ IsPlanFault pairs agent (errors.Plan why) = Plans pairs agent (Err why)
 IsPlanFault pairs agent errors.NoMemory = Unit {0}
 IsPlanFault pairs agent other = ⊥
 
--- the agent's plan, or why there is none; want of memory may come at any time
+-- the agent's plan, or why there is none; out of memory may come at any time
 abbrev pub PlansWhole : List Pair → List ℕ → Result Plan RunError → Type 0
 PlansWhole pairs agent (Ok p) = IsWhole pairs agent p
 PlansWhole pairs agent (Err e) = IsPlanFault pairs agent e
@@ -74,7 +74,7 @@ abbrev pub IsPlanOf : Option (List ℕ) → List ℕ → Plan → Type 0
 IsPlanOf file agent p =
     (bytes : List ℕ) × (length bytes ≤ file_limit) × IsPlanIn bytes agent p × ((told : List ℕ) → file ≡ Some told → bytes ≡ told)
 
--- why there is none, by the exit status: a fault of what the file holds, a fault outside that was counted, or want of memory
+-- why there is none, by the exit status: a fault of what the file holds, a fault outside that was counted, or out of memory
 pub record Unplanned (file : Option (List ℕ)) (agent : List ℕ) (old new : HostState) (status : ℕ) : Type 0 where
   pub which : (status ≡ 2) ⊎ (status ≡ 3) ⊎ (status ≡ 5)
   pub fault : status ≡ 2 → (bytes : List ℕ) → file ≡ Some bytes → IsAtFault bytes agent

@@ -33,7 +33,7 @@ abbrev pub has_doubt : List LineVerdict → Bool
 has_doubt [] = false
 has_doubt (verdict ∷ verdicts) = is_in_doubt verdict || has_doubt verdicts
 
--- `pipe` ends behind a line with this verdict
+-- `pipe` ends after a line with this verdict
 abbrev pub ends_run : LineVerdict → Bool
 ends_run Accepted = false
 ends_run Refused = false

@@ -51,7 +51,7 @@ pub record Piped (old new : HostState) (before after : Option Told) (disk_before
   pub full : status ≡ 6 → Served 512 (λ size. size ≡ 2 ^ 40) Rest old.input new.input old.output new.output (Stored before after pass)
   -- a line was too long
   pub long : status ≡ 7 → Served 512 (λ size. size ≤ 2 ^ 40) TooLong old.input new.input old.output new.output (Stored before after pass)
-  -- a fault or want of memory ended it
+  -- a fault or out of memory ended it
   pub stopped : (status ≡ 3) ⊎ (status ≡ 5) → Stopped 512 old.input new.input old.output new.output old.faults new.faults (Interrupted before after disk_before disk_now pass)
   -- the folder was refused for what it holds: nothing was read or written
   pub held : status ≡ 4 → Tells before after IsRefusedFolder × (new.input ≡ old.input) × (new.output ≡ old.output) × (pass ≡ None)
@@ -59,7 +59,7 @@ pub record Piped (old new : HostState) (before after : Option Told) (disk_before
   pub handed : IsWellStatus status → new.handed ≡ new.output
   -- where nothing stopped it, no fault was counted
   pub well : IsWellStatus status → (new.faults ≡ old.faults) × (disk_now ≡ disk_before)
-  -- want of memory: the disk counted no fault, so no line is in doubt
+  -- out of memory: the disk counted no fault, so no line is in doubt
   pub memory : status ≡ 5 → disk_now ≡ disk_before
   -- a count of faults rose
   pub fault : status ≡ 3 → Rose old.faults new.faults ⊎ Rose disk_before disk_now

@@ -21,7 +21,7 @@ use Rattle.atomic_table.specs.Seated.{TableId}
 use Rattle.shared_channel.specs.Passes.{Known, new_pass}
 use Rattle.shared_channel.specs.Ports.{AreOwned, AreUnder, Later, Saw, Stood, owned}
 use Rattle.channel_face.specs.Faces.{Gains}
-use Rattle.turn_passes.specs.Calls.{has}
+use Rattle.channel_lock.specs.Calls.{has}
 use Rattle.agent_commands.specs.Handled.{is_accepted}
 use Rattle.agent_commands.specs.Stored.{default_limits, event_of}
 
@@ -61,7 +61,7 @@ PutsLine stands old line said new =
     ⊎ ((said ≡ NoMemory) × (new ≡ old))
 
 module _ (start : Opening) (h : List Step) (numbers : List ℕ) where
-  -- Behind the calls `earlier` of these numbers `its` are what one line came to.
+  -- After the calls `earlier` of these numbers `its` are what one line came to.
   abbrev pub IsPutOf : List Own → Handled → List Own → Type 0
   IsPutOf earlier line its =
       ((result : Result ℕ FaceRefused) × IsPutBatch (Stood start h numbers) (length h) (event_of line.line ∷ []) result earlier its

@@ -21,11 +21,11 @@ default_limits = record { capacity = 1000000; txn_capacity = 10000; max_file = 2
 abbrev pub event_of : List ℕ → Content
 event_of line = content [] line
 
--- a base, and behind it the events of these lines, in order
+-- a base, and after it the events of these lines, in order
 abbrev pub behind : Base → List (List ℕ) → Base
 behind base lines = record { items = base.items ++ numbered base.first (map event_of lines); first = base.first + length lines }
 
--- an image opens to a base and these lines behind it
+-- an image opens to a base and these lines after it
 abbrev pub GivesLines : Base → List (List ℕ) → Files → Type 0
 GivesLines base lines image = (txn : ℕ) × OpensTo image (behind base lines) txn
 
@@ -42,7 +42,7 @@ abbrev pub by : ℕ → List Acknowledged → List (List ℕ)
 by m [] = []
 by m (a ∷ acks) = if nat_le a.moment m then a.line ∷ by m acks else by m acks
 
--- An image opens to a base and, behind it, a first part of the lines: those that were acknowledged, and at most one more.
+-- An image opens to a base and, after it, a first part of the lines: those that were acknowledged, and at most one more.
 pub record GivesFront (base : Base) (lines acknowledged : List (List ℕ)) (image : Files) : Type 0 where
   pub more : List (List ℕ)
   pub rest : List (List ℕ)

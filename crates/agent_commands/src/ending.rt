@@ -152,7 +152,7 @@ pub struct LoadEnded {
 }
 
 // What is said of a generator that the channel of this folder refused. A channel that has room and that nobody else calls refuses
-// it for no other cause than a fault, a number at its end, a damaged event or want of memory.
+// it for no other cause than a fault, a number at its end, a damaged event or out of memory.
 fn refused_by(dir: String, refused: FaceRefused) -> RunError
     ensures { status_of result ≡ face_status refused }
 {

@@ -111,7 +111,7 @@ fn copied_places(alloc: Global, places: &[u32]) -> Result<Vec<u32>, AllocError>
     Ok(copies)
 }
 
-/// The same places of channels once more. Want of memory comes where there are 2^32 of them or more.
+/// The same places of channels once more. Out of memory comes where there are 2^32 of them or more.
 pub fn copied_channels(alloc: Global, channels: &[u32]) -> Result<Vec<u32>, AllocError>
     ensures same { IfOk result (λ copies. copies.items ≡ channels.now) }
     ensures few { IfOk result (λ copies. length copies.items < 2 ^ 32) }

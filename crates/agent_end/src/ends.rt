@@ -53,7 +53,7 @@ impl InputEnd {
 pub enum ReportRefused {
     /// The output failed.
     Fault,
-    /// Want of memory. Nothing was written.
+    /// Out of memory. Nothing was written.
     NoMemory,
 }
 
@@ -128,7 +128,7 @@ impl RunEnds {
             || has_mend(&self.mends, status)
     }
 
-    /// The exit status: the first of 4, 3, 5, 7 and 6 that a part has, or 0. A draining has 5 where it ended for want of memory;
+    /// The exit status: the first of 4, 3, 5, 7 and 6 that a part has, or 0. A draining has 5 where it ended when out of memory;
     /// a channel that is still broken has 3, 4 or 5 by the cause of the refused reopening.
     pub fn status(&self) -> u8
         ensures { result ≡ run_status self.now }

@@ -229,7 +229,7 @@ module _ {R A B : Type 0} (dial : DialTold A) where
         (between ends [] x y y p (record { out = λ host port. refl; back = sym (append-nil y.back) })) q)
         opened.out.told told)
 
-    -- those that were opened may come back behind a refusal
+    -- those that were opened may come back after a refusal
     pub dials_may_come_back : (f : Folders) (refused : NameRefused) (others : List Endpoint) (s t u : HostState) (sinks : List (AgentSink R A B)) → AreOfPlans f plans sinks → DialsOpened dial plans s t sinks
         → DialsRefused refused others t u → AreOut (ends_of (dials_back dial plans sinks)) u.dialers
     dials_may_come_back f refused others s t u sinks are opened un =

@@ -34,7 +34,7 @@ places_next many sources i d below =
     let at : 0 + i ≡ i = omega arith in
     places_more many sources 0 i d below ∙ ap (λ (n : ℕ). places_by many 0 (take i sources) ++ replicate (many (get_or sources i d).kind) n) at
 
--- what listens, behind others
+-- what listens, after others
 listens_after : (front sources : List SourcePlan) (source : SourcePlan) → Listens source.kind → ListensAt (front ++ source ∷ sources) (length front)
 listens_after [] sources source listens = listens
 listens_after (s ∷ front) sources source listens = listens_after front sources source listens

@@ -23,7 +23,7 @@ use Rattle.shared_channel.specs.Ports.{own_calls}
 use Rattle.sink_runner.specs.declared.null.NullSink.{NullSink}
 use Rattle.sink_worker.specs.Rounds.{Told}
 use Rattle.sink_worker.specs.declared.worker.SinkWorker.{SinkWorker}
-use Rattle.turn_passes.specs.Views.{View}
+use Rattle.channel_lock.specs.Views.{View}
 use Rattle.two_channels.specs.declared.shared.EitherShared.{EitherShared}
 use Rattle.agent_end.specs.declared.draining.ChannelDrain.{ChannelDrain}
 use Rattle.agent_sinks.specs.Kinds.{DeliversAs}

@@ -1,4 +1,4 @@
--- The passes of workers behind a run.
+-- The passes of workers after a run.
 use Rattle.std.proofs.Common.{◌≡◌, ◌∙◌, ℕ, List, [], ◌∷◌, false, Option, Result, refl, ap, subst}
 use Rattle.std.specs.declared.alloc.Global.{Global}
 use Rattle.std.specs.declared.vec.Vec.{Vec}

@@ -15,7 +15,7 @@ module _ (plan : ChannelPlan) (plans : List ChannelPlan) (mended : Result Bool O
   none_later none others zero d low under is = none is
   none_later none others (suc i) d low under is = others i d (omega (arith, low)) (omega (arith, under)) is
 
-  -- it is not the first, but maybe one behind
+  -- it is not the first, but maybe one after
   pub broken_later : IsBrokenCause mended None → IsBrokenError plans mends error → IsBrokenError (plan ∷ plans) (mended ∷ mends) error
   broken_later none (inl f) = inl (record {
     place = suc f.place;

@@ -52,7 +52,7 @@ has_either status (n ∷ front) there is = elim (either (n == status) (has statu
   ]
 ]
 
--- ---- a draining has no other status than that of want of memory
+-- ---- a draining has no other status than that of out of memory
 
 drain_is : (d : ChannelDrain) → (drain_status d ≡ 5) ⊎ (drain_status d ≡ 0)
 drain_is Emptied = inr refl
@@ -166,7 +166,7 @@ report_fault (Err report.NoMemory) status is not_zero not_five = absurd (not_fiv
 
 -- the part of a run that has its status
 module _ (run : RunEnds) where
-  -- the input, the report, or a mend has the status, unless it is 0 or want of memory
+  -- the input, the report, or a mend has the status, unless it is 0 or out of memory
   part_with : (status : ℕ) → (status ≡ 0 → ⊥) → (status ≡ 5 → ⊥) → run_status run ≡ status
       → (input_status run.input ≡ status) ⊎ ((status ≡ 3) × (run.report ≡ Err report.Fault)) ⊎ SomeMend status run.mends.items
   part_with status not_zero not_five is =

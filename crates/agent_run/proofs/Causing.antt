@@ -12,7 +12,7 @@ use Rattle.flume_config.specs.declared.plan.ChannelKind.TheVariants.{File, Memor
 use Rattle.flume_config.specs.declared.plan.ChannelPlan.{ChannelPlan}
 use Rattle.shared_channel.specs.Passes.{Known}
 use Rattle.sink_worker.specs.declared.worker.SinkWorker.{SinkWorker}
-use Rattle.turn_passes.specs.Views.{View, saw}
+use Rattle.channel_lock.specs.Views.{View, saw}
 use Rattle.two_channels.specs.Shares.{IsDisk, MendsIn}
 use Rattle.two_channels.specs.declared.shared.EitherShared.{EitherShared}
 use Rattle.agent_channels.specs.Openings.{HostTold, IsOfKind}

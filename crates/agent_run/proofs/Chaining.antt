@@ -12,8 +12,8 @@ use Rattle.shared_channel.specs.Passes.{Known}
 use Rattle.shared_channel.specs.Ports.{Later}
 use Rattle.sink_worker.specs.Rounds.{Told}
 use Rattle.sink_worker.specs.declared.worker.SinkWorker.{SinkWorker}
-use Rattle.turn_passes.specs.Calls.{has}
-use Rattle.turn_passes.specs.Turns.{HasAll}
+use Rattle.channel_lock.specs.Calls.{has}
+use Rattle.channel_lock.specs.Turns.{HasAll}
 use Rattle.run_tracks.specs.Drained.{IsDrainedInTrack}
 use Rattle.run_tracks.specs.Homes.{AreHomes}
 use Rattle.run_tracks.proofs.Homing.{prefix_then, set_elsewhere}

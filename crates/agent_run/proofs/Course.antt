@@ -45,7 +45,7 @@ tells_of told c = is_some_of (told c.0)
 
 module _ {D M S C : Type 0} (told : D → Option Told) (faults : D → ℕ) (moment : D × FileState → ℕ) (memory : M → Opening → List Step → Type 0) (tells' : M → Bool)
     (Drained : SinkWorker AtHome S C → List Known → ChannelDrain → S → List Known → Type 0) (plans : List ChannelPlan) where
-  -- Channels that were wanted were opened, shared among workers, and settled behind them.
+  -- Channels that were wanted were opened, shared among workers, and settled after them.
   pub record Course : Type 0 where
     pub uses : List ℕ
     pub wishes : List ChannelWish

@@ -32,7 +32,7 @@ use Rattle.channel_face.specs.History.{Opening as Begun, Step}
 use Rattle.source_put.specs.Chains.{Meaning}
 use Rattle.source_worker.specs.Rounds.{Heard}
 use Rattle.line_worker.specs.Workers.{Talk}
-use Rattle.turn_passes.specs.Turns.{HasAll}
+use Rattle.channel_lock.specs.Turns.{HasAll}
 use Rattle.two_channels.specs.declared.port.EitherPort.{EitherPort}
 use Rattle.run_tracks.specs.Closes.{IsClosed}
 use Rattle.run_tracks.specs.Homes.{EachTook}
@@ -153,7 +153,7 @@ module _ {R A B : Type 0} (dial : DialTold A) where
     handed_same [] s t same = subst (IsSameSink s) (sym same) (same_self s)
     handed_same (h ∷ done) s t (next, one, rest) = same_then s next t (keeps s h.batch h.moment h.answer next one) (handed_same done next t rest)
 
-    -- what comes back of each sink behind its rounds and its draining is the same sink
+    -- what comes back of each sink after its rounds and its draining is the same sink
     pub sinks_stay : {X Y C : Type 0} (moments : C → Option (ℕ → ℕ)) (shares : List (EitherShared X Y)) (finals : List Known) (jobs : List (SinkWorker Known (AgentSink R A B) C)) (ends : List ChannelDrain)
         (backs : List (AgentSink R A B)) → ((place : ℕ) → place < length ends → EitherShared X Y) → AreBeside (IsSinkWhole sink moments shares finals) jobs ends backs
         → Zips IsSameSink (map (λ (job : SinkWorker Known (AgentSink R A B) C). job.sink) jobs) backs

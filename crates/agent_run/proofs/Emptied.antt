@@ -18,14 +18,14 @@ use Rattle.shared_channel.specs.Passes.{Known}
 use Rattle.sink_runner.specs.declared.turn.Turn.{Turn}
 use Rattle.sink_worker.specs.Rounds.{Told}
 use Rattle.sink_worker.specs.declared.worker.SinkWorker.{SinkWorker}
-use Rattle.turn_passes.specs.Calls.{Below, has}
-use Rattle.turn_passes.specs.Turns.{HasAll}
-use Rattle.turn_passes.specs.Views.{View}
+use Rattle.channel_lock.specs.Calls.{Below, has}
+use Rattle.channel_lock.specs.Turns.{HasAll}
+use Rattle.channel_lock.specs.Views.{View}
 use Rattle.two_channels.specs.Shares.{pass_of}
 use Rattle.run_tracks.specs.Closes.{IsClosed}
 use Rattle.run_tracks.specs.Drained.{called_in}
 use Rattle.run_tracks.specs.Tracks.{Track}
-use Rattle.turn_passes.proofs.Histories.{begins_self}
+use Rattle.channel_lock.proofs.Histories.{begins_self}
 use Rattle.agent_run.specs.DrainedTold.{DrainTold, DrainedTold, PutsEnd}
 use Rattle.agent_run.specs.Draining.{AreDrained, IsDrainedAt, IsDrainedHome, IsSinkHome}
 use Rattle.agent_run.specs.declared.homes.AtHome.{AtHome}
@@ -35,7 +35,7 @@ use Rattle.agent_run.proofs.Course.{Course, Stands, closed_are_many, counted_man
 use Rattle.agent_run.proofs.Left.{at_rest, closed_at, finals_are, left_below, left_run}
 use Rattle.agent_run.proofs.Quiet.{IsQuiet, drained_quiet, mended_quiet, none_puts, quiet_at, quiet_self, quiet_then}
 
--- the calls behind others are answered as the machine answers them there
+-- the calls after others are answered as the machine answers them there
 run_behind : (tells : Bool) (s : State) (a b : List Step) → IsRun tells s (a ++ b) → IsRun tells (state_after s a) b
 run_behind tells s [] b run = run
 run_behind tells s (x ∷ a) b run = run_behind tells (after s x.call) a b run.1
@@ -162,7 +162,7 @@ module _ {D M S C : Type 0} (told : D → Option DiskTold) (faults : D → ℕ) 
   drained_of : (place : ℕ) → place < length r.settles.drained → place < length plans
   drained_of place low = let e = drained_many told faults moment memory tells' (IsDrainedAt sink moments) plans r in omega (arith, low, e)
 
-  -- behind the join nobody puts
+  -- after the join nobody puts
   puts_end : All (IsSinkHome r.homes) r.workers → All (λ (p : Known). HasAll p.view) r.homes → (place : ℕ) (home final : Known) → place < length plans
       → PutsEnd (get_or r.homes place home) (get_or (map pass_of r.settled.closed.items) place final)
   puts_end at all place home final below =

@@ -1,4 +1,4 @@
--- Whole transactions: behind each stage its ticket was found settled or in doubt, or a flush followed.
+-- Whole transactions: after each stage its ticket was found settled or in doubt, or a flush followed.
 use Rattle.std.proofs.Common.{◌≡◌, ◌∙◌, ℕ, List, [], ◌∷◌, ◌++◌, append-nil, append_assoc, inl, inr, Bool, true, false, Option, Some, None, Result, Ok, Err, refl, sym, ap, subst}
 use Rattle.std.specs.List.{AllByRecursion}
 use Rattle.event_core.specs.Content.{Content}

@@ -14,7 +14,7 @@ use Rattle.source_worker.specs.Rounds.{Heard}
 use Rattle.source_worker.specs.declared.worker.ListenWorker.{ListenWorker}
 use Rattle.line_worker.specs.Workers.{Talk}
 use Rattle.line_worker.specs.declared.worker.LineWorker.{LineWorker}
-use Rattle.turn_passes.specs.Turns.{HasAll}
+use Rattle.channel_lock.specs.Turns.{HasAll}
 use Rattle.two_channels.specs.Shares.{table_of}
 use Rattle.two_channels.specs.declared.port.EitherPort.{EitherPort}
 use Rattle.two_channels.specs.declared.shared.EitherShared.{EitherShared}
@@ -66,7 +66,7 @@ module _ {A B S C : Type 0} (sink : Told S) (moments : C → Option (ℕ → ℕ
   own_silent : (o : Owner) → IsOwn homes o → StaysSilent o.place o.number is.drained (finals_of settled)
   own_silent o own = behind_silent sink moments disk tells moment memory tells' shares homes workers names settled is named o.place o.number own.there own.mine own.other
 
-  -- no call with a sink's number came behind the drainings
+  -- no call with a sink's number came after the drainings
   sinks_silent : (jobs : List (SinkWorker Known S C)) (ws : List (SinkWorker AtHome S C)) → Zips (IsSinkTold sink moments shares homes) jobs ws → AllByRecursion (IsAway old) (sink_owners jobs)
       → AllByRecursion (IsSilentAt is.drained (finals_of settled)) ws
   sinks_silent [] [] told away = tt
@@ -78,7 +78,7 @@ module _ {A B S C : Type 0} (sink : Told S) (moments : C → Option (ℕ → ℕ
         sinks_silent jobs ws told.1 away.1,
       )
 
-  -- a worker that differs from those of the sinks has no sink's number behind the run
+  -- a worker that differs from those of the sinks has no sink's number after the run
   not_sinks : (o : Owner) (jobs : List (SinkWorker Known S C)) (ws : List (SinkWorker AtHome S C)) → Zips (IsSinkTold sink moments shares homes) jobs ws
       → AllByRecursion (λ (s : Owner). Differ s o) (sink_owners jobs) → AllByRecursion (IsNot o.place o.number) ws
   not_sinks o [] [] told differ = tt
@@ -96,7 +96,7 @@ module _ {A B S C : Type 0} (sink : Told S) (moments : C → Option (ℕ → ℕ
         (All-from_recursion (IsNot o.place o.number) workers (not_sinks o jobs workers told differ)) is.drains d)
         (own_silent o own d)
 
-    -- no call with a number of these came behind the join
+    -- no call with a number of these came after the join
     others_silent : (os : List Owner) → AllByRecursion (IsAway old) os → AllByRecursion (λ (o : Owner). AllByRecursion (λ (s : Owner). Differ s o) (sink_owners jobs)) os
         → AllByRecursion (λ (o : Owner). StaysSilent o.place o.number homes (finals_of settled)) os
     others_silent [] away differ = tt

@@ -7,9 +7,9 @@ use Rattle.channel_face.specs.declared.replies.Counts.{Counts}
 use Rattle.shared_channel.specs.Passes.{Known}
 use Rattle.sink_worker.specs.Rounds.{Told}
 use Rattle.sink_worker.specs.declared.worker.SinkWorker.{SinkWorker}
-use Rattle.turn_passes.specs.Calls.{calls_by, has}
-use Rattle.turn_passes.specs.Views.{View}
-use Rattle.turn_passes.proofs.Histories.{begins_self}
+use Rattle.channel_lock.specs.Calls.{calls_by, has}
+use Rattle.channel_lock.specs.Views.{View}
+use Rattle.channel_lock.proofs.Histories.{begins_self}
 use Rattle.two_channels.specs.Shares.{pass_of}
 use Rattle.two_channels.specs.declared.shared.EitherClosed.{EitherClosed}
 use Rattle.two_channels.specs.declared.shared.EitherShared.{EitherShared}
@@ -111,7 +111,7 @@ module _ {A B S C : Type 0} (sink : Told S) (moments : C → Option (ℕ → ℕ
   pub all_on : EachGoesOn homes finals
   all_on = each_goes_then homes is.drained finals is.goes_on behind_on
 
-  -- behind the drainings no call was made with a number that the pass at home has but does not carry
+  -- after the drainings no call was made with a number that the pass at home has but does not carry
   pub behind_silent : (place n : ℕ) → place < length homes → HasNumber homes place n → ((d : Known) → (get_or homes place d).number ≡ n → ⊥) → StaysSilent place n is.drained finals
   behind_silent place n below mine other d =
       let in_drained : place < length is.drained = let e = is.goes_on.as_many in omega (arith, below, e) in

@@ -1,4 +1,4 @@
--- What the folders of a run's channels hold behind it.
+-- What the folders of a run's channels hold after it.
 use Rattle.std.proofs.Common.{◌≡◌, ◌∙◌, ◌<◌, ℕ, List, All, Bool, false, Option, Some, length, map, get_or, sym, ap, subst, arith, string_bytes}
 use Rattle.std.specs.List.{AllByRecursion}
 use Rattle.std.proofs.lemmas.List.{get_or-map, get_or_default}

@@ -1,4 +1,4 @@
--- What the host took back behind a run.
+-- What the host took back after a run.
 use Rattle.std.proofs.Common.{◌≡◌, ◌∙◌, ℕ, List, [], ◌∷◌, Option, map, refl, sym, ap, subst}
 use Rattle.crew.specs.declared.draining.DrainWorker.{DrainWorker}
 use Rattle.flume_config.specs.declared.plan.SourcePlan.{SourcePlan}

@@ -19,9 +19,9 @@ use Rattle.sink_runner.specs.Turns.{AreTaken, EndsTaking, EndsDelivery, EndsTurn
 use Rattle.sink_runner.specs.declared.turn.Turn.{Turn}
 use Rattle.agent_run.specs.RolledTold.{CountsMore, committed, committed_by, taken_behind, taken_since}
 
--- ---- what calls commit, and what was taken behind them
+-- ---- what calls commit, and what was taken after them
 
--- behind these events, calls commit so, and then this was taken since the last begin
+-- after these events, calls commit so, and then this was taken since the last begin
 record Walks (events : List Content) (own : List Own) (batches : List (List Content)) (now : List Content) : Type 0 where
   pub commits : committed events own ≡ batches
   pub since : taken_since events own ≡ now
@@ -135,7 +135,7 @@ abbrev pub ok_batches : List Handed → List (List Content)
 ok_batches [] = []
 ok_batches (h ∷ done) = ok_of h.answer h.batch ++ ok_batches done
 
--- behind these events and then some of these calls just this batch had been taken
+-- after these events and then some of these calls just this batch had been taken
 abbrev pub WasTakenBehind : List Content → List Own → List Content → Type 0
 WasTakenBehind e own batch = (front rest : List Own) × (own ≡ front ++ rest) × (taken_since e front ≡ batch)
 

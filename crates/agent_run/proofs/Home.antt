@@ -1,4 +1,4 @@
--- Behind a run the passes of the workers' ports are of their channels, and their numbers are at home.
+-- After a run the passes of the workers' ports are of their channels, and their numbers are at home.
 use Rattle.std.proofs.Common.{ℕ, List, [], ◌∷◌, ◌++◌, All, flat_map, arith}
 use Rattle.std.proofs.lemmas.List.Elements.{All-append, All-cons, All-nil}
 use Rattle.atomic_table.specs.Seated.{TableId}
@@ -67,7 +67,7 @@ module _ {F : Type 0} (pass : F → Known) {S N I O C K : Type 0} where
       (kind_owned pass listen_places listen_ports listen_places listen_ports (IsListenEnded pass homes) homes (λ w e is. is.took) jobs.listeners.items new.listeners.items returned.listeners.items same.listeners fresh.listeners ended.listeners)
       (kind_owned pass line_places line_ports line_places line_ports (IsLineEnded pass homes) homes (λ w e is. is.took) jobs.lines.items new.lines.items returned.lines.items same.lines fresh.lines ended.lines))
 
-  -- there is as much room behind a run as before
+  -- there is as much room after a run as before
   pub room_kept : (jobs : Workers Known S N I O C K) (new : Workers F S N I O C K) (returned : Returned S N I O C)
       → AreSameWorkers jobs new → HaveRoom jobs returned → HaveRoom new returned
   room_kept jobs new returned same room = record {

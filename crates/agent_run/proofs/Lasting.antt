@@ -9,7 +9,7 @@ use Rattle.source_worker.specs.Rounds.{Heard}
 use Rattle.source_worker.specs.declared.worker.ListenWorker.{ListenWorker}
 use Rattle.line_worker.specs.Workers.{Talk}
 use Rattle.line_worker.specs.declared.worker.LineWorker.{LineWorker}
-use Rattle.turn_passes.specs.Calls.{calls_by, has}
+use Rattle.channel_lock.specs.Calls.{calls_by, has}
 use Rattle.two_channels.specs.Ports.{pass_of}
 use Rattle.two_channels.specs.declared.port.EitherPort.{EitherPort}
 use Rattle.two_channels.specs.declared.shared.EitherShared.{EitherShared}

@@ -8,8 +8,8 @@ use Rattle.shared_channel.specs.Calls.{IsSeen}
 use Rattle.shared_channel.specs.Counting.{StandsAgreeing}
 use Rattle.shared_channel.specs.Passes.{Known}
 use Rattle.shared_channel.specs.declared.pass.Closed.{Closed}
-use Rattle.turn_passes.specs.Calls.{Below}
-use Rattle.turn_passes.specs.Views.{View, saw}
+use Rattle.channel_lock.specs.Calls.{Below}
+use Rattle.channel_lock.specs.Views.{View, saw}
 use Rattle.two_channels.specs.Shares.{IsDisk, pass_of}
 use Rattle.two_channels.specs.declared.shared.EitherClosed.{EitherClosed}
 use Rattle.two_channels.specs.declared.shared.EitherClosed.TheVariants as closed

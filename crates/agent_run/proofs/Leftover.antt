@@ -7,7 +7,7 @@ use Rattle.channel_face.specs.declared.replies.OpenCause.{OpenCause}
 use Rattle.channel_face.proofs.Adding.{state-push}
 use Rattle.shared_channel.specs.Calls.{Counted, state_seen, step}
 use Rattle.shared_channel.specs.Durables.{Reopens, WasBroken, calls_of}
-use Rattle.turn_passes.specs.Views.{View}
+use Rattle.channel_lock.specs.Views.{View}
 use Rattle.two_channels.specs.Shares.{IsDisk, MendsIn}
 use Rattle.two_channels.specs.declared.shared.EitherShared.{EitherShared}
 use Rattle.two_channels.specs.declared.shared.EitherShared.TheVariants as share

@@ -78,7 +78,7 @@ not_others pairs at text (Netcat bind port max_line ack threads) max limit is = 
 not_others pairs at text (Avro bind port threads) max limit is = absurd (cc)
 not_others pairs at text (Stdin max_line ack) max limit is = (is.0, is.1)
 
--- no source behind one that reads standard input does
+-- no source after one that reads standard input does
 abbrev pub IsLone : List SourcePlan → Type 0
 IsLone [] = Unit {0}
 IsLone (s ∷ ss) = ((max : ℕ) → limit_of s.kind ≡ Some max → line_limit ss ≡ None) × IsLone ss

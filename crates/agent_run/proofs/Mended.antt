@@ -10,7 +10,7 @@ use Rattle.channel_face.proofs.Adding.{state-push}
 use Rattle.shared_channel.specs.Calls.{state_seen, step}
 use Rattle.shared_channel.specs.Durables.{Reopens}
 use Rattle.shared_channel.specs.Passes.{Known}
-use Rattle.turn_passes.specs.Views.{View}
+use Rattle.channel_lock.specs.Views.{View}
 use Rattle.two_channels.specs.Shares.{IsDisk, MendsIn}
 use Rattle.two_channels.specs.declared.shared.EitherShared.{EitherShared}
 use Rattle.two_channels.specs.declared.shared.EitherShared.TheVariants as share

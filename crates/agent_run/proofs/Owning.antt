@@ -5,7 +5,7 @@ use Rattle.atomic_table.specs.Seated.{TableId}
 use Rattle.channel_face.specs.History.{Opening}
 use Rattle.shared_channel.specs.Passes.{Known, new_pass, new_passes}
 use Rattle.sink_worker.specs.declared.worker.SinkWorker.{SinkWorker}
-use Rattle.turn_passes.specs.Calls.{has}
+use Rattle.channel_lock.specs.Calls.{has}
 use Rattle.run_tracks.proofs.Homing.{has_numbers}
 use Rattle.agent_run.specs.Draining.{FirstHasOwn, HasOwn, IsSinkHome, OwnIsKept}
 use Rattle.agent_run.specs.Ends.{IsSinkEnded}

@@ -1,4 +1,4 @@
--- Behind the join of a run's workers nobody puts.
+-- After the join of a run's workers nobody puts.
 use Rattle.std.proofs.Common.{◌≡◌, ◌∙◌, ◌++◌, ◌||◌, ℕ, List, [], ◌∷◌, Bool, true, false, Option, Result, Ok, Err, get_or, refl, sym, ap, subst, append_assoc}
 use Rattle.std.proofs.lemmas.Bool.{eq-eqb}
 use Rattle.std.proofs.lemmas.List.{append-nil, append_cancel_left}
@@ -17,10 +17,10 @@ use Rattle.shared_channel.specs.Ports.{AreUnder, own_calls, own_if}
 use Rattle.shared_channel.proofs.Porting.{own-append}
 use Rattle.sink_worker.specs.Rounds.{Told}
 use Rattle.sink_worker.specs.declared.worker.SinkWorker.{SinkWorker}
-use Rattle.turn_passes.specs.Calls.{Below, calls_by, has, keep}
-use Rattle.turn_passes.specs.Turns.{HasAll, MadeInTurn}
-use Rattle.turn_passes.specs.Views.{View}
-use Rattle.turn_passes.proofs.Histories.{all_own, begins_self, calls_by-append}
+use Rattle.channel_lock.specs.Calls.{Below, calls_by, has, keep}
+use Rattle.channel_lock.specs.Turns.{HasAll, MadeInTurn}
+use Rattle.channel_lock.specs.Views.{View}
+use Rattle.channel_lock.proofs.Histories.{all_own, begins_self, calls_by-append}
 use Rattle.two_channels.specs.Shares.{MendsIn}
 use Rattle.two_channels.specs.declared.shared.EitherShared.{EitherShared}
 use Rattle.two_channels.specs.declared.shared.EitherShared.TheVariants as share

@@ -204,7 +204,7 @@ cause_which (causes.OverCapacity count) status (inl is) = inr (inl is)
 cause_which (causes.Spent counter) status (inl is) = inr (inl is)
 cause_which causes.NoMemory status (inl is) = inr (inr is)
 
--- a fault of the disk is no want of memory, and neither is what a folder holds
+-- a fault of the disk is no out of memory, and neither is what a folder holds
 not_both : (cause : OpenCause) → cause ≡ causes.DiskFault → cause ≡ causes.NoMemory → ⊥
 not_both cause fault none = let e : 3 ≡ 5 = sym (ap cause_status fault) ∙ ap cause_status none in absurd (omega (arith, e))
 

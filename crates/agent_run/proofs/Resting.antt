@@ -1,4 +1,4 @@
--- What a run still has behind its workers, and what it has room for.
+-- What a run still has after its workers, and what it has room for.
 use Rattle.std.proofs.Common.{◌≡◌, ◌∙◌, ◌≤◌, ◌+◌, ◌++◌, ℕ, Bool, suc, List, [], ◌∷◌, Option, String, length, map, refl, sym, ap, subst, arith}
 use Rattle.std.proofs.lemmas.List.{length-map}
 use Rattle.std.specs.Prelude.{string_bytes}

@@ -49,7 +49,7 @@ module _ {F : Type 0} (pass : F → Known) where
       (λ d. has_numbers (get_or homes place d) (pass port) p.number (took.0.1 d) (same.0.numbers ∙ (All-head IsNew p passes new).0))
       (same_owned homes places passes ports same.1 (All-tail IsNew p passes new) took.1)
 
-  -- workers of one kind, before they got their ports and behind their run
+  -- workers of one kind, before they got their ports and after their run
   module _ {J W : Type 0} (places : J → List ℕ) (passes : J → List Known) (channels : W → List ℕ) (ports : W → List F) where
     pub record IsSameWorker (job : J) (w : W) : Type 0 where
       pub channels' : channels w ≡ places job

@@ -4,7 +4,7 @@ use Rattle.channel_face.specs.declared.replies.OpenCause.{OpenCause}
 use Rattle.atomic_table.specs.Seated.{TableId}
 use Rattle.channel_face.specs.History.{Opening, Step}
 use Rattle.shared_channel.specs.Passes.{Known}
-use Rattle.turn_passes.specs.Turns.{HasAll}
+use Rattle.channel_lock.specs.Turns.{HasAll}
 use Rattle.two_channels.specs.declared.shared.EitherShared.{EitherShared}
 use Rattle.run_tracks.specs.Homes.{AreHomes}
 use Rattle.run_tracks.specs.Stops.{AreMended, IsMended}

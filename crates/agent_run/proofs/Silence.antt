@@ -14,8 +14,8 @@ use Rattle.shared_channel.specs.Ports.{AreUnder, Later, own_calls}
 use Rattle.sink_runner.specs.declared.turn.Turn.{Turn}
 use Rattle.sink_worker.specs.Rounds.{Rounds, Told}
 use Rattle.sink_worker.specs.declared.worker.SinkWorker.{SinkWorker}
-use Rattle.turn_passes.specs.Calls.{calls_by, has, keep}
-use Rattle.turn_passes.proofs.Histories.{begins_self, calls_by-append, has_only}
+use Rattle.channel_lock.specs.Calls.{calls_by, has, keep}
+use Rattle.channel_lock.proofs.Histories.{begins_self, calls_by-append, has_only}
 use Rattle.two_channels.specs.Shares.{IsDisk}
 use Rattle.two_channels.specs.declared.shared.EitherShared.{EitherShared}
 use Rattle.run_tracks.specs.Dealt.{HasNumber}

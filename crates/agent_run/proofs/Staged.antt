@@ -21,7 +21,7 @@ use Rattle.channel_face.proofs.Adding.{state-append}
 use Rattle.channel_laws.proofs.Moving.{counted_opening, counted_run}
 use Rattle.shared_channel.specs.Ports.{own_calls, own_if}
 use Rattle.shared_channel.proofs.Porting.{own-append}
-use Rattle.turn_passes.specs.Calls.{Below, has}
+use Rattle.channel_lock.specs.Calls.{Below, has}
 use Rattle.run_tracks.specs.Tracks.{Stood, Track}
 use Rattle.agent_run.specs.RolledTold.{CountsMore}
 
@@ -218,9 +218,9 @@ stays_at : (life frame : ℕ) (s : State) (g r : List Step) → Stays life frame
 stays_at life frame s [] r stays = first_in life frame s r stays
 stays_at life frame s (x ∷ g) r stays = stays_at life frame (after s x.call) g r stays.1
 
--- ---- each stage was settled or flushed behind it
+-- ---- each stage was settled or flushed after it
 
--- behind the stage with this ticket the face found it settled or in doubt, or flushed
+-- after the stage with this ticket the face found it settled or in doubt, or flushed
 abbrev pub EndsWith : (List Own → State → Type 0) → ℕ → Option Ticket → List Own → List Own → Type 0
 EndsWith saw seen None earlier own = Unit {0}
 EndsWith saw seen (Some t) earlier own = (ending rest : List Own) × (sure : Bool) × (own ≡ ending ++ rest) × Ends saw seen t earlier ending sure
@@ -247,7 +247,7 @@ each_at saw seen earlier (x ∷ a) o b each =
 has_self : (n : ℕ) → has (n ∷ []) n ≡ true
 has_self n = ap (λ (b : Bool). b || false) (eq-eqb n n refl)
 
--- the first of a number's calls behind a state
+-- the first of a number's calls after a state
 abbrev FirstOf : State → List Step → Own → Type 0
 FirstOf s h e = (g : List Step) × (x : Step) × (r : List Step) × (h ≡ g ++ x ∷ r) × (e.call ≡ x.call) × (e.before ≡ state_after s g)
 
@@ -261,7 +261,7 @@ first_own : (ns : List ℕ) (s : State) (h : List Step) (e : Own) (more : List O
 first_own ns s [] e more is = absurd (cc)
 first_own ns s (x ∷ h) e more is = first_by (has ns x.pass) s x h (own_calls ns (after s x.call) h) e more (λ same. first_own ns (after s x.call) h e more same) is
 
--- a front of a history ends before a call, or goes on behind it
+-- a front of a history ends before a call, or goes on after it
 front_of : (f rest0 front : List Step) (x : Step) (rest : List Step) → f ++ rest0 ≡ front ++ x ∷ rest
     → ((more : List Step) × (front ≡ f ++ more)) ⊎ ((g : List Step) × (f ≡ front ++ x ∷ g) × (g ++ rest0 ≡ rest))
 front_of [] rest0 front x rest is = inl (front, refl)
@@ -318,7 +318,7 @@ call_made seen true call s e es made = let none = made.0 in absurd (cc)
 
 module _ (tells : Bool) (start : Opening) (h : List Step) (run : IsRun tells (opening start) h) (counted : CountsMore (length h)) (n : ℕ) (front rest : List Step) (step : Step) (t : Ticket)
     (split : h ≡ front ++ step ∷ rest) (some : 1 ≤ t.frame) (stays : Stays t.life t.frame (after (state_after (opening start) front) step.call) rest) where
-  -- the state behind the stage, the calls with the number before it, and the stage
+  -- the state after the stage, the calls with the number before it, and the stage
   abbrev behind : State
   behind = after (state_after (opening start) front) step.call
 

@@ -3,8 +3,8 @@ use Rattle.std.proofs.Common.{◌≡◌, ℕ, List, Bool, Ok, false, get_or, ref
 use Rattle.channel_face.specs.History.{Opening, Step}
 use Rattle.shared_channel.specs.Passes.{Known}
 use Rattle.shared_channel.specs.Ports.{Later}
-use Rattle.turn_passes.specs.Views.{saw}
-use Rattle.turn_passes.proofs.Histories.{begins_self}
+use Rattle.channel_lock.specs.Views.{saw}
+use Rattle.channel_lock.proofs.Histories.{begins_self}
 use Rattle.agent_run.specs.Draining.{GoesOn, under}
 use Rattle.agent_run.specs.Wholes.{CountsAreSilent, IsSilent, MendsAreSilent}
 use Rattle.agent_run.proofs.Silence.{silent_under}

@@ -10,7 +10,7 @@ use Rattle.sink_worker.specs.declared.worker.SinkWorker.{SinkWorker}
 use Rattle.source_put.specs.Chains.{Meaning}
 use Rattle.source_worker.specs.Rounds.{Heard}
 use Rattle.source_worker.specs.declared.worker.ListenWorker.{ListenWorker}
-use Rattle.turn_passes.specs.Calls.{calls_by}
+use Rattle.channel_lock.specs.Calls.{calls_by}
 use Rattle.two_channels.specs.declared.shared.EitherShared.{EitherShared}
 use Rattle.run_tracks.specs.Homes.{Took}
 use Rattle.run_tracks.specs.Listening.{home_tracks}

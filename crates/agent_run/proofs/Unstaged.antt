@@ -19,10 +19,10 @@ use Rattle.shared_channel.specs.Ports.{own_calls, own_if}
 use Rattle.shared_channel.proofs.Porting.{own-append}
 use Rattle.sink_worker.specs.Rounds.{Told}
 use Rattle.sink_worker.specs.declared.worker.SinkWorker.{SinkWorker}
-use Rattle.turn_passes.specs.Calls.{Below, calls_by, has, keep}
-use Rattle.turn_passes.specs.Turns.{MadeInTurn}
-use Rattle.turn_passes.specs.Views.{View}
-use Rattle.turn_passes.proofs.Histories.{calls_by-append, has_only}
+use Rattle.channel_lock.specs.Calls.{Below, calls_by, has, keep}
+use Rattle.channel_lock.specs.Turns.{MadeInTurn}
+use Rattle.channel_lock.specs.Views.{View}
+use Rattle.channel_lock.proofs.Histories.{calls_by-append, has_only}
 use Rattle.two_channels.specs.Shares.{MendsIn}
 use Rattle.two_channels.specs.declared.shared.EitherShared.{EitherShared}
 use Rattle.two_channels.specs.declared.shared.EitherShared.TheVariants as share
@@ -198,7 +198,7 @@ module _ {A B S C : Type 0} (sink : Told S) (moments : C → Option (ℕ → ℕ
       (left_below disk tells memory tells' (get_or shares place s) (get_or is.counted place final) (get_or settled.closed.items place e)
       (closed_at (IsClosed disk tells memory tells') shares is.counted settled.closed.items is.closed place s final e at_counted))
 
-  -- the calls behind the drainings
+  -- the calls after the drainings
   still_at_end : IsStill (get_or is.drained place final).view at_end
   still_at_end =
       let s = there shares place (omega (arith, below, many)) in

@@ -49,7 +49,7 @@ ran_zips Ran (v ∷ vs) (w ∷ ws) r = (
   }),
 )
 
--- of each first something holds, and it is in four pairs, one behind the other
+-- of each first something holds, and it is in four pairs, one after the other
 pub zips_four : {A B C D : Type 0} (P : A → Type 0) (R : A → B → Type 0) (S : B → C → Type 0) (T : C → D → Type 0) (U : A → D → Type 0)
     → ((a : A) (b : B) (c : C) (d : D) → P a → R a b → S b c → T c d → U a d)
     → (ws : List A) (xs : List B) (ys : List C) (zs : List D) → All P ws → Zips R ws xs → Zips S xs ys → Zips T ys zs → Zips U ws zs

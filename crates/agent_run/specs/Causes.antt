@@ -15,7 +15,7 @@ use Rattle.flume_host.specs.HostState.{HostState}
 use Rattle.netcat_source.specs.Lines.{IsCut, LinesEnd, Rest, TooLong}
 use Rattle.shared_channel.specs.Calls.{state_seen}
 use Rattle.shared_channel.specs.Passes.{Known}
-use Rattle.turn_passes.specs.Views.{View}
+use Rattle.channel_lock.specs.Views.{View}
 use Rattle.agent_commands.specs.Piped.{cause_status}
 use Rattle.agent_run.specs.FoldersTold.{folder_of}
 
@@ -88,7 +88,7 @@ pub record IsReadable (limit : Option ℕ) (input : Option (List ℕ)) : Type 0 
 -- channel is left broken for a fault of its disk. At 4 a channel is left broken for a checkpoint, a fault of the log, too many events or a
 -- number at its end, or a broken one is spent; and where one is so left, the status is 4. At 6 2^40 bytes were taken, at 7 a line is too long,
 -- and at 0 neither is so, up to the end of the input. Where no count rose, no channel in a folder is broken and the input can be read, the
--- status is 0 or want of memory.
+-- status is 0 or out of memory.
 pub record CausesTold (plan : Plan) (status : ℕ) (finals : List Known) (old new : HostState) : Type 0 where
   pub fault : status ≡ 3 → Rose old.faults new.faults ⊎ SomeIsLeft (λ cause. cause ≡ DiskFault) plan.channels.items finals
   pub held : status ≡ 4 → SomeIsLeft (λ cause. cause_status cause ≡ 4) plan.channels.items finals ⊎ SomeInFolder IsSpent plan.channels.items finals

@@ -17,7 +17,7 @@ use Rattle.avro_requests.specs.Requests.{Delivery, Requested, delivered}
 use Rattle.agent_run.specs.RolledTold.{CountsMore, WasTaken, committed}
 
 -- By the calls of its worker, a sink made requests on these links. Each link that was given has come back. It took the requests of batches
--- whose replies on it said OK, and behind them nothing, or a front of the request of a batch that was refused. As long as calls are counted,
+-- whose replies on it said OK, and after them nothing, or a front of the request of a batch that was refused. As long as calls are counted,
 -- the batches on all links, in order, are those whose commit was asked for.
 pub record RequestsTold (own : List Own) (seen : ℕ) (links : LinksTold) : Type 0 where
   pub done : List Delivery

@@ -32,7 +32,7 @@ use Rattle.agent_run.specs.declared.workers.Returned.{Returned}
 use Rattle.agent_run.specs.declared.workers.Workers.{Workers}
 
 -- The worker built its chain, or had no memory for it. Then one session was served, from what standard input and output were before to
--- what they are behind it: lines were read, each was put into the channels, and each was answered by what became of it. The batch of
+-- what they are after it: lines were read, each was put into the channels, and each was answered by what became of it. The batch of
 -- each line and each mend, in order, are all calls with the numbers of the worker's passes in the histories that were seen. Unless the
 -- output failed, all that was written was handed on. Faults are counted by what ended the session, among those of the host.
 pub record IsDialogue {A B I O C K : Type 0} (Means : Meaning K) (moments : C → Option (ℕ → ℕ)) (shares : List (EitherShared A B)) (seen : List Known)
@@ -77,7 +77,7 @@ module _ {R A B S N I O C K : Type 0} (runs : Runs (EitherPort R A B) S N I O C 
       → (end : SessionEnd) × IsDialogue Means moments shares seen job end old new
       × (ended_of returned.drains.items returned.lines.items ≡ record { input = end_of_session (Some end); output_failed = output_failed (Some end) })
 
--- Where the reading of standard input did not end for want of memory, the workers ran.
+-- Where the reading of standard input did not end when out of memory, the workers ran.
 abbrev pub RanUnlessNoMemory : {R A B S N I O C K : Type 0} → Runs (EitherPort R A B) S N I O C K → Told S → Meaning K → (C → Option (ℕ → ℕ)) → (N → Heard)
     → (I → Option (List ℕ)) → (I → ℕ) → (O → Option (List ℕ)) → (O → Option (List ℕ)) → (O → ℕ) → Type 0
 RanUnlessNoMemory {R} {A} {B} {S} {N} {I} {O} {C} {K} runs sink Means moments heard left read_faults took handed write_faults =

@@ -1,4 +1,4 @@
--- Which sinks of a run emptied their channels behind it.
+-- Which sinks of a run emptied their channels after it.
 use Rattle.std.specs.Prelude.{◌≡◌, ◌<◌, ◌++◌, ℕ, List, [], true, false, length, slice_index_or}
 use Rattle.std.specs.List.{AllByRecursion}
 use mathlib.Core.List.{IsPrefix}
@@ -19,14 +19,14 @@ IsNoPut (Put token event reply) = ⊥
 IsNoPut (StagePut token reply) = ⊥
 IsNoPut call = Unit {0}
 
--- What the one pass had seen begins what the other has, and no call behind it puts.
+-- What the one pass had seen begins what the other has, and no call after it puts.
 pub record PutsEnd (home final : Known) : Type 0 where
   pub base : final.view.base ≡ home.view.base
   pub rest : List Step
   pub whole : home.view.seen ++ rest ≡ final.view.seen
   pub none : AllByRecursion (λ (step : Step). IsNoPut step.call) rest
 
--- Behind what the one pass had seen there was a moment at which no event was left. Where none was staged then either, none is left in
+-- After what the one pass had seen there was a moment at which no event was left. Where none was staged then either, none is left in
 -- the end, as long as the disk tells.
 pub record WasEmptied (home final : Known) : Type 0 where
   pub front : List Step

@@ -10,7 +10,7 @@ use Rattle.shared_channel.specs.Passes.{Known, new_passes}
 use Rattle.shared_channel.specs.Ports.{Later}
 use Rattle.sink_worker.specs.Rounds.{Told}
 use Rattle.sink_worker.specs.declared.worker.SinkWorker.{SinkWorker}
-use Rattle.turn_passes.specs.Calls.{has}
+use Rattle.channel_lock.specs.Calls.{has}
 use Rattle.run_tracks.specs.Dealt.{HasNumber}
 use Rattle.run_tracks.specs.Drained.{IsDrainedInTrack}
 use Rattle.run_tracks.specs.Homes.{EachTook, StayElsewhere}

@@ -1,4 +1,4 @@
--- What the folders of a run's channels hold behind it.
+-- What the folders of a run's channels hold after it.
 use Rattle.std.specs.Prelude.{◌≡◌, ◌<◌, ℕ, List, Option, Some, None, false, length, slice_index_or, string_bytes}
 use Rattle.flume_config.specs.declared.plan.ChannelKind.{ChannelKind}
 use Rattle.flume_config.specs.declared.plan.ChannelKind.TheVariants.{File, Memory}
@@ -28,7 +28,7 @@ file_of (File folder max_file interval on_close) = max_file
 abbrev pub limits_of : ChannelPlan → Limits
 limits_of plan = record { capacity = plan.capacity; txn_capacity = plan.txn_capacity; max_file = file_of plan.kind }
 
--- Of a folder the host told this before a run and that behind it, by the pass that has seen all calls of the folder's channel. The
+-- Of a folder the host told this before a run and that after it, by the pass that has seen all calls of the folder's channel. The
 -- channel began with what the folder opened to, and its calls were answered as the machine answers them. Whatever a stop left of the
 -- folder at a moment since then opens to something that the calls up to that moment may leave. In the end the channel was not broken,
 -- and whatever a stop now leaves opens to just what is settled.

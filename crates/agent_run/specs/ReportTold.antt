@@ -15,7 +15,7 @@ abbrev pub counts_seen : Known → Counts
 counts_seen p = counts_of p.view.base p.view.seen
 
 -- The report has an entry for each channel of the plan, in order: its name, and what is counted of all its calls. It was written
--- whole behind what standard output had taken, which handed all of it on.
+-- whole after what standard output had taken, which handed all of it on.
 pub record ReportTold (plans : List ChannelPlan) (finals : List Known) (before : Option (List ℕ)) (new : HostState) : Type 0 where
   pub entries : List (String Global × Counts)
   pub names : NamesOf plans entries

@@ -16,7 +16,7 @@ use Rattle.sink_runner.specs.Laws.{given_by}
 use Rattle.sink_worker.specs.declared.worker.SinkWorker.{SinkWorker}
 use Rattle.agent_outside.specs.Sinks.{folder_of}
 
--- what a worker's transaction of takes has taken behind one more of its calls; a begin is the first of a new one
+-- what a worker's transaction of takes has taken after one more of its calls; a begin is the first of a new one
 abbrev pub taken_behind : List Content → Call → List Content
 taken_behind events (BeginTake reply) = []
 taken_behind events call = events ++ given_by call
@@ -31,7 +31,7 @@ abbrev pub committed : List Content → List Own → List (List Content)
 committed events [] = []
 committed events (own ∷ calls) = committed_by events own.call ++ committed (taken_behind events own.call) calls
 
--- what the transaction that was begun last had taken behind these calls
+-- what the transaction that was begun last had taken after these calls
 abbrev pub taken_since : List Content → List Own → List Content
 taken_since events [] = events
 taken_since events (own ∷ calls) = taken_since (taken_behind events own.call) calls
@@ -40,12 +40,12 @@ taken_since events (own ∷ calls) = taken_since (taken_behind events own.call) 
 abbrev pub WasTaken : List Own → List Content → Type 0
 WasTaken own batch = (front rest : List Own) × (own ≡ front ++ rest) × (taken_since [] front ≡ batch)
 
--- behind so many calls of a channel a further one is counted
+-- after so many calls of a channel a further one is counted
 abbrev pub CountsMore : ℕ → Type 0
 CountsMore seen = seen < 2 ^ 64 - 1025
 
--- By the calls of its worker, a sink filled a folder. Behind the files that were there it has others. They hold the batches whose commit
--- was asked for, each whole in one file, once and in order, as long as calls are counted; and behind its batches a file has nothing, or
+-- By the calls of its worker, a sink filled a folder. After the files that were there it has others. They hold the batches whose commit
+-- was asked for, each whole in one file, once and in order, as long as calls are counted; and after its batches a file has nothing, or
 -- a front of a batch that was taken, and refused for a fault of the folder.
 pub record FilesTold (own : List Own) (seen : ℕ) (old new : Rolled) : Type 0 where
   pub done : List Delivery

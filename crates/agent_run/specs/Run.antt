@@ -52,7 +52,7 @@ abbrev pub IsAtRest : {D B : Type 0} → (D → Option Told) → (D → ℕ) →
 IsAtRest told faults (closed.Disk c) = Shows (StandsOver (told c.channel.0) (faults c.channel.0) c.channel.1) (Rests (told c.channel.0))
 IsAtRest told faults (closed.Memory c) = Unit {0}
 
--- Behind a run the sinks' folders and dialers came back, then the channels' disks, and then the report was written, unless the output had failed.
+-- After a run the sinks' folders and dialers came back, then the channels' disks, and then the report was written, unless the output had failed.
 pub record IsGivenBack {R D A B : Type 0} (rolled : R → Option Rolled) (dial : DialTold A) (told : D → Option Told) (faults : D → ℕ) (plans : List SinkPlan)
     (wishes : List ChannelWish) (settled : Settled (AgentSink R A B) (D × FileState) MemoryChannel) (failed : Bool)
     (answer : Result (Unit {0}) ReportRefused) (old new : HostTold) : Type 0 where

@@ -45,7 +45,7 @@ use Rattle.agent_run.specs.declared.outside.Outside.{Outside}
 use Rattle.agent_run.specs.declared.prepare.Prepared.{Prepared}
 use Rattle.agent_run.specs.declared.settle.Settled.{Settled}
 
--- the passes of channels behind a run, each of which saw all calls of its channel
+-- the passes of channels after a run, each of which saw all calls of its channel
 abbrev pub passes_of : List ChannelEnd → List Known
 passes_of channels = map (λ (end : ChannelEnd). end.pass) channels
 
@@ -65,7 +65,7 @@ module _ {R A B S N I O C K : Type 0} (runs : Runs (EitherPort R A B) S N I O C 
   Joins Given manned homes = IsJoined (λ returned. HaveReturned runs sink Means moments heard talk manned.crew.shares.items homes manned.crew.jobs returned)
       (DrainKept left read_faults) (TalkKept left read_faults took handed write_faults) (Given manned)
 
-  -- the channels were settled behind them
+  -- the channels were settled after them
   abbrev pub Settles : List (EitherShared A B) → List Known → List (SinkWorker AtHome S C) → List (String Global × Counts) → Settled S A B → Type 0
   Settles = AreSettled (IsDrainedAt sink moments) (IsMended disk tells moment) (IsClosed disk tells memory tells')
 

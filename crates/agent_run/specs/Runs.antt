@@ -1,4 +1,4 @@
--- The workers of a run, before it, in it and behind it.
+-- The workers of a run, before it, in it and after it.
 use Rattle.std.specs.Prelude.{◌≡◌, ℕ, List, [], ◌∷◌, ◌++◌, All, flat_map}
 use Rattle.atomic_table.specs.Seated.{TableId}
 use Rattle.shared_channel.specs.Passes.{Known}

@@ -1,4 +1,4 @@
--- What becomes of the channels of a run behind its workers.
+-- What becomes of the channels of a run after its workers.
 use Rattle.std.specs.Prelude.{List, Bool, Result, String}
 use Rattle.std.specs.declared.alloc.Global.{Global}
 use Rattle.agent_end.specs.declared.draining.ChannelDrain.{ChannelDrain}

@@ -18,7 +18,7 @@ use Rattle.plan_support.specs.Least.{unsupported}
 use Rattle.run_tracks.specs.Homes.{EachTook}
 use Rattle.shared_channel.specs.Passes.{Known}
 use Rattle.sink_worker.specs.declared.worker.SinkWorker.{SinkWorker}
-use Rattle.turn_passes.specs.Turns.{HasAll}
+use Rattle.channel_lock.specs.Turns.{HasAll}
 use Rattle.two_channels.specs.Shares.{pass_of}
 use Rattle.two_channels.specs.declared.shared.EitherClosed.{EitherClosed}
 use Rattle.two_channels.specs.declared.shared.EitherShared.{EitherShared}

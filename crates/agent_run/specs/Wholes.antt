@@ -15,7 +15,7 @@ use Rattle.sink_worker.specs.declared.worker.SinkWorker.{SinkWorker}
 use Rattle.source_put.specs.Chains.{Meaning}
 use Rattle.source_worker.specs.Rounds.{Heard}
 use Rattle.line_worker.specs.Workers.{Talk}
-use Rattle.turn_passes.specs.Calls.{calls_by}
+use Rattle.channel_lock.specs.Calls.{calls_by}
 use Rattle.two_channels.specs.Shares.{IsDisk}
 use Rattle.two_channels.specs.declared.port.EitherPort.{EitherPort}
 use Rattle.two_channels.specs.declared.shared.EitherShared.{EitherShared}
@@ -64,7 +64,7 @@ AreOtherJobs [] = Unit {0}
 AreOtherJobs (job ∷ jobs) =
     AllByRecursion (λ other. other.channel ≡ job.channel → other.port.number ≡ job.port.number → ⊥) jobs × AreOtherJobs jobs
 
--- rounds of a sink's worker, and behind them a draining of its channel
+-- rounds of a sink's worker, and after them a draining of its channel
 pub record WorkedAndDrained {S : Type 0} (sink : Told S) (batch : ℕ) (OnDisk : Type 0) (turns : List Turn) (end : ChannelDrain)
     (old new : Taking Track S) : Type 0 where
   pub between : Taking Track S
@@ -87,7 +87,7 @@ AreBeside R [] [] [] = Unit {0}
 AreBeside R (a ∷ xs) (b ∷ ys) (c ∷ zs) = R a b c × AreBeside R xs ys zs
 AreBeside R xs ys zs = ⊥
 
--- Where sinks were told of in the histories that the passes at home had seen behind their run, and then emptied their channels, they
+-- Where sinks were told of in the histories that the passes at home had seen after their run, and then emptied their channels, they
 -- are told of with their drainings in each longer history that has no further calls with their numbers.
 abbrev pub SinksAreWhole : (A B : Type 0) → {S C : Type 0} → Told S → (C → Option (ℕ → ℕ)) → Type 0
 SinksAreWhole A B {S} {C} sink moments =
@@ -97,7 +97,7 @@ SinksAreWhole A B {S} {C} sink moments =
     → AreDrained (IsDrainedAt sink moments) workers homes ends backs drained → All (IsSilentAt drained last) workers
     → AreBeside (IsSinkWhole sink moments shares last) jobs ends backs
 
--- Where no two had one number in one channel before the run, none have behind it.
+-- Where no two had one number in one channel before the run, none have after it.
 abbrev pub OthersStay : (A B : Type 0) → {S C : Type 0} → Told S → (C → Option (ℕ → ℕ)) → Type 0
 OthersStay A B {S} {C} sink moments =
     (shares : List (EitherShared A B)) (homes : List Known) (jobs : List (SinkWorker Known S C)) (workers : List (SinkWorker AtHome S C))
@@ -107,7 +107,7 @@ OthersStay A B {S} {C} sink moments =
 abbrev pub AreSilentAt : List Known → List Known → List ℕ → List Known → Type 0
 AreSilentAt old new places passes = Zips (λ place p. StaysSilent place p.number old new) places passes
 
--- Where passes at home go on behind a run with no further calls with the numbers of listeners' passes, these are told of in what those
+-- Where passes at home go on after a run with no further calls with the numbers of listeners' passes, these are told of in what those
 -- have then seen.
 abbrev pub ListenersStayTold : {R A B S N I O C K : Type 0} → Runs (EitherPort R A B) S N I O C K → Meaning K → (C → Option (ℕ → ℕ)) → (N → Heard) → Type 0
 ListenersStayTold {R} {A} {B} {S} {N} {I} {O} {C} {K} runs Means moments heard =

@@ -163,7 +163,7 @@ fn run_opened<'a, R: Threads + Wait + Sync + 'a, H: Host + 'a, K: Interceptor + 
     Ran { ends, channels }
 }
 
-// Gives the sinks and the channels back behind a run, and writes the report.
+// Gives the sinks and the channels back after a run, and writes the report.
 fn give_rest<H: Host>(
     alloc: Global,
     host: &mut H,

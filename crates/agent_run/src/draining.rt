@@ -2,8 +2,8 @@
 ghost use Rattle.std.specs.Prelude.{◌≡◌, ◌≤◌, All, true};
 ghost use Rattle.std.specs.Vec.{vec_capacity};
 ghost use Rattle.sink_worker.specs.Rounds.{told};
-ghost use Rattle.turn_passes.specs.Calls.{has};
-ghost use Rattle.turn_passes.specs.Turns.{HasAll};
+ghost use Rattle.channel_lock.specs.Calls.{has};
+ghost use Rattle.channel_lock.specs.Turns.{HasAll};
 ghost use Rattle.two_channels.specs.Shares.{table_of};
 ghost use Rattle.run_tracks.specs.Homes.{AreHomes};
 ghost use Rattle.agent_run.specs.Draining.{AreDrained, EachGoesOn, HasOwn, IsDrainedAt, IsDrainedHome, IsSinkHome};

@@ -7,7 +7,7 @@ ghost use Rattle.run_tracks.specs.Places.{Zips};
 ghost use Rattle.sink_worker.specs.Rounds.{told};
 ghost use Rattle.source_worker.specs.Workers.{heard_of};
 ghost use Rattle.line_worker.specs.Workers.{talk_of};
-ghost use Rattle.turn_passes.specs.Turns.{HasAll};
+ghost use Rattle.channel_lock.specs.Turns.{HasAll};
 ghost use Rattle.two_channels.specs.Shares.{table_of};
 ghost use Rattle.agent_run.specs.Draining.{IsSinkHome};
 ghost use Rattle.agent_run.specs.Joined.{HaveReturned, IsButStreams, IsJoined, IsSameEnd};
@@ -36,7 +36,7 @@ use std::sync::Wait;
 use std::thread::Threads;
 use two_channels::{EitherPort, EitherShared};
 
-/// The sinks of a run behind it, and what ended the reading of standard input.
+/// The sinks of a run after it, and what ended the reading of standard input.
 #[derive(Drop)]
 pub(crate) struct Joined<S, C> {
     /// The sinks, each with the number of its pass.

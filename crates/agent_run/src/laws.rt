@@ -19,7 +19,7 @@ use std::sync::Wait;
 use two_channels::EitherPort;
 
 /// The first of a channel's new passes carries a number of its own, and so does a pass at home that took others in: as
-/// [`drain_sinks`](crate::drain_sinks) asks it of the passes at home behind a run.
+/// [`drain_sinks`](crate::drain_sinks) asks it of the passes at home after a run.
 pub fn own_numbers_are_kept()
     ensures first { FirstHasOwn }
     ensures kept { OwnIsKept }
@@ -27,14 +27,14 @@ pub fn own_numbers_are_kept()
 
 /// The rounds of each sink in a run and then its draining, in order, are all calls with the number of its pass in what the pass at
 /// home of its channel has seen in the end, where no two sinks have one number in one channel, and no call with a sink's number came
-/// behind the drainings. Where no two had one number before the run, none have behind it.
+/// after the drainings. Where no two had one number before the run, none have after it.
 pub fn sinks_are_whole<A: Channel, B: Channel, S: EventSink, C: Clock>()
     ensures whole { SinksAreWhole A B (told S.delivers S.faults) C.moments }
     ensures others { OthersStay A B (told S.delivers S.faults) C.moments }
 {}
 
-/// What is told of each listener behind a run stays told in what the passes at home have seen in the end, where no call with a number
-/// of its passes came behind the run.
+/// What is told of each listener after a run stays told in what the passes at home have seen in the end, where no call with a number
+/// of its passes came after the run.
 pub fn listeners_stay_told<
     'a,
     R: Wait + 'a,
@@ -55,8 +55,8 @@ pub fn listeners_stay_told<
         K.intercepts C.moments (heard_of N.told N.faults N.waits) }
 {}
 
-/// What is told of each worker of lines behind a run, the calls of its session with what it read and wrote, stays told in what the
-/// passes at home have seen in the end, where no call with a number of its passes came behind the run.
+/// What is told of each worker of lines after a run, the calls of its session with what it read and wrote, stays told in what the
+/// passes at home have seen in the end, where no call with a number of its passes came after the run.
 pub fn lines_stay_told<
     'a,
     R: Wait + 'a,
@@ -78,8 +78,8 @@ pub fn lines_stay_told<
 {}
 
 /// Where a run has one worker of lines, standard input and output have had its dialogue: what the host had of the input was read as
-/// lines, the batch of each is in the histories, and the replies stand behind what the output had taken. It is so in whatever histories
-/// the worker is told of, in those behind the run or in those at the end. Where the input was read to its end, so ended the session.
+/// lines, the batch of each is in the histories, and the replies stand after what the output had taken. It is so in whatever histories
+/// the worker is told of, in those after the run or in those at the end. Where the input was read to its end, so ended the session.
 pub fn lines_are_answered<
     'a,
     R: Wait + 'a,
@@ -101,7 +101,7 @@ pub fn lines_are_answered<
     ensures ends { EndsAtEnd }
 {}
 
-/// Where the reading of standard input did not end for want of memory, there was memory for the run, and the workers ran. So they did
+/// Where the reading of standard input did not end when out of memory, there was memory for the run, and the workers ran. So they did
 /// where the run's status is 0; and a worker of lines then had its dialogue to the end of standard input.
 pub fn workers_ran<
     'a,
@@ -131,7 +131,7 @@ pub fn workers_ran<
         I.left I.faults O.took O.handed O.faults }
 {}
 
-/// Behind a run a number of a worker's pass stays silent: while sinks that have not this number in this channel empty their channels,
+/// After a run a number of a worker's pass stays silent: while sinks that have not this number in this channel empty their channels,
 /// while channels are mended through passes at home that carry another number, and while they are counted.
 pub fn silence_is_kept<A: Reopen, B: Channel, S: EventSink, C: Clock>()
     ensures drains { DrainsAreSilent (told S.delivers S.faults) C.moments }

@@ -24,7 +24,7 @@ pub(crate) struct ChannelLists<A: Channel, B: Channel> {
     pub hands: Vec<Vec<Pass>>,
     /// The passes of the channels once they are closed.
     pub passes: Vec<Pass>,
-    /// The channels with their passes and workers, behind the run.
+    /// The channels with their passes and workers, after the run.
     pub ends: Vec<ChannelEnd>,
 }
 

@@ -98,7 +98,7 @@ pub(crate) struct Manned<A: Channel, B: Channel, S, N, I, O, C, K> {
     pub labels: Vec<ChannelLabel>,
     /// Room for the passes of the channels once they are closed.
     pub passes: Vec<Pass>,
-    /// Room for the channels with their passes and workers, behind the run.
+    /// Room for the channels with their passes and workers, after the run.
     pub ends: Vec<ChannelEnd>,
     /// Room for what comes back of the workers.
     pub returned: Returned<S, N, I, O, C>,

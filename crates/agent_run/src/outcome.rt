@@ -15,7 +15,7 @@ pub struct Worker {
     pub number: u64,
 }
 
-/// A channel of a run behind it.
+/// A channel of a run after it.
 #[derive(Drop)]
 pub struct ChannelEnd {
     /// Its name.

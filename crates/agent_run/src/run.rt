@@ -143,7 +143,7 @@ pub fn run_agent<'a, R: Threads + Wait + Sync + 'a, H: Host + 'a>(
     host: &mut H,
     plugins: Plugins,
 ) -> Outcome
-    // The words are a command that runs, or the status is 1 and nothing was touched; want of memory may come before.
+    // The words are a command that runs, or the status is 1 and nothing was touched; out of memory may come before.
     ensures usage { result.status ≡ 1 → IsNoCommand (texts words.now) }
     ensures no_command { IsNoCommand (texts words.now) → (result.status ≡ 1) ⊎ (result.status ≡ 5) }
     ensures nothing { IsNoCommand (texts words.now) → H.state host.new ≡ H.state host.old }

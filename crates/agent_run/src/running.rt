@@ -2,7 +2,7 @@
 ghost use Rattle.std.specs.Prelude.{◌≡◌, All, OnErr, OnOk};
 ghost use Rattle.run_tracks.specs.Dealt.{AreDealt};
 ghost use Rattle.run_tracks.specs.Homes.{AreHomes, EachTook};
-ghost use Rattle.turn_passes.specs.Turns.{HasAll};
+ghost use Rattle.channel_lock.specs.Turns.{HasAll};
 ghost use Rattle.two_channels.specs.Shares.{table_of};
 ghost use Rattle.sink_worker.specs.Rounds.{told};
 ghost use Rattle.run_tracks.specs.Places.{Zips};

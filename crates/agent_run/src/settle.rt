@@ -1,9 +1,9 @@
-// What the caller does with the channels of a run behind its workers.
+// What the caller does with the channels of a run after its workers.
 ghost use Rattle.std.specs.Prelude.{◌≡◌, ◌≤◌, [], All, length};
 ghost use Rattle.std.specs.Vec.{vec_capacity};
 ghost use Rattle.run_tracks.specs.Homes.{AreHomes};
 ghost use Rattle.sink_worker.specs.Rounds.{told};
-ghost use Rattle.turn_passes.specs.Turns.{HasAll};
+ghost use Rattle.channel_lock.specs.Turns.{HasAll};
 ghost use Rattle.two_channels.specs.Shares.{table_of};
 ghost use Rattle.agent_run.specs.Draining.{HasOwn, IsDrainedAt, IsSinkHome};
 ghost use Rattle.agent_run.specs.Opened.{HasRoom};
@@ -59,7 +59,7 @@ fn mend_and_count<R: Wait, A: Reopen, B: Channel>(
     count_all(rt, shares, homes, report);
 }
 
-/// Behind the join of the workers each sink empties its channel, one after the other; then each channel is mended, counted and
+/// After the join of the workers each sink empties its channel, one after the other; then each channel is mended, counted and
 /// closed. The lists of `room` have room, and one mend and one entry of the report for each channel: so it takes no memory but that
 /// of the sinks' runs and of the mends.
 pub(crate) fn settle<

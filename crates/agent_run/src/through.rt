@@ -30,7 +30,7 @@ use std::sync::Wait;
 use std::thread::Threads;
 use two_channels::EitherPort;
 
-/// What a run does: which plans came to which ends and channels, from what the host told before to what it told behind it.
+/// What a run does: which plans came to which ends and channels, from what the host told before to what it told after it.
 pub trait Runs {
     /// A run of this plan came to these ends and channels: its steps, and what they come to.
     ghost ran: { Plan → RunEnds → List ChannelEnd → HostTold → HostTold → Type 0 };

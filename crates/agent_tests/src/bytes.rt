@@ -9,7 +9,7 @@ pub fn number_of(text: &str) -> Option<u64> {
     text.parse::<u64>().ok()
 }
 
-// The byte that a letter behind a backslash stands for; any other one stands for itself.
+// The byte that a letter after a backslash stands for; any other one stands for itself.
 fn escaped(letter: u8) -> u8 {
     match letter {
         b'n' => b'\n',

@@ -20,7 +20,7 @@ const THIRD_LINE: &[u8] = b"FLUMELOG\x00\x01\x00\x01\x00\x00\x00\x02\
 // The second log file, as an opening began it.
 const BEGUN_2: &[u8] = b"FLUMELOG\x00\x01\x00\x01\x00\x00\x00\x02\x00";
 
-// A header whose commit byte is 1, with no frame behind it.
+// A header whose commit byte is 1, with no frame after it.
 const CUT_FRAME: &[u8] = b"FLUMELOG\x00\x01\x00\x01\x00\x00\x00\x01\x01\x00";
 
 // A frame with another end.

@@ -176,7 +176,7 @@ const ANSWERS: [&[u8]; 3] = [
     b"FAILED: channel refused\n",
 ];
 
-// What is written behind the first answer, if one stands there.
+// What is written after the first answer, if one stands there.
 fn behind_answer(text: &[u8]) -> Option<&[u8]> {
     for answer in &ANSWERS {
         if let Some(rest) = text.strip_prefix(*answer) {
@@ -330,7 +330,7 @@ fn is_noted_in(noted: u64, range: &str) -> bool {
     }
 }
 
-// What stands behind `if-sound`, as in `if-sound left -`, is so, where no call of the rolled files failed.
+// What stands after `if-sound`, as in `if-sound left -`, is so, where no call of the rolled files failed.
 fn is_so_if_sound(scene: &Scene, line: &str) -> bool {
     let (word, rest) = line.split_once(' ').unwrap_or((line, ""));
     match number(scene, "roll-faults") {

@@ -1,6 +1,6 @@
 // Packs of Avro messages by the specification's rules, byte for byte.
 
-// Serial 6: a handshake of the hash that both have (RFC 1321 of the text, by another program), and no call behind it.
+// Serial 6: a handshake of the hash that both have (RFC 1321 of the text, by another program), and no call after it.
 const HELLO: &[u8] =
     b"\x00\x00\x00\x06\x00\x00\x00\x01\x00\x00\x00\x24\x30\xda\x54\x05\x9d\xf7\x2d\x95\x84\xb8\x67\xd5\x20\x2e\x20\x69\x00\x30\xda\x54\x05\x9d\xf7\x2d\x95\x84\xb8\x67\xd5\x20\x2e\x20\x69\x00\x00\x00";
 
@@ -35,14 +35,14 @@ const STRANGE: &[u8] =
 // NONE, in front of this agent's text.
 const NONE: &[u8] = b"\x00\x00\x00\x01\x00\x00\x00\x01\x00\x00\x02\x13\x04\x02\xfa\x07";
 
-// Its hash, behind the text.
+// Its hash, after the text.
 const NONE_END: &[u8] = b"\x02\x30\xda\x54\x05\x9d\xf7\x2d\x95\x84\xb8\x67\xd5\x20\x2e\x20\x69\x00";
 
 // Serial 2: the hash 07.., in front of the client's text.
 const TOLD: &[u8] =
     b"\x00\x00\x00\x02\x00\x00\x00\x01\x00\x00\x02\x36\x07\x07\x07\x07\x07\x07\x07\x07\x07\x07\x07\x07\x07\x07\x07\x07\x02\xfa\x07";
 
-// Behind the text: the server's hash, no metadata, and appendBatch of the bodies `x` and `y`.
+// After the text: the server's hash, no metadata, and appendBatch of the bodies `x` and `y`.
 const TOLD_END: &[u8] =
     b"\x30\xda\x54\x05\x9d\xf7\x2d\x95\x84\xb8\x67\xd5\x20\x2e\x20\x69\x00\x00\x16appendBatch\x04\x00\x02x\x00\x02y\x00";
 
@@ -54,7 +54,7 @@ const TOLD_REPLY: &[u8] =
 const CLIENT_HELLO: &[u8] =
     b"\x00\x00\x00\x01\x00\x00\x00\x01\x00\x00\x02\x33\x30\xda\x54\x05\x9d\xf7\x2d\x95\x84\xb8\x67\xd5\x20\x2e\x20\x69\x02\xfa\x07";
 
-// Behind the text: the server's hash, no metadata, and appendBatch of one event without headers, up to its body.
+// After the text: the server's hash, no metadata, and appendBatch of one event without headers, up to its body.
 const CALL: &[u8] =
     b"\x30\xda\x54\x05\x9d\xf7\x2d\x95\x84\xb8\x67\xd5\x20\x2e\x20\x69\x00\x00\x16appendBatch\x02\x00\x02";
 
@@ -66,7 +66,7 @@ const SECOND: &[u8] =
 const REPLY_OK: &[u8] =
     b"\x00\x00\x00\x01\x00\x00\x00\x01\x00\x00\x00\x07\x00\x00\x00\x00\x00\x00\x00";
 
-// The same, and a byte behind it.
+// The same, and a byte after it.
 const REPLY_OK_AND_MORE: &[u8] =
     b"\x00\x00\x00\x01\x00\x00\x00\x01\x00\x00\x00\x07\x00\x00\x00\x00\x00\x00\x00\x00";
 

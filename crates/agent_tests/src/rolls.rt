@@ -2,8 +2,8 @@
 use crate::scenarios::pass;
 use std::test::Fail;
 
-// A file is begun, the line and its end are written, and the file is flushed; behind a fault the next file is begun. At least two takes
-// are tried for each delivery. The line of a link is answered once, and delivered behind the fault while the input is held.
+// A file is begun, the line and its end are written, and the file is flushed; after a fault the next file is begun. At least two takes
+// are tried for each delivery. The line of a link is answered once, and delivered after the fault while the input is held.
 const ROLLED: &str = r#"The file is not begun.
 use LISTENING
 a.sources = n

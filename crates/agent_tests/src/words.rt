@@ -108,7 +108,7 @@ fn add_faults(faults: &mut Vec<DiskFault>, part: Part, calls: &str) -> bool {
     true
 }
 
-// The call behind those that were noted fails.
+// The call after those that were noted fails.
 fn fail_behind_noted(scene: &mut Scene) -> bool {
     let fault = DiskFault {
         call: scene.noted.saturating_add(1),

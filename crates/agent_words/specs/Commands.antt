@@ -5,7 +5,7 @@ use Rattle.agent_words.specs.Options.{AreOptions}
 use Rattle.agent_words.specs.declared.command.Command.{Command}
 use Rattle.agent_words.specs.declared.command.Command.TheVariants.{Pipe, Agent, Check, Load}
 
--- the words behind a command's first one are options that give a name and a file
+-- the words after a command's first one are options that give a name and a file
 abbrev pub IsAsked : List (List ℕ) → List ℕ → List ℕ → List ℕ → Type 0
 IsAsked words first name file = (rest : List (List ℕ)) × (words ≡ first ∷ rest) × AreOptions rest name file
 

@@ -6,7 +6,7 @@ use Rattle.agent_words.specs.Words.{texts, IsName, flag_of}
 use Rattle.agent_words.specs.declared.options.Asked.{Asked}
 use Rattle.agent_words.specs.declared.flag.Flag.TheVariants as flags
 
--- an option, by its word and the value behind it
+-- an option, by its word and the value after it
 pub data Given : Type 0 where
   Name : List ℕ → List ℕ → Given
   File : List ℕ → List ℕ → Given
@@ -25,7 +25,7 @@ given_words (File word value) = word ∷ value ∷ []
 given_words (Folder word value) = word ∷ value ∷ []
 given_words (Define word) = word ∷ []
 
--- the words of options, one behind another
+-- the words of options, one after another
 abbrev pub all_words : List Given → List (List ℕ)
 all_words [] = []
 all_words (g ∷ gs) = given_words g ++ all_words gs

@@ -7,7 +7,7 @@ use Rattle.plan_refused.specs.declared.refused.PlanRefused.TheVariants as plan
 use Rattle.agent_words.specs.declared.error.RunError.{RunError}
 use Rattle.agent_words.specs.declared.error.RunError.TheVariants.{Usage, FileTooLarge, Text, NoAgent, Plan, Fault, BadCheckpoint, BadLog, OverCapacity, Spent, Damaged, NoMemory, InputTooLong, LineTooLong}
 
--- a text that is at fault has status 2, and want of memory 5
+-- a text that is at fault has status 2, and out of memory 5
 abbrev pub text_status : PropRefused → ℕ
 text_status (text.NotUtf8 at) = 2
 text_status (text.BadEscape line) = 2

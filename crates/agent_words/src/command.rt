@@ -38,7 +38,7 @@ fn count(text: &str) -> Option<u32>
     }
 }
 
-/// `pipe DIR`, by the words behind the first.
+/// `pipe DIR`, by the words after the first.
 fn pipe(alloc: Global, words: &[String]) -> Result<Option<Command>, NoMemory>
     ensures { Reads (codes "pipe" ∷ texts words.now) result }
 {
@@ -50,7 +50,7 @@ fn pipe(alloc: Global, words: &[String]) -> Result<Option<Command>, NoMemory>
     }))
 }
 
-/// `load N DIR`, by the words behind the first.
+/// `load N DIR`, by the words after the first.
 fn load(alloc: Global, words: &[String]) -> Result<Option<Command>, NoMemory>
     ensures { Reads (codes "load" ∷ texts words.now) result }
 {
@@ -79,7 +79,7 @@ fn asked(alloc: Global, words: &[String]) -> Result<Option<(String, String)>, No
     }
 }
 
-/// `agent` and its options, by the words behind the first.
+/// `agent` and its options, by the words after the first.
 fn agent(alloc: Global, words: &[String]) -> Result<Option<Command>, NoMemory>
     ensures { Reads (codes "agent" ∷ texts words.now) result }
 {
@@ -89,7 +89,7 @@ fn agent(alloc: Global, words: &[String]) -> Result<Option<Command>, NoMemory>
     }
 }
 
-/// `check` and its options, by the words behind the first.
+/// `check` and its options, by the words after the first.
 fn check(alloc: Global, words: &[String]) -> Result<Option<Command>, NoMemory>
     ensures { Reads (codes "check" ∷ texts words.now) result }
 {
@@ -99,12 +99,12 @@ fn check(alloc: Global, words: &[String]) -> Result<Option<Command>, NoMemory>
     }
 }
 
-/// Reads the words behind the program's name, as the command that they are. It is `None` exactly where they are no
+/// Reads the words after the program's name, as the command that they are. It is `None` exactly where they are no
 /// command.
 ///
 /// # Errors
 ///
-/// [`NoMemory`] for want of memory.
+/// [`NoMemory`] when out of memory.
 pub fn read_words(alloc: Global, words: &[String]) -> Result<Option<Command>, NoMemory>
     ensures { Reads (texts words.now) result }
 {

@@ -51,7 +51,7 @@ fn add(
 ///
 /// # Errors
 ///
-/// [`NoMemory`] for want of memory.
+/// [`NoMemory`] when out of memory.
 pub fn report(alloc: Global, channels: &[(String, Counts)]) -> Result<String, NoMemory>
     ensures { IfOk result (λ text. string_bytes text ≡ report_text channels.now) }
 {

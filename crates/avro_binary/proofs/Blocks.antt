@@ -20,7 +20,7 @@ shift-shift m n (Lacks at k) =
     cc
 shift-shift m n (Wrong k) = ap Wrong (omega arith)
 
--- Behind this front so many items of a block are left, and these values came before.
+-- After this front so many items of a block are left, and these values came before.
 pub record Continues {V : Type 0} (Item : List ℕ → V → Type 0) (Faults : List ℕ → Fault → Type 0) (front : List ℕ) (left : ℕ) (values : List V) : Type 0 where
   pub goes_on : (rest : List ℕ) (others : List V) → IsItems Item left rest others → IsItems Item 0 (front ++ rest) (values ++ others)
   pub faults : Moves (ItemsFault Item Faults left) (ItemsFault Item Faults 0) front
@@ -70,7 +70,7 @@ reads_count (suc left) bytes at result none r = absurd (omega arith)
 pub part_none : (bytes : List ℕ) (at : ℕ) → part bytes at at ≡ []
 part_none bytes at = let e : at - at ≡ 0 = omega arith in ap (λ (n : ℕ). take n (drop at bytes)) e
 
--- the loop is at a place behind these values
+-- the loop is at a place after these values
 pub record Reached {V : Type 0} (Item : List ℕ → V → Type 0) (Faults : List ℕ → Fault → Type 0) (bytes : List ℕ) (at place left : ℕ) (values : List V) : Type 0 where
   pub within : IsPart bytes at place
   pub so_far : Continues Item Faults (part bytes at place) left values

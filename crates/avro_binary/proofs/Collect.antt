@@ -86,7 +86,7 @@ too_large event events.NoMemory t = absurd t
 pub size_of : (bytes : List ℕ) (start end : ℕ) (headers : List Header) (body : List ℕ) → IsPart bytes start end → body ≡ part bytes start end → size (content headers body) ≡ headers_size headers + (end - start) + 8
 size_of bytes start end headers body p e = omega (arith, size-sum (content headers body), ap length e, length-part bytes start end p)
 
--- headers, and behind them a body
+-- headers, and after them a body
 pub event_of : (bytes : List ℕ) (at mid start end : ℕ) (headers : List Header) (body : List ℕ) (entries : List (List ℕ × List ℕ)) → IsPart bytes at mid → IsPart bytes mid end → IsMap (part bytes at mid) entries → headers ≡ headers_of entries → IsBytes (part bytes mid end) (part bytes start end) → body ≡ part bytes start end → IsEvent (part bytes at end) (content headers body)
 event_of bytes at mid start end headers body entries p q m h b e = record {
   front = part bytes at mid;

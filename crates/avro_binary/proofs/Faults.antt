@@ -7,7 +7,7 @@ use Rattle.avro_binary.specs.Reading.{part, IsPart, LacksAt, WrongAt, IsFault}
 use Rattle.avro_binary.specs.Found.{IsRefusal}
 use Rattle.avro_binary.proofs.Lists.{rest_part, length-part}
 
--- a fault behind this front is one of the whole
+-- a fault after this front is one of the whole
 abbrev pub Moves : (List ℕ → Fault → Type 0) → (List ℕ → Fault → Type 0) → List ℕ → Type 0
 Moves Inner Outer front = (rest : List ℕ) (f : Fault) → Inner rest f → Outer (front ++ rest) (shift (length front) f)
 

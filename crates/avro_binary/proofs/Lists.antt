@@ -12,7 +12,7 @@ same_front a b x y len e = (
 pub length-part : (bytes : List ℕ) (at end : ℕ) → IsPart bytes at end → length (part bytes at end) ≡ end - at
 length-part bytes at end p = let l = p.0 in let r = p.1 in omega (arith, length-take (end - at) (drop at bytes), length-drop at bytes)
 
--- what is left behind a part
+-- what is left after a part
 pub rest_part : (bytes : List ℕ) (at end : ℕ) → IsPart bytes at end → drop at bytes ≡ part bytes at end ++ drop end bytes
 rest_part bytes at end p =
     let l = p.0 in

@@ -114,7 +114,7 @@ items_whole {V} Item Faults free whole_item j k front rest bytes v f jk at (Clos
     let s = same_count front first' rest more' 0 n' c c' (sym at ∙ whole') in
     omega (arith, s.1)
 
--- a value, and behind it a fault
+-- a value, and after it a fault
 behind_whole : {V W : Type 0} (First : List ℕ → V → Type 0) (Second : List ℕ → W → Type 0) (Faults : List ℕ → Fault → Type 0) (a b front rest : List ℕ) (v : V) (w : W) (f : Fault) → IsPrefixFree First → ExcludesFaults Second Faults → front ≡ a ++ b → First a v → Second b w → Behind First Faults (front ++ rest) f → ⊥
 behind_whole First Second Faults a b front rest v w f free whole_second whole p q h =
     let g = sym (parts a b front rest whole) ∙ h.whole in

@@ -79,9 +79,9 @@ one_text bytes f g (NotUtf8 front content rest whole long other e) (NotUtf8 fron
 pub one_fixed : HasOneFault FixedFault
 one_fixed bytes f g h k = h.1 ∙ sym k.1
 
--- ---- one value behind another
+-- ---- one value after another
 
--- the same fault behind the same front
+-- the same fault after the same front
 pub same_shift : (a b : List ℕ) (i j f g : Fault) → a ≡ b → i ≡ j → f ≡ shift (length a) i → g ≡ shift (length b) j → f ≡ g
 same_shift a b i j f g p q e e' = e ∙ ap (λ (t : List ℕ). shift (length t) i) p ∙ ap (λ (k : Fault). shift (length b) k) q ∙ sym e'
 

@@ -157,7 +157,7 @@ more_count zero n le = omega arith
 more_count (suc m) zero le = absurd (omega arith)
 more_count (suc m) (suc n) le = omega (arith, some_count_len (suc m) (omega arith), some_count_len (suc n) (omega arith), more_groups (2 * suc m) (2 * suc n) (omega arith))
 
--- a count, written plain or with a size behind it, is no shorter
+-- a count, written plain or with a size after it, is no shorter
 shortest_count : (bytes : List ℕ) (n : ℕ) → IsCount bytes n → count_len n ≤ length bytes
 shortest_count bytes zero c = omega arith
 shortest_count bytes (suc n) (Plain long) = shortest_long bytes (pos (suc n)) long
@@ -182,7 +182,7 @@ items_len written [] = refl
 items_len written (value ∷ values) =
     omega (arith, length-append (written_number (pos (length (value ∷ values)))) (flat_map written (value ∷ values) ++ 0 ∷ []), length-append (flat_map written (value ∷ values)) (0 ∷ []))
 
--- behind a block's count: its items, and the counts of the blocks behind it
+-- after a block's count: its items, and the counts of the blocks after it
 blocks_len : {V : Type 0} (Item : List ℕ → V → Type 0) (written : V → List ℕ) → IsShortest Item written → (left : ℕ) (bytes : List ℕ) (values : List V) → IsItems Item left bytes values → (left ≤ length values) × (length (flat_map written values) + count_len (length values - left) + 1 ≤ length bytes)
 blocks_len {V} Item written shortest left bytes values (Next left' all front rest value others whole i more) =
     let r = blocks_len Item written shortest left' rest others more in

@@ -8,7 +8,7 @@ use Rattle.avro_binary.specs.Value.{IsBytes, BytesFault, Negative, Cut, TextFaul
 use Rattle.avro_binary.specs.Reading.{part, IsPart, LacksAt, WrongAt}
 use Rattle.avro_binary.proofs.Lists.{rest_part, length-part, join_parts}
 
--- content behind its length
+-- content after its length
 pub counted : (bytes : List ℕ) (at start end n : ℕ) → IsPart bytes at start → IsPart bytes start end → IsLong (part bytes at start) (pos n) → end ≡ start + n → IsBytes (part bytes at end) (part bytes start end)
 counted bytes at start end n p q long e =
     let len : length (part bytes start end) ≡ n = length-part bytes start end q ∙ omega arith in

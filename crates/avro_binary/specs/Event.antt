@@ -12,7 +12,7 @@ use Rattle.avro_binary.specs.Reading.{part, IsPart, LacksAt, WrongAt}
 abbrev pub headers_of : List Header → List Header
 headers_of entries = fold (λ headers entry. with_header headers entry.0 entry.1) [] entries
 
--- the headers, and behind them the body
+-- the headers, and after them the body
 pub record IsEvent (bytes : List ℕ) (event : Content) : Type 0 where
   pub front : List ℕ
   pub back : List ℕ
@@ -40,7 +40,7 @@ abbrev pub first_large : List Content → Option ℕ
 first_large [] = None
 first_large (event ∷ events) = if nat_lt max_size (size event) then Some (size event) else first_large events
 
--- what a reader of an event answers; want of memory is free
+-- what a reader of an event answers; out of memory is free
 abbrev pub ReadsEvent : List ℕ → ℕ → Result (Content × ℕ) ValueRefused → Type 0
 ReadsEvent bytes at (Ok found) = IsPart bytes at found.1 × IsEvent (part bytes at found.1) found.0 × (size found.0 ≤ max_size)
 ReadsEvent bytes at (Err (Short field need)) = LacksAt EventFault bytes at field need

@@ -12,7 +12,7 @@ abbrev pub shift : ℕ → Fault → Fault
 shift n (Lacks at m) = Lacks (n + at) (n + m)
 shift n (Wrong m) = Wrong (n + m)
 
--- a value, and behind it a fault
+-- a value, and after it a fault
 pub record Behind {V : Type 0} (Spells : List ℕ → V → Type 0) (Faults : List ℕ → Fault → Type 0) (bytes : List ℕ) (f : Fault) : Type 0 where
   pub front : List ℕ
   pub rest : List ℕ

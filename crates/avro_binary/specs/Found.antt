@@ -10,7 +10,7 @@ use Rattle.avro_binary.specs.Items.{IsMap, MapFault}
 use Rattle.avro_binary.specs.Event.{IsEvent, EventFault, headers_of, first_large, max_size}
 use Rattle.avro_binary.specs.Reading.{part, IsPart, LacksAt, WrongAt}
 
--- the first fault, or want of memory
+-- the first fault, or out of memory
 abbrev pub IsRefusal : (List ℕ → Fault → Type 0) → List ℕ → ℕ → ValueRefused → Type 0
 IsRefusal Faults bytes at (Short field need) = LacksAt Faults bytes at field need
 IsRefusal Faults bytes at (Bad field) = WrongAt Faults bytes at field

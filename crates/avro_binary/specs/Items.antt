@@ -13,7 +13,7 @@ pub data CountFault (bytes : List ℕ) (f : Fault) : Type 0 where
   InCount : LongFault bytes f → CountFault bytes f
   InSize : (front rest : List ℕ) (k : ℕ) (inner : Fault) → bytes ≡ front ++ rest → IsLong front (negsuc k) → LongFault rest inner → f ≡ shift (length front) inner → CountFault bytes f
 
--- The items of a block of which so many are left, and of the blocks behind it.
+-- The items of a block of which so many are left, and of the blocks after it.
 pub data IsItems {V : Type 0} (Item : List ℕ → V → Type 0) : ℕ → List ℕ → List V → Type 0 where
   -- an item of the block
   Next : (left : ℕ) (bytes front rest : List ℕ) (value : V) (values : List V) → bytes ≡ front ++ rest → Item front value → IsItems Item left rest values → IsItems Item (suc left) bytes (value ∷ values)
@@ -22,7 +22,7 @@ pub data IsItems {V : Type 0} (Item : List ℕ → V → Type 0) : ℕ → List 
   -- a count of 0 ends them
   Close : (bytes : List ℕ) → IsCount bytes 0 → IsItems Item 0 bytes []
 
--- the first fault in the block and behind it
+-- the first fault in the block and after it
 pub data ItemsFault {V : Type 0} (Item : List ℕ → V → Type 0) (Faults : List ℕ → Fault → Type 0) : ℕ → List ℕ → Fault → Type 0 where
   AtItem : (left : ℕ) (bytes : List ℕ) (f : Fault) → Faults bytes f → ItemsFault Item Faults (suc left) bytes f
   AfterItem : (left : ℕ) (bytes front rest : List ℕ) (value : V) (f inner : Fault) → bytes ≡ front ++ rest → Item front value → ItemsFault Item Faults left rest inner → f ≡ shift (length front) inner → ItemsFault Item Faults (suc left) bytes f

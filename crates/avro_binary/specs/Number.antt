@@ -4,7 +4,7 @@ use Rattle.std.specs.List.{AllByRecursion}
 use Rattle.avro_binary.specs.Fault.{Fault, Lacks, Wrong}
 
 -- Groups of seven bits, the lowest first. A byte below 128 is the last; one from 128 on has seven bits, and the bytes
--- behind it stand for the rest, which may be 0.
+-- after it stand for the rest, which may be 0.
 abbrev pub IsGroups : List ℕ → ℕ → Type 0
 IsGroups [] n = ⊥
 IsGroups (b ∷ []) n = (b < 128) × (n ≡ b)

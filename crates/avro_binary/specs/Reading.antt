@@ -27,7 +27,7 @@ IsFault Faults bytes at (Bad field) = WrongAt Faults bytes at field
 IsFault Faults bytes at (TooLarge size end) = ⊥
 IsFault Faults bytes at NoMemory = ⊥
 
--- a value and the offset behind it, or the fault
+-- a value and the offset after it, or the fault
 abbrev pub Reads : {V X : Type 0} → (X → V) → (List ℕ → V → Type 0) → (List ℕ → Fault → Type 0) → List ℕ → ℕ → Result (X × ℕ) ValueRefused → Type 0
 Reads view Spells Faults bytes at (Ok found) = IsPart bytes at found.1 × Spells (part bytes at found.1) (view found.0)
 Reads view Spells Faults bytes at (Err e) = IsFault Faults bytes at e
@@ -37,7 +37,7 @@ abbrev pub ReadsContent : (List ℕ → List ℕ → Type 0) → (List ℕ → F
 ReadsContent Spells Faults bytes at (Ok found) = (at ≤ found.0) × IsPart bytes found.0 found.1 × Spells (part bytes at found.1) (part bytes found.0 found.1)
 ReadsContent Spells Faults bytes at (Err e) = IsFault Faults bytes at e
 
--- the offset behind some value
+-- the offset after some value
 abbrev pub ReadsOver : {V : Type 0} → (List ℕ → V → Type 0) → (List ℕ → Fault → Type 0) → List ℕ → ℕ → Result ℕ ValueRefused → Type 0
 ReadsOver {V} Spells Faults bytes at (Ok end) = IsPart bytes at end × ((value : V) × Spells (part bytes at end) value)
 ReadsOver Spells Faults bytes at (Err e) = IsFault Faults bytes at e

@@ -12,7 +12,7 @@ pub data BooleanFault (bytes : List ℕ) (f : Fault) : Type 0 where
   NoByte : bytes ≡ [] → f ≡ Lacks 0 1 → BooleanFault bytes f
   OtherByte : (b : ℕ) (rest : List ℕ) → bytes ≡ b ∷ rest → 1 < b → f ≡ Wrong 0 → BooleanFault bytes f
 
--- bytes behind their length
+-- bytes after their length
 pub record IsBytes (bytes content : List ℕ) : Type 0 where
   pub front : List ℕ
   pub whole : bytes ≡ front ++ content

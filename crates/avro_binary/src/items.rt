@@ -8,7 +8,7 @@ use crate::number::{Signed, signed_at};
 use crate::refused::ValueRefused;
 use crate::value::{read_bytes, read_text};
 
-// The count of a block, and behind a negative one the size.
+// The count of a block, and after a negative one the size.
 fn count_at(bytes: &[u8], at: usize) -> Result<(u64, usize), ValueRefused>
     requires { at ≤ length bytes.now }
     ensures { Reads (λ n. n) IsCount CountFault bytes.now at result }

@@ -9,7 +9,7 @@ pub enum ValueRefused {
     Short { at: u64, need: u64 },
     /// The field at this offset is whole, and is the first at fault.
     Bad { at: u64 },
-    /// The value is whole, its first event above 33,554,432 bytes has this size, and `end` is the offset behind it.
+    /// The value is whole, its first event above 33,554,432 bytes has this size, and `end` is the offset after it.
     TooLarge { size: u64, end: u64 },
     /// Memory ran out.
     NoMemory,

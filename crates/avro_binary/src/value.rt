@@ -25,7 +25,7 @@ pub fn read_bool(bytes: &[u8], at: usize) -> Result<(bool, usize), ValueRefused>
     Ok((byte == 1, at + 1))
 }
 
-/// Reads bytes behind their length, and gives where they begin and end.
+/// Reads bytes after their length, and gives where they begin and end.
 pub fn read_bytes(bytes: &[u8], at: usize) -> Result<(usize, usize), ValueRefused>
     requires { at ≤ length bytes.now }
     ensures { ReadsContent IsBytes BytesFault bytes.now at result }
@@ -45,7 +45,7 @@ pub fn read_bytes(bytes: &[u8], at: usize) -> Result<(usize, usize), ValueRefuse
     }
 }
 
-/// Reads a text behind its length, and gives where it begins and ends.
+/// Reads a text after its length, and gives where it begins and ends.
 pub fn read_text(bytes: &[u8], at: usize) -> Result<(usize, usize), ValueRefused>
     requires { at ≤ length bytes.now }
     ensures { ReadsContent IsText TextFault bytes.now at result }

@@ -74,7 +74,7 @@ pub fn write_bool(value: bool, into: &mut Vec<u8>) -> Result<(), NoMemory>
     Ok(())
 }
 
-/// Adds bytes behind their length. An `Err` adds nothing.
+/// Adds bytes after their length. An `Err` adds nothing.
 pub fn write_bytes(value: &[u8], into: &mut Vec<u8>) -> Result<(), NoMemory>
     ensures ok { OnOk result (into.new.items ≡ into.old.items ++ written_bytes value.now) }
     ensures err { OnErr result (into.new.items ≡ into.old.items) }
@@ -87,7 +87,7 @@ pub fn write_bytes(value: &[u8], into: &mut Vec<u8>) -> Result<(), NoMemory>
     Ok(())
 }
 
-/// Adds a text behind its length. An `Err` adds nothing.
+/// Adds a text after its length. An `Err` adds nothing.
 pub fn write_text(value: &str, into: &mut Vec<u8>) -> Result<(), NoMemory>
     ensures ok { OnOk result (into.new.items ≡ into.old.items ++ written_bytes value.now) }
     ensures err { OnErr result (into.new.items ≡ into.old.items) }

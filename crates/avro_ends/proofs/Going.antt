@@ -23,7 +23,7 @@ cuts_then : (held bytes mid bytes' left front front' : List ℕ) → held ++ byt
 cuts_then held bytes mid bytes' left front front' first second =
     sym (append_assoc held bytes bytes') ∙ ap (λ (l : List ℕ). l ++ bytes') first ∙ append_assoc front mid bytes' ∙ ap (λ (l : List ℕ). front ++ l) second ∙ sym (append_assoc front front' left)
 
--- a reply that failed, behind more messages
+-- a reply that failed, after more messages
 fails_then : (xs ys : List Exchange) (sent : List ℕ) → FailsInReply ys sent → FailsInReply (xs ++ ys) (texts xs ++ sent)
 fails_then xs ys sent p =
     let reply = take p.count (pack p.last.serial (p.last.reply ∷ [])) in
@@ -56,7 +56,7 @@ module _ {S : Type 0} (Takes : S → List Content → Verdict → S → Type 0) 
       subst Q still (subst P same second)
   exchanges_then g a c s t u (x ∷ xs) ys (next, state, one, more) second = (next, state, one, exchanges_then next a c state t u xs ys more second)
 
-  -- what was sent, behind the replies of more messages
+  -- what was sent, after the replies of more messages
   sent_then : (xs ys : List Exchange) (sent : List ℕ) → sent ≡ texts ys → texts xs ++ sent ≡ texts (xs ++ ys)
   sent_then xs ys sent same = ap (λ (l : List ℕ). texts xs ++ l) same ∙ sym (texts-append xs ys)
 
@@ -157,7 +157,7 @@ module _ {S : Type 0} (Takes : S → List Content → Verdict → S → Type 0) 
       talk_by OtherProtocol b = absurd b
       talk_by NoMemory b = absurd b
 
-  -- a read found the end of the link, behind a part of a pack
+  -- a read found the end of the link, after a part of a pack
   pub found_breaks : (a : S) (x y : Option LinkTold) (g : Bool) (held : List ℕ) → IsPart held → Tells x y (TalksTo 1 [] [] 0) → Breaks Takes a a x y g held [] [] 0 End
   found_breaks a x y g held part talk = record {
     done = [];
@@ -233,7 +233,7 @@ one_turn (BadHandshake at) of other = omega arith
 one_turn OtherProtocol of other = omega arith
 one_turn NoMemory of other = omega arith
 
--- behind some turns one more ended the session
+-- after some turns one more ended the session
 pub after_turn : (end : AvroEnd) (n m : ℕ) → (end ≡ Turns → ⊥) → IsTurnsOf end m → n < most_turns → EndsAfter end (n + m)
 after_turn End n m of one few = omega (arith, one, few)
 after_turn Stopped n m of one few = omega (arith, one, few)

@@ -34,7 +34,7 @@ Judges first want serial payload (Err (Refused index)) =
 Judges first want serial payload (Err other) = ⊥
 
 module _ (first : Bool) (want : ℕ) where
-  -- the first pack that the link gave is judged so, with bytes behind it or none
+  -- the first pack that the link gave is judged so, with bytes after it or none
   pub record IsJudged (given : List ℕ) (more : Bool)
       (result : Result (Unit {0}) DeliverRefused) : Type 0 where
     pub serial : ℕ
@@ -124,7 +124,7 @@ abbrev pub last_of : {L : Type 0} → Option (Open L) → ℕ
 last_of None = 0
 last_of (Some open_link) = open_link.serial
 
--- A link stays open behind an OK with no byte behind its reply, unless this was its last serial.
+-- A link stays open after an OK with no byte after its reply, unless this was its last serial.
 abbrev pub stays : Result Bool DeliverRefused → ℕ → Bool
 stays (Ok false) serial = nat_lt serial last_serial
 stays (Ok true) serial = false
@@ -179,7 +179,7 @@ module _ {D L : Type 0} (links : D → Option LinksTold) (troubles : D → ℕ)
       new ≡ record { dialer = dialer; opened = Some (record { link = link; serial = serial }) }
   StaysOrWentBack false serial dialer link new = WentBack dialer link new
 
-  -- one request, under the serial behind the last one of its link
+  -- one request, under the serial after the last one of its link
   pub record Requests (old : SinkLinks D L) (events : List Content)
       (result : Result (Unit {0}) DeliverRefused) (new : SinkLinks D L) : Type 0 where
     pub link : L

@@ -21,7 +21,7 @@ pub record Heard (found : ℕ) (given : List ℕ) (turns quiets : ℕ)
   pub talk : Tells told now (TalksTo found given [] turns)
   pub waited : Tells told now (Waited quiets)
 
--- bytes stand behind the reply, or none do
+-- bytes stand after the reply, or none do
 abbrev pub IsRest : Bool → List ℕ → Type 0
 IsRest true behind = 0 < length behind
 IsRest false behind = behind ≡ []
@@ -58,7 +58,7 @@ IsOfRead Silent = ⊥
 IsOfRead Turns = ⊥
 IsOfRead other = Unit {0}
 
--- a pack with bytes behind it, or none
+-- a pack with bytes after it, or none
 pub record Cuts (bytes : List ℕ) (serial : ℕ) (payload : List ℕ) (more : Bool) : Type 0 where
   pub front : List ℕ
   pub behind : List ℕ
@@ -75,7 +75,7 @@ CutsPiece bytes (Ok Quiet) after = ⊥
 CutsPiece bytes (Err (BadReply at)) after = (at ≡ 0) × Passes bytes
 CutsPiece bytes (Err other) after = ⊥
 
--- one read, behind what came before
+-- one read, after what came before
 abbrev pub HearsTurn : List ℕ → Result Piece DeliverRefused → Packing → Option LinkTold
     → Option LinkTold → Type 0
 HearsTurn held (Ok (Whole message more)) after told now =

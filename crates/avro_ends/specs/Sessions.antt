@@ -64,7 +64,7 @@ EndsAfter NoMemory turns = turns ≤ most_turns
 
 module _ {S : Type 0} (Takes : S → List Content → Verdict → S → Type 0) where
   -- Some messages were answered. Before them `held` and these bytes were there to be cut, and
-  -- behind them `left` is; the link gave these bytes in so many turns.
+  -- after them `left` is; the link gave these bytes in so many turns.
   pub record Goes (old new : S) (told now : Option LinkTold) (greeted after : Bool)
       (held bytes left given : List ℕ) (turns : ℕ) : Type 0 where
     pub done : List Exchange
@@ -74,8 +74,8 @@ module _ {S : Type 0} (Takes : S → List Content → Verdict → S → Type 0) 
     pub cut : held ++ bytes ≡ front ++ left
     pub talk : Tells told now (Talks given (texts done) turns)
 
-  -- How a session ends: behind the messages that were answered, whether the handshake was made
-  -- then, the state there and at the end, what the link gave behind them, and what was sent.
+  -- How a session ends: after the messages that were answered, whether the handshake was made
+  -- then, the state there and at the end, what the link gave after them, and what was sent.
   abbrev pub EndsBy : AvroEnd → Bool → S → S → List Exchange → List ℕ → List ℕ → Type 0
   EndsBy End greeted old new done rest sent = (new ≡ old) × (sent ≡ texts done) × IsPart rest
   EndsBy Turns greeted old new done rest sent = (new ≡ old) × (sent ≡ texts done) × IsPart rest
@@ -117,7 +117,7 @@ module _ {S : Type 0} (Takes : S → List Content → Verdict → S → Type 0) 
     pub leaves : LeavesLink end told now
 
   -- A whole session of a new connection: what the link gave is the packs of the messages that were
-  -- answered and the rest behind them, and what it took is their replies, as the end says.
+  -- answered and the rest after them, and what it took is their replies, as the end says.
   pub record Served (old new : S) (told now : Option LinkTold) (end : AvroEnd) : Type 0 where
     pub done : List Exchange
     pub after : Bool

@@ -13,7 +13,7 @@ use flume_host::{Link, write_all};
 use hop_core::{Attempt, Decision};
 use std::alloc::Global;
 
-// The pack of a request, with no copy of its payload. One that fits no pack is want of memory.
+// The pack of a request, with no copy of its payload. One that fits no pack is out of memory.
 pub fn request_of(alloc: Global, serial: u32, batch: &Batch) -> Result<Vec<u8>, NoMemory>
     ensures { IfOk result (λ bytes. bytes.items ≡ request_pack serial batch.now) }
 {
@@ -56,7 +56,7 @@ fn judge(first: bool, want: u32, serial: u32, payload: &[u8]) -> Result<(), Deli
     }
 }
 
-// Reads the reply to a request of this serial. At Ok it tells whether the link gave bytes behind it.
+// Reads the reply to a request of this serial. At Ok it tells whether the link gave bytes after it.
 fn answer_to<L: Link>(
     alloc: Global,
     link: &mut L,

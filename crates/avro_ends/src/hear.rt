@@ -13,7 +13,7 @@ use std::alloc::Global;
 // What one read brought.
 #[derive(Drop)]
 pub enum Piece {
-    // The last bytes of the reply, and whether more stand behind it.
+    // The last bytes of the reply, and whether more stand after it.
     Whole { message: Message, more: bool },
     // Bytes of the reply.
     Part,
@@ -21,7 +21,7 @@ pub enum Piece {
     Quiet,
 }
 
-// Puts what was read behind what came of the reply before.
+// Puts what was read after what came of the reply before.
 #[tactic(auto, using(crate::proofs::Listening::opened_is))]
 fn cut_piece(packs: &mut Packs, piece: &[u8]) -> Result<Piece, DeliverRefused>
     requires some { 0 < length piece.now }
@@ -76,7 +76,7 @@ const TURNS: u64 = 1 << 40;
 // The most quiet reads of a delivery.
 const QUIETS: u32 = 100;
 
-// Reads a whole pack, and tells whether bytes stand behind it.
+// Reads a whole pack, and tells whether bytes stand after it.
 pub fn hear<L: Link>(alloc: Global, link: &mut L) -> Result<(Message, bool), DeliverRefused>
     ensures hears { HearsReply result (L.told link.old) (L.told link.new) }
     ensures fault { IsErrOf result DeliverRefused.LinkFault → Rose (L.faults link.old)

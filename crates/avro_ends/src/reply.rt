@@ -42,7 +42,7 @@ pub fn answered(
     }
 }
 
-// What a verdict is answered; want of memory is not answered.
+// What a verdict is answered; out of memory is not answered.
 pub fn status_of(verdict: &Verdict) -> Option<Status>
     ensures { result ≡ status_of verdict.now }
 {

@@ -64,7 +64,7 @@ fn connect<L: Link + Drop, D: Dials<L>>(
     }
 }
 
-// Whether the link stays open behind this answer.
+// Whether the link stays open after this answer.
 fn stays(answer: Result<bool, DeliverRefused>, serial: u32) -> bool
     ensures { result ≡ stays answer serial }
 {
@@ -74,7 +74,7 @@ fn stays(answer: Result<bool, DeliverRefused>, serial: u32) -> bool
     }
 }
 
-// Behind a request: the link stays open, or goes back.
+// After a request: the link stays open, or goes back.
 #[tactic(auto, using(crate::proofs::Delivering::settled_back, crate::proofs::Delivering::settled_refused, crate::proofs::Delivering::dialled_out))]
 fn leave<L: Link + Drop, D: Dials<L>>(
     dialer: &mut D,
@@ -135,7 +135,7 @@ fn deliver_by<L: Link + Drop, D: Dials<L>>(
     said(answer)
 }
 
-// How often a sink has refused, behind this answer.
+// How often a sink has refused, after this answer.
 fn counted(faults: u64, answer: Result<(), DeliverRefused>) -> u64
     ensures refused { IsRefused (sink_answer answer) → Rose faults result }
     ensures later { faults ≤ result }
@@ -157,7 +157,7 @@ fn sink_answer(answer: Result<(), DeliverRefused>) -> Result<(), SinkRefused>
 }
 
 /// Hands batches on to another agent (Flume User Guide, "Avro Sink"): each is one `appendBatch`, on a link that stays open
-/// from one batch to the next. A link goes back to its dialer behind each refusal, behind the serial 4,294,967,295, where
+/// from one batch to the next. A link goes back to its dialer after each refusal, after the serial 4,294,967,295, where
 /// the peer sent more than its reply, and when the sink is closed.
 #[derive(Drop)]
 pub struct AvroSink<D: Dialer + Drop> {

@@ -11,7 +11,7 @@ in_place : (serial : ℕ) (payload : List ℕ) → put (begun serial ++ payload)
 unfolding u32_bytes
 in_place serial payload = ap (λ (t : List ℕ). put (begun serial ++ t) (u32_bytes (length payload))) (sym (append-nil payload))
 
--- four bytes behind the first eight are a pack's length
+-- four bytes after the first eight are a pack's length
 pub ended : (old l : List ℕ) (serial : ℕ) (payload : List ℕ) → l ≡ u32_bytes (length payload) → old ≡ begun serial ++ payload → put old l ≡ pack serial (payload ∷ [])
 ended old l serial payload s is = ap (λ (t : List ℕ). put t l) is ∙ ap (λ (t : List ℕ). put (begun serial ++ payload) t) s ∙ in_place serial payload
 

@@ -35,7 +35,7 @@ same_head m n j k x y ml nl jl kl e =
     let g = same_number j k x y jl kl f.1 in
     (f.0, g.0, g.1)
 
--- what stands behind a pack's head
+-- what stands after a pack's head
 pub behind : (a x : List ℕ) (m : ℕ) (p : List ℕ) → (i : IsPack a m p) → a ++ x ≡ head m (length i.buffers) ++ (flat_map buffer i.buffers ++ x)
 behind a x m p i = ap (λ (t : List ℕ). t ++ x) i.whole ∙ append_assoc (head m (length i.buffers)) (flat_map buffer i.buffers) x
 
@@ -64,7 +64,7 @@ lacked (b ∷ bs) (c ∷ cs) x y less bl cl e =
     let r = lacked bs cs x y (omega arith) p.1 q.1 f.1 in
     (r.0, r.1, r.2, omega (arith, r.3, ap length f.0, length-append b (joined bs), length-append c (joined cs)))
 
--- what stands behind the buffers of a front of a pack
+-- what stands after the buffers of a front of a pack
 lacked_in : (a x : List ℕ) (m : ℕ) (p : List ℕ) (serial count : ℕ) (cs : List (List ℕ)) (rest : List ℕ) → IsPack a m p → Begins (a ++ x) serial count cs rest → (b : List ℕ) × (more : List ℕ) × (rest ≡ buffer b ++ more) × (length (joined cs) + length b ≤ max_bytes)
 lacked_in a x m p serial count cs rest i g =
     let i_small : length (joined i.buffers) ≤ max_bytes = rw (← i.joins) i.small in

@@ -26,7 +26,7 @@ same_begin bytes m n j k bs cs x y g h = (same_head m n j k (flat_map buffer bs 
 rest_of : (bs cs : List (List ℕ)) (x y : List ℕ) → bs ≡ cs → flat_map buffer bs ++ x ≡ flat_map buffer cs ++ y → x ≡ y
 rest_of bs cs x y p e = append_cancel_left (flat_map buffer cs) x y (ap (λ (t : List (List ℕ)). flat_map buffer t ++ x) (sym p) ∙ e)
 
--- whole buffers, and behind them the bytes `x`, `y` or the next buffer of the other
+-- whole buffers, and after them the bytes `x`, `y` or the next buffer of the other
 data Ahead (bs cs : List (List ℕ)) (x y : List ℕ) : Type 0 where
   Same : bs ≡ cs → x ≡ y → Ahead bs cs x y
   First : (b more : List ℕ) → y ≡ buffer b ++ more → length (joined cs) + length b ≤ length (joined bs) → Ahead bs cs x y
@@ -106,7 +106,7 @@ same_size bytes m n p q =
 
 -- ---- pieces
 
--- the bytes up to a place, and those behind it
+-- the bytes up to a place, and those after it
 cut_at : (old piece : List ℕ) (n : ℕ) → (old ++ take n piece) ++ drop n piece ≡ old ++ piece
 cut_at old piece n = append_assoc old (take n piece) (drop n piece) ∙ ap (λ (t : List ℕ). old ++ t) (take-append-drop n piece)
 

@@ -13,7 +13,7 @@ use Rattle.avro_frame.proofs.Bytes.{same_front}
 use Rattle.avro_frame.proofs.Laws.{one_pack_lem, no_part, no_count, no_size}
 use Rattle.avro_frame.proofs.OneFeed.{part_count, part_size, same_count, same_size, count_size}
 
--- ---- bytes behind a limit
+-- ---- bytes after a limit
 
 count_goes_on : (bytes more : List ℕ) (n : ℕ) → PassesCount bytes n → PassesCount (bytes ++ more) n
 count_goes_on bytes more n p = record {
@@ -54,7 +54,7 @@ abbrev IsOpen : Packing → Type 0
 IsOpen (Holds old) = IsPart old
 IsOpen (Failed e) = Unit {0}
 
--- the cut of what is held with a stream behind it
+-- the cut of what is held with a stream after it
 abbrev CutsBehind : Packing → List ℕ → List (ℕ × List ℕ) → Packing → Type 0
 CutsBehind (Holds old) stream messages end = IsCut (old ++ stream) messages end
 CutsBehind (Failed e) stream messages end = (messages ≡ []) × (end ≡ Failed e)
@@ -83,12 +83,12 @@ takes (Holds old) after end piece rest n (Some m) messages f cut =
     rw (← around old piece rest n) (Pack (old ++ take n piece) (drop n piece ++ rest) m.payload.items m.serial messages end f.1 c)
 takes (Failed e) after end piece rest n found messages f cut = absurd (let g = f.0 in cc)
 
--- want of memory changes nothing
+-- out of memory changes nothing
 same_behind : (before after : Packing) (piece : List ℕ) → Feeds before piece (Err NoMemory) after → before ≡ after
 same_behind (Holds old) after piece f = sym f
 same_behind (Failed e) after piece f = sym f.1
 
--- no more is given behind a limit
+-- no more is given after a limit
 refused : (before after : Packing) (piece rest : List ℕ) (e : PackRefused) → (e ≡ NoMemory → ⊥) → Feeds before piece (Err e) after → CutsBehind before (piece ++ rest) [] after
 refused (Holds old) after piece rest (TooMany n) some f = rw (f.1, ← append_assoc old piece rest) (OverCount ((old ++ piece) ++ rest) n (count_goes_on (old ++ piece) rest n f.0))
 refused (Holds old) after piece rest (TooLarge n) some f = rw (f.1, ← append_assoc old piece rest) (OverSize ((old ++ piece) ++ rest) n (size_goes_on (old ++ piece) rest n f.0))

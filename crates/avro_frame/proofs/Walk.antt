@@ -28,7 +28,7 @@ head_of held n fits len e =
 pub length-head : (serial count : ℕ) → length (head serial count) ≡ 8
 length-head serial count = length-append (u32_bytes serial) (u32_bytes count) ∙ omega (arith, length-u32 serial, length-u32 count)
 
--- behind the head
+-- after the head
 pub behind_head : (held : List ℕ) (serial count : ℕ) → held ≡ head serial count → serial < 2 ^ 32 → count ≤ max_buffers → (ahead : ℕ) → InBuffers held (8 + ahead) 0 count ahead
 behind_head held serial count e fits few ahead = record {
   serial = serial;
@@ -245,7 +245,7 @@ advance held more need sum Head i within = (i.0, i.1, omega (arith, i.0, length-
 advance held more need sum (Length left) i within = (more_bytes held more need sum left 4 i.0 within, i.1)
 advance held more need sum End i within = more_bytes held more need sum 0 0 i within
 
--- a step that goes on was due behind more bytes
+-- a step that goes on was due after more bytes
 pub room_left : (held after : List ℕ) (need : ℕ) (due : Due) (new : Cursor) → IsBehind held need due → Steps after due More new → length held < need
 room_left held after need Head new behind s = behind
 room_left held after need (Length left) new behind s = behind

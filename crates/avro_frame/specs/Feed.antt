@@ -34,7 +34,7 @@ abbrev pub FeedsBytes : List ℕ → List ℕ → Result (ℕ × Option Message)
 FeedsBytes old piece (Ok found) new = Gives old piece found.0 found.1 new
 FeedsBytes old piece (Err e) new = Refuses old piece e new
 
--- a piece goes behind the present pack's bytes; behind a refusal every piece meets it again
+-- a piece goes after the present pack's bytes; after a refusal every piece meets it again
 abbrev pub Feeds : Packing → List ℕ → Result (ℕ × Option Message) PackRefused → Packing → Type 0
 Feeds (Holds old) piece result new = FeedsBytes old piece result new
 Feeds (Failed e) piece result new = (result ≡ Err e) × (new ≡ Failed e)
@@ -47,7 +47,7 @@ GivesBack (Err (TooMany n)) kept = kept ≤ room_kept
 GivesBack (Err (TooLarge n)) kept = kept ≤ room_kept
 GivesBack (Err NoMemory) kept = Unit {0}
 
--- the same bytes taken, the same message and the same stream behind it; want of memory may come in place of any
+-- the same bytes taken, the same message and the same stream after it; out of memory may come in place of any
 abbrev pub SameFeed : Result (ℕ × Option Message) PackRefused → Packing → Result (ℕ × Option Message) PackRefused → Packing → Type 0
 SameFeed (Ok (j, None)) new (Ok (k, None)) new' = (j ≡ k) × (new ≡ new')
 SameFeed (Ok (j, None)) new (Ok (k, Some n)) new' = ⊥
@@ -66,6 +66,6 @@ SameFeed (Err (TooLarge j)) new (Err (TooLarge k)) new' = (j ≡ k) × (new ≡ 
 SameFeed (Err (TooLarge j)) new (Err NoMemory) new' = Unit {0}
 SameFeed (Err NoMemory) new s new' = Unit {0}
 
--- A piece has one outcome, but for want of memory.
+-- A piece has one outcome, except when out of memory.
 abbrev pub OneFeed : Type 0
 OneFeed = (old : Packing) (piece : List ℕ) (r s : Result (ℕ × Option Message) PackRefused) (new new' : Packing) → Feeds old piece r new → Feeds old piece s new' → SameFeed r new s new'

@@ -1,4 +1,4 @@
--- A pack: a serial, a number of buffers, and each buffer behind its length.
+-- A pack: a serial, a number of buffers, and each buffer after its length.
 use Rattle.std.specs.Prelude.{◌≡◌, ℕ, ◌+◌, ◌^◌, ◌<◌, ◌≤◌, List, ◌++◌, length}
 use Rattle.std.specs.List.{flat_map}
 use Rattle.std.specs.Int.{w32, to_be_bytes}
@@ -21,7 +21,7 @@ room_kept = 65536
 abbrev pub head : ℕ → ℕ → List ℕ
 head serial count = u32_bytes serial ++ u32_bytes count
 
--- a buffer behind its length
+-- a buffer after its length
 abbrev pub buffer : List ℕ → List ℕ
 buffer bytes = u32_bytes (length bytes) ++ bytes
 

@@ -23,7 +23,7 @@ abbrev pub opened_len : Option ℕ → ℕ
 opened_len None = 0
 opened_len (Some len) = len
 
--- Behind the head: whole buffers, the opened one, and `left` more. The next step is due behind the opened one's bytes and `ahead` more.
+-- After the head: whole buffers, the opened one, and `left` more. The next step is due after the opened one's bytes and `ahead` more.
 pub record InBuffers (held : List ℕ) (need sum left ahead : ℕ) : Type 0 where
   pub serial : ℕ
   pub buffers : List (List ℕ)
@@ -74,7 +74,7 @@ Steps held End More new = ⊥
 Steps held due Ends new = IsEnded held
 Steps held due (Passes e) new = PassesLimit held e
 
--- what a piece brings: all of it was taken, or the pack ends behind its first n bytes, or a limit is passed
+-- what a piece brings: all of it was taken, or the pack ends after its first n bytes, or a limit is passed
 abbrev pub Fills : List ℕ → List ℕ → ℕ → Step → List ℕ → Cursor → Type 0
 Fills old piece n More new c = (n ≡ length piece) × IsAt new c × IsBehind new c.need c.due × IsPart new
 Fills old piece n Ends new c = IsEnded new

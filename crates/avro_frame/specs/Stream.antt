@@ -6,7 +6,7 @@ use Rattle.avro_frame.specs.declared.packs.PackRefused.TheVariants.{TooMany, Too
 use Rattle.avro_frame.specs.Pack.{pack, max_bytes, IsPack, IsPart, PassesCount, PassesSize}
 use Rattle.avro_frame.specs.Feed.{Packing, Holds, Failed, Feeds}
 
--- The whole packs of a stream in order, each by its serial and its payload, and what is behind them: less than a pack, or one that passes a limit. Nothing behind that one is looked at.
+-- The whole packs of a stream in order, each by its serial and its payload, and what is after them: less than a pack, or one that passes a limit. Nothing after that one is looked at.
 pub data IsCut : List ℕ → List (ℕ × List ℕ) → Packing → Type 0 where
   InPack : (rest : List ℕ) → IsPart rest → IsCut rest [] (Holds rest)
   OverCount : (rest : List ℕ) (n : ℕ) → PassesCount rest n → IsCut rest [] (Failed (TooMany n))
@@ -18,12 +18,12 @@ abbrev pub given : Option Message → List (ℕ × List ℕ)
 given None = []
 given (Some m) = (m.serial, m.payload.items) ∷ []
 
--- A stream that is fed: each call gets some front of what is left of it, and what it took is gone. The messages that were given, and the packs behind the last call.
+-- A stream that is fed: each call gets some front of what is left of it, and what it took is gone. The messages that were given, and the packs after the last call.
 pub data IsFed : Packing → List ℕ → List (ℕ × List ℕ) → Packing → Type 0 where
   -- nothing is left
   Done : (now : Packing) → IsFed now [] [] now
   Takes : (before after end : Packing) (piece rest : List ℕ) (n : ℕ) (found : Option Message) (messages : List (ℕ × List ℕ)) → Feeds before piece (Ok (n, found)) after → IsFed after (drop n piece ++ rest) messages end → IsFed before (piece ++ rest) (given found ++ messages) end
-  -- for want of memory a piece is fed again, or another in its place
+  -- when out of memory a piece is fed again, or another in its place
   Lacks : (before after end : Packing) (piece rest : List ℕ) (messages : List (ℕ × List ℕ)) → Feeds before piece (Err NoMemory) after → IsFed after (piece ++ rest) messages end → IsFed before (piece ++ rest) messages end
   -- a limit is passed
   Refused : (before after : Packing) (piece rest : List ℕ) (e : PackRefused) → (e ≡ NoMemory → ⊥) → Feeds before piece (Err e) after → IsFed before (piece ++ rest) [] after

@@ -175,7 +175,7 @@ pub fn no_pack_within()
     ensures large { NoPackInLarge }
 {}
 
-/// A piece has one outcome, but for want of memory: `Packs::feed` leaves nothing open.
+/// A piece has one outcome, except when out of memory: `Packs::feed` leaves nothing open.
 pub fn one_feed()
     ensures { OneFeed }
 {}

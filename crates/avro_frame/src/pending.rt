@@ -155,7 +155,7 @@ pub fn fill(held: &mut Vec<u8>, cursor: &mut Cursor, piece: &[u8]) -> (usize, St
     }
 }
 
-// The buffer at the front of the bytes, and what is behind it.
+// The buffer at the front of the bytes, and what is after it.
 fn first_buffer(bytes: &[u8]) -> Option<(&[u8], &[u8])>
     ensures found { (first : List ℕ) (rest : List ℕ) → length first < 2 ^ 32 → bytes.now ≡ buffer first ++ rest → IsSomeAnd result (λ found. (found.0.now ≡ first) × (found.1.now ≡ rest)) }
     ensures shorter { IfSome result (λ found. length found.0.now + length found.1.now < length bytes.now) }
@@ -171,7 +171,7 @@ fn first_buffer(bytes: &[u8]) -> Option<(&[u8], &[u8])>
     Some(rest.split_at(len))
 }
 
-/// Adds the bytes of all buffers, one behind another, for which room is there.
+/// Adds the bytes of all buffers, one after another, for which room is there.
 pub fn join(bytes: &[u8], payload: &mut Vec<u8>)
     requires none { payload.old.items ≡ [] }
     requires room { length bytes.now ≤ vec_capacity payload.old }

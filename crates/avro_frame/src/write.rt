@@ -16,7 +16,7 @@ fn put_u32(into: &mut Vec<u8>, n: u32)
     put(into, &n.to_be_bytes());
 }
 
-/// Adds a pack of one buffer. An `Err` is want of memory, and then nothing was added.
+/// Adds a pack of one buffer. An `Err` is out of memory, and then nothing was added.
 pub fn write_pack(serial: u32, payload: &[u8], into: &mut Vec<u8>) -> Result<(), AllocError>
     requires { length payload.now ≤ max_bytes }
     ensures ok { OnOk result (into.new.items ≡ into.old.items ++ pack serial (payload.now ∷ [])) }
@@ -30,8 +30,8 @@ pub fn write_pack(serial: u32, payload: &[u8], into: &mut Vec<u8>) -> Result<(),
     Ok(())
 }
 
-/// Begins a pack of one buffer. What is added behind it is the buffer, up to [`end_pack`], so that no byte of it is copied.
-/// An `Err` is want of memory, and then nothing was added.
+/// Begins a pack of one buffer. What is added after it is the buffer, up to [`end_pack`], so that no byte of it is copied.
+/// An `Err` is out of memory, and then nothing was added.
 pub fn begin_pack(serial: u32, into: &mut Vec<u8>) -> Result<(), AllocError>
     ensures ok { OnOk result (into.new.items ≡ into.old.items ++ begun serial) }
     ensures err { OnErr result (into.new.items ≡ into.old.items) }

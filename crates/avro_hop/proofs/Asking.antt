@@ -64,7 +64,7 @@ waits : (first : Bool) (events : List Content) (call : Call) (asked : Asked) (af
 waits first events call asked after small is a made =
     subst (λ (b : Bool). Takes first events (Ok asked) b) (sym made) (taken first events asked small (subst (λ (k : Call). IsAsked (opening first) k asked) is a))
 
--- behind this agent's handshake
+-- after this agent's handshake
 record IsTaken (events : List Content) : Type 0 where
   pub few : length events < 2 ^ 63
   pub fit : AllByRecursion FitsMemory events
@@ -78,7 +78,7 @@ later_taken events (Err (BadHandshake at)) after a p = absurd (no_call_fault (ba
 later_taken events (Err OtherProtocol) after a p = absurd p
 later_taken events (Err NoMemory) after a p = inr refl
 
--- the handshake is this agent's, and its call stands behind it
+-- the handshake is this agent's, and its call stands after it
 abbrev IsOwn : List Content → List ℕ → Request → Type 0
 IsOwn events rest r = (rest ≡ batch_call events) × (r ≡ own)
 

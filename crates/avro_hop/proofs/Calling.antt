@@ -31,7 +31,7 @@ pub place-shift : (n : ℕ) (f : Fault) → place (shift n f) ≡ n + place f
 place-shift n (Lacks at need) = refl
 place-shift n (Wrong at) = refl
 
--- the metadata's end, and the name behind it
+-- the metadata's end, and the name after it
 pub head_of : (bytes : List ℕ) (at mid : ℕ) (meta : List (List ℕ × List ℕ)) (result : Result (Bor (List ℕ) × ℕ) ValueRefused) → IsPart bytes at mid → IsMeta (part bytes at mid) meta → Reads (λ (s : Bor (List ℕ)). s.now) IsText TextFault bytes mid result → Reads (λ (s : Bor (List ℕ)). s.now) IsHead HeadFault bytes at result
 head_of bytes at mid meta (Ok found) p m r =
     (further bytes at mid found.1 p r.0, (meta, pair_at IsMeta IsText bytes at mid found.1 meta found.0.now p r.0 m r.1))

@@ -42,7 +42,7 @@ one_refusal NoMemory e g h p q s = absurd (p refl)
 refused_once : (g h : Bool) (m n : List ℕ) (d e : HopRefused) (g' h' : Bool) → g ≡ h → m ≡ n → (d ≡ NoMemory → ⊥) → (e ≡ NoMemory → ⊥) → Answers g m (Err d) g' → Answers h n (Err e) h' → d ≡ e
 refused_once g h m n d e g' h' p q some other x y = one_refusal d e g' h' some other (one_answer_lem h n (Err d) (Err e) g' h' (subst (λ (b : Bool). Answers b n (Err d) g') p (subst (λ (b : List ℕ). Answers g b (Err d) g') q x)) y)
 
--- the same reply, and the same verdicts behind it
+-- the same reply, and the same verdicts after it
 same_reply : (a b : Asked) (told told' verdicts verdicts' : List Status) (reply reply' : List ℕ) → SameAsked a b → Sends a told reply → Sends b told' reply' → told ++ verdicts ≡ told' ++ verdicts' → (verdicts ≡ verdicts') × (reply ≡ reply')
 same_reply (Reply x) (Reply y) told told' verdicts verdicts' reply reply' s p q e = (rw (p.0, q.0) at e, p.1 ∙ s ∙ sym q.1)
 same_reply (Reply x) (Events front batch) told told' verdicts verdicts' reply reply' s p q e = absurd s

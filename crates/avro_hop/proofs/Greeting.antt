@@ -61,7 +61,7 @@ first_refused bytes front call r m (BadHandshake at) p i known other c =
 first_refused bytes front call r m OtherProtocol p i known other c = absurd c
 first_refused bytes front call r m NoMemory p i known other c = refl
 
--- behind the handshake
+-- after the handshake
 pub later : (bytes : List ℕ) (result : Result Asked HopRefused) → CallsAt [] bytes 0 result → AnswersCall bytes result true
 later bytes (Ok asked) c = (c, refl)
 later bytes (Err (BadHandshake at)) c = ((c.0, c.1, omega (arith, c.2)), refl)

@@ -8,6 +8,6 @@ use Rattle.serde_json.proofs.Views.{items_len-items_view, members_len-members_vi
 
 pub ruleset lengths = (items_len-items_view, members_len-members_view)
 
--- the first item, and those behind it
+-- the first item, and those after it
 pub items_more : (vs : List Value) (i : ℕ) (v : Value) → i < length vs → v ≡ get_or vs i v → items_view (drop i vs) ≡ item (view v) (items_view (drop (i + 1) vs))
 items_more vs i v within e = ap items_view (drop_more vs i v within) ∙ ap (λ (x : Value). item (view x) (items_view (drop (i + 1) vs))) (sym e)

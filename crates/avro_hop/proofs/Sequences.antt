@@ -1,4 +1,4 @@
--- Fields one behind another.
+-- Fields one after another.
 use Rattle.std.proofs.Common.{◌≡◌, ℕ, List, ◌++◌, drop, refl, sym, ap, ◌∙◌, append_assoc, arith, inl, inr}
 use Rattle.std.specs.Prelude.{Some, ℤ, pos, Result, Ok, Err}
 use Rattle.avro_binary.specs.declared.refused.ValueRefused.{ValueRefused}
@@ -49,6 +49,6 @@ pub over_value : {V : Type 0} (Spells : List ℕ → V → Type 0) (Faults : Lis
 over_value Spells Faults bytes at mid (Ok end) p i r = (further bytes at mid end p r.0, (Some r.1.0, pair_at IsInt Spells bytes at mid end (pos 1) r.1.0 p r.0 i r.1.1))
 over_value Spells Faults bytes at mid (Err e) p i r = value_fault Faults bytes at mid e p i r
 
--- four parts one behind another
+-- four parts one after another
 pub four_parts : (start a b c d w x y z : List ℕ) → w ≡ start ++ a → x ≡ w ++ b → y ≡ x ++ c → z ≡ y ++ d → z ≡ start ++ (a ++ (b ++ (c ++ d)))
 four_parts start a b c d w x y z e f g h = h ∙ ap (λ (t : List ℕ). t ++ d) (g ∙ ap (λ (t : List ℕ). t ++ c) (f ∙ ap (λ (t : List ℕ). t ++ b) e)) ∙ simp append_assoc

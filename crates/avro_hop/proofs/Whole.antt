@@ -1,4 +1,4 @@
--- Values with no byte behind them.
+-- Values with no byte after them.
 use Rattle.std.proofs.Common.{◌≡◌, ℕ, ◌+◌, ◌-◌, ◌<◌, ◌≤◌, Bool, cond, List, [], ◌∷◌, length, drop, refl, sym, ap, subst, arith, inl, inr}
 use Rattle.std.specs.Prelude.{Option, Some, None, IsSome, Err}
 use Rattle.std.proofs.lemmas.Bool.{cases_lt, le-ltb, lt-ltb}
@@ -50,7 +50,7 @@ wrong_whole Spells Faults bytes at field f = (Wrong f.0, inl f.2, f.1)
 abbrev chosen : Bool → ℕ → Unread
 chosen b end = cond b (At end) Large
 
--- too large an event, with a byte behind it or none
+-- too large an event, with a byte after it or none
 behind_it : (All : List ℕ → List Content → Type 0) (Faults : List ℕ → Fault → Type 0) (bytes : List ℕ) (at n end : ℕ) → (end < length bytes → IsFaultAt Faults bytes at end) → (length bytes ≤ end → (events : List Content) × All (drop at bytes) events × IsSome (first_large events)) → ReadsAll All Faults bytes at (Err (unread_of (length bytes) (TooLarge n end)))
 behind_it All Faults bytes at n end more none =
     elim (cases_lt end (length bytes)) [

@@ -36,7 +36,7 @@ is_object_of n d = option_map_or (λ ms. members_len ms == n) (as_object d) fals
 abbrev pub is_text : List ℕ → Data → Bool
 is_text text d = option_map_or (λ s. bytes_eq s text) (as_str d) false
 
--- a name that is this text alone, or behind a namespace and a dot
+-- a name that is this text alone, or after a namespace and a dot
 abbrev pub is_named : List ℕ → List ℕ → Bool
 is_named text name = bytes_eq name text || bytes_eq (drop (length name - (length text + 1)) name) (46 ∷ text)
 

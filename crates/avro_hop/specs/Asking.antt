@@ -33,13 +33,13 @@ abbrev pub opening : Bool → List ℕ
 opening true = greeting Both
 opening false = []
 
--- these events wait for their verdict behind the handshake, and it was made
+-- these events wait for their verdict after the handshake, and it was made
 abbrev pub Takes : Bool → List Content → Result Asked HopRefused → Bool → Type 0
 Takes first events result after =
     (front : Vec ℕ Global) × (batch : List Content) × (result ≡ Ok (Events front batch))
     × (front.items ≡ opening first) × (batch ≡ events) × (after ≡ true)
 
--- A server of this agent is asked for just these events, but for want of memory.
+-- A server of this agent is asked for just these events, except when out of memory.
 abbrev pub IsAskedFor : Type 0
 IsAskedFor =
     (first : Bool) (events : List Content) (result : Result Asked HopRefused) (after : Bool)

@@ -3,7 +3,7 @@ use Rattle.std.specs.Prelude.{ℕ, ◌*◌, ◌≤◌, List, length}
 use Rattle.avro_hop.specs.declared.hop.Asked.{Asked}
 use Rattle.avro_hop.specs.declared.hop.Asked.TheVariants.{Reply, Events}
 
--- the longest answer to a handshake, and with the error of an unknown message behind it
+-- the longest answer to a handshake, and with the error of an unknown message after it
 abbrev pub max_greeting : ℕ
 max_greeting = 531
 

@@ -37,7 +37,7 @@ HeadFault bytes f = PairFault IsMeta MetaFault TextFault bytes f
 abbrev pub IsOne : List ℕ → List Content → Type 0
 IsOne bytes events = (event : Content) × IsEvent bytes event × (events ≡ event ∷ [])
 
--- What a message of this name asks with these bytes. Behind an empty or an unknown name all is left aside.
+-- What a message of this name asks with these bytes. After an empty or an unknown name all is left aside.
 pub data Asks (name bytes : List ℕ) : Call → Type 0 where
   Empty : name ≡ [] → Asks name bytes Nothing
   Strange : (name ≡ [] → ⊥) → (name ≡ append → ⊥) → (name ≡ append_batch → ⊥) → Asks name bytes Other
@@ -56,7 +56,7 @@ pub record IsCall (bytes : List ℕ) (call : Call) : Type 0 where
   pub named : IsHead head name
   pub asks : Asks name rest call
 
--- the head's fault, or one behind it
+-- the head's fault, or one after it
 pub data CallFault (bytes : List ℕ) (f : Fault) : Type 0 where
   InHead : HeadFault bytes f → CallFault bytes f
   InParameter : (head rest name : List ℕ) (inner : Fault) → bytes ≡ head ++ rest → IsHead head name → ParameterFault name rest inner → f ≡ shift (length head) inner → CallFault bytes f
@@ -74,7 +74,7 @@ response status = written_map [] ++ (written_boolean false ++ written_number (po
 abbrev pub unknown_message : List ℕ
 unknown_message = written_map [] ++ (written_boolean true ++ (written_number (pos 0) ++ written_bytes (codes "unknown message")))
 
--- What is answered behind these bytes of a handshake. The events of a call wait for their verdict, unless one is too large.
+-- What is answered after these bytes of a handshake. The events of a call wait for their verdict, unless one is too large.
 abbrev pub IsAsked : List ℕ → Call → Asked → Type 0
 IsAsked front Nothing (Reply bytes) = bytes.items ≡ front
 IsAsked front Nothing (Events front' batch) = ⊥

@@ -8,7 +8,7 @@ use Rattle.avro_hop.specs.declared.respond.Status.{Status}
 use Rattle.avro_hop.specs.Calls.{response}
 use Rattle.avro_hop.specs.Dialogue.{Answers}
 
--- how a connection stands behind its messages: it waits for one, before or behind its handshake, or a message ended it
+-- how a connection stands after its messages: it waits for one, before or after its handshake, or a message ended it
 pub data Standing : Type 0 where
   Waits : Bool → Standing
   Ended : HopRefused → Standing
@@ -18,12 +18,12 @@ abbrev pub Sends : Asked → List Status → List ℕ → Type 0
 Sends (Reply bytes) verdicts reply = (verdicts ≡ []) × (reply ≡ bytes.items)
 Sends (Events front batch) verdicts reply = (status : Status) × (verdicts ≡ status ∷ []) × (reply ≡ front.items ++ response status)
 
--- Whether the handshake was made before; the messages, each a serial and a payload; the verdicts on their events, in order; the replies; and how the connection stands behind them. One that ends for want of memory has the dialogue of the messages before.
+-- Whether the handshake was made before; the messages, each a serial and a payload; the verdicts on their events, in order; the replies; and how the connection stands after them. One that ends when out of memory has the dialogue of the messages before.
 pub data IsDialogue : Bool → List (ℕ × List ℕ) → List Status → List (ℕ × List ℕ) → Standing → Type 0 where
   Silent : (greeted : Bool) → IsDialogue greeted [] [] [] (Waits greeted)
   -- a reply has the serial of its message
   Answered : (greeted after : Bool) (serial : ℕ) (payload reply : List ℕ) (asked : Asked) (told verdicts : List Status) (messages replies : List (ℕ × List ℕ)) (end : Standing) → Answers greeted payload (Ok asked) after → Sends asked told reply → IsDialogue after messages verdicts replies end → IsDialogue greeted ((serial, payload) ∷ messages) (told ++ verdicts) ((serial, reply) ∷ replies) end
-  -- the first message that is refused is not answered, nor is any behind it
+  -- the first message that is refused is not answered, nor is any after it
   Refused : (greeted after : Bool) (serial : ℕ) (payload : List ℕ) (messages : List (ℕ × List ℕ)) (e : HopRefused) → (e ≡ NoMemory → ⊥) → Answers greeted payload (Err e) after → IsDialogue greeted ((serial, payload) ∷ messages) [] [] (Ended e)
 
 -- Messages and verdicts have one dialogue.
@@ -53,6 +53,6 @@ pub record EndsAt (greeted : Bool) (messages : List (ℕ × List ℕ)) (verdicts
   pub dialogue : IsDialogue greeted answered verdicts replies (Waits before)
   pub refused : Answers before payload (Err e) after
 
--- A connection that ended did so at a message that is refused, and nothing behind it counts.
+-- A connection that ended did so at a message that is refused, and nothing after it counts.
 abbrev pub EndsAreFinal : Type 0
 EndsAreFinal = (greeted : Bool) (messages more : List (ℕ × List ℕ)) (verdicts : List Status) (replies : List (ℕ × List ℕ)) (e : HopRefused) → IsDialogue greeted messages verdicts replies (Ended e) → EndsAt greeted messages verdicts replies e × IsDialogue greeted (messages ++ more) verdicts replies (Ended e)

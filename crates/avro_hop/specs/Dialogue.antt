@@ -11,13 +11,13 @@ use Rattle.avro_hop.specs.Parts.{place}
 use Rattle.avro_hop.specs.Handshake.{Request, IsRequest, RequestFault, IsKnown, IsOther, IsMatch, greeting}
 use Rattle.avro_hop.specs.Calls.{Call, IsCall, CallFault, IsAsked}
 
--- a handshake, and the bytes behind it
+-- a handshake, and the bytes after it
 pub record Greets (bytes rest : List ℕ) (r : Request) : Type 0 where
   pub front : List ℕ
   pub whole : bytes ≡ front ++ rest
   pub request : IsRequest front r
 
--- A stranger is answered alone, and the rest is left aside. Otherwise the call is answered behind the handshake, and the connection has no more of them.
+-- A stranger is answered alone, and the rest is left aside. Otherwise the call is answered after the handshake, and the connection has no more of them.
 abbrev pub Opens : Match → List ℕ → Asked → Bool → Type 0
 Opens Stranger rest (Reply bytes) greeted = (bytes.items ≡ greeting Stranger) × (greeted ≡ false)
 Opens Stranger rest (Events front batch) greeted = ⊥
@@ -40,7 +40,7 @@ AnswersFirst bytes (Err (BadHandshake at)) greeted = IsPlace FirstFault bytes at
 AnswersFirst bytes (Err OtherProtocol) greeted = ((rest : List ℕ) × (r : Request) × Greets bytes rest r × IsOther r) × (greeted ≡ false)
 AnswersFirst bytes (Err NoMemory) greeted = greeted ≡ false
 
--- behind the handshake
+-- after the handshake
 abbrev pub AnswersCall : List ℕ → Result Asked HopRefused → Bool → Type 0
 AnswersCall bytes (Ok asked) greeted = ((call : Call) × IsCall bytes call × IsAsked [] call asked) × (greeted ≡ true)
 AnswersCall bytes (Err (BadHandshake at)) greeted = IsPlace CallFault bytes at × (greeted ≡ true)

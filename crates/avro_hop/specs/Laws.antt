@@ -44,7 +44,7 @@ SameAsked (Reply a) (Events front batch) = ⊥
 SameAsked (Events front batch) (Reply b) = ⊥
 SameAsked (Events front batch) (Events front' batch') = (front.items ≡ front'.items) × (batch ≡ batch')
 
--- the same answer, and the same connection behind it; want of memory may come in place of any
+-- the same answer, and the same connection after it; out of memory may come in place of any
 abbrev pub SameAnswer : Result Asked HopRefused → Bool → Result Asked HopRefused → Bool → Type 0
 SameAnswer (Ok a) g (Ok b) h = SameAsked a b × (g ≡ h)
 SameAnswer (Ok a) g (Err (BadHandshake at)) h = ⊥
@@ -60,6 +60,6 @@ SameAnswer (Err OtherProtocol) g (Err OtherProtocol) h = g ≡ h
 SameAnswer (Err OtherProtocol) g (Err NoMemory) h = Unit {0}
 SameAnswer (Err NoMemory) g s h = Unit {0}
 
--- A message has one answer, but for want of memory.
+-- A message has one answer, except when out of memory.
 abbrev pub OneAnswer : Type 0
 OneAnswer = (greeted : Bool) (bytes : List ℕ) (r s : Result Asked HopRefused) (g h : Bool) → Answers greeted bytes r g → Answers greeted bytes s h → SameAnswer r g s h

@@ -23,14 +23,14 @@ ReadsAll Spells Faults bytes at (Err (At field)) = (f : Fault) × Faults (drop a
 ReadsAll Spells Faults bytes at (Err Large) = (events : List Content) × Spells (drop at bytes) events × IsSome (first_large events)
 ReadsAll Spells Faults bytes at (Err NoMemory) = Unit {0}
 
--- a byte behind a value with too large an event is at fault
+-- a byte after a value with too large an event is at fault
 abbrev pub unread_of : ℕ → ValueRefused → Unread
 unread_of len (Short field need) = At field
 unread_of len (Bad field) = At field
 unread_of len (TooLarge size end) = if nat_lt end len then At end else Large
 unread_of len values.NoMemory = NoMemory
 
--- what a call of these events asks, behind the front of its payload
+-- what a call of these events asks, after the front of its payload
 abbrev pub AsksFor : List ℕ → Result (List Content) Unread → Result Asked HopRefused → Type 0
 AsksFor front (Ok events) (Ok (Events front' batch)) = (front'.items ≡ front) × (batch ≡ events)
 AsksFor front (Ok events) (Ok (Reply bytes)) = ⊥

@@ -1,9 +1,9 @@
--- Fields one behind another, and values that may be missing.
+-- Fields one after another, and values that may be missing.
 use Rattle.std.specs.Prelude.{◌≡◌, ◌<◌, ℕ, List, ◌++◌, length, ◌⊎◌, Option, Some, None, ℤ, pos}
 use Rattle.avro_binary.specs.Fault.{Fault, Lacks, Wrong, shift, Behind}
 use Rattle.avro_binary.specs.Number.{IsInt, IntFault}
 
--- a value of one kind, and behind it one of another
+-- a value of one kind, and after it one of another
 pub record IsPair {V W : Type 0} (First : List ℕ → V → Type 0) (Second : List ℕ → W → Type 0) (bytes : List ℕ) (v : V) (w : W) : Type 0 where
   pub front : List ℕ
   pub back : List ℕ
@@ -15,7 +15,7 @@ pub record IsPair {V W : Type 0} (First : List ℕ → V → Type 0) (Second : L
 abbrev pub PairFault : {V : Type 0} → (List ℕ → V → Type 0) → (List ℕ → Fault → Type 0) → (List ℕ → Fault → Type 0) → List ℕ → Fault → Type 0
 PairFault First FirstFault SecondFault bytes f = FirstFault bytes f ⊎ Behind First SecondFault bytes f
 
--- a union of null and a value: its index, and the value behind index 1
+-- a union of null and a value: its index, and the value after index 1
 abbrev pub IsOption : {V : Type 0} → (List ℕ → V → Type 0) → List ℕ → Option V → Type 0
 IsOption Spells bytes None = IsInt bytes (pos 0)
 IsOption Spells bytes (Some v) = IsPair IsInt Spells bytes (pos 1) v
@@ -25,7 +25,7 @@ pub data OptionFault (Faults : List ℕ → Fault → Type 0) (bytes : List ℕ)
   OtherIndex : (front rest : List ℕ) (z : ℤ) → bytes ≡ front ++ rest → IsInt front z → (z ≡ pos 0 → ⊥) → (z ≡ pos 1 → ⊥) → f ≡ Wrong 0 → OptionFault Faults bytes f
   InValue : (front rest : List ℕ) (inner : Fault) → bytes ≡ front ++ rest → IsInt front (pos 1) → Faults rest inner → f ≡ shift (length front) inner → OptionFault Faults bytes f
 
--- a value, and no byte behind it
+-- a value, and no byte after it
 pub record Trailing {V : Type 0} (Spells : List ℕ → V → Type 0) (bytes : List ℕ) (f : Fault) : Type 0 where
   pub front : List ℕ
   pub rest : List ℕ

@@ -18,14 +18,14 @@ pub data EnumFault {E : Type 0} (Is : List ℕ → E → Type 0) (bytes : List �
   InIndex : IntFault bytes f → EnumFault Is bytes f
   OtherIndex : (front rest : List ℕ) (z : ℤ) → bytes ≡ front ++ rest → IsInt front z → ((e : E) → Is front e → ⊥) → f ≡ Wrong 0 → EnumFault Is bytes f
 
--- BOTH or CLIENT: a client goes on behind both alike
+-- BOTH or CLIENT: a client goes on after both alike
 abbrev pub IsAgreed : List ℕ → Match → Type 0
 IsAgreed bytes found = IsInt bytes (pos (match_index found)) × (found ≡ Stranger → ⊥)
 
 abbrev pub IsStatus : List ℕ → Status → Type 0
 IsStatus bytes status = IsInt bytes (pos (status_index status))
 
--- the answer to a handshake behind which a client goes on
+-- the answer to a handshake after which a client goes on
 abbrev pub IsAccord : List ℕ → Greeting → Type 0
 IsAccord bytes told = IsGreeting bytes told × (told.found ≡ Stranger → ⊥)
 
@@ -59,7 +59,7 @@ abbrev pub SpelledFault : Bool → List ℕ → Fault → Type 0
 SpelledFault true bytes f = PairFault IsAccord AccordFault ToldFault bytes f
 SpelledFault false bytes f = ToldFault bytes f
 
--- the first fault of a reply, or the first byte behind one
+-- the first fault of a reply, or the first byte after one
 abbrev pub ReplyFault : Bool → List ℕ → Fault → Type 0
 ReplyFault first bytes f = WholeFault (IsReply first) (SpelledFault first) bytes f
 

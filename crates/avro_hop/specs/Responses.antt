@@ -51,7 +51,7 @@ pub data Outcome : Type 0 where
 abbrev pub IsError : List ℕ → List ℕ → Type 0
 IsError bytes text = IsPair IsInt IsText bytes (pos 0) text
 
--- the error flag, and behind it the Status or the error
+-- the error flag, and after it the Status or the error
 abbrev pub IsOutcome : List ℕ → Outcome → Type 0
 IsOutcome bytes (Told status) = IsPair IsBoolean IsInt bytes false (pos (status_index status))
 IsOutcome bytes (Error text) = IsPair IsBoolean IsError bytes true text

@@ -13,7 +13,7 @@ use avro_binary::{ValueRefused, read_batch, read_event, read_meta};
 use event_core::Batch;
 use std::alloc::Global;
 
-// The name of the message, behind the metadata.
+// The name of the message, after the metadata.
 fn name_at(bytes: &[u8], at: usize) -> Result<(&str, usize), ValueRefused>
     requires { at ≤ length bytes.now }
     ensures { Reads (λ s. s.now) IsHead HeadFault bytes.now at result }
@@ -68,7 +68,7 @@ fn whole_batch(alloc: Global, bytes: &[u8], at: usize) -> Result<Batch, Unread>
     }
 }
 
-// A byte behind a value with too large an event is at fault.
+// A byte after a value with too large an event is at fault.
 fn behind_value(bytes: &[u8], e: ValueRefused) -> Unread
     ensures { result ≡ unread_of (length bytes.now) e }
 {
@@ -86,7 +86,7 @@ fn behind_value(bytes: &[u8], e: ValueRefused) -> Unread
     }
 }
 
-// What a call of these events asks, behind the front of its payload.
+// What a call of these events asks, after the front of its payload.
 fn asked_of(front: Vec<u8>, events: Result<Batch, Unread>) -> Result<Asked, HopRefused>
     ensures { AsksFor front.items events result }
 {
@@ -104,7 +104,7 @@ fn asked_of(front: Vec<u8>, events: Result<Batch, Unread>) -> Result<Asked, HopR
     }
 }
 
-/// What the call at an offset asks, behind the front of its payload.
+/// What the call at an offset asks, after the front of its payload.
 pub fn call_at(alloc: Global, bytes: &[u8], at: usize, front: Vec<u8>) -> Result<Asked, HopRefused>
     requires { at ≤ length bytes.now }
     ensures { CallsAt front.items bytes.now at result }

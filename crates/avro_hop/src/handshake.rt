@@ -118,7 +118,7 @@ fn tail_at(bytes: &[u8], at: usize) -> Result<(&[u8], usize), ValueRefused>
     Ok((hash, end))
 }
 
-// The request at the front, and the offset behind it.
+// The request at the front, and the offset after it.
 pub fn request_at(bytes: &[u8]) -> Result<(Told<'_>, usize), ValueRefused>
     ensures { Reads told IsRequest RequestFault bytes.now 0 result }
 {

@@ -1,4 +1,4 @@
-// A connection, before and behind its handshake.
+// A connection, before and after its handshake.
 ghost use Rattle.std.specs.Prelude.{◌≡◌, IfOk, IsOkAnd, false};
 ghost use Rattle.avro_hop.specs.Handshake.{own_hash};
 ghost use Rattle.avro_hop.specs.Dialogue.{Answers, AnswersFirstOf};

@@ -19,13 +19,13 @@ pub fn one_fault_at_a_place()
     ensures matches { OneMatch }
 {}
 
-/// A message has one answer, but for want of memory: `Hop::answer` leaves nothing open.
+/// A message has one answer, except when out of memory: `Hop::answer` leaves nothing open.
 pub fn one_answer()
     ensures { OneAnswer }
 {}
 
 /// A connection has one dialogue, which goes on from message to message: each is answered once, in order and under its
-/// serial, up to the first that is refused, and nothing behind that one counts.
+/// serial, up to the first that is refused, and nothing after that one counts.
 pub fn one_dialogue()
     ensures one { OneDialogue }
     ensures join { DialoguesJoin }

@@ -37,7 +37,7 @@ fn hash_option_at(bytes: &[u8], at: usize) -> Result<(Option<&[u8]>, usize), Val
     Ok((Some(hash), end))
 }
 
-// The offset behind the answer to a handshake.
+// The offset after the answer to a handshake.
 fn accord_at(bytes: &[u8]) -> Result<usize, ValueRefused>
     ensures { ReadsOver IsAccord AccordFault bytes.now 0 result }
 {
@@ -47,7 +47,7 @@ fn accord_at(bytes: &[u8]) -> Result<usize, ValueRefused>
     meta_option_at(bytes, meta_at)
 }
 
-// The offset behind the flag of a call without an error.
+// The offset after the flag of a call without an error.
 fn flag_at(bytes: &[u8], at: usize) -> Result<usize, ValueRefused>
     requires { at ≤ length bytes.now }
     ensures { ReadsOver IsNoError FlagFault bytes.now at result }
@@ -75,7 +75,7 @@ fn status_at(bytes: &[u8], at: usize) -> Result<(Status, usize), ValueRefused>
     }
 }
 
-// The status of a response, and the offset behind it.
+// The status of a response, and the offset after it.
 fn told_at(bytes: &[u8], at: usize) -> Result<(Status, usize), ValueRefused>
     requires { at ≤ length bytes.now }
     ensures { Reads (λ s. s) IsTold ToldFault bytes.now at result }
@@ -95,9 +95,9 @@ fn reply_at(first: bool, bytes: &[u8]) -> Result<(Status, usize), ValueRefused>
     told_at(bytes, behind)
 }
 
-/// Reads the payload of a reply, behind a connection's first request or a later one. An `Err` is the offset of the
+/// Reads the payload of a reply, after a connection's first request or a later one. An `Err` is the offset of the
 /// first field that is not whole or at fault, and then nothing is told: so the match NONE, a true error flag and a byte
-/// behind the response count. `Both` and `Client` are taken alike, and the server's text, its hash and all metadata are
+/// after the response count. `Both` and `Client` are taken alike, and the server's text, its hash and all metadata are
 /// read and left aside.
 pub fn read_reply(first: bool, bytes: &[u8]) -> Result<Status, u64>
     ensures { ReadsReply first bytes.now result }

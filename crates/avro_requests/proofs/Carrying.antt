@@ -62,7 +62,7 @@ requests_push serial (b ∷ batches) batch =
     ap (λ (l : List ℕ). request_pack serial b ++ l) (requests_push (serial + 1) batches batch ∙ ap (λ (n : ℕ). requests (serial + 1) batches ++ request_pack n batch) e)
     ∙ sym (append_assoc (request_pack serial b) (requests (serial + 1) batches) (request_pack (serial + length (b ∷ batches)) batch))
 
--- further bytes stand behind them
+-- further bytes stand after them
 replies_behind : (serial : ℕ) (batches : List (List Content)) (gave given : List ℕ) → AreReplies serial batches gave [] → AreReplies serial batches (gave ++ given) given
 replies_behind serial [] gave given is = ap (λ (l : List ℕ). l ++ given) is
 replies_behind serial (b ∷ batches) gave given (first, rest, payload, split, pack, reply, others) =

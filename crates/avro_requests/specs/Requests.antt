@@ -48,7 +48,7 @@ IsFrontOf done serial front =
     (front ≡ [])
     ⊎ ((place count : ℕ) × (d : Delivery) × (slice_get done place ≡ Some d) × IsRefused d.answer × (front ≡ take count (request_pack serial d.batch)))
 
--- What was said on a link: batches whose replies said OK, what it took behind their requests, and what it gave behind their replies.
+-- What was said on a link: batches whose replies said OK, what it took after their requests, and what it gave after their replies.
 pub record Talk : Type 0 where
   pub batches : List (List Content)
   pub front : List ℕ

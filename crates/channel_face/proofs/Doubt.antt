@@ -45,7 +45,7 @@ only_fault s FlushNo.Broken whole may = absurd (let no = sym whole ∙ may in cc
 only_fault s FlushNo.DiskFault whole may = refl
 only_fault s (FlushNo.Spent counter) whole may = absurd may
 
--- a flush that is refused behind a stage is refused for a fault of the disk
+-- a flush that is refused after a stage is refused for a fault of the disk
 pub flush_fault_behind : (tells tells' : Bool) (a b d : Opening → List Step → Type 0) (call : Call) (e : FlushRefused) (m m' : ℕ) → AddsOne a b call m → AddsOne b d (Flush (Err e)) m'
     → ((start : Opening) (h : List Step) → b start h → IsRun tells (opening start) h) → ((start : Opening) (h : List Step) → d start h → IsRun tells' (opening start) h)
     → ((s : State) → Admits tells s call → (after s call).broken ≡ false) → (start : Opening) (h : List Step) → a start h → e ≡ FlushNo.DiskFault

@@ -32,7 +32,7 @@ pub record Own : Type 0 where
 abbrev pub one : Call → State → ℕ → List Own
 one call before moment = record { call = call; before = before; moment = moment } ∷ []
 
--- Behind any opening and earlier calls, and from any calls of its own on, a face goes on by some more, of which P is true behind its own ones.
+-- After any opening and earlier calls, and from any calls of its own on, a face goes on by some more, of which P is true after its own ones.
 abbrev pub Gains : (Opening → List Step → List Own → Type 0) → (Opening → List Step → List Own → Type 0) → (List Own → List Own → Type 0) → Type 0
 Gains before later P = (start : Opening) (earlier : List Step) (own : List Own) → before start earlier own → (more : List Own) × later start earlier (own ++ more) × P own more
 

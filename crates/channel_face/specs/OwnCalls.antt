@@ -30,7 +30,7 @@ HasMade stands start earlier own = (s : State) × MadeOwn stands start earlier o
 abbrev pub Was : (Opening → List Step → Type 0) → List Own → State → Type 0
 Was stands own s = (start : Opening) × (earlier : List Step) × MadeOwn stands start earlier own s
 
--- From calls of one's own and the state that they led to, to more of them and another state, of which P is true behind these calls.
+-- From calls of one's own and the state that they led to, to more of them and another state, of which P is true after these calls.
 abbrev pub Goes : (Opening → List Step → Type 0) → (Opening → List Step → Type 0) → (List Own → State → List Own → State → Type 0) → Type 0
 Goes before later P = (start : Opening) (earlier : List Step) (own : List Own) (s : State) → MadeOwn before start earlier own s → (more : List Own) × (new : State) × MadeOwn later start earlier (own ++ more) new × P own s more new
 

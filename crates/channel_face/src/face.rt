@@ -9,7 +9,7 @@ use event_core::{Batch, Event};
 
 /// What a source sees of a channel: whole transactions of puts.
 pub trait PutFace {
-    /// Behind this opening and these earlier calls of the channel, these are its own calls so far, with their replies.
+    /// After this opening and these earlier calls of the channel, these are its own calls so far, with their replies.
     ghost own: { Self → Opening → List Step → List Own → Type 0 };
 
     /// These are its own calls so far, and in this state it left the channel.
@@ -41,7 +41,7 @@ pub trait PutFace {
 
 /// What a sink sees of a channel: transactions of takes.
 pub trait TakeFace {
-    /// Behind this opening and these earlier calls of the channel, these are its own calls so far, with their replies.
+    /// After this opening and these earlier calls of the channel, these are its own calls so far, with their replies.
     ghost own: { Self → Opening → List Step → List Own → Type 0 };
 
     /// These are its own calls so far, and in this state it left the channel.

@@ -12,7 +12,7 @@ use std::sync::ledger::{Blank, Ledger};
 
 /// What those see of a channel who mend it and ask how many events are left.
 pub trait MendFace {
-    /// Behind this opening and these earlier calls of the channel, these are its own calls so far, with their replies.
+    /// After this opening and these earlier calls of the channel, these are its own calls so far, with their replies.
     ghost own: { Self → Opening → List Step → List Own → Type 0 };
 
     /// These are its own calls so far, and in this state it left the channel.

@@ -87,7 +87,7 @@ pub enum BeginRefused {
     TooManyOpen { held: u32 },
     /// A number has come to its end.
     Spent { counter: Counter },
-    /// Want of memory.
+    /// Out of memory.
     NoMemory,
 }
 
@@ -108,7 +108,7 @@ pub enum PutRefused {
     Full { count: u32 },
     /// The device failed, and the channel is broken.
     DiskFault,
-    /// Want of memory.
+    /// Out of memory.
     NoMemory,
 }
 
@@ -127,7 +127,7 @@ pub enum TakeRefused {
     ReadFault,
     /// The event's size as kept, and the size of the event that is spelled at its place, if there is one. They differ.
     Damaged { kept: u32, found: Option<u32> },
-    /// Want of memory.
+    /// Out of memory.
     NoMemory,
     /// The device failed, and the channel is broken.
     DiskFault,
@@ -216,7 +216,7 @@ pub enum OpenCause {
     OverCapacity { count: u64 },
     /// A number has come to its end.
     Spent { counter: Counter },
-    /// Want of memory.
+    /// Out of memory.
     NoMemory,
 }
 

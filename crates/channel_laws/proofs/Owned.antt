@@ -5,8 +5,8 @@ use Rattle.channel_face.specs.Token.{Token}
 use Rattle.channel_face.specs.Machine.{State, after, puts_of}
 use Rattle.channel_face.specs.History.{Step, Opening, opening}
 use Rattle.channel_face.specs.Faces.{Own, IsPutBatch, IsTakeCommit}
-use Rattle.turn_passes.specs.Calls.{has}
-use Rattle.turn_passes.specs.Views.{View}
+use Rattle.channel_lock.specs.Calls.{has}
+use Rattle.channel_lock.specs.Views.{View}
 use Rattle.shared_channel.specs.Ports.{own_if, own_calls, owned, Saw, SawAll}
 use Rattle.channel_laws.specs.Transactions.{AreAmong, looks_at_nothing, BeginsWith, LeftAtEnd, ArePutInJournal, AreTakenInJournal}
 use Rattle.channel_laws.proofs.Transactions.{answered_is_in_journal, committed_is_in_journal}

@@ -17,7 +17,7 @@ behind-append front entry all more is = (is.0 ++ more, ap (λ (l : List Entry). 
 pub behind-front : (before front : List Entry) (entry : Entry) (all : List Entry) → HasBehind front entry all → HasBehind (before ++ front) entry (before ++ all)
 behind-front before front entry all is = (is.0, ap (λ (l : List Entry). before ++ l) is.1 ∙ sym (append_assoc before front (entry ∷ is.0)))
 
--- a first part of a list has the entry behind the whole front, or hasn't it
+-- a first part of a list has the entry after the whole front, or hasn't it
 behind_or_not : (front : List Entry) (entry : Entry) (more : List Entry) (k : ℕ) → HasBehind front entry (take k (front ++ entry ∷ more)) ⊎ Unit {0}
 behind_or_not front entry more zero = inr tt
 behind_or_not [] entry more (suc k) = inl (take k more, refl)

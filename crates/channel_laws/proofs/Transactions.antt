@@ -36,7 +36,7 @@ run_front tells s (step ∷ x) y run = (run.0, run_front tells (after s step.cal
 same_own : (a b : Own) (x y : List Own) → a ∷ x ≡ b ∷ y → (a ≡ b) × (x ≡ y)
 same_own a b x y is = (cc, cc)
 
--- From a state on a history is behind some front, and these calls are among the rest.
+-- From a state on a history is after some front, and these calls are among the rest.
 record At {V : Type 0} (look : State → V) (s : State) (h : List Step) (own : List Own) : Type 0 where
   front : List Step
   back : List Step
@@ -89,7 +89,7 @@ module _ {V : Type 0} (look : State → V) where
         among = subst (λ (v : State). AreAmong look (after v call) n.rest own) (sym there) n.among;
       }
 
-  -- the state behind it
+  -- the state after it
   behind : (s : State) (h : List Step) (call : Call) (before : State) (own : List Own) (from : List Step) (n : Next look s h call before own from) → state_after s ((from ++ n.more) ++ n.step ∷ []) ≡ after (state_after s (from ++ n.more)) call
   behind s h call before own from n = state-push s (from ++ n.more) n.step ∙ ap (λ (c : Call). after (state_after s (from ++ n.more)) c) n.call_is
 
@@ -107,7 +107,7 @@ module _ {V : Type 0} (look : State → V) where
   past s h [] own at = at
   past s h (o ∷ earlier) own at = past s h earlier own (go_on s h o.call o.before (earlier ++ own) at.front (next_at s h o.call o.before o.moment (earlier ++ own) at))
 
-  -- Where these are the face's calls behind its stage, and the ticket was found so that they are all, the ticket is settled at the end.
+  -- Where these are the face's calls after its stage, and the ticket was found so that they are all, the ticket is settled at the end.
   module _ (saw : List Own → State → Type 0) (seen : ℕ) (tells : Bool) (o : Opening) (h : List Step) (run : IsRun tells (opening o) h) (left : LeftAtEnd saw o h) (call : Call) (staged_in : State) (ending : List Own) (from : List Step) (staging : Next look (opening o) h call staged_in ending from) (t : Ticket) (entry : Entry) (stages : Stages (state_after (opening o) (from ++ staging.more)) staging.step.call t entry) (full : IsNotEmpty entry) where
     abbrev front : List Step
     front = from ++ staging.more

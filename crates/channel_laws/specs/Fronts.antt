@@ -6,7 +6,7 @@ use Rattle.channel_face.specs.Token.{Token}
 use Rattle.channel_face.specs.History.{Opening, Step}
 use Rattle.channel_face.specs.Faces.{Own, IsPutBatch, IsTakeCommit, IsTakeRolledBack}
 use Rattle.channel_face.specs.declared.replies.FaceRefused.{FaceRefused}
-use Rattle.turn_passes.specs.Views.{View}
+use Rattle.channel_lock.specs.Views.{View}
 use Rattle.shared_channel.specs.Ports.{Saw, Stood}
 use Rattle.channel_laws.specs.Transactions.{ArePutInJournal, AreTakenInJournal}
 

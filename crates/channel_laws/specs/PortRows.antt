@@ -4,7 +4,7 @@ use Rattle.event_core.specs.Content.{Content}
 use Rattle.channel_face.specs.Machine.{State, puts_of}
 use Rattle.channel_face.specs.History.{Step, opening, StandsFor}
 use Rattle.channel_face.specs.Faces.{IsPutBatch}
-use Rattle.turn_passes.specs.Views.{View, nothing}
+use Rattle.channel_lock.specs.Views.{View, nothing}
 use Rattle.shared_channel.specs.Ports.{owned, Saw, SawAll}
 use Rattle.channel_laws.specs.Rows.{start, token, history, own_of_first, own_of_second}
 use Rattle.channel_laws.specs.Ports.{OthersKeep}

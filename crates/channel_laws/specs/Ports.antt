@@ -6,8 +6,8 @@ use Rattle.channel_face.specs.Token.{Token}
 use Rattle.channel_face.specs.Machine.{State, after, puts_of}
 use Rattle.channel_face.specs.History.{Step, Opening, opening}
 use Rattle.channel_face.specs.Faces.{Own, IsPutBatch, IsTakeCommit}
-use Rattle.turn_passes.specs.Calls.{has}
-use Rattle.turn_passes.specs.Views.{View}
+use Rattle.channel_lock.specs.Calls.{has}
+use Rattle.channel_lock.specs.Views.{View}
 use Rattle.shared_channel.specs.Ports.{owned, Saw, SawAll}
 use Rattle.channel_laws.specs.Transactions.{BeginsWith, ArePutInJournal, AreTakenInJournal}
 

@@ -16,11 +16,11 @@ Stages s (StagePut token reply) t (Puts events) = (reply ≡ Ok t) × (puts_of s
 Stages s (StageTake token reply) t (Takes numbers) = (reply ≡ Ok t) × (takes_of s token ≡ Some numbers)
 Stages s call t entry = ⊥
 
--- the list has the entry right behind this front
+-- the list has the entry right after this front
 abbrev pub HasBehind : List Entry → Entry → List Entry → Type 0
 HasBehind front entry all = (back : List Entry) × (all ≡ front ++ entry ∷ back)
 
--- What is settled is in the journal, behind the commits of the calls before its stage.
+-- What is settled is in the journal, after the commits of the calls before its stage.
 abbrev pub SettledIsInJournal : Type 0
 SettledIsInJournal =
     (tells : Bool) (o : Opening) (h : List Step) (stage : Step) (later : List Step) (t : Ticket) (entry : Entry)
@@ -28,7 +28,7 @@ SettledIsInJournal =
     → settled (state_after (opening o) (h ++ stage ∷ later)) t ≡ Yes
     → HasBehind (commits (opening o) h) entry (journal (opening o) (h ++ stage ∷ later))
 
--- What is not settled, and in no doubt, is staged, behind what was staged before it, and the journal is as it was.
+-- What is not settled, and in no doubt, is staged, after what was staged before it, and the journal is as it was.
 abbrev pub UnsettledIsStaged : Type 0
 UnsettledIsStaged =
     (tells : Bool) (o : Opening) (h : List Step) (stage : Step) (later : List Step) (t : Ticket) (entry : Entry)

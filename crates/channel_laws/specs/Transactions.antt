@@ -34,8 +34,8 @@ abbrev pub LeftAtEnd : (List Own → State → Type 0) → Opening → List Step
 LeftAtEnd saw o h = (all : List Own) (s : State) → saw all s → s ≡ state_after (opening o) h
 
 -- The transaction that these calls began with was staged with a ticket of this first number, that of the next event there, when its puts were just these
--- events. Where there are some, the ticket is settled at the end, and the journal has them as one entry, right behind what was committed before that
--- stage. Without a reopen before that read its list from a disk that doesn't tell, the number is that of the next event behind the commits too.
+-- events. Where there are some, the ticket is settled at the end, and the journal has them as one entry, right after what was committed before that
+-- stage. Without a reopen before that read its list from a disk that doesn't tell, the number is that of the next event after the commits too.
 pub record ArePutInJournal (o : Opening) (h : List Step) (own : List Own) (events : List Content) (number : ℕ) : Type 0 where
   pub token : Token
   pub begun : BeginsWith own token
@@ -61,7 +61,7 @@ AnsweredIsInJournal saw seen =
     → ArePutInJournal o h own events number
 
 -- A stage of this transaction was answered Ok, with a ticket. Where it had taken something by then, the ticket is settled at the end, and the journal has
--- that as one entry, right behind what was committed before.
+-- that as one entry, right after what was committed before.
 pub record AreTakenInJournal (o : Opening) (h : List Step) (token : Token) : Type 0 where
   pub front : List Step
   pub stage : Step

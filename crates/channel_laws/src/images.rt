@@ -1,7 +1,7 @@
 // What a crash leaves of a folder whose channel was shared.
 ghost use Rattle.std.specs.Prelude.{◌≡◌};
-ghost use Rattle.turn_passes.specs.Calls.{Below};
-ghost use Rattle.turn_passes.specs.Turns.{HasAll};
+ghost use Rattle.channel_lock.specs.Calls.{Below};
+ghost use Rattle.channel_lock.specs.Turns.{HasAll};
 ghost use Rattle.channel_laws.specs.Images.{CountedCallsLeave, LeavesAtEach};
 
 use file_channel::FileChannel;
@@ -17,7 +17,7 @@ pub fn counted_calls_leave()
 
 /// Hands a shared file channel back, as [`Shared::close`] does, and tells what a crash may leave of its folder. Whatever calls any
 /// passes made since the opening, and at whatever moment since that opening had settled the folder, inside a call too, what a crash
-/// then leaves opens to what is left behind some front of the commits made up to that moment which has all that was settled by then.
+/// then leaves opens to what is left after some front of the commits made up to that moment which has all that was settled by then.
 /// The opening is that which [`Shared::new`] was given, and the calls are all that were counted.
 pub fn close_channel<R: Wait, D: Disk + Drop>(
     rt: &R,

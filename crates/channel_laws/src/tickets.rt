@@ -4,13 +4,13 @@ ghost use Rattle.channel_laws.specs.Tickets.{SettledIsInJournal, UnsettledIsStag
 
 use channel_face::{Channel, PutFace, TakeFace};
 
-/// Where the ticket of an entry is settled, the journal has this entry, right behind all that was committed before it was staged.
+/// Where the ticket of an entry is settled, the journal has this entry, right after all that was committed before it was staged.
 pub fn settled_is_in_journal()
     ensures { SettledIsInJournal }
 {}
 
 /// Where the ticket of an entry is not settled, and in no doubt, the journal is as it was at the stage, and the entry is staged,
-/// right behind what was staged before it.
+/// right after what was staged before it.
 pub fn unsettled_is_staged()
     ensures { UnsettledIsStaged }
 {}
@@ -25,21 +25,21 @@ pub fn stays_settled()
     ensures { StaysSettled }
 {}
 
-/// A ticket of puts has how many they are, and the number of the first: that of the next event behind all that was committed before,
+/// A ticket of puts has how many they are, and the number of the first: that of the next event after all that was committed before,
 /// where no reopen before read its list from a disk that doesn't tell.
 pub fn tickets_number_puts()
     ensures { TicketsNumberPuts }
 {}
 
 /// A batch that a face answered Ok is in the journal of a history at whose end the face left the channel, where no other call of the
-/// history changed its puts: its events, if any, are one entry, right behind what was committed before its stage. The number that
+/// history changed its puts: its events, if any, are one entry, right after what was committed before its stage. The number that
 /// was answered is that of the next event when it was staged, and, where no reopen before read its list from a disk that doesn't
-/// tell, of the next event behind those commits.
+/// tell, of the next event after those commits.
 pub fn answered_is_in_journal<P: PutFace>(face: &P)
     ensures { AnsweredIsInJournal (P.saw face.now) (P.seen face.now) }
 {}
 
-/// What a transaction had taken that a face committed with Ok is in that journal as taken, right behind what was committed before
+/// What a transaction had taken that a face committed with Ok is in that journal as taken, right after what was committed before
 /// its stage.
 pub fn committed_is_in_journal<T: TakeFace>(face: &T)
     ensures { CommittedIsInJournal (T.saw face.now) (T.seen face.now) }

@@ -7,7 +7,7 @@ use Rattle.record_form.specs.declared.record.Rec.{Rec}
 use Rattle.channel_log.specs.Frames.{IsFrame, header, frame_bytes, opened}
 use Rattle.channel_log.specs.Writer.{HasFrames, file_of}
 
--- behind a file that was stable anything may come
+-- after a file that was stable anything may come
 pub behind : (was bytes : List ℕ) (n size : ℕ) → n ≡ length was → MayBe (touch n size (stable was)) bytes → bytes ≡ was ++ drop n bytes
 behind was bytes n size is may = sym (take-append-drop n bytes) ∙ ap (λ (l : List ℕ). l ++ drop n bytes) front
   where
@@ -63,7 +63,7 @@ file-push birth number frames frame =
     sym (append_assoc (header birth number ++ opened frames) (1 ∷ frame_bytes frame) (0 ∷ []))
     ∙ ap (λ (l : List ℕ). l ++ 0 ∷ []) (append_assoc (header birth number) (opened frames) (1 ∷ frame_bytes frame) ∙ ap (λ (l : List ℕ). header birth number ++ l) (sym (opened-push frames frame)))
 
--- a closed commit byte behind frames
+-- a closed commit byte after frames
 pub has_frames : (birth number : ℕ) (frames : List (List Rec)) (bytes : List ℕ) (gate : ℕ) (after : List ℕ) → AllByRecursion IsFrame frames → gate ≢ 1 → bytes ≡ (header birth number ++ opened frames) ++ gate ∷ after → HasFrames birth number frames bytes
 has_frames birth number frames bytes gate after each closed is = (
   opened frames ++ gate ∷ after,

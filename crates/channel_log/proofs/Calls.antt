@@ -21,7 +21,7 @@ module _ (birth number at : ℕ) (frames : List (List Rec)) (frame : List Rec) (
   abbrev before : List ℕ
   before = file_of birth number frames
 
-  -- the file with the frame behind its closed commit byte
+  -- the file with the frame after its closed commit byte
   abbrev staged : List ℕ
   staged = front ++ 0 ∷ (frame_bytes frame ++ 0 ∷ [])
 
@@ -32,7 +32,7 @@ module _ (birth number at : ℕ) (frames : List (List Rec)) (frame : List Rec) (
     size : length before ≡ at + 1
     size = omega (arith, rest.offset, length-append front (0 ∷ []))
 
-    -- the frame goes behind the commit byte
+    -- the frame goes after the commit byte
     pub ready_place : (bytes : List ℕ) × (t.reads (Log number) ≡ Some bytes) × (at + 1 ≤ length bytes)
     ready_place = (before, rest.reads, omega (arith, size))
 
@@ -42,7 +42,7 @@ module _ (birth number at : ℕ) (frames : List (List Rec)) (frame : List Rec) (
     new : (bytes : List ℕ) → bytes ≡ front ++ 1 ∷ (frame_bytes frame ++ 0 ∷ []) → Either bytes
     new bytes is = inr (has_frames birth number (frames ++ frame ∷ []) bytes 0 [] (all-push IsFrame frames frame rest.each is_frame) (omega arith) (is ∙ file-push birth number frames frame))
 
-    -- at first, and while the frame is written behind
+    -- at first, and while the frame is written after
     kept : (s : FileState) → ((bytes : List ℕ) → MayBe s bytes → Either bytes) → (file : Option (List ℕ)) → Allows (There s) file → IsSomeAnd file Either
     kept s each None bad = bad
     kept s each (Some bytes) may = each bytes may

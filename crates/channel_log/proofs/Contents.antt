@@ -19,7 +19,7 @@ one_frame f g x y is is' same =
     let e = end_agrees a.more (length g) (length f) x y a.each is'.some is'.few ends a.left in
     sym (a.is ∙ ap (λ (l : List Rec). f ++ l) e.0 ∙ append-nil f)
 
--- Frames end here: no open commit byte with a frame and a byte behind it stands here.
+-- Frames end here: no open commit byte with a frame and a byte after it stands here.
 pub record Stops (bytes : List ℕ) : Type 0 where
   pub some : (gate : ℕ) × (rest : List ℕ) × (bytes ≡ gate ∷ rest)
   pub none : (frame : List Rec) (gate : ℕ) (behind : List ℕ) → IsFrame frame → bytes ≡ 1 ∷ (frame_bytes frame ++ gate ∷ behind) → ⊥

@@ -9,7 +9,7 @@ use Rattle.channel_log.proofs.Given.{are_records}
 use Rattle.channel_log.proofs.Remaining.{below, entered, ended, broken, reads_ahead}
 use Rattle.channel_log.specs.Reader.{AfterOpen, AreRecords, Gives, HasFile, IfTrue, IsAhead, IsEntered, IsFront, IsLoaded, OpensNone, Reader, Remains, Stands, WhereBad}
 
--- nothing is held behind the frame's end
+-- nothing is held after the frame's end
 pub empty_held : (place stop : ℕ) (read : List ℕ) → stop ≤ place → drop place (take stop read) ≡ []
 empty_held place stop read past = drop_all place (take stop read) (omega (arith, past, length-take stop read))
 

@@ -49,7 +49,7 @@ scan_from (suc fuel) bytes at count all on enough = scan_step bytes at count all
 scan_of : (bytes : List ℕ) → AreLow bytes → Scanned bytes
 scan_of bytes low = scan_from (length bytes) bytes 0 0 (All-from_recursion Low bytes low) (read_none bytes) (omega arith)
 
--- A frame stands in front, with a byte behind it.
+-- A frame stands in front, with a byte after it.
 record Fronts (bytes : List ℕ) : Type 0 where
   frame : List Rec
   is : IsFrame frame
@@ -77,7 +77,7 @@ whole_in bytes front rest frame size low is front_is = by_behind (drop size fron
         let one : frame ≡ other = one_frame frame other [] (gate ∷ behind) is is' (sym split ∙ same) in
         nothing gate behind (append_cancel_left (frame_bytes frame) [] (gate ∷ behind) (sym split ∙ same ∙ ap (λ (f : List Rec). frame_bytes f ++ gate ∷ behind) (sym one))))
 
--- whether a frame stands in front, with a byte behind it
+-- whether a frame stands in front, with a byte after it
 fronts : (bytes : List ℕ) → Fronts bytes ⊎ OpensNone bytes
 fronts bytes = from (low_front bytes)
   where
@@ -114,7 +114,7 @@ one_more rest f (inr (frames, b)) = inr (
   },
 )
 
--- an open commit byte, and what stands behind it
+-- an open commit byte, and what stands after it
 behind_open : (rest : List ℕ) → ((bytes : List ℕ) → 1 ≤ length bytes → length bytes ≤ length rest → Framed bytes) → Framed (1 ∷ rest)
 behind_open rest shorter = from (fronts rest)
   where

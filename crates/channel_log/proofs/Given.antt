@@ -79,7 +79,7 @@ no_end_kind (CommitPut txn first count) is h = omega (arith, h)
 no_end_kind (CommitTake txn count) is h = omega (arith, h)
 no_end_kind (End count) is h = is
 
--- the byte behind a record
+-- the byte after a record
 byte_behind : (frame : List ℕ) (place n : ℕ) (first : Rec) (records : List Rec) (count : ℕ) → drop place frame ≡ closing (first ∷ records) count → n ≡ record_length first → get_or frame (place + n) 0 ≡ get_or (closing records count) 0 0
 byte_behind frame place n first records count same long =
     sym (get_or-drop place frame n 0) ∙ ap (λ (l : List ℕ). get_or l n 0) (same ∙ cons_closing first records count)

@@ -48,7 +48,7 @@ pub record SeeksOn (was told : Option Told) (faulty faults number gate start pla
   pub within : place ≤ length read
   pub front : (bytes : List ℕ) → HasFile was number bytes → IsFront (drop start old) gate bytes → IsFront (drop place read) gate bytes
 
--- a frame and a byte behind it were read
+-- a frame and a byte after it were read
 pub cut_found : (read held : List ℕ) (size : ℕ) (frame : List Rec) → IsFrame frame → take size read ≡ frame_bytes frame → size < length read → held ≡ take size read → Opens read held
 cut_found read held size frame is front short same = record {
   frame = frame;
@@ -59,7 +59,7 @@ cut_found read held size frame is front short same = record {
   split = sym (take-append-drop size read) ∙ ap (λ (l : List ℕ). l ++ drop size read) front ∙ ap (λ (l : List ℕ). frame_bytes frame ++ l) (drop_more read size 0 short);
 }
 
--- a frame was read, and nothing behind it
+-- a frame was read, and nothing after it
 pub cut_whole : (read : List ℕ) (size : ℕ) (f : List Rec) → IsFrame f → take size read ≡ frame_bytes f → length read ≤ size → OpensNone read
 cut_whole read size f is front long = λ g gate behind is' same.
     let whole : read ≡ frame_bytes f = sym (take_all size read long) ∙ front in
@@ -74,7 +74,7 @@ cut_part read none = λ frame gate behind is same. none (frame, gate ∷ behind,
 pub cut_bad : (read : List ℕ) → ((more : List ℕ) → BeginsFrame (read ++ more) → ⊥) → (more : List ℕ) → OpensNone (read ++ more)
 cut_bad read none more = cut_part (read ++ more) (none more)
 
--- the first byte, and what stands behind it
+-- the first byte, and what stands after it
 pub first_open : (read : List ℕ) → 1 ≤ length read → get_or read 0 0 ≡ 1 → read ≡ 1 ∷ take (length read - 1) (drop 1 read)
 first_open [] some one = absurd (omega (arith, some))
 first_open (b ∷ l) some one = ap (λ (x : ℕ). x ∷ l) one ∙ ap (λ (t : List ℕ). 1 ∷ t) (sym (take_all (length (b ∷ l) - 1) l (omega arith)))

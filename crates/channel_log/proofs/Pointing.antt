@@ -18,7 +18,7 @@ use Rattle.channel_log.specs.Writer.{HasFrames, LacksOrHas}
 use Rattle.channel_log.specs.Pointers.{PutAt, pending_at, settled_part}
 use Rattle.channel_log.specs.PointerLaws.{OneEventStands, PendingStands, PutIsRead, PutStays, StandsInEachImage}
 
--- whatever stands behind
+-- whatever stands after
 pub put_grows : (bytes more : List ℕ) (p : Pointer) (event : Content) → PutAt bytes p event → PutAt (bytes ++ more) p event
 put_grows bytes more p event at = record {
   txn = at.txn;
@@ -52,7 +52,7 @@ one_event bytes p event other at at' =
     let two = put_read bytes p other at' in
     same_event one.0 two.0 event other (p.length + 13) (p.length + 13) (sym one.1 ∙ two.1)
 
--- frames behind frames
+-- frames after frames
 
 opened-append : (a b : List (List Rec)) → opened (a ++ b) ≡ opened a ++ opened b
 opened-append [] b = refl

@@ -21,7 +21,7 @@ between r bytes items fault remains empty full = elim (remains.stands) [
   ]
 ]
 
--- an open commit byte with a frame and a byte behind it is that of the first frame
+-- an open commit byte with a frame and a byte after it is that of the first frame
 pub record Entered (frames : List (List Rec)) (x : List ℕ) (frame : List Rec) (behind : List ℕ) : Type 0 where
   pub more : List (List Rec)
   pub is : frames ≡ frame ∷ more
@@ -40,7 +40,7 @@ enters (f ∷ fs) x frame behind each is same none =
       rest = sym (append_cancel_left (frame_bytes f) (opened fs ++ x) behind (inner ∙ ap (λ (h : List Rec). frame_bytes h ++ behind) (sym one)));
     }
 
--- behind that frame
+-- after that frame
 behind_frame : (bytes : List ℕ) (at : ℕ) (frame : List Rec) (behind : List ℕ) → drop at bytes ≡ 1 ∷ (frame_bytes frame ++ behind) → drop (at + 1 + length (frame_bytes frame)) bytes ≡ behind
 behind_frame bytes at frame behind same =
     let size = length (frame_bytes frame) in

@@ -13,7 +13,7 @@ part place stop read = drop place (take stop read)
 pub length-part : (place stop : ℕ) (read : List ℕ) → stop ≤ length read → length (part place stop read) ≡ stop - place
 length-part place stop read known = omega (arith, known, length-drop place (take stop read), length-take stop read)
 
--- A frame of so many bytes stands behind the commit byte at a place.
+-- A frame of so many bytes stands after the commit byte at a place.
 pub record Stood (read : List ℕ) (place size : ℕ) : Type 0 where
   pub known : place + 1 + size ≤ length read
   pub long : length (part (place + 1) (place + 1 + size) read) ≡ size
@@ -32,7 +32,7 @@ stood read place size a =
       opens = (a.0, a.1, subst (λ (h : List ℕ). Opens a.0 h) (sym held) o);
     }
 
--- what stands behind the frame
+-- what stands after the frame
 pub stood_ahead : (read : List ℕ) (place size at : ℕ) (bytes : List ℕ) → Stood read place size → IsFront (drop place read) at bytes → IsFront (drop (place + 1 + size) read) (at + 1 + length (part (place + 1) (place + 1 + size) read)) bytes
 stood_ahead read place size at bytes s front =
     let later = front_later (drop place read) (size + 1) at bytes (omega (arith, s.known, length-drop place read)) front in

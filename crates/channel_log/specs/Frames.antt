@@ -1,4 +1,4 @@
--- A log file: its header, and the frames behind open commit bytes.
+-- A log file: its header, and the frames after open commit bytes.
 use Rattle.std.specs.Prelude.{◌≡◌, ◌≢◌, ◌⊎◌, ◌<◌, ◌≤◌, ◌^◌, ◌+◌, ℕ, List, [], ◌∷◌, ◌++◌, length, codes, flat_map, Option, Some, None}
 use Rattle.std.specs.List.{AllByRecursion}
 use Rattle.event_core.specs.Numbers.{u16_bytes, u32_bytes}
@@ -41,7 +41,7 @@ record_bytes records = flat_map spelling records
 unfoldable pub frame_bytes : List Rec → List ℕ
 frame_bytes records = record_bytes records ++ spelling (End (length records))
 
--- frames behind open commit bytes
+-- frames after open commit bytes
 abbrev pub opened : List (List Rec) → List ℕ
 opened [] = []
 opened (frame ∷ frames) = 1 ∷ frame_bytes frame ++ opened frames
@@ -54,7 +54,7 @@ pub record Commits (bytes : List ℕ) (frames : List (List Rec)) : Type 0 where
   pub split : bytes ≡ opened frames ++ gate ∷ rest
   pub closed : gate ≢ 1
 
--- From a commit byte on, bytes have these committed frames, and then a frame at fault: its commit byte is open, and no frame with a next commit byte stands behind it.
+-- From a commit byte on, bytes have these committed frames, and then a frame at fault: its commit byte is open, and no frame with a next commit byte stands after it.
 pub record Breaks (bytes : List ℕ) (frames : List (List Rec)) : Type 0 where
   pub each : AllByRecursion IsFrame frames
   pub rest : List ℕ

@@ -26,7 +26,7 @@ pub record HasFile (told : Option Told) (number : ℕ) (bytes : List ℕ) : Type
 abbrev pub IsFront : List ℕ → ℕ → List ℕ → Type 0
 IsFront read from bytes = read ≡ take (length read) (drop from bytes)
 
--- The bytes have a frame, whose bytes are these, and the next commit byte behind it.
+-- The bytes have a frame, whose bytes are these, and the next commit byte after it.
 pub record Opens (bytes : List ℕ) (held : List ℕ) : Type 0 where
   pub frame : List Rec
   pub is : IsFrame frame
@@ -43,7 +43,7 @@ OpensNone bytes = (frame : List Rec) (gate : ℕ) (behind : List ℕ) → IsFram
 abbrev pub IsFrameBytes : List ℕ → Type 0
 IsFrameBytes held = (frame : List Rec) × IsFrame frame × (held ≡ frame_bytes frame)
 
--- this commit byte is open, and behind it P
+-- this commit byte is open, and after it P
 abbrev pub AfterOpen : List ℕ → (List ℕ → Type 0) → Type 0
 AfterOpen bytes P = (rest : List ℕ) × (bytes ≡ 1 ∷ rest) × P rest
 
@@ -51,7 +51,7 @@ AfterOpen bytes P = (rest : List ℕ) × (bytes ≡ 1 ∷ rest) × P rest
 abbrev pub IsClosed : List ℕ → Type 0
 IsClosed bytes = (1 ≤ length bytes) × (AfterOpen bytes (λ rest. Unit {0}) → ⊥)
 
--- a frame of so many bytes, and the next commit byte behind it
+-- a frame of so many bytes, and the next commit byte after it
 abbrev pub OpensAt : ℕ → List ℕ → Type 0
 OpensAt size bytes = (size < length bytes) × Opens bytes (take size bytes)
 
@@ -62,7 +62,7 @@ IsSought soughts.Closed read = IsClosed read
 IsSought soughts.None read = AfterOpen read (λ rest. (more : List ℕ) → OpensNone (rest ++ more))
 IsSought soughts.Unknown read = (read ≡ []) ⊎ AfterOpen read OpensNone
 
--- how long the frame behind an open commit byte is, of what was read from that byte on
+-- how long the frame after an open commit byte is, of what was read from that byte on
 abbrev pub IsFound : Option ℕ → List ℕ → Type 0
 IsFound (Some size) read = AfterOpen read (OpensAt size)
 IsFound None read = IsClosed read
@@ -79,7 +79,7 @@ WhereBad (refusals.BadLog file at) P = P file at
 WhereBad refusals.NoMemory P = Unit {0}
 
 -- The reader of a file: its number and length, whether it drops, whether it counts as empty, the offset of the next byte
--- that is looked at, what is held of the present frame from there on, and what was read behind that.
+-- that is looked at, what is held of the present frame from there on, and what was read after that.
 pub record Reader : Type 0 where
   pub file : ℕ
   pub size : ℕ
@@ -89,7 +89,7 @@ pub record Reader : Type 0 where
   pub held : List ℕ
   pub ahead : List ℕ
 
--- what was read ahead stands in the file behind what is held
+-- what was read ahead stands in the file after what is held
 abbrev pub IsAhead : Reader → List ℕ → Type 0
 IsAhead r bytes = IsFront r.ahead (r.at + length r.held) bytes
 
@@ -174,17 +174,17 @@ pub record IsReader (place stop at size : ℕ) (read piece : List ℕ) : Type 0 
   pub low : size < 2 ^ 63
   pub some : 1 ≤ length piece
 
--- how far the next record is behind this one: the END of the frame is passed with the last record
+-- how far the next record is after this one: the END of the frame is passed with the last record
 abbrev pub step : Rec → List Rec → ℕ
 step first [] = record_length first + 5
 step first (rec ∷ records) = record_length first
 
--- what is held behind a record
+-- what is held after a record
 abbrev pub kept : List Rec → ℕ → List ℕ
 kept [] count = []
 kept (rec ∷ records) count = closing (rec ∷ records) count
 
--- this record was given, and the reader stands behind it
+-- this record was given, and the reader stands after it
 pub record IsGiven (old new : Reader) (given : Rec × ℕ) (first : Rec) (records : List Rec) (count : ℕ) : Type 0 where
   pub is : given ≡ (first, old.at)
   pub after : new ≡ record old { at = old.at + step first records; held = kept records count }

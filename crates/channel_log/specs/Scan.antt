@@ -1,4 +1,4 @@
--- What stands behind an open commit byte.
+-- What stands after an open commit byte.
 use Rattle.std.specs.Prelude.{◌≡◌, ◌≤◌, ℕ, List, ◌++◌, length, take}
 use Rattle.std.specs.List.{AllByRecursion}
 use Rattle.record_form.specs.Grammar.{read_of}
@@ -12,7 +12,7 @@ use Rattle.channel_log.specs.Frames.{IsFrame, IsFramed, frame_bytes, record_byte
 abbrev pub BeginsFrame : List ℕ → Type 0
 BeginsFrame bytes = (frame : List Rec) × (rest : List ℕ) × IsFrame frame × (bytes ≡ frame_bytes frame ++ rest)
 
--- Whole records that may stand in a frame, and behind them the front of one more, no field of which is at fault as far as
+-- Whole records that may stand in a frame, and after them the front of one more, no field of which is at fault as far as
 -- it goes.
 pub record IsCutShort (bytes : List ℕ) : Type 0 where
   pub records : List Rec

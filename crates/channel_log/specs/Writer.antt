@@ -26,7 +26,7 @@ pub record IsPending (w : Writer) (records : List Rec) : Type 0 where
   pub counted : w.count ≡ length records
   pub each : AllByRecursion IsFramed records
 
--- a record of this length can be appended: END and a commit byte still fit behind it
+-- a record of this length can be appended: END and a commit byte still fit after it
 abbrev pub HasRoom : Writer → ℕ → Type 0
 HasRoom w size = length w.bytes + size + 6 ≤ 2_097_152
 
@@ -57,7 +57,7 @@ IsReady told birth number gate frames = WhereTold told (λ t. IsAtRest t birth n
 abbrev pub IsUnused : Option Told → ℕ → Type 0
 IsUnused told number = WhereTold told (λ t. (t.reads (Log number) ≡ None) × (t.now (Log number) ≡ Gone))
 
--- the bytes are this header, and behind it just these committed frames
+-- the bytes are this header, and after it just these committed frames
 abbrev pub HasFrames : ℕ → ℕ → List (List Rec) → List ℕ → Type 0
 HasFrames birth number frames bytes = (rest : List ℕ) × (bytes ≡ header birth number ++ rest) × Commits rest frames
 
@@ -69,7 +69,7 @@ LacksOrHas birth number frames frame file = IsSomeAnd file (λ bytes. HasFrames 
 abbrev pub IsBlank : Option (List ℕ) → Type 0
 IsBlank file = IfSome file (λ bytes. length bytes ≤ 17)
 
--- what is true of each writer: END and a commit byte fit behind the frame, the commit byte stands behind the header, and further behind it
+-- what is true of each writer: END and a commit byte fit after the frame, the commit byte stands after the header, and further after it
 -- just where the file has a frame, and offsets fit their type
 pub record IsWithin (gate count : ℕ) (started : Bool) (bytes : List ℕ) (capacity : ℕ) : Type 0 where
   pub room : 2_097_152 ≤ capacity

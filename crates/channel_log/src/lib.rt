@@ -1,4 +1,4 @@
-//! The log files of a channel: a header, and frames of records behind commit bytes.
+//! The log files of a channel: a header, and frames of records after commit bytes.
 #![tactic(auto)]
 
 mod laws;

@@ -14,7 +14,7 @@ pub enum FrameRefused {
     DiskFault,
     /// The file has a fault of its form at this offset: its header, or the commit byte of a frame.
     BadLog { file: u32, at: u64 },
-    /// Want of memory.
+    /// Out of memory.
     NoMemory,
 }
 
@@ -82,11 +82,11 @@ fn fill<D: Disk>(
 
 // What stands from a commit byte on.
 pub(crate) enum Sought {
-    // An open commit byte, a frame of so many bytes, and a byte behind it.
+    // An open commit byte, a frame of so many bytes, and a byte after it.
     Found { length: usize },
     // A commit byte that isn't open.
     Closed,
-    // An open commit byte, and no frame with a byte behind it, whatever follows.
+    // An open commit byte, and no frame with a byte after it, whatever follows.
     None,
     // None of these yet, as far as the bytes go.
     Unknown,

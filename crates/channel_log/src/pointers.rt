@@ -74,7 +74,7 @@ pub(crate) fn event_in(alloc: Global, bytes: &[u8], length: u32) -> Result<Event
 // How many bytes the PUT of the greatest event has.
 pub(crate) const GREATEST_PUT: usize = 1_048_589;
 
-// Whether a record that the bytes begin ends behind them.
+// Whether a record that the bytes begin ends after them.
 pub(crate) fn is_cut(bytes: &[u8]) -> bool
     ensures { IsTrue result ↔ (read_of bytes.now ≡ Part) }
 {

@@ -21,7 +21,7 @@ const END: u8 = 6;
 
 const END_LENGTH: usize = 5;
 
-/// The record at the place of a frame, and the place of the next one, which behind the last one is the frame's end.
+/// The record at the place of a frame, and the place of the next one, which after the last one is the frame's end.
 pub fn record_at(alloc: Global, frame: &[u8], place: usize) -> Result<(Rec, usize), NoMemory>
     requires within { place ≤ length frame.now }
     requires records { AreRecords (drop place frame.now) }
@@ -103,8 +103,8 @@ fn read_birth<D: Disk>(disk: &mut D, number: u32, size: u64) -> Result<Option<u1
 
 /// Gives the records of one log file's committed frames, each with its offset. It reads the file in pieces of 65,536
 /// bytes, of which it asks for more at a time, up to a mebibyte, only while a frame that is longer has not ended. What it
-/// read behind a frame it keeps for the next one, so no byte is read twice, unless a call was refused: then it lets go of
-/// what it read ahead. So it holds one frame, and at most a mebibyte and a piece behind that, and takes memory only for
+/// read after a frame it keeps for the next one, so no byte is read twice, unless a call was refused: then it lets go of
+/// what it read ahead. So it holds one frame, and at most a mebibyte and a piece after that, and takes memory only for
 /// what was read.
 #[derive(Drop)]
 pub struct LogReader {
@@ -116,7 +116,7 @@ pub struct LogReader {
     blank: bool,
     // the offset of the next record, or of the next commit byte
     at: u64,
-    // what was read of the file: the present frame, and what stands behind it
+    // what was read of the file: the present frame, and what stands after it
     read: Vec<u8>,
     // where what stands at the offset is in that
     place: usize,

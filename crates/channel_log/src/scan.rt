@@ -1,4 +1,4 @@
-// Reading what stands behind an open commit byte.
+// Reading what stands after an open commit byte.
 ghost use Rattle.std.specs.Prelude.{◌≡◌, ◌≤◌, ◌+◌, length, take, drop};
 ghost use Rattle.record_form.specs.Grammar.{u32_of};
 ghost use Rattle.channel_log.specs.Scan.{IsScan};
@@ -9,7 +9,7 @@ use record_form::{Read, read_record};
 // The kind byte of END.
 const END: u8 = 6;
 
-/// What stands behind an open commit byte.
+/// What stands after an open commit byte.
 #[derive(Clone, Copy, Debug, PartialEq, Eq)]
 pub enum Scan {
     /// A frame of so many records, without its END, and so many bytes.
@@ -27,7 +27,7 @@ fn u32_in(bytes: &[u8], at: usize) -> u32
     BigEndian::read_u32(&bytes[at..at + 4])
 }
 
-/// What the bytes, which stand behind an open commit byte, begin with. They are read record by record up to the first
+/// What the bytes, which stand after an open commit byte, begin with. They are read record by record up to the first
 /// END, whose count must be that of the records before it.
 pub fn scan_frame(bytes: &[u8]) -> Scan
     ensures { IsScan result bytes.now }

@@ -96,7 +96,7 @@ impl Window {
             && at - self.from <= (self.filled - want) as u64
     }
 
-    // Reads a block from an offset on. What stands at this end or behind it is not kept.
+    // Reads a block from an offset on. What stands at this end or after it is not kept.
     fn load<D: Disk>(
         &mut self,
         disk: &mut D,

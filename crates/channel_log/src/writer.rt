@@ -25,7 +25,7 @@ use std::marker::Model;
 pub enum LogBeginRefused {
     /// A fault of the disk.
     DiskFault,
-    /// Want of memory.
+    /// Out of memory.
     NoMemory,
 }
 
@@ -74,7 +74,7 @@ fn make_file<D: Disk>(disk: &mut D, number: u32, text: &[u8]) -> Result<(), Fail
     Ok(())
 }
 
-// Writes a frame and a closed commit byte behind the file's closed commit byte, and opens that one. Each step is made
+// Writes a frame and a closed commit byte after the file's closed commit byte, and opens that one. Each step is made
 // stable before the next.
 fn write_frame<D: Disk>(disk: &mut D, number: u32, gate: u64, piece: &[u8]) -> Result<(), Failed>
     requires ready { (birth : ℕ) × (frames : List (List Rec)) × (frame : List Rec) × IsReady (D.told disk.old) birth number gate frames × IsFrame frame × (piece.now ≡ frame_bytes frame ++ 0 ∷ []) }

@@ -73,7 +73,7 @@ part_more first pointers old next rest some more ring new then part is on then_i
 pub appended_one : (number : ℕ) (p : Pointer) (old new : Index) → new ≡ record old { top = number + 1; live = old.live ++ record { number = number; pointer = p; held = false } ∷ [] } → IsAppended number (p ∷ []) old new
 appended_one number p old new is = record { slots = ap (λ (r : Index). r.slots) is; top = omega (arith, ap (λ (r : Index). r.top) is); live = ap (λ (r : Index). r.live) is }
 
--- the transactions from this place on are the one there and those behind it
+-- the transactions from this place on are the one there and those after it
 pub staged_from : (staged : List Ended) (k : ℕ) (ended : Ended) → k < length staged → ended ≡ get_or staged k ended → map listed_of (drop k staged) ≡ listed_of ended ∷ map listed_of (drop (k + 1) staged)
 staged_from staged k ended less is =
     ap (λ (l : List Ended). map listed_of l) (drop_more staged k ended less) ∙ ap (λ (e : Ended). listed_of e ∷ map listed_of (drop (k + 1) staged)) (sym is)

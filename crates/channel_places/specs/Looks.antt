@@ -149,7 +149,7 @@ abbrev pub puts_of_open : Option Open → ℕ
 puts_of_open None = 0
 puts_of_open (Some o) = length (puts_of o.listed)
 
--- this transaction is open, and there are numbers for its puts behind those that are staged
+-- this transaction is open, and there are numbers for its puts after those that are staged
 pub record MayStage (p : Places) (number : ℕ) : Type 0 where
   pub there : IsSome (open_at p.opened number)
   pub numbers : p.numbers.first + puts_in p.staged + puts_of_open (open_at p.opened number) < 2 ^ 64

@@ -450,7 +450,7 @@ impl Held {
         self.table.hand_back(ended);
     }
 
-    /// What is staged counts from now on: the events that were taken leave, and behind the others come those that were put, with
+    /// What is staged counts from now on: the events that were taken leave, and after the others come those that were put, with
     /// the next numbers. It takes no memory.
     pub fn settle(&mut self)
         ensures step { (known : Known) (s : State) → Looks known known self.old s → Looks known known self.new (face.settle s) }
@@ -471,8 +471,8 @@ impl Held {
         self.broken = true;
     }
 
-    /// Each put that is open or staged and stands in `file` at the offset `at` or behind it is known to stand in `to_file` from now on,
-    /// as far behind `to_at`, which is no greater. Events that are left stay where they are. It takes no memory.
+    /// Each put that is open or staged and stands in `file` at the offset `at` or after it is known to stand in `to_file` from now on,
+    /// as far after `to_at`, which is no greater. Events that are left stay where they are. It takes no memory.
     pub fn moved(&mut self, file: u32, at: u64, to_file: u32, to_at: u64)
         requires { to_at ≤ at }
         ensures moved { (settled known more : Known) (s : State) → Looks settled known self.old s

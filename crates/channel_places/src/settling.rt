@@ -59,7 +59,7 @@ fn remove_takes(ring: &mut Ring, ended: &Ended)
     }
 }
 
-// Adds the puts of a transaction, with numbers from this one on. The number behind them.
+// Adds the puts of a transaction, with numbers from this one on. The number after them.
 fn append_puts(ring: &mut Ring, ended: &Ended, first: u64) -> u64
     requires above { ring.old.top ≤ first }
     requires low { first + length (puts_of (listed_of ended.now)) < 2 ^ 64 }
@@ -86,7 +86,7 @@ pub(crate) fn remove_staged(ring: &mut Ring, staged: &[Ended])
     }
 }
 
-// Adds the puts of staged transactions, with numbers from this one on. The number behind them.
+// Adds the puts of staged transactions, with numbers from this one on. The number after them.
 pub(crate) fn append_staged(ring: &mut Ring, staged: &[Ended], first: u64) -> u64
     requires above { ring.old.top ≤ first }
     requires low { first + length (pointers_in (map listed_of staged.now)) < 2 ^ 64 }

@@ -1,4 +1,4 @@
--- Replays that start at two places agree behind the later one.
+-- Replays that start at two places agree after the later one.
 use Rattle.std.proofs.Common.{inl, inr, ◌≡◌, ◌++◌, ◌∷◌, [], List, length, refl, sym, ◌∙◌, ap, subst}
 use Rattle.event_core.specs.Journal.{Base, after_journal}
 use Rattle.event_core.specs.declared.journal.Entry.{Entry}
@@ -32,7 +32,7 @@ sound_behind : (base : Base) (past : Past) (a b : List Line) → AreSound base p
 sound_behind base past [] b sound = sound
 sound_behind base past (line ∷ a) b sound = sound_behind base (past_line past line) a b sound.1
 
--- what lines leave behind others
+-- what lines leave after others
 replayed_behind : (s : Start) (a b : List Line) → replayed s (a ++ b) ≡ after_journal s.base (journal (past_lines (past_lines (start_past s) a) b))
 replayed_behind s a b = ap (λ (p : Past). after_journal s.base (journal p)) (past_lines-append (start_past s) a b)
 
@@ -54,7 +54,7 @@ one_fault s later between rest file at is is_later sound follows fault =
     let p : Past = past_lines (start_past s) between in
     fault_append s.base (start_past s) between rest file at sound (alike_fault later.base (start_past later) s.base p rest file at (alike_back s.base p later.base (start_past later) al) fault)
 
--- behind the begin of a life nothing is open
+-- after the begin of a life nothing is open
 alike_begun : (s later : Start) (between : List Line) → IsStart s → IsStart later → AreSound s.base (start_past s) between → later.base ≡ replayed s between
     → Alike later.base (Dropped ∷ start_past later) s.base (Dropped ∷ past_lines (start_past s) between)
 alike_begun s later between is is_later sound same =

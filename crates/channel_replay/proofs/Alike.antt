@@ -46,7 +46,7 @@ legal_too a p b q (CommitPut txn first count) al legal =
 legal_too a p b q (CommitTake txn count) al legal = (legal.0, subst (λ (e : Option Entry). IsSomeAnd e (IsTakeOf count)) (al.each txn) legal.1)
 legal_too a p b q (End count) al legal = absurd legal
 
--- and behind a legal one they are alike again
+-- and after a legal one they are alike again
 
 committed_same : (p q : Past) (rec : Rec) → ((t : ℕ) → opened t p ≡ opened t q) → committed rec p ≡ committed rec q
 committed_same p q (Put txn event) each = refl
@@ -114,7 +114,7 @@ alike_line a p b q Begins al sound = record {
 alike_line a p b q (Stands file at rec) al sound = alike_rec a p b q rec al sound
 alike_line a p b q (Faulty file at) al sound = absurd sound
 
--- lines that are sound behind the one are sound behind the other, and lead to what is alike
+-- lines that are sound after the one are sound after the other, and lead to what is alike
 pub alike_lines : (a : Base) (p : Past) (b : Base) (q : Past) (lines : List Line) → Alike a p b q → AreSound a p lines → AreSound b q lines × Alike a (past_lines p lines) b (past_lines q lines)
 alike_lines a p b q [] al sound = (tt, al)
 alike_lines a p b q (line ∷ lines) al sound =

@@ -185,7 +185,7 @@ numbered_below : (first high : ℕ) (events : List Content) → first + length e
 numbered_below first high [] less = tt
 numbered_below first high (event ∷ events) less = (omega (arith, less), numbered_below (first + 1) high events (omega (arith, less)))
 
--- what is left behind the commit of an entry
+-- what is left after the commit of an entry
 left_behind : (base : Base) (past : Past) (old : Recovery) (entry : Entry) → Agrees base past old → after_journal base (journal past ++ entry ∷ []) ≡ after_journal (after_journal base (journal past)) (entry ∷ [])
 left_behind base past old entry a = after-append base (journal past) (entry ∷ []) (earlier base past old a)
 

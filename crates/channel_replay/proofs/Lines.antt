@@ -35,7 +35,7 @@ fault_append base past a b file at sound fault = record {
   place = fault.place;
 }
 
--- A fault stays the first one, whatever stands behind.
+-- A fault stays the first one, whatever stands after.
 pub fault_front : (base : Base) (past : Past) (a b : List Line) (file at : ℕ) → HasFault base past a file at → HasFault base past (a ++ b) file at
 fault_front base past a b file at fault = record {
   before = fault.before;

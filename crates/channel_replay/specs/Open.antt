@@ -4,7 +4,7 @@ use Rattle.event_core.specs.declared.journal.Entry.{Entry}
 use Rattle.channel_face.specs.Machine.{entry_of, without_entry}
 use Rattle.channel_replay.specs.Rules.{MayGoOn}
 
--- the transaction's entry is put in its place, or behind the others where it has none
+-- the transaction's entry is put in its place, or after the others where it has none
 abbrev pub put_entry : ℕ → Entry → List (ℕ × Entry) → List (ℕ × Entry)
 put_entry txn entry [] = (txn, entry) ∷ []
 put_entry txn entry (o ∷ opened) = if o.0 == txn then (o.0, entry) ∷ opened else o ∷ put_entry txn entry opened

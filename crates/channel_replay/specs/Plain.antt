@@ -27,7 +27,7 @@ abbrev pub WhereBad : RecoverRefused → (ℕ → ℕ → Type 0) → Type 0
 WhereBad (refusals.BadLog file at) P = P file at
 WhereBad refusals.NoMemory P = Unit {0}
 
--- A frame with a commit byte behind it ends before this offset.
+-- A frame with a commit byte after it ends before this offset.
 pub record EndsAt (bytes : List ℕ) (gate next : ℕ) : Type 0 where
   pub frame : List Rec
   pub is : IsFrame frame

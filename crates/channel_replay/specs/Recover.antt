@@ -93,17 +93,17 @@ empty_base = record { items = []; first = 0 }
 abbrev pub empty_start : Start
 empty_start = record { base = empty_base; opened = []; txn = 1 }
 
--- what lines leave behind a start
+-- what lines leave after a start
 abbrev pub replayed : Start → List Line → Base
 replayed s found = after_journal s.base (journal (past_lines (start_past s) found))
 
--- Lines behind a start have no fault. What is left is what the commits leave of the base, with the next event number and the next transaction number.
+-- Lines after a start have no fault. What is left is what the commits leave of the base, with the next event number and the next transaction number.
 pub record StandsFrom (s : Start) (found : List Line) (left : Base) (txn : ℕ) : Type 0 where
   pub sound : AreSound s.base (start_past s) found
   pub left_is : left ≡ replayed s found
   pub txn_is : txn ≡ max s.txn (next_txn (past_lines (start_past s) found))
 
--- lines behind a start have their first fault here
+-- lines after a start have their first fault here
 abbrev pub IsBadFrom : Start → List Line → ℕ → ℕ → Type 0
 IsBadFrom s found file at = HasFault s.base (start_past s) found file at
 

@@ -1,4 +1,4 @@
--- Where a replay starts: at the front of a log, or behind what a checkpoint stands for.
+-- Where a replay starts: at the front of a log, or after what a checkpoint stands for.
 use Rattle.std.specs.Prelude.{◌≡◌, ◌≤◌, ℕ, List, [], ◌∷◌, false}
 use Rattle.std.specs.List.{AllByRecursion}
 use Rattle.event_core.specs.Content.{Content}
@@ -16,7 +16,7 @@ pub record Start : Type 0 where
   pub opened : List (ℕ × Entry)
   pub txn : ℕ
 
--- the marks of a transaction's puts, behind others
+-- the marks of a transaction's puts, after others
 abbrev pub put_marks : ℕ → List Content → Past → Past
 put_marks txn [] past = past
 put_marks txn (event ∷ events) past = put_marks txn events (Applied (Put txn event) ∷ past)

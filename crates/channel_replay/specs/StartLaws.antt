@@ -16,7 +16,7 @@ pub record Follows (s : Start) (between : List Line) (later : Start) : Type 0 wh
   pub each : (t : ℕ) → entry_of t later.opened ≡ opened t (past_lines (start_past s) between)
   pub as_many : length later.opened ≡ length (open_txns (past_lines (start_past s) between))
 
--- Behind a later start that has what an earlier one leads to, lines are sound for both or for none, and leave the same.
+-- After a later start that has what an earlier one leads to, lines are sound for both or for none, and leave the same.
 abbrev pub StartsAgree : Type 0
 StartsAgree =
     (s later : Start) (between rest : List Line) → IsStart s → IsStart later → AreSound s.base (start_past s) between → Follows s between later
@@ -29,11 +29,11 @@ FaultIsOneForBoth =
     (s later : Start) (between rest : List Line) (file at : ℕ) → IsStart s → IsStart later → AreSound s.base (start_past s) between → Follows s between later
     → IsBadFrom later rest file at → IsBadFrom s (between ++ rest) file at
 
--- nothing stands behind, or a file that drops what is open
+-- nothing stands after, or a file that drops what is open
 abbrev pub BeginsLife : List Line → Type 0
 BeginsLife rest = (rest ≡ []) ⊎ ((more : List Line) × (rest ≡ Begins ∷ more))
 
--- Where a new life begins behind a later start with nothing open, that start needs only to have what is left.
+-- Where a new life begins after a later start with nothing open, that start needs only to have what is left.
 abbrev pub NewLifeAgrees : Type 0
 NewLifeAgrees =
     (s later : Start) (between rest : List Line) → IsStart s → IsStart later → AreSound s.base (start_past s) between → later.base ≡ replayed s between → BeginsLife rest

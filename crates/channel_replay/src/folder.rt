@@ -140,7 +140,7 @@ fn within(replayed: Replayed, capacity: u32) -> Result<Replayed, ReplayRefused>
 
 /// Replays the log files of a folder: the events that their committed transactions leave, in order, with the next event
 /// number and the next transaction number. The first fault of the log comes before the capacity, which is judged at the
-/// end alone. One frame is in memory at a time, with some of what stands behind it, and each record is read once, for
+/// end alone. One frame is in memory at a time, with some of what stands after it, and each record is read once, for
 /// which a step is counted. The disk stays as it is.
 pub fn replay<D: Disk, L: Ledger>(
     alloc: Global,

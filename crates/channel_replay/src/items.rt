@@ -19,7 +19,7 @@ pub fn is_left(items: &[Item], number: u64) -> bool
     false
 }
 
-/// Moves a batch's events behind the items, with numbers from this one on. The number behind them.
+/// Moves a batch's events after the items, with numbers from this one on. The number after them.
 pub fn append(items: &mut Vec<Item>, mut batch: Batch, first: u64) -> Result<u64, NoMemory>
     requires { first + length batch < 2 ^ 64 }
     ensures items { OnOk result (items.new.items ≡ items.old.items ++ numbered first batch) }

@@ -10,7 +10,7 @@ pub enum RecoverRefused {
     /// The first fault of the log: its file and offset. The offset is 0 for a wrong header, the commit byte's for an open one
     /// without a whole frame, and the record's for one that breaks its rule.
     BadLog { file: u32, at: u64 },
-    /// Want of memory.
+    /// Out of memory.
     NoMemory,
 }
 
@@ -23,7 +23,7 @@ pub enum ReplayRefused {
     BadLog { file: u32, at: u64 },
     /// More events are left than the capacity: this many.
     OverCapacity { count: u64 },
-    /// Want of memory.
+    /// Out of memory.
     NoMemory,
 }
 

@@ -1,12 +1,12 @@
 // Laws of replays that start at different places of a log.
 ghost use Rattle.channel_replay.specs.StartLaws.{FaultIsOneForBoth, FollowingGoesOn, LaidFollows, NewLifeAgrees, StartsAgree};
 
-/// Where a later start has what an earlier one leads to, the lines behind are sound for both or for none, and leave the same.
+/// Where a later start has what an earlier one leads to, the lines after are sound for both or for none, and leave the same.
 pub fn starts_agree()
     ensures { StartsAgree }
 {}
 
-/// A fault behind a later start is the first one of the earlier start too.
+/// A fault after a later start is the first one of the earlier start too.
 pub fn a_fault_is_one_for_both()
     ensures { FaultIsOneForBoth }
 {}

@@ -27,7 +27,7 @@ fn add(lines: &mut VecDeque<Line>, line: Line) -> Result<(), NoMemory>
     Ok(())
 }
 
-// The commit byte behind the frame of an open commit byte, if there are both.
+// The commit byte after the frame of an open commit byte, if there are both.
 fn frame_end(bytes: &[u8], gate: usize) -> Option<usize>
     requires { gate < length bytes.now }
     ensures found { IfSome result (λ next. (next < length bytes.now) × EndsAt bytes.now gate next) }
@@ -69,7 +69,7 @@ fn add_frame(
     Ok(())
 }
 
-// Adds the records of the committed frames, and the fault behind them, if there is one.
+// Adds the records of the committed frames, and the fault after them, if there is one.
 fn add_frames(
     alloc: Global,
     bytes: &[u8],

@@ -90,7 +90,7 @@ pub const FOUR: [Turn; 16] = [
     (Step::RollbackTake(4), Said::Ended(true)),
 ];
 
-// They are taken in a second life, and the commit begins one more file behind the one of that life.
+// They are taken in a second life, and the commit begins one more file after the one of that life.
 const ALL_TAKEN: [Turn; 8] = [
     (Step::BeginTake, Said::Token(4)),
     (Step::Take(4), Said::Event(b'a')),

@@ -109,7 +109,7 @@ fn a_reader_gives_each_record_with_its_offset(rt: HostRuntime) -> Result<(), Fai
 }
 
 // So many frames of so many PUTs, which are 27 bytes and 22 for each PUT, and how many calls of the disk their reading takes:
-// of the length, and where the file doesn't count as empty of the header and of each piece of 65,536 bytes behind that.
+// of the length, and where the file doesn't count as empty of the header and of each piece of 65,536 bytes after that.
 const READ_CALLS: [(u64, u32, u64); 6] = [
     (0, 1, 1),
     (1, 1, 3),

@@ -63,7 +63,7 @@ pub above_floor : (last : Option ℕ) (n : ℕ) → IsAbove (log_name last) (Log
 above_floor None n above = omega arith
 above_floor (Some m) n above = grind (arith, nat_tests)
 
--- the number behind them
+-- the number after them
 
 -- what a folder leaves
 
@@ -78,7 +78,7 @@ leaves_count files count leaves =
     let it = leaves one.0 one.1 in
     (it.0, it.1, recovers_from files one.0 it.0 it.1 one.1 it.2, it.3)
 
--- log files up to a number behind which there is none
+-- log files up to a number after which there is none
 narrow : (files : Files) (from to number : ℕ) (logs : List LogFile) → number ≤ to → from ≤ number → ((n : ℕ) → number ≤ n → files (Log n) ≡ None) → AreLogs files from to logs → AreLogs files from number logs
 narrow files from to number [] most low none are = λ n more less. are n more (omega (arith, less, most))
 narrow files from to number (log ∷ logs) most low none are = by_place (cases_lt log.number number) (λ less. narrow files (log.number + 1) to number logs most (omega (arith, less)) none are.4)

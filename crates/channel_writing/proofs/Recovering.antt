@@ -85,7 +85,7 @@ entered_next birth past = from (birth == 1)
     from true = refl
     from false = refl
 
--- the marks after the lines of a file are those of its records behind where it is entered
+-- the marks after the lines of a file are those of its records after where it is entered
 past_entered : (birth : ℕ) (past : Past) (found : List Line) → past_lines past ((if birth == 1 then Begins ∷ [] else []) ++ found) ≡ past_lines (entered birth past) found
 past_entered birth past found = from (birth == 1)
   where

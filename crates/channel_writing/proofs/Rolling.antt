@@ -25,7 +25,7 @@ use Rattle.channel_writing.proofs.Flushing.{as_read, closed_frames, none_waits, 
 use Rattle.channel_writing.proofs.Opening.{as_before_opens, only_more}
 use Rattle.channel_writing.proofs.Recovering.{settled_recovers, whole_past, whole_sound}
 
--- a folder's log files, and the one behind them
+-- a folder's log files, and the one after them
 logs_next : (files : Files) (from number : ℕ) (earlier : List LogFile) (content : Content) → AreLogs files from number earlier → from ≤ number → IsSomeAnd (files (Log number)) (λ bytes. Holds number bytes content)
     → AreLogs files from (number + 1) (earlier ++ record { number = number; content = content } ∷ [])
 logs_next files from number [] content before low last = (low, omega arith, before, last, λ n up down. absurd (omega (arith, up, down)))

@@ -52,7 +52,7 @@ OpensTo files base txn = HasNoCheck files × Recovers files base txn
 abbrev pub LeavesSo : Files → (ℕ → Type 0) → Type 0
 LeavesSo files P = HasNoCheck files × ((base : Base) × (txn : ℕ) × Recovers files base txn × P (length base.items))
 
--- Why a folder does not open. A fault of the disk and want of memory say nothing of the folder.
+-- Why a folder does not open. A fault of the disk and out of memory say nothing of the folder.
 abbrev pub Refuses : Files → ℕ → OpenCause → Type 0
 Refuses files capacity causes.DiskFault = Unit {0}
 Refuses files capacity (causes.BadCheck file at) = IsFirstCheck files file × (at ≡ 0)
@@ -68,14 +68,14 @@ as_cause (replays.BadLog file at) = causes.BadLog file at
 as_cause (replays.OverCapacity count) = causes.OverCapacity count
 as_cause replays.NoMemory = causes.NoMemory
 
--- the number of the log file behind those that are there: one above the greatest, or 1
+-- the number of the log file after those that are there: one above the greatest, or 1
 pub record IsNextFile (files : Files) (number : ℕ) : Type 0 where
   pub some : 1 ≤ number
   pub small : number ≤ last_file
   pub none : (n : ℕ) → number ≤ n → files (Log n) ≡ None
   pub last : 1 < number → IsSome (files (Log (number - 1)))
 
--- A folder has what files had, and a log file behind them of which P holds.
+-- A folder has what files had, and a log file after them of which P holds.
 pub record GainsLog (files : Files) (P : ℕ → Option (List ℕ) → Type 0) (folder : Files) : Type 0 where
   pub number : ℕ
   pub next : IsNextFile files number
@@ -89,7 +89,7 @@ IsBegun number file = file ≡ Some (file_of 1 number [])
 abbrev pub AreSame : Files → Files → Type 0
 AreSame files folder = (name : FileName) → folder name ≡ files name
 
--- a folder is as files were, but that a log file behind them may be there that counts as empty
+-- a folder is as files were, but that a log file after them may be there that counts as empty
 abbrev pub IsAsBefore : Files → Files → Type 0
 IsAsBefore files folder = AreSame files folder ⊎ GainsLog files (λ number file. IsBlank file) folder
 

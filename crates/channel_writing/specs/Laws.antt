@@ -24,19 +24,19 @@ BeginIsMirrored =
     (start : Base) (s : State) (settled : Past) (records : List Rec) (entry : Entry) → Mirrors start s settled records → done_of (Some entry) ≡ None → length s.opened < 1024 → s.txn < 2 ^ 64 - 1
     → Mirrors start (record s { opened = s.opened ++ (s.txn, entry) ∷ []; txn = s.txn + 1 }) settled records
 
--- A transaction gains an event, and its PUT stands behind the other records.
+-- A transaction gains an event, and its PUT stands after the other records.
 abbrev pub PutIsMirrored : Type 0
 PutIsMirrored =
     (start : Base) (s : State) (settled : Past) (records : List Rec) (txn : ℕ) (events : List Content) (event : Content) → Mirrors start s settled records → entry_of txn s.opened ≡ Some (Puts events)
     → Mirrors start (record s { opened = with_entry txn (Puts (events ++ event ∷ [])) s.opened }) settled (records ++ Put txn event ∷ [])
 
--- A transaction takes the first event that none holds, and its TAKE stands behind the other records.
+-- A transaction takes the first event that none holds, and its TAKE stands after the other records.
 abbrev pub TakeIsMirrored : Type 0
 TakeIsMirrored =
     (start : Base) (s : State) (settled : Past) (records : List Rec) (txn : ℕ) (numbers : List ℕ) (item : ℕ × Content) (rest : List (ℕ × Content)) → Mirrors start s settled records → entry_of txn s.opened ≡ Some (Takes numbers) → free s ≡ item ∷ rest
     → Mirrors start (record s { opened = with_entry txn (Takes (numbers ++ item.0 ∷ [])) s.opened }) settled (records ++ Take txn item.0 ∷ [])
 
--- A transaction that did something is given up, and its ROLLBACK stands behind the other records.
+-- A transaction that did something is given up, and its ROLLBACK stands after the other records.
 abbrev pub RollbackIsMirrored : Type 0
 RollbackIsMirrored =
     (start : Base) (s : State) (settled : Past) (records : List Rec) (txn : ℕ) (entry : Entry) → Mirrors start s settled records → entry_of txn s.opened ≡ Some entry → done_of (Some entry) ≡ Some entry
@@ -48,13 +48,13 @@ EndIsMirrored =
     (start : Base) (s : State) (settled : Past) (records : List Rec) (txn : ℕ) (entry : Entry) → Mirrors start s settled records → entry_of txn s.opened ≡ Some entry → done_of (Some entry) ≡ None
     → Mirrors start (close txn s) settled records
 
--- Puts are staged, and their COMMIT_PUT stands behind the other records.
+-- Puts are staged, and their COMMIT_PUT stands after the other records.
 abbrev pub StagePutIsMirrored : Type 0
 StagePutIsMirrored =
     (start : Base) (s : State) (settled : Past) (records : List Rec) (txn : ℕ) (events : List Content) → Mirrors start s settled records → entry_of txn s.opened ≡ Some (Puts events) → 0 < length events → next_number s + length events ≤ 2 ^ 64 - 1
     → Mirrors start (stage txn (Some (Puts events)) s) settled (records ++ CommitPut txn (next_number s) (length events) ∷ [])
 
--- Takes are staged, and their COMMIT_TAKE stands behind the other records.
+-- Takes are staged, and their COMMIT_TAKE stands after the other records.
 abbrev pub StageTakeIsMirrored : Type 0
 StageTakeIsMirrored =
     (start : Base) (s : State) (settled : Past) (records : List Rec) (txn : ℕ) (numbers : List ℕ) → Mirrors start s settled records → entry_of txn s.opened ≡ Some (Takes numbers) → 0 < length numbers
@@ -66,13 +66,13 @@ FlushIsMirrored =
     (start : Base) (s : State) (settled : Past) (records : List Rec) → Mirrors start s settled records → ((n : ℕ) → next_number s ≤ n → is_among (taken_numbers s.staged) n ≡ false)
     → Mirrors start (settle s) (applied settled records) []
 
--- A checkpoint of a state that some log mirrors, with nothing staged and no records pending, is right, and mirrors it too, without any record behind it.
+-- A checkpoint of a state that some log mirrors, with nothing staged and no records pending, is right, and mirrors it too, without any record after it.
 abbrev pub CheckpointIsMirrored : Type 0
 CheckpointIsMirrored =
     (start : Base) (s : State) (settled : Past) → Mirrors start s settled [] → IsSoundState s → s.staged ≡ []
     → IsStart (start_of s) × Mirrors (base_of s) s (start_past (start_of s)) []
 
--- Logs behind two starts that mirror one state leave the same, and the same again with the records that are pending.
+-- Logs after two starts that mirror one state leave the same, and the same again with the records that are pending.
 abbrev pub StartsLeaveTheSame : Type 0
 StartsLeaveTheSame =
     (a b : Base) (s : State) (p q : Past) (records more : List Rec) → Mirrors a s p records → Mirrors b s q more

@@ -30,7 +30,7 @@ abbrev pub busy : List (ℕ × Entry) → ℕ
 busy [] = 0
 busy (o ∷ opened) = one_if_done (done_of (Some o.1)) + busy opened
 
--- Behind a start, these marks and these records, which no flush has settled, a log has what the state has: what is settled, what is staged, and what the open transactions did. The records are legal.
+-- After a start, these marks and these records, which no flush has settled, a log has what the state has: what is settled, what is staged, and what the open transactions did. The records are legal.
 pub record Mirrors (start : Base) (s : State) (settled : Past) (records : List Rec) : Type 0 where
   pub base : base_of s ≡ after_journal start (journal settled)
   pub earlier : (n : ℕ) → next_number start settled ≤ n → is_among (taken_numbers (journal settled)) n ≡ false

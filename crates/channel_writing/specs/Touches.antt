@@ -76,7 +76,7 @@ pub record HadNoRoom (size : ℕ) (t u : Told) : Type 0 where
   pub after : u.reads (Log file) ≡ Some now
   pub full : 2_097_152 + length_before (t.reads (Log file)) < length now + size
 
--- where a frame was written, the writer goes on behind it, in its file or in the next one
+-- where a frame was written, the writer goes on after it, in its file or in the next one
 abbrev pub WritesOn : Writer → Writer → Type 0
 WritesOn w new =
     (new ≡ record w { gate = w.gate + length w.bytes + 6; started = true; bytes = []; count = 0 })

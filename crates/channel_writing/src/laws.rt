@@ -1,4 +1,4 @@
-// Laws of the records that a channel writes, behind any start.
+// Laws of the records that a channel writes, after any start.
 ghost use Rattle.channel_writing.specs.Laws.{BeginIsMirrored, PutIsMirrored, TakeIsMirrored, RollbackIsMirrored, EndIsMirrored, StagePutIsMirrored, StageTakeIsMirrored, FlushIsMirrored, CheckpointIsMirrored, StartsLeaveTheSame, FramesRecover, FlushRecovers, FlushIsLogged};
 
 /// A transaction that did nothing yet writes no record.
@@ -6,17 +6,17 @@ pub fn a_begin_is_mirrored()
     ensures { BeginIsMirrored }
 {}
 
-/// A transaction gains an event, and its PUT stands behind the other records.
+/// A transaction gains an event, and its PUT stands after the other records.
 pub fn a_put_is_mirrored()
     ensures { PutIsMirrored }
 {}
 
-/// A transaction takes the first event that none holds, and its TAKE stands behind the other records.
+/// A transaction takes the first event that none holds, and its TAKE stands after the other records.
 pub fn a_take_is_mirrored()
     ensures { TakeIsMirrored }
 {}
 
-/// A transaction that did something is given up, and its ROLLBACK stands behind the other records.
+/// A transaction that did something is given up, and its ROLLBACK stands after the other records.
 pub fn a_rollback_is_mirrored()
     ensures { RollbackIsMirrored }
 {}
@@ -26,12 +26,12 @@ pub fn an_end_is_mirrored()
     ensures { EndIsMirrored }
 {}
 
-/// Puts are staged, and their COMMIT_PUT stands behind the other records.
+/// Puts are staged, and their COMMIT_PUT stands after the other records.
 pub fn a_staged_put_is_mirrored()
     ensures { StagePutIsMirrored }
 {}
 
-/// Takes are staged, and their COMMIT_TAKE stands behind the other records.
+/// Takes are staged, and their COMMIT_TAKE stands after the other records.
 pub fn a_staged_take_is_mirrored()
     ensures { StageTakeIsMirrored }
 {}
@@ -46,7 +46,7 @@ pub fn a_checkpoint_is_mirrored()
     ensures { CheckpointIsMirrored }
 {}
 
-/// Logs behind starts that mirror one state leave the same.
+/// Logs after starts that mirror one state leave the same.
 pub fn starts_leave_the_same()
     ensures { StartsLeaveTheSame }
 {}

@@ -97,7 +97,7 @@ module _ (number : ℕ) (o0 o1 : Option Told) (law : Law o0) where
   sealed_if (Ok tt) does = λ text is. sealed text does is
   sealed_if (Err e) does = tt
 
--- one run of these calls behind another
+-- one run of these calls after another
 
 pub passes_on : (number a b n : ℕ) (o0 o1 o2 : Option Told) → a + b ≤ n → Tells o0 o1 (Changes (Check number) IsPassedFile a) → Tells o1 o2 (Changes (Check number) IsPassedFile b) → Tells o0 o2 (Changes (Check number) IsPassedFile n)
 passes_on number a b n o0 o1 o2 less first second =

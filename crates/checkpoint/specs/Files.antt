@@ -9,7 +9,7 @@ use Rattle.flume_host.specs.Told.{Told, WhereTold}
 abbrev pub IsUnused : Option Told → ℕ → Type 0
 IsUnused told number = WhereTold told (λ t. (t.reads (Check number) ≡ None) × (t.now (Check number) ≡ Gone))
 
--- The file has a closed commit byte, which every crash leaves, and this text behind it.
+-- The file has a closed commit byte, which every crash leaves, and this text after it.
 pub record IsWritten (t : Told) (number : ℕ) (text : List ℕ) : Type 0 where
   pub touched : List (ℕ × ℕ)
   pub longest : ℕ
@@ -22,7 +22,7 @@ pub record IsKept (t : Told) (number : ℕ) (bytes : List ℕ) : Type 0 where
   pub reads : t.reads (Check number) ≡ Some bytes
   pub left : t.now (Check number) ≡ There (stable bytes)
 
--- Of this text a front is written behind the closed commit byte, up to the offset, and the rest waits in a buffer.
+-- Of this text a front is written after the closed commit byte, up to the offset, and the rest waits in a buffer.
 pub record IsSoFar (t : Told) (number at : ℕ) (buffer text : List ℕ) : Type 0 where
   pub front : List ℕ
   pub written : IsWritten t number front

@@ -3,7 +3,7 @@ use Rattle.std.specs.Prelude.{◌≢◌, ◌⊎◌, ◌<◌, ◌≤◌, ℕ, Lis
 use Rattle.flume_host.specs.Folder.{Files}
 use Rattle.flume_host.specs.declared.names.FileName.TheVariants.{Check}
 
--- its commit byte is not open, or no byte is behind it
+-- its commit byte is not open, or no byte is after it
 abbrev pub IsPassed : List ℕ → Type 0
 IsPassed bytes = (length bytes ≤ 1) ⊎ (get_or bytes 0 0 ≢ 1)
 

@@ -39,7 +39,7 @@ pub record IsKept (check : Check) : Type 0 where
   pub keeps : Keeps check c
   pub ordered : IsOrdered c
 
--- The file of its number is this checkpoint and nothing behind it, and is right for the folder, in which these events are left and this is open.
+-- The file of its number is this checkpoint and nothing after it, and is right for the folder, in which these events are left and this is open.
 pub record Stands (files : Files) (check : Check) (left : List (ℕ × Content)) (opened : List (ℕ × Entry)) : Type 0 where
   pub c : CheckText
   pub keeps : Keeps check c

@@ -6,7 +6,7 @@ use Rattle.record_form.specs.declared.record.Pointer.{Pointer}
 use Rattle.checkpoint.specs.declared.place.Next.{Next}
 use Rattle.checkpoint.specs.declared.place.Place.{Place}
 
--- What a checkpoint says: the place behind which the log goes on, the next numbers, where the events that are left stand, and what is open, each list in
+-- What a checkpoint says: the place after which the log goes on, the next numbers, where the events that are left stand, and what is open, each list in
 -- the order of its numbers.
 pub record CheckText : Type 0 where
   pub place : Place

@@ -3,7 +3,7 @@ use crate::place::{Next, Place};
 use event_ring::Ring;
 use open_table::OpenTable;
 
-/// A checkpoint: the number of its file, the place behind which the log goes on, the next numbers, the events that are left,
+/// A checkpoint: the number of its file, the place after which the log goes on, the next numbers, the events that are left,
 /// and the open transactions. What these take is held in the ring, and nothing else.
 #[derive(Drop)]
 pub struct Check {

@@ -1,4 +1,4 @@
-//! The checkpoint of a channel's folder: its text is laid behind a closed commit byte, which is opened at last.
+//! The checkpoint of a channel's folder: its text is laid after a closed commit byte, which is opened at last.
 #![tactic(auto)]
 
 mod check;

@@ -22,7 +22,7 @@ use record_form::Pointer;
 // How many bytes are written at a time.
 const PIECE: usize = 65_536;
 
-// Writes what waits at the offset, and gives the offset behind it.
+// Writes what waits at the offset, and gives the offset after it.
 fn pass_on<D: Disk>(disk: &mut D, number: u32, at: u64, buffer: &mut Vec<u8>) -> Result<u64, Failed>
     requires { IsBegun number (spool (D.told disk.old) at buffer.old.items) }
     ensures any_moment { Tells (D.told disk.old) (D.told disk.new) (Changes (Check number) IsPassedFile 0) }
@@ -305,7 +305,7 @@ fn add_entries<D: Disk, I: Item>(
     Ok(place)
 }
 
-// Makes the file, and writes the text behind a closed commit byte.
+// Makes the file, and writes the text after a closed commit byte.
 fn write_all<D: Disk>(
     disk: &mut D,
     number: u32,
@@ -336,7 +336,7 @@ fn write_all<D: Disk>(
 }
 
 /// Lays a checkpoint of a ring and a table at a place of the log: makes its file with a closed commit byte, syncs, writes the
-/// text behind that byte, and syncs. The text goes through the buffer in pieces of at most 65,536 bytes. It takes no memory.
+/// text after that byte, and syncs. The text goes through the buffer in pieces of at most 65,536 bytes. It takes no memory.
 pub fn lay<D: Disk>(
     disk: &mut D,
     number: u32,
@@ -353,7 +353,7 @@ pub fn lay<D: Disk>(
     requires right { WhereTold (D.told disk.old) (λ t. (c : CheckText) × Says place next ring.now table.now c × IsRightText t.reads c) }
     // A crash at any moment of the call leaves no such file, or one that is passed over.
     ensures any_moment { Tells (D.told disk.old) (D.told disk.new) (Changes (Check number) IsPassedFile 2) }
-    // After Ok a crash leaves the checkpoint behind a closed commit byte.
+    // After Ok a crash leaves the checkpoint after a closed commit byte.
     ensures laid { OnOk result ((c : CheckText) → Says place next ring.now table.now c
         → WhereTold (D.told disk.old) (λ t. IsRightText t.reads c)
         → WhereTold (D.told disk.new) (λ t. IsKept t number (0 ∷ check_bytes c))) }

@@ -212,7 +212,7 @@ next_check_is files name low number before next = (next.0, check_above name low 
 pub no_check_is : (files : Files) (name : FileName) (low : ℕ) → IsBeforeCheck name low → IsNext files (Some name) None → IsNextOf (λ n. files (Check n)) low None
 no_check_is files name low before none = λ n le. none (Check n) (above_before name low n before le)
 
--- no log file comes behind
+-- no log file comes after
 pub no_log_is : (name : FileName) (low m : ℕ) → IsBeforeCheck name low → m < 2 ^ 32 → IsAbove (Some name) (Log m) → ⊥
 no_log_is name low m (inl is) small above = no_log_above m small (subst (λ (a : FileName). name_below a (Log m) ≡ true) is.0 above)
 no_log_is name low m (inr is) small above = check_first (low - 1) m (subst (λ (a : FileName). name_below a (Log m) ≡ true) is.0 above)

@@ -40,7 +40,7 @@ pub counts_there : (file : Option (List ℕ)) → IsSomeAnd file (λ bytes. IsPa
 counts_there None not = absurd not
 counts_there (Some bytes) not = refl
 
--- what is behind the commit byte of the newest checkpoint is what its reader begins with
+-- what is after the commit byte of the newest checkpoint is what its reader begins with
 begins_with : (t : Told) (number : ℕ) (start : Reader) → start.number ≡ number → start.at ≡ min start.size 1 → IsHeld t start → (c : Counts (t.reads (Check number)))
     → (check_file t.reads number ≡ 1 ∷ c.more) × (rest t start ≡ c.more)
 begins_with t number start is at held c =

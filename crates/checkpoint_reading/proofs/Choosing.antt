@@ -82,7 +82,7 @@ check_on files after newest m false up next counts passed = record { counts = up
     at n later (inl same) le = subst (λ (k : ℕ). IsPassedFile (files (Check k))) (sym same.1) (passed refl)
     at n later (inr other) le = old n later (omega (arith, le, other.1)) (above_or after (Check n))
 
--- behind the last name the one that is chosen is the newest
+-- after the last name the one that is chosen is the newest
 pub all_chosen : (files : Files) (after : Option FileName) (newest : Option ℕ) → NewestUpTo files after newest → IsNext files after None → IsNewest files newest
 all_chosen files after newest up none = by newest up.counts each
   where

@@ -17,7 +17,7 @@ use Rattle.checkpoint_reading.specs.Fields.{Bad, FitsFields, Good, Is64, IsPut, 
 use Rattle.checkpoint_reading.specs.Laws.{FaultIsWrong, Fits, RightIsRead}
 use Rattle.checkpoint_reading.proofs.Unique.{one_outcome}
 
--- the text with these open takes behind
+-- the text with these open takes after
 abbrev takes_on : CheckText → List (ℕ × List ℕ) → CheckText
 takes_on c more = record c { takes = c.takes ++ more }
 
@@ -36,7 +36,7 @@ once_front others (x ∷ xs) ys once = (once.0, not_among xs ys x once.1, once_f
     not_among [] ys n none = refl
     not_among (x ∷ xs) ys n none = grind (arith, none, not_among xs ys n)
 
--- open takes that are right behind a text
+-- open takes that are right after a text
 record TakesTo (c : CheckText) (low : ℕ) (more : List (ℕ × List ℕ)) : Type 0 where
   rise : Rise low c.next.txn more
   txn : Is64 c.next.txn
@@ -77,11 +77,11 @@ takes_read c low (o ∷ more) to =
           })),
     )
 
--- what stands behind the events that are left
+-- what stands after the events that are left
 abbrev takes_bytes : CheckText → List ℕ
 takes_bytes c = counted (entry_bytes u64_bytes) c.takes
 
--- open puts that are right behind a text, and the open takes behind them
+-- open puts that are right after a text, and the open takes after them
 record PutsTo (files : Files) (c : CheckText) (low : ℕ) (more : List (ℕ × List Pointer)) (takes : List (ℕ × List ℕ)) : Type 0 where
   rise : Rise low c.next.txn more
   txn : Is64 c.next.txn
@@ -120,7 +120,7 @@ puts_read files c low (o ∷ more) takes to =
           })),
     )
 
--- events that are left and right behind a text, and what is open behind them
+-- events that are left and right after a text, and what is open after them
 record LiveTo (files : Files) (c : CheckText) (low : ℕ) (more : List (ℕ × Pointer)) (puts : List (ℕ × List Pointer)) (takes : List (ℕ × List ℕ)) : Type 0 where
   rise : Rise low c.next.number more
   number : Is64 c.next.number

@@ -41,7 +41,7 @@ all_from : {A : Type 0} (P : A → Type 0) (xs ys : List A) → AllByRecursion P
 all_from P [] ys all = all
 all_from P (x ∷ xs) ys all = all_from P xs ys all.1
 
--- Behind some items of a list stands the next one.
+-- After some items of a list stands the next one.
 record Behind {A : Type 0} (spell : A → List ℕ) (read items : List A) (bytes more : List ℕ) : Type 0 where
   next : A
   behind : List A

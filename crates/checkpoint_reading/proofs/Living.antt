@@ -130,7 +130,7 @@ pub record LiveOnWay (was told : Option Told) (faulty faults : ℕ) (start now :
 fresh_text : (d : Draft) → IsFresh d.place d.next d → live_text d ≡ head_text d.place d.next
 fresh_text d fresh = ap (λ (x : List Left). record { place = d.place; next = d.next; live = map live_at x; puts = []; takes = [] }) fresh.empty
 
--- the loop begins behind the count
+-- the loop begins after the count
 pub live_begun : (was : Option Told) (start now : Reader) (d : Draft) (count : ℕ) → IsFresh d.place d.next d → count < 2 ^ 32 → Takes was start now (u32_bytes count) → LiveLoop was start now d.place d.next d 0 count
 live_begun was start now d count fresh fits takes = record {
   of = fresh.of;

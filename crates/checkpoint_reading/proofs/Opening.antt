@@ -222,7 +222,7 @@ some_more : (n : ℕ) → 1 ≤ n → n ≡ suc (n - 1)
 some_more zero less = absurd (omega (arith, less))
 some_more (suc n) less = omega arith
 
--- behind the count
+-- after the count
 pub puts_begun : (was : Option Told) (start now : Reader) (d : Draft) (count : ℕ) → HasReadPuts d (live_text d) → count < 2 ^ 32 → Reads was start now (u32_bytes count) → PutsLoop was start now d d 1 count
 puts_begun was start now d count has fits reads = record {
   c = live_text d;
@@ -295,14 +295,14 @@ pub puts_closed : (was : Option Told) (start now : Reader) (first d : Draft) (lo
 puts_closed was start now first d low more loop txn above =
     closed_none (open_at d.table txn) (loop.read.read.puts txn ∙ above_all 1 low txn loop.c.puts loop.rise above) (loop.read.read.takes txn ∙ ap (λ (l : List (ℕ × List ℕ)). is_among (map number_of l) txn) loop.read.none)
 
--- Open takes were read up to here behind a text, of which so many are still to come.
+-- Open takes were read up to here after a text, of which so many are still to come.
 pub record TakesOf (was : Option Told) (start now : Reader) (before : CheckText) (d : Draft) (low more : ℕ) : Type 0 where
   pub c : CheckText
   pub read : HasRead d c
   pub rise : Rise 1 low c.takes
   pub goes : Goes was start now (λ files o. TakenGive files o before) (λ files o. TakesGive o c low more)
 
--- behind whatever text it was
+-- after whatever text it was
 pub record TakesLoop (was : Option Told) (start now : Reader) (first d : Draft) (low more : ℕ) : Type 0 where
   pub each : (before : CheckText) → HasReadPuts first before → TakesOf was start now before d low more
   pub from : 1 ≤ low
@@ -313,7 +313,7 @@ pub record TakesOnWay (was told : Option Told) (faulty faults : ℕ) (start now 
   pub way : OnWay was told faulty faults start now None
   pub loop : TakesLoop was start now first d low more
 
--- behind the count
+-- after the count
 pub takes_begun : (was : Option Told) (start now : Reader) (d : Draft) (count : ℕ) → count < 2 ^ 32 → Reads was start now (u32_bytes count) → TakesLoop was start now d d 1 count
 takes_begun was start now d count fits reads = record {
   each = λ before has. record {

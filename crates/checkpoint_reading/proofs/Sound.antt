@@ -23,7 +23,7 @@ good_bad c bytes same = cc
 good_same : (c d : CheckText) → Good c ≡ Good d → c ≡ d
 good_same c d same = cc
 
--- one more behind numbers that rise
+-- one more after numbers that rise
 pub rise_more : {A : Type 0} (low high : ℕ) (xs : List (ℕ × A)) (x : ℕ × A) → Rise low high xs → low ≤ high → high ≤ x.0 → Rise low (x.0 + 1) (xs ++ x ∷ [])
 rise_more low high [] x rise less above = (omega (arith, less, above), omega arith, tt)
 rise_more low high (y ∷ xs) x rise less above = (rise.0, omega (arith, rise.1, above), rise_more (y.0 + 1) high xs x rise.2 (omega (arith, rise.1)) above)
@@ -295,7 +295,7 @@ all_open files (o ∷ puts) takes all =
 abbrev lists_of : CheckText → List ℕ
 lists_of c = counted live_bytes c.live ++ (counted (entry_bytes pointer_bytes) c.puts ++ counted (entry_bytes u64_bytes) c.takes)
 
--- the text that the lists behind a head end with
+-- the text that the lists after a head end with
 record ListsEnd (files : Files) (d : CheckText) (place : Place) (next : Next) (bytes : List ℕ) : Type 0 where
   text : CheckText
   is : d ≡ text
@@ -357,7 +357,7 @@ spelled text file at number txn bytes place next is =
     is ∙ (sym (regroup (codes "FLUMECHK") (u32_bytes 1) (u32_bytes file) (u64_bytes at) (u64_bytes number) (u64_bytes txn) (lists_of text))
     ∙ (ap (λ (p : Place). head_bytes p (record { number = number; txn = txn }) ++ lists_of text) (sym place) ∙ ap (λ (n : Next). head_bytes text.place n ++ lists_of text) (sym next)))
 
--- each field was right, and what is behind it gave the rest
+-- each field was right, and what is after it gave the rest
 pub read_is_right : ReadIsRight
 read_is_right files bytes c (inr none) = absurd (good_bad c bytes none.1)
 read_is_right files bytes c (inl (text, m1, is1, tag, inr none)) = absurd (good_bad c m1 none.1)

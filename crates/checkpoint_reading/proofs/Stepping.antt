@@ -17,7 +17,7 @@ pub faults_here : (told : Option Told) (old : Reader) (Before : Files → Outcom
 faults_here told old Before file at number place within gives =
     (number, within, λ t is. subst (λ (k : ℕ). Before t.reads (Bad (drop k (check_file t.reads old.number))) (rest t old)) (sym place) (gives t is))
 
--- a fault behind is one of the bytes before
+-- a fault after is one of the bytes before
 pub faults_before : (told later : Option Told) (old mid : Reader) (Before Mid : Files → Outcome → List ℕ → Type 0) (e : CheckReadRefused) → later ≡ told → IsSameFile old mid → Goes told old mid Before Mid → Faults later mid Mid e
     → Faults told old Before e
 faults_before told later old mid Before Mid DiskFault same file goes faults = tt

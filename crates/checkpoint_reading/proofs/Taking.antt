@@ -15,7 +15,7 @@ use Rattle.checkpoint.specs.Text.{pointer_bytes}
 use Rattle.checkpoint_reading.specs.Fields.{check_file}
 use Rattle.checkpoint_reading.specs.Reader.{Holds, IfTrue, IsHeld, IsSameFile, IsTaken, Reader, Takes, rest}
 
--- the number in front of bytes, and what is behind it
+-- the number in front of bytes, and what is after it
 pub front_u32 : (bytes : List ℕ) (n : ℕ) → AreBytes bytes → 4 ≤ length bytes → n ≡ big_number 4 bytes → bytes ≡ u32_bytes n ++ drop 4 bytes
 front_u32 bytes n are long is =
     let spelled : u32_bytes n ≡ take 4 bytes = ap u32_bytes (is ∙ sym (u32_of-take bytes)) ∙ u32_part 0 bytes are long in

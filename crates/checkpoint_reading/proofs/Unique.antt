@@ -88,7 +88,7 @@ one_entry {A} spell Fits one o p x y is fits fits' few few' all all' =
     let list = one_list spell Fits one o.1 p.1 x y count.0 count.1 all all' in
     (same_pair o.0 p.0 o.1 p.1 number.0 list.0, list.1)
 
--- a field that is read in one way, with what is behind it
+-- a field that is read in one way, with what is after it
 field_one : {A : Type 0} (spell : A → List ℕ) (IsRight : A → Type 0) (Behind : Outcome → A → List ℕ → Type 0) (bytes : List ℕ) (one other : Outcome)
     → ((a b : A) (x y : List ℕ) → spell a ++ x ≡ spell b ++ y → IsRight a → IsRight b → (a ≡ b) × (x ≡ y)) → ((a : A) (more : List ℕ) → Behind one a more → Behind other a more → one ≡ other)
     → Field spell IsRight (Behind one) one bytes → Field spell IsRight (Behind other) other bytes → one ≡ other
@@ -118,7 +118,7 @@ takes_one c low (suc n) bytes one other g h =
     (λ a b x y is right right'. one_entry u64_bytes Is64 one_u64 a b x y is right.entry.fits right'.entry.fits right.entry.count right'.entry.count right.numbers right'.numbers)
     (λ e more i j. takes_one (with_take c e) (e.0 + 1) n more one other i j) g h
 
--- so do open puts, and what is behind them
+-- so do open puts, and what is after them
 pub puts_one : (files : Files) (c : CheckText) (low n : ℕ) (bytes : List ℕ) (one other : Outcome) → PutsGive files one c low n bytes → PutsGive files other c low n bytes → one ≡ other
 puts_one files c low zero bytes one other g h =
     field_one u32_bytes Is32 (λ o count. TakesGive o c 1 count) bytes one other one_u32 (λ count more i j. takes_one c 1 count more one other i j) g h
@@ -127,7 +127,7 @@ puts_one files c low (suc n) bytes one other g h =
     (λ a b x y is right right'. one_entry pointer_bytes FitsFields one_pointer a b x y is right.entry.fits right'.entry.fits right.entry.count right'.entry.count (puts_fit files a.0 a.1 right.puts) (puts_fit files b.0 b.1 right'.puts))
     (λ e more i j. puts_one files (with_put c e) (e.0 + 1) n more one other i j) g h
 
--- and events that are left, and what is behind them
+-- and events that are left, and what is after them
 pub live_one : (files : Files) (c : CheckText) (low n : ℕ) (bytes : List ℕ) (one other : Outcome) → LiveGive files one c low n bytes → LiveGive files other c low n bytes → one ≡ other
 live_one files c low zero bytes one other g h =
     field_one u32_bytes Is32 (λ o count. PutsGive files o c 1 count) bytes one other one_u32 (λ count more i j. puts_one files c 1 count more one other i j) g h

@@ -17,7 +17,7 @@ pub data Outcome : Type 0 where
   Good : CheckText → Outcome
   Bad : List ℕ → Outcome
 
--- Here stands a field that is right, and what is behind it gives the rest; or none does, and here is the first fault.
+-- Here stands a field that is right, and what is after it gives the rest; or none does, and here is the first fault.
 abbrev pub Field : {A : Type 0} → (A → List ℕ) → (A → Type 0) → (A → List ℕ → Type 0) → Outcome → List ℕ → Type 0
 Field {A} spell IsRight Behind o bytes =
     ((a : A) × (more : List ℕ) × (bytes ≡ spell a ++ more) × IsRight a × Behind a more)
@@ -130,7 +130,7 @@ PlaceGives files o = Field u32_bytes (λ file. Is32 file × IsSome (files (Log f
 abbrev pub FormGives : Files → Outcome → List ℕ → Type 0
 FormGives files o = Field u32_bytes (λ form. form ≡ 1) (λ form. PlaceGives files o) o
 
--- The bytes behind a checkpoint's commit byte give this: its text, its form, and what follows.
+-- The bytes after a checkpoint's commit byte give this: its text, its form, and what follows.
 abbrev pub Gives : Files → Outcome → List ℕ → Type 0
 Gives files o = Field (λ text. text) (λ text. text ≡ codes "FLUMECHK") (λ text. FormGives files o) o
 

@@ -65,7 +65,7 @@ pub record HasTaken (taken : List ℕ) (live : List Left) : Type 0 where
   pub held : AllByRecursion (λ l. l.held ≡ is_among taken l.number) live
   pub once : AreOnceAmong (map number_of (map live_at live)) taken
 
--- numbers that a transaction may take behind these: events that are left, each once
+-- numbers that a transaction may take after these: events that are left, each once
 abbrev pub MayTake : List Left → List ℕ → List ℕ → Type 0
 MayTake live taken numbers = AllByRecursion Is64 numbers × AreOnceAmong (map number_of (map live_at live)) (taken ++ numbers)
 

@@ -79,7 +79,7 @@ pub record IsHonest {T : Type 0} (before now : ℕ) (result : Result T CheckRead
   pub fault : IsErrOf result refusals.DiskFault → Rose before now
   pub well : (IsErrOf result refusals.DiskFault → ⊥) → now ≡ before
 
--- What is left behind gives what is left before.
+-- What is left after gives what is left before.
 abbrev pub Goes : Option Told → Reader → Reader → (Files → Outcome → List ℕ → Type 0) → (Files → Outcome → List ℕ → Type 0) → Type 0
 Goes told old new Before Behind = WhereTold told (λ t. (o : Outcome) → Behind t.reads o (rest t new) → Before t.reads o (rest t old))
 

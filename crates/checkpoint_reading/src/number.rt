@@ -10,7 +10,7 @@ use flume_host::{Disk, Failed, FileName};
 // The commit byte of a checkpoint that counts.
 const OPEN: u8 = 1;
 
-// Whether a checkpoint's commit byte is open, and a byte is behind it.
+// Whether a checkpoint's commit byte is open, and a byte is after it.
 fn counts<D: Disk>(disk: &mut D, number: u32) -> Result<bool, Failed>
     requires { WhereTold (D.told disk.old) (λ t. IsSome (t.reads (Check number))) }
     ensures counts { IfOk result (λ counts. counts ≡ true → WhereTold (D.told disk.old) (λ t. IsSomeAnd (t.reads (Check number)) (λ bytes. IsPassed bytes → ⊥))) }
@@ -38,7 +38,7 @@ fn log_name(number: u32) -> FileName
     FileName::Log(number)
 }
 
-/// The number of a folder's newest checkpoint: the greatest one whose commit byte is open and has a byte behind it. None
+/// The number of a folder's newest checkpoint: the greatest one whose commit byte is open and has a byte after it. None
 /// where the folder has no such checkpoint. It takes no memory.
 pub fn newest_number<D: Disk>(disk: &mut D) -> Result<Option<u32>, Failed>
     ensures newest { IfOk result (λ newest. WhereTold (D.told disk.old) (λ t. IsNewest t.reads newest)) }

@@ -73,7 +73,7 @@ fn begins(bytes: &[u8], text: &[u8; 8]) -> bool
 }
 
 impl CheckReader {
-    /// Reads the file of this number, from behind its commit byte.
+    /// Reads the file of this number, from after its commit byte.
     pub(crate) fn begin<D: Disk>(
         alloc: Global,
         disk: &mut D,

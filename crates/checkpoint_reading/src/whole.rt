@@ -73,7 +73,7 @@ fn read_check<D: Disk>(alloc: Global, disk: &mut D, number: u32) -> Result<Check
     })
 }
 
-/// Reads a folder's newest checkpoint: the one of the greatest number whose commit byte is open and has a byte behind it.
+/// Reads a folder's newest checkpoint: the one of the greatest number whose commit byte is open and has a byte after it.
 /// None where the folder has no such one. It is read in pieces, and room grows with what is read, so that no count is
 /// believed. The disk stays as it is.
 ///

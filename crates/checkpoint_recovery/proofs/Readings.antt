@@ -57,7 +57,7 @@ one_reading files place a b x y =
     let logs = one_list files (place.file + 1) (2 ^ 32) x.logs y.logs x.behind y.behind in
     x.lines_are ∙ (ap (λ (l : List Line). l ++ lines x.logs) own ∙ (ap (λ (l : List LogFile). y.own ++ lines l) logs ∙ sym y.lines_are))
 
--- behind some frames
+-- after some frames
 
 opened-append : (a b : List (List Rec)) → opened (a ++ b) ≡ opened a ++ opened b
 opened-append [] b = refl

@@ -28,7 +28,7 @@ no_frame : (frame : List ℕ) (gate : ℕ) (behind : List ℕ) → [] ≡ frame 
 no_frame [] gate behind is = absurd (cc)
 no_frame (b ∷ frame) gate behind is = absurd (cc)
 
--- a commit byte with nothing behind it
+-- a commit byte with nothing after it
 one_byte : (g at : ℕ) → SomeGoes (g ∷ []) at
 one_byte g at =
     elim (cases_eq g 1) [
@@ -93,7 +93,7 @@ some_from number bytes at low within =
       | inr other ↦ behind_first number bytes at c.0 (grind (arith, low, other)) within c.1
     ]
 
--- the log files behind some number, of which there are none behind the last number
+-- the log files after some number, of which there are none after the last number
 logs_behind : (files : Files) (from : ℕ) → (logs : List LogFile) × AreLogs files from (2 ^ 32) logs
 logs_behind files from =
     elim (cases_lt from (2 ^ 32)) [

@@ -24,7 +24,7 @@ HasOneReading = (files : Files) (place : Place) (a b : List Line) → LinesFrom 
 abbrev pub HasSomeReading : Type 0
 HasSomeReading = (files : Files) (place : Place) → IsInLog files place → (found : List Line) × LinesFrom files place found
 
--- Behind some of its frames a file goes on as from the commit byte there.
+-- After some of its frames a file goes on as from the commit byte there.
 abbrev pub ReadsOn : Type 0
 ReadsOn =
     (number at : ℕ) (bytes : List ℕ) (front frames : List (List Rec)) (fault : Option ℕ)
@@ -47,7 +47,7 @@ pub record NamesFrom (least : ℕ) (c : CheckText) : Type 0 where
   pub puts : AllByRecursion (λ o. AllByRecursion (λ p. least ≤ p.file) o.1) c.puts
 
 -- Where another folder has the files from the least one on that a right checkpoint names, and that checkpoint is its newest, it begins there at the same
--- start, with the same lines behind it.
+-- start, with the same lines after it.
 abbrev pub ServesElsewhere : Type 0
 ServesElsewhere =
     (files later : Files) (least number : ℕ) (c : CheckText) (start : Start) (found : List Line) → SameFrom least files later → NamesFrom least c

@@ -17,12 +17,12 @@ pub record Means (files : Files) (c : CheckText) (start : Start) : Type 0 where
   pub number : start.base.first ≡ c.next.number
   pub txn : start.txn ≡ c.next.txn
 
--- The file of this number has an open commit byte and this checkpoint, with nothing behind it, and it stands for this start.
+-- The file of this number has an open commit byte and this checkpoint, with nothing after it, and it stands for this start.
 pub record IsCheck (files : Files) (number : ℕ) (c : CheckText) (start : Start) : Type 0 where
   pub spelled : files (Check number) ≡ Some (1 ∷ check_bytes c)
   pub means : Means files c start
 
--- A folder is replayed from this start, behind which it has these lines: that of its newest checkpoint, or from the front where there is none.
+-- A folder is replayed from this start, after which it has these lines: that of its newest checkpoint, or from the front where there is none.
 pub data BeginsAt (files : Files) (start : Start) (found : List Line) : Type 0 where
   Front : IsNewest files None → start ≡ empty_start → AllLines files found → BeginsAt files start found
   From : (number : ℕ) → (c : CheckText) → IsNewest files (Some number) → IsCheck files number c start → LinesFrom files c.place found → BeginsAt files start found

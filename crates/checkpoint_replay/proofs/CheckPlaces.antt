@@ -69,7 +69,7 @@ lines_within a b (Stands file at (CommitPut txn first count) ∷ more) within st
 lines_within a b (Stands file at (CommitTake txn count) ∷ more) within stand = lines_within a b more within stand
 lines_within a b (Stands file at (End count) ∷ more) within stand = lines_within a b more within stand
 
--- the PUTs of lines stand at their places, behind others
+-- the PUTs of lines stand at their places, after others
 pub stand_behind : (places : Places) (found : List Line) → LinesStand (places ++ puts_of found) found
 stand_behind places found = lines_within (puts_of found) (places ++ puts_of found) found (in_second places (puts_of found)) (puts_stand found)
 

@@ -37,7 +37,7 @@ right_place files check start is = subst (λ (p : _). IsInLog files p) is.stands
 pub begun_kept : (check : Check) (index : Indexing) → HasEvents check → IsOfCheck check index → IsKept index
 begun_kept check index has of = (has.places, has.start, start_past has.start, checks_are_kept check has.c has.places has.start index has.keeps has.ordered has.placed of, has.sized)
 
--- What a replay begins with, from a checkpoint that is right for a folder, with the lines behind its place.
+-- What a replay begins with, from a checkpoint that is right for a folder, with the lines after its place.
 record Begun (files : Files) (check : Check) (start : Start) (found : List Line) (index : Indexing) : Type 0 where
   places : Places
   keeps : Keeps (places ++ puts_of found) start (start_past start) index

@@ -1,4 +1,4 @@
--- The log files of a folder behind a number, one after another.
+-- The log files of a folder after a number, one after another.
 use Rattle.std.proofs.Common.{◌≡◌, ◌⊎◌, inl, inr, ◌<◌, ◌≤◌, ◌+◌, ◌^◌, ℕ, List, [], ◌∷◌, ◌++◌, Option, Some, None, true, false, IsSome, IsSomeAnd, refl, sym, ◌∙◌, ap, subst, arith, append_assoc, ⊎_elim}
 use Rattle.std.proofs.lemmas.Bool.{cases_lt}
 use Rattle.std.proofs.lemmas.Bool.Decides.{nat_tests}
@@ -24,7 +24,7 @@ use Rattle.ring_replay.proofs.Standing.{stand_back, stand_front}
 use Rattle.checkpoint_recovery.specs.Reading.{HasFrom, Whole}
 use Rattle.checkpoint_replay.specs.Reading.{WhereBehind, WhereFrom}
 
--- faults in front of other lines, and behind some that were applied
+-- faults in front of other lines, and after some that were applied
 
 pub stops_front : (a b : List Line) (old : Indexing) (f at : ℕ) → StopsIn a old f at → StopsIn (a ++ b) old f at
 stops_front a b old f at stops places s past stand keeps = fault_front s.base past a b f at (stops places s past (stand_front places a b stand) keeps)

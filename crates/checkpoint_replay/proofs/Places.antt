@@ -1,4 +1,4 @@
--- The lines of a folder from a place on: those of its file, and those of the files behind it.
+-- The lines of a folder from a place on: those of its file, and those of the files after it.
 use Rattle.std.proofs.Common.{◌≡◌, ◌<◌, ◌≤◌, ◌+◌, ℕ, List, length, Option, Some, None, IsSome, IsSomeAnd, refl, sym, ap, subst, arith}
 use Rattle.flume_host.specs.Told.{Told, WhereTold}
 use Rattle.flume_host.specs.declared.names.FileName.TheVariants.{Log}

@@ -58,7 +58,7 @@ lines-append number (x ∷ a) b = ap (λ (l : List Line). Stands number x.1 x.0 
 abbrev StandsHere : ℕ → List ℕ → Pointer → Content → Type 0
 StandsHere number bytes p event = (p.file ≡ number) × PutAt bytes p event
 
--- behind a front of the file
+-- after a front of the file
 module _ (number : ℕ) (p : Pointer) (event : Content) where
   here : (front rest : List ℕ) (txn : ℕ) (e : Content) → IsFramed (Put txn e) → (place_of number (length front) e ≡ p) × (e ≡ event) → StandsHere number (front ++ (spelling (Put txn e) ++ rest)) p event
   here front rest txn e framed same =
@@ -72,7 +72,7 @@ module _ (number : ℕ) (p : Pointer) (event : Content) where
   moved_on : (front : List ℕ) (rec : Rec) → length (front ++ spelling rec) ≡ length front + record_length rec
   moved_on front rec = omega (arith, length-append front (spelling rec), length-spelling rec)
 
-  -- behind a record
+  -- after a record
   further : (front : List ℕ) (rec : Rec) (records : List Rec) (rest : List ℕ)
       → ((there : IsPlaced (puts_of (record_lines number (record_items (length (front ++ spelling rec)) records))) p event) → StandsHere number ((front ++ spelling rec) ++ (record_bytes records ++ rest)) p event)
       → IsPlaced (puts_of (record_lines number (record_items (length front + record_length rec) records))) p event → StandsHere number (front ++ (record_bytes (rec ∷ records) ++ rest)) p event
@@ -182,7 +182,7 @@ content_stands number bytes (contents.BadFrame birth frames) p event holds is =
     let has = holds.1.1 in
     frames_in birth number frames (Some (16 + length (opened frames))) (1 ∷ has.2.rest) bytes p event has.2.each (has.1 ∙ ap (λ (l : List ℕ). header birth number ++ l) has.2.split) is
 
--- what a file has from a commit byte behind the first one on
+-- what a file has from a commit byte after the first one on
 behind_stands : (number : ℕ) (bytes : List ℕ) (at : ℕ) (frames : List (List Rec)) (fault : Option ℕ) (p : Pointer) (event : Content) → at < length bytes → Goes (drop at bytes) at frames fault
     → IsPlaced (puts_of (record_lines number (frame_items at frames) ++ fault_lines number fault)) p event → StandsHere number bytes p event
 behind_stands number bytes at frames fault p event within goes is = from (in_lines (record_lines number (frame_items at frames)) (fault_lines number fault) p event is)

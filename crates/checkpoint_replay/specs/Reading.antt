@@ -11,7 +11,7 @@ use Rattle.checkpoint_recovery.specs.Reading.{HasFrom, LinesFrom}
 abbrev pub WhereFrom : Option Told → ℕ → ℕ → (List Line → Type 0) → Type 0
 WhereFrom told file at P = (bytes : List ℕ) (own : List Line) → HasFile told file bytes → HasFrom file bytes at own → P own
 
--- P of the log files behind a number
+-- P of the log files after a number
 abbrev pub WhereBehind : Option Told → ℕ → (List LogFile → Type 0) → Type 0
 WhereBehind told file P = WhereTold told (λ t. (logs : List LogFile) → AreLogs t.reads (file + 1) (2 ^ 32) logs → P logs)
 

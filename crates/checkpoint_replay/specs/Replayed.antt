@@ -24,16 +24,16 @@ pub record IsStartOf (files : Files) (check : Check) (start : Start) : Type 0 wh
   pub number : start.base.first ≡ check.next.number
   pub txn : start.txn ≡ check.next.txn
 
--- a folder is replayed from this start, behind which it has these lines: from a checkpoint's place on, or without one from the front
+-- a folder is replayed from this start, after which it has these lines: from a checkpoint's place on, or without one from the front
 abbrev pub StartsAt : Files → Option Check → Start → List Line → Type 0
 StartsAt files None start found = (start ≡ empty_start) × AllLines files found
 StartsAt files (Some check) start found = IsStartOf files check start × LinesFrom files check.place found
 
--- P of a folder, where its replay starts and the lines behind that
+-- P of a folder, where its replay starts and the lines after that
 abbrev pub WhereStarts : Option Told → Option Check → (Files → Start → List Line → Type 0) → Type 0
 WhereStarts told check P = WhereTold told (λ t. (start : Start) (found : List Line) → StartsAt t.reads check start found → P t.reads start found)
 
--- Lines behind a start have no fault, and the ring has what they leave, each event with a pointer at which its PUT stands in the folder.
+-- Lines after a start have no fault, and the ring has what they leave, each event with a pointer at which its PUT stands in the folder.
 pub record IsReplayedFrom (files : Files) (start : Start) (found : List Line) (r : Replayed) : Type 0 where
   pub left : Base
   pub stands : StandsFrom start found left r.next.txn

@@ -70,8 +70,8 @@ fn replay_from<D: Disk, L: Ledger>(
 
 /// Replays a folder from a checkpoint's place on, or all its log files where there is none, into a ring: the events that are
 /// left, in order, with pointers at which their PUTs stand, the next event number, and the next transaction number, which
-/// is the checkpoint's or above each that a record behind it names. The first fault of the log from there on comes before
-/// the capacity, which is judged at the end alone. One frame is in memory at a time, with some of what stands behind it, and
+/// is the checkpoint's or above each that a record after it names. The first fault of the log from there on comes before
+/// the capacity, which is judged at the end alone. One frame is in memory at a time, with some of what stands after it, and
 /// each record is read once, for which a step is counted. The disk stays as it is.
 pub fn replay<D: Disk, L: Ledger>(
     alloc: Global,

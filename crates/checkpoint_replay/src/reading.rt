@@ -1,4 +1,4 @@
-// Applies the log of a folder from a place on: the rest of the place's file, and the files behind it.
+// Applies the log of a folder from a place on: the rest of the place's file, and the files after it.
 ghost use Rattle.std.specs.Prelude.{◌≡◌, ◌<◌, ◌≤◌, ◌+◌, ◌^◌, ◌++◌, ℕ, List, Option, length, OnOk, IfErr, IsErrOf};
 ghost use Rattle.flume_host.specs.Causes.{Rose};
 ghost use Rattle.flume_host.specs.Told.{WhereTold};
@@ -116,7 +116,7 @@ fn apply_file<D: Disk, L: Ledger>(
     }
 }
 
-// Applies the log files behind a number, in the order of their numbers.
+// Applies the log files after a number, in the order of their numbers.
 fn apply_behind<D: Disk, L: Ledger>(
     alloc: Global,
     disk: &mut D,
@@ -153,7 +153,7 @@ fn apply_behind<D: Disk, L: Ledger>(
 
 /// Applies the log of a folder from a place on: what the place's file has from that commit byte on, and then each later log
 /// file. The first fault is named, and nothing before the place is read but the header of its file. One frame is in memory
-/// at a time, with some of what stands behind it, and each record is read once, for which a step is counted. The disk stays
+/// at a time, with some of what stands after it, and each record is read once, for which a step is counted. The disk stays
 /// as it is.
 pub fn apply_log<D: Disk, L: Ledger>(
     alloc: Global,

@@ -110,7 +110,7 @@ const ROWS: &[Row] = &[
         paused: 0,
         end: SessionEnd::End,
     },
-    // a mend that was refused is tried again before the next line, behind a pause
+    // a mend that was refused is tried again before the next line, after a pause
     Row {
         doubtful: 1,
         refuses: 1,

@@ -91,7 +91,7 @@ fn worker_of(alloc: Global, port: ScriptPort, texts: &[&str]) -> Result<Listenin
     })
 }
 
-// What each link took that came back, with a semicolon behind each.
+// What each link took that came back, with a semicolon after each.
 fn taken(alloc: Global, listener: &MemListener) -> Result<Vec<u8>, Fail> {
     let mut text = Vec::new(alloc);
     for link in listener.back() {
@@ -108,7 +108,7 @@ type Row = (u64, u64, u64, &'static [&'static str], &'static str, u64);
 const ROWS: &[Row] = &[
     // two links, one line each
     (100, 0, 0, &["a\n", "b\n"], "OK\n;OK\n;", 0),
-    // a channel that breaks in mid-session is mended behind it
+    // a channel that breaks in mid-session is mended after it
     (
         100,
         1,
@@ -142,19 +142,19 @@ const ROWS: &[Row] = &[
         "FAILED: channel in doubt\n;OK\n;",
         1,
     ),
-    // no link is accepted behind one whose session was told to stop
+    // no link is accepted after one whose session was told to stop
     (0, 0, 0, &["a\n", "b\n"], ";", 0),
     (1, 0, 0, &["a\n", "b\n"], ";", 0),
-    // told to stop behind the first session
+    // told to stop after the first session
     (3, 0, 0, &["a\n", "b\n"], "OK\n;", 0),
-    // told to stop in the pause behind a mend that was refused
+    // told to stop in the pause after a mend that was refused
     (5, 1, 9, &["a\n", "b\n"], "FAILED: channel in doubt\n;", 0),
 ];
 
 // What is seen of a worker that was run.
 #[derive(Drop)]
 struct Seen {
-    // What its links took, with a semicolon behind each.
+    // What its links took, with a semicolon after each.
     took: Vec<u8>,
     // How often it was told to stop.
     stops: u64,

@@ -76,7 +76,7 @@ impl Event {
         Ok(Event { headers, body })
     }
 
-    /// The event with this header added, or with its value replaced. Besides want of memory it is
+    /// The event with this header added, or with its value replaced. Besides being out of memory it is
     /// refused exactly where its size then passes `MAX_EVENT_SIZE`.
     pub fn with(self, key: &str, value: &str) -> Result<Event, EventRefused>
         ensures ok { IfOk result (λ event. event ≡ content (with_header self.headers key.now value.now) self.body) }

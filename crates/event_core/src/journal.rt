@@ -59,7 +59,7 @@ impl Batch {
         }
     }
 
-    /// Adds an event at the end. `Err` hands it back, for want of memory.
+    /// Adds an event at the end. `Err` hands it back, when out of memory.
     pub fn push(&mut self, event: Event) -> Result<(), Event>
         ensures ok { OnOk result (self.new ≡ self.old ++ event ∷ []) }
         ensures err { OnErr result (self.new ≡ self.old) }

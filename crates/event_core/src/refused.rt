@@ -1,7 +1,7 @@
 // Why a call was refused.
 use std::alloc::{AllocError, AllocFailed};
 
-/// Want of memory. What was asked for is as before.
+/// Out of memory. What was asked for is as before.
 #[derive(Clone, Copy, Debug, PartialEq, Eq)]
 pub struct NoMemory;
 
@@ -24,7 +24,7 @@ pub enum EventRefused {
     RepeatedKey { key: String },
     /// The size in bytes, which is more than an event may have.
     TooLarge { size: u64 },
-    /// Want of memory.
+    /// Out of memory.
     NoMemory,
 }
 

@@ -577,7 +577,7 @@ passed slots low place r front gaps k x less is = from (grind arith)
     from (inl before) = inl (front.below k x before is)
     from (inr behind) = inr (gaps k x behind less is)
 
--- the event at the first place behind the gaps is the next one
+-- the event at the first place after the gaps is the next one
 pub next_at : (slots : List Slot) (low place r : ℕ) (s : Slot) → IsFront slots low place → AreGaps place r slots → place ≤ r → slice_get slots r ≡ Some s → is_gone s.state ≡ false
     → next_from low (live_of slots) ≡ Some (s.number, (left_of s).pointer)
 next_at slots low place r s front gaps behind is lives = next_found low r slots s (passed slots low place r front gaps) is (front.above r s behind is) lives

@@ -106,7 +106,7 @@ pub(crate) fn place_of(slots: &HeapCircularBuffer<Slot>, number: u64) -> usize
     low
 }
 
-// From a place on before which no slot is free: the first place of a free one, or behind the last.
+// From a place on before which no slot is free: the first place of a free one, or after the last.
 pub(crate) fn free_place(slots: &HeapCircularBuffer<Slot>, from: usize) -> usize
     requires { AllByRecursion IsBusy (take from slots.now.items) }
     ensures within { result ≤ length slots.now.items }
@@ -121,7 +121,7 @@ pub(crate) fn free_place(slots: &HeapCircularBuffer<Slot>, from: usize) -> usize
     slots.len()
 }
 
-// From a place on: the first place of an event, or behind the last slot.
+// From a place on: the first place of an event, or after the last slot.
 pub(crate) fn live_place(slots: &HeapCircularBuffer<Slot>, from: usize) -> usize
     ensures behind { from ≤ result }
     ensures gaps { AreGaps from result slots.now.items }

@@ -85,7 +85,7 @@ refused_settle was now e before later capacity reads leads rises fault = record 
   well = λ isnt. absurd (isnt refl);
 }
 
--- of one behind which no log file could be begun
+-- of one after which no log file could be begun
 pub refused_begin : (was mid now : Option Told) (before between later capacity number : ℕ) (cause : OpenCause) → ReadsAreLeft was → ReadsAreLeft now → Tells was mid SettledAs → WhereTold mid (λ t. IsNextFile t.reads number) → Tells mid now (BeginsFile number) → FailsToBegin cause mid now
     → between ≡ before → between ≤ later → (cause ≡ causes.DiskFault → Rose between later) → ((cause ≡ causes.DiskFault → ⊥) → later ≡ between) → IsRefused was now before later capacity cause
 refused_begin was mid now before between later capacity number cause reads reads_now settles next begins fails well rises fault none = record {
@@ -113,7 +113,7 @@ refused_begin was mid now before between later capacity number cause reads reads
     stays (inl is) = subst (λ (c : OpenCause). Tells was now (λ t u. StaysAs c t.reads u.reads)) (sym is) (begun_stays was mid now number reads_now settles next begins)
     stays (inr both) = tells_more was now SettledAs (λ t u. StaysAs cause t.reads u.reads) (λ t u old new is. same_stays cause t.reads u.reads (settled_same t u is)) (here both.1)
 
--- and for want of memory before the folder was touched
+-- and when out of memory before the folder was touched
 pub refused_early : (told : Option Told) (count capacity : ℕ) → IsRefused told told count count capacity causes.NoMemory
 refused_early told count capacity = record {
   why = λ t is. tt;
@@ -139,7 +139,7 @@ begun_gains was mid now number settles next begins begun = follows was mid now S
           others = λ name other. (since.others name other).1;
         }
 
--- events stand at their pointers behind the beginning of a log file
+-- events stand at their pointers after the beginning of a log file
 
 -- each event that is known stands at its pointer in a file that ends below the greatest offset
 abbrev AreInFiles : Files → Known → Type 0
@@ -186,7 +186,7 @@ placed_begun was mid now w number known settles next begins file kept long files
         let f = files a.0 a.1 p event in_known in
         still_there a.0 v w number p event f.0 f.1 (subst (λ (u : Told). IsNextFile u.reads number) a.2 (next b.0 b.1)) (subst (λ (u : Told). BeginsFile number u v) a.2 b.2) file
 
--- what was begun behind a folder that was replayed
+-- what was begun after a folder that was replayed
 
 abbrev pub fresh_writer : ℕ → ℕ → Writer
 fresh_writer number most = record { file = number; gate = 16; max_file = most; started = false; bytes = []; count = 0; kept = nothing_kept }

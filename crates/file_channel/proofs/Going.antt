@@ -54,7 +54,7 @@ is_there_behind file at p same past = from (eqb_tells p.file file)
     from (inl is) = ap (λ (b : Bool). cond b (nat_le at p.at) false) is.0 ∙ here
     from (inr other) = absurd (other.1 same)
 
--- a pointer that waits goes as far behind the beginning of the next file's frame
+-- a pointer that waits goes as far after the beginning of the next file's frame
 goes : (w : Writer) (p : Pointer) → IsWaiting w p → gone w p ≡ record { file = w.file + 1; at = 17 + (p.at - (w.gate + 1)); length = p.length }
 goes w p waits = ap (λ (b : Bool). cond b (record p { file = w.file + 1; at = 17 + (p.at - (w.gate + 1)) }) p) (is_there_behind w.file (w.gate + 1) p waits.0 (omega (arith, waits.1)))
 

@@ -27,7 +27,7 @@ side n m = grind arith
 gone : {A : Type 0} (o : Option (List ℕ)) (bytes : List ℕ) → o ≡ None → o ≡ Some bytes → A
 gone o bytes none some = absurd (cc)
 
--- no log file is behind them
+-- no log file is after them
 pub all_short : (files : Files) (last : Option ℕ) → AreShortTo files last → ((n : ℕ) → IsAbove (log_name last) (Log n) → files (Log n) ≡ None) → AreShort files
 all_short files last short none n bytes is = from (side n (floor_of last))
   where

@@ -152,7 +152,7 @@ settled_own t w birth file frames is rest =
     ∙ (ap (λ (o : Option (List ℕ)). take w.gate (bytes_of o)) rest.reads
     ∙ take_at (settled_part birth w.file frames) (0 ∷ []) w.gate (sym rest.offset)))
 
--- what waits among the bytes of a frame stands in its file behind the frames that were there
+-- what waits among the bytes of a frame stands in its file after the frames that were there
 shifted : (front bytes more : List ℕ) (p q : Pointer) (event : Content) → PutAt bytes q event → q.at + (length front + 1) ≡ p.at → q.length ≡ p.length → PutAt (front ++ (1 ∷ (bytes ++ more))) p event
 shifted front bytes more p q event at place long = record {
   txn = at.txn;

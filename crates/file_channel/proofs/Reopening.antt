@@ -227,7 +227,7 @@ refused_anew told told' old p e reads life counter over breaks s is =
     let lives : s.life < 2 ^ 64 - 1 = omega (arith, life, life_of told old s is) in
     refused told told' old p e s is breaks (rests_over told told' s (leaves_over told told' old reads over s is)) (refused_moves (is_some_of told) s (broken_state s) e lives is.whole.kind counter refl).1.admitted
 
--- for want of memory, before the folder was touched
+-- when out of memory, before the folder was touched
 pub refused_early : (told : Option Told) (old : Logged) (p : Places) → old.places.numbers.life < 2 ^ 64 - 1 → Breaks old p → StepsOn told told old (record old { places = p }) (Reopen (Err causes.NoMemory))
 refused_early told old p life breaks s is =
     let lives : s.life < 2 ^ 64 - 1 = omega (arith, life, life_of told old s is) in

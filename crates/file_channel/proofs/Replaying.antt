@@ -89,7 +89,7 @@ lines-append number (x ∷ a) b = ap (λ (l : List Line). Stands number x.1 x.0 
 abbrev StandsHere : ℕ → List ℕ → Pointer → Content → Type 0
 StandsHere number bytes p event = (p.file ≡ number) × PutAt bytes p event
 
--- behind a front of the file
+-- after a front of the file
 module _ (number : ℕ) (p : Pointer) (event : Content) where
   here : (front rest : List ℕ) (txn : ℕ) (e : Content) → IsFramed (Put txn e) → ◌≡◌ {A = Pointer × Content} (place_of number (length front) e, e) (p, event) → StandsHere number (front ++ (spelling (Put txn e) ++ rest)) p event
   here front rest txn e framed same =
@@ -103,7 +103,7 @@ module _ (number : ℕ) (p : Pointer) (event : Content) where
   moved_on : (front : List ℕ) (rec : Rec) → length (front ++ spelling rec) ≡ length front + record_length rec
   moved_on front rec = omega (arith, length-append front (spelling rec), length-spelling rec)
 
-  -- behind a record
+  -- after a record
   further : (front : List ℕ) (rec : Rec) (records : List Rec) (rest : List ℕ)
       → ((there : StandsIn (puts_of (record_lines number (record_items (length (front ++ spelling rec)) records))) p event) → StandsHere number ((front ++ spelling rec) ++ (record_bytes records ++ rest)) p event)
       → StandsIn (puts_of (record_lines number (record_items (length front + record_length rec) records))) p event → StandsHere number (front ++ (record_bytes (rec ∷ records) ++ rest)) p event

@@ -35,7 +35,7 @@ pub record ReplaysTo (files : Files) (r : Replayed) : Type 0 where
   pub last : files (Log last_file) ≡ None
   pub short : AreShort files
 
--- A log file could not be begun: the disk failed, or for want of memory, and then nothing was done.
+-- A log file could not be begun: the disk failed, or when out of memory, and then nothing was done.
 abbrev pub FailsToBegin : OpenCause → Option Told → Option Told → Type 0
 FailsToBegin cause told told' = (cause ≡ causes.DiskFault) ⊎ ((cause ≡ causes.NoMemory) × (told' ≡ told))
 
@@ -43,7 +43,7 @@ FailsToBegin cause told told' = (cause ≡ causes.DiskFault) ⊎ ((cause ≡ cau
 abbrev pub AreSeen : Option Told → Known → Type 0
 AreSeen told known = (p : Pointer) (event : Content) → StandsIn known p event → event_at told p ≡ event
 
--- A folder opened to this base and to the next transaction number of what was replayed, and a log file was begun behind it. The ring has the base's
+-- A folder opened to this base and to the next transaction number of what was replayed, and a log file was begun after it. The ring has the base's
 -- events, each known to stand at its pointer, as the disk tells, and the log has each state of just these.
 pub record IsBegunAs (was told : Option Told) (capacity max_file : ℕ) (r : Replayed) (w : Writer) : Type 0 where
   pub base : Base

@@ -121,7 +121,7 @@ fn flush_reply(done: &Result<(), FlushRefused>, staged: (u64, u64)) -> Reply
     }
 }
 
-/// Opens the channel of a folder: it is settled and replayed, and a log file is begun behind those that are there; no other
+/// Opens the channel of a folder: it is settled and replayed, and a log file is begun after those that are there; no other
 /// file is written. `steps` counts the records that are read. 1. `DiskFault`. 2. `BadCheck`, where a checkpoint is there:
 /// they are not read yet. 3. `BadLog`, at the first fault of the log. 4. `OverCapacity`, where more events are left than
 /// the limits allow. 5. `Spent` of `Counter::File`, where log file 4,294,967,295 is there. 6. `NoMemory`. After a refusal

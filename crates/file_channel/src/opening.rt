@@ -1,4 +1,4 @@
-// A folder is opened: it is settled and replayed, and a log file is begun behind those that are there.
+// A folder is opened: it is settled and replayed, and a log file is begun after those that are there.
 ghost use Rattle.std.specs.Prelude.{[], ◌⊎◌, ◌≡◌, ◌<◌, ◌≤◌, ◌+◌, ◌-◌, ◌^◌, Err, IfErr, IfOk, IsErrOf, OnOk, false, length};
 ghost use Rattle.flume_host.specs.Causes.{HasCause, Rose};
 ghost use Rattle.flume_host.specs.Told.{Changes, LeavesOnly, Settle, Tells, WhereTold, done};
@@ -70,7 +70,7 @@ fn measure_logs<D: Disk>(disk: &mut D) -> Result<(), Failed>
     }
 }
 
-// What a folder leaves, by the places of its events, and the number of the log file behind those that are there.
+// What a folder leaves, by the places of its events, and the number of the log file after those that are there.
 fn read_folder<D: Disk, L: Ledger>(
     alloc: Global,
     disk: &mut D,
@@ -134,7 +134,7 @@ fn held_of(alloc: Global, replayed: Replayed, limits: Limits) -> Result<Held, No
     Held::open(alloc, ring, limits, next.number, next.txn)
 }
 
-// Settles a folder, and reads what it leaves, with the number of the log file behind those that are there.
+// Settles a folder, and reads what it leaves, with the number of the log file after those that are there.
 fn settle_folder<D: Disk, L: Ledger>(
     alloc: Global,
     disk: &mut D,
@@ -204,8 +204,8 @@ fn begin_log<D: Disk>(
     }
 }
 
-// Settles a folder and reads it, makes what a channel keeps of its events, and begins a log file behind those that are there. So a
-// want of memory for the places comes before that file is made.
+// Settles a folder and reads it, makes what a channel keeps of its events, and begins a log file after those that are there. So a
+// out of memory for the places comes before that file is made.
 fn open_log<D: Disk, L: Ledger>(
     alloc: Global,
     disk: &mut D,
@@ -245,7 +245,7 @@ fn open_log<D: Disk, L: Ledger>(
     }
 }
 
-// Settles a folder and reads it, and begins a log file behind those that are there.
+// Settles a folder and reads it, and begins a log file after those that are there.
 fn reopen_log<D: Disk, L: Ledger>(
     alloc: Global,
     disk: &mut D,
@@ -280,7 +280,7 @@ fn reopen_log<D: Disk, L: Ledger>(
 }
 
 impl<D: Disk + Drop> LoggedPlaces<D> {
-    /// Opens the folder of a disk: it is settled and replayed, and a log file is begun behind those that are there.
+    /// Opens the folder of a disk: it is settled and replayed, and a log file is begun after those that are there.
     pub(crate) fn open<L: Ledger>(
         alloc: Global,
         disk: D,

@@ -57,7 +57,7 @@ pub record IsPlan (pairs : List Pair) (agent : List ℕ) (plan : Plan) : Type 0 
 abbrev pub IsRefused : List Pair → List ℕ → PlanRefused → Type 0
 IsRefused pairs agent why = (is_agent pairs agent ≡ true) × (s : Seen) × IsJudged pairs agent s × Refuses s why
 
--- the plan of the agent, or the first that is at fault; want of memory may come at any time
+-- the plan of the agent, or the first that is at fault; out of memory may come at any time
 abbrev pub Plans : List Pair → List ℕ → Result Plan PlanRefused → Type 0
 Plans pairs agent (Ok plan) = (is_agent pairs agent ≡ true) × ((s : Seen) × IsJudged pairs agent s × IsRight s) × IsPlan pairs agent plan
 Plans pairs agent (Err NoAgent) = is_agent pairs agent ≡ false

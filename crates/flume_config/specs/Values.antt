@@ -189,7 +189,7 @@ StepNamed pairs at name s = IsStepPlan pairs (front_of at (codes "interceptors."
 abbrev pub places_at : List Pair → List (List ℕ) → List ℕ → List ℕ
 places_at pairs others key = map (place_of others) (names_in pairs key)
 
--- what stands behind the front of a key, and the places of the channels that its value names
+-- what stands after the front of a key, and the places of the channels that its value names
 abbrev pub mapped_at : List (List ℕ) → List ℕ → Pair → List (List ℕ × List ℕ)
 mapped_at others front p = if starts_with nat_eq p.key front then (drop (length front) p.key, map (place_of others) (once (words p.value))) ∷ [] else []
 

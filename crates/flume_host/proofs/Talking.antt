@@ -44,7 +44,7 @@ talks_broke a b = tells_more a b (λ t u. u ≡ broke t) (Talks [] [] 0) (λ t u
 pub talks_wrote : (n : ℕ) (bytes : List ℕ) (a b : Option LinkTold) → Sends (Ok n) bytes a b → Tells a b (Talks [] (take n bytes) 0)
 talks_wrote n bytes a b = tells_more a b (λ t u. u ≡ wrote (take n bytes) t) (Talks [] (take n bytes) 0) (λ t u _ _ is. record { gave = ap (λ (l : LinkTold). l.gave) is ∙ sym (append-nil t.gave); took = ap (λ (l : LinkTold). l.took) is; count = omega (arith, ap (λ (l : LinkTold). l.pieces) is, ap (λ (l : LinkTold). l.quiets) is); ends = omega (arith, ap (λ (l : LinkTold). l.ends) is) })
 
--- behind it the link was not used
+-- after it the link was not used
 pub talks_still : (a b c : Option LinkTold) (given taken : List ℕ) (n : ℕ) → Tells a b (Talks given taken n) → Tells b c (Talks [] [] 0) → Tells a c (Talks given taken n)
 talks_still a b c given taken n = follows a b c (Talks given taken n) (Talks [] [] 0) (Talks given taken n) (λ t u v _ _ _ first second. record {
   gave = second.gave ∙ append-nil u.gave ∙ first.gave;
@@ -73,6 +73,6 @@ waited_broke a b = tells_more a b (λ t u. u ≡ broke t) (Waited 0) (λ t u _ _
 pub failed_broke : (a b : Option LinkTold) → Tells a b (λ t u. u ≡ broke t) → FailedLast a b
 failed_broke a b = tells_more a b (λ t u. u ≡ broke t) (λ t u. u.failed ≡ true) (λ t u _ _ is. ap (λ (l : LinkTold). l.failed) is)
 
--- also behind others
+-- also after others
 pub failed_behind : (a b c : Option LinkTold) (given taken : List ℕ) (n : ℕ) → Tells a b (Talks given taken n) → FailedLast b c → FailedLast a c
 failed_behind a b c given taken n = follows a b c (Talks given taken n) (λ t u. u.failed ≡ true) (λ t u. u.failed ≡ true) (λ t u v _ _ _ _ is. is)

@@ -2,7 +2,7 @@
 use Rattle.std.specs.Prelude.{◌≡◌, ◌+◌, ℕ, Option}
 use Rattle.flume_host.specs.Told.{Tells}
 
--- this was the first of the numbers that were to come, and those behind it are still to come
+-- this was the first of the numbers that were to come, and those after it are still to come
 pub record Next (number : ℕ) (old new : ℕ → ℕ) : Type 0 where
   pub first : old 0 ≡ number
   pub rest : (n : ℕ) → new n ≡ old (n + 1)

@@ -4,7 +4,7 @@
 #[derive(Clone, Copy, Debug, PartialEq, Eq)]
 pub struct Failed;
 
-/// Want of memory. What was asked for is as before.
+/// Out of memory. What was asked for is as before.
 #[derive(Clone, Copy, Debug, PartialEq, Eq)]
 pub struct NoMemory;
 
@@ -22,7 +22,7 @@ pub enum FileName {
 pub enum NameRefused {
     /// A fault of the outside, which the host has counted.
     Failed,
-    /// Want of memory.
+    /// Out of memory.
     NoMemory,
 }
 
@@ -36,6 +36,6 @@ pub enum FileRefused {
         /// How many it has.
         size: u64,
     },
-    /// Want of memory.
+    /// Out of memory.
     NoMemory,
 }

@@ -94,7 +94,7 @@ keeps_none xs = record { many = refl; others = λ other is. refl }
 pub keeps_set : {S : Type 0} (xs : List S) (i : ℕ) (x : S) → KeepsOthers (i ∷ []) xs (set xs i x)
 keeps_set xs i x = record { many = length-set xs i x; others = λ other is. same_there xs i other x (λ e. is.0 (sym e)) }
 
--- one change behind another
+-- one change after another
 pub keeps_then : {S : Type 0} (ps qs : List ℕ) (a b c : List S) → KeepsOthers ps a b → KeepsOthers qs b c → KeepsOthers (ps ++ qs) a c
 keeps_then ps qs a b c f g = record {
   many = g.many ∙ f.many;

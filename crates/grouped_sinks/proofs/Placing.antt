@@ -236,7 +236,7 @@ place_more R passes n old new z adds = by (passes n) adds
     by true (row, is, same) = subst (Zips R (places_where passes n ++ n ∷ [])) (sym same) (zips_push R (places_where passes n) old n row z is)
     by false same = subst (λ (l : List ℕ). Zips R l new) (sym (append-nil (places_where passes n))) (subst (Zips R (places_where passes n)) (sym same) z)
 
--- the same behind rows that were there
+-- the same after rows that were there
 pub joined_more : (R : ℕ → SinkRow → Type 0) (passes : ℕ → Bool) (n : ℕ) (old mid new : List SinkRow) → JoinedBy R (places_where passes n) old mid → AddsIf (R n) (passes n) mid new
     → JoinedBy R (places_where passes (suc n)) old new
 joined_more R passes n old mid new (more, is, z) adds = by (passes n) adds

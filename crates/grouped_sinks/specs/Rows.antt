@@ -62,7 +62,7 @@ pub record IsOfGroup (sinks : List SinkPlan) (groups : List GroupPlan) (at : ℕ
   pub batch : row.batch ≡ fold (λ least place. min least (batch_at sinks place)) (batch_at sinks first) others
   pub grouped : row.group ≡ Some at
 
--- such a row came behind these where one is due
+-- such a row came after these where one is due
 abbrev pub AddsIf : (SinkRow → Type 0) → Bool → List SinkRow → List SinkRow → Type 0
 AddsIf Is true old new = (row : SinkRow) × Is row × (new ≡ old ++ row ∷ [])
 AddsIf Is false old new = new ≡ old
@@ -74,7 +74,7 @@ Zips R [] (b ∷ ys) = ⊥
 Zips R (a ∷ xs) [] = ⊥
 Zips R (a ∷ xs) (b ∷ ys) = R a b × Zips R xs ys
 
--- such rows came behind these, one for each of these places
+-- such rows came after these, one for each of these places
 abbrev pub JoinedBy : (ℕ → SinkRow → Type 0) → List ℕ → List SinkRow → List SinkRow → Type 0
 JoinedBy Is places old new = (more : List SinkRow) × (new ≡ old ++ more) × Zips Is places more
 

@@ -4,7 +4,7 @@ use Rattle.world_laws.specs.World.{Channel, Node, Work, share}
 use Rattle.world_laws.specs.Channels.{is_empty}
 use Rattle.world_laws.specs.Steps.{is_passed, is_passed_by}
 
--- the channel at a place, before those behind it
+-- the channel at a place, before those after it
 channel_at : (cs : List Channel) (place : ℕ) → place < length cs → (c : Channel) × (drop place cs ≡ c ∷ drop (place + 1) cs)
 channel_at [] place h = absurd (omega arith)
 channel_at (x ∷ cs) zero h = (x, refl)

@@ -3,7 +3,7 @@ use Rattle.std.specs.Prelude.{ℕ, Option, Some, None, ◌==◌, if◌then◌els
 use Rattle.world_laws.specs.World.{Work, Attempt}
 use Rattle.world_laws.specs.Steps.{has_from}
 
--- the work, unless it has an entry of the channel at this place or behind it
+-- the work, unless it has an entry of the channel at this place or after it
 abbrev pub unless_from : ℕ → ℕ → Option Work → Option Work
 unless_from channel place None = None
 unless_from channel place (Some w) = if has_from channel place w.entries then None else Some w

@@ -61,7 +61,7 @@ impl Work {
         Ok(entries)
     }
 
-    // Whether it has an entry of the channel at this place or behind it.
+    // Whether it has an entry of the channel at this place or after it.
     fn has_from(&self, channel: u32, place: u64) -> bool
         ensures { result ≡ has_from channel place self.now.entries }
     {
@@ -187,7 +187,7 @@ pub(crate) fn set_delivery(attempts: &mut [Option<OpenAttempt>], number: u64, de
     }
 }
 
-// The work ends if it has an entry of the channel at this place or behind it.
+// The work ends if it has an entry of the channel at this place or after it.
 fn end_work_from(work: &mut Option<Work>, channel: u32, place: u64)
     ensures { work.new ≡ unless_from channel place work.old }
 {
@@ -198,7 +198,7 @@ fn end_work_from(work: &mut Option<Work>, channel: u32, place: u64)
     }
 }
 
-/// Works end that have an entry of the channel at this place or behind it.
+/// Works end that have an entry of the channel at this place or after it.
 pub(crate) fn end_works(works: &mut [Option<Work>], channel: u32, place: u64)
     ensures { works.new ≡ without_works channel place works.old }
 {

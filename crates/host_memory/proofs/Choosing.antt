@@ -16,7 +16,7 @@ module _ (stands : ℕ → Stood) (first : List MemFile) (calls : List MemCall) 
       ap (λ (n : ℕ). image_after stands first calls n) (add-one i)
       ∙ ap (λ (c : Option MemCall). image_with (stands i) (told_of first (take i calls)).reads c (image_after stands first calls i)) is
 
-  -- there is none behind the last
+  -- there is none after the last
   pub image_after-all : (n : ℕ) → length calls ≤ n → image_after stands first calls n ≡ image_after stands first calls (length calls)
   image_after-all zero all = ap (λ (k : ℕ). image_after stands first calls k) (let none : 0 ≡ length calls = omega (arith, all) in none)
   image_after-all (suc n) all = elim (cases_lt n (length calls)) [
@@ -30,6 +30,6 @@ module _ (stands : ℕ → Stood) (first : List MemFile) (calls : List MemCall) 
   pub chosen_within : (i : ℕ) (call : MemCall) → slice_get calls i ≡ Some call → image_chosen stands first calls i ≡ image_torn (stands i) (call_of call.change) (image_after stands first calls i)
   chosen_within i call is = ap (λ (c : Option MemCall). image_within (stands i) c (image_after stands first calls i)) is
 
-  -- a stop behind all calls
+  -- a stop after all calls
   pub chosen_after : (n : ℕ) → length calls ≤ n → image_chosen stands first calls n ≡ image_after stands first calls (length calls)
   chosen_after n all = ap (λ (c : Option MemCall). image_within (stands n) c (image_after stands first calls n)) (slice_get_past calls n all) ∙ image_after-all n all

@@ -136,7 +136,7 @@ module _ {A K V : Type 0} (same : K → K → Bool) (same_is : (a b : K) → sam
       ap (λ (v : V). cond (same n (key x)) (value x) v) (look-push xs item (map_none (place xs (key item)) parts.1) n)
       ∙ swapped (same n (key x)) (same n (key item)) (value x) (value item) (look xs n) (apart n (key item) (key x) parts.0)
 
-  -- behind an item of another key each is where it was
+  -- after an item of another key each is where it was
   pub place-push-other : (items : List A) (item : A) (n : K) → same n (key item) ≡ false → place (items ++ item ∷ []) n ≡ place items n
   place-push-other [] item n differ = ap (λ (b : Bool). cond {A = Option ℕ} b (Some 0) None) differ
   place-push-other (x ∷ xs) item n differ = ap (λ (o : Option ℕ). cond (same n (key x)) (Some 0) (option_map (λ i. suc i) o)) (place-push-other xs item n differ)

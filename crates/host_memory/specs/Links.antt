@@ -56,7 +56,7 @@ link_place l = record { step = l.step; at = l.at }
 abbrev pub IsUnread : MemLink → MemLink → Type 0
 IsUnread old new = (new.steps ≡ old.steps) × (link_place new ≡ link_place old)
 
--- behind the step of this place
+-- after the step of this place
 abbrev pub behind : Place → Place
 behind p = record { step = p.step + 1; at = 0 }
 
@@ -80,7 +80,7 @@ ReadsStep Step.Quiet p q into result = (result ≡ Ok Quiet) × (q ≡ behind p)
 ReadsStep Step.Fail p q into result = IsErr result × (q ≡ behind p)
 ReadsStep (Step.Hold flag) p q into result = OnOk result (result ≡ Ok Quiet) × (q ≡ behind p)
 
--- what a read answers: that of the step of its place, or the end behind them all
+-- what a read answers: that of the step of its place, or the end after them all
 abbrev pub Reads : List LinkStep → Place → Place → List ℕ → Result LinkRead Failed → Type 0
 Reads steps p q into result = ((length steps ≤ p.step) × (result ≡ Ok End) × (q ≡ p))
     ⊎ ((p.step < length steps) × ((d : LinkStep) → ReadsStep (get_or steps p.step d) p q into result))
@@ -96,7 +96,7 @@ IsPiece (Step.Hold flag) p = ⊥
 abbrev pub IsFull : MemLink → Type 0
 IsFull link = (2 ^ 64 - 1 ≤ link.quiets) ⊎ (2 ^ 64 - 1 ≤ link.ends)
 
--- a read that is to bring this may fail: of bytes for want of memory, and another one at the last value of its count
+-- a read that is to bring this may fail: of bytes when out of memory, and another one at the last value of its count
 abbrev pub MayFail : LinkRead → ℕ → ℕ → Type 0
 MayFail (Got n) quiets ends = Unit {0}
 MayFail Quiet quiets ends = 2 ^ 64 - 1 ≤ quiets

@@ -49,7 +49,7 @@ AnswersOffer Quiet result = result ≡ Ok None
 AnswersOffer Fail result = IsErr result
 AnswersOffer (Hold flag) result = OnOk result (result ≡ Ok None)
 
--- An accept answers by the next offer, which is taken out, or waits in vain behind them all.
+-- An accept answers by the next offer, which is taken out, or waits in vain after them all.
 abbrev pub FollowsOffers : MemListener → MemListener → Result (Option MemLink) Failed → Type 0
 FollowsOffers old new result =
     ((length old.offers.items ≤ old.next) × (result ≡ Ok None) × (new.next ≡ old.next))
@@ -62,7 +62,7 @@ abbrev pub AnswersDial : Option MemLink → Result MemLink Failed → Type 0
 AnswersDial (Some link) result = IfOk result (IsFreshCopy link)
 AnswersDial None result = IsErr result
 
--- A dial answers by the next place, which is emptied, or fails behind them all.
+-- A dial answers by the next place, which is emptied, or fails after them all.
 abbrev pub FollowsDials : MemDialer → MemDialer → Result MemLink Failed → Type 0
 FollowsDials old new result =
     ((length old.links.items ≤ old.next) × IsErr result × (new.next ≡ old.next))

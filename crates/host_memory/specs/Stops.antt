@@ -73,7 +73,7 @@ abbrev pub image_after : (ℕ → Stood) → List MemFile → List MemCall → �
 image_after stands first calls zero = files_of first
 image_after stands first calls (suc n) = image_with (stands n) (told_of first (take n calls)).reads (slice_get calls n) (image_after stands first calls n)
 
--- and where the call behind them was under way, if there was one
+-- and where the call after them was under way, if there was one
 abbrev pub image_within : Stood → Option MemCall → Files → Files
 image_within stood None image = image
 image_within stood (Some call) image = image_torn stood (call_of call.change) image

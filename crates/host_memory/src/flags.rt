@@ -8,7 +8,7 @@ use std::thread;
 // How often a flag is looked at.
 const LOOKS: u32 = 1_000_000_000;
 
-// Behind so many looks another thread may run.
+// After so many looks another thread may run.
 const LOOKS_A_TURN: u32 = 1_000_000;
 
 /// A flag that is not set, or is set once for all who have a handle of it. No clause speaks of it.

@@ -11,7 +11,7 @@ use crate::given::Given;
 use flume_host::{Dialer, Failed};
 use std::alloc::Global;
 
-/// A dialer that gives links in their order. A dial fails at an empty place and behind them all, and where there is no
+/// A dialer that gives links in their order. A dial fails at an empty place and after them all, and where there is no
 /// memory; the link that it was to give is lost then.
 #[derive(Drop)]
 pub struct MemDialer {

@@ -151,7 +151,7 @@ impl MemDisk {
         MemDisk::with_files(alloc, files)
     }
 
-    /// How many calls were recorded: those that change the disk, but for those that want of memory kept from being so.
+    /// How many calls were recorded: those that change the disk, but for those that out of memory kept from being so.
     pub fn moments(&self) -> u64
         ensures { result ≡ clock (record_in self.now) }
     {

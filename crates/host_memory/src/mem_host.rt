@@ -119,7 +119,7 @@ impl MemHost {
     }
 
     /// With these listeners, by their addresses. A call for an address gets its first one that was not handed out, and
-    /// behind them all one that only waits.
+    /// after them all one that only waits.
     pub fn with_listeners(mut self, listeners: Vec<Placed<MemListener>>) -> Self
         ensures state { state_in result ≡ state_in self }
         ensures folders { (folder_in result ≡ folder_in self) × (roll_in result ≡ roll_in self) }
@@ -130,7 +130,7 @@ impl MemHost {
     }
 
     /// With these dialers, by their addresses. A call for an address gets its first one that was not handed out, and
-    /// behind them all one whose dials fail.
+    /// after them all one whose dials fail.
     pub fn with_dialers(mut self, dialers: Vec<Placed<MemDialer>>) -> Self
         ensures state { state_in result ≡ state_in self }
         ensures folders { (folder_in result ≡ folder_in self) × (roll_in result ≡ roll_in self) }

@@ -24,7 +24,7 @@ pub enum LinkStep {
     Hold(Flag),
 }
 
-/// A link whose reads follow a script, behind which its end is. A call that needs memory and has none fails too.
+/// A link whose reads follow a script, after which its end is. A call that needs memory and has none fails too.
 #[derive(Drop)]
 pub struct MemLink {
     steps: Vec<LinkStep>,

@@ -25,7 +25,7 @@ pub enum Offer {
     Hold(Flag),
 }
 
-/// A listener whose accepts follow a script, behind which they wait in vain. A call that needs memory and has none fails
+/// A listener whose accepts follow a script, after which they wait in vain. A call that needs memory and has none fails
 /// too, and the link that it was to give is lost.
 #[derive(Drop)]
 pub struct MemListener {

@@ -40,7 +40,7 @@ impl MemRoll {
     ghost use Rattle.std.specs.Prelude.{None};
     ghost use Rattle.host_memory.specs.Words.{rolled_in, no_files, roll_calls, roll_fails, roll_faults, roll_pieces};
 
-    /// An empty folder that tells, takes all that it is given, and fails only for want of memory and at a name that is
+    /// An empty folder that tells, takes all that it is given, and fails only when out of memory and at a name that is
     /// there already.
     pub fn new(alloc: Global) -> Self
         ensures rolled { rolled_in result ≡ Some no_files }

@@ -130,7 +130,7 @@ pub struct MemSink {
 impl MemSink {
     ghost use Rattle.host_memory.specs.Words.{took_in, handed_in, sink_calls, sink_fails, sink_faults, sink_pieces};
 
-    /// An empty sink that tells, takes all that it is given, and fails only for want of memory.
+    /// An empty sink that tells, takes all that it is given, and fails only when out of memory.
     pub fn new(alloc: Global) -> Self
         ensures took { (took_in result ≡ Some []) × (handed_in result ≡ Some []) }
         ensures script { (sink_fails result ≡ []) × (sink_calls result ≡ 0) × (sink_pieces result ≡ []) }

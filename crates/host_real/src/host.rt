@@ -63,7 +63,7 @@ fn read_front(rt: &HostRuntime, path: &str, into: &mut [u8]) -> io::Result<u64> 
     Ok(file.metadata()?.len().max(filled as u64))
 }
 
-// The file in which Linux tells the host's name, with a newline behind it.
+// The file in which Linux tells the host's name, with a newline after it.
 const NAME_FILE: &str = "/proc/sys/kernel/hostname";
 
 // The most bytes of that file.

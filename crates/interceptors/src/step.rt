@@ -68,7 +68,7 @@ fn remove(event: Event, names: &[String]) -> Result<Event, EventRefused>
     Event::new(headers, body)
 }
 
-/// The event after a step, at a moment in milliseconds since 1970, on a host of this name or address. Besides want of memory
+/// The event after a step, at a moment in milliseconds since 1970, on a host of this name or address. Besides being out of memory
 /// it is refused exactly where its size then passes `MAX_EVENT_SIZE`.
 pub fn apply(step: &Step, event: Event, moment: u64, host: &str) -> Result<Event, EventRefused>
     ensures ok { IfOk result (λ e. e ≡ applied step.now moment host.now event) }

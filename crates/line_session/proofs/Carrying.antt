@@ -6,11 +6,11 @@ use Rattle.line_session.specs.Handled.{Handled, TakesAll}
 use Rattle.line_session.specs.Sessions.{Ends, Served, ends_of}
 
 module _ {S T : Type 0} (Takes : S → List ℕ → LineVerdict → S → Type 0) (Others : T → List ℕ → LineVerdict → T → Type 0) (Fits : S → T → Type 0) where
-  -- a store and what fits it before a line have what fits the store behind it
+  -- a store and what fits it before a line have what fits the store after it
   abbrev pub Forward : Type 0
   Forward = (a b : S) (line : List ℕ) (said : LineVerdict) (x : T) → Takes a line said b → Fits a x → (y : T) × Others x line said y × Fits b y
 
-  -- a store and what fits it behind a line have what fitted the store before it
+  -- a store and what fits it after a line have what fitted the store before it
   abbrev pub Backward : Type 0
   Backward = (a b : S) (line : List ℕ) (said : LineVerdict) (y : T) → Takes a line said b → Fits b y → (x : T) × Others x line said y × Fits a x
 

@@ -77,7 +77,7 @@ module _ (max : ℕ) (ack : Bool) (stops : LineVerdict → Bool) {S : Type 0} (T
       ends = inr (inl (record { first = []; last = verdict; split = refl; going = All-nil (GoesOn stops); count = count; front = refl }));
     }
 
-    -- the same, whatever stands behind the line
+    -- the same, whatever stands after the line
     pub line_breaks : (rest all : List ℕ) → bytes ++ rest ≡ all → (end : SessionEnd) → TakesOne Takes a.store line b.store (λ said. AnswerEnds stops ack said a.took b.took end) → Breaks max ack stops Takes a b held all end
     line_breaks rest all whole end (verdict, step, ends) = let P : List ℕ → Type 0 = λ l. Breaks max ack stops Takes a b held l end in subst P whole (line_breaks_at rest verdict end step ends)
 

@@ -149,11 +149,11 @@ module _ (max : ℕ) (ack : Bool) (stops : LineVerdict → Bool) {S : Type 0} (T
     ends = ends;
   }
 
-  -- the front of a piece went well, and what is behind it ended the session
+  -- the front of a piece went well, and what is after it ended the session
   pub breaks_behind : {a b c : Sides S} {held bytes mid bytes' : List ℕ} {end : SessionEnd} → (end ≡ NoMemory → ⊥) → (all : List ℕ) → bytes ++ bytes' ≡ all → Goes max ack stops Takes a b held bytes mid → Breaks max ack stops Takes b c mid bytes' end → Breaks max ack stops Takes a c held all end
   breaks_behind {a} {c = c} {held = held} {end = end} not all whole p q = let P : List ℕ → Type 0 = λ l. Breaks max ack stops Takes a c held l end in subst P whole (breaks_then not p q)
 
-  -- the front of a piece went well, and so did what is behind it
+  -- the front of a piece went well, and so did what is after it
   pub goes_behind : {a b c : Sides S} {held bytes mid bytes' left : List ℕ} → (all : List ℕ) → bytes ++ bytes' ≡ all → Goes max ack stops Takes a b held bytes mid → Goes max ack stops Takes b c mid bytes' left → Goes max ack stops Takes a c held all left
   goes_behind {a} {c = c} {held = held} {left = left} all whole p q = let P : List ℕ → Type 0 = λ l. Goes max ack stops Takes a c held l left in subst P whole (goes_then p q)
 

@@ -12,7 +12,7 @@ lines_of done = map (λ (h : Handled). h.line) done
 abbrev pub verdicts_of : List Handled → List LineVerdict
 verdicts_of done = map (λ (h : Handled). h.verdict) done
 
--- a session goes on behind a line with this verdict
+-- a session goes on after a line with this verdict
 abbrev pub GoesOn : (LineVerdict → Bool) → LineVerdict → Type 0
 GoesOn stops verdict = stops verdict ≡ false
 

@@ -77,7 +77,7 @@ sides store took = record { store = store; took = took }
 
 module _ (max : ℕ) (ack : Bool) (stops : LineVerdict → Bool) {S : Type 0}
     (Takes : S → List ℕ → LineVerdict → S → Type 0) where
-  -- Some lines were taken and answered. Before them `held` and these bytes were there to be cut, and behind them `left` is.
+  -- Some lines were taken and answered. Before them `held` and these bytes were there to be cut, and after them `left` is.
   pub record Goes (old new : Sides S) (held bytes left : List ℕ) : Type 0 where
     pub done : List Handled
     pub takes : TakesAll Takes old.store done new.store

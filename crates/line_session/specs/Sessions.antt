@@ -25,7 +25,7 @@ module _ (ack : Bool) (stops : LineVerdict → Bool) where
     pub stopped : stops last ≡ true
     pub whole : sent ≡ replies ack verdicts Rest
 
-  -- the sink failed in the reply to the last line or behind it; all others were answered
+  -- the sink failed in the reply to the last line or after it; all others were answered
   pub record FailsInReply (verdicts : List LineVerdict) (sent : List ℕ) : Type 0 where
     pub first : List LineVerdict
     pub last : LineVerdict
@@ -34,14 +34,14 @@ module _ (ack : Bool) (stops : LineVerdict → Bool) where
     pub count : ℕ
     pub front : sent ≡ flat_map (reply ack) first ++ take count (reply ack last)
 
-  -- the sink failed in the reply to a line that is too long or behind it; all lines were answered
+  -- the sink failed in the reply to a line that is too long or after it; all lines were answered
   pub record FailsAtLong (max : ℕ) (verdicts : List LineVerdict) (rest sent : List ℕ) : Type 0 where
     pub going : All (GoesOn stops) verdicts
     pub long : IsTooLong max rest
     pub count : ℕ
     pub front : sent ≡ flat_map (reply ack) verdicts ++ take count (end_reply TooLong)
 
-  -- How a session ends, by the verdicts on its lines, what was read behind these lines, and what was written.
+  -- How a session ends, by the verdicts on its lines, what was read after these lines, and what was written.
   abbrev pub EndsBy : ℕ → SessionEnd → List LineVerdict → List ℕ → List ℕ → Type 0
   EndsBy max End verdicts rest sent = AllAnswered verdicts Rest sent × IsLine max rest
   EndsBy max TooLongLine verdicts rest sent = AllAnswered verdicts TooLong sent × IsTooLong max rest
@@ -84,7 +84,7 @@ ends_of left store took = record { left = left; store = store; took = took }
 
 module _ (max : ℕ) (ack : Bool) (stops : LineVerdict → Bool) {S : Type 0}
     (Takes : S → List ℕ → LineVerdict → S → Type 0) where
-  -- A whole session: what was read is the lines that were taken, in order, and the rest behind them; and each was answered as
+  -- A whole session: what was read is the lines that were taken, in order, and the rest after them; and each was answered as
   -- the end says.
   pub record Served (old new : Ends S) (end : SessionEnd) : Type 0 where
     pub done : List Handled

@@ -12,7 +12,7 @@ pub trait LineStore {
     /// A line can be handed to it.
     ghost ready: { Self → Type 0 };
 
-    /// A session ends behind a line with this verdict.
+    /// A session ends after a line with this verdict.
     ghost stops: { LineVerdict → Bool };
 
     /// Takes a line, and says what became of it.
@@ -22,7 +22,7 @@ pub trait LineStore {
         ensures takes { takes self.old line.now result self.new }
         ensures ready { stops result ≡ false → ready self.new };
 
-    /// Whether a session ends behind a line with this verdict.
+    /// Whether a session ends after a line with this verdict.
     fn is_last(&self, verdict: LineVerdict) -> bool
         ensures { result ≡ stops verdict };
 }

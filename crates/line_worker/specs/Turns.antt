@@ -42,7 +42,7 @@ MendsWhere Mends true old answers new = Mends old answers new
 MendsWhere Mends false old answers new = (answers ≡ []) × (new ≡ old)
 
 module _ {S : Type 0} (Takes : S → List ℕ → Verdict → S → Type 0) (Mends : S → List Answer → S → Type 0) where
-  -- One line: mends before it where one was refused earlier, then the line, and mends behind it where its verdict asks for
+  -- One line: mends before it where one was refused earlier, then the line, and mends after it where its verdict asks for
   -- them. Where a mend before it was refused, none follows it.
   pub record TakesTurn (old : Feeding S) (line : List ℕ) (said : LineVerdict) (new : Feeding S) : Type 0 where
     pub first : List Answer

@@ -32,7 +32,7 @@ fn needs_mend(verdict: &Verdict) -> bool
     }
 }
 
-/// Whether the channels are to be mended behind a line, by whether a mend was refused just before it.
+/// Whether the channels are to be mended after a line, by whether a mend was refused just before it.
 pub(crate) fn is_due(refused: bool, verdict: &Verdict) -> bool
     ensures { result ≡ is_due refused verdict.now }
 {

@@ -33,7 +33,7 @@ pub(crate) struct Lane<F, B, C, H> {
     pub due: bool,
 }
 
-/// How long to pause behind a mend that was refused, before the next one, in milliseconds.
+/// How long to pause after a mend that was refused, before the next one, in milliseconds.
 const PAUSE: u32 = 1_000;
 
 impl<F: PutFace + MendFace + Drop, B: Interceptor, C: Clock, H: Halt> Lane<F, B, C, H> {
@@ -54,7 +54,7 @@ impl<F: PutFace + MendFace + Drop, B: Interceptor, C: Clock, H: Halt> Lane<F, B,
         }
     }
 
-    // Mends the channels behind a line, where its verdict asks for it.
+    // Mends the channels after a line, where its verdict asks for it.
     fn mend_behind(&mut self, verdict: &Verdict)
         ensures mends { (answers : List Answer) × MendsWhere
             (MendsInto (MendsPort ⟦<F as MendFace>⟧.own ⟦<F as MendFace>⟧.saw ⟦<F as MendFace>⟧.seen

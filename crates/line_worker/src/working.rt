@@ -57,7 +57,7 @@ fn serve_once<
 }
 
 /// It serves one session on its input and its output, as [`line_session::serve_lines`]: each line is put into its channels and
-/// answered. Where a line met a broken channel or was left in doubt, it mends its channels behind that line. Where a mend was
+/// answered. Where a line met a broken channel or was left in doubt, it mends its channels after that line. Where a mend was
 /// refused, it pauses 1,000 milliseconds before the next line, or until it finds the stop set, and mends them again. A line for
 /// which there was no memory ends the session. Whatever ended it, it notes the end, and sets the stop.
 impl<F: PutFace + MendFace + Drop, I: Source, O: Sink, C: Clock + Drop, B: Interceptor> Work

@@ -19,7 +19,7 @@ use Rattle.load_gen.specs.Runs.{ArePut, AreTaken, EndsTakes, IsPut, IsTaken, goe
 use Rattle.load_gen.specs.declared.refused.LoadRefused.{LoadRefused}
 use Rattle.load_gen.specs.declared.refused.LoadRefused.TheVariants.{Face, NoMemory}
 
--- a front of one part, behind what came before it, is a front of the whole
+-- a front of one part, after what came before it, is a front of the whole
 begins_within : (P R : List Call → Type 0) (a front : List Call) (next : Call) → ((b : List Call) → P b → (rest : List Call) × R (a ++ (b ++ rest))) → Begins P (front ++ next ∷ []) → Begins R ((a ++ front) ++ next ∷ [])
 begins_within P R a front next more goes =
     let b = (front ++ next ∷ []) ++ goes.0 in
@@ -29,7 +29,7 @@ begins_within P R a front next more goes =
     ∙ ap (λ (l : List Call). l ++ (goes.0 ++ m.0)) (sym (append_assoc a front (next ∷ []))) in
     (goes.0 ++ m.0, subst R same m.1)
 
--- A part that was cut off cuts the whole off: each whole part, behind what came before it, can be gone on with to a whole.
+-- A part that was cut off cuts the whole off: each whole part, after what came before it, can be gone on with to a whole.
 pub within : (P R : List Call → Type 0) (seen : ℕ) (s : State) (why : LoadRefused) (a : List Call) → ((b : List Call) → P b → (rest : List Call) × R (a ++ (b ++ rest))) → (b : List Call) → Does P seen s (Err why) b → Does R seen s (Err why) (a ++ b)
 within P R seen s (Face cause) a more b is = record {
   front = a ++ is.front;
@@ -52,7 +52,7 @@ within P R seen s NoMemory a more b is = record {
 
 -- puts
 
--- puts behind others
+-- puts after others
 pub puts_append : (token : Token) (a b : List Content) (x y : List Call) → ArePut token a x → ArePut token b y → ArePut token (a ++ b) (x ++ y)
 puts_append token [] b x y p q = subst (λ (l : List Call). ArePut token b (l ++ y)) (sym p) q
 puts_append token (event ∷ a) b x y p q = (p.0, p.1 ++ y, ap (λ (l : List Call). l ++ y) p.2, puts_append token a b p.1 y p.3 q)
@@ -200,7 +200,7 @@ not_back seen s token made none stale = record {
   whole = none;
 }
 
--- a take behind others
+-- a take after others
 pub given_push : (token : Token) (events : List Content) (takes : List Call) (event : Content) (taken : Taken) → HaveGiven token events takes → taken.event ≡ Some event → HaveGiven token (events ++ event ∷ []) (takes ++ Take token (Ok taken) ∷ [])
 given_push token [] takes event taken have is = (taken, is, [], ap (λ (l : List Call). l ++ Take token (Ok taken) ∷ []) have, refl)
 given_push token (e ∷ events) takes event taken have is = (have.0, have.1, have.2 ++ Take token (Ok taken) ∷ [], ap (λ (l : List Call). l ++ Take token (Ok taken) ∷ []) have.3, given_push token events have.2 event taken have.4 is)
@@ -210,7 +210,7 @@ pub given_all : (token : Token) (events : List Content) (takes : List Call) (mos
 given_all token [] takes most is have = subst (λ (n : ℕ). AreTaken token n [] takes) is have
 given_all token (e ∷ events) takes most is have = subst (λ (n : ℕ). AreTaken token n (e ∷ events) takes) is (have.0, have.1, have.2, have.3, given_all token events have.2 (length events) refl have.4)
 
--- fewer, behind which none was left
+-- fewer, after which none was left
 pub given_none : (token : Token) (events : List Content) (takes : List Call) (last : Taken) (n most : ℕ) → length events + suc n ≡ most → HaveGiven token events takes → last.event ≡ None → AreTaken token most events (takes ++ Take token (Ok last) ∷ [])
 given_none token [] takes last n most is have none =
     let e : suc n ≡ most = omega (arith, is) in
@@ -230,7 +230,7 @@ some_end : (back : Bool) (token : Token) → (made : List Call) × EndsTakes bac
 some_end true token = (RollbackTake token true ∷ [], refl)
 some_end false token = (StageTake token (Ok no_ticket) ∷ Flush (Ok tt) ∷ [], (no_ticket, refl))
 
--- some calls take nothing behind batch k
+-- some calls take nothing after batch k
 pub some_taken : (k : ℕ) → (made : List Call) × IsTaken k [] made
 some_taken k =
     let end = some_end (goes_back (k + 1)) no_token in

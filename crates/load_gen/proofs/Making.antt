@@ -13,8 +13,8 @@ use Rattle.channel_face.specs.declared.replies.FlushRefused.{FlushRefused}
 use Rattle.channel_face.specs.declared.replies.StageCause.{StageCause}
 use Rattle.channel_face.specs.declared.replies.StageCause.TheVariants.{Spent}
 use Rattle.channel_face.specs.declared.replies.Ticket.{Ticket}
-use Rattle.turn_passes.specs.Calls.{calls_by, has, keep}
-use Rattle.turn_passes.specs.Views.{View}
+use Rattle.channel_lock.specs.Calls.{calls_by, has, keep}
+use Rattle.channel_lock.specs.Views.{View}
 use Rattle.shared_channel.specs.Calls.{Answers, Commits, Looks, RolledBack, state_seen, step}
 use Rattle.shared_channel.specs.Ports.{AreUnder, own_calls, own_if}
 use Rattle.shared_channel.proofs.Porting.{begun, goes_as, goes_grows, goes_then, one_call, own_one, puts_none, went_made}
@@ -25,7 +25,7 @@ use Rattle.load_gen.specs.Parts.{IsCommit as IsCommitted}
 pub makes_none : (by : ℕ) (v : View) (P : List Call → Type 0) → P [] → Makes by v v P
 makes_none by v P p = let none = puts_none by v (record { life = 0; number = 0 }) in (none.0, none.1, subst (λ (l : List Own). P (calls_of l)) (sym none.2) p)
 
--- calls behind others
+-- calls after others
 pub makes_then : (by : ℕ) (v w x : View) (P Q R : List Call → Type 0) → Makes by v w P → Makes by w x Q → ((a b : List Call) → P a → Q b → R (a ++ b)) → Makes by v x R
 makes_then by v w x P Q R f g join =
     goes_then by v w x (λ earlier own. P (calls_of own)) (λ earlier own. Q (calls_of own)) (λ earlier own. R (calls_of own)) f g

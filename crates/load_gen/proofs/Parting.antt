@@ -12,7 +12,7 @@ use Rattle.channel_face.specs.declared.replies.BeginRefused.{BeginRefused}
 use Rattle.channel_face.specs.declared.replies.FaceRefused.TheVariants as FaceNo
 use Rattle.channel_face.specs.declared.replies.Put.{Put as PutDone}
 use Rattle.channel_face.specs.declared.replies.PutRefused.{PutRefused}
-use Rattle.turn_passes.specs.Views.{View}
+use Rattle.channel_lock.specs.Views.{View}
 use Rattle.shared_channel.specs.Calls.{Answers, RolledBack, state_seen}
 use Rattle.load_gen.specs.Calls.{IsCalled, Makes}
 use Rattle.load_gen.specs.Events.{event, events_from}

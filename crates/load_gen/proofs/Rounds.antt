@@ -12,7 +12,7 @@ use Rattle.load_gen.specs.declared.refused.LoadRefused.TheVariants.{Face, NoMemo
 use Rattle.load_gen.specs.declared.tally.Tally.{Tally}
 use Rattle.load_gen.proofs.Composing.{some_put, some_taken, within}
 
--- rounds behind others
+-- rounds after others
 rounds_append : (n k : ℕ) (first more : List (List Content)) (a b : List Call) → AreRounds n k first a → AreRounds n (k + length first) more b → AreRounds n k (first ++ more) (a ++ b)
 rounds_append n k [] more a b one two = subst (λ (p : List Call × ℕ). AreRounds n p.1 more (p.0 ++ b)) (λ i. (sym one i, here i)) two
   where
@@ -64,7 +64,7 @@ module _ (n seen : ℕ) (s : State) (why : LoadRefused) (takes : List (List Cont
       let took = some_taken (length takes) in
       within (IsPut (batch n (length takes))) (IsLoad n) seen s why a (λ put is_put. let on = run_on [] put took.0 is_put took.1 in (took.0 ++ on.0, on.1)) b is
 
-  -- it was cut off in the takes behind a batch
+  -- it was cut off in the takes after a batch
   pub cut_in_takes : (put b : List Call) → IsPut (batch n (length takes)) put → Does (IsSomeTaken (length takes)) seen s (Err why) b → Does (IsLoad n) seen s (Err why) ((a ++ put) ++ b)
   cut_in_takes put b is_put is =
       within (IsSomeTaken (length takes)) (IsLoad n) seen s why (a ++ put)
@@ -94,7 +94,7 @@ batch_cut n next seen s why t a b at left so is =
     let few : length so.0 < batches n = let m = (more_batches n t.batches next at left).0 in omega (arith, k, m) in
     cut_in_batch n seen s why so.0 a so.1 few b (subst (λ (l : List Content). Does (IsPut l) seen s (Err why) b) (next_batch n t.batches next at left ∙ ap (batch n) k) is)
 
--- it was cut off in the takes behind a batch
+-- it was cut off in the takes after a batch
 pub takes_cut : (n next seen : ℕ) (s : State) (why : LoadRefused) (t : Tally) (a put b : List Call) → IsAt n t.batches next → next < n → SoFar n t a → IsPut (events_from n next (min 100 (n - next))) put → Does (IsSomeTaken t.batches) seen s (Err why) b
     → Does (IsLoad n) seen s (Err why) ((a ++ put) ++ b)
 takes_cut n next seen s why t a put b at left so is_put is =

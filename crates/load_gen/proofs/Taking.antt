@@ -1,4 +1,4 @@
--- The transaction of takes behind a batch.
+-- The transaction of takes after a batch.
 use Rattle.std.proofs.Common.{◌≡◌, ◌<◌, ◌≤◌, ◌+◌, ◌-◌, ◌++◌, ◌∷◌, [], ℕ, zero, suc, append_assoc, List, length, length-append, Some, None, Result, Ok, Err, Bool, true, false, refl, sym, ◌∙◌, ap, subst, arith}
 use Rattle.std.proofs.lemmas.List.{append-nil}
 use Rattle.std.proofs.lemmas.List.Concat.{flat_map-append}
@@ -12,7 +12,7 @@ use Rattle.channel_face.specs.declared.replies.FaceRefused.TheVariants as FaceNo
 use Rattle.channel_face.specs.declared.replies.TakeRefused.{TakeRefused}
 use Rattle.channel_face.specs.declared.replies.Taken.{Taken}
 use Rattle.md5.specs.Md5.{Holds}
-use Rattle.turn_passes.specs.Views.{View}
+use Rattle.channel_lock.specs.Views.{View}
 use Rattle.shared_channel.specs.Calls.{Answers, RolledBack, state_seen}
 use Rattle.load_gen.specs.Calls.{IsCalled, Makes}
 use Rattle.load_gen.specs.Counted.{AreTakenUpTo, CountsSame, Feeds}

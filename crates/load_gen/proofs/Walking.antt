@@ -49,7 +49,7 @@ abbrev pub Walks : Bool → State → List Call → (State → Type 0) → Type 
 Walks tells s [] P = P s
 Walks tells s (call ∷ calls) P = IsReady s call × (Admits tells s call → Walks tells (after s call) calls P)
 
--- calls behind others
+-- calls after others
 pub walks_append : (tells : Bool) (s : State) (a b : List Call) (P Q : State → Type 0) → Walks tells s a P → ((t : State) → P t → Walks tells t b Q) → Walks tells s (a ++ b) Q
 walks_append tells s [] b P Q walk on = on s walk
 walks_append tells s (call ∷ a) b P Q walk on = (walk.0, λ admits. walks_append tells (after s call) a b P Q (walk.1 admits) on)
@@ -59,7 +59,7 @@ pub walk_end : (tells : Bool) (s : State) (calls : List Call) (P : State → Typ
 walk_end tells s [] P walk admits = walk
 walk_end tells s (call ∷ calls) P walk admits = walk_end tells (after s call) calls P (walk.1 admits.0) admits.1
 
--- behind a front of the calls, the channel is ready for the next one
+-- after a front of the calls, the channel is ready for the next one
 pub walk_to : (tells : Bool) (s : State) (front rest : List Call) (next : Call) (P : State → Type 0) → Walks tells s ((front ++ next ∷ []) ++ rest) P → AdmitsAll tells s front → IsReady (after_all s front) next
 walk_to tells s [] rest next P walk admits = walk.0
 walk_to tells s (call ∷ front) rest next P walk admits = walk_to tells (after s call) front rest next P (walk.1 admits.0) admits.1
@@ -254,7 +254,7 @@ module _ (tells : Bool) (capacity : ℕ) where
   walks_ending true held token numbers s ending has is = subst (λ (l : List Call). Walks tells s l (IsAt capacity held [] [])) (sym is) ((numbers, open_takes capacity held numbers token s has.0 has.1), λ admits. closed capacity held (Takes numbers) token.number s has.0)
   walks_ending false held token numbers s ending has is = subst (λ (l : List Call). Walks tells s l (IsAt capacity held [] [])) (sym is.1) (walks_takes_end held token numbers is.0 s has)
 
-  -- the takes behind a batch
+  -- the takes after a batch
   pub walks_took : (held k : ℕ) (events : List Content) (s : State) (made : List Call) → IsAt capacity held [] [] s → IsTaken k events made → Walks tells s made (IsAt capacity held [] [])
   walks_took held k events s made at is = subst (λ (l : List Call). Walks tells s l (IsAt capacity held [] [])) (sym is.5) ((at.whole, at.opens), on)
     where

@@ -6,7 +6,7 @@ use Rattle.channel_face.specs.declared.replies.FaceRefused.{FaceRefused}
 use Rattle.channel_face.specs.declared.replies.FaceRefused.TheVariants as Face
 use Rattle.channel_face.specs.declared.replies.FlushRefused.{FlushRefused}
 use Rattle.channel_face.specs.declared.replies.TakeRefused.TheVariants as TakeNo
-use Rattle.turn_passes.specs.Views.{View}
+use Rattle.channel_lock.specs.Views.{View}
 use Rattle.shared_channel.specs.Ports.{WentBy}
 
 -- the calls, without the states and the moments
@@ -39,7 +39,7 @@ IsRefused seen s call cause calls = ⊥
 abbrev pub IsBack : Call → Type 0 → List Call → Type 0
 IsBack rollback IsStale calls = (calls ≡ rollback ∷ []) ⊎ ((calls ≡ []) × IsStale)
 
--- Behind this call the transaction that it is of was rolled back, where it leaves one open; the state is the last that was seen.
+-- After this call the transaction that it is of was rolled back, where it leaves one open; the state is the last that was seen.
 abbrev pub RollsBack : Call → State → List Call → Type 0
 RollsBack (Put token event reply) s calls = IsBack (RollbackPut token true) (puts_of s token ≡ None) calls
 RollsBack (StagePut token reply) s calls = IsBack (RollbackPut token true) (puts_of s token ≡ None) calls

@@ -30,21 +30,21 @@ AreTakenUpTo seen token kept old new (Err cause) calls =
     (events : List Content) × (takes last : List Call) × (calls ≡ takes ++ last) × (length events < 50) × HaveGiven token events takes
     × IsCalled seen (is_spent_take (Err cause)) (Take token (Err cause)) last
 
--- a batch was counted, behind which so many events were taken
+-- a batch was counted, after which so many events were taken
 pub record IsCounted (kept : Bool) (count : ℕ) (old new : Tally) : Type 0 where
   pub batches : new.batches ≡ old.batches + 1
   pub committed : new.committed ≡ (if kept then old.committed + 1 else old.committed)
   pub taken : new.taken ≡ (if kept then old.taken + count else old.taken)
   pub digest : new.digest ≡ old.digest
 
--- what is counted of a run that took these events behind its batches so far
+-- what is counted of a run that took these events after its batches so far
 pub record Tells (takes : List (List Content)) (t : Tally) : Type 0 where
   pub batches : t.batches ≡ length takes
   pub committed : t.committed ≡ length (kept_from 0 takes)
   pub taken : t.taken ≡ sum_by length (kept_from 0 takes)
   pub digest : Holds t.digest (flat_map lines (kept_from 0 takes))
 
--- events were taken behind the next batch, and counted; or the transaction was cut off
+-- events were taken after the next batch, and counted; or the transaction was cut off
 abbrev pub TakesSome : ℕ → State → Tally → Tally → Result (Unit {0}) LoadRefused → List Call → Type 0
 TakesSome seen s old new (Ok done) calls =
     (events : List Content) × IsTaken old.batches events calls × ((takes : List (List Content)) → Tells takes old → Tells (takes ++ events ∷ []) new)

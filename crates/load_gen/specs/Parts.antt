@@ -45,6 +45,6 @@ abbrev pub HaveGiven : Token → List Content → List Call → Type 0
 HaveGiven token [] calls = calls ≡ []
 HaveGiven token (event ∷ events) calls = (taken : Taken) × (taken.event ≡ Some event) × (rest : List Call) × (calls ≡ Take token (Ok taken) ∷ rest) × HaveGiven token events rest
 
--- a transaction of takes behind batch k, whatever it takes
+-- a transaction of takes after batch k, whatever it takes
 abbrev pub IsSomeTaken : ℕ → List Call → Type 0
 IsSomeTaken k calls = (events : List Content) × IsTaken k events calls

@@ -34,7 +34,7 @@ AreTaken token (suc most) [] calls = (last : Taken) × (last.event ≡ None) × 
 AreTaken token (suc most) (event ∷ events) calls =
     (taken : Taken) × (taken.event ≡ Some event) × (rest : List Call) × (calls ≡ Take token (Ok taken) ∷ rest) × AreTaken token most events rest
 
--- whether what is taken behind the batch of this number, counted from 1, is rolled back
+-- whether what is taken after the batch of this number, counted from 1, is rolled back
 abbrev pub goes_back : ℕ → Bool
 goes_back number = (number % 7) == 0
 
@@ -43,7 +43,7 @@ abbrev pub EndsTakes : Bool → Token → List Call → Type 0
 EndsTakes true token calls = calls ≡ RollbackTake token true ∷ []
 EndsTakes false token calls = (ticket : Ticket) × (calls ≡ StageTake token (Ok ticket) ∷ Flush (Ok tt) ∷ [])
 
--- the transaction behind batch k that takes these events, up to 50
+-- the transaction after batch k that takes these events, up to 50
 abbrev pub IsTaken : ℕ → List Content → List Call → Type 0
 IsTaken k events calls =
     (token : Token) × (takes ending : List Call) × AreTaken token 50 events takes × EndsTakes (goes_back (k + 1)) token ending
@@ -55,7 +55,7 @@ AreRounds n k [] calls = calls ≡ []
 AreRounds n k (taken ∷ takes) calls =
     (puts took rest : List Call) × (calls ≡ puts ++ (took ++ rest)) × IsPut (batch n k) puts × IsTaken k taken took × AreRounds n (suc k) takes rest
 
--- the run of n events that takes these behind its batches
+-- the run of n events that takes these after its batches
 abbrev pub IsRunOf : ℕ → List (List Content) → List Call → Type 0
 IsRunOf n takes calls = (length takes ≡ batches n) × AreRounds n 0 takes calls
 
@@ -63,7 +63,7 @@ IsRunOf n takes calls = (length takes ≡ batches n) × AreRounds n 0 takes call
 abbrev pub IsLoad : ℕ → List Call → Type 0
 IsLoad n calls = (takes : List (List Content)) × IsRunOf n takes calls
 
--- what is taken behind batch k and those after it, but for what is rolled back
+-- what is taken after batch k and those after it, but for what is rolled back
 abbrev pub kept_from : ℕ → List (List Content) → List (List Content)
 kept_from k [] = []
 kept_from k (taken ∷ takes) = if goes_back (k + 1) then kept_from (suc k) takes else taken ∷ kept_from (suc k) takes

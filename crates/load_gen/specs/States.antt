@@ -6,7 +6,7 @@ use Rattle.channel_face.specs.declared.replies.PutRefused.TheVariants as Put
 use Rattle.channel_face.specs.declared.replies.StageCause.TheVariants as Stage
 use Rattle.channel_face.specs.declared.replies.TakeRefused.TheVariants as Take
 
--- A fault of the disk, a number at its end, a damaged event or want of memory: a channel that has room for all events and that nobody else calls
+-- A fault of the disk, a number at its end, a damaged event or out of memory: a channel that has room for all events and that nobody else calls
 -- refuses the generator for no other cause.
 abbrev pub IsOwnCause : FaceRefused → Type 0
 IsOwnCause (Face.Begin (Begin.Spent counter)) = Unit {0}

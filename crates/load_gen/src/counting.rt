@@ -39,7 +39,7 @@ impl Tally {
         }
     }
 
-    /// Whether what is taken behind the next batch is to be committed: it is rolled back where 7 divides the batch's number.
+    /// Whether what is taken after the next batch is to be committed: it is rolled back where 7 divides the batch's number.
     pub(crate) fn keeps_next(&self) -> bool
         requires { self.now.batches < 2 ^ 32 - 1 }
         ensures { result ≡ not (goes_back (self.now.batches + 1)) }
@@ -56,7 +56,7 @@ impl Tally {
         self.digest.update(b"\n");
     }
 
-    /// Counts a batch, behind which so many events were taken, which are in the digest where they were committed.
+    /// Counts a batch, after which so many events were taken, which are in the digest where they were committed.
     pub(crate) fn add_batch(&mut self, kept: bool, count: u32)
         requires few { self.old.batches < 2 ^ 32 - 1 }
         requires most { count ≤ 50 }

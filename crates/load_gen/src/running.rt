@@ -14,7 +14,7 @@ use shared_channel::{Pass, Shared};
 use std::alloc::Global;
 use std::sync::Wait;
 
-/// Puts `n` events that it makes, in batches of 100, and takes some out again behind each batch: up to 50, in a transaction that is
+/// Puts `n` events that it makes, in batches of 100, and takes some out again after each batch: up to 50, in a transaction that is
 /// rolled back where 7 divides the batch's number, counted from 1, and committed otherwise. It answers what it did, as lines of a
 /// name and a number: events, batches, committed takes, the events that these took, the events left in the channel, and the MD5
 /// (RFC 1321) of the taken ones' bodies, in order, each followed by a newline.

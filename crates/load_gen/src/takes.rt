@@ -1,4 +1,4 @@
-// Behind each batch a transaction takes some events.
+// After each batch a transaction takes some events.
 ghost use Rattle.std.specs.Prelude.{◌≡◌, ◌+◌, ◌<◌, ◌≤◌, ◌-◌, ◌^◌, length, OnOk, not, true};
 ghost use Rattle.channel_face.specs.Machine.{StageTake};
 ghost use Rattle.shared_channel.specs.Calls.{state_seen};
@@ -112,7 +112,7 @@ fn end_takes<R: Wait, C: Channel>(
     }
 }
 
-/// Takes up to 50 events behind a batch, and commits them or rolls them back.
+/// Takes up to 50 events after a batch, and commits them or rolls them back.
 pub(crate) fn take_some<R: Wait, C: Channel>(
     rt: &R,
     shared: &Shared<C>,

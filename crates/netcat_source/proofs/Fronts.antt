@@ -28,7 +28,7 @@ module _ (max : ℕ) (ack : Bool) {S : Type 0} (Takes : S → List ℕ → Verdi
   pub read_goes : (into : S) (x y : Option LinkTold) (held given : List ℕ) (n : ℕ) → Tells x y (Talks given [] n) → Goes max ack Takes (record { into = into; told = x }) (record { into = into; told = y }) held [] held given n
   read_goes into x y held given n talk = record { done = []; takes = refl; each = All-nil (IsLine max); going = All-nil GoesOn; cut = append-nil held; talk = talk }
 
-  -- a read found the end of the link, behind a part of a line
+  -- a read found the end of the link, after a part of a line
   pub found_breaks : (into : S) (x y : Option LinkTold) (held : List ℕ) → IsLine max held → Tells x y (TalksTo 1 [] [] 0) → Breaks max ack Takes (record { into = into; told = x }) (record { into = into; told = y }) held [] [] 0 End
   found_breaks into x y held is talk = record {
     done = [];
@@ -92,7 +92,7 @@ module _ (max : ℕ) (ack : Bool) {S : Type 0} (Takes : S → List ℕ → Verdi
       leaves = tt;
     }
 
-    -- the same, whatever stands behind the line
+    -- the same, whatever stands after the line
     pub line_breaks : (rest all : List ℕ) → bytes ++ rest ≡ all → (end : SessionEnd) → TakesOne Takes a.into line b.into (λ said. AnswerEnds ack said a.told b.told end) → Breaks max ack Takes a b held all [] 0 end
     line_breaks rest all whole end (verdict, step, ends) = let P : List ℕ → Type 0 = λ l. Breaks max ack Takes a b held l [] 0 end in subst P whole (line_breaks_at rest verdict end step ends)
 

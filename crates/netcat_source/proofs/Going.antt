@@ -203,11 +203,11 @@ module _ (max : ℕ) (ack : Bool) {S : Type 0} (Takes : S → List ℕ → Verdi
     leaves = tt;
   }
 
-  -- the front of a piece went well, and what is behind it ended the session
+  -- the front of a piece went well, and what is after it ended the session
   pub breaks_behind : {a b c : Sides S} {held bytes mid bytes' : List ℕ} {end : SessionEnd} → (all : List ℕ) → bytes ++ bytes' ≡ all → Goes max ack Takes a b held bytes mid [] 0 → Breaks max ack Takes b c mid bytes' [] 0 end → Breaks max ack Takes a c held all [] 0 end
   breaks_behind {a} {c = c} {held = held} {end = end} all whole p q = let P : List ℕ → Type 0 = λ l. Breaks max ack Takes a c held l [] 0 end in subst P whole (breaks_then p q)
 
-  -- the front of a piece went well, and so did what is behind it
+  -- the front of a piece went well, and so did what is after it
   pub goes_behind : {a b c : Sides S} {held bytes mid bytes' left : List ℕ} → (all : List ℕ) → bytes ++ bytes' ≡ all → Goes max ack Takes a b held bytes mid [] 0 → Goes max ack Takes b c mid bytes' left [] 0 → Goes max ack Takes a c held all left [] 0
   goes_behind {a} {c = c} {held = held} {left = left} all whole p q = let P : List ℕ → Type 0 = λ l. Goes max ack Takes a c held l left [] 0 in subst P whole (goes_then p q)
 
@@ -228,7 +228,7 @@ one_turn LinkFault of other = omega arith
 one_turn Turns of other = absurd (of refl)
 one_turn NoMemory of other = omega arith
 
--- behind some turns one more ended the session
+-- after some turns one more ended the session
 pub after_turn : (end : SessionEnd) (n m : ℕ) → (end ≡ Turns → ⊥) → IsTurnsOf end m → n < most_turns → EndsAfter end (n + m)
 after_turn End n m of one few = omega (arith, one, few)
 after_turn Stopped n m of one few = omega (arith, one, few)

@@ -4,7 +4,7 @@ use Rattle.std.proofs.lemmas.List.{get_or_at, get_or-take, length-take-le}
 use Rattle.std.proofs.lemmas.List.Elements.{All-head, All-tail, All-get_or}
 use Rattle.netcat_source.specs.Lines.{IsLine, IsUnbroken, IsEnd, IsCut, LinesEnd, Rest, TooLong, joined, ended}
 
--- a newline stands behind an unbroken front in one place
+-- a newline stands after an unbroken front in one place
 same_front : (l m x y : List ℕ) → IsUnbroken l → IsUnbroken m → l ++ 10 ∷ x ≡ m ++ 10 ∷ y → (l ≡ m) × (x ≡ y)
 same_front [] [] x y p q e = (refl, cc)
 same_front [] (b ∷ m) x y p q e = let h : b ≡ 10 = cc in absurd (All-head (λ b. b ≡ 10 → ⊥) b m q h)
@@ -49,6 +49,6 @@ same_cut max (l ∷ ls) (m ∷ ms) d e r s h p q u v =
     let b = c.0 in
     (cc, c.1)
 
--- as what stands behind the lines is no line
+-- as what stands after the lines is no line
 pub one_cut : (max : ℕ) (bytes : List ℕ) (ls ms : List (List ℕ)) (d e : LinesEnd) → IsCut max bytes ls d → IsCut max bytes ms e → (ls ≡ ms) × (d ≡ e)
 one_cut max bytes ls ms d e p q = same_cut max ls ms d e p.rest q.rest (sym p.whole ∙ q.whole) p.each q.each p.ends q.ends

@@ -16,13 +16,13 @@ HoldsLine max line More = IsLine max line
 HoldsLine max line Line = IsLine max line
 HoldsLine max line TooLong = (length line ≡ max) × IsUnbroken line
 
--- the bytes since the last newline: behind a whole line a new one begins
+-- the bytes since the last newline: after a whole line a new one begins
 abbrev pub begun : Cut → List ℕ → List ℕ
 begun More line = line
 begun Line line = []
 begun TooLong line = line
 
--- the first n bytes of a piece go behind the line so far
+-- the first n bytes of a piece go after the line so far
 abbrev pub Takes : ℕ → List ℕ → List ℕ → ℕ → Cut → List ℕ → Type 0
 Takes max old piece n More new = (n ≡ length piece) × (old ++ piece ≡ new)
 Takes max old piece n Line new = (1 ≤ n) × (n ≤ length piece) × (old ++ take n piece ≡ new ++ 10 ∷ [])

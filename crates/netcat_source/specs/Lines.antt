@@ -30,7 +30,7 @@ pub data LinesEnd : Type 0 where
   Rest : LinesEnd
   TooLong : LinesEnd
 
--- what stands behind the last line
+-- what stands after the last line
 abbrev pub IsEnd : ℕ → LinesEnd → List ℕ → Type 0
 IsEnd max Rest rest = IsLine max rest
 IsEnd max TooLong rest = IsTooLong max rest

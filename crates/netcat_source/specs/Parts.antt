@@ -58,7 +58,7 @@ abbrev pub TakesOne : {S : Type 0} → (S → List ℕ → Verdict → S → Typ
 TakesOne Takes old line new P = (verdict : Verdict) × Takes old line verdict new × P (said_of verdict)
 
 module _ (max : ℕ) (ack : Bool) {S : Type 0} (Takes : S → List ℕ → Verdict → S → Type 0) where
-  -- Some lines were taken and answered. Before them `held` and these bytes were there to be cut, and behind
+  -- Some lines were taken and answered. Before them `held` and these bytes were there to be cut, and after
   -- them `left` is; the link gave `given` in so many turns.
   pub record Goes (old new : Sides S) (held bytes left given : List ℕ) (turns : ℕ) : Type 0 where
     pub done : List Judged

@@ -6,7 +6,7 @@ use Rattle.netcat_source.specs.Feed.{LineState, begun, Feeds, StandsWhole}
 
 -- A text that is fed to a cutter: each call gets some front of what is left of the text, and what it took is
 -- gone; a line that stands whole in such a front may be passed over with its newline instead. The lines that were
--- brought, and what is behind them. Nothing is fed behind a line that is too long.
+-- brought, and what is after them. Nothing is fed after a line that is too long.
 pub data IsFed : LineState → List ℕ → List (List ℕ) → LinesEnd → Type 0 where
   Done : (now : LineState) → IsFed now [] [] Rest
   GoesOn : (before after : LineState) (piece rest : List ℕ) (n : ℕ) (lines : List (List ℕ)) (end : LinesEnd)

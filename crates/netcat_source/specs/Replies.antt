@@ -11,7 +11,7 @@ reply ack Refused = codes "FAILED: channel refused" ++ 10 ∷ []
 reply ack InDoubt = codes "FAILED: channel in doubt" ++ 10 ∷ []
 reply ack NoMemory = codes "FAILED: no memory" ++ 10 ∷ []
 
--- the reply to what stands behind the last line
+-- the reply to what stands after the last line
 abbrev pub end_reply : LinesEnd → List ℕ
 end_reply Rest = []
 end_reply TooLong = codes "FAILED: line too long" ++ 10 ∷ []

@@ -26,7 +26,7 @@ pub record LacksMemory (verdicts : List LineVerdict) : Type 0 where
   pub split : verdicts ≡ first ++ says.NoMemory ∷ []
   pub going : All GoesOn first
 
--- behind these bytes a part of a reply was sent
+-- after these bytes a part of a reply was sent
 pub record SentPart (before reply sent : List ℕ) : Type 0 where
   pub count : ℕ
   pub short : count < length reply
@@ -47,7 +47,7 @@ pub record FailsAtLong (max : ℕ) (ack : Bool) (verdicts : List LineVerdict) (r
   pub long : IsTooLong max rest
   pub part : SentPart (flat_map (reply ack) verdicts) (end_reply TooLong) sent
 
--- How a session ends, by the verdicts on its lines, what the link gave behind these lines, and what was sent.
+-- How a session ends, by the verdicts on its lines, what the link gave after these lines, and what was sent.
 -- The link may fail at a read, or in a reply.
 abbrev pub EndsBy : ℕ → Bool → SessionEnd → List LineVerdict → List ℕ → List ℕ → Type 0
 EndsBy max ack End verdicts rest sent = AllAnswered ack verdicts Rest sent × IsLine max rest
@@ -80,7 +80,7 @@ LeavesLink other old new = Unit {0}
 
 module _ (max : ℕ) (ack : Bool) {S : Type 0} (Takes : S → List ℕ → Verdict → S → Type 0) where
   -- A whole session: what the link gave is the lines that were taken, one accept each and in order, and the
-  -- rest behind them; and each was answered as the end says.
+  -- rest after them; and each was answered as the end says.
   pub record Served (old new : Sides S) (end : SessionEnd) : Type 0 where
     pub done : List Judged
     pub takes : TakesAll Takes old.into done new.into

@@ -102,7 +102,7 @@ impl Lines {
         })
     }
 
-    /// Takes that many bytes of the piece's front, and says what they brought. Behind a whole line the next one begins.
+    /// Takes that many bytes of the piece's front, and says what they brought. After a whole line the next one begins.
     pub fn feed(&mut self, piece: &[u8]) -> (usize, Cut)
         ensures { Feeds self.old piece.now result.0 result.1 self.new }
     {

@@ -42,7 +42,7 @@ fn batch_of(alloc: Global, line: &[u8]) -> Result<Batch, NoMemory>
 }
 
 /// Puts a line into the channels as one event without headers, whose body is the line, at the next moment of the clock. It answers
-/// the verdict of the accepted batch, or want of memory.
+/// the verdict of the accepted batch, or out of memory.
 pub fn take_line<F: PutFace + Drop, B: Interceptor, C: Clock>(
     alloc: Global,
     intake: &mut Intake<F, B>,

@@ -56,14 +56,14 @@ with_item (Put pointer) (Puts pointers) = Puts (pointers ++ pointer ∷ [])
 with_item (Take number) (Takes numbers) = Takes (numbers ++ number ∷ [])
 with_item item listed = listed
 
--- whether the pointer is into this file, at this offset or behind it
+-- whether the pointer is into this file, at this offset or after it
 abbrev pub is_behind : ℕ → ℕ → Pointer → Bool
 is_behind file at p = if p.file == file then nat_le at p.at else false
 
 abbrev pub moved_pointer : ℕ → ℕ → ℕ → ℕ → Pointer → Pointer
 moved_pointer file at to_file to_at p = if is_behind file at p then record p { file = to_file; at = to_at + (p.at - at) } else p
 
--- each pointer into this file, at this offset or behind it, is as far behind an offset of another file
+-- each pointer into this file, at this offset or after it, is as far after an offset of another file
 abbrev pub moved : ℕ → ℕ → ℕ → ℕ → Listed → Listed
 moved file at to_file to_at (Puts pointers) = Puts (map (moved_pointer file at to_file to_at) pointers)
 moved file at to_file to_at (Takes numbers) = Takes numbers

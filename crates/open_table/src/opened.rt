@@ -62,7 +62,7 @@ fn move_pointers(pointers: &mut [Pointer], file: u32, at: u64, to_file: u32, to_
 }
 
 impl Ended {
-    /// Moves its pointers into a file at this offset or behind it to another file. It takes no memory.
+    /// Moves its pointers into a file at this offset or after it to another file. It takes no memory.
     pub fn move_puts(&mut self, file: u32, at: u64, to_file: u32, to_at: u64)
         requires { MayMove file at to_at (listed_of self.old) }
         ensures moved { listed_of self.new ≡ moved file at to_file to_at (listed_of self.old) }
@@ -151,7 +151,7 @@ impl Opened {
         Ok(())
     }
 
-    /// Moves its pointers into a file at this offset or behind it to another file.
+    /// Moves its pointers into a file at this offset or after it to another file.
     pub fn move_puts(&mut self, file: u32, at: u64, to_file: u32, to_at: u64)
         requires { MayMove file at to_at self.old.listed }
         ensures { self.new ≡ record self.old { listed = moved file at to_file to_at self.old.listed } }

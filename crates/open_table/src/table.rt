@@ -20,7 +20,7 @@ const MOST_OPEN: usize = 1024;
 pub enum TableRefused {
     /// 1,024 are open.
     TooManyOpen,
-    /// Want of memory.
+    /// Out of memory.
     NoMemory,
 }
 
@@ -167,7 +167,7 @@ impl OpenTable {
         }
     }
 
-    /// Moves each put that stands in `file` at the offset `at` or behind it to `to_file`, where it stands as far behind
+    /// Moves each put that stands in `file` at the offset `at` or after it to `to_file`, where it stands as far after
     /// `to_at`. It takes no memory.
     pub fn moved(&mut self, file: u32, at: u64, to_file: u32, to_at: u64)
         requires { (txn : ℕ) → MatchOption (open_at self.old txn) (Unit {0}) (λ o. MayMove file at to_at o.listed) }

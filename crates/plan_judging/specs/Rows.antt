@@ -17,7 +17,7 @@ use Rattle.plan_judging.specs.Words.{words, all_among, has_twice, number_in, tru
 abbrev pub is_type : List ℕ → List ℕ → Bool
 is_type name value = str_eq_ignore_ascii_case value name
 
--- the type of an object that is handed in, whose name stands behind the dot
+-- the type of an object that is handed in, whose name stands after the dot
 abbrev pub is_plugin : List ℕ → Bool
 is_plugin value = starts_with nat_eq value (codes "plugin.")
 

@@ -31,7 +31,7 @@ abbrev pub has_twice : List (List ℕ) → Bool
 has_twice [] = false
 has_twice (name ∷ names) = is_among name names || has_twice names
 
--- the number that the digits are, behind those that make the number so far
+-- the number that the digits are, after those that make the number so far
 abbrev pub decimal_behind : ℕ → List ℕ → Option ℕ
 decimal_behind number [] = Some number
 decimal_behind number (b ∷ bs) = if is_ascii_digit b then decimal_behind (number * 10 + (b - 48)) bs else None

@@ -197,7 +197,7 @@ impl Rule {
     }
 }
 
-/// A text and another behind it.
+/// A text and another after it.
 pub fn joined(alloc: Global, front: &str, back: &str) -> Result<String, AllocError>
     ensures { IfOk result (λ text. string_bytes text ≡ front.now ++ back.now) }
 {

@@ -64,7 +64,7 @@ missed None line old new object is = refl
 missed (Some name) line old new None is = ap (λ (b : Bool). cond b [] (line ∷ [])) (claim_finds name old new None is)
 missed (Some name) line old new (Some object) is = ap (λ (b : Bool). cond b [] (line ∷ [])) (claim_finds name old new (Some object) is)
 
--- the nearest line, where one sink is behind it
+-- the nearest line, where one sink is after it
 pub nearest : (first : Option ℕ) (line : ℕ) (others : List ℕ) (b : Bool)
     → fold nearer first (cond b (line ∷ []) [] ++ others) ≡ fold nearer (cond b (nearer first line) first) others
 nearest first line others true = refl
@@ -94,7 +94,7 @@ have_objects (s ∷ plans) old (object ∷ objects) new (between, is, are) none 
       have_objects plans between objects new are (ap (λ (l : List (List ℕ)). unmet l plans) (taken_leaves (asked s.kind) old between object is) ∙ both.1),
     )
 
--- the nearest line over one sink and those behind it
+-- the nearest line over one sink and those after it
 pub first_over : {T : Type 0} (first : Option ℕ) (s : SinkPlan) (plans : List SinkPlan) (old between : List (Named T)) (object : Option T) → IsTaken (asked s.kind) old object between
     → fold nearer (cond (misses (asked s.kind) (found object)) (nearer first s.line) first) (unmet (names_of between) plans) ≡ fold nearer first (unmet (names_of old) (s ∷ plans))
 first_over first s plans old between object is =

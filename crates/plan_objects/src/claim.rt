@@ -24,7 +24,7 @@ pub enum ClaimRefused {
         /// The line, from 1.
         line: u32,
     },
-    /// Want of memory.
+    /// Out of memory.
     NoMemory,
 }
 

@@ -11,7 +11,7 @@ pub struct Named<T: Drop> {
     pub object: T,
 }
 
-/// Adds an object behind the others.
+/// Adds an object after the others.
 pub fn join<T: Drop>(held: &mut Vec<Named<T>>, name: String, object: T) -> Result<(), AllocError>
     ensures { Joins (record { name = name; object = object }) result held.old.items held.new.items }
 {

@@ -1,4 +1,4 @@
--- The object behind a box.
+-- The object after a box.
 use Rattle.std.proofs.Common.{◌≡◌, subst}
 
 -- what is true of an object is true of the same object

@@ -13,7 +13,7 @@ Claims name old None new = HasNone name old × (new ≡ old)
 Claims {T} name old (Some object) new =
     (front back : List (Named T)) × (given : Named T) × (old ≡ front ++ given ∷ back) × HasNone name front × (string_bytes given.name ≡ name) × (object ≡ given.object) × (new ≡ front ++ back)
 
--- the object stands behind the others, unless there was no memory
+-- the object stands after the others, unless there was no memory
 abbrev pub Joins : {T E : Type 0} → Named T → Result (Unit {0}) E → List (Named T) → List (Named T) → Type 0
 Joins given (Ok done) old new = new ≡ old ++ given ∷ []
 Joins given (Err refused) old new = new ≡ old

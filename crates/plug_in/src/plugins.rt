@@ -13,7 +13,7 @@ use std::alloc::Global;
 pub enum PluginsRefused {
     /// As many are held as may be.
     TooMany,
-    /// Want of memory.
+    /// Out of memory.
     NoMemory,
 }
 

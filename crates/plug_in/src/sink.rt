@@ -12,7 +12,7 @@ use event_core::Batch;
 pub enum SinkRefused {
     /// The sink refused it, and has counted that.
     Refused,
-    /// Want of memory.
+    /// Out of memory.
     NoMemory,
 }
 

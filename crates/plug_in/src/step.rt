@@ -12,7 +12,7 @@ pub enum Intercepted {
     Keep(Event),
     /// No event goes on.
     Dropped,
-    /// Want of memory.
+    /// Out of memory.
     NoMemory,
 }
 

@@ -145,7 +145,7 @@ module _ (d : List ℕ) (some : 0 < length d) (none : (m : ℕ) → 0 < m → Is
   not_three : 3 ≤ length d → 224 ≤ byte 0 → IsSecond (byte 0) (byte 1) → Follows (byte 2) → 240 ≤ byte 0
   not_three long low s f = ⊎_elim (λ h. absurd (none 3 (omega arith) (subst IsUtf8 (sym (front_three d long)) (utf8_three (byte 0) (byte 1) (byte 2) low h s.follows f s.above s.below)))) (λ h. h) (cases_lt (byte 0) 240)
 
-  -- what keeps the byte behind the first q from going on with them
+  -- what keeps the byte after the first q from going on with them
   record IsBad (q : ℕ) : Type 0 where
     few : q ≤ 3
     more : q < length d
@@ -280,7 +280,7 @@ module _ (d : List ℕ) (some : 0 < length d) (none : (m : ℕ) → 0 < m → Is
 take_add : (v p : ℕ) (bs : List ℕ) → take (v + p) bs ≡ take v bs ++ take p (drop v bs)
 take_add v p bs = sym (take-append-drop v (take (v + p) bs)) ∙ ap (λ (l : List ℕ). l ++ drop v (take (v + p) bs)) (take-take v (v + p) bs (omega arith)) ∙ ap (λ (l : List ℕ). take v bs ++ l) (drop-take v p bs)
 
--- the first fault, behind the longest front that is a text
+-- the first fault, after the longest front that is a text
 module _ (bytes : List ℕ) (v : ℕ) (valid : IsValidUpTo bytes v) where
   abbrev pub rest : List ℕ
   rest = drop v bytes

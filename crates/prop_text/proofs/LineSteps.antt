@@ -101,14 +101,14 @@ white_space_is_ascii b h = ⊎_elim
     (λ x. ⊎_elim (λ y. omega (arith, eqb-true b 32 y)) (λ y. omega (arith, eqb-true b 9 y)) (or_cases (b == 32) (b == 9) x))
     (λ x. omega (arith, eqb-true b 12 x)) (or_cases (b == 32 || b == 9) (b == 12) h)
 
--- a text may be cut behind its white space
+-- a text may be cut after its white space
 pub after_white_space : (text : List ℕ) (n : ℕ) → IsUtf8 text → n ≡ prefix_len is_white_space text → n ≤ length text → 0 < n → IsCharBoundary text n
 after_white_space text n utf8 is within some =
     let low : get_or text (n - 1) 0 < 128 = white_space_is_ascii _ (prefix_len_passes is_white_space text (n - 1) 0 (omega arith)) in
     let place : n - 1 + 1 ≡ n = omega arith in
     subst (IsCharBoundary text) place (IsCharBoundary-after_ascii text (n - 1) utf8 (omega arith) low)
 
--- and behind a line end
+-- and after a line end
 pub after_end : (text : List ℕ) (at : ℕ) → IsUtf8 text → at < length text → 0 < end_len (drop at text) → at + end_len (drop at text) ≤ length text → IsCharBoundary text (at + end_len (drop at text))
 after_end text at utf8 lt some within =
     let n = end_len (drop at text) in

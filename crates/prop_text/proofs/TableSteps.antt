@@ -138,7 +138,7 @@ winners_push (p ∷ ps) r =
     ∙ sym (put-further r last rest (swapped r.key last.key false (last_same p r ps ∙ f))))
     (cases_Bool (same_key r p))
 
--- pairs that were read, in front of those of the lines behind them
+-- pairs that were read, in front of those of the lines after them
 abbrev pub onto : List Pair → Result (List Pair) ℕ → Result (List Pair) ℕ
 onto done (Ok ps) = Ok (done ++ ps)
 onto done (Err line) = Err line

@@ -109,7 +109,7 @@ four bs unit h =
     none_some : {n : ℕ} → None ≡ Some n → ⊥
     none_some e = cc
 
--- what an escape spells and takes: a text, whose end is behind an ASCII byte
+-- what an escape spells and takes: a text, whose end is after an ASCII byte
 record IsWhole (rest spelled : List ℕ) (taken : ℕ) : Type 0 where
   utf8 : IsUtf8 spelled
   some : 0 < taken

@@ -15,7 +15,7 @@ abbrev pub with_front : List ℕ → List (List ℕ) → List (List ℕ)
 with_front front [] = front ∷ []
 with_front front (line ∷ lines) = (front ++ line) ∷ lines
 
--- Natural lines. One ends at a newline, at a carriage return, or at a carriage return and the newline behind it.
+-- Natural lines. One ends at a newline, at a carriage return, or at a carriage return and the newline after it.
 abbrev pub natural_lines : List ℕ → List (List ℕ)
 natural_lines [] = [] ∷ []
 natural_lines (b ∷ bs) =
@@ -44,7 +44,7 @@ pub record Line : Type 0 where
 pub record Reading : Type 0 where
   -- the logical lines, where the first natural line begins one
   pub begun : List Line
-  -- where it continues a logical line: what it and those behind it add to that one, and the logical lines behind that
+  -- where it continues a logical line: what it and those after it add to that one, and the logical lines after that
   pub added : List ℕ
   pub behind : List Line
 

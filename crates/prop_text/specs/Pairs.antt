@@ -14,13 +14,13 @@ pub record Pair : Type 0 where
 abbrev pub ends_key : ℕ → Bool
 ends_key b = b == 61 || b == 58 || is_white_space b
 
--- the length of a line's key as it is spelled: a backslash keeps the byte behind it in the key
+-- the length of a line's key as it is spelled: a backslash keeps the byte after it in the key
 abbrev pub key_len : List ℕ → ℕ
 key_len [] = 0
 key_len (b ∷ []) = if ends_key b then 0 else 1
 key_len (b ∷ c ∷ bs) = if ends_key b then 0 else (if b == 92 then 2 + key_len bs else 1 + key_len (c ∷ bs))
 
--- how many bytes of a key go together: a backslash and the byte behind it, or one
+-- how many bytes of a key go together: a backslash and the byte after it, or one
 abbrev pub key_step : List ℕ → ℕ
 key_step [] = 0
 key_step (b ∷ []) = 1
@@ -53,24 +53,24 @@ is_low unit = nat_le 0xDC00 unit && nat_lt unit 0xE000
 abbrev pub pair_char : ℕ → ℕ → ℕ
 pair_char high low = 0x1_0000 + (high - 0xD800) * 1024 + (low - 0xDC00)
 
--- behind a high half: `\u` and a low one, which spell a character with it
+-- after a high half: `\u` and a low one, which spell a character with it
 abbrev pub low_half : ℕ → List ℕ → Option (List ℕ × ℕ)
 low_half high bs =
     if slice_index bs 0 == 92 && slice_index bs 1 == 117
     then option_and_then (λ low. if is_low low then Some (encode_utf8 (pair_char high low), 11) else None) (hex_number (drop 2 bs))
     else None
 
--- behind `\u`: four digits, which spell a character unless they are half a pair
+-- after `\u`: four digits, which spell a character unless they are half a pair
 abbrev pub unicode_escape : List ℕ → Option (List ℕ × ℕ)
 unicode_escape bs = option_and_then (λ unit.
     if is_high unit then low_half unit (drop 4 bs)
     else (if is_low unit then None else Some (encode_utf8 unit, 5))) (hex_number bs)
 
--- what a letter behind a backslash stands for
+-- what a letter after a backslash stands for
 abbrev pub letter : ℕ → ℕ
 letter c = if c == 116 then 9 else (if c == 110 then 10 else (if c == 114 then 13 else (if c == 102 then 12 else c)))
 
--- Behind a backslash: what the escape spells, and how many bytes it takes. A logical line ends in no single backslash.
+-- After a backslash: what the escape spells, and how many bytes it takes. A logical line ends in no single backslash.
 abbrev pub escape : List ℕ → Option (List ℕ × ℕ)
 escape [] = Some ([], 0)
 escape (c ∷ bs) = if c == 117 then unicode_escape bs else Some (letter c ∷ [], 1)

@@ -8,7 +8,7 @@ use Rattle.prop_text.specs.Lines.{Line}
 use Rattle.prop_text.specs.Pairs.{Pair, pairs}
 use Rattle.prop_text.specs.Winners.{winners, HasProperties, HasBadEscape, IsFirstFault}
 
--- the properties of the text, or its first fault; want of memory may come at any time
+-- the properties of the text, or its first fault; out of memory may come at any time
 abbrev pub Reads : List ℕ → Result (List Pair) PropRefused → Type 0
 Reads bytes (Ok found) = HasProperties bytes found
 Reads bytes (Err (NotUtf8 at)) = IsFirstFault bytes at

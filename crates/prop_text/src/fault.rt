@@ -6,7 +6,7 @@ ghost use Rattle.prop_text.specs.declared.fault.PropRefused.TheVariants.{NoMemor
 use std::alloc::{AllocError, AllocFailed};
 use thiserror::Error;
 
-/// The first fault of a properties text, or want of memory. Its text is the line that a user reads.
+/// The first fault of a properties text, or out of memory. Its text is the line that a user reads.
 #[derive(Clone, Copy, PartialEq, Eq, Debug, Error)]
 pub enum PropRefused {
     /// No text goes on with the byte at this offset, or the bytes end within a character and this is their length.

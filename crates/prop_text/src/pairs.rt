@@ -109,7 +109,7 @@ fn is_low(unit: u32) -> bool
     0xDC00 <= unit && unit < 0xE000
 }
 
-/// The character that a high half and the low one behind it spell, and how many bytes its escape takes.
+/// The character that a high half and the low one after it spell, and how many bytes its escape takes.
 fn low_half(high: u32, bytes: &[u8]) -> Option<(char, usize)>
     requires { IsTrue (is_high high) }
     ensures value { option_map (λ found. (encode_utf8 found.0, found.1)) result ≡ low_half high bytes.now }
@@ -129,7 +129,7 @@ fn low_half(high: u32, bytes: &[u8]) -> Option<(char, usize)>
     Some((found, 11))
 }
 
-/// The character that the digits behind `\u` spell, and how many bytes its escape takes.
+/// The character that the digits after `\u` spell, and how many bytes its escape takes.
 fn unicode_escape(bytes: &[u8]) -> Option<(char, usize)>
     ensures value { option_map (λ found. (encode_utf8 found.0, found.1)) result ≡ unicode_escape bytes.now }
     ensures within { IfSome result (λ found. found.1 ≤ length bytes.now + 1) }
@@ -147,7 +147,7 @@ fn unicode_escape(bytes: &[u8]) -> Option<(char, usize)>
     Some((found, 5))
 }
 
-/// What a letter behind a backslash stands for.
+/// What a letter after a backslash stands for.
 fn letter(byte: u8) -> u8
     ensures { result ≡ letter byte }
 {
@@ -160,7 +160,7 @@ fn letter(byte: u8) -> u8
     }
 }
 
-/// Adds what the escape behind a backslash spells, and answers how many bytes it takes, or `None` where it is bad.
+/// Adds what the escape after a backslash spells, and answers how many bytes it takes, or `None` where it is bad.
 fn push_escape(out: &mut Vec<u8>, rest: &[u8]) -> Result<Option<usize>, AllocError>
     ensures { IfOk result (λ taken. AddsEscape out.old.items out.new.items rest.now taken) }
 {

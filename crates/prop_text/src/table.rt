@@ -116,7 +116,7 @@ fn keep_values(table: &mut IndexMap<String, Entry>)
 
 /// The properties of a text, or its first fault: where it is no UTF-8, and otherwise the first bad escape by line.
 /// The syntax is that of `java.util.Properties`, in which the Flume User Guide has configuration files written, and values are
-/// trimmed. Want of memory is the answer too where the text is longer than 4,294,967,294 bytes, so that a line has a number.
+/// trimmed. Out of memory is the answer too where the text is longer than 4,294,967,294 bytes, so that a line has a number.
 pub fn read_properties(alloc: Global, bytes: &[u8]) -> Result<Properties, PropRefused>
     ensures { Reads bytes.now result }
 {

@@ -23,7 +23,7 @@ pub fn text_of(bytes: &[u8]) -> Result<&str, PropRefused>
             let valid = error.valid_up_to();
             let at = match error.error_len() {
                 None => bytes.len(),
-                // These bytes begin a character, and the one behind them does not go on with it.
+                // These bytes begin a character, and the one after them does not go on with it.
                 Some(begun) if is_lead(bytes[valid]) => valid + begun,
                 Some(_) => valid,
             };

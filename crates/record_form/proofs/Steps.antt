@@ -145,7 +145,7 @@ body-answers txn end at headers bytes n (Ok stop) within is ends takes =
 body-answers txn end at headers bytes n (Err stop) within is ends takes =
     body-rest txn end at headers bytes n within is ends takes.0 ∙ ap stopped (sym takes.1)
 
--- the fields behind each kind
+-- the fields after each kind
 
 put_fields : List ℕ → Grammar
 put_fields txn = Field 4 (λ size. nat_lt 1_048_576 (u32_of size)) (λ size. event_grammar (u64_of txn) (13 + u32_of size) 13)
@@ -234,7 +234,7 @@ pub first_some : (bytes : List ℕ) (k : ℕ) → Some k ≡ slice_get bytes 0 �
 first_some [] k h = cc
 first_some (b ∷ bytes) k h = (omega arith, cc)
 
--- a record of a known kind is read behind its kind
+-- a record of a known kind is read after its kind
 pub read-kind : (bytes : List ℕ) (kind : ℕ) → Some kind ≡ slice_get bytes 0 → 1 ≤ kind → kind ≤ 6 → outcome_of bytes ≡ reads (kind_grammar kind) (drop 1 bytes) 1
 read-kind bytes kind first low high =
     let here = first_some bytes kind first in

@@ -71,7 +71,7 @@ headers_grammar (suc n) txn end at last headers =
 unfoldable pub event_grammar : ℕ → ℕ → ℕ → Grammar
 event_grammar txn end at = plain 4 (λ number. headers_grammar (u32_of number) txn end (at + 4) None [])
 
--- the fields behind a kind
+-- the fields after a kind
 unfoldable pub kind_grammar : ℕ → Grammar
 kind_grammar kind =
     if kind == 1 then plain 8 (λ txn. Field 4 (λ length. nat_lt 1_048_576 (u32_of length)) (λ length. event_grammar (u64_of txn) (13 + u32_of length) 13))

@@ -16,7 +16,7 @@ pub(crate) enum Stop {
     Bad { at: u32 },
 }
 
-// The place behind a field.
+// The place after a field.
 pub(crate) fn skip(bytes: &[u8], at: usize, width: usize) -> Result<usize, Stop>
     requires { at + width < 2 ^ 63 }
     ensures { Takes result bytes.now at width (λ end. end ≡ at + width) }

@@ -13,7 +13,7 @@ use crate::record::{
     TAKE,
 };
 
-// The place behind so many headers.
+// The place after so many headers.
 fn headers_end(bytes: &[u8], start: usize, end: usize, number: u32) -> Result<usize, Stop>
     requires within { start ≤ length bytes.now }
     requires low { start < 2 ^ 30 }
@@ -35,7 +35,7 @@ fn headers_end(bytes: &[u8], start: usize, end: usize, number: u32) -> Result<us
     Ok(at)
 }
 
-// The place behind the body, which is the event's end.
+// The place after the body, which is the event's end.
 fn body_end(bytes: &[u8], at: usize, end: usize) -> Result<usize, Stop>
     requires within { at ≤ length bytes.now }
     requires low { at < 2 ^ 30 }

@@ -139,7 +139,7 @@ spelled_some (Digits Millisecond) a e = cc
 spelled_some (Plain c) a e = cc
 spelled_some (Quoted text) a e = cc
 
--- the pieces that go on behind these ones
+-- the pieces that go on after these ones
 pub record GoesOn (front all : List Piece) (rest : List ℕ) : Type 0 where
   pub more : List Piece
   pub is : all ≡ front ++ more
@@ -155,7 +155,7 @@ goes_on (p ∷ front) (q ∷ all) rest hf ha e =
     let later = goes_on front all rest hf.1 ha.1 apart.1 in
     record { more = later.more; is = ap (λ (x : Piece). x ∷ all) apart.0 ∙ ap (λ (xs : List Piece). p ∷ xs) later.is; text = later.text; right = later.right }
 
--- where no piece stands behind these ones, the text is no pattern
+-- where no piece stands after these ones, the text is no pattern
 pub none_behind : (front : List Piece) (text rest : List ℕ) → text ≡ flat_map spelled front ++ rest → AllByRecursion IsPiece front → 0 < length rest → BeginsNone rest → IsNoDatePattern text
 none_behind front text rest e hf some none all pattern =
     let more = goes_on front all rest hf pattern.right (sym pattern.is ∙ e) in
@@ -288,7 +288,7 @@ front_more parts p text rest next h e right fresh =
 pub front_none : (text rest : List ℕ) → text ≡ rest → IsFront text rest []
 front_none text rest e = record { is = e; right = tt; once = refl }
 
--- a front behind which nothing is left is the whole pattern
+-- a front after which nothing is left is the whole pattern
 pub whole_is : (text rest : List ℕ) (pieces : List Piece) → IsFront text rest pieces → length rest ≡ 0 → IsPattern text pieces
 whole_is text [] pieces h none = record { is = h.is ∙ append-nil (flat_map spelled pieces); right = h.right; once = h.once }
 whole_is text (c ∷ rest) pieces h none = absurd (omega arith)

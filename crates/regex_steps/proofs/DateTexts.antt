@@ -250,7 +250,7 @@ reads_all pieces text [] whole time none h =
     either f true e = h.seen f e
     either f false e = let o = h.other f e in o.0 ∙ o.1
 
--- where something is left behind all pieces
+-- where something is left after all pieces
 pub reads_too_few : (pieces : List Piece) (text rest : List ℕ) (whole time : CivilTime) → 0 < length rest → HasRead pieces [] text rest whole time → text ≡ flat_map (shown whole) pieces → ⊥
 reads_too_few pieces text rest whole time some h e =
     let none : rest ≡ [] = append_cancel_left (flat_map (shown whole) pieces) rest [] (sym h.front ∙ e ∙ sym (append-nil (flat_map (shown whole) pieces))) in

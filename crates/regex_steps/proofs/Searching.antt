@@ -1,4 +1,4 @@
--- A body is searched as a text or as bytes, and groups become headers one behind another.
+-- A body is searched as a text or as bytes, and groups become headers one after another.
 use Rattle.std.proofs.Common.{◌≡◌, ℕ, ◌+◌, ◌≤◌, Bool, true, false, List, [], ◌∷◌, Option, Some, refl, ap, arith, slice_range, option_map}
 use Rattle.std.specs.Str.{IsUtf8, is_utf8}
 use Rattle.std.proofs.lemmas.Str.{IsUtf8-from_is_utf8, is_utf8-from_IsUtf8}

@@ -148,7 +148,7 @@ width (Quoted text) = length text
 abbrev pub number : List ℕ → ℕ
 number text = fold (λ n c. n * 10 + (c - 48)) 0 text
 
--- the number of a field in a text: of the digits behind what stands for the pieces before it
+-- the number of a field in a text: of the digits after what stands for the pieces before it
 abbrev pub value_at : Field → List Piece → List ℕ → ℕ
 value_at f [] text = default f
 value_at f (p ∷ pieces) text = if is_field f p then number (take (width p) text) else value_at f pieces (drop (width p) text)

@@ -46,7 +46,7 @@ extracted group n (s ∷ ss) headers = extracted group (n + 1) ss (with_group he
 abbrev pub group_in : List ℕ → Match → ℕ → Option (List ℕ)
 group_in body m n = option_map (λ s. slice_range body s.0 s.1) (group_of m n)
 
--- the headers behind the first match, or behind none
+-- the headers after the first match, or after none
 abbrev pub headers_of : List ℕ → List Serializer → List Header → Option Match → List Header
 headers_of body ss headers None = headers
 headers_of body ss headers (Some m) = extracted (group_in body m) 1 ss headers

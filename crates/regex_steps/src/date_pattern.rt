@@ -152,7 +152,7 @@ fn number(digits: &[u8]) -> Option<u16>
     Some(number)
 }
 
-// What is behind a part that stands at the front of a text. The field of the part gets its number.
+// What is after a part that stands at the front of a text. The field of the part gets its number.
 fn behind<'a>(part: &Part, text: &'a [u8], time: &mut CivilTime) -> Option<&'a [u8]>
     ensures some { IfSome result (λ rest. Reads (piece part.now) text.now rest.now time.old time.new) }
     ensures none { IfNone result (ReadsNot (piece part.now) text.now) }

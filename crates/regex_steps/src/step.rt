@@ -83,7 +83,7 @@ fn replace(
 
 impl RegexStep {
     /// Builds a step. `BadPattern` comes only where a text is no pattern, or one that nests too deep, or where the text for a
-    /// date is no pattern of dates; a pattern that would take too much memory is want of memory.
+    /// date is no pattern of dates; a pattern that would take too much memory is out of memory.
     pub fn build(alloc: Global, keys: &RegexKeys) -> Result<RegexStep, BuildRefused>
         ensures ok { IfOk result (λ made. IsStepOf keys.now (step made)) }
         ensures err { IfErr result (λ e. e ≡ BuildRefused.BadPattern → IsBad keys.now) }
@@ -121,7 +121,7 @@ impl RegexStep {
         }
     }
 
-    /// The event after the step, or nothing where a filter drops it. Besides want of memory it is refused exactly where its
+    /// The event after the step, or nothing where a filter drops it. Besides being out of memory it is refused exactly where its
     /// size then passes `MAX_EVENT_SIZE`.
     pub fn run(&mut self, event: Event) -> Result<Option<Event>, EventRefused>
         ensures ok { IfOk result (λ made. made ≡ ran (step self.old) event) }

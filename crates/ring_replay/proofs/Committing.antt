@@ -78,7 +78,7 @@ among_first (item ∷ items) more n is = by_test (item.0 == n) is (among_first i
     by_test true is' rest = refl
     by_test false is' rest = rest is'
 
--- what is left behind the commit of an entry
+-- what is left after the commit of an entry
 behind : (s : Start) (past : Past) (entry : Entry) → AreTaken s past → after_journal s.base (journal past ++ entry ∷ []) ≡ after_journal (after_journal s.base (journal past)) (entry ∷ [])
 behind s past entry are = after-append s.base (journal past) (entry ∷ []) (takes_earlier s.base past (ordered_of s past are))
 

@@ -44,7 +44,7 @@ pub record Between (places : Places) (s : Start) (past : Past) (r : Indexing) : 
   pub journal_is : journal mid ≡ journal past
   pub txn_is : next_txn mid ≡ next_txn past
 
--- behind any marks that were kept of, some are between
+-- after any marks that were kept of, some are between
 abbrev pub GoesDown : Indexing → Indexing → Type 0
 GoesDown old now = (places : Places) (s : Start) (past : Past) → Keeps places s past old → Between places s past now
 
@@ -76,7 +76,7 @@ free_now P Q (l ∷ live) never none all = ((λ held. absurd (never l.number (al
 nothing_open : (places : Places) (past : Past) (r : Indexing) → ((t : ℕ) → HasEntry places (open_at r.table t) (opened t past)) → ((t : ℕ) → open_at r.table t ≡ None) → length (open_txns past) ≡ 0
 nothing_open places past r each none = none_among (open_txns past) (λ n. among_open past n ∙ (sym (same_some places (open_at r.table n) (opened n past) (each n)) ∙ ap is_some (none n)))
 
--- where all are dropped, nothing is open behind the drop
+-- where all are dropped, nothing is open after the drop
 pub down_all : (old now : Indexing) → IsNext now.table None None → GoesDown old now → (places : Places) (s : Start) (past : Past) → Keeps places s past old → Keeps places s (Dropped ∷ past) now
 down_all old now gone down places s past keeps =
     let b : Between places s past now = down places s past keeps in

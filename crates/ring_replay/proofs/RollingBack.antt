@@ -57,7 +57,7 @@ freed_held P Q numbers (l ∷ live) none same all = by_test (is_among numbers l.
     by_test true there rest = ((λ held. absurd (cc), λ q. absurd (none l.number there q)), rest)
     by_test false isnt rest = ((λ held. (same l.number isnt).0 (all.0.0 held), λ q. all.0.1 ((same l.number isnt).1 q)), rest)
 
--- who holds what behind the rollback
+-- who holds what after the rollback
 held_behind : (s : Start) (past : Past) (txn n : ℕ) → ((t other m : ℕ) → is_among (numbers_of (opened t past)) m ≡ true → is_among (numbers_of (opened other past)) m ≡ true → t ≡ other) → is_among (numbers_of (opened txn past)) n ≡ true → IsHeld (Applied (Rollback txn) ∷ past) n → ⊥
 held_behind s past txn n once there h = from (eqb_tells txn h.0) h.1
   where

@@ -29,7 +29,7 @@ stand_join places (Stands file at (CommitPut txn first count)) more one is = is
 stand_join places (Stands file at (CommitTake txn count)) more one is = is
 stand_join places (Stands file at (End count)) more one is = is
 
--- Lines before others, and lines behind others.
+-- Lines before others, and lines after others.
 pub stand_front : (places : Places) (a b : List Line) → LinesStand places (a ++ b) → LinesStand places a
 stand_front places [] b is = tt
 stand_front places (line ∷ a) b is =

@@ -83,7 +83,7 @@ apart_push (x ∷ numbers) n apart isnt = from (eqb_tells x n) (eqb_tells n x) i
     from (inr other) (inl back) is rest = absurd (other.1 (sym back.1))
     from (inr other) (inr back) is rest = (or_among numbers (n ∷ []) x ∙ rw (apart.0, back.0) refl, rest (rw other.0 at is))
 
--- who takes a number behind a take
+-- who takes a number after a take
 pub took : (past : Past) (txn number t n : ℕ) → is_among (numbers_of (opened t (Applied (Take txn number) ∷ past))) n ≡ true → (is_among (numbers_of (opened t past)) n ≡ true) ⊎ ((txn ≡ t) × (number ≡ n))
 took past txn number t n is = from (eqb_tells txn t) is
   where

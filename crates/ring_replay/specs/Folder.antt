@@ -12,7 +12,7 @@ use Rattle.ring_replay.specs.declared.folder.Replayed.{Replayed}
 use Rattle.ring_replay.specs.declared.indexing.Indexing.{Indexing}
 use Rattle.ring_replay.specs.Indexing.{AreSized, HasItems, Keeps, LinesStand, Places, place_of}
 
--- whatever marks it was kept of, the first fault of the lines behind these has this file and offset
+-- whatever marks it was kept of, the first fault of the lines after these has this file and offset
 abbrev pub StopsIn : List Line → Indexing → ℕ → ℕ → Type 0
 StopsIn found old file at = (places : Places) (s : Start) (past : Past) → LinesStand places found → Keeps places s past old → HasFault s.base past found file at
 
@@ -24,7 +24,7 @@ puts_of (lines.Stands file at (Put txn event) ∷ more) = (place_of file at even
 puts_of (lines.Stands file at rec ∷ more) = puts_of more
 puts_of (lines.Faulty file at ∷ more) = puts_of more
 
--- Lines behind a start have no fault, and the ring has what they leave, each event at a place of its PUT among them.
+-- Lines after a start have no fault, and the ring has what they leave, each event at a place of its PUT among them.
 pub record IsReplayed (s : Start) (found : List Line) (r : Replayed) : Type 0 where
   pub left : Base
   pub stands : StandsFrom s found left r.next.txn

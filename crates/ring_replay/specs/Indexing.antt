@@ -55,7 +55,7 @@ HasEntry places None (Some entry) = ⊥
 HasEntry places (Some o) None = ⊥
 HasEntry places (Some o) (Some entry) = IsListed places o.listed entry
 
--- Numbers rise behind the start, and those that are held or taken are below the next one. What is open takes events that are left, each once.
+-- Numbers rise after the start, and those that are held or taken are below the next one. What is open takes events that are left, each once.
 pub record AreTaken (s : Start) (past : Past) : Type 0 where
   pub base : IsBase s.base
   pub held_below : (t n : ℕ) → next_number s.base past ≤ n → is_among (numbers_of (opened t past)) n ≡ false
@@ -64,7 +64,7 @@ pub record AreTaken (s : Start) (past : Past) : Type 0 where
   pub once : (t other n : ℕ) → is_among (numbers_of (opened t past)) n ≡ true → is_among (numbers_of (opened other past)) n ≡ true → t ≡ other
   pub apart : (t : ℕ) → AreApart (numbers_of (opened t past))
 
--- The ring has what the marks leave behind a start, with what is taken held; the table has what they have open.
+-- The ring has what the marks leave after a start, with what is taken held; the table has what they have open.
 pub record Keeps (places : Places) (s : Start) (past : Past) (r : Indexing) : Type 0 where
   pub items : HasItems places r.ring.live (left s.base (journal past))
   pub held : AllByRecursion (λ l. (l.held ≡ true) ↔ IsHeld past l.number) r.ring.live
@@ -81,7 +81,7 @@ abbrev pub AreSized : Places → Type 0
 AreSized [] = Unit {0}
 AreSized (p ∷ places) = (contents.size p.1 ≡ p.0.length) × AreSized places
 
--- some marks behind some start lead to it
+-- some marks after some start lead to it
 abbrev pub IsKept : Indexing → Type 0
 IsKept r = (places : Places) × (s : Start) × (past : Past) × Keeps places s past r × AreSized places
 
@@ -136,11 +136,11 @@ LinesStand places (lines.Stands file at (Put txn event) ∷ more) = IsPlaced pla
 LinesStand places (lines.Stands file at rec ∷ more) = LinesStand places more
 LinesStand places (lines.Faulty file at ∷ more) = LinesStand places more
 
--- whatever marks it was kept of, the lines are sound behind these, and it is kept of them too
+-- whatever marks it was kept of, the lines are sound after these, and it is kept of them too
 abbrev pub GoesThrough : List Line → Indexing → Indexing → Type 0
 GoesThrough found old new = (places : Places) (s : Start) (past : Past) → LinesStand places found → Keeps places s past old → AreSound s.base past found × Keeps places s (past_lines past found) new
 
--- whatever marks it was kept of, the line is at fault behind these
+-- whatever marks it was kept of, the line is at fault after these
 abbrev pub StopsAt : Line → Indexing → Type 0
 StopsAt line old = (places : Places) (s : Start) (past : Past) → LinesStand places (line ∷ []) → Keeps places s past old → IsSound s.base past line → ⊥
 

@@ -171,7 +171,7 @@ pub fn within(index: Indexing, capacity: u32) -> Result<Replayed, ReplayRefused>
 /// Replays the log files of a folder into a ring: the events that their committed transactions leave, in order, with the
 /// places of their records, the next event number and the next transaction number. The first fault of the log comes
 /// before the capacity, which is judged at the end alone. One frame is in memory at a time, with some of what stands
-/// behind it, and each record is read once, for which a step is counted. The disk stays as it is.
+/// after it, and each record is read once, for which a step is counted. The disk stays as it is.
 pub fn replay<D: Disk, L: Ledger>(
     alloc: Global,
     disk: &mut D,

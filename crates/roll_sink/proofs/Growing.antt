@@ -50,7 +50,7 @@ grew_then_stopped a b r s t first second = record {
   files = second.files ∙ ap (λ (l : List RollFile). grow second.front l) first ∙ grow-append a second.front r.files;
 }
 
--- nothing was written behind a front
+-- nothing was written after a front
 pub stopped_early : (a b : List ℕ) (r s : Rolled) → Stopped a r s → Stopped (a ++ b) r s
 stopped_early a b r s stopped = record {
   failed = stopped.failed;
@@ -86,7 +86,7 @@ fails_early a b x y = tells_more x y (Stopped a) (Stopped (a ++ b)) (λ r s _ _ 
 pub added_written : (bytes : List ℕ) (x y : Option Rolled) → Tells x y (Added bytes) → Tells x y (Grew bytes)
 added_written bytes x y = tells_more x y (Added bytes) (Grew bytes) (λ r s _ _ added. grew_is bytes r.files s.files added.grew)
 
--- a call that failed behind a front
+-- a call that failed after a front
 pub failed_behind : (a b : List ℕ) (x y z : Option Rolled) → Tells x y (Grew a) → Tells y z (λ r s. s ≡ refused_roll r.begun r) → Tells x z (Stopped (a ++ b))
 failed_behind a b x y z first failed = then_stopped a b x y z first (tells_more y z (λ r s. s ≡ refused_roll r.begun r) (Stopped b) (λ r s _ _ is. stopped_at_once b r s (ap (λ (t : Rolled). t.files) is) (ap (λ (t : Rolled). t.failed) is)) failed)
 

@@ -31,7 +31,7 @@ pub record Stopped (bytes : List ℕ) (old new : Rolled) : Type 0 where
   pub split : bytes ≡ front ++ rest
   pub files : new.files ≡ grow front old.files
 
--- all of these bytes were written, or the last call failed behind a front of them
+-- all of these bytes were written, or the last call failed after a front of them
 abbrev pub Writes : List ℕ → Result (Unit {0}) Failed → Option Rolled → Option Rolled → Type 0
 Writes bytes result old new = MatchResult result (λ done. Tells old new (Grew bytes)) (λ failed. Tells old new (Stopped bytes))
 
@@ -100,7 +100,7 @@ start_after true start moment = Some (start_of start moment)
 abbrev pub state_after : Bool → RollState → ℕ → Option ℕ → RollState
 state_after starts s moment begun = record { interval = s.interval; start = start_after starts s.start moment; next = number_after starts s.next; begun = begun }
 
--- One delivery, for which a file is begun or not. Want of memory is that for a file's name, and changes nothing.
+-- One delivery, for which a file is begun or not. Out of memory is that for a file's name, and changes nothing.
 abbrev pub RollsBy : Bool → RollState → List Content → ℕ → Result (Unit {0}) RollRefused → RollState → Option Rolled → Option Rolled → Type 0
 RollsBy starts s batch moment (Ok done) t old new =
     (t ≡ state_after starts s moment (begun_after starts s.begun moment)) × Tells old new (Delivered starts (file_name (start_of s.start moment) s.next) (roll_text batch))

@@ -34,7 +34,7 @@ abbrev pub delivered : List Delivery → List (List Content)
 delivered [] = []
 delivered (d ∷ done) = if_ok d.answer d.batch ++ delivered done
 
--- A file: whole batches, and these bytes behind them.
+-- A file: whole batches, and these bytes after them.
 pub record Filled : Type 0 where
   pub name : List ℕ
   pub batches : List (List Content)
@@ -50,8 +50,8 @@ IsFrontOf done front =
     ⊎ ((place : ℕ) × (d : Delivery) × (rest : List ℕ) × (slice_get done place ≡ Some d) × (d.answer ≡ Err RollFault)
     × (roll_text d.batch ≡ front ++ rest))
 
--- These files were begun behind those that were there. Their batches are those that were answered Ok, each whole in one
--- file, once and in order; and behind its batches a file has nothing, or a front of one that was refused.
+-- These files were begun after those that were there. Their batches are those that were answered Ok, each whole in one
+-- file, once and in order; and after its batches a file has nothing, or a front of one that was refused.
 pub record Fills (done : List Delivery) (filled : List Filled) (old new : List RollFile) : Type 0 where
   pub files : new ≡ old ++ map file_of filled
   pub batches : flat_map (λ (f : Filled). f.batches) filled ≡ delivered done

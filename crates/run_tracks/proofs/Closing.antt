@@ -2,8 +2,8 @@
 use Rattle.std.proofs.Common.{◌≡◌, suc, List, [], ◌∷◌, ◌++◌, length, Bool, refl, ap}
 use Rattle.channel_face.specs.History.{Opening, Step}
 use Rattle.shared_channel.specs.Passes.{Known}
-use Rattle.turn_passes.specs.Turns.{MadeInTurn}
-use Rattle.turn_passes.specs.Views.{View}
+use Rattle.channel_lock.specs.Turns.{MadeInTurn}
+use Rattle.channel_lock.specs.Views.{View}
 use Rattle.two_channels.specs.Shares.{LeftIn, pass_of}
 use Rattle.two_channels.specs.declared.shared.EitherClosed.{EitherClosed}
 use Rattle.two_channels.specs.declared.shared.EitherClosed.TheVariants as closed

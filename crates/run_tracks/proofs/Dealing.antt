@@ -7,7 +7,7 @@ use Rattle.std.proofs.lemmas.List.{get_or-set_same, get_or-set_other, get_or_app
 use Rattle.atomic_table.specs.Seated.{TableId}
 use Rattle.channel_face.specs.History.{Opening}
 use Rattle.shared_channel.specs.Passes.{Known, new_pass, new_passes}
-use Rattle.turn_passes.specs.Calls.{has}
+use Rattle.channel_lock.specs.Calls.{has}
 use Rattle.run_tracks.specs.Dealing.{DealingBegins, DealingEnds, DealingGoesOn, DealsOne, IsInHand, IsWith}
 use Rattle.run_tracks.specs.Dealt.{IsOwned, Owner}
 

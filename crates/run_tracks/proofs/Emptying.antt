@@ -15,8 +15,8 @@ use Rattle.shared_channel.proofs.Porting.{own-append}
 use Rattle.sink_runner.specs.declared.turn.Turn.{Turn}
 use Rattle.sink_runner.specs.declared.turn.Turn.TheVariants.{Delivered}
 use Rattle.sink_worker.specs.Rounds.{Taking, Told, TurnsOnce}
-use Rattle.turn_passes.specs.Calls.{calls_by, has, keep}
-use Rattle.turn_passes.proofs.Histories.{has_only}
+use Rattle.channel_lock.specs.Calls.{calls_by, has, keep}
+use Rattle.channel_lock.proofs.Histories.{has_only}
 use Rattle.run_tracks.specs.Drained.{FaceDrains, DrainIsInTrack, EmptiedLeavesNone, Looked, MatchesUnder, called_in}
 use Rattle.run_tracks.specs.Told.{IsFace, as_face}
 use Rattle.run_tracks.specs.Tracks.{Stood, Track, Turned}
@@ -44,7 +44,7 @@ own_under ns n is s (x ∷ d) under =
     let rest = own_under ns n is (after s x.call) d one.1 in
     λ i. own_if (one.0 i) (record { call = x.call; before = s; moment = x.moment }) (rest i)
 
--- behind a front the same calls follow in both
+-- after a front the same calls follow in both
 more_under : (ns : List ℕ) (n : ℕ) → has ns n ≡ true → (s : State) (a d : List Step) (more : List Own) → AreUnder n (calls_by ns d) → own_calls ns s (a ++ d) ≡ own_calls ns s a ++ more → own_calls (n ∷ []) s (a ++ d) ≡ own_calls (n ∷ []) s a ++ more
 more_under ns n is s a d more under all =
     let same : own_calls ns (state_after s a) d ≡ more = append_cancel_left (own_calls ns s a) (own_calls ns (state_after s a) d) more (sym (own-append ns s a d) ∙ all) in

@@ -26,7 +26,7 @@ use Rattle.sink_runner.specs.Turns.{AreTakenUpTo, EndsTurn, IsTurn, turn_refused
 use Rattle.sink_runner.specs.declared.turn.Turn.{Turn}
 use Rattle.sink_runner.specs.declared.turn.Turn.TheVariants.{Empty, NoMemory}
 use Rattle.sink_worker.specs.Rounds.{Told}
-use Rattle.turn_passes.specs.Calls.{Below, has}
+use Rattle.channel_lock.specs.Calls.{Below, has}
 use Rattle.run_tracks.specs.Found.{EmptyFoundNone, IsNoneHeld}
 use Rattle.run_tracks.specs.Told.{IsFace}
 
@@ -120,7 +120,7 @@ module _ {S : Type 0} (saw : List Own → State → Type 0) (seen : ℕ) (delive
         calls = split ∙ (λ i. is i ++ parts i) ∙ (λ i. record { call = BeginTake (Ok (same i)); before = s; moment = at } ∷ (got.is i ++ ending));
       }
 
--- the machine's answers behind a front
+-- the machine's answers after a front
 run_behind : (tells : Bool) (s : State) (a b : List Step) → IsRun tells s (a ++ b) → IsRun tells (state_after s a) b
 run_behind tells s [] b run = run
 run_behind tells s (x ∷ a) b run = run_behind tells (after s x.call) a b run.1

@@ -6,10 +6,10 @@ use native.Mathlib.Decide.{ℕ_discrete}
 use Rattle.atomic_table.specs.Seated.{TableId}
 use mathlib.Core.List.{IsPrefix}
 use Rattle.channel_face.specs.History.{Step}
-use Rattle.turn_passes.specs.Calls.{has}
-use Rattle.turn_passes.specs.Turns.{Has}
-use Rattle.turn_passes.specs.Views.{View, part, both, joined}
-use Rattle.turn_passes.proofs.Histories.{begins_self, fewer, has_left, has_right}
+use Rattle.channel_lock.specs.Calls.{has}
+use Rattle.channel_lock.specs.Turns.{Has}
+use Rattle.channel_lock.specs.Views.{View, part, both, joined}
+use Rattle.channel_lock.proofs.Histories.{begins_self, fewer, has_left, has_right}
 use Rattle.shared_channel.specs.Passes.{Known}
 use Rattle.run_tracks.specs.Homes.{Took, AreHomes, TookAt, EachTook, StayElsewhere}
 use Rattle.run_tracks.specs.Places.{Zips, TookEach}

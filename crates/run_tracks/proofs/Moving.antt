@@ -21,7 +21,7 @@ use Rattle.sink_runner.specs.Turns as Turns
 use Rattle.sink_runner.specs.declared.turn.Turn.{Turn}
 
 module _ (saw saw' : List Own → State → Type 0) (seen seen' : ℕ) (more : seen ≤ seen') where
-  -- whatever was seen behind the ones is seen behind the others
+  -- whatever was seen after the ones is seen after the others
   abbrev pub Goes : List Own → List Own → Type 0
   Goes e e' = (x : List Own) (s : State) → saw (e ++ x) s → saw' (e' ++ x) s
 

@@ -7,7 +7,7 @@ use Rattle.run_tracks.specs.Homes.{AreHomes}
 use Rattle.atomic_table.specs.Seated.{TableId}
 use Rattle.shared_channel.specs.Passes.{Known}
 use Rattle.channel_face.specs.History.{Opening, Step}
-use Rattle.turn_passes.specs.Views.{View, saw}
+use Rattle.channel_lock.specs.Views.{View, saw}
 use Rattle.two_channels.specs.Shares.{LooksIn}
 use Rattle.two_channels.specs.declared.shared.EitherShared.{EitherShared}
 use Rattle.two_channels.specs.declared.shared.EitherShared.TheVariants as share

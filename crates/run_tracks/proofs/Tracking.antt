@@ -8,8 +8,8 @@ use Rattle.channel_face.specs.Machine.{State}
 use Rattle.channel_face.specs.Faces.{Own}
 use Rattle.channel_face.specs.declared.replies.FaceRefused.{FaceRefused}
 use Rattle.channel_face.specs.declared.replies.OpenCause.{OpenCause}
-use Rattle.turn_passes.specs.Calls.{calls_by}
-use Rattle.turn_passes.proofs.Histories.{calls_by-append, nil_of}
+use Rattle.channel_lock.specs.Calls.{calls_by}
+use Rattle.channel_lock.proofs.Histories.{calls_by-append, nil_of}
 use Rattle.shared_channel.specs.Passes.{Known}
 use Rattle.shared_channel.specs.Ports.{own_calls, owned, Later, later_none, later_then}
 use Rattle.shared_channel.proofs.Porting.{own-append, own-none}

@@ -3,7 +3,7 @@ use Rattle.std.specs.Prelude.{◌≡◌, ◌⊎◌, ◌<◌, ℕ, List, [], ◌�
 use Rattle.atomic_table.specs.Seated.{TableId}
 use Rattle.channel_face.specs.History.{Opening}
 use Rattle.shared_channel.specs.Passes.{Known, new_passes}
-use Rattle.turn_passes.specs.Calls.{has}
+use Rattle.channel_lock.specs.Calls.{has}
 use Rattle.run_tracks.specs.Dealt.{AreDealt, IsOwned, Owner}
 
 -- one of these passes has this number

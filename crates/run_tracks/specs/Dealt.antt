@@ -1,8 +1,8 @@
 -- Each number of a channel is with the pass at home or with a worker.
 use Rattle.std.specs.Prelude.{◌≡◌, ◌⊎◌, ◌<◌, ℕ, List, All, true, length, slice_index_or}
 use Rattle.shared_channel.specs.Passes.{Known}
-use Rattle.turn_passes.specs.Calls.{has}
-use Rattle.turn_passes.specs.Turns.{HasAll}
+use Rattle.channel_lock.specs.Calls.{has}
+use Rattle.channel_lock.specs.Turns.{HasAll}
 use Rattle.run_tracks.specs.Homes.{EachTook}
 
 -- a worker that uses a channel: the channel's place, and the number of the worker's pass

@@ -11,7 +11,7 @@ use Rattle.shared_channel.specs.Calls.{state_seen}
 use Rattle.shared_channel.specs.Passes.{Known}
 use Rattle.shared_channel.specs.Ports.{own_calls}
 use Rattle.sink_worker.specs.Rounds.{Taking, Told, TurnsOnce}
-use Rattle.turn_passes.specs.Calls.{has}
+use Rattle.channel_lock.specs.Calls.{has}
 use Rattle.run_tracks.specs.Told.{as_face}
 use Rattle.run_tracks.specs.Tracks.{Stood, Track, Turned}
 
@@ -27,7 +27,7 @@ pub record MatchesUnder (q : Known) (t : Track) : Type 0 where
   pub own : called_in t q ≡ t.own
   pub within : IsPrefix q.view.seen t.whole
 
--- nothing was called, and at some moment behind its calls so far so many events were left
+-- nothing was called, and at some moment after its calls so far so many events were left
 abbrev pub Looked : {S : Type 0} → Taking Track S → ℕ → Taking Track S → Type 0
 Looked old size new = (new ≡ old) × ((s : State) × Stood old.from old.from.own s × (size ≡ length s.items))
 

@@ -9,9 +9,9 @@ use Rattle.shared_channel.specs.Calls.{state_seen}
 use Rattle.shared_channel.specs.Passes.{Known}
 use Rattle.sink_runner.specs.declared.turn.Turn.TheVariants.{Empty}
 use Rattle.sink_worker.specs.Rounds.{Taking, Told, TurnsOnce}
-use Rattle.turn_passes.specs.Calls.{Below}
-use Rattle.turn_passes.specs.Turns.{HasAll}
-use Rattle.turn_passes.specs.Views.{View}
+use Rattle.channel_lock.specs.Calls.{Below}
+use Rattle.channel_lock.specs.Turns.{HasAll}
+use Rattle.channel_lock.specs.Views.{View}
 use Rattle.run_tracks.specs.Told.{as_face}
 
 -- What a view has seen begins this history, of which each call is of a pass that there is, and was answered as the machine answers it.

@@ -7,7 +7,7 @@ use Rattle.channel_face.specs.declared.replies.Counts.{Counts}
 use Rattle.channel_face.specs.declared.replies.OpenCause.{OpenCause}
 use Rattle.shared_channel.specs.Passes.{Known}
 use Rattle.shared_channel.specs.Ports.{Later}
-use Rattle.turn_passes.specs.Views.{saw}
+use Rattle.channel_lock.specs.Views.{saw}
 use Rattle.two_channels.specs.Shares.{MendsIn}
 use Rattle.two_channels.specs.declared.shared.EitherShared.{EitherShared}
 

@@ -1,7 +1,7 @@
 // Channels are closed after a run.
 ghost use Rattle.std.specs.Prelude.{◌≡◌, ◌≤◌, [], All, length};
 ghost use Rattle.std.specs.Vec.{vec_capacity};
-ghost use Rattle.turn_passes.specs.Turns.{HasAll};
+ghost use Rattle.channel_lock.specs.Turns.{HasAll};
 ghost use Rattle.two_channels.specs.Shares.{table_of};
 ghost use Rattle.run_tracks.specs.Homes.{AreHomes};
 ghost use Rattle.run_tracks.specs.Closes.{AreClosed, IsClosed};

@@ -2,7 +2,7 @@
 ghost use Rattle.std.specs.Prelude.{◌≡◌, All, length};
 ghost use Rattle.run_tracks.specs.Homes.{AreHomes};
 ghost use Rattle.run_tracks.specs.Stops.{AreCounted, AreMended, IsMended};
-ghost use Rattle.turn_passes.specs.Turns.{HasAll};
+ghost use Rattle.channel_lock.specs.Turns.{HasAll};
 ghost use Rattle.two_channels.specs.Shares.{table_of};
 
 use channel_face::{Channel, Counts, OpenCause, Reopen};

@@ -95,7 +95,7 @@ fn next<C: Channel + Drop>(port: &mut OwnFace<C>) -> Result<Option<Event>, Fail>
     }
 }
 
-// Adds the bodies of the events that a channel holds, each with a comma behind it.
+// Adds the bodies of the events that a channel holds, each with a comma after it.
 fn add_bodies<C: Channel + Drop>(port: &mut OwnFace<C>, into: &mut Vec<u8>) -> Result<(), Fail> {
     for _ in 0..10 {
         let Some(event) = next(port)? else {
@@ -107,7 +107,7 @@ fn add_bodies<C: Channel + Drop>(port: &mut OwnFace<C>, into: &mut Vec<u8>) -> R
     Err(Fail::from("more than ten"))
 }
 
-/// The bodies in each channel, each with a comma behind it, and a semicolon behind each channel.
+/// The bodies in each channel, each with a comma after it, and a semicolon after each channel.
 pub fn bodies<C: Channel + Drop>(
     alloc: Global,
     intake: Intake<OwnFace<C>>,

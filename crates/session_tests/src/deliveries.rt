@@ -39,7 +39,7 @@ struct Case {
     // the writes that fail
     fails: &'static [u64],
     answer: Result<(), DeliverRefused>,
-    // the link went back behind the delivery
+    // the link went back after the delivery
     back: bool,
 }
 

@@ -14,7 +14,7 @@ use std::alloc::Global;
 use std::test::Fail;
 use test_fixtures::{channel_on, disk_failing_in_flush};
 
-// An intake over a channel in a folder, of whose first commit the last sync fails. Behind it the channel refuses all.
+// An intake over a channel in a folder, of whose first commit the last sync fails. After it the channel refuses all.
 fn failing(alloc: Global) -> Result<Intake<OwnFace<FileChannel<MemDisk>>>, Fail> {
     let limits = Limits {
         capacity: 10,

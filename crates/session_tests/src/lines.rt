@@ -24,7 +24,7 @@ struct Case {
     drops: Option<&'static str>,
     end: SessionEnd,
     wrote: &'static str,
-    // what each channel then holds: each body with a comma behind it, and a semicolon behind each channel
+    // what each channel then holds: each body with a comma after it, and a semicolon after each channel
     holds: &'static str,
 }
 

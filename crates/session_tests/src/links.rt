@@ -35,7 +35,7 @@ pub fn link_of(alloc: Global, steps: &[Step], fails: &[u64]) -> Result<MemLink, 
     Ok(MemLink::new(alloc, script).failing_at(fails.to_vec(alloc)?))
 }
 
-/// A link that gives a text, cut behind each byte whose place is in a number's binary digits.
+/// A link that gives a text, cut after each byte whose place is in a number's binary digits.
 pub fn cut_link(alloc: Global, text: &[u8], cuts: u32) -> Result<MemLink, Fail> {
     let mut script = Vec::new(alloc);
     let mut piece = Vec::new(alloc);

@@ -26,7 +26,7 @@ const ANSWERS: &[Result<Option<SessionEnd>, Failed>] = &[
     Ok(None),
 ];
 
-// What each link took that came back, with a semicolon behind each.
+// What each link took that came back, with a semicolon after each.
 fn taken(alloc: Global, listener: &MemListener) -> Result<Vec<u8>, Fail> {
     let mut text = Vec::new(alloc);
     for link in listener.back() {

@@ -23,7 +23,7 @@ struct Case {
     capacities: &'static [u32],
     end: AvroEnd,
     wrote: &'static [Part],
-    // what each channel then holds: each body with a comma behind it, and a semicolon behind each channel
+    // what each channel then holds: each body with a comma after it, and a semicolon after each channel
     holds: &'static str,
 }
 

@@ -1,4 +1,4 @@
--- Calls of a channel on a disk, in a turn.
+-- Calls of a channel on a disk, under one lock.
 use Rattle.std.proofs.Common.{◌≡◌, ◌⊎◌, ◌-◌, ◌^◌, inl, inr, ℕ, List, [], ◌∷◌, ◌++◌, length, Option, Result, Ok, Err, Bool, true, false, not, refl, sym, ◌∙◌, ap, subst}
 use Rattle.std.proofs.lemmas.List.{append-nil}
 use Rattle.atomic_table.specs.Table.{Me}
@@ -11,9 +11,9 @@ use Rattle.channel_face.specs.declared.replies.PruneRefused.{PruneRefused}
 use Rattle.channel_face.specs.declared.replies.PruneRefused.TheVariants as PruneNo
 use Rattle.channel_face.specs.declared.replies.OpenCause.{OpenCause}
 use Rattle.channel_face.specs.declared.replies.OpenCause.TheVariants as OpenNo
-use Rattle.turn_passes.specs.Calls.{has}
-use Rattle.turn_passes.specs.Views.{View, with_call}
-use Rattle.turn_passes.specs.Turns.{Making}
+use Rattle.channel_lock.specs.Calls.{has}
+use Rattle.channel_lock.specs.Views.{View, with_call}
+use Rattle.channel_lock.specs.Turns.{Making}
 use Rattle.shared_channel.specs.Calls.{step, made_if, state_seen, Bounds, IsIn, Makes, Left}
 use Rattle.channel_face.specs.Keeps.{is_spent_check, is_spent_prune, is_spent_open}
 use Rattle.shared_channel.specs.Durables.{calls_of, WasBroken, IsReopen, MakesReopen, MakesMended, Reopens, Mends}
@@ -79,13 +79,13 @@ length_made true s = refl
 length_made false s = refl
 
 module _ {S C : Type 0} (stands : C → Opening → List Step → Type 0) (tells : C → Bool) (moment : C → ℕ) where
-  -- a turn with a reopen, which may have been spent
+  -- one lock with a reopen, which may have been spent
   pub reopens : (reply : Result (Unit {0}) OpenCause) (v w : View) (by : ℕ) (k : Me (Option S) View) (d : C) (n : Me (Option S) View) → Making v [] k.0 → has v.numbers by ≡ true → MakesReopen stands by (moment d) reply k d n → Bounds (is_spent_open reply) (2 ^ 64 - 1025) (length k.0.seen)
       → ((u : View) (calls : List Step) → Making u calls n.0 → Left stands tells u calls w d) → w.seen ≡ n.0.seen → Reopens stands tells moment v by reply w
   reopens reply v w by k d n making own makes bound leaves same =
       (makes.0, answers stands tells moment (is_spent_open reply) v w by (Reopen (reopen_reply reply makes.0)) k d n making own makes.1 bound leaves same)
 
-  -- a turn with a mend
+  -- one lock with a mend
   mends_broken : (reply : Result (Unit {0}) OpenCause) (v w : View) (by : ℕ) (k : Me (Option S) View) (d : C) (n : Me (Option S) View) → Making v [] k.0 → has v.numbers by ≡ true → MakesReopen stands by (moment d) reply k d n → Bounds (is_spent_open reply) (2 ^ 64 - 1025) (length k.0.seen)
       → (state_seen k.0).broken ≡ true → ((u : View) (calls : List Step) → Making u calls n.0 → Left stands tells u calls w d) → w.seen ≡ n.0.seen → Reopens stands tells moment v by reply w × WasBroken (calls_of (is_spent_open reply)) w
   mends_broken reply v w by k d n making own makes bound broken leaves same =
@@ -118,7 +118,7 @@ module _ {S C : Type 0} (stands : C → Opening → List Step → Type 0) (tells
   mends (Ok true) v w by k d n making own makes leaves same = let b = mends_broken makes.0 v w by k d n making own makes.1 makes.2 makes.3 leaves same in (makes.0, b.0, b.1, makes.4)
   mends (Err cause) v w by k d n making own makes leaves same = let b = mends_broken makes.0 v w by k d n making own makes.1 makes.2 makes.3 leaves same in (makes.0, b.0, b.1, makes.4)
 
-  -- so goes the turn of a mend
+  -- so goes the lock of a mend
   pub mended_on : (result : Result Bool OpenCause) (v : View) (by : ℕ) (k : Me (Option S) View) (d : C) (n : Me (Option S) View) → Making v [] k.0 → has v.numbers by ≡ true → MakesMended stands by (moment d) result k d n → (calls : List Step) × Making v calls n.0
   mended_on (Ok false) v by k d n making own makes = ([], makes.0.goes_on v [] making own)
   mended_on (Ok true) v by k d n making own makes = (_, makes.1.1.goes_on v [] making own)

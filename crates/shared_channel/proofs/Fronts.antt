@@ -4,7 +4,7 @@ use mathlib.Core.List.{IsPrefix}
 use Rattle.channel_face.specs.Machine.{State}
 use Rattle.channel_face.specs.History.{Opening, Step}
 use Rattle.channel_face.specs.Faces.{Own}
-use Rattle.turn_passes.specs.Views.{View}
+use Rattle.channel_lock.specs.Views.{View}
 use Rattle.shared_channel.specs.Ports.{Saw, Stood}
 
 -- a front of a front

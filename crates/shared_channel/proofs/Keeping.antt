@@ -8,7 +8,7 @@ use Rattle.channel_face.specs.History.{Opening, opening, Step, AddsOne, IsRun, S
 use Rattle.channel_face.specs.Counters.{tally, counts_of, counts_with, put_calls, take_calls, put_attempts, take_attempts, put_successes, take_successes, capped}
 use Rattle.channel_face.specs.declared.replies.Counts.{Counts}
 use Rattle.channel_face.proofs.Adding.{state-push, run-last}
-use Rattle.turn_passes.specs.Calls.{keep}
+use Rattle.channel_lock.specs.Calls.{keep}
 use Rattle.shared_channel.specs.Counting.{is_counted, counted_calls, Agree, StandsAgreeing, StandsCounting, Keeps}
 use Rattle.shared_channel.specs.Calls.{step}
 use Rattle.shared_channel.proofs.Rooms.{few_after, put_ends, take_ends}

@@ -9,14 +9,14 @@ use Rattle.channel_face.specs.Machine.{State, Checkpoint, Prune, Reopen, Reopene
 use Rattle.channel_face.specs.declared.replies.CheckRefused.{CheckRefused}
 use Rattle.channel_face.specs.declared.replies.OpenCause.{OpenCause}
 use Rattle.channel_face.specs.declared.replies.PruneRefused.{PruneRefused}
-use Rattle.turn_passes.proofs.Histories.{nil_of}
-use Rattle.turn_passes.specs.Views.{View}
+use Rattle.channel_lock.proofs.Histories.{nil_of}
+use Rattle.channel_lock.specs.Views.{View}
 use Rattle.shared_channel.specs.Calls.{Answers, Looks, step, state_seen}
 use Rattle.shared_channel.specs.Durables.{Mends, WasBroken, calls_of}
 use Rattle.shared_channel.specs.Ports.{Saw, Went, WentBy, own_calls, own_if, owned}
 use Rattle.shared_channel.proofs.Porting.{IsOne, begun, own_one, one_call, went_made}
 
--- a list that ends with one thing, split so that one thing is behind
+-- a list that ends with one thing, split so that one thing is after
 same_front : (a front last : List Step) (x : Step) → a ++ x ∷ [] ≡ front ++ last → length last ≡ 1 → front ≡ a
 same_front a front last x all one =
     let many : length front ≡ length a = let e = ap length all in let f = length-append a (x ∷ []) in let g = length-append front last in omega arith in

@@ -18,10 +18,10 @@ use Rattle.channel_face.specs.declared.replies.FlushRefused.{FlushRefused}
 use Rattle.channel_face.specs.declared.replies.FaceRefused.{FaceRefused}
 use Rattle.channel_face.specs.declared.replies.FaceRefused.TheVariants as Face
 use Rattle.channel_face.specs.Faces.{Own, one, Gains, Ends, is_spent_begin, is_spent_take, taken_event, begun_as, IsTakeBegun, IsTake, is_spent_put, is_spent_stage, is_spent_flush, in_doubt_unless, IsMade, IsRolledBack, IsFound, EndsAs, ArePut, ArePutUpTo, IsPutStage, IsTakeCommit, IsPutBatch, EndsPuts, EndsBegin}
-use Rattle.turn_passes.specs.Calls.{has, keep, calls_by}
-use Rattle.turn_passes.specs.Views.{View, saw}
-use Rattle.turn_passes.specs.Turns.{Making, MadeInTurn}
-use Rattle.turn_passes.proofs.Histories.{calls_by-append, nil_of}
+use Rattle.channel_lock.specs.Calls.{has, keep, calls_by}
+use Rattle.channel_lock.specs.Views.{View, saw}
+use Rattle.channel_lock.specs.Turns.{Making, MadeInTurn}
+use Rattle.channel_lock.proofs.Histories.{calls_by-append, nil_of}
 use Rattle.shared_channel.specs.Counting.{StandsCounting}
 use Rattle.shared_channel.specs.Passes.{Known}
 use Rattle.channel_face.specs.declared.replies.OpenCause.{OpenCause}
@@ -96,7 +96,7 @@ none_between ns a between es l all told own =
 pub went_made : (by : ℕ) (v w : View) (es : List Step) → (m : MadeInTurn v es w) → AreUnder by es → Went by v w (own_calls v.numbers (begun v m.0) es)
 went_made by v w es m under = went_from by v w m.0 es m.1 m.2 (none_between v.numbers v.seen m.0 es w.seen m.2 m.3 m.5) under
 
--- the same of a turn, from the state in which it was begun
+-- the same of one lock, from the state in which it was begun
 went_turn : (by : ℕ) (v k w : View) (calls : List Step) → Making v [] k → w ≡ saw v w.seen → w.seen ≡ k.seen ++ calls → AreUnder by calls → Went by v w (own_calls v.numbers (state_seen k) calls)
 went_turn by v k w calls m is all under = subst (λ (s : State). Went by v w (own_calls v.numbers s calls)) state (went_from by v w m.0 calls is (all ∙ ap (λ l. l ++ calls) here) (none_between v.numbers v.seen m.0 [] k.seen m.2 m.3 refl) under)
   where
@@ -298,7 +298,7 @@ module _ {C : Type 0} (stands : C → Opening → List Step → Type 0) (tells :
 pub puts_none : (by : ℕ) (v : View) (token : Token) → WentBy by v v (λ earlier. ArePut token [])
 puts_none by v token = ([], went_none by v, refl)
 
--- what a turn's settling did
+-- what a lock's holder settling did
 pub settles : {S C : Type 0} (stands : C → Opening → List Step → Type 0) (v w : View) (by moment : ℕ) (ticket : Ticket) (sure : Bool) (k : Me (Option S) View) (c d : C) (n : Me (Option S) View) → IsIn stands k c → Making v [] k.0 → has v.numbers by ≡ true → MakesSettled stands by moment ticket sure k d n → w ≡ saw v w.seen → w.seen ≡ n.0.seen → Settles stands by v w ticket sure
 settles stands v w by moment ticket sure k c d n inside making own makes is same =
     (more, g, (s, found (settled s ticket) makes.2, ends (settled s ticket) makes.2))

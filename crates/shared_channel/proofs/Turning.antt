@@ -1,4 +1,4 @@
--- What a turn tells, call by call.
+-- What one lock tells, call by call.
 use Rattle.std.proofs.Common.{◌≡◌, ◌<◌, ◌≤◌, ◌-◌, ◌^◌, ◌||◌, max, get_or, ℕ, zero, suc, Result, List, [], ◌∷◌, ◌++◌, length, length-append, append_assoc, Option, Bool, true, false, not, ⊎_elim, refl, sym, ◌∙◌, ap, subst, arith}
 use Rattle.std.proofs.lemmas.List.{append-nil}
 use Rattle.atomic_table.specs.Table.{Me}
@@ -8,11 +8,11 @@ use Rattle.channel_face.specs.History.{Opening, Step, Said, AddsOne, by_pass, op
 use Rattle.channel_face.specs.declared.replies.Ticket.{Ticket}
 use Rattle.channel_face.specs.declared.replies.StageCause.{StageCause}
 use Rattle.channel_face.specs.declared.replies.CommitRefused.{CommitRefused}
-use Rattle.turn_passes.specs.Calls.{has, calls_by, Below}
-use Rattle.turn_passes.specs.Views.{View, idle, with_call, saw, longer, both, joined}
-use Rattle.turn_passes.proofs.Histories.{has_left, has-append, all_own, below_front'}
+use Rattle.channel_lock.specs.Calls.{has, calls_by, Below}
+use Rattle.channel_lock.specs.Views.{View, idle, with_call, saw, longer, both, joined}
+use Rattle.channel_lock.proofs.Histories.{has_left, has-append, all_own, below_front'}
 use Rattle.std.proofs.lemmas.Bool.{cases_lt}
-use Rattle.turn_passes.specs.Turns.{Making, MadeInTurn, HasAll}
+use Rattle.channel_lock.specs.Turns.{Making, MadeInTurn, HasAll}
 use Rattle.shared_channel.specs.Counting.{StandsCounting, Keeps, is_counted}
 use Rattle.shared_channel.specs.Calls.{step, made_if, Bounds, IsIn, Makes, Left, Answers, RolledBack, Looks, Commits, MakesCommit, is_spent_commit, state_seen}
 use Rattle.std.specs.List.{All}
@@ -61,13 +61,13 @@ module _ {S C : Type 0} (stands : C → Opening → List Step → Type 0) (tells
   }
 
 module _ {C : Type 0} (stands : C → Opening → List Step → Type 0) (tells : C → Bool) where
-  -- the turn is given back
+  -- the lock is released
   pub left : Law stands tells → TellsAsOpened stands tells → (c : C) (v k w : View) (calls : List Step) → Keeps stands c k.base k.seen → MadeInTurn v calls w → w ≡ idle k → Left stands tells v calls w c
   left law told c v k w calls keeps made is =
       let seen : StandsCounting stands c w.base w.seen = subst (λ (x : View). StandsCounting stands c x.base x.seen) (sym is) keeps.calls in
       record { made = made; seen = record { calls = seen; run = kept_run stands tells law c w.base w.seen seen; same = told c w.base seen.0 seen.1 } }
 
-  -- a turn with one call, which may have been spent
+  -- one lock with one call, which may have been spent
   pub answers : {S : Type 0} (moment : C → ℕ) (spent : Bool) (v w : View) (by : ℕ) (call : Call) (k : Me (Option S) View) (d : C) (n : Me (Option S) View) → Making v [] k.0 → has v.numbers by ≡ true → Makes stands by (made_if (not spent) (step by call (moment d))) k d n → Bounds spent (2 ^ 64 - 1025) (length k.0.seen)
       → ((u : View) (calls : List Step) → Making u calls n.0 → Left stands tells u calls w d) → w.seen ≡ n.0.seen → Answers stands tells moment spent v by call w
   answers moment true v w by call k d n making own makes bound leaves same =
@@ -83,7 +83,7 @@ length-by_pass by [] = refl
 length-by_pass by (s ∷ own) = ap suc (length-by_pass by own)
 
 module _ {S C : Type 0} (stands : C → Opening → List Step → Type 0) (tells : C → Bool) where
-  -- a turn with a rollback
+  -- one lock with a rollback
   pub rolled_back : (moment : C → ℕ) (ended : Bool) (v w : View) (by : ℕ) (call : Call) (IsStale : State → Type 0) (k : Me (Option S) View) (d : C) (n : Me (Option S) View) → Making v [] k.0 → has v.numbers by ≡ true → Makes stands by (made_if ended (step by call (moment d))) k d n
       → (ended ≡ false → IsStale (state_seen n.0)) → ((u : View) (calls : List Step) → Making u calls n.0 → Left stands tells u calls w d) → w.seen ≡ n.0.seen → RolledBack stands tells moment ended v by call IsStale w
   rolled_back moment true v w by call IsStale k d n making own makes stale leaves same = (d, leaves v (step by call (moment d) ∷ []) (makes.goes_on v [] making own))
@@ -93,11 +93,11 @@ module _ {S C : Type 0} (stands : C → Opening → List Step → Type 0) (tells
       let base : n.0.base ≡ w.base = ap (λ (x : View). x.base) inside.1 ∙ sym (ap (λ (x : View). x.base) l.made.1) in
       ((d, l), subst IsStale (λ i. state_after (opening (base i)) (sym same i)) (stale refl))
 
-  -- a turn without a call
+  -- one lock without a call
   pub looks : (v w : View) (k : Me (Option S) View) (d : C) → Making v [] k.0 → ((u : View) (calls : List Step) → Making u calls k.0 → Left stands tells u calls w d) → Looks stands tells v w
   looks v w k d making leaves = (d, leaves v [] making)
 
-  -- a turn with a commit
+  -- one lock with a commit
   pub commits : (v w : View) (by : ℕ) (stage : Result Ticket StageCause → Call) (token : Token) (result : Result Ticket (CommitRefused Token)) (k : Me (Option S) View) (d : C) (n : Me (Option S) View) → Making v [] k.0 → has v.numbers by ≡ true → MakesCommit stands (is_spent_commit result) by stage token result k d n
       → ((u : View) (calls : List Step) → Making u calls n.0 → Left stands tells u calls w d) → w.seen ≡ n.0.seen → Commits stands tells (is_spent_commit result) v by stage token result w
   commits v w by stage token result k d n making own makes leaves same = by_spent (is_spent_commit result) makes
@@ -112,7 +112,7 @@ module _ {S C : Type 0} (stands : C → Opening → List Step → Type 0) (tells
           (m.0, d, leaves v (by_pass by m.0) (m.1.goes_on v [] making own), m.2, let b = m.3 in omega (arith, length-append k.0.seen (by_pass by m.0), length-by_pass by m.0))
 
 module _ {S C : Type 0} (stands : C → Opening → List Step → Type 0) (tells : C → Bool) where
-  -- so goes the turn of a commit
+  -- so goes the lock of a commit
   pub committed_on : (v : View) (by : ℕ) (stage : Result Ticket StageCause → Call) (token : Token) (result : Result Ticket (CommitRefused Token)) (k : Me (Option S) View) (d : C) (n : Me (Option S) View) → Making v [] k.0 → has v.numbers by ≡ true → MakesCommit stands (is_spent_commit result) by stage token result k d n → (calls : List Step) × Making v calls n.0
   committed_on v by stage token result k d n making own makes = by_spent (is_spent_commit result) makes
     where
@@ -126,13 +126,13 @@ nothing_new v w every m =
     let before : Below v.passes v.seen = below_front' v.passes v.seen (m.0 ++ []) w.seen (sym (append_assoc v.seen m.0 []) ∙ sym m.2) m.4 in
     sym (all_own v.numbers v.passes w.seen every m.4) ∙ m.3 ∙ append-nil (calls_by v.numbers v.seen) ∙ all_own v.numbers v.passes v.seen every before
 
--- what was so with the turn is so once it is over
+-- what was so with the lock is so once it is over
 pub shown : (P : Opening → List Step → Type 0) (v w k : View) → Making v [] k → w ≡ saw v w.seen → w.seen ≡ k.seen → P k.base k.seen → P w.base w.seen
 shown P v w k making same seen holds =
     let base : k.base ≡ w.base = ap (λ (x : View). x.base) making.1 ∙ sym (ap (λ (x : View). x.base) same) in
     subst (λ (x : Opening × List Step). P x.0 x.1) (λ i. (base i, sym seen i)) holds
 
--- a pass once its turn is over
+-- a pass once its lock is released
 pub pass_after : (before after : List View) (number calls calls' : ℕ) (marks : List Bool) (v w : View) → before ≡ v ∷ [] → after ≡ w ∷ [] → IsPass before number calls marks → w ≡ saw v w.seen → calls' ≡ length w.seen → IsPass after number calls' marks
 pass_after before after number calls calls' marks v w was is pass same count = subst (λ (l : List View). IsPass l number calls' marks) (sym is) from
   where

@@ -12,9 +12,9 @@ use Rattle.channel_face.specs.declared.replies.StageCause.{StageCause}
 use Rattle.channel_face.specs.declared.replies.StageCause.TheVariants.{Spent}
 use Rattle.channel_face.specs.declared.replies.CommitRefused.{CommitRefused}
 use Rattle.channel_face.specs.declared.replies.CommitRefused.TheVariants.{Stage}
-use Rattle.turn_passes.specs.Calls.{has}
-use Rattle.turn_passes.specs.Views.{View}
-use Rattle.turn_passes.specs.Turns.{Making, MadeInTurn}
+use Rattle.channel_lock.specs.Calls.{has}
+use Rattle.channel_lock.specs.Views.{View}
+use Rattle.channel_lock.specs.Turns.{Making, MadeInTurn}
 use Rattle.shared_channel.specs.Counting.{StandsCounting, Keeps}
 
 -- a call of the pass with this number
@@ -25,11 +25,11 @@ step by call moment = record { pass = by; call = call; moment = moment }
 abbrev pub state_seen : View → State
 state_seen v = state_after (opening v.base) v.seen
 
--- The seat has no turn.
+-- The seat does not hold the lock.
 abbrev pub IsOut : {S : Type 0} → Me S View → Type 0
 IsOut m = (m.0.turn ≡ false) × (m.1 ≡ []) × (m.0.live ≡ true)
 
--- The seat has the turn, and took this channel out.
+-- The seat holds the lock, and took this channel out.
 abbrev pub IsIn : {S C : Type 0} → (C → Opening → List Step → Type 0) → Me (Option S) View → C → Type 0
 IsIn stands m c = (m.0.turn ≡ true) × (m.0.live ≡ true) × (m.1 ≡ (0, None) ∷ []) × Keeps stands c m.0.base m.0.seen
 
@@ -43,7 +43,7 @@ abbrev pub Bounds : Bool → ℕ → ℕ → Type 0
 Bounds true most calls = most ≤ calls
 Bounds false most calls = calls < most
 
--- In its turn a seat made these calls with this number, and the channel is then this one.
+-- With the lock, a seat made these calls with this number, and the channel is then this one.
 pub record Makes {S C : Type 0} (stands : C → Opening → List Step → Type 0) (by : ℕ) (calls : List Step) (m : Me (Option S) View) (d : C) (w : Me (Option S) View) : Type 0 where
   pub within : IsIn stands w d
   pub seen : w.0.seen ≡ m.0.seen ++ calls
@@ -57,7 +57,7 @@ module _ {C : Type 0} (stands : C → Opening → List Step → Type 0) (tells :
     pub run : IsRun (tells c) (opening w.base) w.seen
     pub same : w.base.tells ≡ tells c
 
-  -- The pass made these calls in one turn, and left the channel so.
+  -- The pass made these calls under one lock, and left the channel so.
   pub record Left (v : View) (calls : List Step) (w : View) (c : C) : Type 0 where
     pub made : MadeInTurn v calls w
     pub seen : IsSeen c w
@@ -90,7 +90,7 @@ abbrev pub is_spent_commit : Result Ticket (CommitRefused Token) → Bool
 is_spent_commit (Err (Stage refused)) = is_spent_stage (Err refused.cause)
 is_spent_commit reply = false
 
--- In its turn a seat made a commit, or it was spent.
+-- With the lock, a seat made a commit, or it was spent.
 abbrev pub MakesCommit : {S C : Type 0} → (C → Opening → List Step → Type 0) → Bool → ℕ → (Result Ticket StageCause → Call) → Token → Result Ticket (CommitRefused Token) → Me (Option S) View → C → Me (Option S) View → Type 0
 MakesCommit stands true by stage token result m d w = Makes stands by [] m d w × (2 ^ 64 - 1026 ≤ length m.0.seen) × (result ≡ Err (Stage (record { txn = token; cause = Spent CallsCount })))
 MakesCommit stands false by stage token result m d w = (own : List Said) × Makes stands by (by_pass by own) m d w × IsCommit stage token (calls own) result × (length m.0.seen < 2 ^ 64 - 1026)

@@ -3,7 +3,7 @@ use Rattle.std.specs.Prelude.{◌≡◌, ◌≤◌, ◌+◌, ◌-◌, ◌^◌, L
 use Rattle.channel_face.specs.Machine.{Call, RollbackPut, RollbackTake}
 use Rattle.channel_face.specs.History.{Opening, Step, opening, state_after, journal}
 use Rattle.channel_face.specs.Counters.{counts_of}
-use Rattle.turn_passes.specs.Calls.{keep}
+use Rattle.channel_lock.specs.Calls.{keep}
 
 -- A rollback of a stale token changes nothing, and is not counted.
 abbrev pub is_counted : Call → Bool
@@ -34,7 +34,7 @@ pub record HasRoom (start : Opening) (h : List Step) : Type 0 where
   pub few : length (state_after (opening start) h).opened ≤ 1024
   pub room : length h + length (state_after (opening start) h).opened ≤ 2 ^ 64 - 1
 
--- What is kept of a channel while nobody has the turn.
+-- What is kept of a channel while nobody holds the lock.
 pub record Keeps {C : Type 0} (stands : C → Opening → List Step → Type 0) (c : C) (start : Opening) (h : List Step) : Type 0 where
   pub calls : StandsCounting stands c start h
   pub room : HasRoom start h

@@ -5,7 +5,7 @@ use Rattle.channel_face.specs.Keeps.{is_spent_open, mended}
 use Rattle.channel_face.specs.Machine.{Reopen, Reopened}
 use Rattle.channel_face.specs.History.{Opening, Step, opening, state_after, reopen_reply}
 use Rattle.channel_face.specs.declared.replies.OpenCause.{OpenCause}
-use Rattle.turn_passes.specs.Views.{View}
+use Rattle.channel_lock.specs.Views.{View}
 use Rattle.shared_channel.specs.Counting.{Keeps}
 use Rattle.shared_channel.specs.Calls.{step, made_if, state_seen, Bounds, Makes, Answers, Looks}
 
@@ -22,11 +22,11 @@ WasBroken n w = (front last : List Step) × (w.seen ≡ front ++ last) × (lengt
 abbrev pub IsReopen : {C : Type 0} → (C → Opening → List Step → Type 0) → ℕ → ℕ → Result (Unit {0}) OpenCause → C → View → Step → Type 0
 IsReopen stands by moment reply d v e = (kept : Reopened) × (e ≡ step by (Reopen (reopen_reply reply kept)) moment) × Keeps stands d v.base (v.seen ++ e ∷ [])
 
--- In its turn a seat made a reopen with this reply, which kept something; or it was spent.
+-- With the lock, a seat made a reopen with this reply, which kept something; or it was spent.
 abbrev pub MakesReopen : {S C : Type 0} → (C → Opening → List Step → Type 0) → ℕ → ℕ → Result (Unit {0}) OpenCause → Me (Option S) View → C → Me (Option S) View → Type 0
 MakesReopen stands by moment reply m d w = (kept : Reopened) × Makes stands by (made_if (not (is_spent_open reply)) (step by (Reopen (reopen_reply reply kept)) moment)) m d w
 
--- In its turn a seat reopened what was broken, and nothing else.
+-- With the lock, a seat reopened what was broken, and nothing else.
 abbrev pub MakesMended : {S C : Type 0} → (C → Opening → List Step → Type 0) → ℕ → ℕ → Result Bool OpenCause → Me (Option S) View → C → Me (Option S) View → Type 0
 MakesMended stands by moment (Ok false) m d w = Makes stands by [] m d w × ((state_seen m.0).broken ≡ false)
 MakesMended stands by moment result m d w =

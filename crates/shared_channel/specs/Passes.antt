@@ -2,8 +2,8 @@
 use Rattle.std.specs.Prelude.{◌≡◌, ◌<◌, ℕ, zero, suc, List, [], ◌∷◌, ◌++◌, length, get_or, Bool, true, false}
 use Rattle.atomic_table.specs.Seated.{TableId}
 use Rattle.channel_face.specs.History.{Opening}
-use Rattle.turn_passes.specs.Calls.{has}
-use Rattle.turn_passes.specs.Views.{View, dealer, dealer_of, newcomer, no_opening}
+use Rattle.channel_lock.specs.Calls.{has}
+use Rattle.channel_lock.specs.Views.{View, dealer, dealer_of, newcomer, no_opening}
 
 -- its table, the number that its next call carries, and what it knows
 pub record Known : Type 0 where
@@ -32,7 +32,7 @@ AreMarks numbers marks = (n : ℕ) → n < length marks → get_or marks n false
 abbrev pub IsBlank : ℕ → List Bool → Type 0
 IsBlank passes marks = AreMarks [] marks × (length marks ≡ passes)
 
--- what holds of a pass: it has no turn, its next call's number is one of its own, and it knows how many calls it saw and which numbers it has
+-- what holds of a pass: it does not hold the lock, its next call's number is one of its own, and it knows how many calls it saw and which numbers it has
 abbrev pub IsPass : List View → ℕ → ℕ → List Bool → Type 0
 IsPass views number calls marks =
     (views ≡ view_of views ∷ []) × ((view_of views).turn ≡ false) × ((view_of views).live ≡ true) × (has (view_of views).numbers number ≡ true) × (calls ≡ length (view_of views).seen)

@@ -11,9 +11,9 @@ use Rattle.channel_face.specs.declared.replies.FlushRefused.{FlushRefused}
 use Rattle.channel_face.specs.declared.replies.Settled.{Settled}
 use Rattle.channel_face.specs.declared.replies.Settled.TheVariants.{Yes, No, InDoubt}
 use Rattle.channel_face.specs.declared.replies.Ticket.{Ticket}
-use Rattle.turn_passes.specs.Calls.{has, calls_by}
-use Rattle.turn_passes.proofs.Histories.{calls_by-append}
-use Rattle.turn_passes.specs.Views.{View}
+use Rattle.channel_lock.specs.Calls.{has, calls_by}
+use Rattle.channel_lock.proofs.Histories.{calls_by-append}
+use Rattle.channel_lock.specs.Views.{View}
 use Rattle.shared_channel.specs.Counting.{StandsCounting}
 use Rattle.shared_channel.specs.Passes.{Known}
 use Rattle.shared_channel.specs.Calls.{step, state_seen, made_if, Bounds, Makes, IsSeen}
@@ -31,7 +31,7 @@ own_calls numbers s (step ∷ h) = own_if (has numbers step.pass) (record { call
 abbrev pub owned : View → List Own
 owned v = own_calls v.numbers (opening v.base) v.seen
 
--- those, behind what the history began with and no calls
+-- those, after what the history began with and no calls
 abbrev pub AreOwned : View → Opening → List Step → List Own → Type 0
 AreOwned v start earlier own = (start ≡ v.base) × (earlier ≡ []) × (own ≡ owned v)
 
@@ -60,7 +60,7 @@ pub record Went (number : ℕ) (v w : View) (more : List Own) : Type 0 where
   pub under : AreUnder number (calls_by v.numbers begins.0)
   pub owned : owned w ≡ owned v ++ more
 
--- it made calls of which P is true behind those that it had made
+-- it made calls of which P is true after those that it had made
 abbrev pub WentBy : ℕ → View → View → (List Own → List Own → Type 0) → Type 0
 WentBy number v w P = (more : List Own) × Went number v w more × P (owned v) more
 
@@ -82,13 +82,13 @@ Settles stands number v w ticket sure = WentBy number v w (λ earlier more. Ends
 abbrev pub SawAll : {C : Type 0} → (C → Opening → List Step → Type 0) → (C → Bool) → View → Type 0
 SawAll stands tells v = (c : _) × IsSeen stands tells c v
 
--- in the turn's state the ticket was so, and these calls were made for it
+-- in the lock's state the ticket was so, and these calls were made for it
 abbrev pub SettledBy : Settled → ℕ → ℕ → View → List Step → Bool → Type 0
 SettledBy Yes by moment k calls sure = (calls ≡ []) × (sure ≡ true)
 SettledBy No by moment k calls sure = (reply : Result (Unit {0}) FlushRefused) × (calls ≡ made_if (not (is_spent_flush reply)) (step by (Flush reply) moment)) × Bounds (is_spent_flush reply) (2 ^ 64 - 1025) (length k.seen) × (sure ≡ is_ok reply)
 SettledBy InDoubt by moment k calls sure = (calls ≡ []) × (sure ≡ false)
 
--- In its turn a seat asked for the ticket, and flushed where it was No.
+-- With the lock, a seat asked for the ticket, and flushed where it was No.
 abbrev pub MakesSettled : {S C : Type 0} → (C → Opening → List Step → Type 0) → ℕ → ℕ → Ticket → Bool → Me (Option S) View → C → Me (Option S) View → Type 0
 MakesSettled stands by moment ticket sure m d w = (calls : List Step) × Makes stands by calls m d w × SettledBy (settled (state_seen m.0) ticket) by moment m.0 calls sure
 
@@ -96,7 +96,7 @@ pub under-append : (number : ℕ) (a b : List Step) → AreUnder number a → Ar
 under-append number [] b x y = y
 under-append number (step ∷ a) b x y = (x.0, under-append number a b x.1 y)
 
--- calls behind others, with the same numbers
+-- calls after others, with the same numbers
 pub under_then : (number : ℕ) (ns ms : List ℕ) (a b : List Step) → ms ≡ ns → AreUnder number (calls_by ns a) → AreUnder number (calls_by ms b) → AreUnder number (calls_by ns (a ++ b))
 under_then number ns ms a b same x y =
     subst (AreUnder number) (sym (calls_by-append ns a b)) (under-append number (calls_by ns a) (calls_by ns b) x (subst (λ (l : List ℕ). AreUnder number (calls_by l b)) same y))

@@ -2,9 +2,9 @@
 ghost use Rattle.std.specs.Prelude.{◌≡◌};
 ghost use Rattle.atomic_table.specs.Seated.{TableId};
 ghost use Rattle.shared_channel.specs.Passes.{Known};
-ghost use Rattle.turn_passes.specs.Calls.{AreApart};
-ghost use Rattle.turn_passes.specs.Turns.{Has};
-ghost use Rattle.turn_passes.specs.Views.{both, joined, part};
+ghost use Rattle.channel_lock.specs.Calls.{AreApart};
+ghost use Rattle.channel_lock.specs.Turns.{Has};
+ghost use Rattle.channel_lock.specs.Views.{both, joined, part};
 
 use crate::pass::Pass;
 use crate::port::Port;

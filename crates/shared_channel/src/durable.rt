@@ -1,7 +1,7 @@
 // The calls of a channel on a disk through a pass that lay checkpoints and remove old files.
 ghost use Rattle.std.specs.Prelude.{◌≡◌, ◌^◌, ◌-◌, length, true, not};
 ghost use Rattle.channel_face.specs.Machine.{Checkpoint, Prune};
-ghost use Rattle.turn_passes.specs.Calls.{has};
+ghost use Rattle.channel_lock.specs.Calls.{has};
 ghost use Rattle.shared_channel.specs.Calls.{IsIn, Makes, Bounds, Answers, made_if, step};
 ghost use Rattle.channel_face.specs.Keeps.{is_spent_check, is_spent_prune};
 
@@ -14,7 +14,7 @@ use channel_face::{CheckRefused, Counter, Durable, PruneRefused};
 use std::marker::Brand;
 use std::mem;
 use std::sync::Wait;
-use turn_passes::Place;
+use channel_lock::Place;
 
 impl<C: Durable> Shared<C> {
     fn make_checkpoint(

@@ -1,4 +1,4 @@
-// Whole transactions through a pass. Staging and settling are turns of their own, so that one flush may settle what several
+// Whole transactions through a pass. Staging and settling take the lock once each, so that one flush may settle what several
 // callers staged.
 ghost use Rattle.std.specs.Prelude.{◌≡◌, ◌<◌, All, length};
 ghost use Rattle.channel_face.specs.Faces.{picked_events, ArePutUpTo, IsPutStage, IsPutBatch, IsTakeCommit};
@@ -21,7 +21,7 @@ fn mark_of(ticket: &Ticket) -> u64 {
 }
 
 impl<C: Channel> Shared<C> {
-    // In one turn: flushes where the ticket is `No`, and answers whether it then is settled. One of those who have staged leads,
+    // Under one lock: flushes where the ticket is `No`, and answers whether it then is settled. One of those who have staged leads,
     // and lets others in first, so that they may have staged by then; the others sleep until it has flushed.
     fn settle<R: Wait>(&self, rt: &R, pass: &mut Pass, ticket: &Ticket) -> bool
         requires table { pass.old.table_id ≡ self.now.turn.table.shared.table_id }

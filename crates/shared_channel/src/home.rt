@@ -1,6 +1,6 @@
-// A channel as the turn guards it.
+// A channel as the lock guards it.
 use channel_face::Channel;
-use turn_passes::Guarded;
+use channel_lock::Guarded;
 
 /// A channel at home. What it stands for leaves room for a rollback of each open transaction.
 #[derive(Drop)]

@@ -1,4 +1,4 @@
-//! A channel that threads share: any channel behind one turn, many callers, one legal history.
+//! A channel that threads share: any channel behind one lock, many callers, one legal history.
 #![tactic(auto)]
 
 mod carries;

@@ -2,7 +2,7 @@
 ghost use Rattle.std.specs.Prelude.{◌≡◌, length};
 ghost use Rattle.channel_face.specs.Counters.{counts_of};
 ghost use Rattle.channel_face.specs.Machine.{settled};
-ghost use Rattle.turn_passes.specs.Turns.{HasAll};
+ghost use Rattle.channel_lock.specs.Turns.{HasAll};
 ghost use Rattle.shared_channel.specs.Calls.{Looks, state_seen};
 
 use crate::pass::Pass;

@@ -1,9 +1,9 @@
-// The calls of the one who has the turn, each counted as it is made.
+// The calls of the one who holds the lock, each counted as it is made.
 ghost use Rattle.std.specs.Prelude.{◌≡◌, ◌^◌, ◌-◌, IfErr, None, length, true, false, not};
 ghost use Rattle.channel_face.specs.Calls.{cause_of};
 ghost use Rattle.channel_face.specs.Faces.{is_spent_begin, is_spent_put, is_spent_take, is_spent_stage, is_spent_flush};
 ghost use Rattle.channel_face.specs.Machine.{BeginPut, BeginTake, Put, Take, StagePut, StageTake, Flush, RollbackPut, RollbackTake, puts_of, takes_of};
-ghost use Rattle.turn_passes.specs.Calls.{has};
+ghost use Rattle.channel_lock.specs.Calls.{has};
 ghost use Rattle.shared_channel.specs.Ports.{MakesSettled};
 ghost use Rattle.shared_channel.specs.Calls.{IsIn, Makes, MakesCommit, Bounds, is_spent_commit, made_if, state_seen, step};
 
@@ -15,7 +15,7 @@ use channel_face::{
 };
 use event_core::Event;
 use std::marker::Brand;
-use turn_passes::Place;
+use channel_lock::Place;
 
 // A call that no rollback needs the count for is made where fewer were counted.
 pub(crate) const MOST: u64 = 18446744073709550591;

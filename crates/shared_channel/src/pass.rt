@@ -2,9 +2,9 @@
 ghost use Rattle.std.specs.Prelude.{◌≡◌, ◌<◌, ◌≤◌, ◌||◌, ℕ, All, [], IfOk, IfErr, true, false, length, get_or, if◌then◌else◌};
 ghost use Rattle.std.specs.Vec.{vec_capacity};
 ghost use Rattle.channel_face.specs.History.{Opening};
-ghost use Rattle.turn_passes.specs.Calls.{has, AreApart, calls_by};
-ghost use Rattle.turn_passes.specs.Turns.{Has, HasAll};
-ghost use Rattle.turn_passes.specs.Views.{part, both, joined, dealer_of, dealing};
+ghost use Rattle.channel_lock.specs.Calls.{has, AreApart, calls_by};
+ghost use Rattle.channel_lock.specs.Turns.{Has, HasAll};
+ghost use Rattle.channel_lock.specs.Views.{part, both, joined, dealer_of, dealing};
 ghost use Rattle.shared_channel.specs.Calls.{Left};
 ghost use Rattle.shared_channel.specs.Counting.{StandsAgreeing};
 ghost use Rattle.shared_channel.specs.Passes.{Known, new_pass, new_passes, IsBlank};
@@ -17,7 +17,7 @@ use std::alloc::{AllocError, Global};
 use std::marker::Model;
 use std::mem;
 use std::sync::Wait;
-use turn_passes::{Gather, Place, SeatView, Turn};
+use channel_lock::{ChannelLock, Gather, Place, SeatView};
 
 /// What one thread has seen of the history, and the numbers of its calls.
 #[derive(Drop)]
@@ -119,7 +119,7 @@ fn add_marks(into: &mut Vec<bool>, from: &Vec<bool>)
 
 impl<C: Channel> Shared<C> {
     /// Shares a channel that has made no call since the opening that it stands for. The pass at place i of the list has number
-    /// i, and has made no call; there are no other passes, and without one nobody can close it. Want of memory hands the channel
+    /// i, and has made no call; there are no other passes, and without one nobody can close it. Out of memory hands the channel
     /// back.
     pub fn new(
         alloc: Global,
@@ -140,7 +140,7 @@ impl<C: Channel> Shared<C> {
         let Ok(list) = Vec::with_capacity(alloc, passes as usize) else {
             return Err(Unshared { channel });
         };
-        match Turn::new(alloc, Home { channel }, u64::from(passes)) {
+        match ChannelLock::new(alloc, Home { channel }, u64::from(passes)) {
             Ok((turn, dealer)) => {
                 let shared = Shared {
                     turn,
@@ -150,7 +150,7 @@ impl<C: Channel> Shared<C> {
                 Ok((shared, list))
             }
             Err(refused) => {
-                let turn_passes::Unshared { value } = refused;
+                let channel_lock::Unshared { value } = refused;
                 let Home { channel } = value;
                 Err(Unshared { channel })
             }
@@ -240,7 +240,7 @@ impl<C: Channel> Shared<C> {
 
     /// Hands the channel back, and a pass that has seen the calls that it then stands for. Its state, its counts and what it
     /// has settled are those of what was seen. Where the pass has each number, all calls are its own, and it had seen them. It may
-    /// wait for the turn.
+    /// wait for the lock.
     pub fn close<R: Wait>(self, rt: &R, pass: Pass) -> Closed<C>
     where
         C: Drop,

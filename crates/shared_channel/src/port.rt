@@ -12,8 +12,8 @@ use flume_host::Steps;
 use std::sync::Wait;
 use std::sync::ledger::Ledger;
 
-/// What a source or a sink has of a shared channel. A call of a transaction takes a turn of its own, and a staged transaction
-/// is settled in a further turn, where a flush of another caller may have settled it already; no clause counts the turns.
+/// What a source or a sink has of a shared channel. A call of a transaction takes the lock once, and a staged transaction
+/// is settled under the lock once more, where a flush of another caller may have settled it already; no clause counts the locks.
 #[derive(Drop)]
 pub struct Port<'a, R, C: Channel> {
     pub(crate) rt: &'a R,

@@ -99,7 +99,7 @@ impl<C: Channel> Shared<C> {
         reply
     }
 
-    /// Stages a transaction of puts and flushes, in one turn, as [`Channel::commit_put`], or is refused as `Spent` of
+    /// Stages a transaction of puts and flushes, under one lock, as [`Channel::commit_put`], or is refused as `Spent` of
     /// `Counter::Calls`.
     pub fn commit_put<R: Wait>(
         &self,

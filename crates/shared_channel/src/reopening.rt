@@ -1,6 +1,6 @@
 // The reopening of a shared channel, and the mending of a broken one.
 ghost use Rattle.std.specs.Prelude.{◌≡◌, ◌^◌, ◌-◌, length, true};
-ghost use Rattle.turn_passes.specs.Calls.{has};
+ghost use Rattle.channel_lock.specs.Calls.{has};
 ghost use Rattle.shared_channel.specs.Calls.{IsIn, Bounds};
 ghost use Rattle.channel_face.specs.Keeps.{is_spent_open};
 ghost use Rattle.shared_channel.specs.Durables.{MakesReopen, MakesMended, Reopens, Mends};
@@ -16,7 +16,7 @@ use std::marker::Brand;
 use std::mem;
 use std::sync::Wait;
 use std::sync::ledger::Ledger;
-use turn_passes::Place;
+use channel_lock::Place;
 
 impl<C: Reopen> Shared<C> {
     // What it kept is known to be there, and not what it is. So one of the calls is counted that its reply may stand for.
@@ -98,7 +98,7 @@ impl<C: Reopen> Shared<C> {
         reply
     }
 
-    /// In one turn reopens the channel exactly where it is broken, and answers true after a reopening. False comes exactly where
+    /// Under one lock reopens the channel exactly where it is broken, and answers true after a reopening. False comes exactly where
     /// the channel is not broken: then it is a look, and no call. A refusal is that of [`Shared::reopen`].
     pub fn mend<R: Wait, L: Ledger>(
         &self,

@@ -1,25 +1,25 @@
-// A channel behind one turn, as the one who has the turn sees it.
+// A channel behind one lock, as the one who holds the lock sees it.
 ghost use Rattle.std.specs.Prelude.{◌≡◌, [], List, length};
 ghost use Rattle.channel_face.specs.History.{Step};
-ghost use Rattle.turn_passes.specs.Views.{View, saw};
-ghost use Rattle.turn_passes.specs.Turns.{Making};
+ghost use Rattle.channel_lock.specs.Views.{View, saw};
+ghost use Rattle.channel_lock.specs.Turns.{Making};
 ghost use Rattle.shared_channel.specs.Calls.{IsOut, IsIn, Left};
 
 use crate::home::Home;
 use channel_face::Channel;
 use std::sync::Wait;
-use turn_passes::{Gather, Place, Turn};
+use channel_lock::{ChannelLock, Gather, Place};
 
 /// A channel that threads share. Its calls have one history, in which each was made whole.
 #[derive(Drop)]
 pub struct Shared<C: Channel> {
-    pub(crate) turn: Turn<Home<C>>,
+    pub(crate) turn: ChannelLock<Home<C>>,
     // Who has staged waits here for one flush.
     pub(crate) flushing: Gather,
 }
 
 impl<C: Channel> Shared<C> {
-    // Takes the turn and the channel, and tells how many calls were counted.
+    // Takes the lock and the channel, and tells how many calls were counted.
     pub(crate) fn enter<R: Wait>(&self, rt: &R, seat: &mut Place<Home<C>>) -> (Home<C>, u64)
         requires table { seat.old.table_id ≡ self.now.turn.table.shared.table_id }
         requires out { IsOut seat.old.me }
@@ -33,7 +33,7 @@ impl<C: Channel> Shared<C> {
         (home, calls)
     }
 
-    // Brings the channel home, gives the turn back, and tells how many calls were counted.
+    // Brings the channel home, releases the lock, and tells how many calls were counted.
     pub(crate) fn leave(&self, seat: &mut Place<Home<C>>, home: Home<C>) -> u64
         requires table { seat.old.table_id ≡ self.now.turn.table.shared.table_id }
         requires within { IsIn C.stands seat.old.me home.channel }

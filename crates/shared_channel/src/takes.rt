@@ -80,7 +80,7 @@ impl<C: Channel> Shared<C> {
         reply
     }
 
-    /// Stages a transaction of takes and flushes, in one turn, as [`Channel::commit_take`], or is refused as `Spent` of
+    /// Stages a transaction of takes and flushes, under one lock, as [`Channel::commit_take`], or is refused as `Spent` of
     /// `Counter::Calls`.
     pub fn commit_take<R: Wait>(
         &self,

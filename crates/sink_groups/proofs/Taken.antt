@@ -17,7 +17,7 @@ taken-append (h ∷ a) b =
     ∙ sym (append_assoc (taken_by h.answer h.member h.batch) (taken a) (taken b))
 
 module _ {S : Type 0} (delivers : S → List Content → ℕ → Result (Unit {0}) SinkRefused → S → Type 0) where
-  -- one list of handings behind another
+  -- one list of handings after another
   handed_on : (a b : List Handing) (old mid new : List S) → AreHanded delivers a old mid → AreHanded delivers b mid new → AreHanded delivers (a ++ b) old new
   handed_on [] b old mid new first second = subst (λ (l : List S). AreHanded delivers b l new) first second
   handed_on (h ∷ a) b old mid new first second = (first.0, first.1, handed_on a b first.0 mid new first.2 second)
@@ -33,7 +33,7 @@ module _ {S : Type 0} (delivers : S → List Content → ℕ → Result (Unit {0
       let rest = refusals batch moment tried are.0 new are.2 in
       (record { member = member; batch = batch; moment = moment; answer = Err sink.Refused } ∷ rest.0, (are.0, are.1, rest.1), rest.2)
 
-  -- one more was handed it behind those that refused
+  -- one more was handed it after those that refused
   reached : (batch : List Content) (moment : ℕ) (due : List ℕ) (member : ℕ) (answer : Result (Unit {0}) SinkRefused) (front back : List ℕ) (old new : List S)
       → Reaches delivers batch moment due member answer front back old new → Handings old new (taken_by answer member batch)
   reached batch moment due member answer front back old new r =

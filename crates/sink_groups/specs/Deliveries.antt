@@ -25,7 +25,7 @@ abbrev pub all_failed : Group → List ℕ → ℕ → Group
 all_failed g [] now = g
 all_failed g (member ∷ tried) now = all_failed (reported g member false now) tried now
 
--- Of the members that are due, those in front of this one refused the batch, and it answered so. Those behind it were not tried.
+-- Of the members that are due, those in front of this one refused the batch, and it answered so. Those after it were not tried.
 pub record Reaches {S : Type 0} (delivers : S → List Content → ℕ → Result (Unit {0}) SinkRefused → S → Type 0) (batch : List Content) (now : ℕ) (due : List ℕ) (member : ℕ) (answer : Result (Unit {0}) SinkRefused) (front back : List ℕ) (old new : List S) : Type 0 where
   pub split : due ≡ front ++ member ∷ back
   pub mid : List S
@@ -40,7 +40,7 @@ Tries delivers batch now g old (Err sink.NoMemory) after new =
     (member : ℕ) × (front back : List ℕ) × Reaches delivers batch now g.due member (Err sink.NoMemory) front back old new × (after ≡ record (all_failed g front now) { due = back })
 Tries delivers batch now g old (Err sink.Refused) after new = AreRefused delivers batch now g.due old new × (after ≡ record (all_failed g g.due now) { due = [] })
 
--- A delivery. Want of memory for the list of those that were tried comes before anything else.
+-- A delivery. Out of memory for the list of those that were tried comes before anything else.
 abbrev pub Delivers : {S : Type 0} → (S → List Content → ℕ → Result (Unit {0}) SinkRefused → S → Type 0) → List Content → ℕ → ℕ → Group → List S → Result ℕ GroupRefused → Group → List S → Type 0
 Delivers delivers batch now draw g old (Ok member) after new = Tries delivers batch now (started g now draw) old (Ok member) after new
 Delivers delivers batch now draw g old (Err (AllFailed tried)) after new = (tried.items ≡ order g now draw) × Tries delivers batch now (started g now draw) old (Err sink.Refused) after new

@@ -35,6 +35,6 @@ pub enum GroupRefused {
         /// The members, by their places in the group's list, from 0.
         tried: Vec<u32>,
     },
-    /// Want of memory.
+    /// Out of memory.
     NoMemory,
 }

@@ -118,7 +118,7 @@ impl<S: EventSink> GroupRun<S> {
     }
 
     /// Delivers a batch to the first member that takes it, and answers that member. `AllFailed` comes exactly where each
-    /// member that was not left alone at this moment was tried and refused it. A member's want of memory is no failure, and
+    /// member that was not left alone at this moment was tried and refused it. A member that is out of memory is no failure, and
     /// ends the delivery.
     pub fn deliver(&mut self, batch: &Batch, now: u64, draw: u64) -> Result<u32, GroupRefused>
         ensures { Delivers S.delivers batch.now now draw self.old.schedule self.old.members.items result self.new.schedule self.new.members.items }

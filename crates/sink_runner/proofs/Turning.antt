@@ -12,7 +12,7 @@ use Rattle.plug_in.specs.declared.sink.SinkRefused.{SinkRefused}
 use Rattle.sink_runner.specs.declared.turn.Turn.{Turn}
 use Rattle.sink_runner.specs.Turns.{HasRoom, HadRoom, AreTaken, EndsTaking, AreTakenUpTo, IsHandedOver, IsTurn, delivered}
 
--- what a face says of its own calls behind an opening and earlier calls
+-- what a face says of its own calls after an opening and earlier calls
 abbrev pub OwnCalls : Type 1
 OwnCalls = Opening → List Step → List Own → Type 0
 
@@ -85,7 +85,7 @@ module _ {S : Type 0} (saw : List Own → State → Type 0) (delivers : S → Li
   turn_over earlier x y z begun taken rolled same =
       (Ok token, x, y ++ z, refl, begun_later first seen early (Ok token) x begun, (taken.0, Err turn, y, z, refl, up_to_later second seen late token batch taken.0 (Err turn) y taken.1, (rolled, refl, same)))
 
--- the commit was answered so behind a delivery of some events
+-- the commit was answered so after a delivery of some events
 pub handed_commit : {S : Type 0} (saw : List Own → State → Type 0) (seen : ℕ) (delivers : S → List Content → ℕ → Result (Unit {0}) SinkRefused → S → Type 0) (token : Token) (events : List Content) (moment : ℕ) (sink after : S) (turn : Turn)
     (before later : OwnCalls) (committed : Result (Unit {0}) FaceRefused) (none : Bool) → (IsTrue none ↔ (events ≡ [])) → none ≡ false → delivers sink events moment (Ok tt) after → turn ≡ delivered (length events) committed
     → Gains before later (IsTakeCommit saw seen token committed) → Gains before later (IsHandedOver saw seen delivers token events moment sink turn after)

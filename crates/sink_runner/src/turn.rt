@@ -36,7 +36,7 @@ pub enum Turn {
     },
     /// The events were delivered, and whether they are taken out of the channel is not known.
     InDoubt,
-    /// Want of memory. Nothing was taken out of the channel.
+    /// Out of memory. Nothing was taken out of the channel.
     NoMemory,
 }
 
@@ -114,7 +114,7 @@ fn hand_over<T: TakeFace, S: EventSink>(
 /// Otherwise it is rolled back. It takes no further event once [`MAX_TURN_SIZE`](crate::MAX_TURN_SIZE) bytes are reached.
 ///
 /// `Empty` comes exactly where the first take answered none. `Failed` has the channel's own refusal, or `Sink` where the sink
-/// refused the batch; want of memory of either is `NoMemory`, and a commit that is in doubt is `InDoubt`.
+/// refused the batch; out of memory of either is `NoMemory`, and a commit that is in doubt is `InDoubt`.
 pub fn drain_turn<T: TakeFace, S: EventSink>(
     alloc: Global,
     from: &mut T,

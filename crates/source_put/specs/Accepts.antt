@@ -53,7 +53,7 @@ module _ {F : Type 0} (Given : Giving F) (selector : Selector) where
       × GivesBoth Given (theirs required events) (theirs optional events) old new refusal
       × (verdict ≡ verdict_of refusal)
 
-  -- by what the chain made of the batch; want of memory may come before any channel is tried
+  -- by what the chain made of the batch; out of memory may come before any channel is tried
   abbrev pub Judges : Result (List Content) Stopped → List F → List F → Verdict → Type 0
   Judges (Ok events) old new verdict = Gives events old new verdict ⊎ ((verdict ≡ NoMemory) × (new ≡ old))
   Judges (Err (stop.TooLarge size)) old new verdict = (verdict ≡ TooLarge size) × (new ≡ old)

@@ -26,7 +26,7 @@ host_text (Host false header preserve) host = string_bytes host.name
 host_text (Static key value preserve) host = []
 host_text (Remove names) host = []
 
--- this event goes on, unless it is too large for one; want of memory may come at any time
+-- this event goes on, unless it is too large for one; out of memory may come at any time
 abbrev pub IsMade : Content → Passed → Type 0
 IsMade made (Event event) = (event ≡ made) × (size_of made ≤ 33_554_432)
 IsMade made Dropped = ⊥
@@ -58,7 +58,7 @@ IfWent NoMemory P Q = Q
 abbrev pub Outcome : Type 0
 Outcome = Result (List Content) Stopped
 
--- the events that go on behind this one
+-- the events that go on after this one
 abbrev pub behind : Content → Outcome → Outcome
 behind event (Ok events) = Ok (event ∷ events)
 behind event (Err why) = Err why
@@ -91,7 +91,7 @@ module _ {B : Type 0} (Means : Meaning B) (moment : ℕ) (host : HostNames) wher
       × Links link event made first × (after ≡ first ∷ others)
       × IfWent made (λ next. Passes links next passed others) ((passed ≡ made) × (others ≡ links))
 
-  -- by what became of the first event, and of the rest; want of memory may come at any time
+  -- by what became of the first event, and of the rest; out of memory may come at any time
   abbrev pub GoesOn : Passed → List (ChainLink B) → Outcome → List (ChainLink B) → (Outcome → Type 0) → Type 0
   GoesOn (Event made) next result after Rest =
       ((rest : Outcome) × Rest rest × (result ≡ behind made rest))

@@ -12,7 +12,7 @@ use Rattle.source_put.specs.Chains.{Intercepts, Meaning, Outcome}
 use Rattle.source_put.specs.Tries.{Giving}
 use Rattle.source_put.specs.Accepts.{Judges}
 
--- the interceptors that a batch passes, and the channels behind them
+-- the interceptors that a batch passes, and the channels after them
 pub record Route (F B : Type 0) : Type 0 where
   pub links : List (ChainLink B)
   pub ports : List F
@@ -31,6 +31,6 @@ module _ {F : Type 0} (Given : Giving F) (selector : Selector) {B : Type 0} (Mea
 abbrev pub with_port : {F B : Type 0} → Intake F B → ℕ → F → Intake F B
 with_port intake place port = record intake { ports = slice_set intake.ports place port }
 
--- once the loan of a channel ends, what was left behind it is in its place, and all else is the same
+-- once the loan of a channel ends, what was left after it is in its place, and all else is the same
 abbrev pub LendsPort : (F B : RattleType) → MutBor (Intake F.Denot B.Denot) → ℕ → MutBor F.Denot → Fml
 LendsPort F B intake place port = Lends (the_row F B) F intake port (with_port intake.now place)

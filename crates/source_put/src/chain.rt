@@ -43,7 +43,7 @@ pub enum Passed {
     Dropped,
     /// An event of this size would have been made, which is more than an event may have.
     TooLarge { size: u64 },
-    /// Want of memory.
+    /// Out of memory.
     NoMemory,
 }
 
@@ -52,7 +52,7 @@ pub enum Passed {
 pub enum Stopped {
     /// An event of this size would have been made, which is more than an event may have.
     TooLarge { size: u64 },
-    /// Want of memory.
+    /// Out of memory.
     NoMemory,
 }
 

@@ -31,7 +31,7 @@ pub enum Verdict {
     TooLarge {
         size: u64,
     },
-    /// Want of memory. The channels before the one that wanted it took their events.
+    /// Out of memory. The channels before the one that wanted it took their events.
     NoMemory,
 }
 
@@ -45,7 +45,7 @@ pub struct Intake<F, B = Box<dyn Interceptor + Send>> {
     ports: Ports<F>,
 }
 
-// Whether a channel refused for want of memory.
+// Whether a channel refused when out of memory.
 fn is_want(cause: &FaceRefused) -> bool
     ensures { result ≡ is_want cause.now }
 {
@@ -128,7 +128,7 @@ impl<F: PutFace + Drop, B: Interceptor> Intake<F, B> {
         self.ports.count()
     }
 
-    /// Lends one of the channels, by its place. It takes no memory. What is left behind the loan is then in its place, and
+    /// Lends one of the channels, by its place. It takes no memory. What is left after the loan is then in its place, and
     /// nothing else changes.
     pub fn port(&mut self, place: u32) -> &mut F
         requires { place < length self.old.ports }

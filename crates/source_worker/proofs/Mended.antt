@@ -20,7 +20,7 @@ refused_err (Ok first ∷ answers) answer refused is err = refused_err answers a
 refused_err (Err cause ∷ answers) answer refused is err = is
 
 module _ {F : Type 0} (Mend : F → Answer → F → Type 0) (all : List F) where
-  -- whatever the channels that are left answer, is what all answer behind these answers
+  -- whatever the channels that are left answer, is what all answer after these answers
   pub record AreMended (answers : List Answer) (done left : List F) : Type 0 where
     pub goes : (others : List Answer) (news : List F) → MendsEach Mend left others news → MendsEach Mend all (answers ++ others) (done ++ news)
 

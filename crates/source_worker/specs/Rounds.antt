@@ -146,7 +146,7 @@ module _ {S : Type 0} (Session : S → Option LinkTold → LinkEnd → S → Opt
   Rounds [] old new = new ≡ old
   Rounds (round ∷ rounds) old new = (next : Serving S) × Makes round old next × Rounds rounds next new
 
-  -- At least one round was made, and behind one whose session was told to stop none followed. Without a chain no session began.
+  -- At least one round was made, and after one whose session was told to stop none followed. Without a chain no session began.
   pub record WorksBy (built : Bool) (old new : Serving S) : Type 0 where
     pub front : List Round
     pub last : Round

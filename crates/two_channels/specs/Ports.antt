@@ -40,7 +40,7 @@ module _ {R A B : Type 0} where
   later_port_none (Disk p) = later_none p.pass
   later_port_none (Memory p) = later_none p.pass
 
-  -- calls behind calls
+  -- calls after calls
   pub later_port_then : (p q r : EitherPort R A B) → LaterPort p q → LaterPort q r → LaterPort p r
   later_port_then (Disk p) (Disk q) (Disk r) f g = later_then p.pass q.pass r.pass f g
   later_port_then (Disk p) (Disk q) (Memory r) f g = absurd g

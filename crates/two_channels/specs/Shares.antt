@@ -7,7 +7,7 @@ use Rattle.shared_channel.specs.Calls.{Left, Looks}
 use Rattle.shared_channel.specs.Counting.{StandsAgreeing}
 use Rattle.shared_channel.specs.Durables.{Mends}
 use Rattle.shared_channel.specs.Passes.{Known}
-use Rattle.turn_passes.specs.Views.{View}
+use Rattle.channel_lock.specs.Views.{View}
 use Rattle.two_channels.specs.Ports.{IsOnDisk}
 use Rattle.two_channels.specs.declared.port.EitherPort.{EitherPort}
 use Rattle.two_channels.specs.declared.shared.EitherShared.{EitherShared}

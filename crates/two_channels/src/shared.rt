@@ -2,8 +2,8 @@
 ghost use Rattle.std.specs.Prelude.{◌≡◌};
 ghost use Rattle.channel_face.specs.Counters.{counts_of};
 ghost use Rattle.shared_channel.specs.Calls.{state_seen};
-ghost use Rattle.turn_passes.specs.Calls.{calls_by};
-ghost use Rattle.turn_passes.specs.Turns.{HasAll};
+ghost use Rattle.channel_lock.specs.Calls.{calls_by};
+ghost use Rattle.channel_lock.specs.Turns.{HasAll};
 ghost use Rattle.two_channels.specs.Ports.{pass_of as port_pass};
 ghost use Rattle.two_channels.specs.Shares.{IsPortOf, LeftIn, LooksIn, StandsClosed, pass_of, table_of};
 

@@ -24,7 +24,7 @@ roomier s o p i i' r r' f sound events places = record {
   front = sound.front;
 }
 
--- what is staged stands behind what is settled
+-- what is staged stands after what is settled
 pub enough : (s : State) (copies : List (ℕ × Entry)) (all : List Entry) (settled room kept : ℕ) → IsShadow s copies all settled room → kept ≤ length s.staged → settled + kept ≤ length all
 enough s copies all settled room kept shadow few =
     let staged : length s.staged ≡ length (drop settled all) = ap (λ (l : List Entry). length l) (sym shadow.staged) in

@@ -101,7 +101,7 @@ fn is_empty(entry: &Entry) -> bool
     }
 }
 
-/// Moves the copy of the open transaction of this number behind what was staged.
+/// Moves the copy of the open transaction of this number after what was staged.
 pub(crate) fn stage_copy(copies: &mut Vec<OpenCopy>, entries: &mut Vec<Entry>, number: u64)
     requires { length entries.old.items + length copies.old.items ≤ vec_capacity entries.old }
     ensures copies { copies.new.items ≡ without_entry number copies.old.items }

@@ -264,7 +264,7 @@ impl CountedLists {
         note(&mut self.counts, Call::Flush, Reply::quiet(false));
     }
 
-    /// A reopen that keeps so many of the staged entries. After want of memory the channel is broken.
+    /// A reopen that keeps so many of the staged entries. Once it was out of memory, the channel is broken.
     pub fn restart(&mut self, kept: usize) -> Result<(), NoMemory>
         requires kind { self.old.state.rules.kind ≡ Kind.File }
         requires kept { kept ≤ length self.old.state.staged }
@@ -304,7 +304,7 @@ impl CountedLists {
         self.lists.free_number()
     }
 
-    /// Counts a put that is refused for want of memory before it comes to the lists.
+    /// Counts a put that is refused when out of memory before it comes to the lists.
     pub fn out_of_memory(&mut self)
         ensures put { (token : Token) (event : Content) → Makes self.old (Put token event (Err PutNo.NoMemory)) self.new }
         ensures state { self.new.state ≡ self.old.state }

@@ -662,7 +662,7 @@ impl ChannelLists {
         self.ends = ends;
     }
 
-    /// A reopen that keeps so many of the staged entries. After want of memory the channel is broken.
+    /// A reopen that keeps so many of the staged entries. Once it was out of memory, the channel is broken.
     pub fn restart(&mut self, kept: usize) -> Result<(), NoMemory>
         requires kind { self.old.rules.kind ≡ Kind.File }
         requires kept { kept ≤ length self.old.staged }

@@ -308,7 +308,7 @@ impl Machine {
         self.lists.fail();
     }
 
-    /// A reopening that keeps so many of the staged entries, and the number of the next transaction. After want of memory the
+    /// A reopening that keeps so many of the staged entries, and the number of the next transaction. Once it was out of memory, the
     /// channel is broken.
     pub fn restart(&mut self, kept: u32) -> Result<(), NoMemory>
         requires kind { self.old.counted.state.rules.kind ≡ Kind.File }

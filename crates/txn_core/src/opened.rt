@@ -338,7 +338,7 @@ pub(crate) fn remove_at(opened: &mut Vec<Open>, place: usize) -> Open
     opened.remove(place)
 }
 
-/// Puts a value behind the others, for which there is room.
+/// Puts a value after the others, for which there is room.
 pub(crate) fn push_within<T: Drop>(list: &mut Vec<T>, last: T)
     requires { length list.old.items < vec_capacity list.old }
     ensures items { list.new.items ≡ list.old.items ++ last ∷ [] }

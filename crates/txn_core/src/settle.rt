@@ -13,7 +13,7 @@ use event_core::Event;
 /// An event that is left, with its number.
 pub(crate) type Item = (u64, Event);
 
-// Moves a transaction's puts behind the items, with numbers from the first on.
+// Moves a transaction's puts after the items, with numbers from the first on.
 fn move_events(from: &mut Open, items: &mut Vec<Item>, first: u64) -> u64
     requires room { length items.old.items + length (puts_in from.old.1) ≤ vec_capacity items.old }
     requires numbers { first + length (puts_in from.old.1) < 2 ^ 64 }

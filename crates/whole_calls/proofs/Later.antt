@@ -7,8 +7,8 @@ use Rattle.channel_face.specs.Machine.{BeginPut, BeginTake, Call, Checkpoint, Fl
 use Rattle.channel_face.specs.Token.{Token}
 use Rattle.shared_channel.specs.Ports.{own_calls}
 use Rattle.shared_channel.proofs.Porting.{own-append, own-none}
-use Rattle.turn_passes.specs.Calls.{calls_by}
-use Rattle.turn_passes.proofs.Histories.{calls_by-append, nil_of}
+use Rattle.channel_lock.specs.Calls.{calls_by}
+use Rattle.channel_lock.proofs.Histories.{calls_by-append, nil_of}
 use Rattle.whole_calls.specs.Over.{AreOver, IsOver, StayOver}
 use Rattle.whole_calls.proofs.Ending.{Stale, ended_run, ended_stale, kept_run, stale_ended}
 use Rattle.whole_calls.proofs.Origins.{kept_opening}

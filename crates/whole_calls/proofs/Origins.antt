@@ -9,7 +9,7 @@ use Rattle.channel_face.proofs.Opened.{Opened, entry_of-push}
 use Rattle.shared_channel.specs.Calls.{state_seen}
 use Rattle.shared_channel.specs.Ports.{own_calls, own_if}
 use Rattle.shared_channel.proofs.Porting.{own-append}
-use Rattle.turn_passes.specs.Calls.{Below, has}
+use Rattle.channel_lock.specs.Calls.{Below, has}
 use Rattle.whole_calls.specs.Over.{AreOver, EachIsOver, IsOver, NoneIsOpen}
 use Rattle.whole_calls.proofs.Shapes.{Began, Kept, Renewed, Same, Shape, With, Without, begins, entry_other, fresh, is_takes, kept_after, kind, kind_with, kind_without, shape}
 use Rattle.whole_calls.proofs.Ending.{Stale, no_puts, no_takes, seen_in}

@@ -4,9 +4,9 @@ use Rattle.channel_face.specs.Faces.{Own}
 use Rattle.channel_face.specs.History.{IsRun, Step, state_after}
 use Rattle.channel_face.specs.Machine.{State, after}
 use Rattle.shared_channel.specs.Ports.{own_calls, own_if}
-use Rattle.turn_passes.specs.Calls.{has}
+use Rattle.channel_lock.specs.Calls.{has}
 
--- Behind these own calls this one was made, in a history from a state.
+-- After these own calls this one was made, in a history from a state.
 pub record IsAt (ns : List ℕ) (s : State) (h : List Step) (a : List Own) (o : Own) : Type 0 where
   pub front : List Step
   pub step : Step
@@ -62,7 +62,7 @@ place ns s (x ∷ h) a o b is = by_own (has ns x.pass) refl a (λ c rest. place 
           before = rest.before;
         }
 
--- the machine's answers in front, and behind
+-- the machine's answers in front, and after
 
 pub run_front : (tells : Bool) (s : State) (a b : List Step) → IsRun tells s (a ++ b) → IsRun tells s a
 run_front tells s [] b run = tt

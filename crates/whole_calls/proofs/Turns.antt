@@ -106,7 +106,7 @@ module _ (tells : Bool) (ns : List ℕ) (start : Opening) (whole : List Step) (r
   may : (own : List Own) (o : Own) → (p : at own o) → Admits tells (state_after (opening start) p.front) p.step.call
   may own o p = (run_behind tells (opening start) p.front (p.step ∷ p.back) (subst (IsRun tells (opening start)) p.split run)).0
 
-  -- behind a call that ends a transaction
+  -- after a call that ends a transaction
   ended_behind : (takes : Bool) (token : Token) (own : List Own) (call : Call) (s : State) (moment : ℕ) (more : List Own) → more ≡ one call s moment → IsPrefix (own ++ more) all
       → ((s : State) → Admits tells s call → Kept s → Ended takes (after s call) token) → Stale takes end token
   ended_behind takes token own call s moment more is p ends =
@@ -119,7 +119,7 @@ module _ (tells : Bool) (ns : List ℕ) (start : Opening) (whole : List Step) (r
       ended_at takes token (q.front ++ q.step ∷ []) q.back (q.split ∙ sym (append_assoc q.front (q.step ∷ []) q.back))
       (subst (λ (x : State). Ended takes x token) (sym (state_append (opening start) q.front (q.step ∷ []) ∙ ap (after before) q.call)) ended)
 
-  -- behind a begin the token was given before
+  -- after a begin the token was given before
   pub begun_before : (takes : Bool) (token : Token) (own : List Own) (front back : List Step) → HasBegun takes token own → whole ≡ front ++ back → own_calls ns (opening start) front ≡ own → Earlier (state_after (opening start) front) token
   begun_before takes token own front back has split is =
       let q = place ns (opening start) front has.front has.begin has.back (is ∙ has.split) in
@@ -145,7 +145,7 @@ module _ (tells : Bool) (ns : List ℕ) (start : Opening) (whole : List Step) (r
     over_rolls true b token s moment own is = subst (AreOver end) (sym is) (tt, tt)
     over_rolls false b token s moment own is = subst (AreOver end) (sym is) (tt, tt)
 
-    -- behind a rollback
+    -- after a rollback
     rolled : (takes : Bool) (token : Token) (earlier own : List Own) → HasBegun takes token earlier → IsPrefix (earlier ++ own) all → IsRolledBack saw (rolls takes token) (λ s. Stale takes s token) earlier own → Stale takes end token × AreOver end own
     rolled takes token earlier own has p (inl (s, moment, is)) =
         (ended_behind takes token earlier (rolls takes token true) s moment own is p (λ x m k. rolled_ended tells takes x token m k), over_rolls takes true token s moment own is)
@@ -153,7 +153,7 @@ module _ (tells : Bool) (ns : List ℕ) (start : Opening) (whole : List Step) (r
     rolled takes token earlier own has p (inr (s, found, stale, inr (moment, is))) = (stale_found takes token earlier own s has p found stale, over_rolls takes false token s moment own is)
 
     module _ (seen : ℕ) where
-      -- behind a commit of takes
+      -- after a commit of takes
       committed : (token : Token) (result : Result (Unit {0}) FaceRefused) (earlier own : List Own) → HasBegun true token earlier → IsPrefix (earlier ++ own) all → IsTakeCommit saw seen token result earlier own → Stale true end token × AreOver end own
       committed token result earlier own has p (Ok ticket, s, staged, ending, split, (moment, is), (sure, (t, found, last), answer)) =
           let q = prefix_parts earlier own staged ending all split p in (
@@ -164,7 +164,7 @@ module _ (tells : Bool) (ns : List ℕ) (start : Opening) (whole : List Step) (r
           let r = rolled true token (earlier ++ staged) ending (begun_more true token earlier staged has) (prefix_parts earlier own staged ending all split p) back in
           (r.0, over_split end own staged ending split (over_made end s seen (is_spent_stage (Err cause)) (StageTake token (Err cause)) staged tt made) r.1)
 
-      -- behind a stage of puts
+      -- after a stage of puts
       put_staged : (token : Token) (result : Result ℕ FaceRefused) (earlier own : List Own) → HasBegun false token earlier → IsPrefix (earlier ++ own) all → IsPutStage saw seen token result earlier own → Stale false end token × AreOver end own
       put_staged token result earlier own has p (Ok ticket, s, staged, ending, split, (moment, is), (sure, (t, found, last), answer)) =
           let q = prefix_parts earlier own staged ending all split p in (

@@ -22,13 +22,13 @@ EachStaysOver pass (old ∷ olds) (new ∷ news) = StaysOver (pass old) (pass ne
 EachStaysOver pass olds news = ⊥
 
 module _ {F : Type 0} (pass : F → Known) (saw : F → List Own → State → Type 0) (kept : F → F → Type 0) where
-  -- Where the passes of a source's ports had left none open, they leave none open behind a batch.
+  -- Where the passes of a source's ports had left none open, they leave none open after a batch.
   abbrev pub BatchesAreOver : {B : Type 0} → Meaning B → Type 0
   BatchesAreOver {B} Means =
       (selector : Selector) (host : HostNames) (moment : ℕ) (old new : Route F B) (batch : List Content) (verdict : Verdict)
       → Accepts (PortPuts pass saw kept) selector Means moment host old batch verdict new → EachStaysOver pass old.ports new.ports
 
-  -- nor behind the rounds of a listener
+  -- nor after the rounds of a listener
   abbrev pub ListensAreOver : (F → Type 0) → {B : Type 0} → Meaning B → Type 0
   ListensAreOver on_disk {B} Means =
       (rules : SessionRules) (selector : Selector) (host : HostNames) (rounds : List Round) (old new : Serving (Into F B))

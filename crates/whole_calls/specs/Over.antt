@@ -6,9 +6,9 @@ use Rattle.channel_face.specs.History.{IsRun, opening}
 use Rattle.channel_face.specs.Machine.{BeginPut, BeginTake, Call, State, puts_of, takes_of}
 use Rattle.shared_channel.specs.Calls.{state_seen}
 use Rattle.shared_channel.specs.Ports.{own_calls}
-use Rattle.turn_passes.specs.Calls.{Below, has}
-use Rattle.turn_passes.specs.Turns.{Has, HasAll}
-use Rattle.turn_passes.specs.Views.{View, part}
+use Rattle.channel_lock.specs.Calls.{Below, has}
+use Rattle.channel_lock.specs.Turns.{Has, HasAll}
+use Rattle.channel_lock.specs.Views.{View, part}
 
 -- the transaction that a call began, if any, is open no more in this state
 abbrev pub IsOver : State → Call → Type 0

@@ -55,7 +55,7 @@ pub record Becomes (c d : Channel) (added : Added) : Type 0 where
   pub named : d.named ≡ c.named ++ names_of added
   pub life : d.state.life ≡ c.state.life
 
--- it is opened again: what is behind this place is lost
+-- it is opened again: what is after this place is lost
 pub record Reopens (c d : Channel) (cut : ℕ) : Type 0 where
   pub history : Is d
   pub later : d.later ≡ c.later
@@ -91,7 +91,7 @@ quiet c s history staged life = record {
 no_spill : (kind : Kind) → kind ≡ OnFile → MaySpill kind false
 no_spill kind is = subst (λ (k : Kind). MaySpill k false) (sym is) tt
 
--- the events are put, behind those that were
+-- the events are put, after those that were
 record AllPut (s s' : State) (token : Token) (events : List Content) (j : List Entry) : Type 0 where
   history : IsHistory s' j
   life : s'.life ≡ s.life

@@ -9,7 +9,7 @@ use Rattle.world_laws.proofs.Moving.{Moved, Went, moves, node_after, sent_by}
 use Rattle.world_laws.proofs.Staying.{goes, all_go, required_same, acks_stay, outputs_stay, node_goes}
 use Rattle.world_laws.proofs.Keeping.{step_holds}
 
--- two lists, one behind the other
+-- two lists, one after the other
 behind : {A : Type 0} (xs ys zs more rest : List A) → ys ≡ xs ++ more → zs ≡ ys ++ rest → zs ≡ xs ++ (more ++ rest)
 behind xs ys zs more rest one two = two ∙ (ap (λ (l : List _). l ++ rest) one ∙ append_assoc xs more rest)
 

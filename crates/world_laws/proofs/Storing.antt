@@ -295,7 +295,7 @@ module _ (w : World) (n : ℕ) (old : Node) (number : ℕ) (work : Work) (is_wor
       once a b e (inr p) (inl q) = absurd (q.2 (was.once b (AWork number) e q.1 p.1))
       once a b e (inr p) (inr q) = p.0 ∙ sym q.0
 
--- a channel is mended: the works that are left have no entry behind its journal
+-- a channel is mended: the works that are left have no entry after its journal
 
 front_named : (channel journal : ℕ) (entries : List (ℕ × ℕ)) → has_from channel journal entries ≡ false → (i : ℕ) (e : ℕ × ℕ) → slice_get entries i ≡ Some e → e.0 ≡ channel → e.1 < journal
 front_named channel journal [] none i e has same = absurd (no_some e has)

@@ -14,7 +14,7 @@ use Rattle.flume_host.specs.HostState.{Folders, HostState}
 use Rattle.run_tracks.specs.Dealt.{AreDealt}
 use Rattle.run_tracks.specs.Homes.{AreHomes, EachTook}
 use Rattle.shared_channel.specs.Passes.{Known}
-use Rattle.turn_passes.specs.Turns.{HasAll}
+use Rattle.channel_lock.specs.Turns.{HasAll}
 use Rattle.two_channels.specs.Shares.{table_of}
 use Rattle.two_channels.specs.declared.shared.EitherShared.{EitherShared}
 use Rattle.file_channel.specs.Stands.{FileState}

@@ -3,7 +3,7 @@ use Rattle.std.proofs.lemmas.List.{get_or_default}
 use Rattle.std.specs.List.{insert}
 use Rattle.shared_channel.specs.Passes.{Known}
 use Rattle.sink_worker.specs.Rounds.{told}
-use Rattle.turn_passes.specs.Calls.{has}
+use Rattle.channel_lock.specs.Calls.{has}
 use Rattle.two_channels.specs.Shares.{table_of}
 use Rattle.agent_run.specs.Draining.{IsDrainedAt, IsDrainedHome}
 use Rattle.agent_run.proofs.Chaining.{drained_set, put_back}

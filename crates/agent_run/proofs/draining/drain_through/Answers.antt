@@ -1,7 +1,7 @@
 use Rattle.std.proofs.Common.{◌≡◌, ◌∙◌, ℕ, List, ap, subst, sym, true}
 use Rattle.shared_channel.specs.Passes.{Known}
 use Rattle.sink_worker.specs.Rounds.{told}
-use Rattle.turn_passes.specs.Calls.{has}
+use Rattle.channel_lock.specs.Calls.{has}
 use Rattle.agent_run.specs.Draining.{under}
 use Rattle.agent_run.proofs.Chaining.{drained_under, turned_to}
 use Rattle.agent_run.proofs.draining.drain_through.Goals as goal

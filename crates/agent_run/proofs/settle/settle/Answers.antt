@@ -4,7 +4,7 @@ use Rattle.std.specs.declared.alloc.Global.{Global}
 use Rattle.channel_face.specs.declared.replies.Counts.{Counts}
 use Rattle.channel_face.specs.declared.replies.OpenCause.{OpenCause}
 use Rattle.shared_channel.specs.Passes.{Known}
-use Rattle.turn_passes.specs.Turns.{HasAll}
+use Rattle.channel_lock.specs.Turns.{HasAll}
 use Rattle.two_channels.specs.Shares.{table_of}
 use Rattle.two_channels.specs.declared.shared.EitherShared.{EitherShared}
 use Rattle.run_tracks.specs.Closes.{AreClosed, IsClosed}

@@ -6,7 +6,7 @@ use Rattle.prop_text.specs.Views.{views}
 use Rattle.prop_text.proofs.TableSteps.{onto}
 use Rattle.prop_text.proofs.table.winners.Given as goal
 
--- the pairs so far are in the table, and in front of those of the lines behind them are those of all
+-- the pairs so far are in the table, and in front of those of the lines after them are those of all
 abbrev pub invariant-loop-line : goal.invariant-loop-line
 invariant-loop-line l = record {
   done : List Pair;

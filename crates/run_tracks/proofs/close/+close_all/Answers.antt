@@ -2,8 +2,8 @@ use Rattle.std.proofs.Common.{rules, ◌≡◌, ◌∙◌, ◌≤◌, List, [], 
 use Rattle.std.proofs.lemmas.List.{length-append}
 use Rattle.std.proofs.lemmas.List.Elements.{All-pop}
 use Rattle.std.specs.Vec.{vec_capacity}
-use Rattle.turn_passes.specs.Turns.{HasAll}
-use Rattle.turn_passes.specs.Views.{saw}
+use Rattle.channel_lock.specs.Turns.{HasAll}
+use Rattle.channel_lock.specs.Views.{saw}
 use Rattle.channel_face.specs.History.{Step}
 use Rattle.shared_channel.specs.Passes.{Known}
 use Rattle.two_channels.specs.Shares.{StandsClosed, table_of}

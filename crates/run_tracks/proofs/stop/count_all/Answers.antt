@@ -4,7 +4,7 @@ use Rattle.std.proofs.lemmas.List.Elements.{All-set}
 use Rattle.channel_face.specs.Counters.{counts_of}
 use Rattle.channel_face.specs.declared.replies.Counts.{Counts}
 use Rattle.shared_channel.specs.Passes.{Known}
-use Rattle.turn_passes.specs.Turns.{HasAll}
+use Rattle.channel_lock.specs.Turns.{HasAll}
 use Rattle.two_channels.specs.Shares.{table_of}
 use Rattle.run_tracks.specs.Stops.{IsCounted}
 use Rattle.run_tracks.proofs.Stopping.{homes_set, looked_at, up_to_more}

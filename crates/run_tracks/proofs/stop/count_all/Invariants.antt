@@ -2,7 +2,7 @@ use Rattle.std.proofs.Common.{All, []}
 use Rattle.run_tracks.specs.Homes.{AreHomes}
 use Rattle.run_tracks.specs.Stops.{IsCounted}
 use Rattle.run_tracks.proofs.Stopping.{UpTo}
-use Rattle.turn_passes.specs.Turns.{HasAll}
+use Rattle.channel_lock.specs.Turns.{HasAll}
 use Rattle.two_channels.specs.Shares.{table_of}
 use Rattle.run_tracks.proofs.stop.count_all.Given as goal
 

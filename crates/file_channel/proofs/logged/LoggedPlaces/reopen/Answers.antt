@@ -32,7 +32,7 @@ returns-then-life-clause-any_moment g c =
     let m = c.self.inside in
     rw (← c.self.view_is) (leaves_still (g.D.Disk.told m.writing.disk) (record { places = m.held; log = m.writing.log; busy = m.writing.busy }))
 
--- for want of memory
+-- when out of memory
 
 pub invariant_of-self-in_default : goal.invariant_of-self-in_default
 invariant_of-self-in_default g c =

@@ -1,8 +1,8 @@
 use Rattle.std.proofs.Common.{rules, ◌≡◌, [], ◌∷◌, sym, ap, subst, true}
 use Rattle.channel_face.specs.Machine.{State}
 use Rattle.channel_face.specs.History.{opening, state_after}
-use Rattle.turn_passes.specs.Calls.{has}
-use Rattle.turn_passes.specs.Views.{View}
+use Rattle.channel_lock.specs.Calls.{has}
+use Rattle.channel_lock.specs.Views.{View}
 use Rattle.shared_channel.specs.Calls.{Looks, state_seen}
 use Rattle.shared_channel.specs.Passes.{Known, view_of}
 use Rattle.shared_channel.proofs.Keeping.{kept_shows}

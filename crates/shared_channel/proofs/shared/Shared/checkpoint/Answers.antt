@@ -1,6 +1,6 @@
 use Rattle.std.proofs.Common.{rules, ◌≡◌, [], ◌∷◌, subst, true}
 use Rattle.channel_face.specs.Machine.{Checkpoint}
-use Rattle.turn_passes.specs.Calls.{has}
+use Rattle.channel_lock.specs.Calls.{has}
 use Rattle.shared_channel.specs.Calls.{Answers}
 use Rattle.channel_face.specs.Keeps.{is_spent_check}
 use Rattle.shared_channel.specs.Passes.{Known, view_of}

@@ -1,7 +1,7 @@
 use Rattle.std.proofs.Common.{rules, ◌≡◌, [], ◌∷◌, ap, subst}
 use Rattle.channel_face.specs.History.{Opening}
-use Rattle.turn_passes.specs.Views.{View, idle}
-use Rattle.turn_passes.proofs.Histories.{all_own}
+use Rattle.channel_lock.specs.Views.{View, idle}
+use Rattle.channel_lock.proofs.Histories.{all_own}
 use Rattle.shared_channel.specs.Calls.{Left}
 use Rattle.shared_channel.specs.Counting.{StandsAgreeing}
 use Rattle.shared_channel.specs.Passes.{Known, view_of}

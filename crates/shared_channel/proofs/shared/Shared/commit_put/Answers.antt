@@ -1,6 +1,6 @@
 use Rattle.std.proofs.Common.{rules, ◌≡◌, [], ◌∷◌, subst, true}
 use Rattle.channel_face.specs.Machine.{StagePut}
-use Rattle.turn_passes.specs.Calls.{has}
+use Rattle.channel_lock.specs.Calls.{has}
 use Rattle.shared_channel.specs.Calls.{Commits, is_spent_commit}
 use Rattle.shared_channel.specs.Passes.{Known, view_of}
 use Rattle.shared_channel.proofs.Turning.{commits, committed_on, pass_after, of_views}

@@ -1,7 +1,7 @@
 use Rattle.std.proofs.Common.{◌≡◌, length, ◌-◌, ◌≤◌, []}
 use Rattle.std.specs.Prelude.{All}
 use Rattle.std.specs.Vec.{vec_capacity}
-use Rattle.turn_passes.specs.Views.{dealer_of}
+use Rattle.channel_lock.specs.Views.{dealer_of}
 use Rattle.shared_channel.specs.Passes.{new_passes, IsBlank}
 use Rattle.shared_channel.proofs.shared.Shared.deal_all.Given as goal
 

@@ -1,5 +1,5 @@
 use Rattle.std.proofs.Common.{rules, ◌≡◌, [], ◌∷◌, subst, sym, ℕ, List}
-use Rattle.turn_passes.specs.Views.{View, both, joined}
+use Rattle.channel_lock.specs.Views.{View, both, joined}
 use Rattle.shared_channel.specs.Passes.{IsPass}
 use Rattle.shared_channel.proofs.Turning.{pass_joined}
 use Rattle.shared_channel.proofs.shared.Shared.join_pass.Goals as goal

@@ -1,9 +1,9 @@
 use Rattle.std.proofs.Common.{rules, sym, subst, ◌≡◌, Option}
 use Rattle.atomic_table.specs.Table.{Me}
-use Rattle.turn_passes.specs.Turns.{Making}
+use Rattle.channel_lock.specs.Turns.{Making}
 use Rattle.shared_channel.specs.declared.home.Home.{Home}
 use Rattle.std.proofs.lemmas.Grind.{common_steps}
-use Rattle.turn_passes.specs.Views.{View, idle}
+use Rattle.channel_lock.specs.Views.{View, idle}
 use Rattle.shared_channel.proofs.Turning.{left}
 use Rattle.shared_channel.proofs.shared.Shared.leave.Goals as goal
 

@@ -4,7 +4,7 @@ use Rattle.channel_face.specs.Machine.{StageTake, Flush}
 use Rattle.channel_face.specs.History.{Said}
 use Rattle.channel_face.specs.Faces.{is_spent_stage, is_spent_flush}
 use Rattle.channel_face.specs.declared.replies.CommitRefused.TheVariants.{Stage}
-use Rattle.turn_passes.specs.Calls.{has}
+use Rattle.channel_lock.specs.Calls.{has}
 use Rattle.shared_channel.specs.Calls.{step, made_if, Makes, MakesCommit}
 use Rattle.shared_channel.proofs.Turning.{makes_then, unspent}
 use Rattle.shared_channel.proofs.shared.Shared.make_commit_take.Goals as goal

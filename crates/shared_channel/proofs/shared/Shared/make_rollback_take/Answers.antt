@@ -2,9 +2,9 @@ use Rattle.std.proofs.Common.{subst, Bool, true, false, ◌≡◌, List, [], ◌
 use Rattle.channel_face.specs.Token.{Token}
 use Rattle.channel_face.specs.Machine.{RollbackTake}
 use Rattle.channel_face.specs.History.{Step, AddsOne}
-use Rattle.turn_passes.specs.Calls.{has}
-use Rattle.turn_passes.specs.Turns.{Making}
-use Rattle.turn_passes.specs.Views.{View, with_call}
+use Rattle.channel_lock.specs.Calls.{has}
+use Rattle.channel_lock.specs.Turns.{Making}
+use Rattle.channel_lock.specs.Views.{View, with_call}
 use Rattle.shared_channel.specs.Calls.{step}
 use Rattle.shared_channel.proofs.Keeping.{rolled_take, room_take, stale_take}
 use Rattle.shared_channel.proofs.Turning.{makes_none, makes_kept}

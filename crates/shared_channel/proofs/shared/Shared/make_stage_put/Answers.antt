@@ -5,9 +5,9 @@ use Rattle.channel_face.specs.Machine.{StagePut, next_number, puts_of, size_of_l
 use Rattle.channel_face.specs.Faces.{is_spent_stage}
 use Rattle.channel_face.proofs.Spent.{stage_put_spares}
 use Rattle.channel_face.specs.History.{Step}
-use Rattle.turn_passes.specs.Calls.{has}
-use Rattle.turn_passes.specs.Turns.{Making}
-use Rattle.turn_passes.specs.Views.{View, with_call}
+use Rattle.channel_lock.specs.Calls.{has}
+use Rattle.channel_lock.specs.Turns.{Making}
+use Rattle.channel_lock.specs.Views.{View, with_call}
 use Rattle.shared_channel.specs.Calls.{step, state_seen, Bounds}
 use Rattle.shared_channel.proofs.Keeping.{answered_by}
 use Rattle.shared_channel.proofs.Turning.{makes_none, makes_one}

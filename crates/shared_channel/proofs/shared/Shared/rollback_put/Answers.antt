@@ -1,6 +1,6 @@
 use Rattle.std.proofs.Common.{rules, ◌≡◌, [], ◌∷◌, subst, true, None}
 use Rattle.channel_face.specs.Machine.{State, RollbackPut, puts_of}
-use Rattle.turn_passes.specs.Calls.{has}
+use Rattle.channel_lock.specs.Calls.{has}
 use Rattle.shared_channel.specs.Calls.{RolledBack}
 use Rattle.shared_channel.specs.Passes.{Known, view_of}
 use Rattle.shared_channel.proofs.Turning.{rolled_back, pass_after, of_views}

@@ -1,6 +1,6 @@
 use Rattle.std.proofs.Common.{rules, ◌≡◌, [], ◌∷◌, ap, subst, sym, true}
-use Rattle.turn_passes.specs.Calls.{has}
-use Rattle.turn_passes.specs.Views.{View}
+use Rattle.channel_lock.specs.Calls.{has}
+use Rattle.channel_lock.specs.Views.{View}
 use Rattle.shared_channel.specs.Passes.{Known, view_of}
 use Rattle.shared_channel.specs.Ports.{Settles, SawAll}
 use Rattle.shared_channel.proofs.Turning.{pass_after, of_views}

@@ -2,7 +2,7 @@ use Rattle.std.proofs.Common.{rules, ◌≡◌, [], ◌∷◌, subst, true}
 use Rattle.channel_face.specs.Calls.{cause_of}
 use Rattle.channel_face.specs.Machine.{StagePut}
 use Rattle.channel_face.specs.Faces.{is_spent_stage}
-use Rattle.turn_passes.specs.Calls.{has}
+use Rattle.channel_lock.specs.Calls.{has}
 use Rattle.shared_channel.specs.Calls.{Answers}
 use Rattle.shared_channel.specs.Passes.{Known, view_of}
 use Rattle.shared_channel.proofs.Turning.{answers, pass_after, of_views}
