@@ -1,0 +1,5 @@
+pub mod Starting
+pub mod Growing
+pub mod Begun
+pub mod Once
+pub mod Fitting
