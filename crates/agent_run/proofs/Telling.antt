@@ -14,7 +14,7 @@ use Rattle.netcat_source.specs.Into.{TakesLine}
 use Rattle.netcat_source.specs.declared.session.LineRules.{LineRules}
 use Rattle.flume_host.specs.Links.{LinkTold}
 use Rattle.source_put.specs.Into.{Into}
-use Rattle.source_worker.specs.Rounds.{Answer, Heard, MendsIf, Round, Rounds as ListenRounds, Serving, Session, is_due}
+use Rattle.source_worker.specs.Rounds.{Answer, Heard, IsStopped, MendsIf, Round, Rounds as ListenRounds, Serving, Session, is_due}
 use Rattle.source_worker.specs.Workers.{serving}
 use Rattle.source_worker.specs.declared.ends.LinkEnd.{LinkEnd}
 use Rattle.source_worker.specs.declared.ends.SessionRules.{SessionRules}
@@ -46,7 +46,7 @@ use Rattle.run_tracks.proofs.Telling.{either_face, either_steady}
 use Rattle.run_tracks.proofs.Tracking.{matches_home, rounds}
 use Rattle.agent_run.specs.Draining.{IsSinkHome}
 use Rattle.agent_run.specs.Ends.{IsLineEnded, IsListenEnded, IsSinkEnded}
-use Rattle.agent_run.specs.Histories.{IsDiskOf, IsLineTold, IsListenTold, IsSinkTold, MendedOver}
+use Rattle.agent_run.specs.Histories.{IsDiskOf, IsLineTold, IsListenTold, IsSinkTold, MendedOver, StopsLast}
 use Rattle.agent_run.specs.Opened.{IsLineOpened, IsListenOpened, IsSinkOpened}
 use Rattle.agent_run.specs.declared.homes.AtHome.{AtHome}
 use Rattle.agent_run.specs.declared.homes.LineEnded.{LineEnded}
@@ -155,6 +155,12 @@ new_ports (p ∷ passes) [] fresh same = absurd same
 new_ports (p ∷ passes) (port ∷ ports) fresh same =
     (subst (λ (q : Known). IsNew q) (sym same.0) (All-head IsNew p passes fresh), new_ports passes ports (All-tail IsNew p passes fresh) same.1)
 
+-- where only the last of some rounds may have been told to stop, none follows one that was
+stops_last : (front : List Round) (last : Round) → AllByRecursion (λ (round : Round). IsStopped round.found → ⊥) front → StopsLast (front ++ last ∷ [])
+stops_last [] last going = tt
+stops_last (round ∷ []) last going = (going.0, tt)
+stops_last (round ∷ next ∷ front) last going = (going.0, stops_last (next ∷ front) last going.1)
+
 module _ {R A B : Type 0} (disk : A → Opening → List Step → Type 0) (memory : B → Opening → List Step → Type 0)
     {N C K : Type 0} (Means : Meaning K) (moments : C → Option (ℕ → ℕ)) (heard : N → Heard) (stands : N → Option Endpoint) where
   pub listen_told : (shares : List (EitherShared A B)) (homes : List Known) (job : ListenWorker Known N C K) (v w : ListenWorker (EitherPort R A B) N C K)
@@ -177,6 +183,7 @@ module _ {R A B : Type 0} (disk : A → Opening → List Step → Type 0) (memor
         later = moments w.clock;
         due = ran.due;
         made = made;
+        going = stops_last ran.rounds.front ran.rounds.last ran.rounds.going;
         unserved = ran.rounds.unserved;
         rounds = λ share.
             rounds_same (Session job.rules Gave job.selector Means job.host) (IsDiskAt IsOnDisk v.ports.items) (IsDiskOf shares cs share) (disks_at shares share cs v.ports.items opened.kinds)

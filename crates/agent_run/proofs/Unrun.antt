@@ -84,6 +84,7 @@ module _ {A B N C K : Type 0} (Means : Meaning K) (moments : C → Option (ℕ �
         later = moments job.clock;
         due = false;
         made = [];
+        going = tt;
         unserved = λ no. tt;
         rounds = λ share i. record { into = record { route = record { links = []; ports = tracks i }; moments = moments job.clock }; heard = heard (gone.same i); due = false };
       }

@@ -1,5 +1,5 @@
 -- What the workers of a run called, in the whole histories of their channels.
-use Rattle.std.specs.Prelude.{◌≡◌, ◌<◌, ℕ, List, length, map, Bool, true, false, Option, Some, slice_index_or}
+use Rattle.std.specs.Prelude.{◌≡◌, ◌<◌, ℕ, List, [], ◌∷◌, length, map, Bool, true, false, Option, Some, slice_index_or}
 use Rattle.std.specs.List.{AllByRecursion}
 use Rattle.shared_channel.specs.Passes.{Known}
 use Rattle.sink_runner.specs.declared.turn.Turn.{Turn}
@@ -10,7 +10,7 @@ use Rattle.source_put.specs.Into.{Into}
 use Rattle.source_put.specs.declared.chain.ChainLink.{ChainLink}
 use Rattle.chain_plan.specs.Builds.{AreBuilt}
 use Rattle.netcat_source.specs.Into.{TakesLine}
-use Rattle.source_worker.specs.Rounds.{Answer, Heard, IsUnserved, Round, Rounds, Session}
+use Rattle.source_worker.specs.Rounds.{Answer, Heard, IsStopped, IsUnserved, Round, Rounds, Session}
 use Rattle.source_worker.specs.declared.worker.ListenWorker.{ListenWorker}
 use Rattle.line_session.specs.declared.session.SessionEnd.{SessionEnd}
 use Rattle.line_worker.specs.Turns.{TakesTurn}
@@ -40,6 +40,12 @@ pub record IsSinkTold {A B S C : Type 0} (sink : Told S) (moments : C → Option
 abbrev pub IsDiskOf : {A B : Type 0} → List (EitherShared A B) → List ℕ → EitherShared A B → ℕ → Type 0
 IsDiskOf shares channels share i = (i < length channels) × IsDisk (slice_index_or shares (slice_index_or channels i 0) share)
 
+-- after a round whose session was told to stop none follows
+abbrev pub StopsLast : List Round → Type 0
+StopsLast [] = Unit {0}
+StopsLast (round ∷ []) = Unit {0}
+StopsLast (round ∷ next ∷ rounds) = (IsStopped round.found → ⊥) × StopsLast (next ∷ rounds)
+
 -- It built the chain that was planned, or there was no memory for it. Its rounds, in order, the batch of each line or Avro call and each
 -- mend, are all calls with the numbers of its passes in the histories that the passes at home have seen.
 pub record IsListenTold {A B N C K : Type 0} (Means : Meaning K) (moments : C → Option (ℕ → ℕ)) (heard : N → Heard) (shares : List (EitherShared A B))
@@ -51,6 +57,7 @@ pub record IsListenTold {A B N C K : Type 0} (Means : Meaning K) (moments : C �
   pub later : Option (ℕ → ℕ)
   pub due : Bool
   pub made : List Round
+  pub going : StopsLast made
   pub unserved : built ≡ false → AllByRecursion (λ round. IsUnserved round.found) made
   pub rounds : (share : EitherShared A B) → let tracks = home_tracks (λ (p : Known). p) homes job.channels.items job.ports.items in
       Rounds (Session job.rules Gave job.selector Means job.host) (MendedInto (IsDiskOf shares job.channels.items share)) made

@@ -8,20 +8,23 @@ ghost use Rattle.agent_run.specs.Prepared.{IsPlanned};
 ghost use Rattle.agent_run.specs.declared.outcome.ChannelEnd.{ChannelEnd};
 
 use crate::laws::{lines_stay_told, runs_are_told, workers_ran};
-use crate::through::{RunOf, Runs, SinkOf, Steps};
+use crate::through::{RunOf, RunnerOf, Runs, SinkOf, Steps};
 use avro_requests::requests_are_on_links;
 use file_channel::FileChannel;
 use flume_host::{Dialer, Host};
+use grouped_sinks::{rows_are_apart, runners_split};
 use memory_channel::MemoryChannel;
 use netcat_source::one_cut;
+use plan_laws::{groups_name_what_is_there, sinks_stand_once};
 use plug_in::Interceptor;
 use roll_sink::delivered_batches_are_in_files;
 use std::sync::Wait;
 use std::thread::Threads;
 
-/// What the steps of a run come to: in all calls of its channels those of each worker are told of, the folders of rolled files hold what
-/// the calls of their sinks commit, the links of Avro sinks took the requests of what these commit, and the status has its causes. At status 0 it is told what the channels' folders hold, what the report
-/// says, which sinks emptied their channels, and what was said on standard input and output.
+/// What the steps of a run come to: in all calls of its channels those of each worker are told of, each batch that the calls of a row of
+/// sinks commit was taken by one of these, the folders of rolled files and the links of Avro sinks have what their sinks took, and the
+/// status has its causes. At status 0 it is told what the channels' folders hold, what the report says, which rows emptied their
+/// channels, and what was said on standard input and output.
 pub fn steps_are_told<
     'a,
     R: Threads + Wait + Sync + 'a,
@@ -37,7 +40,7 @@ pub fn steps_are_told<
         R,
         FileChannel<H::Disk>,
         MemoryChannel,
-        SinkOf<H>,
+        RunnerOf<H>,
         H::Listener,
         H::Source,
         H::Sink,
@@ -49,7 +52,7 @@ pub fn steps_are_told<
         R,
         FileChannel<H::Disk>,
         MemoryChannel,
-        SinkOf<H>,
+        RunnerOf<H>,
         H::Listener,
         H::Source,
         H::Sink,
@@ -61,13 +64,17 @@ pub fn steps_are_told<
         R,
         FileChannel<H::Disk>,
         MemoryChannel,
-        SinkOf<H>,
+        RunnerOf<H>,
         H::Listener,
         H::Source,
         H::Sink,
         H::Clock,
         K,
     >();
+    groups_name_what_is_there();
+    sinks_stand_once();
+    rows_are_apart();
+    runners_split::<SinkOf<H>, H::Random>();
     delivered_batches_are_in_files();
     requests_are_on_links::<H::Dialer, <<H as Host>::Dialer as Dialer>::Link>();
     one_cut();
