@@ -1,11 +1,11 @@
 #!/usr/bin/env bash
 # 100,000 random calls of a file channel on the disk in memory, each beside the same call of the plain channel, and 400
-# rounds of random calls with an opening or a reopening behind them, beside the plain recovery of the log files. Needs the
+# rounds of random calls with an opening or a reopening after them, beside the plain recovery of the log files. Needs the
 # Rattle kit's `rt`. No part of the gate.
 set -eu
 cd "$(dirname "$0")/.."
 . bench/program.sh
-make_program random_run "flume_host event_core host_memory record_form open_table event_ring channel_face channel_places channel_log channel_replay ring_replay txn_core channel_writing file_channel" "anyhow"
+make_program random_run "flume_host event_core host_memory record_form open_table event_ring channel_face channel_places channel_log checkpoint checkpoint_reading channel_replay checkpoint_recovery ring_replay checkpoint_replay checkpoint_opening txn_core channel_writing file_channel" "anyhow"
 mkdir -p "$program/proofs/open" "$program/proofs/restart"
 cat > "$program/proofs/open/Invariants.antt" <<'TEXT'
 use Rattle.random_run.proofs.open.Given as goal

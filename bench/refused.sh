@@ -1,6 +1,6 @@
 #!/usr/bin/env bash
 # Refuses each request for memory of a lost reply in turn: two events wait in a channel in memory, an Avro sink delivers them, and
-# the first link fails behind the request. In each run one request for memory is refused. Then the sink runs go on until the events
+# the first link fails after the request. In each run one request for memory is refused. Then the sink runs go on until the events
 # are delivered: the sink's count of refusals has to be that of the lost replies, the last link to have taken just these events, and
 # the channel to be empty. A link in memory whose own request is refused fails too, so two replies may be lost. A run whose request
 # is one of the making of the parts says nothing. Needs the Rattle kit's `rt`; it proves nothing, and takes half a minute of a
@@ -23,4 +23,4 @@ total=$(run_one 1000000 | sed -n 's/.*allocations: //p')
 seq "$total" | xargs -P "$(nproc)" -I{} bash -c 'run_one {}' | grep ' lost' | sort -t' ' -k2,2n >said
 bad=$(grep -cvE 'lost ([0-2]) refused [01] faults \1 whole true$' said || true)
 cat said
-echo "$(wc -l <said) of $total requests for memory were refused in turn behind the making of the parts: $bad went wrong"
+echo "$(wc -l <said) of $total requests for memory were refused in turn after the making of the parts: $bad went wrong"
