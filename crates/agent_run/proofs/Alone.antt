@@ -9,7 +9,7 @@ use Rattle.shared_channel.specs.Passes.{Known}
 use Rattle.sink_worker.specs.declared.worker.SinkWorker.{SinkWorker}
 use Rattle.source_worker.specs.declared.worker.ListenWorker.{ListenWorker}
 use Rattle.line_worker.specs.declared.worker.LineWorker.{LineWorker}
-use Rattle.flume_config.specs.declared.plan.SinkPlan.{SinkPlan}
+use Rattle.grouped_sinks.specs.declared.row.SinkRow.{SinkRow}
 use Rattle.agent_channels.specs.declared.opened.OpenedChannel.{OpenedChannel}
 use Rattle.agent_channels.specs.declared.wish.ChannelWish.{ChannelWish}
 use Rattle.run_tracks.specs.Deals.{Deals, DealsEach, Draws, hand_at}
@@ -145,7 +145,7 @@ module _ {J : Type 0} (channels : J → List ℕ) (ports : J → List Known) whe
       let one = deals_alone hands' (channels job) (ports job) is.0 is.1 order in
       dealt_then hands' is.0 new (owners_at (channels job) (ports job)) (flat_map (λ (j : J). owners_at (channels j) (ports j)) jobs) one (each_alone is.0 jobs new is.2 one.order)
 
-module _ {S N I O C K : Type 0} (plans : List SinkPlan) (parts : Parts S N I O C K) (hands' : List (List Known)) (jobs : Workers Known S N I O C K)
+module _ {S N I O C K : Type 0} (plans : List SinkRow) (parts : Parts S N I O C K) (hands' : List (List Known)) (jobs : Workers Known S N I O C K)
     (staff : IsStaff plans parts hands' jobs) (order : AreInOrder hands') where
   staff_dealt : WereDealt hands' (owners_of jobs) staff.last
   staff_dealt =
@@ -175,7 +175,7 @@ module _ {A B : Type 0} (wishes : List ChannelWish) (cs : List (OpenedChannel A 
   away_all [] all = tt
   away_all (o ∷ os) all = (away_one o all.0, away_all os all.1)
 
-pub are_alone : {A B S N I O C K : Type 0} (wishes : List ChannelWish) (cs : List (OpenedChannel A B)) (fresh : AreFresh wishes cs) (plans : List SinkPlan) (parts : Parts S N I O C K)
+pub are_alone : {A B S N I O C K : Type 0} (wishes : List ChannelWish) (cs : List (OpenedChannel A B)) (fresh : AreFresh wishes cs) (plans : List SinkRow) (parts : Parts S N I O C K)
     (jobs : Workers Known S N I O C K) → IsStaff plans parts (hands wishes cs fresh) jobs → AreAlone (homes wishes cs fresh) (owners_of jobs)
 are_alone wishes cs fresh plans parts jobs staff =
     let dealt = staff_dealt plans parts (hands wishes cs fresh) jobs staff (in_order wishes cs fresh) in

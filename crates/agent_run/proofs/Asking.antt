@@ -1,5 +1,5 @@
 -- What the Avro sinks of a run asked on the links of their dialers.
-use Rattle.std.proofs.Common.{◌≡◌, ◌∙◌, ◌<◌, ℕ, suc, List, [], ◌∷◌, ◌++◌, length, map, take, Option, Some, None, Result, Ok, Err, get_or, reverse, refl, sym, ap, subst, arith, string_bytes}
+use Rattle.std.proofs.Common.{◌≡◌, ◌∙◌, ◌⊎◌, inl, inr, ◌<◌, ◌+◌, ℕ, suc, List, [], ◌∷◌, ◌++◌, length, map, take, Option, Some, None, Result, Ok, Err, get_or, slice_get, reverse, refl, sym, ap, subst, arith, string_bytes}
 use Rattle.std.specs.List.{AllByRecursion}
 use Rattle.channel_face.specs.Faces.{Own}
 use Rattle.channel_face.specs.History.{opening}
@@ -41,12 +41,19 @@ use Rattle.agent_outside.specs.Listening.{AllOut}
 use Rattle.agent_outside.specs.Sinks.{AreOfPlans, IsOfKind}
 use Rattle.agent_outside.proofs.Dialing.{dials_ends}
 use Rattle.run_tracks.specs.Places.{Zips}
-use Rattle.agent_run.specs.DialedTold.{AreDialsBack, DialsTold, IsDialBack, RequestsTold}
-use Rattle.agent_run.specs.RolledTold.{WasTaken}
+use Rattle.agent_run.specs.DialedTold.{AreDialsBack, AskedAt, DialsTold, IsDialBack, RequestsTold}
+use Rattle.agent_run.specs.RolledTold.{WasTaken, calls_of}
 use Rattle.agent_run.specs.Wholes.{AreBeside, IsSinkWhole}
-use Rattle.agent_run.proofs.Dialing.{IsSameSink, agent_keeps, kinds_stay, same_many, sinks_stay}
-use Rattle.agent_run.proofs.Handing.{AllHanded, Handed, Hands, WasTakenBehind, ok_batches, ok_of}
-use Rattle.agent_run.proofs.Rolling.{whole_hands}
+use Rattle.agent_run.proofs.Dialing.{IsSameSink, agent_keeps, kinds_stay, same_many}
+use Rattle.grouped_sinks.specs.Picks.{AreDealt}
+use Rattle.grouped_sinks.specs.Rows.{IsOrder, places_of}
+use Rattle.grouped_sinks.specs.Splits.{AllHanded, Handed, RunnersSplit, ok_batches, ok_of, taken_at}
+use Rattle.grouped_sinks.specs.declared.row.SinkRow.{SinkRow}
+use Rattle.grouped_sinks.specs.declared.runner.Runner.{Runner}
+use Rattle.std.proofs.lemmas.Option.{slice_get_within}
+use Rattle.agent_run.proofs.Handing.{WasTakenBehind}
+use Rattle.agent_run.proofs.Sharing.{Part, RowsShared}
+use Rattle.agent_run.proofs.Parting.{find_row, part_at, some_same}
 
 -- ---- one delivery
 
@@ -90,10 +97,14 @@ ok_same (Err NoMemory) batch = refl
 taken_behind : (own : List Own) (batch : List Content) → WasTakenBehind [] own batch → WasTaken own batch
 taken_behind own batch is = is
 
-module _ {R P Q D L : Type 0} (dial : DialTold P) (links_of : P → SinkLinks D L) (links : D → Option LinksTold) (troubles : D → ℕ) (told : L → Option LinkTold) (faults : L → ℕ) (sink : Told (AgentSink R P Q)) where
+avro_same : {R P Q : Type 0} (x y : P) → Avro {R} {P} {Q} x ≡ Avro y → x ≡ y
+avro_same x y is = cc
+
+module _ {R P Q D L : Type 0} (dial : DialTold P) (links_of : P → SinkLinks D L) (links : D → Option LinksTold) (troubles : D → ℕ) (told : L → Option LinkTold) (faults : L → ℕ)
+    (one : AgentSink R P Q → List Content → ℕ → Result (Unit {0}) SinkRefused → AgentSink R P Q → Type 0) where
   -- a sink of Avro stays one, and each batch that it is handed it delivers on its links
   abbrev pub AsksOnLinks : Type 0
-  AsksOnLinks = (s : P) (batch : List Content) (moment : ℕ) (answer : Result (Unit {0}) SinkRefused) (b : AgentSink R P Q) → sink.delivers (Avro s) batch moment answer b
+  AsksOnLinks = (s : P) (batch : List Content) (moment : ℕ) (answer : Result (Unit {0}) SinkRefused) (b : AgentSink R P Q) → one (Avro s) batch moment answer b
       → (t : P) × (b ≡ Avro t) × (said : Result (Unit {0}) DeliverRefused) × (answer ≡ sink_answer said) × Delivers links troubles told faults (links_of s) batch said (links_of t)
 
   -- its dialer tells of its links once it is closed, and it is idle where none is open
@@ -111,34 +122,34 @@ module _ {R P Q D L : Type 0} (dial : DialTold P) (links_of : P → SinkLinks D 
     pub ok : delivered deliveries ≡ ok_batches done
 
   module _ (asks : AsksOnLinks) where
-    asked_all : (own : List Own) (done : List Handed) (s : P) (b : AgentSink R P Q) → AllHanded sink.delivers done (Avro s) b → AllByRecursion (λ (h : Handed). WasTakenBehind [] own h.batch) done → Asked own done s b
+    asked_all : (own : List Own) (done : List Handed) (s : P) (b : AgentSink R P Q) → AllHanded one done (Avro s) b → AllByRecursion (λ (h : Handed). WasTakenBehind [] own h.batch) done → Asked own done s b
     asked_all own [] s b same taken = record { t = s; same = same; deliveries = []; all = refl; taken = tt; ok = refl }
     asked_all own (h ∷ done) s b (next, is, rest) taken =
-        let one = asks s h.batch h.moment h.answer next is in
-        let others = asked_all own done one.0 b (subst (λ (x : AgentSink R P Q). AllHanded sink.delivers done x b) one.1 rest) taken.1 in
+        let first = asks s h.batch h.moment h.answer next is in
+        let others = asked_all own done first.0 b (subst (λ (x : AgentSink R P Q). AllHanded one done x b) first.1 rest) taken.1 in
         record {
           t = others.t;
           same = others.same;
-          deliveries = record { batch = h.batch; answer = one.2 } ∷ others.deliveries;
-          all = (links_of one.0, one.4, others.all);
+          deliveries = record { batch = h.batch; answer = first.2 } ∷ others.deliveries;
+          all = (links_of first.0, first.4, others.all);
           taken = (taken_behind own h.batch taken.0, others.taken);
-          ok = ap (λ (l : List (List Content)). if_ok one.2 h.batch ++ l) others.ok
-              ∙ ap (λ (l : List (List Content)). l ++ ok_batches done) (ok_same one.2 h.batch ∙ ap (λ (a : Result (Unit {0}) SinkRefused). ok_of a h.batch) (sym one.3));
+          ok = ap (λ (l : List (List Content)). if_ok first.2 h.batch ++ l) others.ok
+              ∙ ap (λ (l : List (List Content)). l ++ ok_batches done) (ok_same first.2 h.batch ∙ ap (λ (a : Result (Unit {0}) SinkRefused). ok_of a h.batch) (sym first.3));
         }
 
     module _ (law : RequestsAreOnLinks D L) (closes : ClosesSo) where
       -- what came back of a new sink by the calls of its worker
-      record Told' (own : List Own) (seen : ℕ) (b : AgentSink R P Q) : Type 0 where
+      record Told' (own : List Own) (took : List (List Content)) (b : AgentSink R P Q) : Type 0 where
         pub t : P
         pub same : b ≡ Avro t
         pub all : LinksTold
         pub is : dial.links t ≡ Some all
-        pub requests : RequestsTold own seen all
+        pub requests : RequestsTold own took all
 
-      asked_told : (end : Endpoint) (all : Option HandedOut) (x : HandedOut) → all ≡ Some x → (own : List Own) (seen : ℕ) (s : P) (b : AgentSink R P Q) → IsNewDial dial end all s
-          → Hands sink.delivers seen own (Avro s) b → Told' own seen b
-      asked_told end all x is own seen s b fresh hands =
-          let asked = asked_all own hands.done s b hands.chain (hands.taken []) in
+      asked_told : (end : Endpoint) (all : Option HandedOut) (x : HandedOut) → all ≡ Some x → (own : List Own) (took : List (List Content)) (s : P) (b : AgentSink R P Q) → IsNewDial dial end all s
+          → Part one own took (Avro s) b → Told' own took b
+      asked_told end all x is own took s b fresh part =
+          let asked = asked_all own part.done s b part.chain part.taken in
           let none = closes.idle s fresh.idle in
           let first : links (links_of s).dialer ≡ Some no_links =
           ap (λ (o : Option (Open L)). closed_links links told (links_of s).dialer o) (sym none) ∙ sym (closes.closed s) ∙ fresh.links ∙ ap fresh_links is in
@@ -148,76 +159,95 @@ module _ {R P Q D L : Type 0} (dial : DialTold P) (links_of : P → SinkLinks D 
             same = asked.same;
             all = stood.0;
             is = closes.closed asked.t ∙ stood.1;
-            requests = record { done = asked.deliveries; requested = stood.2; taken = asked.taken; these = λ counted. asked.ok ∙ sym (hands.commits counted []) };
+            requests = record { done = asked.deliveries; requested = stood.2; taken = asked.taken; these = asked.ok ∙ part.ok };
           }
 
       -- ---- in order
 
-      module _ {X Y C : Type 0} (moments : C → Option (ℕ → ℕ)) (shares : List (EitherShared X Y)) (finals : List Known) (all : Option HandedOut) (x : HandedOut) (is : all ≡ Some x) (f : Folders) where
-        one_back : (kind : SinkKind) (job : SinkWorker Known (AgentSink R P Q) C) (e : ChannelDrain) (b : AgentSink R P Q) (rest : List CameBack) (Rest : List CameBack → Type 0) → EitherShared X Y
-            → IsSinkWhole sink moments shares finals job e b → IsOfKind f kind job.sink → HasNewDial dial all kind job.sink → Rest rest
-            → let v = (get_or finals job.channel job.port).view in
-            IsDialBack kind (own_calls (job.port.number ∷ []) (opening v.base) v.seen) (length v.seen) (dial_back dial kind b ++ rest) Rest
-        one_back plan.Null job e b rest Rest some whole of has then = then
-        one_back (plan.Roll folder interval) job e b rest Rest some whole of has then = then
-        one_back (plan.Plugin name) job e b rest Rest some whole of has then = then
-        one_back (plan.Avro host port) job e b rest Rest some whole of has then = by job.sink refl of has
-          where
-            v : View
-            v = (get_or finals job.channel job.port).view
+      module _ {X Y N C : Type 0} (sink : Told (Runner (AgentSink R P Q) N)) (moments : C → Option (ℕ → ℕ)) (split : RunnersSplit one sink.delivers) (shares : List (EitherShared X Y)) (finals : List Known)
+          (rows : List SinkRow) (jobs : List (SinkWorker Known (Runner (AgentSink R P Q) N) C)) (runners : List (Runner (AgentSink R P Q) N))
+          (shared : RowsShared one sink moments split shares finals jobs runners) (sinks backs : List (AgentSink R P Q))
+          (dealt : AreDealt sinks rows (map (λ (job : SinkWorker Known (Runner (AgentSink R P Q) N) C). job.sink) jobs)) (came : AreDealt backs rows runners) (as_many : length jobs ≡ length rows)
+          (order : IsOrder (length sinks) (places_of rows)) (job : SinkWorker Known (Runner (AgentSink R P Q) N) C) (all : Option HandedOut) (x : HandedOut) (is : all ≡ Some x) (f : Folders) where
+        -- by its part a sink of Avro tells so of its links
+        told_at : (end : Endpoint) (place : ℕ) (s : P) (b : AgentSink R P Q) → slice_get sinks place ≡ Some (Avro s) → slice_get backs place ≡ Some b → IsNewDial dial end all s
+            → (at i : ℕ) (row : SinkRow) (worker : SinkWorker Known (Runner (AgentSink R P Q) N) C) (took : List (ℕ × List Content)) → at < length rows
+            → slice_get (get_or rows at row).places.items i ≡ Some place → Told' (calls_of finals (get_or jobs at worker)) (taken_at i (get_or shared.taken at took)) b
+        told_at end place s b was back fresh at i row worker took below here =
+            let mine = part_at one sink moments split shares finals rows jobs runners shared sinks backs dealt came as_many at i place row worker took below here in
+            let own = calls_of finals (get_or jobs at worker) in
+            let batches = taken_at i (get_or shared.taken at took) in
+            let old : mine.old ≡ Avro s = some_same mine.old (Avro s) (sym mine.was ∙ was) in
+            let new : mine.new ≡ b = some_same mine.new b (sym mine.is ∙ back) in
+            asked_told end all x is own batches s b fresh (subst (λ (y : AgentSink R P Q × AgentSink R P Q). Part one own batches y.0 y.1) (λ k. (old k, new k)) mine.part)
 
-            own : List Own
-            own = own_calls (job.port.number ∷ []) (opening v.base) v.seen
+        one_back : (kind : SinkKind) (place : ℕ) (s b : AgentSink R P Q) (rest : List CameBack) (Rest : List CameBack → Type 0) → place < length sinks → slice_get sinks place ≡ Some s
+            → slice_get backs place ≡ Some b → IsOfKind f kind s → HasNewDial dial all kind s → Rest rest
+            → IsDialBack kind (AskedAt rows jobs shared.taken finals place) (dial_back dial kind b ++ rest) Rest
+        one_back plan.Null place s b rest Rest low was back of has then = then
+        one_back (plan.Roll folder interval) place s b rest Rest low was back of has then = then
+        one_back (plan.Plugin name) place s b rest Rest low was back of has then = then
+        one_back (plan.Avro host port) place (Null s) b rest Rest low was back of has then = absurd of
+        one_back (plan.Avro host port) place (Roll s) b rest Rest low was back of has then = absurd of
+        one_back (plan.Avro host port) place (Boxed s) b rest Rest low was back of has then = absurd of
+        one_back (plan.Avro host port) place (Avro s) b rest Rest low was back of has then =
+            let end = record { host = string_bytes host; port = port } in
+            let found = find_row rows place (order.all place low) in
+            let t = told_at end place s b was back has found.at found.i found.row job [] found.below found.here in (
+              record { host = string_bytes host; port = port; told = dial.links t.t; waits = 0; faults = dial.faults t.t },
+              rest,
+              ap (λ (y : AgentSink R P Q). dial_back dial (plan.Avro host port) y ++ rest) t.same,
+              record {
+                of_host = refl;
+                of_port = refl;
+                links = t.all;
+                told = t.is;
+                requests = λ at i row worker took below here.
+                    let u = told_at end place s b was back has at i row worker took below here in
+                    let same : u.t ≡ t.t = avro_same u.t t.t (sym u.same ∙ t.same) in
+                    subst (λ (l : LinksTold). RequestsTold (calls_of finals (get_or jobs at worker)) (taken_at i (get_or shared.taken at took)) l)
+                    (some_same u.all t.all (sym u.is ∙ ap dial.links same ∙ t.is)) u.requests;
+              },
+              then,
+            )
 
-            by : (s : AgentSink R P Q) → job.sink ≡ s → IsOfKind f (plan.Avro host port) s → HasNewDial dial all (plan.Avro host port) s
-                → IsDialBack (plan.Avro host port) own (length v.seen) (dial_back dial (plan.Avro host port) b ++ rest) Rest
-            by (Null s) same of has = absurd of
-            by (Roll s) same of has = absurd of
-            by (Boxed s) same of has = absurd of
-            by (Avro s) same of has =
-                let hands = subst (λ (y : AgentSink R P Q). Hands sink.delivers (length v.seen) own y b) same (whole_hands sink moments shares finals job e b whole some job.port) in
-                let t = asked_told (record { host = string_bytes host; port = port }) all x is own (length v.seen) s b has hands in (
-                  record { host = string_bytes host; port = port; told = dial.links t.t; waits = 0; faults = dial.faults t.t },
-                  rest,
-                  ap (λ (y : AgentSink R P Q). dial_back dial (plan.Avro host port) y ++ rest) t.same,
-                  record { of_host = refl; of_port = refl; links = t.all; told = t.is; requests = t.requests },
-                  then,
-                )
-
-        backs_told : (plans : List SinkPlan) (jobs : List (SinkWorker Known (AgentSink R P Q) C)) (ends : List ChannelDrain) (backs : List (AgentSink R P Q)) → ((place : ℕ) → place < length ends → EitherShared X Y)
-            → AreBeside (IsSinkWhole sink moments shares finals) jobs ends backs → AreOfPlans f plans (map (λ (job : SinkWorker Known (AgentSink R P Q) C). job.sink) jobs)
-            → HaveNewDials dial all plans (map (λ (job : SinkWorker Known (AgentSink R P Q) C). job.sink) jobs) → AreDialsBack finals plans jobs (dials_back dial plans backs)
-        backs_told plans [] [] [] some whole of has = refl
-        backs_told plans [] [] (b ∷ backs) some whole of has = absurd whole
-        backs_told plans [] (e ∷ ends) backs some whole of has = absurd whole
-        backs_told plans (job ∷ jobs) [] backs some whole of has = absurd whole
-        backs_told plans (job ∷ jobs) (e ∷ ends) [] some whole of has = absurd whole
-        backs_told [] (job ∷ jobs) (e ∷ ends) (b ∷ backs) some whole of has = absurd of
-        backs_told (p ∷ plans) (job ∷ jobs) (e ∷ ends) (b ∷ backs) some whole of has =
-            one_back p.kind job e b (dials_back dial plans backs) (AreDialsBack finals plans jobs) (some 0 (omega arith)) whole.0 of.0 has.0
-            (backs_told plans jobs ends backs (λ place below. some (suc place) (omega (arith, below))) whole.1 of.1 has.1)
+        backs_told : (place : ℕ) (plans : List SinkPlan) (ss bs : List (AgentSink R P Q)) → length plans ≡ length ss → length bs ≡ length ss
+            → ((k : ℕ) (s : AgentSink R P Q) → slice_get ss k ≡ Some s → slice_get sinks (k + place) ≡ Some s) → ((k : ℕ) (b : AgentSink R P Q) → slice_get bs k ≡ Some b → slice_get backs (k + place) ≡ Some b)
+            → AreOfPlans f plans ss → HaveNewDials dial all plans ss → AreDialsBack (AskedAt rows jobs shared.taken finals) place plans (dials_back dial plans bs)
+        backs_told place [] [] [] many many' old new of has = refl
+        backs_told place [] [] (b ∷ bs) many many' old new of has = absurd (omega (arith, many'))
+        backs_told place [] (s ∷ ss) bs many many' old new of has = absurd of
+        backs_told place (p ∷ plans) [] bs many many' old new of has = absurd (omega (arith, many))
+        backs_told place (p ∷ plans) (s ∷ ss) [] many many' old new of has = absurd (omega (arith, many'))
+        backs_told place (p ∷ plans) (s ∷ ss) (b ∷ bs) many many' old new of has =
+            one_back p.kind place s b (dials_back dial plans bs) (AreDialsBack (AskedAt rows jobs shared.taken finals) (suc place) plans)
+            (slice_get_within sinks place s (old 0 s refl)) (old 0 s refl) (new 0 b refl) of.0 has.0
+            (backs_told (suc place) plans ss bs (omega (arith, many)) (omega (arith, many'))
+            (λ k s is. subst (λ (n : ℕ). slice_get sinks n ≡ Some s) (omega arith) (old (suc k) s is))
+            (λ k b is. subst (λ (n : ℕ). slice_get backs n ≡ Some b) (omega arith) (new (suc k) b is)) of.1 has.1)
 
       -- ---- the whole
 
       -- Sinks that were opened, made their rounds and drainings and came back told so of their links.
-      pub dialed_told : {X Y C : Type 0} (moments : C → Option (ℕ → ℕ))
-          → ((s : AgentSink R P Q) (batch : List Content) (at : ℕ) (answer : Result (Unit {0}) SinkRefused) (t : AgentSink R P Q) → sink.delivers s batch at answer t → IsSameSink dial s t)
-          → (plans : List SinkPlan) (shares : List (EitherShared X Y)) (finals : List Known) (jobs : List (SinkWorker Known (AgentSink R P Q) C)) (ends : List ChannelDrain) (backs sinks : List (AgentSink R P Q))
-          → ((place : ℕ) → place < length ends → EitherShared X Y) → AreBeside (IsSinkWhole sink moments shares finals) jobs ends backs
-          → map (λ (job : SinkWorker Known (AgentSink R P Q) C). job.sink) jobs ≡ sinks → length sinks ≡ length plans → (f : Folders) → AreOfPlans f plans sinks
+      pub dialed_told : {X Y N C : Type 0} (sink : Told (Runner (AgentSink R P Q) N)) (moments : C → Option (ℕ → ℕ)) (split : RunnersSplit one sink.delivers) (shares : List (EitherShared X Y))
+          (finals : List Known) (plans : List SinkPlan) (rows : List SinkRow) (jobs : List (SinkWorker Known (Runner (AgentSink R P Q) N) C)) (runners : List (Runner (AgentSink R P Q) N))
+          (shared : RowsShared one sink moments split shares finals jobs runners) (sinks backs : List (AgentSink R P Q))
+          → AreDealt sinks rows (map (λ (job : SinkWorker Known (Runner (AgentSink R P Q) N) C). job.sink) jobs) → AreDealt backs rows runners → length jobs ≡ length rows
+          → IsOrder (length sinks) (places_of rows) → SinkWorker Known (Runner (AgentSink R P Q) N) C → Zips (IsSameSink dial) sinks backs
+          → length sinks ≡ length plans → (f : Folders) → AreOfPlans f plans sinks
           → (a s t u : HostState) → a.dialers ≡ s.dialers → DialsOpened dial plans s t sinks → (d : Option HandedOut) → d ≡ t.dialers → Tells d u.dialers (AllBack (dials_back dial plans backs))
-          → Tells a.dialers u.dialers (DialsTold plans jobs finals)
-      dialed_told moments keeps plans shares finals jobs ends backs sinks some whole own many f are a s t u same opened d between back =
+          → Tells a.dialers u.dialers (DialsTold plans rows jobs shared.taken finals)
+      dialed_told sink moments split shares finals plans rows jobs runners shared sinks backs dealt came many_jobs order job stay many f are a s t u same opened d between back =
           let ends' = dials_of (take (length sinks) plans) in
-          let stay = subst (λ (l : List (AgentSink R P Q)). Zips (IsSameSink dial) l backs) own (sinks_stay dial sink keeps moments shares finals jobs ends backs some whole) in
           let gone = dials_ends dial f plans backs (kinds_stay dial f plans sinks backs stay are) in
           let as_many : length backs ≡ length sinks = same_many dial sinks backs stay in
           let ended : ends_of (dials_back dial plans backs) ≡ ends' = gone ∙ ap (λ (n : ℕ). dials_of (take n plans)) as_many in
-          subst (λ (o : Option HandedOut). Tells o u.dialers (DialsTold plans jobs finals)) (sym same)
-          (follows s.dialers t.dialers u.dialers (AllOut ends') (AllBack (dials_back dial plans backs)) (DialsTold plans jobs finals)
+          subst (λ (o : Option HandedOut). Tells o u.dialers (DialsTold plans rows jobs shared.taken finals)) (sym same)
+          (follows s.dialers t.dialers u.dialers (AllOut ends') (AllBack (dials_back dial plans backs)) (DialsTold plans rows jobs shared.taken finals)
           (λ x y z is _ _ p q. record {
             out = λ host port. let e = ap (count_at host port) ended in omega (arith, p.out host port, q.out host port, e);
             backs = dials_back dial plans backs;
             back = q.back ∙ ap (λ (l : List CameBack). l ++ reverse (dials_back dial plans backs)) p.back;
-            each = backs_told moments shares finals s.dialers x is f plans jobs ends backs some whole (subst (AreOfPlans f plans) (sym own) are) (subst (HaveNewDials dial s.dialers plans) (sym own) opened.made);
+            each = backs_told sink moments split shares finals rows jobs runners shared sinks backs dealt came many_jobs order job s.dialers x is f 0 plans sinks backs (sym many) as_many
+                (λ k s is. subst (λ (n : ℕ). slice_get sinks n ≡ Some s) (omega arith) is) (λ k b is. subst (λ (n : ℕ). slice_get backs n ≡ Some b) (omega arith) is) are opened.made;
           }) opened.out.told (subst (λ (o : Option HandedOut). Tells o u.dialers (AllBack (dials_back dial plans backs))) between back))

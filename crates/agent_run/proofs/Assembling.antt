@@ -1,6 +1,6 @@
 -- The passes of a run are dealt to its sinks, its listeners and its workers of lines.
 use Rattle.std.proofs.Common.{◌≡◌, ◌∙◌, ◌++◌, ◌+◌, ℕ, List, [], ◌∷◌, length, map, flat_map, refl, ap, arith}
-use Rattle.flume_config.specs.declared.plan.SinkPlan.{SinkPlan}
+use Rattle.grouped_sinks.specs.declared.row.SinkRow.{SinkRow}
 use Rattle.line_worker.specs.declared.worker.LineWorker.{LineWorker}
 use Rattle.shared_channel.specs.Passes.{Known}
 use Rattle.sink_worker.specs.declared.worker.SinkWorker.{SinkWorker}
@@ -17,10 +17,10 @@ is_none : (l : List Known) → length l ≡ 0 → l ≡ []
 is_none [] none = refl
 is_none (p ∷ l) none = absurd (omega (arith, none))
 
-abbrev channels_of : List SinkPlan → List ℕ
-channels_of plans = map (λ (p : SinkPlan). p.channel) plans
+abbrev channels_of : List SinkRow → List ℕ
+channels_of plans = map (λ (p : SinkRow). p.channel) plans
 
-module _ {K C : Type 0} (plans : List SinkPlan) (listeners lines : List (Seat K C)) (hands : List (List Known))
+module _ {K C : Type 0} (plans : List SinkRow) (listeners lines : List (Seat K C)) (hands : List (List Known))
     (undealt : (place : ℕ) → length (hand_at hands place) ≡ count_of place (uses_of plans listeners lines)) where
   abbrev others : List ℕ
   others = flat_map seat_channels listeners ++ flat_map seat_channels lines

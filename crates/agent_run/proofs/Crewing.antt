@@ -22,7 +22,7 @@ use Rattle.agent_channels.specs.Several.{WereOpened}
 use Rattle.agent_channels.specs.declared.opened.OpenedChannel.{OpenedChannel}
 use Rattle.agent_channels.specs.declared.wish.ChannelWish.{ChannelWish}
 use Rattle.agent_drafts.specs.Fits.{IsFit}
-use Rattle.flume_config.specs.declared.plan.SinkPlan.{SinkPlan}
+use Rattle.grouped_sinks.specs.declared.row.SinkRow.{SinkRow}
 use Rattle.run_tracks.specs.Deals.{count_of, hand_at}
 use Rattle.run_tracks.specs.Dealing.{AreDealtBut}
 use Rattle.run_tracks.specs.Dealt.{AreDealt, Owner}
@@ -106,7 +106,7 @@ across P R Q step [] (y ∷ ys) all zips = absurd zips
 across P R Q step (x ∷ xs) [] all zips = absurd zips
 across P R Q step (x ∷ xs) (y ∷ ys) all zips = (step x y all.0 zips.0, across P R Q step xs ys all.1 zips.1)
 
-can_run : {S N I O C K : Type 0} (count : ℕ) (plans : List SinkPlan) (parts : Parts S N I O C K) (hands' : List (List Known)) (jobs : Workers Known S N I O C K)
+can_run : {S N I O C K : Type 0} (count : ℕ) (plans : List SinkRow) (parts : Parts S N I O C K) (hands' : List (List Known)) (jobs : Workers Known S N I O C K)
     → AreFit count parts → IsStaff plans parts hands' jobs → CanRun jobs
 can_run {S} {N} {I} {O} {C} {K} count plans parts hands' jobs fit staff = record {
   listeners = All-from_recursion (λ (j : ListenWorker Known N C K). CanListen j) jobs.listeners.items
@@ -146,7 +146,7 @@ module _ {A B : Type 0} (shares' : List (EitherShared A B)) where
       go [] tt' = tt
       go (y ∷ ys) rest = (step y rest.0, go ys rest.1)
 
-  module _ {S N I O C K : Type 0} (plans : List SinkPlan) (parts : Parts S N I O C K) (hands' : List (List Known)) (jobs : Workers Known S N I O C K)
+  module _ {S N I O C K : Type 0} (plans : List SinkRow) (parts : Parts S N I O C K) (hands' : List (List Known)) (jobs : Workers Known S N I O C K)
       (staff : IsStaff plans parts hands' jobs) (all : InHands Holds hands') where
     sinks_in : AllByRecursion (λ (j : SinkWorker Known S C). Zips Holds (sink_channels j) (sink_ports j)) jobs.sinks.items × InHands Holds staff.behind_sinks
     sinks_in = each_in Holds sink_channels sink_ports hands' jobs.sinks.items staff.behind_sinks staff.deals_sinks all
@@ -176,7 +176,7 @@ module _ {A B : Type 0} (shares' : List (EitherShared A B)) where
           (λ j zips. All-from_recursion IsNew j.ports.items (seconds (line_channels j) (line_ports j) zips)) jobs.lines.items lines_in.0;
     }
 
-module _ {S N I O C K : Type 0} (plans : List SinkPlan) (parts : Parts S N I O C K) (hands' : List (List Known)) (jobs : Workers Known S N I O C K)
+module _ {S N I O C K : Type 0} (plans : List SinkRow) (parts : Parts S N I O C K) (hands' : List (List Known)) (jobs : Workers Known S N I O C K)
     (staff : IsStaff plans parts hands' jobs) (homes' : List Known) (but : AreDealtBut homes' [] hands') where
   pub are_dealt : AreDealt homes' (owners_of jobs)
   are_dealt =
@@ -193,7 +193,7 @@ module _ {S N I O C K : Type 0} (plans : List SinkPlan) (parts : Parts S N I O C
 pub freshly : {A B : Type 0} (wishes : List ChannelWish) (cs : List (OpenedChannel A B)) → WereOpened wishes cs → AreFresh wishes cs
 freshly wishes cs opened = are_fresh wishes cs opened.0 opened.1 opened.2
 
-module _ {A B S N I O C K : Type 0} (plans : List SinkPlan) (wishes : List ChannelWish) (cs : List (OpenedChannel A B)) (parts : Parts S N I O C K)
+module _ {A B S N I O C K : Type 0} (plans : List SinkRow) (wishes : List ChannelWish) (cs : List (OpenedChannel A B)) (parts : Parts S N I O C K)
     (opened : WereOpened wishes cs) (used : AreUsed wishes (uses_of plans parts.listeners.items parts.lines.items)) (fit : AreFit (length wishes) parts) (crew : Crew A B S N I O C K) where
   pub is_crew : crew.shares.items ≡ shares wishes cs (freshly wishes cs opened) → crew.homes.items ≡ homes wishes cs (freshly wishes cs opened) → IsStaff plans parts (hands wishes cs (freshly wishes cs opened)) crew.jobs
       → IsCrew plans cs parts crew

@@ -1,5 +1,5 @@
 -- The sinks that come back of a run are of the kinds of their plans, and their dialers those of their plans.
-use Rattle.std.proofs.Common.{◌≡◌, ◌∙◌, ◌<◌, ℕ, suc, List, [], ◌∷◌, length, map, take, All, Bool, Option, Result, refl, sym, ap, subst, arith, string_bytes}
+use Rattle.std.proofs.Common.{◌≡◌, ◌∙◌, ◌<◌, ℕ, suc, List, [], ◌∷◌, length, map, slice_get, take, All, Bool, Option, Result, refl, sym, ap, subst, arith, string_bytes}
 use Rattle.std.proofs.lemmas.List.{take_all}
 use Rattle.std.proofs.lemmas.List.Elements.{All-head}
 use Rattle.event_core.specs.Content.{Content}
@@ -38,7 +38,14 @@ use Rattle.run_tracks.specs.Closes.{IsClosed}
 use Rattle.run_tracks.specs.Homes.{EachTook}
 use Rattle.run_tracks.specs.Stops.{IsMended}
 use Rattle.run_tracks.specs.Places.{Zips}
-use Rattle.agent_run.specs.Run.{CanDial, DialsMayReturn}
+use Rattle.agent_run.specs.Run.{CanDial, MayReturn, StandInRows}
+use Rattle.agent_run.specs.Staff.{IsSinkOf}
+use Rattle.grouped_sinks.specs.Picks.{AreDealt, HaveMembers}
+use Rattle.grouped_sinks.specs.Rows.{IsOrder, places_of}
+use Rattle.grouped_sinks.specs.declared.row.SinkRow.{SinkRow}
+use Rattle.grouped_sinks.specs.declared.runner.Runner.{Runner}
+use Rattle.run_tracks.proofs.Homing.{zips_length}
+use Rattle.std.proofs.lemmas.Option.{slice_get_within}
 use Rattle.agent_run.specs.Draining.{IsDrainedAt, IsSinkHome}
 use Rattle.agent_run.specs.Finals.{RunsAreTold, finals_of}
 use Rattle.agent_run.specs.Joined.{HaveReturned}
@@ -54,10 +61,11 @@ use Rattle.agent_run.specs.declared.opening.Opening.{Opening}
 use Rattle.agent_run.specs.declared.settle.Settled.{Settled}
 use Rattle.agent_run.specs.declared.workers.Returned.{Returned}
 use Rattle.agent_run.proofs.Chaining.{drained_ends}
-use Rattle.agent_run.proofs.Handing.{AllHanded, Handed}
+use Rattle.grouped_sinks.specs.Splits.{AllHanded, Handed, RunnersSplit}
 use Rattle.agent_run.proofs.Course.{there}
 use Rattle.agent_run.proofs.Naming.{is_out}
-use Rattle.agent_run.proofs.Rolling.{whole_hands}
+use Rattle.agent_run.proofs.Parting.{find_row, first_of, have_members, part_at, some_same, zips_by_place}
+use Rattle.agent_run.proofs.Sharing.{RowsShared, rows_shared}
 
 module _ {R A B : Type 0} (dial : DialTold A) where
   -- a sink of the same kind; the dialer of one of Avro was handed out for the same address and port
@@ -144,67 +152,35 @@ module _ {R A B : Type 0} (dial : DialTold A) where
       let whole : take (length new) plans ≡ plans = ap (λ (n : ℕ). take n plans) many ∙ take_all (length plans) plans (omega arith) in
       let ends = dials_ends dial f plans new (kinds_stay f plans old new same can.are) ∙ ap dials_of whole in
       record { dialed = dials_stay plans old new same can.dialed; out = subst (λ (l : List Endpoint). AreOut l all) (sym ends) can.out }
-
   -- ---- over a run
 
-  module _ (sink : Told (AgentSink R A B))
-      (keeps : (s : AgentSink R A B) (batch : List Content) (moment : ℕ) (answer : Result (Unit {0}) SinkRefused) (t : AgentSink R A B) → sink.delivers s batch moment answer t → IsSameSink s t) where
-    handed_same : (done : List Handed) (s t : AgentSink R A B) → AllHanded sink.delivers done s t → IsSameSink s t
-    handed_same [] s t same = subst (IsSameSink s) (sym same) (same_self s)
-    handed_same (h ∷ done) s t (next, one, rest) = same_then s next t (keeps s h.batch h.moment h.answer next one) (handed_same done next t rest)
-
-    -- what comes back of each sink after its rounds and its draining is the same sink
-    pub sinks_stay : {X Y C : Type 0} (moments : C → Option (ℕ → ℕ)) (shares : List (EitherShared X Y)) (finals : List Known) (jobs : List (SinkWorker Known (AgentSink R A B) C)) (ends : List ChannelDrain)
-        (backs : List (AgentSink R A B)) → ((place : ℕ) → place < length ends → EitherShared X Y) → AreBeside (IsSinkWhole sink moments shares finals) jobs ends backs
-        → Zips IsSameSink (map (λ (job : SinkWorker Known (AgentSink R A B) C). job.sink) jobs) backs
-    sinks_stay moments shares finals [] [] [] some whole = tt
-    sinks_stay moments shares finals [] [] (t ∷ backs) some whole = absurd whole
-    sinks_stay moments shares finals [] (e ∷ ends) backs some whole = absurd whole
-    sinks_stay moments shares finals (job ∷ jobs) [] backs some whole = absurd whole
-    sinks_stay moments shares finals (job ∷ jobs) (e ∷ ends) [] some whole = absurd whole
-    sinks_stay moments shares finals (job ∷ jobs) (e ∷ ends) (t ∷ backs) some whole =
-        let hands = whole_hands sink moments shares finals job e t whole.0 (some 0 (omega arith)) job.port in
-        (handed_same hands.done job.sink t hands.chain, sinks_stay moments shares finals jobs ends backs (λ place below. some (suc place) (omega (arith, below))) whole.1)
-
--- some channel, where there is a sink
-pub some_share : {A B S C : Type 0} (shares : List (EitherShared A B)) (homes : List Known) (ws : List (SinkWorker AtHome S C)) (place : ℕ) → All (IsSinkHome homes) ws
-    → place < length ws → length shares ≡ length homes → EitherShared A B
-some_share shares homes [] place at below many = absurd (omega (arith, below))
-some_share shares homes (w ∷ ws) place at below many = there shares w.channel (let l = (All-head (IsSinkHome homes) w ws at).0 in omega (arith, l, many))
-
--- what was opened may be given back
-pub can_dial : {R A B N : Type 0} (rolled : R → Option Rolled) (faults : R → ℕ) (dial : DialTold A) (Fresh : Endpoint → Option HandedOut → N → Type 0) (p : Plan) (places : List ℕ) (a b : HostTold)
-    (sinks : List (AgentSink R A B)) (bare : List N) → IsOutside rolled faults dial Fresh p places a b sinks bare → CanDial dial b.folders p.sinks.items sinks b.state.dialers
-can_dial rolled faults dial Fresh p places a b sinks bare is =
-    let plans = p.sinks.items in
-    let whole : take (length sinks) plans ≡ plans = ap (λ (n : ℕ). take n plans) is.many ∙ take_all (length plans) plans (omega arith) in
-    let same : b.state.dialers ≡ is.between.dialers = ap (λ (s : HostState). s.dialers) is.opened.out.state in
-    record {
-      many = is.many;
-      are = is.sinks.are;
-      dialed = are_dialed dial a.state.dialers plans sinks is.dials.made;
-      out = subst (λ (x : List Endpoint × Option HandedOut). AreOut x.0 x.1) (λ i. (ap dials_of whole i, sym same i)) (is_out (dials_of (take (length sinks) plans)) a.state.dialers is.between.dialers is.dials.out.told);
-    }
-
--- ---- over a run
-
-module _ {R X Y P Q N I O C K Z : Type 0} (runs : Runs (EitherPort Z X Y) (AgentSink P Q R) N I O C K) (sink : Told (AgentSink P Q R)) (Means : Meaning K) (moments : C → Option (ℕ → ℕ)) (heard : N → Heard)
+module _ {R X Y P Q G N I O C K Z : Type 0} (runs : Runs (EitherPort Z X Y) (Runner (AgentSink P Q R) G) N I O C K) (deliver : AgentSink P Q R → List Content → ℕ → Result (Unit {0}) SinkRefused → AgentSink P Q R → Type 0)
+    (sink : Told (Runner (AgentSink P Q R) G)) (Means : Meaning K) (moments : C → Option (ℕ → ℕ)) (heard : N → Heard)
     (talk : I → O → Talk) (disk : X → Begun → List Step → Type 0) (tells : X → Bool) (moment : X → ℕ) (memory : Y → Begun → List Step → Type 0) (tells' : Y → Bool) (dial : DialTold Q) where
-  -- What comes back of the sinks of a run may be given back, where what was opened could be.
-  pub may_return : RunsAreTold runs sink Means moments heard talk disk tells moment memory tells'
-      → ((s : AgentSink P Q R) (batch : List Content) (at : ℕ) (answer : Result (Unit {0}) SinkRefused) (t : AgentSink P Q R) → sink.delivers s batch at answer t → IsSameSink dial s t)
-      → (plans : List SinkPlan) (o : Opening X Y (AgentSink P Q R) N I O C K) (m : Manned X Y (AgentSink P Q R) N I O C K) (homes : List Known) (joined : Joined (AgentSink P Q R) C)
-      (returned : Returned (AgentSink P Q R) N I O C) (settled : Settled (AgentSink P Q R) X Y)
-      → IsManned plans o m → EachTook m.crew.homes.items homes → All (λ (p : Known). HasAll p.view) homes
+  -- What comes back of the sinks of a run may be given back, where what was opened could be; and each row has as many sinks as before.
+  pub may_return : RunsAreTold runs sink Means moments heard talk disk tells moment memory tells' → RunnersSplit deliver sink.delivers
+      → ((s : AgentSink P Q R) (batch : List Content) (at : ℕ) (answer : Result (Unit {0}) SinkRefused) (t : AgentSink P Q R) → deliver s batch at answer t → IsSameSink dial s t)
+      → (plans : List SinkPlan) (rows : List SinkRow) → IsOrder (length plans) (places_of rows)
+      → (o : Opening X Y (Runner (AgentSink P Q R) G) N I O C K) (m : Manned X Y (Runner (AgentSink P Q R) G) N I O C K) (homes : List Known) (joined : Joined (Runner (AgentSink P Q R) G) C)
+      (returned : Returned (Runner (AgentSink P Q R) G) N I O C) (settled : Settled (Runner (AgentSink P Q R) G) X Y)
+      → IsManned rows o m → EachTook m.crew.homes.items homes → All (λ (p : Known). HasAll p.view) homes
       → HaveReturned runs sink Means moments heard talk m.crew.shares.items homes m.crew.jobs returned
       → joined.sinks ≡ returned.sinks → All (IsSinkHome homes) joined.sinks.items → length m.settled.report.items ≡ length homes
       → AreSettled (IsDrainedAt sink moments) (IsMended disk tells moment) (IsClosed disk tells memory tells') m.crew.shares.items homes joined.sinks.items m.settled.report.items settled
-      → (f : Folders) (all : Option HandedOut) → CanDial dial f plans o.outside.sinks.items all → DialsMayReturn dial plans settled.sinks.items all
-  may_return told keeps plans o m homes joined returned settled is took full back same home named settles f all can =
-      let whole = (told plans o m homes joined returned settled is took full back same home named settles).sinks in
+      → (f : Folders) (all : Option HandedOut) → StandInRows dial f plans rows o.outside.sinks.items all
+      → MayReturn dial plans rows settled.sinks.items all × HaveMembers rows settled.sinks.items
+  may_return told split keeps plans rows order o m homes joined returned settled is took full back same home named settles f all stand =
+      let whole = (told rows o m homes joined returned settled is took full back same home named settles).sinks in
       let many : length m.crew.shares.items ≡ length homes = sym is.homes.as_many ∙ sym took.as_many in
       let ran = drained_ends (IsDrainedAt sink moments) joined.sinks.items homes settled.ends.items settled.sinks.items settles.drained settles.drains in
-      dials_stay_out dial f plans o.outside.sinks.items settled.sinks.items all can
-      (subst (λ (l : List (AgentSink P Q R)). Zips (IsSameSink dial) l settled.sinks.items) is.own_sinks
-      (sinks_stay dial sink keeps moments m.crew.shares.items (finals_of settled) m.crew.jobs.sinks.items settled.ends.items settled.sinks.items
-      (λ place below. some_share m.crew.shares.items homes joined.sinks.items place home (let e = ran.0 in omega (arith, below, e)) many) whole))
+      let jobs = m.crew.jobs.sinks.items in
+      let shared = rows_shared deliver sink moments split m.crew.shares.items (finals_of settled) jobs settled.ends.items settled.sinks.items
+      (λ place below. some_share m.crew.shares.items homes joined.sinks.items place home (let e = ran.0 in omega (arith, below, e)) many) whole in
+      let as_many : length jobs ≡ length rows = sym (zips_length IsSinkOf rows jobs is.sinks) in
+      let dealt = subst (λ (l : List (Runner (AgentSink P Q R) G)). AreDealt stand.sinks rows l) (sym is.own_sinks) stand.dealt in (
+        λ sinks long came.
+            dials_stay_out dial f plans stand.sinks sinks all stand.can
+            (sinks_stay dial deliver keeps sink moments split m.crew.shares.items (finals_of settled) rows jobs settled.sinks.items shared stand.sinks sinks dealt came as_many
+            (subst (λ (n : ℕ). IsOrder n (places_of rows)) (sym stand.can.many) order) (long ∙ sym stand.can.many) (λ at low. first_of jobs at low)),
+        have_members deliver sink moments split m.crew.shares.items (finals_of settled) stand.sinks rows jobs settled.sinks.items shared dealt as_many,
+      )

@@ -12,7 +12,7 @@ use Rattle.channel_face.specs.Machine.{State, after}
 use Rattle.channel_face.proofs.Adding.{state-append}
 use Rattle.file_channel.specs.Stands.{FileState}
 use Rattle.flume_config.specs.declared.plan.ChannelPlan.{ChannelPlan}
-use Rattle.flume_config.specs.declared.plan.SinkPlan.{SinkPlan}
+use Rattle.grouped_sinks.specs.declared.row.SinkRow.{SinkRow}
 use Rattle.flume_host.specs.Told.{Told as DiskTold}
 use Rattle.shared_channel.specs.Passes.{Known}
 use Rattle.sink_runner.specs.declared.turn.Turn.{Turn}
@@ -176,8 +176,8 @@ module _ {D M S C : Type 0} (told : D → Option DiskTold) (faults : D → ℕ) 
       (record { base = is.base; rest = is.rest; whole = is.whole; none = none_puts p.view q.view is (all place home low) (end_at place home below).below })
 
   -- each sink of the plan emptied its channel, or was stopped
-  pub drained_told : (sinks : List SinkPlan) → All (IsSinkHome r.homes) r.workers → All (λ (p : Known). HasAll p.view) r.homes → length r.workers ≡ length sinks
-      → ((place : ℕ) (w : SinkWorker AtHome S C) (plan : SinkPlan) → place < length sinks → (get_or r.workers place w).channel ≡ (get_or sinks place plan).channel)
+  pub drained_told : (sinks : List SinkRow) → All (IsSinkHome r.homes) r.workers → All (λ (p : Known). HasAll p.view) r.homes → length r.workers ≡ length sinks
+      → ((place : ℕ) (w : SinkWorker AtHome S C) (plan : SinkRow) → place < length sinks → (get_or r.workers place w).channel ≡ (get_or sinks place plan).channel)
       → length (map pass_of r.settled.closed.items) ≡ length plans
       → DrainedTold sinks r.settled.ends.items r.homes (map pass_of r.settled.closed.items)
   drained_told sinks at all many of finals = record {

@@ -13,6 +13,7 @@ use Rattle.channel_face.specs.declared.replies.Settled.{Settled}
 use Rattle.channel_face.specs.declared.replies.Settled.TheVariants.{Yes, No, InDoubt}
 use Rattle.channel_face.specs.declared.replies.StageCause.{StageCause}
 use Rattle.channel_face.specs.declared.replies.Ticket.{Ticket}
+use Rattle.grouped_sinks.specs.Splits.{AllHanded, Handed, ok_batches, ok_of}
 use Rattle.plug_in.specs.declared.sink.SinkRefused.{SinkRefused}
 use Rattle.sink_runner.specs.Laws.{event_of}
 use Rattle.sink_runner.specs.Turns.{AreTaken, EndsTaking, EndsDelivery, EndsTurn, EndsBegin, IsTurn}
@@ -120,36 +121,16 @@ mend_commits OnDisk saw seen (Err cause) earlier own e is =
 
 -- ---- what a sink was handed
 
--- a batch that a sink was handed, the moment, and its answer
-pub record Handed : Type 0 where
-  pub batch : List Content
-  pub moment : ℕ
-  pub answer : Result (Unit {0}) SinkRefused
-
-abbrev pub ok_of : Result (Unit {0}) SinkRefused → List Content → List (List Content)
-ok_of (Ok done) batch = batch ∷ []
-ok_of (Err why) batch = []
-
--- the batches that were answered Ok
-abbrev pub ok_batches : List Handed → List (List Content)
-ok_batches [] = []
-ok_batches (h ∷ done) = ok_of h.answer h.batch ++ ok_batches done
-
 -- after these events and then some of these calls just this batch had been taken
 abbrev pub WasTakenBehind : List Content → List Own → List Content → Type 0
 WasTakenBehind e own batch = (front rest : List Own) × (own ≡ front ++ rest) × (taken_since e front ≡ batch)
 
 module _ {S : Type 0} (delivers : S → List Content → ℕ → Result (Unit {0}) SinkRefused → S → Type 0) where
-  -- the sink was handed these, one after the other
-  abbrev pub AllHanded : List Handed → S → S → Type 0
-  AllHanded [] s t = t ≡ s
-  AllHanded (h ∷ done) s t = (next : S) × delivers s h.batch h.moment h.answer next × AllHanded done next t
-
   -- By these calls the sink was handed what its transactions had taken; and while calls are counted, what was answered Ok is what they
   -- commit.
   pub record Hands (seen : ℕ) (own : List Own) (s t : S) : Type 0 where
     pub done : List Handed
-    pub chain : AllHanded done s t
+    pub chain : AllHanded delivers done s t
     pub taken : (e : List Content) → AllByRecursion (λ (h : Handed). WasTakenBehind e own h.batch) done
     pub commits : CountsMore seen → (e : List Content) → committed e own ≡ ok_batches done
 
@@ -165,8 +146,8 @@ module _ {S : Type 0} (delivers : S → List Content → ℕ → Result (Unit {0
     commits = λ counted e. commits counted e ∙ sym (append-nil (ok_of answer batch));
   }
 
-  chain_then : (x y : List Handed) (s m t : S) → AllHanded x s m → AllHanded y m t → AllHanded (x ++ y) s t
-  chain_then [] y s m t same rest = subst (λ (z : S). AllHanded y z t) same rest
+  chain_then : (x y : List Handed) (s m t : S) → AllHanded delivers x s m → AllHanded delivers y m t → AllHanded delivers (x ++ y) s t
+  chain_then [] y s m t same rest = subst (λ (z : S). AllHanded delivers y z t) same rest
   chain_then (h ∷ x) y s m t (next, is, others) rest = (next, is, chain_then x y next m t others rest)
 
   taken_both : (e : List Content) (a b : List Own) (x y : List Handed) → AllByRecursion (λ (h : Handed). WasTakenBehind e a h.batch) x

@@ -66,6 +66,9 @@ pub mod Staged
 pub mod Ended
 pub mod Tidying
 pub mod Handing
+pub mod Growing
+pub mod Sharing
+pub mod Parting
 pub mod Rolling
 pub mod Dialing
 pub mod Asking

@@ -3,7 +3,7 @@ use Rattle.std.proofs.Common.{◌≡◌, ◌∙◌, ◌==◌, ◌+◌, ◌++◌,
 use Rattle.std.proofs.lemmas.List.{append-nil}
 use Rattle.std.proofs.lemmas.List.{append_assoc}
 use Rattle.shared_channel.specs.Passes.{Known}
-use Rattle.flume_config.specs.declared.plan.SinkPlan.{SinkPlan}
+use Rattle.grouped_sinks.specs.declared.row.SinkRow.{SinkRow}
 use Rattle.run_tracks.specs.Deals.{Deals, DealsEach, count_of, hand_at}
 use Rattle.run_tracks.specs.Dealt.{Owner}
 use Rattle.run_tracks.proofs.Handing.{count_joined, one_left}
@@ -91,7 +91,7 @@ module _ {J : Type 0} (channels : J → List ℕ) (ports : J → List Known) whe
         left = rest.left;
       }
 
-module _ {S N I O C K : Type 0} (plans : List SinkPlan) (parts : Parts S N I O C K) (hands : List (List Known)) (jobs : Workers Known S N I O C K)
+module _ {S N I O C K : Type 0} (plans : List SinkRow) (parts : Parts S N I O C K) (hands : List (List Known)) (jobs : Workers Known S N I O C K)
     (staff : IsStaff plans parts hands jobs) (order : AreInOrder hands) (left : Left hands (uses_of plans parts.listeners.items parts.lines.items)) where
   -- the workers' passes have the numbers of their uses
   pub staff_numbered : owners_of jobs ≡ numbered (uses_of plans parts.listeners.items parts.lines.items)

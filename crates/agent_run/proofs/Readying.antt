@@ -6,6 +6,9 @@ use Rattle.flume_host.specs.HostState.{Folders}
 use Rattle.flume_config.specs.declared.plan.ChannelPlan.{ChannelPlan}
 use Rattle.flume_config.specs.declared.plan.Plan.{Plan}
 use Rattle.flume_config.specs.declared.plan.SinkPlan.{SinkPlan}
+use Rattle.grouped_sinks.specs.Rows.{AreRows, AreThere}
+use Rattle.grouped_sinks.specs.declared.row.SinkRow.{SinkRow}
+use Rattle.grouped_sinks.proofs.Limits.{rows_named, rows_some}
 use Rattle.plan_laws.specs.Limits.{IsFromTo, NumbersAreLimited}
 use Rattle.plan_laws.specs.Names.{SinksNameWhatIsThere}
 use Rattle.agent_channels.specs.Closings.{AreOut, IsOutIn}
@@ -54,12 +57,12 @@ seats_there {K} {C} count (seat ∷ seats) all =
     All-append (λ place. place < count) (seat_channels seat) (flat_map seat_channels seats)
     (All-head (IsSeat count) seat seats all).0.there (seats_there count seats (All-tail (IsSeat count) seat seats all))
 
-uses_there : {K C : Type 0} (count : ℕ) (sinks : List SinkPlan) (listeners lines : List (Seat K C)) → All (λ (sink : SinkPlan). sink.channel < count) sinks
+uses_there : {K C : Type 0} (count : ℕ) (sinks : List SinkRow) (listeners lines : List (Seat K C)) → All (λ (row : SinkRow). row.channel < count) sinks
     → All (IsSeat count) listeners → All (IsSeat count) lines → All (λ place. place < count) (uses_of sinks listeners lines)
 uses_there count sinks listeners lines named hear talk =
     let Below : ℕ → Type 0 = λ place. place < count in
-    All-append Below (map (λ (plan : SinkPlan). plan.channel) sinks) (flat_map seat_channels listeners ++ flat_map seat_channels lines)
-    (All-map Below (λ (plan : SinkPlan). plan.channel) sinks named)
+    All-append Below (map (λ (row : SinkRow). row.channel) sinks) (flat_map seat_channels listeners ++ flat_map seat_channels lines)
+    (All-map Below (λ (row : SinkRow). row.channel) sinks named)
     (All-append Below (flat_map seat_channels listeners) (flat_map seat_channels lines) (seats_there count listeners hear) (seats_there count lines talk))
 
 -- ---- each worker of a listener has one
@@ -75,31 +78,33 @@ as_many {N} {K} {C} places bare named seats w sources =
 
 -- ---- the workers can be made
 
-pub can_be_manned : {A B S N I O C K : Type 0} (plan : Plan) (o : Opening A B S N I O C K) (named : List (SourceListener N))
-    → SinksNameWhatIsThere → NumbersAreLimited → IsPlanned plan → IsPrepared plan o.prepared
-    → WereOpened o.prepared.wishes.items o.opened.items → length o.outside.sinks.items ≡ length plan.sinks.items
+pub can_be_manned : {A B S N I O C K : Type 0} (plan : Plan) (rows : List SinkRow) (o : Opening A B S N I O C K) (named : List (SourceListener N))
+    → SinksNameWhatIsThere → NumbersAreLimited → IsPlanned plan → AreThere (length plan.sinks.items) plan.groups.items → AreRows plan.sinks.items plan.groups.items rows
+    → IsPrepared plan rows o.prepared → WereOpened o.prepared.wishes.items o.opened.items → length o.outside.sinks.items ≡ length rows
     → WithPlaces o.prepared.places.items o.outside.listeners.items named → HaveChannelLists (length plan.channels.items) o.channels
-    → HaveWorkerLists (length plan.sinks.items) (length o.prepared.listeners.items) (length o.prepared.lines.items) o.workers → CanBeManned plan.sinks.items o
-can_be_manned {A} {B} {S} {N} {I} {O} {C} {K} plan o named names limits planned is opened sinks w channels workers =
+    → HaveWorkerLists (length rows) (length o.prepared.listeners.items) (length o.prepared.lines.items) o.workers → CanBeManned rows o
+can_be_manned {A} {B} {S} {N} {I} {O} {C} {K} plan rows o named names limits planned in_groups are is opened sinks w channels workers =
     let p = o.prepared in
     let count = length plan.channels.items in
     let many : count ≡ length p.wishes.items = sym is.wishes.many in
-    let there = uses_there count plan.sinks.items p.listeners.items p.lines.items (names planned.0 planned.1 plan planned.2) is.listeners is.lines in
+    let there = uses_there count rows p.listeners.items p.lines.items
+    (rows_named plan.sinks.items plan.groups.items rows in_groups are count (names planned.0 planned.1 plan planned.2)) is.listeners is.lines in
     record {
       opened = opened;
       used = record {
-        users = λ place wish below. (wish_at (uses_of plan.sinks.items p.listeners.items p.lines.items) plan.channels.items p.wishes.items is.wishes place wish below).0;
-        there = subst (λ (n : ℕ). All (λ place. place < n) (uses_of plan.sinks.items p.listeners.items p.lines.items)) many there;
+        users = λ place wish below. (wish_at (uses_of rows p.listeners.items p.lines.items) plan.channels.items p.wishes.items is.wishes place wish below).0;
+        there = subst (λ (n : ℕ). All (λ place. place < n) (uses_of rows p.listeners.items p.lines.items)) many there;
       };
-      some = All-weaker (λ (sink : SinkPlan). IsFromTo 1 10000 sink.batch) (λ (sink : SinkPlan). 1 ≤ sink.batch) (λ sink within. within.0) plan.sinks.items
-          (limits planned.0 planned.1 plan planned.2).sinks;
+      some = rows_some plan.sinks.items plan.groups.items rows in_groups are
+          (All-weaker (λ (sink : SinkPlan). IsFromTo 1 10000 sink.batch) (λ (sink : SinkPlan). 1 ≤ sink.batch) (λ sink within. within.0) plan.sinks.items
+          (limits planned.0 planned.1 plan planned.2).sinks);
       sinks = sinks;
       clocks = is.clocks;
       hearers = as_many p.places.items o.outside.listeners.items named p.listeners.items w is.sources;
       listeners = subst (λ (n : ℕ). All (IsSeat n) p.listeners.items) many is.listeners;
       lines = subst (λ (n : ℕ). All (IsSeat n) p.lines.items) many is.lines;
       lined = is.lined;
-      labels = labels_many (users_of plan p.listeners.items p.lines.items) 0 plan.channels.items p.labels.items is.labels ∙ many;
+      labels = labels_many (users_of plan rows p.listeners.items p.lines.items) 0 plan.channels.items p.labels.items is.labels ∙ many;
       channels = subst (λ (n : ℕ). HaveChannelLists n o.channels) many channels;
       workers = workers;
     }

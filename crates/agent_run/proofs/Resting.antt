@@ -8,7 +8,7 @@ use Rattle.std.specs.declared.vec.Vec.{Vec}
 use Rattle.channel_face.specs.declared.replies.Counts.{Counts}
 use Rattle.agent_end.specs.declared.draining.ChannelDrain.{ChannelDrain}
 use Rattle.flume_config.specs.declared.plan.ChannelPlan.{ChannelPlan}
-use Rattle.flume_config.specs.declared.plan.SinkPlan.{SinkPlan}
+use Rattle.grouped_sinks.specs.declared.row.SinkRow.{SinkRow}
 use Rattle.flume_config.specs.declared.plan.SourcePlan.{SourcePlan}
 use Rattle.flume_host.specs.HostState.{Folders}
 use Rattle.flume_host.specs.Listens.{Endpoint}
@@ -72,7 +72,7 @@ from_many endpoint sources [] (l ∷ listeners) all = absurd all
 from_many endpoint sources (p ∷ places) [] all = absurd all
 from_many endpoint sources (p ∷ places) (l ∷ listeners) all = ap suc (from_many endpoint sources places listeners all.1)
 
-module _ {A B S N I O C K : Type 0} (plans : List SinkPlan) (o : Opening A B S N I O C K) (m : Manned A B S N I O C K) (can : CanBeManned plans o) (is : IsManned plans o m) where
+module _ {A B S N I O C K : Type 0} (plans : List SinkRow) (o : Opening A B S N I O C K) (m : Manned A B S N I O C K) (can : CanBeManned plans o) (is : IsManned plans o m) where
   -- as many shared channels as were wanted
   pub shares_many : length m.crew.shares.items ≡ length o.prepared.wishes.items
   shares_many =

@@ -7,7 +7,7 @@ use Rattle.std.specs.declared.vec.Vec.{Vec}
 use Rattle.line_worker.specs.declared.worker.LineWorker.{LineWorker}
 use Rattle.source_worker.specs.declared.worker.ListenWorker.{ListenWorker}
 use Rattle.agent_run.specs.declared.seats.Seat.{Seat}
-use Rattle.flume_config.specs.declared.plan.SinkPlan.{SinkPlan}
+use Rattle.grouped_sinks.specs.declared.row.SinkRow.{SinkRow}
 use Rattle.shared_channel.specs.Passes.{Known}
 use Rattle.sink_worker.specs.declared.worker.SinkWorker.{SinkWorker}
 use Rattle.agent_run.specs.Staff.{IsLineOf, IsListenOf, IsSinkOf, line_channels, line_ports, listen_channels, listen_ports, seat_channels, sink_channels, sink_ports}
@@ -72,22 +72,22 @@ ports_dealt hands new places channels before ports same none (passes, is, deals)
     (dealt, deals_many hands channels ports new dealt)
 
 -- the places of the sinks of a plan, the last of them apart
-pub last_plan : (hands : List (List Known)) (plans front : List SinkPlan) (plan : SinkPlan) → plans ≡ front ++ plan ∷ [] → Suffice hands (map (λ (p : SinkPlan). p.channel) plans)
-    → Suffice hands (map (λ (p : SinkPlan). p.channel) front ++ plan.channel ∷ [])
+pub last_plan : (hands : List (List Known)) (plans front : List SinkRow) (plan : SinkRow) → plans ≡ front ++ plan ∷ [] → Suffice hands (map (λ (p : SinkRow). p.channel) plans)
+    → Suffice hands (map (λ (p : SinkRow). p.channel) front ++ plan.channel ∷ [])
 last_plan hands plans front plan same enough =
-    subst (Suffice hands) (ap (map (λ (p : SinkPlan). p.channel)) same ∙ map-append (λ (p : SinkPlan). p.channel) front (plan ∷ [])) enough
+    subst (Suffice hands) (ap (map (λ (p : SinkRow). p.channel)) same ∙ map-append (λ (p : SinkRow). p.channel) front (plan ∷ [])) enough
 
-pub sinks_places : {S C : Type 0} (plans : List SinkPlan) (jobs : List (SinkWorker Known S C)) → Zips IsSinkOf plans jobs → flat_map sink_channels jobs ≡ map (λ (p : SinkPlan). p.channel) plans
+pub sinks_places : {S C : Type 0} (plans : List SinkRow) (jobs : List (SinkWorker Known S C)) → Zips IsSinkOf plans jobs → flat_map sink_channels jobs ≡ map (λ (p : SinkRow). p.channel) plans
 sinks_places [] [] of = refl
 sinks_places [] (job ∷ jobs) of = absurd of
 sinks_places (plan ∷ plans) [] of = absurd of
 sinks_places (plan ∷ plans) (job ∷ jobs) of = λ i. of.0.channel i ∷ sinks_places plans jobs of.1 i
 
 -- what is left for the last sink
-pub sinks_left : {S C : Type 0} (hands mid : List (List Known)) (plans front : List SinkPlan) (plan : SinkPlan) (jobs : List (SinkWorker Known S C)) → plans ≡ front ++ plan ∷ []
-    → Suffice hands (map (λ (p : SinkPlan). p.channel) plans) → Zips IsSinkOf front jobs → DealsEach sink_channels sink_ports hands jobs mid → Suffice mid (plan.channel ∷ [])
+pub sinks_left : {S C : Type 0} (hands mid : List (List Known)) (plans front : List SinkRow) (plan : SinkRow) (jobs : List (SinkWorker Known S C)) → plans ≡ front ++ plan ∷ []
+    → Suffice hands (map (λ (p : SinkRow). p.channel) plans) → Zips IsSinkOf front jobs → DealsEach sink_channels sink_ports hands jobs mid → Suffice mid (plan.channel ∷ [])
 sinks_left hands mid plans front plan jobs same enough of dealt =
-    suffice_back hands mid (map (λ (p : SinkPlan). p.channel) front) (plan.channel ∷ []) (last_plan hands plans front plan same enough)
+    suffice_back hands mid (map (λ (p : SinkRow). p.channel) front) (plan.channel ∷ []) (last_plan hands plans front plan same enough)
     (λ place. each_left sink_channels sink_ports hands jobs mid dealt place ∙ ap (λ (l : List ℕ). length (hand_at mid place) + count_of place l) (sinks_places front jobs of))
 
 -- the places of the channels of workers, those of the last apart

@@ -1,7 +1,7 @@
 -- The workers of a run, as they are made over its channels.
 use Rattle.std.specs.Prelude.{◌≡◌, ◌≤◌, ◌<◌, ℕ, List, [], All, length, map, slice_index_or}
 use Rattle.shared_channel.specs.Passes.{Known}
-use Rattle.flume_config.specs.declared.plan.SinkPlan.{SinkPlan}
+use Rattle.grouped_sinks.specs.declared.row.SinkRow.{SinkRow}
 use Rattle.two_channels.specs.Shares.{table_of}
 use Rattle.agent_channels.specs.declared.opened.OpenedChannel.{OpenedChannel}
 use Rattle.agent_channels.specs.declared.wish.ChannelWish.{ChannelWish}
@@ -23,10 +23,10 @@ use Rattle.agent_run.specs.declared.assemble.Parts.{Parts}
 use Rattle.agent_run.specs.declared.workers.Workers.{Workers}
 
 -- There is one of each part for each worker, and room for it.
-pub record ArePartsOf {S N I O C K : Type 0} (plans : List SinkPlan) (parts : Parts S N I O C K) : Type 0 where
+pub record ArePartsOf {S N I O C K : Type 0} (plans : List SinkRow) (parts : Parts S N I O C K) : Type 0 where
   pub sinks : length parts.outside.sinks.items ≡ length plans
   pub clocks : length parts.clocks.items ≡ length plans
-  pub some : All (λ (plan : SinkPlan). 1 ≤ plan.batch) plans
+  pub some : All (λ (plan : SinkRow). 1 ≤ plan.batch) plans
   pub listeners : length parts.outside.listeners.items ≡ length parts.listeners.items
   pub talks : length parts.talks.items ≡ length parts.lines.items
   pub listen_rooms : All IsRoomy parts.listeners.items
@@ -37,12 +37,12 @@ pub record ArePartsOf {S N I O C K : Type 0} (plans : List SinkPlan) (parts : Pa
   pub line_jobs : IsEmptyFor (length parts.lines.items) parts.room.lines
 
 -- Each channel has as many passes left as workers use it.
-abbrev pub AreUndealt : {S N I O C K : Type 0} → List SinkPlan → Parts S N I O C K → List (List Known) → Type 0
+abbrev pub AreUndealt : {S N I O C K : Type 0} → List SinkRow → Parts S N I O C K → List (List Known) → Type 0
 AreUndealt plans parts hands =
     (place : ℕ) → length (hand_at hands place) ≡ count_of place (uses_of plans parts.listeners.items parts.lines.items)
 
 -- Each worker has what it is made of and a pass of each of its channels, dealt one worker after the other, and no pass is left.
-pub record IsStaff {S N I O C K : Type 0} (plans : List SinkPlan) (parts : Parts S N I O C K) (hands : List (List Known))
+pub record IsStaff {S N I O C K : Type 0} (plans : List SinkRow) (parts : Parts S N I O C K) (hands : List (List Known))
     (jobs : Workers Known S N I O C K) : Type 0 where
   pub sinks : Zips IsSinkOf plans jobs.sinks.items
   pub own_sinks : map (λ job. job.sink) jobs.sinks.items ≡ parts.outside.sinks.items
@@ -71,7 +71,7 @@ pub record AreFit {S N I O C K : Type 0} (count : ℕ) (parts : Parts S N I O C 
 
 -- The channels that were opened are shared among workers that can run. Each number of a channel is with its pass at home or with one
 -- worker, and none has made a call. No worker has the number of another or of the pass at home.
-pub record IsCrew {A B S N I O C K : Type 0} (plans : List SinkPlan) (opened : List (OpenedChannel A B)) (parts : Parts S N I O C K)
+pub record IsCrew {A B S N I O C K : Type 0} (plans : List SinkRow) (opened : List (OpenedChannel A B)) (parts : Parts S N I O C K)
     (crew : Crew A B S N I O C K) : Type 0 where
   pub shares : crew.shares.items ≡ map (λ (c : OpenedChannel A B). c.share) opened
   pub homes : AreHomes table_of crew.shares.items crew.homes.items

@@ -8,7 +8,7 @@ use Rattle.agent_end.specs.declared.draining.ChannelDrain.TheVariants.{Emptied, 
 use Rattle.channel_face.specs.History.{Step, opening, state_after}
 use Rattle.channel_face.specs.Machine.{BeginPut, Call, Put, StagePut}
 use Rattle.event_core.specs.Journal.{put_events}
-use Rattle.flume_config.specs.declared.plan.SinkPlan.{SinkPlan}
+use Rattle.grouped_sinks.specs.declared.row.SinkRow.{SinkRow}
 use Rattle.shared_channel.specs.Calls.{state_seen}
 use Rattle.shared_channel.specs.Passes.{Known}
 
@@ -40,10 +40,10 @@ abbrev pub DrainTold : ChannelDrain → Known → Known → Type 0
 DrainTold Emptied home final = WasEmptied home final
 DrainTold (Stopped turn) home final = is_delivery turn ≡ false
 
--- Once the workers were joined nobody put into a channel any more, and each sink of the plan tried to empty its own.
-pub record DrainedTold (plans : List SinkPlan) (ends : List ChannelDrain) (homes finals : List Known) : Type 0 where
+-- Once the workers were joined nobody put into a channel any more, and each row of sinks tried to empty its own.
+pub record DrainedTold (rows : List SinkRow) (ends : List ChannelDrain) (homes finals : List Known) : Type 0 where
   pub joined : (place : ℕ) (home final : Known) → place < length finals → PutsEnd (slice_index_or homes place home) (slice_index_or finals place final)
-  pub as_many : length ends ≡ length plans
-  pub each : (place : ℕ) (plan : SinkPlan) (end : ChannelDrain) (home final : Known) → place < length plans
-      → let channel = (slice_index_or plans place plan).channel in
+  pub as_many : length ends ≡ length rows
+  pub each : (place : ℕ) (row : SinkRow) (end : ChannelDrain) (home final : Known) → place < length rows
+      → let channel = (slice_index_or rows place row).channel in
       DrainTold (slice_index_or ends place end) (slice_index_or homes channel home) (slice_index_or finals channel final)

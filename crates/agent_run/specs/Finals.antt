@@ -1,7 +1,7 @@
 -- What the workers of a run called, in all that the passes of its channels had seen when these were closed.
 use Rattle.std.specs.Prelude.{◌≡◌, ◌⊎◌, ℕ, List, All, Bool, Option, length, map}
 use Rattle.channel_face.specs.History.{Opening, Step}
-use Rattle.flume_config.specs.declared.plan.SinkPlan.{SinkPlan}
+use Rattle.grouped_sinks.specs.declared.row.SinkRow.{SinkRow}
 use Rattle.shared_channel.specs.Passes.{Known}
 use Rattle.sink_worker.specs.Rounds.{Told}
 use Rattle.source_put.specs.Chains.{Meaning}
@@ -51,7 +51,7 @@ pub record AreToldInFull {A B S N I O C K : Type 0} (sink : Told S) (Means : Mea
 abbrev pub RunsAreTold : {R A B S N I O C K : Type 0} → Runs (EitherPort R A B) S N I O C K → Told S → Meaning K → (C → Option (ℕ → ℕ)) → (N → Heard) → (I → O → Talk)
     → (A → Opening → List Step → Type 0) → (A → Bool) → (A → ℕ) → (B → Opening → List Step → Type 0) → (B → Bool) → Type 0
 RunsAreTold {R} {A} {B} {S} {N} {I} {O} {C} {K} runs sink Means moments heard talk disk tells moment memory tells' =
-    (plans : List SinkPlan) (o : Opened A B S N I O C K) (m : Manned A B S N I O C K) (homes : List Known) (joined : Joined S C)
+    (plans : List SinkRow) (o : Opened A B S N I O C K) (m : Manned A B S N I O C K) (homes : List Known) (joined : Joined S C)
     (returned : Returned S N I O C) (settled : Settled S A B)
     → IsManned plans o m → EachTook m.crew.homes.items homes → All (λ (p : Known). HasAll p.view) homes
     → HaveReturned runs sink Means moments heard talk m.crew.shares.items homes m.crew.jobs returned

@@ -3,7 +3,7 @@ use Rattle.std.specs.Prelude.{◌≡◌, ◌==◌, ◌+◌, ◌++◌, ℕ, suc, 
 use Rattle.std.specs.declared.alloc.Global.{Global}
 use Rattle.flume_config.specs.declared.plan.ChannelPlan.{ChannelPlan}
 use Rattle.flume_config.specs.declared.plan.Plan.{Plan}
-use Rattle.flume_config.specs.declared.plan.SinkPlan.{SinkPlan}
+use Rattle.grouped_sinks.specs.declared.row.SinkRow.{SinkRow}
 use Rattle.flume_config.specs.declared.plan.SourcePlan.{SourcePlan}
 use Rattle.agent_drafts.specs.declared.draft.SourceDraft.{SourceDraft}
 use Rattle.run_tracks.specs.Deals.{count_of}
@@ -24,8 +24,8 @@ pub record Use : Type 0 where
 abbrev pub user_of : User → Use
 user_of user = record { channel = user.channel; component = string_bytes user.component; place = user.place }
 
-abbrev pub sink_user : SinkPlan → Use
-sink_user sink = record { channel = sink.channel; component = codes "sinks." ++ string_bytes sink.name; place = 0 }
+abbrev pub sink_user : SinkRow → Use
+sink_user row = record { channel = row.channel; component = string_bytes row.component; place = 0 }
 
 -- the component of a source, if there is one
 abbrev pub name_of : Option SourcePlan → List ℕ
@@ -44,10 +44,10 @@ channel_user sources draft channel = record { channel = channel; component = nam
 abbrev pub seat_users : {K C : Type 0} → List SourcePlan → Seat K C → List Use
 seat_users sources seat = map (channel_user sources seat.draft) (seat_channels seat)
 
--- the workers that use channels: those of the sinks, of the listeners and of the lines
-abbrev pub users_of : {K C : Type 0} → Plan → List (Seat K C) → List (Seat K C) → List Use
-users_of plan listeners lines =
-    map sink_user plan.sinks.items ++ (flat_map (seat_users plan.sources.items) listeners ++ flat_map (seat_users plan.sources.items) lines)
+-- the workers that use channels: those of the rows of sinks, of the listeners and of the lines
+abbrev pub users_of : {K C : Type 0} → Plan → List SinkRow → List (Seat K C) → List (Seat K C) → List Use
+users_of plan rows listeners lines =
+    map sink_user rows ++ (flat_map (seat_users plan.sources.items) listeners ++ flat_map (seat_users plan.sources.items) lines)
 
 -- the channels that they use, each as often as it is used
 abbrev pub places_of : List Use → List ℕ

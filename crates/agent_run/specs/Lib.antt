@@ -28,6 +28,7 @@ pub mod FoldersTold
 pub mod ReportTold
 pub mod DrainedTold
 pub mod RolledTold
+pub mod MembersTold
 pub mod DialedTold
 pub mod StagedTold
 pub mod RunLeft

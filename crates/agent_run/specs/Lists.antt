@@ -47,9 +47,10 @@ pub record HaveWorkerLists {S N I O C K : Type 0} (of_sinks of_listeners of_line
   pub talks : IsEmptyFor of_lines lists.talks
   pub named : IsEmptyFor of_listeners lists.named
 
--- room for all that a run of this plan has, with so many listeners and workers of lines
-pub record HasRoomFor {S A B N I O C K : Type 0} (plan : Plan) (of_listeners of_lines : ℕ) (room : Room S A B N I O C K) : Type 0 where
+-- room for all that a run of this plan has, with so many rows of sinks, listeners and workers of lines
+pub record HasRoomFor {S A B N I O C K : Type 0} (plan : Plan) (of_rows of_listeners of_lines : ℕ) (room : Room S A B N I O C K) : Type 0 where
   pub listeners : IsEmptyFor of_listeners room.listeners
+  pub runners : IsEmptyFor of_rows room.runners
   pub channels : HaveChannelLists (length plan.channels.items) room.channels
-  pub workers : HaveWorkerLists (length plan.sinks.items) of_listeners of_lines room.workers
-  pub settled : HasSettleRoom plan.channels.items (length plan.sinks.items) room.settled
+  pub workers : HaveWorkerLists of_rows of_listeners of_lines room.workers
+  pub settled : HasSettleRoom plan.channels.items of_rows room.settled

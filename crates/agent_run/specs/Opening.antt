@@ -1,6 +1,6 @@
 -- What a run of an agent has from its opening to the join of its workers.
 use Rattle.std.specs.Prelude.{◌≡◌, ◌≤◌, List, All, length, map}
-use Rattle.flume_config.specs.declared.plan.SinkPlan.{SinkPlan}
+use Rattle.grouped_sinks.specs.declared.row.SinkRow.{SinkRow}
 use Rattle.shared_channel.specs.Passes.{Known}
 use Rattle.two_channels.specs.Shares.{table_of}
 use Rattle.agent_channels.specs.Several.{WereOpened}
@@ -22,10 +22,10 @@ use Rattle.agent_run.specs.declared.opening.Opening.{Opening}
 
 -- All that workers are made of is there, and room for them: the channels were opened for what was wanted, each with as many passes as
 -- it has users.
-pub record CanBeManned {A B S N I O C K : Type 0} (plans : List SinkPlan) (o : Opening A B S N I O C K) : Type 0 where
+pub record CanBeManned {A B S N I O C K : Type 0} (plans : List SinkRow) (o : Opening A B S N I O C K) : Type 0 where
   pub opened : WereOpened o.prepared.wishes.items o.opened.items
   pub used : AreUsed o.prepared.wishes.items (uses_of plans o.prepared.listeners.items o.prepared.lines.items)
-  pub some : All (λ (plan : SinkPlan). 1 ≤ plan.batch) plans
+  pub some : All (λ (plan : SinkRow). 1 ≤ plan.batch) plans
   pub sinks : length o.outside.sinks.items ≡ length plans
   pub clocks : length o.prepared.clocks.items ≡ length plans
   pub hearers : length o.outside.listeners.items ≡ length o.prepared.listeners.items
@@ -37,7 +37,7 @@ pub record CanBeManned {A B S N I O C K : Type 0} (plans : List SinkPlan) (o : O
   pub workers : HaveWorkerLists (length plans) (length o.prepared.listeners.items) (length o.prepared.lines.items) o.workers
 
 -- The workers are those of the plan's sinks and sources and can run over the channels, and there is room for what comes back of them.
-pub record IsManned {A B S N I O C K : Type 0} (plans : List SinkPlan) (o : Opening A B S N I O C K) (m : Manned A B S N I O C K) : Type 0 where
+pub record IsManned {A B S N I O C K : Type 0} (plans : List SinkRow) (o : Opening A B S N I O C K) (m : Manned A B S N I O C K) : Type 0 where
   pub shares : m.crew.shares.items ≡ map (λ (c : OpenedChannel A B). c.share) o.opened.items
   pub homes : AreHomes table_of m.crew.shares.items m.crew.homes.items
   pub at_home : m.crew.homes.items ≡ map (λ (c : OpenedChannel A B). c.home) o.opened.items

@@ -17,6 +17,12 @@ use Rattle.agent_outside.specs.Ends.{ListenersBack, come_back, end_at}
 use Rattle.agent_outside.specs.Listening.{CameUnused, ListenersOpened}
 use Rattle.agent_outside.specs.Sinks.{SinksOpened, folders_of}
 use Rattle.agent_outside.specs.declared.listener.SourceListener.{SourceListener}
+use Rattle.flume_config.specs.declared.plan.GroupPlan.{GroupPlan}
+use Rattle.grouped_sinks.specs.Picks.{AreDealt, AreNewRunners}
+use Rattle.grouped_sinks.specs.declared.row.SinkRow.{SinkRow}
+use Rattle.grouped_sinks.specs.declared.runner.Runner.{Runner}
+use Rattle.agent_run.specs.declared.outside.Grouped.{Grouped}
+use Rattle.agent_run.specs.declared.outside.Outside.{Outside}
 use Rattle.run_tracks.specs.Places.{Zips}
 
 -- each listener with the place of its source, in order
@@ -44,6 +50,21 @@ pub record IsOutside {R A B N : Type 0} (rolled : R → Option Rolled) (faults :
   pub named : List (SourceListener N)
   pub with_places : WithPlaces places bare named
   pub opened : ListenersOpened Fresh plan.sources.items places between b.state named
+
+-- Each row of sinks has a runner with its own of these sinks, which has made no delivery; the listeners are as they were, and there is a place
+-- for each sink.
+pub record IsGrouped {S G N : Type 0} (groups : List GroupPlan) (rows : List SinkRow) (all : Outside S N) (grouped : Grouped S (Runner S G) N) : Type 0 where
+  pub dealt : AreDealt all.sinks.items rows grouped.outside.sinks.items
+  pub new_ones : AreNewRunners groups rows grouped.outside.sinks.items
+  pub listeners : grouped.outside.listeners ≡ all.listeners
+  pub places : length grouped.places.items ≡ length all.sinks.items
+
+-- The sinks were opened so, and each row has a runner with its own of them, which has made no delivery.
+pub record HasRunners {S G : Type 0} (Opened : List S → Type 0) (groups : List GroupPlan) (rows : List SinkRow) (runners : List (Runner S G)) : Type 0 where
+  pub sinks : List S
+  pub opened : Opened sinks
+  pub dealt : AreDealt sinks rows runners
+  pub new_ones : AreNewRunners groups rows runners
 
 -- A folder of a sink or a listener was refused, or memory ran out. The folders and dialers of the first sinks and listeners at the first of
 -- these places came back unused, and nothing else changed but the count of faults.

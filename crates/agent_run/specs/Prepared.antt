@@ -8,7 +8,7 @@ use Rattle.flume_host.specs.declared.names.NameRefused.TheVariants.{Failed, NoMe
 use Rattle.prop_text.specs.Pairs.{Pair}
 use Rattle.flume_config.specs.Plans.{Plans}
 use Rattle.flume_config.specs.declared.plan.Plan.{Plan}
-use Rattle.flume_config.specs.declared.plan.SinkPlan.{SinkPlan}
+use Rattle.grouped_sinks.specs.declared.row.SinkRow.{SinkRow}
 use Rattle.agent_words.specs.declared.error.RunError.{RunError}
 use Rattle.agent_words.specs.declared.error.RunError.TheVariants as errors
 use Rattle.source_put.specs.declared.chain.HostNames.{HostNames}
@@ -31,26 +31,26 @@ error_of NoMemory = errors.NoMemory
 abbrev pub IsPlanned : Plan → Type 0
 IsPlanned plan = (pairs : List Pair) × (agent : List ℕ) × Plans pairs agent (Ok plan)
 
--- the channels that workers use, each as often as it is used: those of the sinks, of the listeners and of the lines
-abbrev pub uses_of : {K C : Type 0} → List SinkPlan → List (Seat K C) → List (Seat K C) → List ℕ
-uses_of sinks listeners lines =
-    map (λ (plan : SinkPlan). plan.channel) sinks ++ (flat_map seat_channels listeners ++ flat_map seat_channels lines)
+-- the channels that workers use, each as often as it is used: those of the rows of sinks, of the listeners and of the lines
+abbrev pub uses_of : {K C : Type 0} → List SinkRow → List (Seat K C) → List (Seat K C) → List ℕ
+uses_of rows listeners lines =
+    map (λ (row : SinkRow). row.channel) rows ++ (flat_map seat_channels listeners ++ flat_map seat_channels lines)
 
 -- the worker has all that it asks for, over so many channels, and room for its passes
 abbrev pub IsSeat : {K C : Type 0} → ℕ → Seat K C → Type 0
 IsSeat count seat = IsFit count seat.draft × IsRoomy seat
 
--- All that a run of this plan needs before anything is opened.
-pub record IsPrepared {K C : Type 0} (plan : Plan) (p : Prepared K C) : Type 0 where
-  pub wishes : AreWishes (uses_of plan.sinks.items p.listeners.items p.lines.items) plan.channels.items p.wishes.items
+-- All that a run of this plan, with these rows of sinks, needs before anything is opened.
+pub record IsPrepared {K C : Type 0} (plan : Plan) (rows : List SinkRow) (p : Prepared K C) : Type 0 where
+  pub wishes : AreWishes (uses_of rows p.listeners.items p.lines.items) plan.channels.items p.wishes.items
   pub listeners : All (IsSeat (length plan.channels.items)) p.listeners.items
   pub lines : All (IsSeat (length plan.channels.items)) p.lines.items
   pub lined : All (λ seat. TakesLines seat.draft.rules) p.lines.items
   pub places : p.places.items ≡ places 0 plan.sources.items
   pub sources : map (λ (seat : Seat K C). seat.draft.source) p.listeners.items ≡ p.places.items
   pub listen : All (ListensAt plan.sources.items) p.places.items
-  pub clocks : length p.clocks.items ≡ length plan.sinks.items
-  pub labels : AreLabels (users_of plan p.listeners.items p.lines.items) 0 plan.channels.items p.labels.items
+  pub clocks : length p.clocks.items ≡ length rows
+  pub labels : AreLabels (users_of plan rows p.listeners.items p.lines.items) 0 plan.channels.items p.labels.items
 
 -- Its workers are those that the plan has: drafts of as many session workers of each source, in order, whose interceptors are told of
 -- the host by this name and address.

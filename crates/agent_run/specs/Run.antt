@@ -24,6 +24,9 @@ use Rattle.channel_writing.specs.Touches.{Rests}
 use Rattle.memory_channel.specs.declared.channel.MemoryChannel.{MemoryChannel}
 use Rattle.two_channels.specs.declared.shared.EitherClosed.{EitherClosed}
 use Rattle.two_channels.specs.declared.shared.EitherClosed.TheVariants as closed
+use Rattle.grouped_sinks.specs.Picks.{AreDealt}
+use Rattle.grouped_sinks.specs.declared.row.SinkRow.{SinkRow}
+use Rattle.grouped_sinks.specs.declared.runner.Runner.{Runner}
 use Rattle.agent_run.specs.Outside.{AreFrom}
 use Rattle.agent_run.specs.Streams.{IsButOutput, IsReported}
 use Rattle.agent_run.specs.declared.settle.Settled.{Settled}
@@ -52,14 +55,30 @@ abbrev pub IsAtRest : {D B : Type 0} → (D → Option Told) → (D → ℕ) →
 IsAtRest told faults (closed.Disk c) = Shows (StandsOver (told c.channel.0) (faults c.channel.0) c.channel.1) (Rests (told c.channel.0))
 IsAtRest told faults (closed.Memory c) = Unit {0}
 
--- After a run the sinks' folders and dialers came back, then the channels' disks, and then the report was written, unless the output had failed.
-pub record IsGivenBack {R D A B : Type 0} (rolled : R → Option Rolled) (dial : DialTold A) (told : D → Option Told) (faults : D → ℕ) (plans : List SinkPlan)
-    (wishes : List ChannelWish) (settled : Settled (AgentSink R A B) (D × FileState) MemoryChannel) (failed : Bool)
+-- The sinks of a plan stand in its order, in rows that drive them, and each may be given back.
+pub record StandInRows {R A B G : Type 0} (dial : DialTold A) (folders : Folders) (plans : List SinkPlan) (rows : List SinkRow) (runners : List (Runner (AgentSink R A B) G))
+    (all : Option HandedOut) : Type 0 where
+  pub sinks : List (AgentSink R A B)
+  pub dealt : AreDealt sinks rows runners
+  pub can : CanDial dial folders plans sinks all
+
+-- Whatever list the sinks of the rows come back into, each may be given back.
+abbrev pub MayReturn : {R A B G : Type 0} → DialTold A → List SinkPlan → List SinkRow → List (Runner (AgentSink R A B) G) → Option HandedOut → Type 0
+MayReturn {R} {A} {B} dial plans rows runners all =
+    (sinks : List (AgentSink R A B)) → length sinks ≡ length plans → AreDealt sinks rows runners → DialsMayReturn dial plans sinks all
+
+-- After a run the sinks came back out of their rows, and their folders and dialers to the host; then the channels' disks did, and then the report
+-- was written, unless the output had failed.
+pub record IsGivenBack {R D A B G : Type 0} (rolled : R → Option Rolled) (dial : DialTold A) (told : D → Option Told) (faults : D → ℕ) (plans : List SinkPlan)
+    (rows : List SinkRow) (wishes : List ChannelWish) (settled : Settled (Runner (AgentSink R A B) G) (D × FileState) MemoryChannel) (failed : Bool)
     (answer : Result (Unit {0}) ReportRefused) (old new : HostTold) : Type 0 where
+  pub sinks : List (AgentSink R A B)
+  pub many : length sinks ≡ length plans
+  pub dealt : AreDealt sinks rows settled.sinks.items
   pub behind_sinks : HostTold
   pub behind_disks : HostTold
-  pub dials : DialersBack (dials_back dial plans settled.sinks.items) old.state behind_sinks.state
-  pub rolls : RollsBack (rolls_of rolled plans settled.sinks.items) old.folders behind_sinks.folders
+  pub dials : DialersBack (dials_back dial plans sinks) old.state behind_sinks.state
+  pub rolls : RollsBack (rolls_of rolled plans sinks) old.folders behind_sinks.folders
   pub rests : All (IsAtRest told faults) settled.closed.items
   pub disks : DisksBack (disks_of told faults wishes settled.closed.items) behind_sinks behind_disks
   pub folders : new.folders ≡ behind_disks.folders

@@ -5,6 +5,7 @@ use Rattle.channel_face.specs.History.{Opening, Step}
 use Rattle.channel_face.specs.declared.replies.Counts.{Counts}
 use Rattle.flume_config.specs.declared.plan.Plan.{Plan}
 use Rattle.flume_host.specs.HostState.{HostState}
+use Rattle.grouped_sinks.specs.declared.row.SinkRow.{SinkRow}
 use Rattle.line_session.specs.declared.session.SessionEnd.TheVariants as session
 use Rattle.line_worker.specs.Workers.{Talk, talk_of}
 use Rattle.line_worker.specs.declared.worker.LineWorker.{LineWorker}
@@ -23,13 +24,12 @@ use Rattle.agent_end.specs.Statuses.{run_status}
 use Rattle.agent_end.specs.declared.ends.ReportRefused.{ReportRefused}
 use Rattle.agent_end.specs.declared.ends.RunEnds.{RunEnds}
 use Rattle.agent_run.specs.Causes.{CausesTold}
-use Rattle.agent_run.specs.DialedTold.{DialedTold}
 use Rattle.agent_run.specs.Dialogue.{IsDialogue}
 use Rattle.agent_run.specs.Draining.{IsDrainedAt}
 use Rattle.agent_run.specs.Finals.{AreToldInFull}
 use Rattle.agent_run.specs.Joined.{AreTold, HaveReturned, IsJoined}
 use Rattle.agent_run.specs.Labels.{AreLabels, label_of, users_of}
-use Rattle.agent_run.specs.RolledTold.{RolledTold}
+use Rattle.agent_run.specs.MembersTold.{MembersTold}
 use Rattle.agent_run.specs.RunLeft.{RunLeft}
 use Rattle.agent_run.specs.Runs.{Runs}
 use Rattle.agent_run.specs.Settling.{AreSettled}
@@ -74,30 +74,30 @@ module _ {R A B S N I O C K : Type 0} (runs : Runs (EitherPort R A B) S N I O C 
   pub record AreServed (finals : List Known) (shares : List (EitherShared A B)) (jobs : List (LineWorker Known I O C K)) (begun ended : HostState) : Type 0 where
     pub dialogue : (job : LineWorker Known I O C K) → jobs ≡ job ∷ [] → IsDialogue Means moments shares finals job session.End begun ended
 
-  module _ (plan : Plan) (Drafted : Prepared K C → Type 0) (Opens : Prepared K C → HostTold → HostTold → Outside S N → Type 0)
+  module _ (plan : Plan) (Drafted : Prepared K C → Type 0) (Opens : List SinkRow → Prepared K C → HostTold → HostTold → Outside S N → Type 0)
       (Given : Manned A B S N I O C K → List N → HostState → HostState → Type 0)
-      (Back : List ChannelWish → Settled S A B → Bool → Result (Unit {0}) ReportRefused → HostTold → HostTold → Type 0) where
+      (Back : List SinkRow → List ChannelWish → Settled S A B → Bool → Result (Unit {0}) ReportRefused → HostTold → HostTold → Type 0) where
     -- the steps of a run, one after the other
     abbrev pub Steps : RunEnds → List ChannelEnd → HostTold → HostTold → Type 0
-    Steps = PlanRan plan Drafted Opens (λ o. RanThrough plan.sinks.items o Takes (Joins Given) Settles Back)
+    Steps = PlanRan plan Drafted Opens (λ rows o. RanThrough rows o Takes (Joins Given) Settles (Back rows))
 
     -- A run made its steps. Each channel that comes back is named with its workers, and its pass saw all calls. In these the calls of each
-    -- sink, of each session and of the worker of lines are all calls with their numbers, the folders of rolled files hold what the calls of
-    -- their sinks commit, and the links of Avro sinks took the requests of what these commit. It is told why the status is what it is. At status 0 the workers ran, standard input had its dialogue, nothing is
+    -- row of sinks, of each session and of the worker of lines are all calls with their numbers; each batch that the calls of a row commit was
+    -- taken by one of its sinks; the folders of rolled files hold what their sinks took, and the links of Avro sinks took the requests of what
+    -- these took. It is told why the status is what it is. At status 0 the workers ran, standard input had its dialogue, nothing is
     -- staged in a folder's channel, and it is told what the channels' folders hold, what the report says, and which sinks emptied their channels.
     pub record RunDid (ends : RunEnds) (channels : List ChannelEnd) (a b : HostTold) : Type 0 where
       pub steps : Steps ends channels a b
-      pub labels : AreLabels (users_of plan steps.made.listeners.items steps.made.lines.items) 0 plan.channels.items (map label_of channels)
+      pub labels : AreLabels (users_of plan steps.rows steps.made.listeners.items steps.made.lines.items) 0 plan.channels.items (map label_of channels)
       pub input : steps.ran.between.state.input ≡ a.state.input
       pub output : steps.ran.between.state.output ≡ a.state.output
       pub full : AreToldInFull sink Means moments heard talk steps.ran.goes.manned.crew.shares.items steps.ran.goes.homes (passes_of channels)
           steps.ran.goes.manned.crew.jobs steps.ran.goes.joins.returned steps.ran.goes.settled
-      pub rolled : RolledTold plan.sinks.items steps.ran.goes.manned.crew.jobs.sinks.items (passes_of channels) a.folders b.folders
-      pub dialed : DialedTold plan.sinks.items steps.ran.goes.manned.crew.jobs.sinks.items (passes_of channels) a.state b.state
+      pub members : MembersTold plan.sinks.items steps.rows steps.ran.goes.manned.crew.jobs.sinks.items (passes_of channels) a b
       pub causes : CausesTold plan (run_status ends) (passes_of channels) a.state b.state
       pub workers : run_status ends ≡ 0
           → AreTold runs sink Means moments heard talk steps.ran.goes.manned.crew.shares.items steps.ran.goes.homes steps.ran.goes.manned.crew.jobs steps.ran.goes.joins.returned
       pub served : run_status ends ≡ 0 → AreServed (passes_of channels) steps.ran.goes.manned.crew.shares.items steps.ran.goes.manned.crew.jobs.lines.items
           steps.ran.between.state steps.ran.goes.joins.behind_lines
       pub staged : run_status ends ≡ 0 → StagedTold plan.channels.items (passes_of channels)
-      pub left_behind : run_status ends ≡ 0 → RunLeft plan ends steps.ran.goes.homes steps.ran.goes.behind.output (passes_of channels) a b
+      pub left_behind : run_status ends ≡ 0 → RunLeft plan steps.rows ends steps.ran.goes.homes steps.ran.goes.behind.output (passes_of channels) a b

@@ -2,7 +2,7 @@
 use Rattle.std.specs.Prelude.{◌≡◌, ◌≢◌, ◌≤◌, ℕ, List, [], ◌∷◌, length, None}
 use Rattle.std.specs.Vec.{vec_capacity}
 use Rattle.shared_channel.specs.Passes.{Known}
-use Rattle.flume_config.specs.declared.plan.SinkPlan.{SinkPlan}
+use Rattle.grouped_sinks.specs.declared.row.SinkRow.{SinkRow}
 use Rattle.sink_worker.specs.declared.worker.SinkWorker.{SinkWorker}
 use Rattle.source_worker.specs.declared.ends.SessionRules.TheVariants as rule
 use Rattle.source_worker.specs.declared.worker.ListenWorker.{ListenWorker}
@@ -42,7 +42,7 @@ pub record IsRoomy {K C : Type 0} (seat : Seat K C) : Type 0 where
   pub room : length seat.draft.channels.items ≤ vec_capacity seat.ports
 
 -- the worker of a sink by its plan
-pub record IsSinkOf {S C : Type 0} (plan : SinkPlan) (job : SinkWorker Known S C) : Type 0 where
+pub record IsSinkOf {S C : Type 0} (plan : SinkRow) (job : SinkWorker Known S C) : Type 0 where
   pub channel : job.channel ≡ plan.channel
   pub batch : job.batch ≡ plan.batch
 

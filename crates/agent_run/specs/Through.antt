@@ -12,7 +12,8 @@ use Rattle.channel_face.specs.declared.replies.Counts.{Counts}
 use Rattle.agent_commands.specs.Checked.{IsPlanOf}
 use Rattle.flume_config.specs.declared.plan.ChannelPlan.{ChannelPlan}
 use Rattle.flume_config.specs.declared.plan.Plan.{Plan}
-use Rattle.flume_config.specs.declared.plan.SinkPlan.{SinkPlan}
+use Rattle.grouped_sinks.specs.Rows.{AreRows}
+use Rattle.grouped_sinks.specs.declared.row.SinkRow.{SinkRow}
 use Rattle.flume_host.specs.HostState.{HostState}
 use Rattle.plan_support.specs.Least.{unsupported}
 use Rattle.run_tracks.specs.Homes.{EachTook}
@@ -41,7 +42,7 @@ use Rattle.agent_run.specs.declared.settle.Settled.{Settled}
 
 -- The workers were made of what was opened and of the streams that they took, ran and came back; then each sink emptied its channel,
 -- and each channel was mended, counted and closed; then all was given back, and what the run came to was handed on.
-pub record RanThrough {A B S N I O C K : Type 0} (plans : List SinkPlan) (o : Opening A B S N I O C K)
+pub record RanThrough {A B S N I O C K : Type 0} (plans : List SinkRow) (o : Opening A B S N I O C K)
     (Takes : Manned A B S N I O C K → HostState → HostState → Type 0)
     (Joins : Manned A B S N I O C K → List Known → Joined S C → HostState → HostState → Type 0)
     (Settles : List (EitherShared A B) → List Known → List (SinkWorker AtHome S C) → List (String Global × Counts) → Settled S A B → Type 0)
@@ -83,18 +84,20 @@ pub record OpenedAndRan {A B S N I O C K : Type 0} (plans : List ChannelPlan) (c
   pub opens : Opens a between opening.outside
   pub goes : Goes opening ends channel_ends between b
 
--- A run of a plan: it was prepared, its channels were opened in order, then what it needs outside them, and it went through.
+-- A run of a plan: its sinks were put into rows, it was prepared, its channels were opened in order, then what it needs outside them, and it went through.
 pub record PlanRan {A B S N I O C K : Type 0} (plan : Plan) (Drafted : Prepared K C → Type 0)
-    (Opens : Prepared K C → HostTold → HostTold → Outside S N → Type 0)
-    (Goes : Opening A B S N I O C K → RunEnds → List ChannelEnd → HostTold → HostTold → Type 0)
+    (Opens : List SinkRow → Prepared K C → HostTold → HostTold → Outside S N → Type 0)
+    (Goes : List SinkRow → Opening A B S N I O C K → RunEnds → List ChannelEnd → HostTold → HostTold → Type 0)
     (ends : RunEnds) (channel_ends : List ChannelEnd) (a b : HostTold) : Type 0 where
+  pub rows : List SinkRow
+  pub are_rows : AreRows plan.sinks.items plan.groups.items rows
   pub made : Prepared K C
-  pub is_prepared : IsPrepared plan made
+  pub is_prepared : IsPrepared plan rows made
   pub drafted : Drafted made
   pub channels : List (OpenedChannel A B)
   pub behind : HostTold
   pub opened : AreOpened made.wishes.items channels a behind
-  pub ran : OpenedAndRan plan.channels.items channels made (Opens made) Goes ends channel_ends behind b
+  pub ran : OpenedAndRan plan.channels.items channels made (Opens rows made) (Goes rows) ends channel_ends behind b
 
 -- A run of the plan, each component of which is supported, came to ends with this status, and to these channels.
 pub record CameTo (Ran : Plan → RunEnds → List ChannelEnd → HostTold → HostTold → Type 0) (plan : Plan) (status : ℕ) (channels : List ChannelEnd)

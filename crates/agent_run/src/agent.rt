@@ -13,9 +13,12 @@ ghost use Rattle.agent_run.specs.Opening.{CanBeManned};
 ghost use Rattle.agent_run.specs.Named.{AgentEnds, PlanEnds};
 ghost use Rattle.agent_run.specs.Prepared.{IsPlanned, IsPrepared};
 ghost use Rattle.agent_outside.specs.Listening.{IsFresh};
-ghost use Rattle.agent_run.specs.Outside.{IsOutside};
+ghost use Rattle.agent_run.specs.Outside.{HasRunners, IsOutside};
+ghost use Rattle.grouped_sinks.specs.Frames.{IsFrameOf};
+ghost use Rattle.grouped_sinks.specs.Picks.{HaveMembers};
+ghost use Rattle.grouped_sinks.specs.Rows.{AreDistinct, AreRows, IsOrder, Zips, group_places, places_of};
 ghost use Rattle.agent_run.specs.NotBegun.{IsRefusedOutside, IsRunRefused};
-ghost use Rattle.agent_run.specs.Run.{CanDial, CanListenAt, DialsMayReturn, IsGivenBack};
+ghost use Rattle.agent_run.specs.Run.{CanListenAt, IsGivenBack, MayReturn, StandInRows};
 ghost use Rattle.agent_run.specs.Through.{AgentEndsAs, EndsAs, OpenedAndRan};
 ghost use Rattle.agent_run.specs.Errors.{IsBrokenCause, IsBrokenError, IsCauseError, IsRunStatus, IsSaid};
 
@@ -25,12 +28,12 @@ use crate::labels::add_ends;
 use crate::laws::runs_are_told;
 use crate::opening::{Manned, Opening, Room, man, room_of};
 use crate::outcome::ChannelEnd;
-use crate::outside::open_outside;
+use crate::outside::{Grouped, group_outside, open_outside};
 use crate::prepare::{Prepared, name_error, prepare};
 use crate::rests::channels_rest;
 use crate::settle::{Settled, settle};
 use crate::streams::{StreamsEnded, report_on};
-use crate::through::{Goes, OpeningOf, RunOf, Runs, SinkOf, Steps};
+use crate::through::{Goes, OpeningOf, RunOf, RunnerOf, Runs, SinkOf, Steps};
 use crate::told::steps_are_told;
 use agent_channels::{
     ChannelRefused, ChannelWish, OpenedChannel, close_channels, closed_channels_fit,
@@ -46,8 +49,11 @@ use channel_face::OpenCause;
 use file_channel::FileChannel;
 use flume_config::{ChannelKind, ChannelPlan, Plan, SinkPlan};
 use flume_host::Host;
+use grouped_sinks::{
+    Frame, SinkRow, frames_of, rows_are_apart, rows_of, runners_split, ungroup_sinks,
+};
 use memory_channel::MemoryChannel;
-use plan_laws::{numbers_are_limited, sinks_name_what_is_there};
+use plan_laws::{groups_name_what_is_there, numbers_are_limited, sinks_name_what_is_there};
 use plan_refused::PlanRefused;
 use plan_support::unsupported;
 use plug_in::Interceptor;
@@ -89,21 +95,24 @@ fn run_opened<'a, R: Threads + Wait + Sync + 'a, H: Host + 'a, K: Interceptor + 
     alloc: Global,
     host: &mut H,
     plan: &Plan,
+    rows: &[SinkRow],
+    vacant: Vec<SinkOf<H>>,
     opening: OpeningOf<H, K>,
 ) -> Ran
-    requires can { CanBeManned plan.now.sinks.items opening }
+    requires can { CanBeManned rows.now opening }
+    requires order { IsOrder (length plan.now.sinks.items) (places_of rows.now) }
+    requires vacant { length vacant.items ≡ length plan.now.sinks.items }
     requires listen { CanListenAt H.Listener.endpoint plan.now.sources.items
         opening.prepared.places.items opening.outside.listeners.items
         (H.state host.old).listeners }
     requires sinks { AreOpened (H.folders host.old) plan.now.sinks.items
         (length plan.now.sinks.items) }
-    requires dials { CanDial ⟦<AvroSink<H::Dialer> as HasDialer>⟧.dial (H.folders host.old)
-        plan.now.sinks.items opening.outside.sinks.items (H.state host.old).dialers }
+    requires dials { StandInRows ⟦<AvroSink<H::Dialer> as HasDialer>⟧.dial (H.folders host.old)
+        plan.now.sinks.items rows.now opening.outside.sinks.items (H.state host.old).dialers }
     requires disks { AreOut (H.folders host.old) opening.prepared.wishes.items }
-    requires settle { HasSettleRoom plan.now.channels.items (length plan.now.sinks.items)
-        opening.settled }
+    requires settle { HasSettleRoom plan.now.channels.items (length rows.now) opening.settled }
     requires many { length opening.prepared.wishes.items ≡ length plan.now.channels.items }
-    ensures { ⟦<RunOf<'a, R, H, K> as Goes<OpeningOf<H, K>>>⟧.goes plan.now opening
+    ensures { ⟦<RunOf<'a, R, H, K> as Goes<OpeningOf<H, K>>>⟧.goes plan.now rows.now opening
         result.ends result.channels.items
         (record { state = H.state host.old; folders = H.folders host.old })
         (record { state = H.state host.new; folders = H.folders host.new }) }
@@ -118,7 +127,7 @@ fn run_opened<'a, R: Threads + Wait + Sync + 'a, H: Host + 'a, K: Interceptor + 
         returned,
         named,
         settled,
-    } = man(alloc, host, plan.sinks.as_slice(), opening);
+    } = man(alloc, host, rows, opening);
     let Crew {
         shares,
         mut homes,
@@ -143,17 +152,20 @@ fn run_opened<'a, R: Threads + Wait + Sync + 'a, H: Host + 'a, K: Interceptor + 
         R,
         FileChannel<H::Disk>,
         MemoryChannel,
-        SinkOf<H>,
+        RunnerOf<H>,
         H::Listener,
         H::Source,
         H::Sink,
         H::Clock,
         K,
     >();
+    runners_split::<SinkOf<H>, H::Random>();
     let ends = give_rest(
         alloc,
         host,
         plan.sinks.as_slice(),
+        rows,
+        vacant,
         wishes,
         &mut passes,
         settled,
@@ -168,14 +180,19 @@ fn give_rest<H: Host>(
     alloc: Global,
     host: &mut H,
     plans: &[SinkPlan],
+    rows: &[SinkRow],
+    places: Vec<SinkOf<H>>,
     wishes: Vec<ChannelWish>,
     passes: &mut Vec<Pass>,
-    settled: Settled<SinkOf<H>, FileChannel<H::Disk>, MemoryChannel>,
+    settled: Settled<RunnerOf<H>, FileChannel<H::Disk>, MemoryChannel>,
     streams: StreamsEnded,
 ) -> RunEnds
-    requires sinks { AreOpened (H.folders host.old) plans.now (length settled.sinks.items) }
-    requires dials { DialsMayReturn ⟦<AvroSink<H::Dialer> as HasDialer>⟧.dial
-        plans.now settled.sinks.items (H.state host.old).dialers }
+    requires sinks { AreOpened (H.folders host.old) plans.now (length plans.now) }
+    requires order { IsOrder (length plans.now) (places_of rows.now) }
+    requires places { length places.items ≡ length plans.now }
+    requires members { HaveMembers rows.now settled.sinks.items }
+    requires dials { MayReturn ⟦<AvroSink<H::Dialer> as HasDialer>⟧.dial
+        plans.now rows.now settled.sinks.items (H.state host.old).dialers }
     requires of { AreOfWishes (H.folders host.old) wishes.items settled.closed.items }
     requires room { length passes.old.items + length settled.closed.items
         ≤ vec_capacity passes.old }
@@ -185,19 +202,21 @@ fn give_rest<H: Host>(
     ensures drains { result.drains ≡ settled.ends }
     ensures mends { result.mends ≡ settled.mends }
     ensures back { IsGivenBack H.Roll.rolled
-        ⟦<AvroSink<H::Dialer> as HasDialer>⟧.dial H.Disk.told H.Disk.faults plans.now wishes.items settled
+        ⟦<AvroSink<H::Dialer> as HasDialer>⟧.dial H.Disk.told H.Disk.faults plans.now rows.now wishes.items settled
         streams.output_failed result.report
         (record { state = H.state host.old; folders = H.folders host.old })
         (record { state = H.state host.new; folders = H.folders host.new }) }
 {
     let Settled {
         ends,
-        sinks,
+        sinks: runners,
         mends,
         report,
         closed,
     } = settled;
     channels_rest(closed.as_slice());
+    let mut sinks = places;
+    ungroup_sinks(rows, runners, sinks.as_mut_slice());
     give_back_sinks(host, plans, sinks);
     close_channels(host, wishes.as_slice(), closed, passes);
     let report = report_on(alloc, host, streams.output_failed, report.as_slice());
@@ -215,10 +234,12 @@ fn run_channels<'a, R: Threads + Wait + Sync + 'a, H: Host + 'a, K: Interceptor 
     alloc: Global,
     host: &mut H,
     plan: &Plan,
+    rows: &[SinkRow],
+    frames: Vec<Frame<SinkOf<H>, H::Random>>,
     opened: Vec<OpenedChannel<FileChannel<H::Disk>, MemoryChannel>>,
     prepared: Prepared<K, H::Clock>,
     room: Room<
-        SinkOf<H>,
+        RunnerOf<H>,
         FileChannel<H::Disk>,
         MemoryChannel,
         H::Listener,
@@ -228,28 +249,33 @@ fn run_channels<'a, R: Threads + Wait + Sync + 'a, H: Host + 'a, K: Interceptor 
         K,
     >,
 ) -> Result<Ran, RunError>
-    requires prepared { IsPrepared plan.now prepared }
+    requires prepared { IsPrepared plan.now rows.now prepared }
     requires planned { IsPlanned plan.now }
+    requires rows { AreRows plan.now.sinks.items plan.now.groups.items rows.now }
+    requires apart { AreDistinct (group_places plan.now.groups.items) }
+    requires frames { Zips (IsFrameOf plan.now.groups.items) rows.now frames.items }
     requires plain { All (λ sink. IsPlain sink.kind) plan.now.sinks.items }
     requires opened { WereOpened prepared.wishes.items opened.items }
     requires out { AreOut (H.folders host.old) prepared.wishes.items }
-    requires room { HasRoomFor plan.now (length prepared.listeners.items) (length prepared.lines.items) room }
+    requires room { HasRoomFor plan.now (length rows.now) (length prepared.listeners.items) (length prepared.lines.items) room }
     ensures refused { IfErr result (λ error. IsRefusedOutside plan.now prepared.places.items
         prepared.wishes.items opened.items error
         (record { state = H.state host.old; folders = H.folders host.old })
         (record { state = H.state host.new; folders = H.folders host.new })) }
     ensures ran { IfOk result (λ run. OpenedAndRan plan.now.channels.items opened.items prepared
-        (λ old new outside. IsOutside H.Roll.rolled H.Roll.faults
+        (λ old new outside. HasRunners (λ sinks. IsOutside H.Roll.rolled H.Roll.faults
         ⟦<AvroSink<H::Dialer> as HasDialer>⟧.dial
         (IsFresh H.Listener.told H.Listener.endpoint H.Listener.waits H.Listener.faults)
-        plan.now prepared.places.items old new outside.sinks.items outside.listeners.items)
-        (⟦<RunOf<'a, R, H, K> as Goes<OpeningOf<H, K>>>⟧.goes plan.now)
+        plan.now prepared.places.items old new sinks outside.listeners.items)
+        plan.now.groups.items rows.now outside.sinks.items)
+        (⟦<RunOf<'a, R, H, K> as Goes<OpeningOf<H, K>>>⟧.goes plan.now rows.now)
         run.ends run.channels.items
         (record { state = H.state host.old; folders = H.folders host.old })
         (record { state = H.state host.new; folders = H.folders host.new })) }
 {
     let Room {
         listeners,
+        runners,
         channels,
         workers,
         settled,
@@ -257,7 +283,13 @@ fn run_channels<'a, R: Threads + Wait + Sync + 'a, H: Host + 'a, K: Interceptor 
     match open_outside(alloc, host, plan, prepared.places.as_slice(), listeners) {
         Ok(outside) => {
             sinks_name_what_is_there();
+            groups_name_what_is_there();
             numbers_are_limited();
+            rows_are_apart();
+            let groups = plan.groups.as_slice();
+            let Grouped { outside, places } = group_outside(
+                alloc, groups, rows, frames, outside, runners,
+            );
             let opening = Opening {
                 opened,
                 outside,
@@ -266,7 +298,7 @@ fn run_channels<'a, R: Threads + Wait + Sync + 'a, H: Host + 'a, K: Interceptor 
                 workers,
                 settled,
             };
-            Ok(run_opened(rt, alloc, host, plan, opening))
+            Ok(run_opened(rt, alloc, host, plan, rows, places, opening))
         }
         Err(refused) => {
             let mut opened = opened;
@@ -299,10 +331,15 @@ pub(crate) fn run_plan<
         return Err(RunError::Plan(PlanRefused::Unsupported { line }));
     }
     sinks_are_plain();
-    let prepared = prepare::<H, K>(alloc, host, plan)?;
-    let room = room_of(alloc, plan, prepared.listeners.len(), prepared.lines.len())?;
+    groups_name_what_is_there();
+    let rows = rows_of(alloc, plan)?;
+    let rows = rows.as_slice();
+    let frames = frames_of(alloc, host, plan.groups.as_slice(), rows)?;
+    let prepared = prepare::<H, K>(alloc, host, plan, rows)?;
+    let listeners = prepared.listeners.len();
+    let room = room_of(alloc, plan, rows.len(), listeners, prepared.lines.len())?;
     match open_channels(rt, alloc, host, prepared.wishes.as_slice()) {
-        Ok(opened) => run_channels(rt, alloc, host, plan, opened, prepared, room),
+        Ok(opened) => run_channels(rt, alloc, host, plan, rows, frames, opened, prepared, room),
         Err(ChannelRefused { place, cause }) => {
             Err(cause_error(alloc, &plan.channels[place], cause))
         }

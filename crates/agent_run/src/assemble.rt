@@ -13,7 +13,7 @@ use crate::staff::{staff_lines, staff_listeners, staff_sinks};
 use crate::workers::Workers;
 use agent_channels::{ChannelWish, OpenedChannel, take_apart};
 use channel_face::Channel;
-use flume_config::SinkPlan;
+use grouped_sinks::SinkRow;
 use shared_channel::Pass;
 use std::alloc::Global;
 use two_channels::EitherShared;
@@ -38,7 +38,7 @@ pub(crate) struct Parts<S, N, I, O, C, K> {
 /// Makes the workers of a run, each with a pass of each of its channels.
 pub(crate) fn assemble<S: Drop, N: Drop, I: Drop, O: Drop, C: Drop, K: Drop>(
     alloc: Global,
-    plans: &[SinkPlan],
+    plans: &[SinkRow],
     hands: &mut [Vec<Pass>],
     parts: Parts<S, N, I, O, C, K>,
 ) -> Workers<Pass, S, N, I, O, C, K>
@@ -96,7 +96,7 @@ pub(crate) fn crew_of<
     K: Drop,
 >(
     alloc: Global,
-    plans: &[SinkPlan],
+    plans: &[SinkRow],
     wishes: &[ChannelWish],
     opened: Vec<OpenedChannel<A, B>>,
     parts: Parts<S, N, I, O, C, K>,

@@ -6,7 +6,8 @@ ghost use Rattle.agent_run.specs.Lists.{IsEmptyFor};
 
 use crate::outcome::{ChannelEnd, Worker};
 use crate::seats::Seat;
-use flume_config::{ChannelPlan, Plan, SinkPlan, SourcePlan};
+use flume_config::{ChannelPlan, Plan, SourcePlan};
+use grouped_sinks::SinkRow;
 use shared_channel::Pass;
 use std::alloc::{AllocError, Global};
 
@@ -30,16 +31,15 @@ pub(crate) struct ChannelLabel {
     pub workers: Vec<Worker>,
 }
 
-// Adds the workers of sinks.
-fn add_sinks(alloc: Global, users: &mut Vec<User>, sinks: &[SinkPlan]) -> Result<(), AllocError>
+// Adds the workers of the rows of sinks.
+fn add_sinks(users: &mut Vec<User>, sinks: &[SinkRow]) -> Result<(), AllocError>
     ensures { OnOk result (map user_of users.new.items
         ≡ map user_of users.old.items ++ map sink_user sinks.now) }
 {
     for sink in sinks {
-        let name = sink.name.as_str();
         users.push(User {
             channel: sink.channel,
-            component: format!(in alloc; "sinks.{name}")?,
+            component: sink.component.clone()?,
             place: 0,
         })?;
     }
@@ -99,14 +99,15 @@ fn add_seats<K, C>(
 fn users_of<K, C>(
     alloc: Global,
     plan: &Plan,
+    rows: &[SinkRow],
     listeners: &[Seat<K, C>],
     lines: &[Seat<K, C>],
 ) -> Result<Vec<User>, AllocError>
-    ensures { IfOk result (λ users. map user_of users.items ≡ users_of plan.now listeners.now lines.now) }
+    ensures { IfOk result (λ users. map user_of users.items ≡ users_of plan.now rows.now listeners.now lines.now) }
 {
     let mut users = Vec::new(alloc);
     let sources = plan.sources.as_slice();
-    add_sinks(alloc, &mut users, plan.sinks.as_slice())?;
+    add_sinks(&mut users, rows)?;
     add_seats(alloc, &mut users, sources, listeners)?;
     add_seats(alloc, &mut users, sources, lines)?;
     Ok(users)
@@ -158,13 +159,14 @@ fn add_labels(
 pub(crate) fn labels_of<K, C>(
     alloc: Global,
     plan: &Plan,
+    rows: &[SinkRow],
     listeners: &[Seat<K, C>],
     lines: &[Seat<K, C>],
 ) -> Result<Vec<ChannelLabel>, AllocError>
-    ensures { IfOk result (λ labels. AreLabels (users_of plan.now listeners.now lines.now) 0
+    ensures { IfOk result (λ labels. AreLabels (users_of plan.now rows.now listeners.now lines.now) 0
         plan.now.channels.items labels.items) }
 {
-    let users = users_of(alloc, plan, listeners, lines)?;
+    let users = users_of(alloc, plan, rows, listeners, lines)?;
     let mut labels = Vec::new(alloc);
     add_labels(
         alloc,

@@ -19,8 +19,9 @@ use agent_channels::{ChannelWish, OpenedChannel};
 use agent_outside::SourceListener;
 use channel_face::Channel;
 use crew::DrainWorker;
-use flume_config::{Plan, SinkPlan};
+use flume_config::Plan;
 use flume_host::Host;
+use grouped_sinks::SinkRow;
 use shared_channel::Pass;
 use std::alloc::{AllocError, Global};
 
@@ -29,6 +30,8 @@ use std::alloc::{AllocError, Global};
 pub(crate) struct Room<S, A: Channel, B: Channel, N, I, O, C, K> {
     /// The listeners, before they have workers.
     pub listeners: Vec<N>,
+    /// What drives the rows of sinks, before they have workers.
+    pub runners: Vec<S>,
     /// What it has of each channel.
     pub channels: ChannelLists<A, B>,
     /// What it has of its workers.
@@ -37,7 +40,7 @@ pub(crate) struct Room<S, A: Channel, B: Channel, N, I, O, C, K> {
     pub settled: Settled<S, A, B>,
 }
 
-/// Makes room for all that a run of this plan has, with so many listeners and workers of lines.
+/// Makes room for all that a run of this plan has, with so many rows of sinks, listeners and workers of lines.
 pub(crate) fn room_of<
     S: Drop,
     A: Channel + Drop,
@@ -50,18 +53,20 @@ pub(crate) fn room_of<
 >(
     alloc: Global,
     plan: &Plan,
+    rows: usize,
     listeners: usize,
     lines: usize,
 ) -> Result<Room<S, A, B, N, I, O, C, K>, AllocError>
-    ensures { IfOk result (HasRoomFor plan.now listeners lines) }
+    ensures { IfOk result (HasRoomFor plan.now rows listeners lines) }
 {
-    let sinks = plan.sinks.len();
     let bare = Vec::with_capacity(alloc, listeners)?;
+    let runners = Vec::with_capacity(alloc, rows)?;
     let channels = channel_lists(alloc, plan.channels.len())?;
-    let workers = worker_lists(alloc, sinks, listeners, lines)?;
-    let settled = settle_room(alloc, plan.channels.as_slice(), sinks)?;
+    let workers = worker_lists(alloc, rows, listeners, lines)?;
+    let settled = settle_room(alloc, plan.channels.as_slice(), rows)?;
     Ok(Room {
         listeners: bare,
+        runners,
         channels,
         workers,
         settled,
@@ -136,7 +141,7 @@ fn take_streams<H: Host>(
 pub(crate) fn man<H: Host, A: Channel + Drop, B: Channel + Drop, S: Drop, K: Drop>(
     alloc: Global,
     host: &mut H,
-    plans: &[SinkPlan],
+    plans: &[SinkRow],
     opening: Opening<A, B, S, H::Listener, H::Source, H::Sink, H::Clock, K>,
 ) -> Manned<A, B, S, H::Listener, H::Source, H::Sink, H::Clock, K>
     requires can { CanBeManned plans.now opening }

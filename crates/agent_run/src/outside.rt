@@ -5,25 +5,79 @@ ghost use Rattle.agent_outside.specs.Ends.{AreOut, ListensAt, end_at};
 ghost use Rattle.agent_outside.specs.Listening.{IsFresh};
 ghost use Rattle.agent_outside.specs.Sinks.{IsPlain};
 ghost use Rattle.agent_run.specs.Lists.{IsEmptyFor};
-ghost use Rattle.agent_run.specs.Outside.{AreBack, AreFrom, IsOutside, LeavesDisks, OutsideRefused, WithPlaces};
+ghost use Rattle.grouped_sinks.specs.Frames.{IsFrameOf};
+ghost use Rattle.grouped_sinks.specs.Rows.{AreBelow, AreDistinct, Zips, places_of};
+ghost use Rattle.agent_run.specs.Outside.{AreBack, AreFrom, IsGrouped, IsOutside, LeavesDisks, OutsideRefused, WithPlaces};
 
 use agent_outside::{
     SourceListener, give_back_listeners, give_back_sinks, open_listeners, open_sinks,
 };
 use agent_sinks::AgentSink;
 use avro_ends::{AvroSink, HasDialer};
-use flume_config::{Plan, SourcePlan};
-use flume_host::{Host, NameRefused};
+use flume_config::{GroupPlan, Plan, SourcePlan};
+use flume_host::{Host, NameRefused, Random, RollDir};
+use grouped_sinks::{Frame, Runner, SinkRow, group_sinks};
+use plug_in::EventSink;
 use sink_runner::NullSink;
 use std::alloc::Global;
 
-/// The sinks of a run, and its listeners.
+/// The sinks of a run, or what drives the rows of them, and its listeners.
 #[derive(Drop)]
 pub(crate) struct Outside<S, N> {
-    /// The sinks, in the order of the plan.
+    /// The sinks, in the order of the plan, or what drives their rows, in the order of those.
     pub sinks: Vec<S>,
     /// The listeners, in the order of their sources.
     pub listeners: Vec<N>,
+}
+
+/// What drives the rows of sinks, the listeners, and the list that the sinks come back into.
+#[derive(Drop)]
+pub(crate) struct Grouped<S, G, N> {
+    /// What drives the rows, and the listeners.
+    pub outside: Outside<G, N>,
+    /// A place for each sink, in the order of the plan.
+    pub places: Vec<S>,
+}
+
+/// Hands the sinks to their rows. The list has room for what drives them: so it takes no memory.
+pub(crate) fn group_outside<
+    R: RollDir + Drop,
+    A: EventSink,
+    B: EventSink,
+    C: Random + Drop,
+    N: Drop,
+>(
+    alloc: Global,
+    groups: &[GroupPlan],
+    rows: &[SinkRow],
+    frames: Vec<Frame<AgentSink<R, A, B>, C>>,
+    outside: Outside<AgentSink<R, A, B>, N>,
+    room: Vec<Runner<AgentSink<R, A, B>, C>>,
+) -> Grouped<AgentSink<R, A, B>, Runner<AgentSink<R, A, B>, C>, N>
+    requires frames { Zips (IsFrameOf groups.now) rows.now frames.items }
+    requires once { AreDistinct (places_of rows.now) }
+    requires within { AreBelow (length outside.sinks.items) (places_of rows.now) }
+    requires room { IsEmptyFor (length rows.now) room }
+    ensures { IsGrouped groups.now rows.now outside result }
+{
+    let Outside { sinks, listeners } = outside;
+    let mut places = sinks;
+    let mut runners = room;
+    group_sinks(
+        alloc,
+        groups,
+        rows,
+        frames,
+        places.as_mut_slice(),
+        &mut runners,
+    );
+    Grouped {
+        outside: Outside {
+            sinks: runners,
+            listeners,
+        },
+        places,
+    }
 }
 
 // Takes the listeners out of those of sources, in order. The list has room for them.

@@ -12,6 +12,7 @@ use agent_outside::{listening_places, names_of};
 use agent_words::RunError;
 use flume_config::Plan;
 use flume_host::{Host, NameRefused};
+use grouped_sinks::SinkRow;
 use std::alloc::{AllocError, Global};
 
 /// What a run of an agent is made of.
@@ -25,7 +26,7 @@ pub(crate) struct Prepared<K, C> {
     pub lines: Vec<Seat<K, C>>,
     /// The place of the source of each listener.
     pub places: Vec<usize>,
-    /// The clocks of its sinks.
+    /// The clocks of its rows of sinks.
     pub clocks: Vec<C>,
     /// Its channels by name, with the workers that use each.
     pub labels: Vec<ChannelLabel>,
@@ -54,16 +55,17 @@ fn clocks_of<H: Host>(alloc: Global, host: &mut H, many: usize) -> Result<Vec<H:
     Ok(clocks)
 }
 
-/// Makes all that a run of this plan needs before anything is opened. The host is asked for its names where interceptors are told
+/// Makes all that a run of this plan, with these rows of sinks, needs before anything is opened. The host is asked for its names where interceptors are told
 /// them.
 pub(crate) fn prepare<H: Host, K: Drop>(
     alloc: Global,
     host: &mut H,
     plan: &Plan,
+    rows: &[SinkRow],
 ) -> Result<Prepared<K, H::Clock>, RunError>
     requires planned { IsPlanned plan.now }
     requires none { HasNoPlugin plan.now }
-    ensures prepared { IfOk result (IsPrepared plan.now) }
+    ensures prepared { IfOk result (IsPrepared plan.now rows.now) }
     ensures drafted { IfOk result
         (IsDrafted (H.state host.old).name (H.state host.old).address plan.now) }
     ensures same { OnOk result (H.state host.new ≡ H.state host.old) }
@@ -79,12 +81,11 @@ pub(crate) fn prepare<H: Host, K: Drop>(
     let lines = draft_lines(alloc, plan, names.as_slice())?;
     let listeners = seats_of(alloc, host, listeners)?;
     let lines = seats_of(alloc, host, lines)?;
-    let sinks = plan.sinks.as_slice();
-    let uses = uses_of(alloc, sinks, listeners.as_slice(), lines.as_slice())?;
+    let uses = uses_of(alloc, rows, listeners.as_slice(), lines.as_slice())?;
     let wishes = wishes_of(alloc, plan.channels.as_slice(), uses.as_slice())?;
     let places = listening_places(alloc, plan.sources.as_slice())?;
-    let clocks = clocks_of(alloc, host, sinks.len())?;
-    let labels = labels_of(alloc, plan, listeners.as_slice(), lines.as_slice())?;
+    let clocks = clocks_of(alloc, host, rows.len())?;
+    let labels = labels_of(alloc, plan, rows, listeners.as_slice(), lines.as_slice())?;
     drafts_can_serve::<K>();
     Ok(Prepared {
         wishes,

@@ -9,7 +9,7 @@ ghost use Rattle.agent_run.specs.Staff.{IsLineOf, IsListenOf, IsRoomy, IsSinkOf,
 use crate::homes::LineEnded;
 use crate::seats::Seat;
 use agent_drafts::SourceDraft;
-use flume_config::SinkPlan;
+use grouped_sinks::SinkRow;
 use line_worker::LineWorker;
 use run_tracks::{deal, draw};
 use shared_channel::Pass;
@@ -18,12 +18,12 @@ use source_worker::{ListenWorker, SessionRules};
 use std::alloc::Global;
 use std::marker::PhantomData;
 
-/// Makes the workers of the sinks of a plan, in order, each with a pass of its channel. The list has room for them: so it takes no
+/// Makes the workers of the rows of sinks of a plan, in order, each with a pass of its channel. The list has room for them: so it takes no
 /// memory, and no pass is lost.
 pub(crate) fn staff_sinks<S: Drop, C: Drop>(
     alloc: Global,
     hands: &mut [Vec<Pass>],
-    plans: &[SinkPlan],
+    plans: &[SinkRow],
     sinks: Vec<S>,
     clocks: Vec<C>,
     jobs: &mut Vec<SinkWorker<Pass, S, C>>,

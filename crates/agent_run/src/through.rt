@@ -9,6 +9,7 @@ ghost use Rattle.agent_channels.specs.Openings.{HostTold};
 ghost use Rattle.flume_config.specs.declared.plan.Plan.{Plan};
 ghost use Rattle.agent_end.specs.declared.ends.RunEnds.{RunEnds};
 ghost use Rattle.agent_run.specs.declared.outcome.ChannelEnd.{ChannelEnd};
+ghost use Rattle.grouped_sinks.specs.declared.row.SinkRow.{SinkRow};
 ghost use Rattle.std.specs.Prelude.{List};
 
 use crate::opening::Opening;
@@ -19,6 +20,7 @@ use crew::{DrainWorker, Work};
 use event_core::Event;
 use file_channel::FileChannel;
 use flume_host::Host;
+use grouped_sinks::Runner;
 use line_worker::LineWorker;
 use memory_channel::MemoryChannel;
 use plug_in::{EventSink, Intercepted, Interceptor};
@@ -44,8 +46,8 @@ pub trait Steps {
 
 /// How a run goes on once all of it is opened, `P`.
 pub(crate) trait Goes<P> {
-    /// The run of this plan went on from what was opened to these ends and channels.
-    ghost goes: { Plan → P → RunEnds → List ChannelEnd → HostTold → HostTold → Type 0 };
+    /// The run of this plan, with these rows of sinks, went on from what was opened to these ends and channels.
+    ghost goes: { Plan → List SinkRow → P → RunEnds → List ChannelEnd → HostTold → HostTold → Type 0 };
 }
 
 /// Runs over a runtime and a host, with interceptors of a kind. There is none of it: it names what their contracts say.
@@ -58,6 +60,9 @@ pub struct RunOf<'a, R, H, K> {
 /// The sinks of a run.
 pub(crate) type SinkOf<H> = AgentSink<<H as Host>::Roll, AvroSink<<H as Host>::Dialer>, NullSink>;
 
+/// What drives the rows of them.
+pub(crate) type RunnerOf<H> = Runner<SinkOf<H>, <H as Host>::Random>;
+
 /// The ports of a run's channels.
 pub(crate) type PortOf<'a, R, H> = EitherPort<'a, R, FileChannel<<H as Host>::Disk>, MemoryChannel>;
 
@@ -65,7 +70,7 @@ pub(crate) type PortOf<'a, R, H> = EitherPort<'a, R, FileChannel<<H as Host>::Di
 pub(crate) type OpeningOf<H, K> = Opening<
     FileChannel<<H as Host>::Disk>,
     MemoryChannel,
-    SinkOf<H>,
+    RunnerOf<H>,
     <H as Host>::Listener,
     <H as Host>::Source,
     <H as Host>::Sink,
@@ -87,15 +92,15 @@ impl<'a, R: Threads + Wait + Sync + 'a, H: Host + 'a, K: Interceptor + Send + Dr
     ghost use Rattle.agent_run.specs.Through.{RanThrough};
     ghost use Rattle.std.specs.Prelude.{map};
 
-    ghost goes = { λ plan opening. RanThrough plan.sinks.items opening
+    ghost goes = { λ plan rows opening. RanThrough rows opening
         (λ manned. AreTaken H.Source.left H.Source.faults H.Sink.took H.Sink.handed H.Sink.faults
         (map (λ job. own_talk job) manned.crew.jobs.lines.items) manned.crew.jobs.drains.items)
         (λ manned homes. IsJoined (λ returned. HaveReturned
-        (runs ⟦<SinkWorker<PortOf<'a, R, H>, SinkOf<H>, H::Clock> as Work>⟧.ran
+        (runs ⟦<SinkWorker<PortOf<'a, R, H>, RunnerOf<H>, H::Clock> as Work>⟧.ran
         ⟦<ListenWorker<PortOf<'a, R, H>, H::Listener, H::Clock, K> as Work>⟧.ran
         ⟦<DrainWorker<H::Source> as Work>⟧.ran
         ⟦<LineWorker<PortOf<'a, R, H>, H::Source, H::Sink, H::Clock, K> as Work>⟧.ran)
-        (told ⟦<SinkOf<H> as EventSink>⟧.delivers ⟦<SinkOf<H> as EventSink>⟧.faults)
+        (told ⟦<RunnerOf<H> as EventSink>⟧.delivers ⟦<RunnerOf<H> as EventSink>⟧.faults)
         K.intercepts H.Clock.moments
         (heard_of H.Listener.told H.Listener.faults H.Listener.waits)
         (talk_of H.Source.left H.Source.faults H.Sink.took H.Sink.handed H.Sink.faults)
@@ -105,7 +110,7 @@ impl<'a, R: Threads + Wait + Sync + 'a, H: Host + 'a, K: Interceptor + Send + Dr
         (AreBack H.Listener.told H.Listener.waits H.Listener.faults
         plan.sources.items manned.places.items))
         (AreSettled (IsDrainedAt
-        (told ⟦<SinkOf<H> as EventSink>⟧.delivers ⟦<SinkOf<H> as EventSink>⟧.faults)
+        (told ⟦<RunnerOf<H> as EventSink>⟧.delivers ⟦<RunnerOf<H> as EventSink>⟧.faults)
         H.Clock.moments)
         (IsMended ⟦<FileChannel<H::Disk> as Channel>⟧.stands
         ⟦<FileChannel<H::Disk> as Channel>⟧.tells ⟦<FileChannel<H::Disk> as Channel>⟧.moment)
@@ -113,39 +118,40 @@ impl<'a, R: Threads + Wait + Sync + 'a, H: Host + 'a, K: Interceptor + Send + Dr
         ⟦<FileChannel<H::Disk> as Channel>⟧.tells
         ⟦<MemoryChannel as Channel>⟧.stands ⟦<MemoryChannel as Channel>⟧.tells))
         (IsGivenBack H.Roll.rolled
-        ⟦<AvroSink<H::Dialer> as HasDialer>⟧.dial H.Disk.told H.Disk.faults plan.sinks.items) };
+        ⟦<AvroSink<H::Dialer> as HasDialer>⟧.dial H.Disk.told H.Disk.faults plan.sinks.items rows) };
 }
 
 impl<'a, R: Threads + Wait + Sync + 'a, H: Host + 'a, K: Interceptor + Send + Drop> Steps
     for RunOf<'a, R, H, K> {
-    ghost use Rattle.agent_run.specs.Outside.{IsOutside};
+    ghost use Rattle.agent_run.specs.Outside.{HasRunners, IsOutside};
     ghost use Rattle.agent_run.specs.Prepared.{IsDrafted};
     ghost use Rattle.agent_run.specs.Through.{PlanRan};
 
     ghost steps = { λ plan ends channels a b.
         PlanRan plan (IsDrafted a.state.name a.state.address plan)
-        (λ prepared old new outside. IsOutside H.Roll.rolled H.Roll.faults
+        (λ rows prepared old new outside. HasRunners (λ sinks. IsOutside H.Roll.rolled H.Roll.faults
         ⟦<AvroSink<H::Dialer> as HasDialer>⟧.dial
         (IsFresh H.Listener.told H.Listener.endpoint H.Listener.waits H.Listener.faults)
-        plan prepared.places.items old new outside.sinks.items outside.listeners.items)
+        plan prepared.places.items old new sinks outside.listeners.items)
+        plan.groups.items rows outside.sinks.items)
         (⟦<RunOf<'a, R, H, K> as Goes<OpeningOf<H, K>>>⟧.goes plan)
         ends channels a b };
 }
 
 impl<'a, R: Threads + Wait + Sync + 'a, H: Host + 'a, K: Interceptor + Send + Drop> Runs
     for RunOf<'a, R, H, K> {
-    ghost use Rattle.agent_run.specs.Outside.{AreBack, IsOutside};
+    ghost use Rattle.agent_run.specs.Outside.{AreBack, HasRunners, IsOutside};
     ghost use Rattle.agent_run.specs.Prepared.{IsDrafted};
     ghost use Rattle.agent_run.specs.Run.{IsGivenBack};
     ghost use Rattle.agent_run.specs.RunDid.{RunDid};
     ghost use Rattle.agent_run.specs.Runs.{runs};
 
     ghost ran = { λ plan ends channels a b. RunDid
-        (runs ⟦<SinkWorker<PortOf<'a, R, H>, SinkOf<H>, H::Clock> as Work>⟧.ran
+        (runs ⟦<SinkWorker<PortOf<'a, R, H>, RunnerOf<H>, H::Clock> as Work>⟧.ran
         ⟦<ListenWorker<PortOf<'a, R, H>, H::Listener, H::Clock, K> as Work>⟧.ran
         ⟦<DrainWorker<H::Source> as Work>⟧.ran
         ⟦<LineWorker<PortOf<'a, R, H>, H::Source, H::Sink, H::Clock, K> as Work>⟧.ran)
-        (told ⟦<SinkOf<H> as EventSink>⟧.delivers ⟦<SinkOf<H> as EventSink>⟧.faults)
+        (told ⟦<RunnerOf<H> as EventSink>⟧.delivers ⟦<RunnerOf<H> as EventSink>⟧.faults)
         K.intercepts H.Clock.moments
         (heard_of H.Listener.told H.Listener.faults H.Listener.waits)
         H.Source.left H.Source.faults H.Sink.took H.Sink.handed H.Sink.faults
@@ -153,14 +159,15 @@ impl<'a, R: Threads + Wait + Sync + 'a, H: Host + 'a, K: Interceptor + Send + Dr
         ⟦<FileChannel<H::Disk> as Channel>⟧.moment
         ⟦<MemoryChannel as Channel>⟧.stands ⟦<MemoryChannel as Channel>⟧.tells
         plan (IsDrafted a.state.name a.state.address plan)
-        (λ prepared old new outside. IsOutside H.Roll.rolled H.Roll.faults
+        (λ rows prepared old new outside. HasRunners (λ sinks. IsOutside H.Roll.rolled H.Roll.faults
         ⟦<AvroSink<H::Dialer> as HasDialer>⟧.dial
         (IsFresh H.Listener.told H.Listener.endpoint H.Listener.waits H.Listener.faults)
-        plan prepared.places.items old new outside.sinks.items outside.listeners.items)
+        plan prepared.places.items old new sinks outside.listeners.items)
+        plan.groups.items rows outside.sinks.items)
         (λ manned. AreBack H.Listener.told H.Listener.waits H.Listener.faults
         plan.sources.items manned.places.items)
-        (IsGivenBack H.Roll.rolled
-        ⟦<AvroSink<H::Dialer> as HasDialer>⟧.dial H.Disk.told H.Disk.faults plan.sinks.items)
+        (λ rows. IsGivenBack H.Roll.rolled
+        ⟦<AvroSink<H::Dialer> as HasDialer>⟧.dial H.Disk.told H.Disk.faults plan.sinks.items rows)
         ends channels a b };
 }
 

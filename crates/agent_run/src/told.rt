@@ -8,10 +8,11 @@ ghost use Rattle.agent_run.specs.Prepared.{IsPlanned};
 ghost use Rattle.agent_run.specs.declared.outcome.ChannelEnd.{ChannelEnd};
 
 use crate::laws::{lines_stay_told, runs_are_told, workers_ran};
-use crate::through::{RunOf, Runs, SinkOf, Steps};
+use crate::through::{RunOf, RunnerOf, Runs, SinkOf, Steps};
 use avro_requests::requests_are_on_links;
 use file_channel::FileChannel;
 use flume_host::{Dialer, Host};
+use grouped_sinks::runners_split;
 use memory_channel::MemoryChannel;
 use netcat_source::one_cut;
 use plug_in::Interceptor;
@@ -37,7 +38,7 @@ pub fn steps_are_told<
         R,
         FileChannel<H::Disk>,
         MemoryChannel,
-        SinkOf<H>,
+        RunnerOf<H>,
         H::Listener,
         H::Source,
         H::Sink,
@@ -49,7 +50,7 @@ pub fn steps_are_told<
         R,
         FileChannel<H::Disk>,
         MemoryChannel,
-        SinkOf<H>,
+        RunnerOf<H>,
         H::Listener,
         H::Source,
         H::Sink,
@@ -61,13 +62,14 @@ pub fn steps_are_told<
         R,
         FileChannel<H::Disk>,
         MemoryChannel,
-        SinkOf<H>,
+        RunnerOf<H>,
         H::Listener,
         H::Source,
         H::Sink,
         H::Clock,
         K,
     >();
+    runners_split::<SinkOf<H>, H::Random>();
     delivered_batches_are_in_files();
     requests_are_on_links::<H::Dialer, <<H as Host>::Dialer as Dialer>::Link>();
     one_cut();

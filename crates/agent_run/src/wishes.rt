@@ -8,7 +8,8 @@ ghost use Rattle.agent_run.specs.Wishes.{AreWishes, IsFileOf, IsPlaceOf, IsWish}
 use crate::seats::Seat;
 use agent_channels::{ChannelPlace, ChannelWish};
 use channel_face::Limits;
-use flume_config::{ChannelKind, ChannelPlan, SinkPlan};
+use flume_config::{ChannelKind, ChannelPlan};
+use grouped_sinks::SinkRow;
 use std::alloc::{AllocError, Global};
 
 // Adds the channels of these workers.
@@ -24,7 +25,7 @@ fn add_uses<K, C>(uses: &mut Vec<u32>, seats: &[Seat<K, C>]) -> Result<(), Alloc
 /// The channels that workers use, each as often as it is used: those of the sinks, of the listeners and of the lines.
 pub(crate) fn uses_of<K, C>(
     alloc: Global,
-    sinks: &[SinkPlan],
+    sinks: &[SinkRow],
     listeners: &[Seat<K, C>],
     lines: &[Seat<K, C>],
 ) -> Result<Vec<u32>, AllocError>

@@ -15,6 +15,8 @@ mod check;
 #[cfg(test)]
 mod ends;
 #[cfg(test)]
+mod groups;
+#[cfg(test)]
 mod left;
 #[cfg(test)]
 mod lines;

@@ -28,8 +28,9 @@ returns-clause-prepared g c =
     let found = c.in_ok-places.places.items in
     let fits : (names : List HostNames) (seat : S) → IsDraftAt sources names seat.draft → IsRoomy seat → IsSeat count seat =
     λ names seat is room. (c.drafts_can_serve.ensures planned.0 planned.1 plan planned.2 names seat.draft is, room) in
-    let used : c.as_slice-7.result.now ≡ uses_of plan.sinks.items listeners lines =
-    c.as_slice-7.ensures.value ∙ c.in_ok-uses.ensures ∙ (λ i. uses_of (c.as_slice-sinks.ensures.value i) (c.as_slice-4.ensures.value i) (c.as_slice-5.ensures.value i)) in
+    let rows = c.args.rows.now in
+    let used : c.as_slice-7.result.now ≡ uses_of rows listeners lines =
+    c.as_slice-7.ensures.value ∙ c.in_ok-uses.ensures ∙ (λ i. uses_of rows (c.as_slice-4.ensures.value i) (c.as_slice-5.ensures.value i)) in
     let at : found ≡ places 0 sources = c.in_ok-places.ensures.order ∙ ap (places 0) c.as_slice-8.ensures.value in
     record {
       wishes = subst (λ (x : List ℕ × List ChannelPlan). AreWishes x.0 x.1 c.in_ok-wishes.wishes.items) (λ i. (used i, c.as_slice-6.ensures.value i)) c.in_ok-wishes.ensures;
@@ -41,8 +42,8 @@ returns-clause-prepared g c =
       places = at;
       sources = draft_sources listeners ∙ ap (map (λ (draft : D). draft.source)) c.in_ok-listeners-2.ensures.drafts ∙ c.in_ok-listeners.ensures.order ∙ sym at;
       listen = subst (λ (l : List SourcePlan). All (ListensAt l) found) c.as_slice-8.ensures.value c.in_ok-places.ensures.listen;
-      clocks = c.in_ok-clocks.ensures.many ∙ ap length c.as_slice-sinks.ensures.value;
-      labels = subst (λ (x : List S × List S). AreLabels (users_of plan x.0 x.1) 0 plan.channels.items c.in_ok-labels.labels.items)
+      clocks = c.in_ok-clocks.ensures.many;
+      labels = subst (λ (x : List S × List S). AreLabels (users_of plan rows x.0 x.1) 0 plan.channels.items c.in_ok-labels.labels.items)
           (λ i. (c.as_slice-9.ensures.value i, c.as_slice-10.ensures.value i)) c.in_ok-labels.ensures;
     }
 

@@ -1,6 +1,6 @@
 use Rattle.std.proofs.Common.{◌≡◌, map, take}
-use Rattle.flume_config.specs.declared.plan.SinkPlan.{SinkPlan}
+use Rattle.grouped_sinks.specs.declared.row.SinkRow.{SinkRow}
 use Rattle.agent_run.proofs.wishes.uses_of.Given as goal
 
 abbrev pub invariant-loop-sink : goal.invariant-loop-sink
-invariant-loop-sink g l = l.uses.items ≡ map (λ (plan : SinkPlan). plan.channel) (take l.sink-index l.sinks)
+invariant-loop-sink g l = l.uses.items ≡ map (λ (plan : SinkRow). plan.channel) (take l.sink-index l.sinks)
