@@ -1,17 +1,17 @@
 -- The statuses of a run of `agent`.
-use Rattle.std.proofs.Common.{◌≡◌, ◌⊎◌, inl, inr, ℕ, List, [], Bool, true, false, cond, Option, IfOk, Result, Ok, Err, refl, sym, subst, arith, None}
+use Rattle.std.proofs.Common.{◌≡◌, ◌⊎◌, inl, inr, ℕ, List, [], Bool, true, false, cond, Option, IfOk, Result, Ok, Err, refl, sym, subst, arith}
 use Rattle.std.specs.declared.alloc.Global.{Global}
 use Rattle.std.specs.declared.vec.Vec.{Vec}
 use Rattle.prop_text.specs.declared.fault.PropRefused.TheVariants as text
 use Rattle.flume_config.specs.declared.plan.Plan.{Plan}
 use Rattle.plan_refused.specs.declared.refused.PlanRefused.TheVariants as plan
 use Rattle.plan_support.proofs.Telling.{no_plugin}
-use Rattle.plan_support.specs.Least.{HasNoPlugin, unsupported}
+use Rattle.plan_support.specs.Least.{HasNoPlugin}
 use Rattle.agent_words.specs.Statuses.{status_of}
 use Rattle.agent_words.specs.declared.error.RunError.{RunError}
 use Rattle.agent_words.specs.declared.error.RunError.TheVariants.{Usage, FileTooLarge, Text, NoAgent, Plan as Plan', Fault, BadCheckpoint, BadLog, OverCapacity, Spent, Damaged, NoMemory, InputTooLong, LineTooLong}
 use Rattle.flume_host.specs.HostState.{HostState}
-use Rattle.agent_commands.specs.Checked.{IsPlanIn, IsPlanOf, Unplanned}
+use Rattle.agent_commands.specs.Checked.{IsPlanOf, Unplanned}
 use Rattle.flume_host.specs.HandedOut.{HandedOut}
 use Rattle.flume_host.specs.Listens.{Endpoint}
 use Rattle.flume_host.specs.Rolled.{Rolled}
@@ -25,7 +25,7 @@ use Rattle.agent_run.specs.NotBegun.{ChannelNotOpened, DidNotBegin, IsRunRefused
 use Rattle.agent_run.specs.Through.{AgentEndsAs, CameTo, EndsAs}
 use Rattle.agent_run.specs.declared.outcome.ChannelEnd.{ChannelEnd}
 use Rattle.agent_run.specs.Errors.{IsRunStatus}
-use Rattle.agent_run.specs.Named.{AgentEnds, IsAgentStatus, PlanEnds}
+use Rattle.agent_run.specs.Named.{AgentEnds, IsAgentStatus}
 use Rattle.agent_run.specs.Prepared.{IsPlanned}
 use Rattle.agent_run.proofs.Apart.{folders_apart}
 use Rattle.agent_run.proofs.Refusing.{cause_which, outside_status, plan_host, refused_host}
@@ -57,11 +57,8 @@ never_two n (inr (inr (inr (inl a)))) two = omega (arith, a, two)
 never_two n (inr (inr (inr (inr (inl a))))) two = omega (arith, a, two)
 never_two n (inr (inr (inr (inr (inr a))))) two = omega (arith, a, two)
 
-by_run : (p : Plan) (n : ℕ) → IsRunStatus n → PlanEnds p n
-by_run p n is = record { which = inr is; fault = λ two. absurd (never_two n is two) }
-
-pub ended : (p : Plan) (status n : ℕ) → status ≡ n → IsRunStatus n → PlanEnds p status
-ended p status n same is = subst (PlanEnds p) (sym same) (by_run p n is)
+pub ended : (status n : ℕ) → status ≡ n → IsRunStatus n → IsRunStatus status
+ended status n same is = subst IsRunStatus (sym same) is
 
 step_status : {plan : Plan} {status : ℕ} {a b : HostTold} → NotPrepared status a b ⊎ ChannelNotOpened plan status a b ⊎ OutsideNotOpened plan status a b
     → (status ≡ 3) ⊎ (status ≡ 4) ⊎ (status ≡ 5)
@@ -75,26 +72,17 @@ step_status (inr (inr not)) = elim (outside_status not.why _ not.is) [
   | inr five ↦ inr (inr five)
 ]
 
-by_step : (p : Plan) (n : ℕ) → (n ≡ 3) ⊎ (n ≡ 4) ⊎ (n ≡ 5) → PlanEnds p n
-by_step p n (inl three) = by_run p n (inr (inl three))
-by_step p n (inr (inl four)) = by_run p n (inr (inr (inl four)))
-by_step p n (inr (inr five)) = by_run p n (inr (inr (inr (inl five))))
+by_step : (n : ℕ) → (n ≡ 3) ⊎ (n ≡ 4) ⊎ (n ≡ 5) → IsRunStatus n
+by_step n (inl three) = inr (inl three)
+by_step n (inr (inl four)) = inr (inr (inl four))
+by_step n (inr (inr five)) = inr (inr (inr (inl five)))
 
-pub refused : (p : Plan) (status n : ℕ) (a b : HostTold) → status ≡ n → IsRunRefused p n a b → PlanEnds p status
-refused p status n a b same why = subst (PlanEnds p) (sym same) (here why)
-  where
-    here : IsRunRefused p n a b → PlanEnds p n
-    here (inl not) = record { which = inl not.is; fault = λ two. (not.line, not.first) }
-    here (inr step) = by_step p n (step_status step.1)
+pub refused : (p : Plan) (status n : ℕ) (a b : HostTold) → status ≡ n → IsRunRefused p n a b → IsRunStatus status
+refused p status n a b same why = subst IsRunStatus (sym same) (by_step n (step_status why))
 
 -- the plan was found in the file, and run
-pub named : (file : Option (List ℕ)) (agent : List ℕ) (p : Plan) (status : ℕ) → IsPlanOf file agent p → PlanEnds p status → AgentEnds file agent status
-named file agent p status of is = record {
-  which = is.which;
-  fault = λ two told e.
-      let line = is.fault two in
-      inr (p, subst (λ (b : List ℕ). IsPlanIn b agent p) (of.3 told e) of.2, line.0, line.1);
-}
+pub named : (file : Option (List ℕ)) (agent : List ℕ) (status : ℕ) → IsRunStatus status → AgentEnds file agent status
+named file agent status is = record { which = inr is; fault = λ two. absurd (never_two status is two) }
 
 -- it was not found
 pub unnamed : (file : Option (List ℕ)) (agent : List ℕ) (old new : HostState) (status : ℕ) → Unplanned file agent old new status → AgentEnds file agent status
@@ -106,7 +94,7 @@ unnamed file agent old new status is = record {
       | inr five ↦ inr (inr (inr (inr (inl five))))
     ]
   ];
-  fault = λ two told e. inl (is.fault two told e);
+  fault = λ two told e. is.fault two told e;
 }
 
 pub is_planned : (file : Option (List ℕ)) (agent : List ℕ) (p : Plan) → IsPlanOf file agent p → IsPlanned p
@@ -157,9 +145,9 @@ not_planned {channels = channels} file agent status n a b same none why folders 
 
 -- a run that began came to the channels that are handed on
 pub came_with : {Ran : Plan → RunEnds → List ChannelEnd → HostTold → HostTold → Type 0} {p : Plan} {status : ℕ} {a b : HostTold} (ends : RunEnds) (before after : Vec ChannelEnd Global)
-    → unsupported p ≡ None → after ≡ before → run_status ends ≡ status → Ran p ends before.items a b → EndsAs Ran p status after.items a b
-came_with {Ran = Ran} {p = p} {a = a} {b = b} ends before after none same well ran =
-    inl (record { supported = none; ends = ends; by_ends = well; ran = subst (λ (v : Vec ChannelEnd Global). Ran p ends v.items a b) (sym same) ran })
+    → after ≡ before → run_status ends ≡ status → Ran p ends before.items a b → EndsAs Ran p status after.items a b
+came_with {Ran = Ran} {p = p} {a = a} {b = b} ends before after same well ran =
+    inl (record { ends = ends; by_ends = well; ran = subst (λ (v : Vec ChannelEnd Global). Ran p ends v.items a b) (sym same) ran })
 
 -- how a run of this kind ended, from the same to the same
 module _ {Ran : Plan → RunEnds → List ChannelEnd → HostTold → HostTold → Type 0} {status : ℕ} {channels : List ChannelEnd} where

@@ -53,7 +53,7 @@ use Rattle.grouped_sinks.specs.declared.runner.Runner.{Runner}
 use Rattle.std.proofs.lemmas.Option.{slice_get_within}
 use Rattle.agent_run.proofs.Handing.{WasTakenBehind}
 use Rattle.agent_run.proofs.Sharing.{Part, RowsShared}
-use Rattle.agent_run.proofs.Parting.{find_row, part_at, some_same}
+use Rattle.agent_run.proofs.Parting.{find_row, first_of, part_at, some_same}
 
 -- ---- one delivery
 
@@ -168,7 +168,7 @@ module _ {R P Q D L : Type 0} (dial : DialTold P) (links_of : P → SinkLinks D 
           (rows : List SinkRow) (jobs : List (SinkWorker Known (Runner (AgentSink R P Q) N) C)) (runners : List (Runner (AgentSink R P Q) N))
           (shared : RowsShared one sink moments split shares finals jobs runners) (sinks backs : List (AgentSink R P Q))
           (dealt : AreDealt sinks rows (map (λ (job : SinkWorker Known (Runner (AgentSink R P Q) N) C). job.sink) jobs)) (came : AreDealt backs rows runners) (as_many : length jobs ≡ length rows)
-          (order : IsOrder (length sinks) (places_of rows)) (job : SinkWorker Known (Runner (AgentSink R P Q) N) C) (all : Option HandedOut) (x : HandedOut) (is : all ≡ Some x) (f : Folders) where
+          (order : IsOrder (length sinks) (places_of rows)) (all : Option HandedOut) (x : HandedOut) (is : all ≡ Some x) (f : Folders) where
         -- by its part a sink of Avro tells so of its links
         told_at : (end : Endpoint) (place : ℕ) (s : P) (b : AgentSink R P Q) → slice_get sinks place ≡ Some (Avro s) → slice_get backs place ≡ Some b → IsNewDial dial end all s
             → (at i : ℕ) (row : SinkRow) (worker : SinkWorker Known (Runner (AgentSink R P Q) N) C) (took : List (ℕ × List Content)) → at < length rows
@@ -193,6 +193,7 @@ module _ {R P Q D L : Type 0} (dial : DialTold P) (links_of : P → SinkLinks D 
         one_back (plan.Avro host port) place (Avro s) b rest Rest low was back of has then =
             let end = record { host = string_bytes host; port = port } in
             let found = find_row rows place (order.all place low) in
+            let job = first_of jobs found.at (let l = found.below in omega (arith, l, as_many)) in
             let t = told_at end place s b was back has found.at found.i found.row job [] found.below found.here in (
               record { host = string_bytes host; port = port; told = dial.links t.t; waits = 0; faults = dial.faults t.t },
               rest,
@@ -233,11 +234,11 @@ module _ {R P Q D L : Type 0} (dial : DialTold P) (links_of : P → SinkLinks D 
           (finals : List Known) (plans : List SinkPlan) (rows : List SinkRow) (jobs : List (SinkWorker Known (Runner (AgentSink R P Q) N) C)) (runners : List (Runner (AgentSink R P Q) N))
           (shared : RowsShared one sink moments split shares finals jobs runners) (sinks backs : List (AgentSink R P Q))
           → AreDealt sinks rows (map (λ (job : SinkWorker Known (Runner (AgentSink R P Q) N) C). job.sink) jobs) → AreDealt backs rows runners → length jobs ≡ length rows
-          → IsOrder (length sinks) (places_of rows) → SinkWorker Known (Runner (AgentSink R P Q) N) C → Zips (IsSameSink dial) sinks backs
+          → IsOrder (length sinks) (places_of rows) → Zips (IsSameSink dial) sinks backs
           → length sinks ≡ length plans → (f : Folders) → AreOfPlans f plans sinks
           → (a s t u : HostState) → a.dialers ≡ s.dialers → DialsOpened dial plans s t sinks → (d : Option HandedOut) → d ≡ t.dialers → Tells d u.dialers (AllBack (dials_back dial plans backs))
           → Tells a.dialers u.dialers (DialsTold plans rows jobs shared.taken finals)
-      dialed_told sink moments split shares finals plans rows jobs runners shared sinks backs dealt came many_jobs order job stay many f are a s t u same opened d between back =
+      dialed_told sink moments split shares finals plans rows jobs runners shared sinks backs dealt came many_jobs order stay many f are a s t u same opened d between back =
           let ends' = dials_of (take (length sinks) plans) in
           let gone = dials_ends dial f plans backs (kinds_stay dial f plans sinks backs stay are) in
           let as_many : length backs ≡ length sinks = same_many dial sinks backs stay in
@@ -248,6 +249,6 @@ module _ {R P Q D L : Type 0} (dial : DialTold P) (links_of : P → SinkLinks D 
             out = λ host port. let e = ap (count_at host port) ended in omega (arith, p.out host port, q.out host port, e);
             backs = dials_back dial plans backs;
             back = q.back ∙ ap (λ (l : List CameBack). l ++ reverse (dials_back dial plans backs)) p.back;
-            each = backs_told sink moments split shares finals rows jobs runners shared sinks backs dealt came many_jobs order job s.dialers x is f 0 plans sinks backs (sym many) as_many
+            each = backs_told sink moments split shares finals rows jobs runners shared sinks backs dealt came many_jobs order s.dialers x is f 0 plans sinks backs (sym many) as_many
                 (λ k s is. subst (λ (n : ℕ). slice_get sinks n ≡ Some s) (omega arith) is) (λ k b is. subst (λ (n : ℕ). slice_get backs n ≡ Some b) (omega arith) is) are opened.made;
           }) opened.out.told (subst (λ (o : Option HandedOut). Tells o u.dialers (AllBack (dials_back dial plans backs))) between back))

@@ -152,7 +152,57 @@ module _ {R A B : Type 0} (dial : DialTold A) where
       let whole : take (length new) plans ≡ plans = ap (λ (n : ℕ). take n plans) many ∙ take_all (length plans) plans (omega arith) in
       let ends = dials_ends dial f plans new (kinds_stay f plans old new same can.are) ∙ ap dials_of whole in
       record { dialed = dials_stay plans old new same can.dialed; out = subst (λ (l : List Endpoint). AreOut l all) (sym ends) can.out }
+
   -- ---- over a run
+
+  module _ (deliver : AgentSink R A B → List Content → ℕ → Result (Unit {0}) SinkRefused → AgentSink R A B → Type 0)
+      (keeps : (s : AgentSink R A B) (batch : List Content) (at : ℕ) (answer : Result (Unit {0}) SinkRefused) (t : AgentSink R A B) → deliver s batch at answer t → IsSameSink s t) where
+    handed_same : (done : List Handed) (s t : AgentSink R A B) → AllHanded deliver done s t → IsSameSink s t
+    handed_same [] s t same = subst (IsSameSink s) (sym same) (same_self s)
+    handed_same (h ∷ done) s t (next, one, rest) = same_then s next t (keeps s h.batch h.moment h.answer next one) (handed_same done next t rest)
+
+    -- what comes back of each sink of a plan, in its row's runner, is the same sink
+    pub sinks_stay : {X Y G C : Type 0} (sink : Told (Runner (AgentSink R A B) G)) (moments : C → Option (ℕ → ℕ)) (split : RunnersSplit deliver sink.delivers) (shares : List (EitherShared X Y))
+        (finals : List Known) (rows : List SinkRow) (jobs : List (SinkWorker Known (Runner (AgentSink R A B) G) C)) (runners : List (Runner (AgentSink R A B) G))
+        (shared : RowsShared deliver sink moments split shares finals jobs runners) (sinks backs : List (AgentSink R A B))
+        (dealt : AreDealt sinks rows (map (λ (job : SinkWorker Known (Runner (AgentSink R A B) G) C). job.sink) jobs)) (came : AreDealt backs rows runners) (as_many : length jobs ≡ length rows)
+        → IsOrder (length sinks) (places_of rows) → length backs ≡ length sinks → Zips IsSameSink sinks backs
+    sinks_stay sink moments split shares finals rows jobs runners shared sinks backs dealt came as_many order many =
+        zips_by_place IsSameSink sinks backs many
+        (λ k s t was is.
+        let found = find_row rows k (order.all k (slice_get_within sinks k s was)) in
+        let job = first_of jobs found.at (let l = found.below in omega (arith, l, as_many)) in
+        let mine = part_at deliver sink moments split shares finals rows jobs runners shared sinks backs dealt came as_many found.at found.i k found.row job [] found.below found.here in
+        let old : mine.old ≡ s = some_same mine.old s (sym mine.was ∙ was) in
+        let new : mine.new ≡ t = some_same mine.new t (sym mine.is ∙ is) in
+        subst (λ (x : AgentSink R A B × AgentSink R A B). IsSameSink x.0 x.1) (λ i. (old i, new i)) (handed_same mine.part.done mine.old mine.new mine.part.chain))
+
+-- some channel, where there is a row of sinks
+pub some_share : {A B S C : Type 0} (shares : List (EitherShared A B)) (homes : List Known) (ws : List (SinkWorker AtHome S C)) (place : ℕ) → All (IsSinkHome homes) ws
+    → place < length ws → length shares ≡ length homes → EitherShared A B
+some_share shares homes [] place at below many = absurd (omega (arith, below))
+some_share shares homes (w ∷ ws) place at below many = there shares w.channel (let l = (All-head (IsSinkHome homes) w ws at).0 in omega (arith, l, many))
+
+-- what was opened may be given back
+can_dial : {R A B N : Type 0} (rolled : R → Option Rolled) (faults : R → ℕ) (dial : DialTold A) (Fresh : Endpoint → Option HandedOut → N → Type 0) (p : Plan) (places : List ℕ) (a b : HostTold)
+    (sinks : List (AgentSink R A B)) (bare : List N) → IsOutside rolled faults dial Fresh p places a b sinks bare → CanDial dial b.folders p.sinks.items sinks b.state.dialers
+can_dial rolled faults dial Fresh p places a b sinks bare is =
+    let plans = p.sinks.items in
+    let whole : take (length sinks) plans ≡ plans = ap (λ (n : ℕ). take n plans) is.many ∙ take_all (length plans) plans (omega arith) in
+    let same : b.state.dialers ≡ is.between.dialers = ap (λ (s : HostState). s.dialers) is.opened.out.state in
+    record {
+      many = is.many;
+      are = is.sinks.are;
+      dialed = are_dialed dial a.state.dialers plans sinks is.dials.made;
+      out = subst (λ (x : List Endpoint × Option HandedOut). AreOut x.0 x.1) (λ i. (ap dials_of whole i, sym same i)) (is_out (dials_of (take (length sinks) plans)) a.state.dialers is.between.dialers is.dials.out.told);
+    }
+
+-- so may what stands in rows
+pub stand_in_rows : {R A B N G : Type 0} (rolled : R → Option Rolled) (faults : R → ℕ) (dial : DialTold A) (Fresh : Endpoint → Option HandedOut → N → Type 0) (p : Plan) (places : List ℕ) (a b : HostTold)
+    (rows : List SinkRow) (sinks : List (AgentSink R A B)) (bare : List N) (runners : List (Runner (AgentSink R A B) G)) → IsOutside rolled faults dial Fresh p places a b sinks bare
+    → AreDealt sinks rows runners → StandInRows dial b.folders p.sinks.items rows runners b.state.dialers
+stand_in_rows rolled faults dial Fresh p places a b rows sinks bare runners is dealt =
+    record { sinks = sinks; dealt = dealt; can = can_dial rolled faults dial Fresh p places a b sinks bare is }
 
 module _ {R X Y P Q G N I O C K Z : Type 0} (runs : Runs (EitherPort Z X Y) (Runner (AgentSink P Q R) G) N I O C K) (deliver : AgentSink P Q R → List Content → ℕ → Result (Unit {0}) SinkRefused → AgentSink P Q R → Type 0)
     (sink : Told (Runner (AgentSink P Q R) G)) (Means : Meaning K) (moments : C → Option (ℕ → ℕ)) (heard : N → Heard)
@@ -181,6 +231,6 @@ module _ {R X Y P Q G N I O C K Z : Type 0} (runs : Runs (EitherPort Z X Y) (Run
         λ sinks long came.
             dials_stay_out dial f plans stand.sinks sinks all stand.can
             (sinks_stay dial deliver keeps sink moments split m.crew.shares.items (finals_of settled) rows jobs settled.sinks.items shared stand.sinks sinks dealt came as_many
-            (subst (λ (n : ℕ). IsOrder n (places_of rows)) (sym stand.can.many) order) (long ∙ sym stand.can.many) (λ at low. first_of jobs at low)),
+            (subst (λ (n : ℕ). IsOrder n (places_of rows)) (sym stand.can.many) order) (long ∙ sym stand.can.many)),
         have_members deliver sink moments split m.crew.shares.items (finals_of settled) stand.sinks rows jobs settled.sinks.items shared dealt as_many,
       )

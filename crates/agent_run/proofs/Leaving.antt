@@ -37,7 +37,12 @@ use Rattle.agent_end.specs.Statuses.{run_status}
 use Rattle.agent_end.specs.declared.draining.ChannelDrain.{ChannelDrain}
 use Rattle.agent_end.specs.declared.ends.RunEnds.{RunEnds}
 use Rattle.agent_outside.specs.Dials.{DialsOpened}
-use Rattle.agent_outside.specs.Sinks.{AreOfPlans, SinksOpened}
+use Rattle.agent_outside.specs.Sinks.{SinksOpened}
+use Rattle.grouped_sinks.specs.Picks.{AreDealt}
+use Rattle.grouped_sinks.specs.Rows.{AreRows, IsOrder, places_of}
+use Rattle.grouped_sinks.specs.Splits.{RunnersSplit}
+use Rattle.grouped_sinks.specs.declared.row.SinkRow.{SinkRow}
+use Rattle.grouped_sinks.specs.declared.runner.Runner.{Runner}
 use Rattle.agent_sinks.specs.declared.sink.AgentSink.{AgentSink}
 use Rattle.avro_ends.specs.Deliveries.{SinkLinks}
 use Rattle.avro_ends.specs.Dialing.{DialTold}
@@ -45,7 +50,7 @@ use Rattle.avro_requests.specs.Requests.{RequestsAreOnLinks}
 use Rattle.run_tracks.specs.Closes.{IsClosed}
 use Rattle.run_tracks.specs.Places.{Zips}
 use Rattle.run_tracks.specs.Stops.{IsMended}
-use Rattle.agent_run.specs.DialedTold.{DialedTold, DialsTold}
+use Rattle.agent_run.specs.DialedTold.{DialsTold}
 use Rattle.agent_run.specs.DrainedTold.{DrainedTold}
 use Rattle.agent_run.specs.Draining.{IsDrainedAt}
 use Rattle.agent_run.specs.Ends.{IsSinkEnded}
@@ -53,9 +58,9 @@ use Rattle.agent_run.specs.FoldersTold.{FoldersAreApart, FoldersTold}
 use Rattle.agent_run.specs.Histories.{IsSinkTold}
 use Rattle.agent_run.specs.Joined.{HaveReturned}
 use Rattle.agent_run.specs.Lists.{NamesOf}
+use Rattle.agent_run.specs.MembersTold.{MembersTold}
 use Rattle.agent_run.specs.Prepared.{uses_of}
 use Rattle.agent_run.specs.Run.{IsGivenBack}
-use Rattle.agent_run.specs.RolledTold.{RolledTold}
 use Rattle.agent_run.specs.RunLeft.{RunLeft}
 use Rattle.agent_run.specs.Runs.{Runs}
 use Rattle.agent_run.specs.Settling.{AreSettled}
@@ -76,12 +81,14 @@ use Rattle.agent_run.proofs.Asking.{AsksOnLinks, ClosesSo, dialed_told}
 use Rattle.agent_run.proofs.Chaining.{drained_ends}
 use Rattle.agent_run.proofs.Comeback.{opened_state}
 use Rattle.agent_run.proofs.Course.{Course, Stands, closed_are_many, tells_of}
-use Rattle.agent_run.proofs.Dialing.{IsSameSink, some_share}
+use Rattle.agent_run.proofs.Dialing.{IsSameSink, sinks_stay, some_share}
 use Rattle.agent_run.proofs.Emptied.{drained_told}
 use Rattle.agent_run.proofs.Folders.{folders_told}
 use Rattle.agent_run.proofs.Joining.{zips_long}
+use Rattle.agent_run.proofs.Parting.{took_at}
 use Rattle.agent_run.proofs.Reports.{report_told}
 use Rattle.agent_run.proofs.Rolling.{WritesRolled, rolled_told}
+use Rattle.agent_run.proofs.Sharing.{rows_shared}
 use Rattle.agent_run.proofs.WellEnded.{IsWell, was_reported, were_mended}
 use Rattle.agent_run.proofs.Worked.{opened_rolls}
 use Rattle.agent_run.proofs.Zipping.{zips_map, zips_then}
@@ -108,29 +115,42 @@ zips_at P (a ∷ xs) (b ∷ ys) all (suc i) x y below = zips_at P xs ys all.1 i 
 
 -- ---- the whole
 
-module _ {R D P Q N I O C K : Type 0} (rolled : R → Option Rolled) (dial : DialTold P) (told : D → Option DiskTold) (faults : D → ℕ) (moment : D × FileState → ℕ)
-    (memory : MemoryChannel → Begun → List Step → Type 0) (tells' : MemoryChannel → Bool) (sink : Told (AgentSink R P Q)) (moments : C → Option (ℕ → ℕ)) (plan : Plan)
-    (Drafted : Prepared K C → Type 0) (Opens : Prepared K C → HostTold → HostTold → Outside (AgentSink R P Q) N → Type 0)
-    (Takes : Manned (D × FileState) MemoryChannel (AgentSink R P Q) N I O C K → HostState → HostState → Type 0)
-    (Joins : Manned (D × FileState) MemoryChannel (AgentSink R P Q) N I O C K → List Known → Joined (AgentSink R P Q) C → HostState → HostState → Type 0) where
+-- The sinks of a plan were opened, and each row's runner has its own of them.
+pub record WereHanded {R P Q G : Type 0} (rolled : R → Option Rolled) (faults : R → ℕ) (dial : DialTold P) (plans : List SinkPlan) (rows : List SinkRow) (a b : HostTold)
+    (runners : List (Runner (AgentSink R P Q) G)) : Type 0 where
+  pub sinks : List (AgentSink R P Q)
+  pub many : length sinks ≡ length plans
+  pub opened : SinksOpened rolled faults plans a.folders b.folders sinks
+  pub between : HostState
+  pub dials : DialsOpened dial plans a.state between sinks
+  pub after : b.state.dialers ≡ between.dialers
+  pub dealt : AreDealt sinks rows runners
+
+module _ {R D P Q G N I O C K : Type 0} (rolled : R → Option Rolled) (dial : DialTold P) (told : D → Option DiskTold) (faults : D → ℕ) (moment : D × FileState → ℕ)
+    (memory : MemoryChannel → Begun → List Step → Type 0) (tells' : MemoryChannel → Bool) (sink : Told (Runner (AgentSink R P Q) G)) (moments : C → Option (ℕ → ℕ)) (plan : Plan)
+    (Drafted : Prepared K C → Type 0) (Opens : List SinkRow → Prepared K C → HostTold → HostTold → Outside (Runner (AgentSink R P Q) G) N → Type 0)
+    (Takes : Manned (D × FileState) MemoryChannel (Runner (AgentSink R P Q) G) N I O C K → HostState → HostState → Type 0)
+    (Joins : Manned (D × FileState) MemoryChannel (Runner (AgentSink R P Q) G) N I O C K → List Known → Joined (Runner (AgentSink R P Q) G) C → HostState → HostState → Type 0) where
   -- the settling and what follows it
-  abbrev Settles : List (EitherShared (D × FileState) MemoryChannel) → List Known → List (SinkWorker AtHome (AgentSink R P Q) C) → List (String Global × Counts)
-      → Settled (AgentSink R P Q) (D × FileState) MemoryChannel → Type 0
+  abbrev Settles : List (EitherShared (D × FileState) MemoryChannel) → List Known → List (SinkWorker AtHome (Runner (AgentSink R P Q) G) C) → List (String Global × Counts)
+      → Settled (Runner (AgentSink R P Q) G) (D × FileState) MemoryChannel → Type 0
   Settles = AreSettled (IsDrainedAt sink moments) (IsMended (Stands told faults) (tells_of told) moment) (IsClosed (Stands told faults) (tells_of told) memory tells')
 
   abbrev Ran : RunEnds → List ChannelEnd → HostTold → HostTold → Type 0
   Ran ends channels a b =
-      PlanRan plan Drafted Opens (λ opening. RanThrough plan.sinks.items opening Takes Joins Settles (IsGivenBack rolled dial told faults plan.sinks.items)) ends channels a b
+      PlanRan plan Drafted Opens (λ rows opening. RanThrough rows opening Takes Joins Settles (IsGivenBack rolled dial told faults plan.sinks.items rows)) ends channels a b
 
-  course : (ends : RunEnds) (channels : List ChannelEnd) (a b : HostTold) → Ran ends channels a b → Course told faults moment memory tells' (IsDrainedAt {S = AgentSink R P Q} {C = C} sink moments) plan.channels.items
+  course : (ends : RunEnds) (channels : List ChannelEnd) (a b : HostTold) → Ran ends channels a b
+      → Course told faults moment memory tells' (IsDrainedAt {S = Runner (AgentSink R P Q) G} {C = C} sink moments) plan.channels.items
   course ends channels a b ran =
       let goes = ran.ran.goes in
       let is = goes.is_manned in
+      let uses = uses_of ran.rows ran.made.listeners.items ran.made.lines.items in
       let wishes : goes.manned.wishes.items ≡ ran.made.wishes.items = ap (λ (v : Vec ChannelWish Global). v.items) is.wishes ∙ ap (λ (p : Prepared K C). p.wishes.items) ran.ran.same_made in
       record {
-        uses = uses_of plan.sinks.items ran.made.listeners.items ran.made.lines.items;
+        uses = uses;
         wishes = goes.manned.wishes.items;
-        wanted = subst (AreWishes (uses_of plan.sinks.items ran.made.listeners.items ran.made.lines.items) plan.channels.items) (sym wishes) ran.is_prepared.wishes;
+        wanted = subst (AreWishes uses plan.channels.items) (sym wishes) ran.is_prepared.wishes;
         cs = ran.channels;
         before = a;
         behind = ran.behind;
@@ -143,7 +163,7 @@ module _ {R D P Q N I O C K : Type 0} (rolled : R → Option Rolled) (dial : Dia
         took = goes.took;
         workers = goes.joined.sinks.items;
         names = goes.manned.settled.report.items;
-        named = subst (λ (s : Settled (AgentSink R P Q) (D × FileState) MemoryChannel). NamesOf plan.channels.items s.report.items) (sym is.settled) ran.ran.names;
+        named = subst (λ (s : Settled (Runner (AgentSink R P Q) G) (D × FileState) MemoryChannel). NamesOf plan.channels.items s.report.items) (sym is.settled) ran.ran.names;
         settled = goes.settled;
         settles = goes.settles;
       }
@@ -151,73 +171,76 @@ module _ {R D P Q N I O C K : Type 0} (rolled : R → Option Rolled) (dial : Dia
   -- Where the workers that came back are those that ran, a run that ended well left so much.
   pub run_left : ((manned : _) (homes : List Known) (joined : _) (s t : HostState) → Joins manned homes joined s t → Zips IsSameChannel manned.crew.jobs.sinks.items joined.sinks.items)
       → FoldersAreApart plan.channels.items → (ends : RunEnds) (channels : List ChannelEnd) (a b : HostTold) → (ran : Ran ends channels a b) → run_status ends ≡ 0
-      → RunLeft plan ends ran.ran.goes.homes ran.ran.goes.behind.output (map (λ (end : ChannelEnd). end.pass) channels) a b
+      → RunLeft plan ran.rows ends ran.ran.goes.homes ran.ran.goes.behind.output (map (λ (end : ChannelEnd). end.pass) channels) a b
   unfolding course
   run_left same apart ends channels a b ran good =
       let goes = ran.ran.goes in
       let back = goes.back in
       let r = course ends channels a b ran in
-      let sinks = plan.sinks.items in
+      let rows = ran.rows in
       let jobs = goes.manned.crew.jobs.sinks.items in
       let workers = goes.joined.sinks.items in
       let kept = same goes.manned goes.homes goes.joined goes.begun goes.behind goes.joins in
-      let both : Zips (λ (s : SinkPlan) (w : SinkWorker AtHome (AgentSink R P Q) C). w.channel ≡ s.channel) sinks workers =
-      zips_then IsSinkOf IsSameChannel (λ (s : SinkPlan) (w : SinkWorker AtHome (AgentSink R P Q) C). w.channel ≡ s.channel) (λ s job w of back. back ∙ of.channel) sinks jobs workers goes.is_manned.sinks kept in
-      let many : length workers ≡ length sinks = zips_long (λ (s : SinkPlan) (w : SinkWorker AtHome (AgentSink R P Q) C). w.channel ≡ s.channel) sinks workers both in
+      let both : Zips (λ (s : SinkRow) (w : SinkWorker AtHome (Runner (AgentSink R P Q) G) C). w.channel ≡ s.channel) rows workers =
+      zips_then IsSinkOf IsSameChannel (λ (s : SinkRow) (w : SinkWorker AtHome (Runner (AgentSink R P Q) G) C). w.channel ≡ s.channel) (λ s job w of back. back ∙ of.channel) rows jobs workers goes.is_manned.sinks kept in
+      let many : length workers ≡ length rows = zips_long (λ (s : SinkRow) (w : SinkWorker AtHome (Runner (AgentSink R P Q) G) C). w.channel ≡ s.channel) rows workers both in
       let finals = length-map goes.settled.closed.items pass_of ∙ closed_are_many told faults moment memory tells' (IsDrainedAt sink moments) plan.channels.items r in
       let well = subst (λ (v : Vec (Result Bool OpenCause) Global). AllByRecursion IsWell v.items) goes.mends (were_mended ends good) in
-      subst (λ (l : List Known). RunLeft plan ends goes.homes goes.behind.output l a b) (sym goes.passes)
+      subst (λ (l : List Known). RunLeft plan rows ends goes.homes goes.behind.output l a b) (sym goes.passes)
       (record {
         many = finals;
         folders = subst (λ (f : Folders). FoldersTold plan.channels.items a.folders f (map pass_of goes.settled.closed.items)) (sym back.folders)
             (folders_told told faults moment memory tells' (IsDrainedAt sink moments) plan.channels.items r apart well back.rests back.behind_sinks back.behind_disks back.disks);
         report = report_told told faults moment memory tells' (IsDrainedAt sink moments) plan.channels.items r goes.joined.streams.output_failed ends.report goes.behind.output back.behind_disks.state b.state
             (ap (λ (s : HostState). s.output) back.disks.state ∙ ap (λ (s : HostState). s.output) back.dials.state) (was_reported ends good) back.report;
-        drained = subst (λ (v : Vec ChannelDrain Global). DrainedTold sinks v.items goes.homes (map pass_of goes.settled.closed.items)) (sym goes.drains)
-            (drained_told told faults moment memory tells' sink moments plan.channels.items r sinks goes.home goes.all many
-            (λ place w s below. zips_at (λ (s : SinkPlan) (w : SinkWorker AtHome (AgentSink R P Q) C). w.channel ≡ s.channel) sinks workers both place s w below) finals);
+        drained = subst (λ (v : Vec ChannelDrain Global). DrainedTold rows v.items goes.homes (map pass_of goes.settled.closed.items)) (sym goes.drains)
+            (drained_told told faults moment memory tells' sink moments plan.channels.items r rows goes.home goes.all many
+            (λ place w s below. zips_at (λ (s : SinkRow) (w : SinkWorker AtHome (Runner (AgentSink R P Q) G) C). w.channel ≡ s.channel) rows workers both place s w below) finals);
       })
 
-  module _ (roll_faults : R → ℕ) (fill : RunsFill) (writes : WritesRolled rolled sink)
-      (outside : (p : Prepared K C) (a b : HostTold) (out : Outside (AgentSink R P Q) N) → Opens p a b out
-      → (length out.sinks.items ≡ length plan.sinks.items) × SinksOpened rolled roll_faults plan.sinks.items a.folders b.folders out.sinks.items) where
-    -- A run filled the folders of its sinks by what these called.
-    pub run_rolled : (ends : RunEnds) (channels : List ChannelEnd) (a b : HostTold) (finals : List Known) (ran : Ran ends channels a b)
+  module _ {L E : Type 0} (roll_faults : R → ℕ) (fill : RunsFill) (deliver : AgentSink R P Q → List Content → ℕ → Result (Unit {0}) SinkRefused → AgentSink R P Q → Type 0)
+      (split : RunnersSplit deliver sink.delivers) (writes : WritesRolled rolled deliver)
+      (links_of : P → SinkLinks E L) (links : E → Option LinksTold) (troubles : E → ℕ) (link_told : L → Option LinkTold) (link_faults : L → ℕ)
+      (asks : AsksOnLinks dial links_of links troubles link_told link_faults deliver) (law : RequestsAreOnLinks E L) (closes : ClosesSo dial links_of links troubles link_told link_faults deliver)
+      (keeps : (s : AgentSink R P Q) (batch : List Content) (at : ℕ) (answer : Result (Unit {0}) SinkRefused) (t : AgentSink R P Q) → deliver s batch at answer t → IsSameSink dial s t)
+      (order : (rows : List SinkRow) → AreRows plan.sinks.items plan.groups.items rows → IsOrder (length plan.sinks.items) (places_of rows))
+      (outside : (rows : List SinkRow) (p : Prepared K C) (a b : HostTold) (out : Outside (Runner (AgentSink R P Q) G) N) → Opens rows p a b out
+      → WereHanded rolled roll_faults dial plan.sinks.items rows a b out.sinks.items) where
+    -- The sinks of a run took what the workers of their rows committed; their folders and links have what they took.
+    pub run_members : (ends : RunEnds) (channels : List ChannelEnd) (a b : HostTold) (finals : List Known) (ran : Ran ends channels a b)
         → AreBeside (IsSinkWhole sink moments ran.ran.goes.manned.crew.shares.items finals) ran.ran.goes.manned.crew.jobs.sinks.items ran.ran.goes.settled.ends.items ran.ran.goes.settled.sinks.items
-        → RolledTold plan.sinks.items ran.ran.goes.manned.crew.jobs.sinks.items finals a.folders b.folders
-    run_rolled ends channels a b finals ran whole =
+        → MembersTold plan.sinks.items ran.rows ran.ran.goes.manned.crew.jobs.sinks.items finals a b
+    run_members ends channels a b finals ran whole =
         let o = ran.ran in
         let r = o.goes in
         let is = r.is_manned in
-        let out = outside ran.made ran.behind o.between o.opening.outside o.opens in
-        let runs = drained_ends (IsDrainedAt sink moments) r.joined.sinks.items r.homes r.settled.ends.items r.settled.sinks.items r.settles.drained r.settles.drains in
-        let many : length r.manned.crew.shares.items ≡ length r.homes = sym is.homes.as_many ∙ sym r.took.as_many in
-        rolled_told rolled roll_faults sink moments fill writes plan.sinks.items r.manned.crew.shares.items finals r.manned.crew.jobs.sinks.items r.settled.ends.items r.settled.sinks.items
-        o.opening.outside.sinks.items (λ place below. some_share r.manned.crew.shares.items r.homes r.joined.sinks.items place r.home (let e = runs.0 in omega (arith, below, e)) many)
-        whole is.own_sinks out.0 ran.behind.folders o.between.folders a.folders b.folders (opened_rolls ran.made.wishes.items ran.channels a ran.behind ran.opened) out.1
-        (λ path. ap (λ (f : Folders). f.rolls path) r.back.folders ∙ ap (λ (f : List ℕ → Option Rolled). f path) r.back.disks.rolls ∙ r.back.rolls.rolls path)
-
-  module _ {L E : Type 0} (links_of : P → SinkLinks E L) (links : E → Option LinksTold) (troubles : E → ℕ) (link_told : L → Option LinkTold) (link_faults : L → ℕ)
-      (asks : AsksOnLinks dial links_of links troubles link_told link_faults sink) (law : RequestsAreOnLinks E L) (closes : ClosesSo dial links_of links troubles link_told link_faults sink)
-      (keeps : (s : AgentSink R P Q) (batch : List Content) (at : ℕ) (answer : Result (Unit {0}) SinkRefused) (t : AgentSink R P Q) → sink.delivers s batch at answer t → IsSameSink dial s t)
-      (outside : (p : Prepared K C) (a b : HostTold) (out : Outside (AgentSink R P Q) N) → Opens p a b out
-      → (length out.sinks.items ≡ length plan.sinks.items) × AreOfPlans b.folders plan.sinks.items out.sinks.items
-      × ((x : HostState) × DialsOpened dial plan.sinks.items a.state x out.sinks.items × (b.state.dialers ≡ x.dialers))) where
-    -- The links of a run's Avro sinks took the requests of what these were handed.
-    pub run_dialed : (ends : RunEnds) (channels : List ChannelEnd) (a b : HostTold) (finals : List Known) (ran : Ran ends channels a b)
-        → AreBeside (IsSinkWhole sink moments ran.ran.goes.manned.crew.shares.items finals) ran.ran.goes.manned.crew.jobs.sinks.items ran.ran.goes.settled.ends.items ran.ran.goes.settled.sinks.items
-        → DialedTold plan.sinks.items ran.ran.goes.manned.crew.jobs.sinks.items finals a.state b.state
-    run_dialed ends channels a b finals ran whole =
-        let o = ran.ran in
-        let r = o.goes in
-        let is = r.is_manned in
-        let out = outside ran.made ran.behind o.between o.opening.outside o.opens in
-        let runs = drained_ends (IsDrainedAt sink moments) r.joined.sinks.items r.homes r.settled.ends.items r.settled.sinks.items r.settles.drained r.settles.drains in
-        let many : length r.manned.crew.shares.items ≡ length r.homes = sym is.homes.as_many ∙ sym r.took.as_many in
-        let between = ap (λ (s : HostState). s.dialers) r.rest ∙ ap (λ (s : HostState). s.dialers) r.taken ∙ out.2.2 in
+        let plans = plan.sinks.items in
+        let rows = ran.rows in
+        let shares = r.manned.crew.shares.items in
+        let jobs = r.manned.crew.jobs.sinks.items in
+        let runners = r.settled.sinks.items in
+        let backs = r.back.sinks in
+        let out = outside rows ran.made ran.behind o.between o.opening.outside o.opens in
+        let runs = drained_ends (IsDrainedAt sink moments) r.joined.sinks.items r.homes r.settled.ends.items runners r.settles.drained r.settles.drains in
+        let many : length shares ≡ length r.homes = sym is.homes.as_many ∙ sym r.took.as_many in
+        let shared = rows_shared deliver sink moments split shares finals jobs r.settled.ends.items runners
+        (λ place below. some_share shares r.homes r.joined.sinks.items place r.home (let e = runs.0 in omega (arith, below, e)) many) whole in
+        let as_many : length jobs ≡ length rows = zips_long IsSinkOf rows jobs is.sinks in
+        let dealt = subst (λ (l : List (Runner (AgentSink R P Q) G)). AreDealt out.sinks rows l) (sym is.own_sinks) out.dealt in
+        let came = r.back.dealt in
+        let stand = subst (λ (n : ℕ). IsOrder n (places_of rows)) (sym out.many) (order rows ran.are_rows) in
+        let stay = sinks_stay dial deliver keeps sink moments split shares finals rows jobs runners shared out.sinks backs dealt came as_many stand (r.back.many ∙ sym out.many) in
+        let between = ap (λ (s : HostState). s.dialers) r.rest ∙ ap (λ (s : HostState). s.dialers) r.taken ∙ out.after in
         let last : b.state.dialers ≡ r.back.behind_sinks.state.dialers = ap (λ (s : HostState). s.dialers) r.back.rest ∙ ap (λ (s : HostState). s.dialers) r.back.disks.state in
-        subst (λ (d : Option HandedOut). Tells a.state.dialers d (DialsTold plan.sinks.items r.manned.crew.jobs.sinks.items finals)) (sym last)
-        (dialed_told dial links_of links troubles link_told link_faults sink asks law closes moments keeps plan.sinks.items r.manned.crew.shares.items finals r.manned.crew.jobs.sinks.items r.settled.ends.items r.settled.sinks.items
-        o.opening.outside.sinks.items (λ place below. some_share r.manned.crew.shares.items r.homes r.joined.sinks.items place r.home (let e = runs.0 in omega (arith, below, e)) many)
-        whole is.own_sinks out.0 o.between.folders out.1 a.state ran.behind.state out.2.0 r.back.behind_sinks.state
-        (sym (ap (λ (s : HostState). s.dialers) (opened_state ran.made.wishes.items ran.channels a ran.behind ran.opened))) out.2.1 r.behind.dialers between r.back.dials.told)
+        record {
+          taken = shared.taken;
+          as_many = shared.as_many ∙ as_many;
+          each = took_at deliver sink moments split shares finals rows jobs runners shared out.sinks backs dealt came as_many;
+          rolled = rolled_told rolled roll_faults deliver sink moments split shares finals plans rows jobs runners shared out.sinks backs dealt came as_many fill writes out.many r.back.many
+              ran.behind.folders o.between.folders a.folders b.folders (opened_rolls ran.made.wishes.items ran.channels a ran.behind ran.opened) out.opened
+              (λ path. ap (λ (f : Folders). f.rolls path) r.back.folders ∙ ap (λ (f : List ℕ → Option Rolled). f path) r.back.disks.rolls ∙ r.back.rolls.rolls path);
+          dialed = subst (λ (d : Option HandedOut). Tells a.state.dialers d (DialsTold plans rows jobs shared.taken finals)) (sym last)
+              (dialed_told dial links_of links troubles link_told link_faults deliver asks law closes sink moments split shares finals plans rows jobs runners shared out.sinks backs dealt came as_many stand stay
+              out.many o.between.folders out.opened.are a.state ran.behind.state out.between r.back.behind_sinks.state
+              (sym (ap (λ (s : HostState). s.dialers) (opened_state ran.made.wishes.items ran.channels a ran.behind ran.opened))) out.dials r.behind.dialers between r.back.dials.told);
+        }

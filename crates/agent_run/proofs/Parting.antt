@@ -2,6 +2,7 @@
 use Rattle.std.proofs.Common.{◌≡◌, ◌∙◌, ◌⊎◌, inl, inr, ◌<◌, ◌++◌, ℕ, zero, suc, List, [], ◌∷◌, Option, Some, Result, length, map, get_or, slice_get, refl, sym, ap, subst, arith}
 use Rattle.std.proofs.lemmas.List.{get_or-map, length-map}
 use Rattle.std.proofs.lemmas.Option.{get_or_from_slice_get, slice_get_within}
+use Rattle.std.specs.List.{AllByRecursion}
 use Rattle.event_core.specs.Content.{Content}
 use Rattle.plug_in.specs.declared.sink.SinkRefused.{SinkRefused}
 use Rattle.shared_channel.specs.Passes.{Known}
@@ -11,10 +12,11 @@ use Rattle.two_channels.specs.declared.shared.EitherShared.{EitherShared}
 use Rattle.grouped_sinks.specs.Picks.{AreDealt, ArePicked, HaveMembers}
 use Rattle.grouped_sinks.specs.Rows.{IsAmong, places_of}
 use Rattle.grouped_sinks.specs.Runners.{members_of}
-use Rattle.grouped_sinks.specs.Splits.{RunnersSplit, taken_at}
+use Rattle.grouped_sinks.specs.Splits.{RunnersSplit, batches_of, taken_at}
 use Rattle.grouped_sinks.specs.declared.row.SinkRow.{SinkRow}
 use Rattle.grouped_sinks.specs.declared.runner.Runner.{Runner}
 use Rattle.run_tracks.specs.Places.{Zips}
+use Rattle.agent_run.specs.MembersTold.{RowTook}
 use Rattle.agent_run.specs.RolledTold.{calls_of}
 use Rattle.agent_run.proofs.Course.{there}
 use Rattle.agent_run.proofs.Sharing.{Part, RowsShared}
@@ -100,6 +102,14 @@ members_stay sinks (row ∷ rows) (a ∷ olds) (b ∷ news) z many is = (
   members_stay sinks rows olds news z.1 (omega (arith, many)) (λ k x y low. is (suc k) x y (omega (arith, low))),
 )
 
+-- so many as the row has places
+pub dealt_many : {S N : Type 0} (sinks : List S) (rows : List SinkRow) (runners : List (Runner S N)) → AreDealt sinks rows runners → (at : ℕ) (row : SinkRow) (runner : Runner S N) → at < length rows
+    → length (get_or rows at row).places.items ≡ length (members_of (get_or runners at runner))
+dealt_many sinks [] runners z at row runner below = absurd (omega (arith, below))
+dealt_many sinks (r ∷ rows) [] z at row runner below = absurd z
+dealt_many sinks (r ∷ rows) (q ∷ runners) z zero row runner below = picked_many sinks r.places.items (members_of q) z.0
+dealt_many sinks (r ∷ rows) (q ∷ runners) z (suc at) row runner below = dealt_many sinks rows runners z.1 at row runner (omega (arith, below))
+
 pub have_members : {S N A B C : Type 0} (one : S → List Content → ℕ → Result (Unit {0}) SinkRefused → S → Type 0) (sink : Told (Runner S N)) (moments : C → Option (ℕ → ℕ)) (split : RunnersSplit one sink.delivers)
     (shares : List (EitherShared A B)) (finals : List Known) (sinks : List S) (rows : List SinkRow) (jobs : List (SinkWorker Known (Runner S N) C)) (runners : List (Runner S N))
     (shared : RowsShared one sink moments split shares finals jobs runners) → AreDealt sinks rows (map (λ (job : SinkWorker Known (Runner S N) C). job.sink) jobs) → length jobs ≡ length rows → HaveMembers rows runners
@@ -116,24 +126,40 @@ module _ {S N A B C : Type 0} (one : S → List Content → ℕ → Result (Unit
     (shares : List (EitherShared A B)) (finals : List Known) (rows : List SinkRow) (jobs : List (SinkWorker Known (Runner S N) C)) (runners : List (Runner S N))
     (shared : RowsShared one sink moments split shares finals jobs runners) (sinks backs : List S)
     (dealt : AreDealt sinks rows (map (λ (job : SinkWorker Known (Runner S N) C). job.sink) jobs)) (came : AreDealt backs rows runners) (as_many : length jobs ≡ length rows) where
+  -- each batch whose commit the worker of a row asked for was taken by one of the row's sinks
+  pub took_at : (at : ℕ) (row : SinkRow) (job : SinkWorker Known (Runner S N) C) (took : List (ℕ × List Content)) → at < length rows
+      → RowTook finals (get_or rows at row) (get_or jobs at job) (get_or shared.taken at took)
+  took_at at row job took below =
+      let low : at < length jobs = omega (arith, below, as_many) in
+      let back = there runners at (let m = shared.many in omega (arith, low, m)) in
+      let worker = get_or jobs at job in
+      let is_sink = get_or-map (λ (job : SinkWorker Known (Runner S N) C). job.sink) jobs at job job.sink low in
+      let mine = shared.each at job back took low in
+      let places = dealt_many sinks rows (map (λ (job : SinkWorker Known (Runner S N) C). job.sink) jobs) dealt at row job.sink below in
+      let many : length (members_of worker.sink) ≡ length (get_or rows at row).places.items = ap (λ (q : Runner S N). length (members_of q)) (sym is_sink) ∙ sym places in
+      record {
+        within = subst (λ (x : ℕ × List (ℕ × List Content)). AllByRecursion (λ (t : ℕ × List Content). t.0 < x.0) x.1) (λ k. (many k, sym mine.1 k)) mine.0.within;
+        these = λ counted. ap (λ (l : List (ℕ × List Content)). batches_of l) mine.1 ∙ mine.0.these counted;
+      }
+
   -- The sink at a place of the plan, which is in a row, was handed what that row's worker had taken, and took its own of it.
-  pub record PartAt (at i place : ℕ) (job : SinkWorker Known (Runner (S) N) C) (took : List (ℕ × List Content)) : Type 0 where
+  pub record PartAt (at i place : ℕ) (job : SinkWorker Known (Runner S N) C) (took : List (ℕ × List Content)) : Type 0 where
     pub old : S
     pub new : S
     pub was : slice_get sinks place ≡ Some old
     pub is : slice_get backs place ≡ Some new
     pub part : Part one (calls_of finals (get_or jobs at job)) (taken_at i (get_or shared.taken at took)) old new
 
-  pub part_at : (at i place : ℕ) (row : SinkRow) (job : SinkWorker Known (Runner (S) N) C) (took : List (ℕ × List Content)) → at < length rows
+  pub part_at : (at i place : ℕ) (row : SinkRow) (job : SinkWorker Known (Runner S N) C) (took : List (ℕ × List Content)) → at < length rows
       → slice_get (get_or rows at row).places.items i ≡ Some place → PartAt at i place job took
   part_at at i place row job took below here =
       let back = there runners at (let m = shared.many in omega (arith, below, m, as_many)) in
       let low : at < length jobs = omega (arith, below, as_many) in
       let worker = get_or jobs at job in
-      let is_sink = get_or-map (λ (job : SinkWorker Known (Runner (S) N) C). job.sink) jobs at job job.sink low in
-      let first = in_row sinks rows (map (λ (job : SinkWorker Known (Runner (S) N) C). job.sink) jobs) dealt at row job.sink below i place here in
+      let is_sink = get_or-map (λ (job : SinkWorker Known (Runner S N) C). job.sink) jobs at job job.sink low in
+      let first = in_row sinks rows (map (λ (job : SinkWorker Known (Runner S N) C). job.sink) jobs) dealt at row job.sink below i place here in
       let last = in_row backs rows runners came at row back below i place here in
-      let member : slice_get (members_of worker.sink) i ≡ Some first.sink = subst (λ (q : Runner (S) N). slice_get (members_of q) i ≡ Some first.sink) is_sink first.member in
+      let member : slice_get (members_of worker.sink) i ≡ Some first.sink = subst (λ (q : Runner S N). slice_get (members_of q) i ≡ Some first.sink) is_sink first.member in
       let one_row = shared.each at job back took low in
       let part = one_row.0.each i first.sink last.sink (slice_get_within (members_of worker.sink) i first.sink member) in
       record {

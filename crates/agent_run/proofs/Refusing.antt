@@ -1,5 +1,5 @@
 -- Why a run does not begin, and what that leaves of the host.
-use Rattle.std.proofs.Common.{◌≡◌, ◌∙◌, ◌<◌, ◌≤◌, ◌⊎◌, inl, inr, ℕ, List, ◌∷◌, length, Option, None, Result, Ok, Err, IfErr, OnOk, refl, sym, ap, subst, arith}
+use Rattle.std.proofs.Common.{◌≡◌, ◌∙◌, ◌<◌, ◌≤◌, ◌⊎◌, inl, inr, ℕ, List, ◌∷◌, length, Option, Result, Ok, Err, IfErr, refl, sym, ap, subst, arith}
 use Rattle.std.proofs.lemmas.List.{length-append}
 use Rattle.flume_host.specs.Causes.{Rose}
 use Rattle.flume_host.specs.HostState.{HostState}
@@ -10,7 +10,6 @@ use Rattle.channel_face.specs.declared.replies.OpenCause.TheVariants as causes
 use Rattle.flume_config.specs.declared.plan.ChannelKind.{ChannelKind}
 use Rattle.flume_config.specs.declared.plan.ChannelKind.TheVariants.{File, Memory}
 use Rattle.flume_config.specs.declared.plan.Plan.{Plan}
-use Rattle.plan_support.specs.Least.{unsupported}
 use Rattle.agent_words.specs.Statuses.{status_of}
 use Rattle.agent_words.specs.declared.error.RunError.{RunError}
 use Rattle.agent_words.specs.declared.error.RunError.TheVariants as errors
@@ -24,7 +23,7 @@ use Rattle.agent_channels.specs.declared.wish.ChannelPlace.TheVariants as place
 use Rattle.agent_channels.specs.declared.wish.ChannelWish.{ChannelWish}
 use Rattle.agent_outside.specs.Ends.{places}
 use Rattle.agent_run.specs.Errors.{IsCauseError}
-use Rattle.agent_run.specs.NotBegun.{AreWanted, ChannelNotOpened, IsCauseStatus, IsRefusedOutside, IsRunRefused, LeavesHost, NoPlan, NotPrepared, NotSupported, OutsideNotOpened}
+use Rattle.agent_run.specs.NotBegun.{AreWanted, ChannelNotOpened, IsCauseStatus, IsRefusedOutside, IsRunRefused, LeavesHost, NoPlan, NotPrepared, OutsideNotOpened}
 use Rattle.agent_outside.specs.Dials.{FailsBy}
 use Rattle.agent_run.specs.Outside.{OutsideRefused}
 use Rattle.agent_run.specs.Prepared.{IsUnprepared, error_of}
@@ -86,10 +85,6 @@ pub if_err : {T E : Type 0} (r : Result T E) (P Q : E → Type 0) → ((e : E) �
 if_err (Ok t) P Q step p = tt
 if_err (Err e) P Q step p = step e p
 
-pub answers_supported : {T : Type 0} (plan : Plan) (result : Result T RunError) → unsupported plan ≡ None → OnOk result (unsupported plan ≡ None)
-answers_supported plan (Ok ends) none = none
-answers_supported plan (Err error) none = tt
-
 -- ---- what a refusal leaves of the host itself
 
 -- its count of faults alone may have changed
@@ -134,13 +129,6 @@ plan_host file agent status a b none =
     clean (inl two) (inr four) = absurd (omega (arith, two, four))
     clean (inr (inl three)) (inr four) = absurd (omega (arith, three, four))
     clean (inr (inr five)) (inr four) = none.why.well (inr five)
-
-supported_host : (plan : Plan) (status : ℕ) (a b : HostTold) → NotSupported plan status a b → LeavesHost status a.state b.state
-supported_host plan status a b not =
-    let two = not.is in
-    let faults : b.state.faults ≡ a.state.faults = ap (λ (h : HostTold). h.state.faults) not.same in
-    host_counted status a.state b.state (omega (arith, two)) (omega (arith, two)) (ap (λ (h : HostTold). h.state) not.same ∙ ap (λ (n : ℕ). record a.state { faults = n }) (sym faults))
-    (λ three. absurd (omega (arith, two, three))) (λ which. faults)
 
 prepared_host : (status : ℕ) (a b : HostTold) → NotPrepared status a b → LeavesHost status a.state b.state
 prepared_host status a b not = here not.why
@@ -344,11 +332,6 @@ outside_host plan status a b not =
 -- ---- by any of them
 
 pub refused_host : (plan : Plan) (status : ℕ) (a b : HostTold) → IsRunRefused plan status a b → LeavesHost status a.state b.state
-refused_host plan status a b (inl not) = supported_host plan status a b not
-refused_host plan status a b (inr why) = elim why.1 [
-  | inl not ↦ prepared_host status a b not
-  | inr more ↦ elim more [
-    | inl not ↦ channel_host plan status a b not
-    | inr not ↦ outside_host plan status a b not
-  ]
-]
+refused_host plan status a b (inl not) = prepared_host status a b not
+refused_host plan status a b (inr (inl not)) = channel_host plan status a b not
+refused_host plan status a b (inr (inr not)) = outside_host plan status a b not

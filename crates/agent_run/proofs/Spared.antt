@@ -189,15 +189,9 @@ outside_folders plan status a b not = record {
 
 pub refused_folders : (plan : Plan) (status : ℕ) (a b : HostTold) → FoldersAreApart plan.channels.items → IsRunRefused plan status a b → LeavesFolders plan status a.folders b.folders
 refused_folders plan status a b apart (inl not) =
-    let two = not.is in
-    folders_same plan status a.folders b.folders (λ four. absurd (omega (arith, two, four))) (ap (λ (h : HostTold). h.folders) not.same)
-refused_folders plan status a b apart (inr why) = elim why.1 [
-  | inl not ↦ folders_same plan status a.folders b.folders (λ four. elim not.why [
-    | inl three ↦ let e = three.0 in absurd (omega (arith, e, four))
-    | inr five ↦ let e = five.0 in absurd (omega (arith, e, four))
-  ]) not.folders
-  | inr more ↦ elim more [
-    | inl not ↦ channel_folders plan status a b apart not
-    | inr not ↦ outside_folders plan status a b not
-  ]
-]
+    folders_same plan status a.folders b.folders (λ four. elim not.why [
+      | inl three ↦ let e = three.0 in absurd (omega (arith, e, four))
+      | inr five ↦ let e = five.0 in absurd (omega (arith, e, four))
+    ]) not.folders
+refused_folders plan status a b apart (inr (inl not)) = channel_folders plan status a b apart not
+refused_folders plan status a b apart (inr (inr not)) = outside_folders plan status a b not

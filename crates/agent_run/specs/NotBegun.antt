@@ -1,5 +1,5 @@
 -- Why a run of `agent` did not begin, and what became of the host.
-use Rattle.std.specs.Prelude.{◌≡◌, ◌⊎◌, ◌<◌, ◌≤◌, ℕ, List, [], All, Option, Some, None, true, length, slice_index_or}
+use Rattle.std.specs.Prelude.{◌≡◌, ◌⊎◌, ◌<◌, ◌≤◌, ℕ, List, [], All, Option, Some, true, length, slice_index_or}
 use Rattle.flume_host.specs.Causes.{Rose}
 use Rattle.flume_host.specs.HostState.{Folders, HostState}
 use Rattle.flume_host.specs.Rolled.{opened}
@@ -9,7 +9,6 @@ use Rattle.channel_face.specs.declared.replies.OpenCause.{OpenCause}
 use Rattle.channel_writing.specs.Folders.{AreSame, OpensFrom, Refuses}
 use Rattle.flume_config.specs.declared.plan.ChannelPlan.{ChannelPlan}
 use Rattle.flume_config.specs.declared.plan.Plan.{Plan}
-use Rattle.plan_support.specs.Least.{unsupported}
 use Rattle.agent_words.specs.Statuses.{status_of}
 use Rattle.agent_words.specs.declared.error.RunError.{RunError}
 use Rattle.agent_channels.specs.Openings.{HostTold}
@@ -34,13 +33,6 @@ use Rattle.agent_run.specs.declared.outcome.ChannelEnd.{ChannelEnd}
 pub record NoPlan (file : Option (List ℕ)) (agent : List ℕ) (status : ℕ) (a b : HostTold) : Type 0 where
   pub why : Unplanned file agent a.state b.state status
   pub folders : b.folders ≡ a.folders
-
--- A component on this line of the plan is not supported. Nothing was touched.
-pub record NotSupported (plan : Plan) (status : ℕ) (a b : HostTold) : Type 0 where
-  pub line : ℕ
-  pub first : unsupported plan ≡ Some line
-  pub is : status ≡ 2
-  pub same : b ≡ a
 
 -- The host failed to tell a name that interceptors ask for, or memory ran out, before anything was opened. No folder was touched.
 pub record NotPrepared (status : ℕ) (a b : HostTold) : Type 0 where
@@ -76,10 +68,9 @@ pub record OutsideNotOpened (plan : Plan) (status : ℕ) (a b : HostTold) : Type
   pub channels : ComeBack wishes a open_then left b
   pub is : status ≡ status_of (error_of why)
 
--- Why a run of this plan did not begin. Where a component is not supported, no other step was taken.
+-- why a run of this plan did not begin
 abbrev pub IsRunRefused : Plan → ℕ → HostTold → HostTold → Type 0
-IsRunRefused plan status a b =
-    NotSupported plan status a b ⊎ ((unsupported plan ≡ None) × (NotPrepared status a b ⊎ ChannelNotOpened plan status a b ⊎ OutsideNotOpened plan status a b))
+IsRunRefused plan status a b = NotPrepared status a b ⊎ ChannelNotOpened plan status a b ⊎ OutsideNotOpened plan status a b
 
 -- While these channels were open, the folder of a sink or a listener was refused with this error, and the channels came back.
 pub record IsRefusedOutside {A B : Type 0} (plan : Plan) (at : List ℕ) (wishes : List ChannelWish) (cs : List (OpenedChannel A B)) (error : RunError) (a b : HostTold) : Type 0 where

@@ -1,5 +1,5 @@
 -- A run of what was opened, to its end.
-use Rattle.std.specs.Prelude.{◌≡◌, ◌⊎◌, ℕ, Bool, List, All, map, None, Option, Result, String, length}
+use Rattle.std.specs.Prelude.{◌≡◌, ◌⊎◌, ℕ, Bool, List, All, map, Option, Result, String, length}
 use Rattle.std.specs.declared.alloc.Global.{Global}
 use Rattle.agent_channels.specs.Openings.{HostTold}
 use Rattle.agent_channels.specs.Several.{AreOpened}
@@ -15,7 +15,6 @@ use Rattle.flume_config.specs.declared.plan.Plan.{Plan}
 use Rattle.grouped_sinks.specs.Rows.{AreRows}
 use Rattle.grouped_sinks.specs.declared.row.SinkRow.{SinkRow}
 use Rattle.flume_host.specs.HostState.{HostState}
-use Rattle.plan_support.specs.Least.{unsupported}
 use Rattle.run_tracks.specs.Homes.{EachTook}
 use Rattle.shared_channel.specs.Passes.{Known}
 use Rattle.sink_worker.specs.declared.worker.SinkWorker.{SinkWorker}
@@ -84,7 +83,8 @@ pub record OpenedAndRan {A B S N I O C K : Type 0} (plans : List ChannelPlan) (c
   pub opens : Opens a between opening.outside
   pub goes : Goes opening ends channel_ends between b
 
--- A run of a plan: its sinks were put into rows, it was prepared, its channels were opened in order, then what it needs outside them, and it went through.
+-- A run of a plan: its sinks were put into rows, it was prepared, its channels were opened in order, then what it needs outside them, and it
+-- went through.
 pub record PlanRan {A B S N I O C K : Type 0} (plan : Plan) (Drafted : Prepared K C → Type 0)
     (Opens : List SinkRow → Prepared K C → HostTold → HostTold → Outside S N → Type 0)
     (Goes : List SinkRow → Opening A B S N I O C K → RunEnds → List ChannelEnd → HostTold → HostTold → Type 0)
@@ -99,10 +99,9 @@ pub record PlanRan {A B S N I O C K : Type 0} (plan : Plan) (Drafted : Prepared 
   pub opened : AreOpened made.wishes.items channels a behind
   pub ran : OpenedAndRan plan.channels.items channels made (Opens rows made) (Goes rows) ends channel_ends behind b
 
--- A run of the plan, each component of which is supported, came to ends with this status, and to these channels.
+-- A run of the plan came to ends with this status, and to these channels.
 pub record CameTo (Ran : Plan → RunEnds → List ChannelEnd → HostTold → HostTold → Type 0) (plan : Plan) (status : ℕ) (channels : List ChannelEnd)
     (a b : HostTold) : Type 0 where
-  pub supported : unsupported plan ≡ None
   pub ends : RunEnds
   pub by_ends : run_status ends ≡ status
   pub ran : Ran plan ends channels a b

@@ -1,5 +1,5 @@
 // The run of an agent.
-ghost use Rattle.std.specs.Prelude.{◌≡◌, ◌+◌, ◌++◌, ◌≤◌, [], All, IfErr, IfOk, None, OnOk, Some, length, map};
+ghost use Rattle.std.specs.Prelude.{◌≡◌, ◌+◌, ◌++◌, ◌≤◌, [], All, IfErr, IfOk, Some, length, map};
 ghost use Rattle.two_channels.specs.Shares.{pass_of};
 ghost use Rattle.std.specs.Vec.{vec_capacity};
 ghost use Rattle.agent_channels.specs.Closings.{AreOfWishes, AreOut};
@@ -7,10 +7,10 @@ ghost use Rattle.agent_channels.specs.Several.{WereOpened};
 ghost use Rattle.agent_end.specs.Statuses.{run_status};
 ghost use Rattle.agent_outside.specs.Sinks.{AreOpened, IsPlain};
 ghost use Rattle.agent_words.specs.Statuses.{status_of};
-ghost use Rattle.plan_support.specs.Least.{HasNoPlugin, unsupported};
+ghost use Rattle.plan_support.specs.Least.{HasNoPlugin};
 ghost use Rattle.agent_run.specs.Lists.{HasRoomFor, HasSettleRoom};
 ghost use Rattle.agent_run.specs.Opening.{CanBeManned};
-ghost use Rattle.agent_run.specs.Named.{AgentEnds, PlanEnds};
+ghost use Rattle.agent_run.specs.Named.{AgentEnds};
 ghost use Rattle.agent_run.specs.Prepared.{IsPlanned, IsPrepared};
 ghost use Rattle.agent_outside.specs.Listening.{IsFresh};
 ghost use Rattle.agent_run.specs.Outside.{HasRunners, IsOutside};
@@ -53,9 +53,9 @@ use grouped_sinks::{
     Frame, SinkRow, frames_of, rows_are_apart, rows_of, runners_split, ungroup_sinks,
 };
 use memory_channel::MemoryChannel;
-use plan_laws::{groups_name_what_is_there, numbers_are_limited, sinks_name_what_is_there};
-use plan_refused::PlanRefused;
-use plan_support::unsupported;
+use plan_laws::{
+    groups_name_what_is_there, numbers_are_limited, sinks_name_what_is_there, sinks_stand_once,
+};
 use plug_in::Interceptor;
 use shared_channel::Pass;
 use std::alloc::{AllocError, Global};
@@ -308,8 +308,8 @@ fn run_channels<'a, R: Threads + Wait + Sync + 'a, H: Host + 'a, K: Interceptor 
     }
 }
 
-/// Runs the agent of a plan to its end. It is refused where a component is not supported, and where a name was not told, or a
-/// channel, a folder or a listener was not opened; then what was opened came back unused.
+/// Runs the agent of a plan to its end. It is refused where a name was not told, or a channel, a folder or a listener was not opened;
+/// then what was opened came back unused.
 pub(crate) fn run_plan<
     'a,
     R: Threads + Wait + Sync + 'a,
@@ -325,11 +325,7 @@ pub(crate) fn run_plan<
         run.ends run.channels.items
         (record { state = H.state host.old; folders = H.folders host.old })
         (record { state = H.state host.new; folders = H.folders host.new })) }
-    ensures supported { OnOk result (unsupported plan.now ≡ None) }
 {
-    if let Some(line) = unsupported(plan) {
-        return Err(RunError::Plan(PlanRefused::Unsupported { line }));
-    }
     sinks_are_plain();
     groups_name_what_is_there();
     let rows = rows_of(alloc, plan)?;
@@ -443,7 +439,7 @@ fn end_plan<'a, R: Threads + Wait + Sync + 'a, H: Host + 'a, K: Interceptor + Se
 ) -> Ended
     requires planned { IsPlanned plan.now }
     requires own { HasNoPlugin plan.now }
-    ensures ends { PlanEnds plan.now result.status }
+    ensures ends { IsRunStatus result.status }
     ensures ran { EndsAs ⟦<RunOf<'a, R, H, K> as Runs>⟧.ran plan.now
         result.status result.channels.items
         (record { state = H.state host.old; folders = H.folders host.old })

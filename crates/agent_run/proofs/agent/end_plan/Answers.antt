@@ -5,12 +5,12 @@ use Rattle.agent_run.proofs.Answering.{came_with, ended, first_of_six, not_begun
 use Rattle.agent_run.proofs.agent.end_plan.Goals as goal
 
 pub returns-in-Ok-clause-ends : goal.returns-in-Ok-clause-ends
-returns-in-Ok-clause-ends g c = ended c.args.plan.now c.of.result.status (run_status c.in-Ok.done.ends) c.of.ensures.status (first_of_six _ _ _ _ _)
+returns-in-Ok-clause-ends g c = ended c.of.result.status (run_status c.in-Ok.done.ends) c.of.ensures.status (first_of_six _ _ _ _ _)
 
 pub returns-in-Ok-clause-ran : goal.returns-in-Ok-clause-ran
 returns-in-Ok-clause-ran g c =
     let run = c.in-Ok.done in
-    came_with run.ends run.channels c.of.result.channels c.in-Ok.ensures.supported c.of.ensures.channels (sym c.of.ensures.status)
+    came_with run.ends run.channels c.of.result.channels c.of.ensures.channels (sym c.of.ensures.status)
     (c.steps_are_told.ensures c.args.plan.now run.ends run.channels.items _ _ c.requires.planned c.in-Ok.ensures.ran)
 
 pub returns-in-Err-clause-ends : goal.returns-in-Err-clause-ends

@@ -7,7 +7,7 @@ pub end_plan-requires-clause-own : goal.end_plan-requires-clause-own
 end_plan-requires-clause-own g c κs within = has_no_plugin _ _ _ c.in-Ok.ensures.planned.0
 
 pub returns-in-Ok-clause-ends : goal.returns-in-Ok-clause-ends
-returns-in-Ok-clause-ends g c = named _ _ _ _ c.in-Ok.ensures.planned.0 c.end_plan.ensures.ends
+returns-in-Ok-clause-ends g c = named _ _ _ c.end_plan.ensures.ends
 
 pub returns-in-Ok-clause-ran : goal.returns-in-Ok-clause-ran
 returns-in-Ok-clause-ran g c =
