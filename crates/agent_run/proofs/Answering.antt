@@ -173,6 +173,6 @@ if_ok (Ok t) P Q step p = step t p
 if_ok (Err e) P Q step p = tt
 
 pub outside_at : {R A B N : Type 0} {rolled : R → Option Rolled} {faults : R → ℕ} {dial : DialTold A} {Fresh : Endpoint → Option HandedOut → N → Type 0} {p : Plan} {l l' : List ℕ} {a b : HostTold}
-    {all : List (AgentSink R A B)} {bare : List N} → l ≡ l' → IsOutside rolled faults dial Fresh p l a b all bare → IsOutside rolled faults dial Fresh p l' a b all bare
-outside_at {rolled = rolled} {faults = faults} {dial = dial} {Fresh = Fresh} {p = p} {a = a} {b = b} {all = all} {bare = bare} same is =
-    subst (λ (x : List ℕ). IsOutside rolled faults dial Fresh p x a b all bare) same is
+    {all : List (AgentSink R A B)} {bare bare' : List N} → l ≡ l' → bare ≡ bare' → IsOutside rolled faults dial Fresh p l a b all bare → IsOutside rolled faults dial Fresh p l' a b all bare'
+outside_at {N = N} {rolled = rolled} {faults = faults} {dial = dial} {Fresh = Fresh} {p = p} {a = a} {b = b} {all = all} places listeners is =
+    subst (λ (x : List ℕ × List N). IsOutside rolled faults dial Fresh p x.0 a b all x.1) (λ i. (places i, listeners i)) is

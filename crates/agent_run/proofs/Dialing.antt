@@ -40,7 +40,7 @@ use Rattle.run_tracks.specs.Stops.{IsMended}
 use Rattle.run_tracks.specs.Places.{Zips}
 use Rattle.agent_run.specs.Run.{CanDial, MayReturn, StandInRows}
 use Rattle.agent_run.specs.Staff.{IsSinkOf}
-use Rattle.grouped_sinks.specs.Picks.{AreDealt, HaveMembers}
+use Rattle.grouped_sinks.specs.Picks.{AreDealt}
 use Rattle.grouped_sinks.specs.Rows.{IsOrder, places_of}
 use Rattle.grouped_sinks.specs.declared.row.SinkRow.{SinkRow}
 use Rattle.grouped_sinks.specs.declared.runner.Runner.{Runner}
@@ -218,7 +218,7 @@ module _ {R X Y P Q G N I O C K Z : Type 0} (runs : Runs (EitherPort Z X Y) (Run
       → joined.sinks ≡ returned.sinks → All (IsSinkHome homes) joined.sinks.items → length m.settled.report.items ≡ length homes
       → AreSettled (IsDrainedAt sink moments) (IsMended disk tells moment) (IsClosed disk tells memory tells') m.crew.shares.items homes joined.sinks.items m.settled.report.items settled
       → (f : Folders) (all : Option HandedOut) → StandInRows dial f plans rows o.outside.sinks.items all
-      → MayReturn dial plans rows settled.sinks.items all × HaveMembers rows settled.sinks.items
+      → MayReturn dial plans rows settled.sinks.items all
   may_return told split keeps plans rows order o m homes joined returned settled is took full back same home named settles f all stand =
       let whole = (told rows o m homes joined returned settled is took full back same home named settles).sinks in
       let many : length m.crew.shares.items ≡ length homes = sym is.homes.as_many ∙ sym took.as_many in
@@ -227,10 +227,11 @@ module _ {R X Y P Q G N I O C K Z : Type 0} (runs : Runs (EitherPort Z X Y) (Run
       let shared = rows_shared deliver sink moments split m.crew.shares.items (finals_of settled) jobs settled.ends.items settled.sinks.items
       (λ place below. some_share m.crew.shares.items homes joined.sinks.items place home (let e = ran.0 in omega (arith, below, e)) many) whole in
       let as_many : length jobs ≡ length rows = sym (zips_length IsSinkOf rows jobs is.sinks) in
-      let dealt = subst (λ (l : List (Runner (AgentSink P Q R) G)). AreDealt stand.sinks rows l) (sym is.own_sinks) stand.dealt in (
-        λ sinks long came.
+      let dealt = subst (λ (l : List (Runner (AgentSink P Q R) G)). AreDealt stand.sinks rows l) (sym is.own_sinks) stand.dealt in
+      record {
+        members = have_members deliver sink moments split m.crew.shares.items (finals_of settled) stand.sinks rows jobs settled.sinks.items shared dealt as_many;
+        each = λ sinks long came.
             dials_stay_out dial f plans stand.sinks sinks all stand.can
             (sinks_stay dial deliver keeps sink moments split m.crew.shares.items (finals_of settled) rows jobs settled.sinks.items shared stand.sinks sinks dealt came as_many
-            (subst (λ (n : ℕ). IsOrder n (places_of rows)) (sym stand.can.many) order) (long ∙ sym stand.can.many)),
-        have_members deliver sink moments split m.crew.shares.items (finals_of settled) stand.sinks rows jobs settled.sinks.items shared dealt as_many,
-      )
+            (subst (λ (n : ℕ). IsOrder n (places_of rows)) (sym stand.can.many) order) (long ∙ sym stand.can.many));
+      }

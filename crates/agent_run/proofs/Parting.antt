@@ -102,6 +102,12 @@ members_stay sinks (row ∷ rows) (a ∷ olds) (b ∷ news) z many is = (
   members_stay sinks rows olds news z.1 (omega (arith, many)) (λ k x y low. is (suc k) x y (omega (arith, low))),
 )
 
+pub runners_many : {S N : Type 0} (sinks : List S) (rows : List SinkRow) (runners : List (Runner S N)) → AreDealt sinks rows runners → length runners ≡ length rows
+runners_many sinks [] [] z = refl
+runners_many sinks [] (q ∷ runners) z = absurd z
+runners_many sinks (r ∷ rows) [] z = absurd z
+runners_many sinks (r ∷ rows) (q ∷ runners) z = ap suc (runners_many sinks rows runners z.1)
+
 -- so many as the row has places
 pub dealt_many : {S N : Type 0} (sinks : List S) (rows : List SinkRow) (runners : List (Runner S N)) → AreDealt sinks rows runners → (at : ℕ) (row : SinkRow) (runner : Runner S N) → at < length rows
     → length (get_or rows at row).places.items ≡ length (members_of (get_or runners at runner))

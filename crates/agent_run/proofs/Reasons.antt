@@ -12,6 +12,7 @@ use Rattle.crew.specs.declared.draining.DrainWorker.{DrainWorker}
 use Rattle.flume_config.specs.declared.plan.Plan.{Plan}
 use Rattle.flume_host.specs.Causes.{Rose}
 use Rattle.flume_host.specs.HostState.{HostState}
+use Rattle.grouped_sinks.specs.declared.row.SinkRow.{SinkRow}
 use Rattle.netcat_source.specs.Lines.{IsCut, IsTooLong, IsUnbroken, LinesEnd, OneCut, Rest, TooLong, joined}
 use Rattle.shared_channel.specs.Passes.{Known}
 use Rattle.sink_worker.specs.Rounds.{Told}
@@ -157,14 +158,15 @@ finishes one limit status input new (inr (inr (inr (inr (inr is))))) can fault h
 module _ {R A B S N I O C K : Type 0} (runs : Runs (EitherPort R A B) S N I O C K) (sink : Told S) (Means : Meaning K) (moments : C → Option (ℕ → ℕ)) (heard : N → Heard)
     (left : I → Option (List ℕ)) (read_faults : I → ℕ) (took handed : O → Option (List ℕ)) (write_faults : O → ℕ)
     (disk : A → Opening → List Step → Type 0) (tells : A → Bool) (moment : A → ℕ) (memory : B → Opening → List Step → Type 0) (tells' : B → Bool)
-    (plan : Plan) (Drafted : Prepared K C → Type 0) (Opens : Prepared K C → HostTold → HostTold → Outside S N → Type 0)
+    (plan : Plan) (Drafted : Prepared K C → Type 0) (Opens : List SinkRow → Prepared K C → HostTold → HostTold → Outside S N → Type 0)
     (Given : Manned A B S N I O C K → List N → HostState → HostState → Type 0)
-    (Back : List ChannelWish → Settled S A B → Bool → Result (Unit {0}) ReportRefused → HostTold → HostTold → Type 0)
+    (Back : List SinkRow → List ChannelWish → Settled S A B → Bool → Result (Unit {0}) ReportRefused → HostTold → HostTold → Type 0)
     (one : OneCut) (drains_run : (v w : DrainWorker I) → runs.drains v w → DrainRan left read_faults v w)
     (seated : (p : Prepared K C) → Drafted p → OneSeat (line_limit plan.sources.items) p.lines.items)
-    (opens : (p : Prepared K C) (a b : HostTold) (out : Outside S N) → Opens p a b out → (b.state.input ≡ a.state.input) × (b.state.faults ≡ a.state.faults))
+    (opens : (rows : List SinkRow) (p : Prepared K C) (a b : HostTold) (out : Outside S N) → Opens rows p a b out → (b.state.input ≡ a.state.input) × (b.state.faults ≡ a.state.faults))
     (given : (m : Manned A B S N I O C K) (l : List N) (s t : HostState) → Given m l s t → (t.input ≡ s.input) × (t.faults ≡ s.faults))
-    (back : (wishes : List ChannelWish) (settled : Settled S A B) (failed : Bool) (answer : Result (Unit {0}) ReportRefused) (a b : HostTold) → Back wishes settled failed answer a b → GoesBack failed answer a.state b.state) where
+    (back : (rows : List SinkRow) (wishes : List ChannelWish) (settled : Settled S A B) (failed : Bool) (answer : Result (Unit {0}) ReportRefused) (a b : HostTold) → Back rows wishes settled failed answer a b
+    → GoesBack failed answer a.state b.state) where
   abbrev Made : RunEnds → List ChannelEnd → HostTold → HostTold → Type 0
   Made = Steps runs sink Means moments heard left read_faults took handed write_faults disk tells moment memory tells' plan Drafted Opens Given Back
 
@@ -175,7 +177,7 @@ module _ {R A B S N I O C K : Type 0} (runs : Runs (EitherPort R A B) S N I O C 
     went_back : GoesBack ran.ran.goes.joined.streams.output_failed ends.report ran.ran.goes.behind b.state
     went_back =
         let r = ran.ran.goes in
-        back r.manned.wishes.items r.settled r.joined.streams.output_failed ends.report (record { state = r.behind; folders = ran.ran.between.folders }) b r.back
+        back ran.rows r.manned.wishes.items r.settled r.joined.streams.output_failed ends.report (record { state = r.behind; folders = ran.ran.between.folders }) b r.back
 
     -- what was read of standard input, from the beginning of the run to the join of its workers
     read_behind : WasRead limit ran.ran.goes.joined.streams a.state ran.ran.goes.behind
@@ -184,7 +186,7 @@ module _ {R A B S N I O C K : Type 0} (runs : Runs (EitherPort R A B) S N I O C 
         let r = o.goes in
         let j = r.joins in
         let state = opened_state ran.made.wishes.items ran.channels a ran.behind ran.opened in
-        let first = opens ran.made ran.behind o.between o.opening.outside o.opens in
+        let first = opens ran.rows ran.made ran.behind o.between o.opening.outside o.opens in
         let last = given r.manned j.returned.listeners.items j.behind_lines r.behind j.listeners in
         let lines = seats_lines limit ran.made.lines.items r.manned.crew.jobs.lines.items (seated ran.made ran.drafted)
         (subst (λ (p : Prepared K C). Zips IsLineOf p.lines.items r.manned.crew.jobs.lines.items) o.same_made r.is_manned.lines) in
@@ -212,7 +214,7 @@ module _ {R A B S N I O C K : Type 0} (runs : Runs (EitherPort R A B) S N I O C 
     folders : FoldersAre plan.channels.items ran.ran.goes.manned.crew.shares.items
     folders =
         let is = ran.ran.goes.is_manned in
-        folders_are (uses_of plan.sinks.items ran.made.listeners.items ran.made.lines.items) plan.channels.items ran.made.wishes.items ran.channels a ran.behind ran.ran.goes.manned.crew.shares.items
+        folders_are (uses_of ran.rows ran.made.listeners.items ran.made.lines.items) plan.channels.items ran.made.wishes.items ran.channels a ran.behind ran.ran.goes.manned.crew.shares.items
         ran.is_prepared.wishes ran.opened (is.shares ∙ ap (map (λ (c : OpenedChannel A B). c.share)) ran.ran.same_channels)
 
     homes_many : length ran.ran.goes.homes ≡ length plan.channels.items

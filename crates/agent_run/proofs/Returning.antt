@@ -1,6 +1,8 @@
 -- What the host tells of itself once a run gave all back and reported.
 use Rattle.std.proofs.Common.{◌≡◌, ◌∙◌, ◌⊎◌, inl, inr, ℕ, List, Bool, true, false, Option, Result, Ok, Err, refl, ap, arith}
 use Rattle.flume_config.specs.declared.plan.SinkPlan.{SinkPlan}
+use Rattle.grouped_sinks.specs.declared.row.SinkRow.{SinkRow}
+use Rattle.grouped_sinks.specs.declared.runner.Runner.{Runner}
 use Rattle.flume_host.specs.Causes.{Rose}
 use Rattle.flume_host.specs.HostState.{HostState}
 use Rattle.flume_host.specs.Rolled.{Rolled}
@@ -35,10 +37,10 @@ report_fault false text (Ok done) old new is failed = absurd (cc)
 report_fault false text (Err report.Fault) old new is failed = inr is.1
 report_fault false text (Err report.NoMemory) old new is failed = absurd (cc)
 
-module _ {R D A B : Type 0} (rolled : R → Option Rolled) (dial : DialTold A) (told : D → Option Told) (faults : D → ℕ) (plans : List SinkPlan) where
-  pub gone_back : (wishes : List ChannelWish) (settled : Settled (AgentSink R A B) (D × FileState) MemoryChannel) (failed : Bool) (answer : Result (Unit {0}) ReportRefused) (old new : HostTold)
-      → IsGivenBack rolled dial told faults plans wishes settled failed answer old new → GoesBack failed answer old.state new.state
-  gone_back wishes settled failed answer old new is =
+module _ {R D A B G : Type 0} (rolled : R → Option Rolled) (dial : DialTold A) (told : D → Option Told) (faults : D → ℕ) (plans : List SinkPlan) where
+  pub gone_back : (rows : List SinkRow) (wishes : List ChannelWish) (settled : Settled (Runner (AgentSink R A B) G) (D × FileState) MemoryChannel) (failed : Bool)
+      (answer : Result (Unit {0}) ReportRefused) (old new : HostTold) → IsGivenBack rolled dial told faults plans rows wishes settled failed answer old new → GoesBack failed answer old.state new.state
+  gone_back rows wishes settled failed answer old new is =
       let mid = is.behind_disks.state in
       let same : mid.faults ≡ old.state.faults = ap (λ (s : HostState). s.faults) is.disks.state ∙ ap (λ (s : HostState). s.faults) is.dials.state in
       let later = report_later failed _ answer mid new.state is.report in

@@ -13,6 +13,8 @@ use Rattle.crew.specs.declared.draining.DrainWorker.{DrainWorker}
 use Rattle.file_channel.specs.Stands.{FileState}
 use Rattle.flume_config.specs.declared.plan.SinkPlan.{SinkPlan}
 use Rattle.flume_config.specs.declared.plan.SourcePlan.{SourcePlan}
+use Rattle.grouped_sinks.specs.declared.row.SinkRow.{SinkRow}
+use Rattle.grouped_sinks.specs.declared.runner.Runner.{Runner}
 use Rattle.flume_host.specs.HostState.{Folders, HostState}
 use Rattle.flume_host.specs.Listens.{LinksTold}
 use Rattle.flume_host.specs.Rolled.{Rolled}
@@ -67,10 +69,10 @@ settled_same Drained Mended Closed shares workers names s homes homes' e is =
     subst (λ (l : List Known). AreSettled Drained Mended Closed shares l workers names s) e is
 
 -- all was given back, by the same plans and folders
-pub back_same : {R D A B : Type 0} (rolled : R → Option Rolled) (dial : DialTold A) (told : D → Option DiskTold) (faults : D → ℕ) (wishes : List ChannelWish)
-    (settled : Settled (AgentSink R A B) (D × FileState) MemoryChannel) (failed : Bool) (answer : Result (Unit {0}) ReportRefused) (state : HostState) (new : HostTold)
+pub back_same : {R D A B G : Type 0} (rolled : R → Option Rolled) (dial : DialTold A) (told : D → Option DiskTold) (faults : D → ℕ) (rows : List SinkRow) (wishes : List ChannelWish)
+    (settled : Settled (Runner (AgentSink R A B) G) (D × FileState) MemoryChannel) (failed : Bool) (answer : Result (Unit {0}) ReportRefused) (state : HostState) (new : HostTold)
     (plans plans' : List SinkPlan) (folders folders' : Folders) → plans ≡ plans' → folders ≡ folders'
-    → IsGivenBack rolled dial told faults plans wishes settled failed answer (record { state = state; folders = folders }) new
-    → IsGivenBack rolled dial told faults plans' wishes settled failed answer (record { state = state; folders = folders' }) new
-back_same rolled dial told faults wishes settled failed answer state new plans plans' folders folders' e f is =
-    subst (λ (x : List SinkPlan × Folders). IsGivenBack rolled dial told faults x.0 wishes settled failed answer (record { state = state; folders = x.1 }) new) (λ i. (e i, f i)) is
+    → IsGivenBack rolled dial told faults plans rows wishes settled failed answer (record { state = state; folders = folders }) new
+    → IsGivenBack rolled dial told faults plans' rows wishes settled failed answer (record { state = state; folders = folders' }) new
+back_same rolled dial told faults rows wishes settled failed answer state new plans plans' folders folders' e f is =
+    subst (λ (x : List SinkPlan × Folders). IsGivenBack rolled dial told faults x.0 rows wishes settled failed answer (record { state = state; folders = x.1 }) new) (λ i. (e i, f i)) is

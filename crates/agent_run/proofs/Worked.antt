@@ -7,6 +7,7 @@ use Rattle.std.specs.declared.vec.Vec.{Vec}
 use Rattle.channel_face.specs.History.{Opening, Step}
 use Rattle.flume_config.specs.declared.plan.Plan.{Plan}
 use Rattle.flume_host.specs.HostState.{HostState}
+use Rattle.grouped_sinks.specs.declared.row.SinkRow.{SinkRow}
 use Rattle.line_worker.specs.Workers.{talk_of}
 use Rattle.shared_channel.specs.Passes.{Known}
 use Rattle.sink_worker.specs.Rounds.{Told}
@@ -27,7 +28,6 @@ use Rattle.agent_end.specs.declared.ends.ReportRefused.{ReportRefused}
 use Rattle.agent_end.specs.declared.ends.RunEnds.{RunEnds}
 use Rattle.agent_run.specs.Alone.{IsAway}
 use Rattle.agent_run.specs.Causes.{CausesTold}
-use Rattle.agent_run.specs.DialedTold.{DialedTold}
 use Rattle.agent_run.specs.Dialogue.{EndsWell}
 use Rattle.agent_run.specs.Finals.{AreToldInFull, RunsAreTold, finals_of}
 use Rattle.agent_run.specs.Histories.{IsSinkTold}
@@ -37,7 +37,7 @@ use Rattle.agent_run.specs.Runs.{Runs, owners_of}
 use Rattle.agent_run.specs.StagedTold.{StagedTold}
 use Rattle.agent_run.specs.Wholes.{AreBeside, IsSinkWhole, LinesStayTold}
 use Rattle.agent_run.specs.RunDid.{RunDid, Steps, passes_of}
-use Rattle.agent_run.specs.RolledTold.{RolledTold}
+use Rattle.agent_run.specs.MembersTold.{MembersTold}
 use Rattle.agent_run.specs.RunLeft.{RunLeft}
 use Rattle.agent_run.specs.declared.homes.AtHome.{AtHome}
 use Rattle.agent_run.specs.declared.opening.Manned.{Manned}
@@ -71,11 +71,11 @@ module _ {R A B S N I O C K : Type 0} (runs : Runs (EitherPort R A B) S N I O C 
     (in_full : RunsAreTold runs sink Means moments heard (talk_of left read_faults took handed write_faults) disk tells moment memory tells')
     (stay : LinesStayTold runs Means moments (talk_of left read_faults took handed write_faults))
     (well : EndsWell runs sink Means moments heard left read_faults took handed write_faults)
-    (plan : Plan) (Drafted : Prepared K C → Type 0) (Opens : Prepared K C → HostTold → HostTold → Outside S N → Type 0)
+    (plan : Plan) (Drafted : Prepared K C → Type 0) (Opens : List SinkRow → Prepared K C → HostTold → HostTold → Outside S N → Type 0)
     (Given : Manned A B S N I O C K → List N → HostState → HostState → Type 0)
-    (Back : List ChannelWish → Settled S A B → Bool → Result (Unit {0}) ReportRefused → HostTold → HostTold → Type 0)
-    (input : (p : Prepared K C) (a b : HostTold) (out : Outside S N) → Opens p a b out → b.state.input ≡ a.state.input)
-    (output : (p : Prepared K C) (a b : HostTold) (out : Outside S N) → Opens p a b out → b.state.output ≡ a.state.output) where
+    (Back : List SinkRow → List ChannelWish → Settled S A B → Bool → Result (Unit {0}) ReportRefused → HostTold → HostTold → Type 0)
+    (input : (rows : List SinkRow) (p : Prepared K C) (a b : HostTold) (out : Outside S N) → Opens rows p a b out → b.state.input ≡ a.state.input)
+    (output : (rows : List SinkRow) (p : Prepared K C) (a b : HostTold) (out : Outside S N) → Opens rows p a b out → b.state.output ≡ a.state.output) where
   -- its steps, and what a run did
   abbrev pub Made : RunEnds → List ChannelEnd → HostTold → HostTold → Type 0
   Made = Steps runs sink Means moments heard left read_faults took handed write_faults disk tells moment memory tells' plan Drafted Opens Given Back
@@ -85,7 +85,7 @@ module _ {R A B S N I O C K : Type 0} (runs : Runs (EitherPort R A B) S N I O C 
 
   -- Where a run ended well, nothing is staged in the channels that are in folders.
   staged_told : (ends : RunEnds) (channels : List ChannelEnd) (a b : HostTold) (ran : Made ends channels a b)
-      → RunLeft plan ends ran.ran.goes.homes ran.ran.goes.behind.output (finals_of ran.ran.goes.settled) a b
+      → RunLeft plan ran.rows ends ran.ran.goes.homes ran.ran.goes.behind.output (finals_of ran.ran.goes.settled) a b
       → AreTold runs sink Means moments heard (talk_of left read_faults took handed write_faults) ran.ran.goes.manned.crew.shares.items ran.ran.goes.homes ran.ran.goes.manned.crew.jobs ran.ran.goes.joins.returned
       → AreToldInFull sink Means moments heard (talk_of left read_faults took handed write_faults) ran.ran.goes.manned.crew.shares.items ran.ran.goes.homes (finals_of ran.ran.goes.settled)
       ran.ran.goes.manned.crew.jobs ran.ran.goes.joins.returned ran.ran.goes.settled
@@ -122,18 +122,15 @@ module _ {R A B S N I O C K : Type 0} (runs : Runs (EitherPort R A B) S N I O C 
       staged_none sink moments disk tells moment memory tells' shares firsts r.homes r.joined.sinks.items r.manned.settled.report.items r.settled r.settles is.homes.as_many r.named r.took fresh
       (owners_of jobs) is.dealt full.goes_on owned jobs.sinks.items sinks away.0 place final below _ folder.run folder.whole counted
 
-  -- Steps are told of in all whose rolled files and links follow from what the sinks called, whose status has its causes, and whose folders, report and
+  -- Steps are told of in all whose sinks took so much by what the workers called, whose status has its causes, and whose folders, report and
   -- drainings are told of at status 0.
   pub run_did : (ends : RunEnds) (channels : List ChannelEnd) (a b : HostTold) (ran : Made ends channels a b)
       → (AreBeside (IsSinkWhole sink moments ran.ran.goes.manned.crew.shares.items (passes_of channels)) ran.ran.goes.manned.crew.jobs.sinks.items
       ran.ran.goes.settled.ends.items ran.ran.goes.settled.sinks.items
-      → RolledTold plan.sinks.items ran.ran.goes.manned.crew.jobs.sinks.items (passes_of channels) a.folders b.folders)
-      → (AreBeside (IsSinkWhole sink moments ran.ran.goes.manned.crew.shares.items (passes_of channels)) ran.ran.goes.manned.crew.jobs.sinks.items
-      ran.ran.goes.settled.ends.items ran.ran.goes.settled.sinks.items
-      → DialedTold plan.sinks.items ran.ran.goes.manned.crew.jobs.sinks.items (passes_of channels) a.state b.state)
+      → MembersTold plan.sinks.items ran.rows ran.ran.goes.manned.crew.jobs.sinks.items (passes_of channels) a b)
       → CausesTold plan (run_status ends) (passes_of channels) a.state b.state
-      → (run_status ends ≡ 0 → RunLeft plan ends ran.ran.goes.homes ran.ran.goes.behind.output (passes_of channels) a b) → Did ends channels a b
-  run_did ends channels a b ran rolls dials causes after =
+      → (run_status ends ≡ 0 → RunLeft plan ran.rows ends ran.ran.goes.homes ran.ran.goes.behind.output (passes_of channels) a b) → Did ends channels a b
+  run_did ends channels a b ran members causes after =
       let o = ran.ran in
       let r = o.goes in
       let j = r.joins in
@@ -141,19 +138,18 @@ module _ {R A B S N I O C K : Type 0} (runs : Runs (EitherPort R A B) S N I O C 
       let shares = r.manned.crew.shares.items in
       let jobs = r.manned.crew.jobs in
       let state = opened_state ran.made.wishes.items ran.channels a ran.behind ran.opened in
-      let full = in_full plan.sinks.items o.opening r.manned r.homes r.joined j.returned r.settled r.is_manned r.took r.all j.back j.sinks r.home r.named r.settles in
+      let full = in_full ran.rows o.opening r.manned r.homes r.joined j.returned r.settled r.is_manned r.took r.all j.back j.sinks r.home r.named r.settles in
       let whole = subst (λ (l : List Known). AreToldInFull sink Means moments heard talk shares r.homes l jobs j.returned r.settled) (sym r.passes) full in
       let did = well shares r.homes jobs j.returned o.between.state r.begun j.behind_drains j.behind_lines ends r.takes j.back j.drains j.lines
       (r.input ∙ ap (λ (s : StreamsEnded). s.input) j.streams) in
       record {
         steps = ran;
-        labels = subst (AreLabels (users_of plan ran.made.listeners.items ran.made.lines.items) 0 plan.channels.items)
+        labels = subst (AreLabels (users_of plan ran.rows ran.made.listeners.items ran.made.lines.items) 0 plan.channels.items)
             (sym (r.labels ∙ ap (λ (p : Prepared K C). p.labels.items) o.same_made)) ran.is_prepared.labels;
-        input = input ran.made ran.behind o.between o.opening.outside o.opens ∙ ap (λ (s : HostState). s.input) state;
-        output = output ran.made ran.behind o.between o.opening.outside o.opens ∙ ap (λ (s : HostState). s.output) state;
+        input = input ran.rows ran.made ran.behind o.between o.opening.outside o.opens ∙ ap (λ (s : HostState). s.input) state;
+        output = output ran.rows ran.made ran.behind o.between o.opening.outside o.opens ∙ ap (λ (s : HostState). s.output) state;
         full = whole;
-        rolled = rolls whole.sinks;
-        dialed = dials whole.sinks;
+        members = members whole.sinks;
         causes = causes;
         workers = λ zero. (did zero).0;
         served = λ zero. record {
@@ -162,6 +158,6 @@ module _ {R A B S N I O C K : Type 0} (runs : Runs (EitherPort R A B) S N I O C 
               (did zero).1 (passes_of channels) job lines one;
         };
         staged = λ zero. subst (StagedTold plan.channels.items) (sym r.passes)
-            (staged_told ends channels a b ran (subst (λ (l : List Known). RunLeft plan ends r.homes r.behind.output l a b) r.passes (after zero)) (did zero).0 full);
+            (staged_told ends channels a b ran (subst (λ (l : List Known). RunLeft plan ran.rows ends r.homes r.behind.output l a b) r.passes (after zero)) (did zero).0 full);
         left_behind = after;
       }

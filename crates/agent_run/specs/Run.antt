@@ -24,7 +24,7 @@ use Rattle.channel_writing.specs.Touches.{Rests}
 use Rattle.memory_channel.specs.declared.channel.MemoryChannel.{MemoryChannel}
 use Rattle.two_channels.specs.declared.shared.EitherClosed.{EitherClosed}
 use Rattle.two_channels.specs.declared.shared.EitherClosed.TheVariants as closed
-use Rattle.grouped_sinks.specs.Picks.{AreDealt}
+use Rattle.grouped_sinks.specs.Picks.{AreDealt, HaveMembers}
 use Rattle.grouped_sinks.specs.declared.row.SinkRow.{SinkRow}
 use Rattle.grouped_sinks.specs.declared.runner.Runner.{Runner}
 use Rattle.agent_run.specs.Outside.{AreFrom}
@@ -62,13 +62,13 @@ pub record StandInRows {R A B G : Type 0} (dial : DialTold A) (folders : Folders
   pub dealt : AreDealt sinks rows runners
   pub can : CanDial dial folders plans sinks all
 
--- Whatever list the sinks of the rows come back into, each may be given back.
-abbrev pub MayReturn : {R A B G : Type 0} → DialTold A → List SinkPlan → List SinkRow → List (Runner (AgentSink R A B) G) → Option HandedOut → Type 0
-MayReturn {R} {A} {B} dial plans rows runners all =
-    (sinks : List (AgentSink R A B)) → length sinks ≡ length plans → AreDealt sinks rows runners → DialsMayReturn dial plans sinks all
+-- Each row's runner has a sink for each place of the row; whatever list these come back into, each may be given back.
+pub record MayReturn {R A B G : Type 0} (dial : DialTold A) (plans : List SinkPlan) (rows : List SinkRow) (runners : List (Runner (AgentSink R A B) G)) (all : Option HandedOut) : Type 0 where
+  pub members : HaveMembers rows runners
+  pub each : (sinks : List (AgentSink R A B)) → length sinks ≡ length plans → AreDealt sinks rows runners → DialsMayReturn dial plans sinks all
 
--- After a run the sinks came back out of their rows, and their folders and dialers to the host; then the channels' disks did, and then the report
--- was written, unless the output had failed.
+-- After a run the sinks came back out of their rows, and their folders and dialers to the host; then the channels' disks did, and then the
+-- report was written, unless the output had failed.
 pub record IsGivenBack {R D A B G : Type 0} (rolled : R → Option Rolled) (dial : DialTold A) (told : D → Option Told) (faults : D → ℕ) (plans : List SinkPlan)
     (rows : List SinkRow) (wishes : List ChannelWish) (settled : Settled (Runner (AgentSink R A B) G) (D × FileState) MemoryChannel) (failed : Bool)
     (answer : Result (Unit {0}) ReportRefused) (old new : HostTold) : Type 0 where

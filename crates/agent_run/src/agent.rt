@@ -15,8 +15,7 @@ ghost use Rattle.agent_run.specs.Prepared.{IsPlanned, IsPrepared};
 ghost use Rattle.agent_outside.specs.Listening.{IsFresh};
 ghost use Rattle.agent_run.specs.Outside.{HasRunners, IsOutside};
 ghost use Rattle.grouped_sinks.specs.Frames.{IsFrameOf};
-ghost use Rattle.grouped_sinks.specs.Picks.{HaveMembers};
-ghost use Rattle.grouped_sinks.specs.Rows.{AreDistinct, AreRows, IsOrder, Zips, group_places, places_of};
+ghost use Rattle.grouped_sinks.specs.Rows.{AreRows, IsOrder, Zips, places_of};
 ghost use Rattle.agent_run.specs.NotBegun.{IsRefusedOutside, IsRunRefused};
 ghost use Rattle.agent_run.specs.Run.{CanListenAt, IsGivenBack, MayReturn, StandInRows};
 ghost use Rattle.agent_run.specs.Through.{AgentEndsAs, EndsAs, OpenedAndRan};
@@ -190,7 +189,6 @@ fn give_rest<H: Host>(
     requires sinks { AreOpened (H.folders host.old) plans.now (length plans.now) }
     requires order { IsOrder (length plans.now) (places_of rows.now) }
     requires places { length places.items ≡ length plans.now }
-    requires members { HaveMembers rows.now settled.sinks.items }
     requires dials { MayReturn ⟦<AvroSink<H::Dialer> as HasDialer>⟧.dial
         plans.now rows.now settled.sinks.items (H.state host.old).dialers }
     requires of { AreOfWishes (H.folders host.old) wishes.items settled.closed.items }
@@ -252,7 +250,6 @@ fn run_channels<'a, R: Threads + Wait + Sync + 'a, H: Host + 'a, K: Interceptor 
     requires prepared { IsPrepared plan.now rows.now prepared }
     requires planned { IsPlanned plan.now }
     requires rows { AreRows plan.now.sinks.items plan.now.groups.items rows.now }
-    requires apart { AreDistinct (group_places plan.now.groups.items) }
     requires frames { Zips (IsFrameOf plan.now.groups.items) rows.now frames.items }
     requires plain { All (λ sink. IsPlain sink.kind) plan.now.sinks.items }
     requires opened { WereOpened prepared.wishes.items opened.items }
@@ -284,6 +281,7 @@ fn run_channels<'a, R: Threads + Wait + Sync + 'a, H: Host + 'a, K: Interceptor 
         Ok(outside) => {
             sinks_name_what_is_there();
             groups_name_what_is_there();
+            sinks_stand_once();
             numbers_are_limited();
             rows_are_apart();
             let groups = plan.groups.as_slice();

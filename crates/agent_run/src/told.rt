@@ -12,17 +12,19 @@ use crate::through::{RunOf, RunnerOf, Runs, SinkOf, Steps};
 use avro_requests::requests_are_on_links;
 use file_channel::FileChannel;
 use flume_host::{Dialer, Host};
-use grouped_sinks::runners_split;
+use grouped_sinks::{rows_are_apart, runners_split};
 use memory_channel::MemoryChannel;
 use netcat_source::one_cut;
+use plan_laws::{groups_name_what_is_there, sinks_stand_once};
 use plug_in::Interceptor;
 use roll_sink::delivered_batches_are_in_files;
 use std::sync::Wait;
 use std::thread::Threads;
 
-/// What the steps of a run come to: in all calls of its channels those of each worker are told of, the folders of rolled files hold what
-/// the calls of their sinks commit, the links of Avro sinks took the requests of what these commit, and the status has its causes. At status 0 it is told what the channels' folders hold, what the report
-/// says, which sinks emptied their channels, and what was said on standard input and output.
+/// What the steps of a run come to: in all calls of its channels those of each worker are told of, each batch that the calls of a row of
+/// sinks commit was taken by one of these, the folders of rolled files and the links of Avro sinks have what their sinks took, and the
+/// status has its causes. At status 0 it is told what the channels' folders hold, what the report says, which rows emptied their
+/// channels, and what was said on standard input and output.
 pub fn steps_are_told<
     'a,
     R: Threads + Wait + Sync + 'a,
@@ -69,6 +71,9 @@ pub fn steps_are_told<
         H::Clock,
         K,
     >();
+    groups_name_what_is_there();
+    sinks_stand_once();
+    rows_are_apart();
     runners_split::<SinkOf<H>, H::Random>();
     delivered_batches_are_in_files();
     requests_are_on_links::<H::Dialer, <<H as Host>::Dialer as Dialer>::Link>();
