@@ -1,22 +1,44 @@
-use Rattle.std.proofs.Common.{rules, ◌≡◌, ◌∙◌, ◌<◌, inl, inr, ℕ, List, None, Some, length, refl, sym, ap, subst}
+use Rattle.std.proofs.Common.{◌≡◌, ◌∙◌, ◌<◌, inl, inr, ℕ, List, All, length, refl, sym, ap, subst}
 use Rattle.agent_channels.specs.Openings.{HostTold}
 use Rattle.agent_channels.specs.Several.{AreOpened}
 use Rattle.agent_channels.specs.declared.wish.ChannelWish.{ChannelWish}
-use Rattle.plan_support.specs.Least.{unsupported}
 use Rattle.agent_words.specs.Statuses.{status_of}
 use Rattle.agent_words.specs.declared.error.RunError.{RunError}
-use Rattle.agent_run.proofs.Readying.{few_users, were_opened}
-use Rattle.agent_run.proofs.Refusing.{answers_supported, channel_refused, if_err, outside_refused, refused_there}
+use Rattle.flume_config.specs.declared.plan.GroupPlan.{GroupPlan}
+use Rattle.grouped_sinks.specs.Frames.{IsFit, IsFrameOf}
+use Rattle.grouped_sinks.specs.Rows.{AreRows, Zips}
+use Rattle.grouped_sinks.specs.declared.row.SinkRow.{SinkRow}
+use Rattle.grouped_sinks.proofs.Limits.{rows_fit}
+use Rattle.agent_run.proofs.Readying.{few_users, groups_there, groups_weighed, were_opened}
+use Rattle.agent_run.proofs.Refusing.{channel_refused, if_err, outside_refused, refused_there}
 use Rattle.agent_run.specs.NotBegun.{IsRefusedOutside, IsRunRefused}
 use Rattle.agent_run.proofs.Answering.{if_ok}
 use Rattle.agent_run.specs.Prepared.{uses_of}
 use Rattle.agent_run.proofs.agent.run_plan.Goals as goal
 
+pub rows_of-rows-requires : goal.rows_of-rows-requires
+rows_of-rows-requires g c = groups_there c.groups_name_what_is_there.ensures c.args.plan.now c.requires.planned
+
+pub frames_of-frames-requires : goal.frames_of-frames-requires
+frames_of-frames-requires g c κs within =
+    let plan = c.args.plan.now in
+    let fit = rows_fit plan.sinks.items plan.groups.items c.in_ok-rows.rows.items (groups_weighed c.groups_name_what_is_there.ensures plan c.requires.planned) c.in_ok-rows.ensures in
+    subst (λ (x : List GroupPlan × List SinkRow). All (IsFit x.0) x.1) (λ i. (sym c.as_slice.ensures.value i, sym c.as_slice-rows.ensures.value i)) fit
+
 pub open_channels-requires-clause-users : goal.open_channels-requires-clause-users
 open_channels-requires-clause-users g c κs within =
     let plan = c.args.plan.now in
     let p = c.in_ok-prepared.prepared in
-    few_users (uses_of plan.sinks.items p.listeners.items p.lines.items) plan.channels.items p.wishes.items c.as_slice.result.now c.as_slice.ensures.value c.in_ok-prepared.ensures.prepared.wishes
+    few_users (uses_of c.as_slice-rows.result.now p.listeners.items p.lines.items) plan.channels.items p.wishes.items c.as_slice-2.result.now c.as_slice-2.ensures.value c.in_ok-prepared.ensures.prepared.wishes
+
+pub run_channels-requires-clause-rows : goal.run_channels-requires-clause-rows
+run_channels-requires-clause-rows g c κs within =
+    let plan = c.args.plan.now in
+    subst (λ (l : List SinkRow). AreRows plan.sinks.items plan.groups.items l) (sym c.as_slice-rows.ensures.value) c.in_ok-rows.ensures
+
+pub run_channels-requires-clause-frames : goal.run_channels-requires-clause-frames
+run_channels-requires-clause-frames g c κs within =
+    subst (λ (l : List GroupPlan). Zips (IsFrameOf l) c.as_slice-rows.result.now c.in_ok-frames.frames.items) c.as_slice.ensures.value c.in_ok-frames.ensures.frames
 
 pub run_channels-requires-clause-plain : goal.run_channels-requires-clause-plain
 run_channels-requires-clause-plain g c κs within =
@@ -24,67 +46,58 @@ run_channels-requires-clause-plain g c κs within =
 
 pub run_channels-requires-clause-opened : goal.run_channels-requires-clause-opened
 run_channels-requires-clause-opened g c κs within =
-    were_opened c.in_ok-prepared.prepared.wishes.items c.as_slice.result.now c.in-Ok.opened.items _ _ c.as_slice.ensures.value c.in-Ok.ensures.opened
+    were_opened c.in_ok-prepared.prepared.wishes.items c.as_slice-2.result.now c.in-Ok.opened.items _ _ c.as_slice-2.ensures.value c.in-Ok.ensures.opened
 
 pub index-requires : goal.index-requires
 index-requires g c =
     let plans = c.args.plan.now.channels in
     subst (λ (n : ℕ). c.in-Err.field-0.place < n) (sym plans.ok.0)
-    (refused_there c.as_slice.result.now _ _ c.in-Err.field-0.place (length plans.items) c.in-Err.field-0.cause c.in-Err.ensures.refused
-    (ap length c.as_slice.ensures.value ∙ c.in_ok-prepared.ensures.prepared.wishes.many))
+    (refused_there c.as_slice-2.result.now _ _ c.in-Err.field-0.place (length plans.items) c.in-Err.field-0.cause c.in-Err.ensures.refused
+    (ap length c.as_slice-2.ensures.value ∙ c.in_ok-prepared.ensures.prepared.wishes.many))
 
 pub returns-in-Ok-clause-refused : goal.returns-in-Ok-clause-refused
 returns-in-Ok-clause-refused g c =
     let plan = c.args.plan.now in
     let p = c.in_ok-prepared.prepared in
-    let none : unsupported plan ≡ None = search rules in
     let old : HostTold = record { state = g.H.Host.state c.args.host.now; folders = g.H.Host.folders c.args.host.now } in
     let open_then : HostTold = record { state = g.H.Host.state c.open_channels.new.host; folders = g.H.Host.folders c.open_channels.new.host } in
     let new : HostTold = record { state = g.H.Host.state c.run_channels.new.host; folders = g.H.Host.folders c.run_channels.new.host } in
+    let state = c.in_ok-prepared.ensures.same ∙ c.frames_of.ensures.state in
+    let folders = c.prepare.ensures.folders ∙ c.frames_of.ensures.folders in
     let opened : AreOpened p.wishes.items c.in-Ok.opened.items old open_then = subst (λ (x : List ChannelWish × HostTold). AreOpened x.0 c.in-Ok.opened.items x.1 open_then)
-    (λ i. (c.as_slice.ensures.value i, record { state = c.in_ok-prepared.ensures.same i; folders = c.prepare.ensures.folders i }))
+    (λ i. (c.as_slice-2.ensures.value i, record { state = state i; folders = folders i }))
     c.in-Ok.ensures.opened in
     if_err c.run_channels.result (λ (error : RunError). IsRefusedOutside plan p.places.items p.wishes.items c.in-Ok.opened.items error open_then new) (λ (error : RunError). IsRunRefused plan (status_of error) old new)
-    (λ error refused. inr (
-      none,
-      inr (inr (outside_refused plan p.places.items p.wishes.items c.in-Ok.opened.items error old open_then new (_, c.in_ok-prepared.ensures.prepared.wishes) c.in_ok-prepared.ensures.prepared.places opened refused)),
-    ))
+    (λ error refused. inr (inr (outside_refused plan p.places.items p.wishes.items c.in-Ok.opened.items error old open_then new (_, c.in_ok-prepared.ensures.prepared.wishes) c.in_ok-prepared.ensures.prepared.places opened refused)))
     c.run_channels.ensures.refused
-
-pub returns-in-Ok-clause-supported : goal.returns-in-Ok-clause-supported
-returns-in-Ok-clause-supported g c =
-    let none : unsupported c.args.plan.now ≡ None = search rules in
-    answers_supported c.args.plan.now c.run_channels.result none
 
 pub returns-in-Err-clause-refused : goal.returns-in-Err-clause-refused
 returns-in-Err-clause-refused g c =
     let plan = c.args.plan.now in
     let p = c.in_ok-prepared.prepared in
-    let none : unsupported plan ≡ None = search rules in
-    inr (
-      none,
-      inr (inl (channel_refused plan _ p.wishes.items c.as_slice.result.now _ _ _ c.in-Err.field-0.place c.in-Err.field-0.cause c.cause_error.result (_, c.in_ok-prepared.ensures.prepared.wishes) c.as_slice.ensures.value
-          (λ i. record { state = c.in_ok-prepared.ensures.same i; folders = c.prepare.ensures.folders i }) c.in-Err.ensures.refused c.cause_error.ensures)),
-    )
+    let state = c.in_ok-prepared.ensures.same ∙ c.frames_of.ensures.state in
+    let folders = c.prepare.ensures.folders ∙ c.frames_of.ensures.folders in
+    inr (inl (channel_refused plan _ p.wishes.items c.as_slice-2.result.now _ _ _ c.in-Err.field-0.place c.in-Err.field-0.cause c.cause_error.result (_, c.in_ok-prepared.ensures.prepared.wishes) c.as_slice-2.ensures.value
+        (λ i. record { state = state i; folders = folders i }) c.in-Err.ensures.refused c.cause_error.ensures))
 
 pub returns-in-Ok-clause-ran : goal.returns-in-Ok-clause-ran
 returns-in-Ok-clause-ran g c =
+    let plan = c.args.plan.now in
     let told : HostTold = record { state = g.H.Host.state c.open_channels.new.host; folders = g.H.Host.folders c.open_channels.new.host } in
+    let state = c.in_ok-prepared.ensures.same ∙ c.frames_of.ensures.state in
+    let folders = c.prepare.ensures.folders ∙ c.frames_of.ensures.folders in
     if_ok c.run_channels.result _ _
     (λ ends ran. record {
+      rows = c.as_slice-rows.result.now;
+      are_rows = subst (λ (l : List SinkRow). AreRows plan.sinks.items plan.groups.items l) (sym c.as_slice-rows.ensures.value) c.in_ok-rows.ensures;
       made = c.in_ok-prepared.prepared;
       is_prepared = c.in_ok-prepared.ensures.prepared;
       drafted = c.in_ok-prepared.ensures.drafted;
       channels = c.in-Ok.opened.items;
       behind = told;
       opened = subst (λ (x : List ChannelWish × HostTold). AreOpened x.0 c.in-Ok.opened.items x.1 told)
-          (λ i. (c.as_slice.ensures.value i, record { state = c.in_ok-prepared.ensures.same i; folders = c.prepare.ensures.folders i }))
+          (λ i. (c.as_slice-2.ensures.value i, record { state = state i; folders = folders i }))
           c.in-Ok.ensures.opened;
       ran = ran;
     })
     c.run_channels.ensures.ran
-
-pub returns-in-Some-clause-refused : goal.returns-in-Some-clause-refused
-returns-in-Some-clause-refused g c =
-    let first : unsupported c.args.plan.now ≡ Some c.in-Some.line = search rules in
-    inl (record { line = c.in-Some.line; first = first; is = refl; same = refl })
