@@ -55,8 +55,8 @@ fn clocks_of<H: Host>(alloc: Global, host: &mut H, many: usize) -> Result<Vec<H:
     Ok(clocks)
 }
 
-/// Makes all that a run of this plan, with these rows of sinks, needs before anything is opened. The host is asked for its names where interceptors are told
-/// them.
+/// Makes all that a run of this plan, with these rows of sinks, needs before anything is opened. The host is asked for its names where
+/// interceptors are told them.
 pub(crate) fn prepare<H: Host, K: Drop>(
     alloc: Global,
     host: &mut H,

@@ -5,6 +5,7 @@ use Rattle.agent_channels.specs.declared.wish.ChannelWish.{ChannelWish}
 use Rattle.agent_words.specs.Statuses.{status_of}
 use Rattle.agent_words.specs.declared.error.RunError.{RunError}
 use Rattle.flume_config.specs.declared.plan.GroupPlan.{GroupPlan}
+use Rattle.flume_host.specs.HostState.{HostState}
 use Rattle.grouped_sinks.specs.Frames.{IsFit, IsFrameOf}
 use Rattle.grouped_sinks.specs.Rows.{AreRows, Zips}
 use Rattle.grouped_sinks.specs.declared.row.SinkRow.{SinkRow}
@@ -13,7 +14,7 @@ use Rattle.agent_run.proofs.Readying.{few_users, groups_there, groups_weighed, w
 use Rattle.agent_run.proofs.Refusing.{channel_refused, if_err, outside_refused, refused_there}
 use Rattle.agent_run.specs.NotBegun.{IsRefusedOutside, IsRunRefused}
 use Rattle.agent_run.proofs.Answering.{if_ok}
-use Rattle.agent_run.specs.Prepared.{uses_of}
+use Rattle.agent_run.specs.Prepared.{IsDrafted, uses_of}
 use Rattle.agent_run.proofs.agent.run_plan.Goals as goal
 
 pub rows_of-rows-requires : goal.rows_of-rows-requires
@@ -92,7 +93,7 @@ returns-in-Ok-clause-ran g c =
       are_rows = subst (λ (l : List SinkRow). AreRows plan.sinks.items plan.groups.items l) (sym c.as_slice-rows.ensures.value) c.in_ok-rows.ensures;
       made = c.in_ok-prepared.prepared;
       is_prepared = c.in_ok-prepared.ensures.prepared;
-      drafted = c.in_ok-prepared.ensures.drafted;
+      drafted = subst (λ (s : HostState). IsDrafted s.name s.address plan c.in_ok-prepared.prepared) c.frames_of.ensures.state c.in_ok-prepared.ensures.drafted;
       channels = c.in-Ok.opened.items;
       behind = told;
       opened = subst (λ (x : List ChannelWish × HostTold). AreOpened x.0 c.in-Ok.opened.items x.1 told)
