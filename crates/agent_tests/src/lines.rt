@@ -206,17 +206,6 @@ writes
 file log 1 = none
 rolled
 
-A group of sinks is not run yet. It is refused with the line of its first sink.
-use WORKED
-swap a1.sinks.k1.type = file_roll => a1.sinkgroups = g\na1.sinkgroups.g.sinks = k1\na1.sinks.k1.type = file_roll
-input a\n
-run agent -n a1 --conf-file x.conf
-status 2
-said flume: line 15: unsupported
-writes
-file log 1 = none
-rolled
-
 A sink that nobody handed in.
 use WORKED
 swap k1.type = file_roll => k1.type = plugin.none
