@@ -1,5 +1,5 @@
 -- What the Avro sinks of a run asked on the links of their dialers.
-use Rattle.std.proofs.Common.{◌≡◌, ◌∙◌, ◌⊎◌, inl, inr, ◌<◌, ◌+◌, ℕ, suc, List, [], ◌∷◌, ◌++◌, length, map, take, Option, Some, None, Result, Ok, Err, get_or, slice_get, reverse, refl, sym, ap, subst, arith, string_bytes}
+use Rattle.std.proofs.Common.{◌≡◌, ◌∙◌, ◌⊎◌, inl, inr, ◌<◌, ◌+◌, ℕ, suc, List, [], ◌∷◌, ◌++◌, length, map, take, Option, Some, None, Result, Ok, Err, get_or, slice_get, reverse, refl, sym, ap, subst, arith, string_bytes, zero-add}
 use Rattle.std.specs.List.{AllByRecursion}
 use Rattle.channel_face.specs.Faces.{Own}
 use Rattle.channel_face.specs.History.{opening}
@@ -221,11 +221,14 @@ module _ {R P Q D L : Type 0} (dial : DialTold P) (links_of : P → SinkLinks D 
         backs_told place (p ∷ plans) [] bs many many' old new of has = absurd (omega (arith, many))
         backs_told place (p ∷ plans) (s ∷ ss) [] many many' old new of has = absurd (omega (arith, many'))
         backs_told place (p ∷ plans) (s ∷ ss) (b ∷ bs) many many' old new of has =
+            let was = subst (λ (n : ℕ). slice_get sinks n ≡ Some s) (zero-add place) (old 0 s refl) in
+            let back = subst (λ (n : ℕ). slice_get backs n ≡ Some b) (zero-add place) (new 0 b refl) in
+            let next : (k : ℕ) → suc k + place ≡ k + suc place = λ k. omega arith in
             one_back p.kind place s b (dials_back dial plans bs) (AreDialsBack (AskedAt rows jobs shared.taken finals) (suc place) plans)
-            (slice_get_within sinks place s (old 0 s refl)) (old 0 s refl) (new 0 b refl) of.0 has.0
+            (slice_get_within sinks place s was) was back of.0 has.0
             (backs_told (suc place) plans ss bs (omega (arith, many)) (omega (arith, many'))
-            (λ k s is. subst (λ (n : ℕ). slice_get sinks n ≡ Some s) (omega arith) (old (suc k) s is))
-            (λ k b is. subst (λ (n : ℕ). slice_get backs n ≡ Some b) (omega arith) (new (suc k) b is)) of.1 has.1)
+            (λ k s is. subst (λ (n : ℕ). slice_get sinks n ≡ Some s) (next k) (old (suc k) s is))
+            (λ k b is. subst (λ (n : ℕ). slice_get backs n ≡ Some b) (next k) (new (suc k) b is)) of.1 has.1)
 
       -- ---- the whole
 
@@ -242,6 +245,7 @@ module _ {R P Q D L : Type 0} (dial : DialTold P) (links_of : P → SinkLinks D 
           let ends' = dials_of (take (length sinks) plans) in
           let gone = dials_ends dial f plans backs (kinds_stay dial f plans sinks backs stay are) in
           let as_many : length backs ≡ length sinks = same_many dial sinks backs stay in
+          let at : (k : ℕ) → k ≡ k + 0 = λ k. omega arith in
           let ended : ends_of (dials_back dial plans backs) ≡ ends' = gone ∙ ap (λ (n : ℕ). dials_of (take n plans)) as_many in
           subst (λ (o : Option HandedOut). Tells o u.dialers (DialsTold plans rows jobs shared.taken finals)) (sym same)
           (follows s.dialers t.dialers u.dialers (AllOut ends') (AllBack (dials_back dial plans backs)) (DialsTold plans rows jobs shared.taken finals)
@@ -250,5 +254,5 @@ module _ {R P Q D L : Type 0} (dial : DialTold P) (links_of : P → SinkLinks D 
             backs = dials_back dial plans backs;
             back = q.back ∙ ap (λ (l : List CameBack). l ++ reverse (dials_back dial plans backs)) p.back;
             each = backs_told sink moments split shares finals rows jobs runners shared sinks backs dealt came many_jobs order s.dialers x is f 0 plans sinks backs (sym many) as_many
-                (λ k s is. subst (λ (n : ℕ). slice_get sinks n ≡ Some s) (omega arith) is) (λ k b is. subst (λ (n : ℕ). slice_get backs n ≡ Some b) (omega arith) is) are opened.made;
+                (λ k s is. subst (λ (n : ℕ). slice_get sinks n ≡ Some s) (at k) is) (λ k b is. subst (λ (n : ℕ). slice_get backs n ≡ Some b) (at k) is) are opened.made;
           }) opened.out.told (subst (λ (o : Option HandedOut). Tells o u.dialers (AllBack (dials_back dial plans backs))) between back))

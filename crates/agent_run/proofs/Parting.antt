@@ -71,7 +71,7 @@ picked_at sinks (p ∷ places) [] z i place is = absurd z
 picked_at {S} sinks (p ∷ places) (m ∷ members) z zero place is = let same : p ≡ place = cc in (m, subst (λ (n : ℕ). slice_get sinks n ≡ Some m) same z.0, refl)
 picked_at sinks (p ∷ places) (m ∷ members) z (suc i) place is = picked_at sinks places members z.1 i place is
 
-pub in_row : {S N : Type 0} (sinks : List S) (rows : List SinkRow) (runners : List (Runner S N)) → AreDealt sinks rows runners → (at : ℕ) (row : SinkRow) (runner : Runner S N) → at < length rows
+in_row : {S N : Type 0} (sinks : List S) (rows : List SinkRow) (runners : List (Runner S N)) → AreDealt sinks rows runners → (at : ℕ) (row : SinkRow) (runner : Runner S N) → at < length rows
     → (i place : ℕ) → slice_get (get_or rows at row).places.items i ≡ Some place → InRow sinks (get_or runners at runner) i place
 in_row sinks [] runners z at row runner below i place is = absurd (omega (arith, below))
 in_row sinks (r ∷ rows) [] z at row runner below i place is = absurd z
