@@ -97,8 +97,8 @@ ok_same (Err NoMemory) batch = refl
 taken_behind : (own : List Own) (batch : List Content) → WasTakenBehind [] own batch → WasTaken own batch
 taken_behind own batch is = is
 
-avro_same : {R P Q : Type 0} (x y : P) → Avro {R} {P} {Q} x ≡ Avro y → x ≡ y
-avro_same x y is = cc
+avro_same : {R P Q : Type 0} (x y : P) (b : AgentSink R P Q) → b ≡ Avro x → b ≡ Avro y → x ≡ y
+avro_same x y b first last = cc
 
 module _ {R P Q D L : Type 0} (dial : DialTold P) (links_of : P → SinkLinks D L) (links : D → Option LinksTold) (troubles : D → ℕ) (told : L → Option LinkTold) (faults : L → ℕ)
     (one : AgentSink R P Q → List Content → ℕ → Result (Unit {0}) SinkRefused → AgentSink R P Q → Type 0) where
@@ -191,7 +191,7 @@ module _ {R P Q D L : Type 0} (dial : DialTold P) (links_of : P → SinkLinks D 
         one_back (plan.Avro host port) place (Roll s) b rest Rest low was back of has then = absurd of
         one_back (plan.Avro host port) place (Boxed s) b rest Rest low was back of has then = absurd of
         one_back (plan.Avro host port) place (Avro s) b rest Rest low was back of has then =
-            let end = record { host = string_bytes host; port = port } in
+            let end : Endpoint = record { host = string_bytes host; port = port } in
             let found = find_row rows place (order.all place low) in
             let job = first_of jobs found.at (let l = found.below in omega (arith, l, as_many)) in
             let t = told_at end place s b was back has found.at found.i found.row job [] found.below found.here in (
@@ -205,7 +205,7 @@ module _ {R P Q D L : Type 0} (dial : DialTold P) (links_of : P → SinkLinks D 
                 told = t.is;
                 requests = λ at i row worker took below here.
                     let u = told_at end place s b was back has at i row worker took below here in
-                    let same : u.t ≡ t.t = avro_same u.t t.t (sym u.same ∙ t.same) in
+                    let same : u.t ≡ t.t = avro_same u.t t.t b u.same t.same in
                     subst (λ (l : LinksTold). RequestsTold (calls_of finals (get_or jobs at worker)) (taken_at i (get_or shared.taken at took)) l)
                     (some_same u.all t.all (sym u.is ∙ ap dial.links same ∙ t.is)) u.requests;
               },

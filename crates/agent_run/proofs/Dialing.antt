@@ -38,7 +38,7 @@ use Rattle.run_tracks.specs.Closes.{IsClosed}
 use Rattle.run_tracks.specs.Homes.{EachTook}
 use Rattle.run_tracks.specs.Stops.{IsMended}
 use Rattle.run_tracks.specs.Places.{Zips}
-use Rattle.agent_run.specs.Run.{CanDial, MayReturn, StandInRows}
+use Rattle.agent_run.specs.Run.{CanDial, DialsMayReturn, MayReturn, StandInRows}
 use Rattle.agent_run.specs.Staff.{IsSinkOf}
 use Rattle.grouped_sinks.specs.Picks.{AreDealt}
 use Rattle.grouped_sinks.specs.Rows.{IsOrder, places_of}

@@ -46,7 +46,7 @@ use Rattle.agent_run.proofs.Course.{there}
 use Rattle.agent_run.proofs.Ended.{Plain, ends_plain}
 use Rattle.agent_run.proofs.Left.{at_rest, closed_at, closed_long, finals_are, left_below}
 use Rattle.agent_run.proofs.Owners.{sink_owners}
-use Rattle.agent_run.proofs.Rolling.{whole_tidied}
+use Rattle.agent_run.proofs.Growing.{whole_tidied}
 use Rattle.agent_run.proofs.Silence.{drains_silent, silent_own}
 use Rattle.agent_run.proofs.Staged.{EachEnds, EndsOf, nothing_staged, ticket_of, track_in}
 use Rattle.agent_run.proofs.Tidying.{EndsAt, whole_tidy}

@@ -6,7 +6,7 @@ use Rattle.grouped_sinks.specs.Rows.{AreBelow, places_of}
 use Rattle.agent_run.proofs.outside.group_outside.Goals as goal
 
 pub group_sinks-requires-clause-within : goal.group_sinks-requires-clause-within
-group_sinks-requires-clause-within g c κs within =
+group_sinks-requires-clause-within g c =
     subst (λ (n : ℕ). AreBelow n (places_of c.args.rows.now)) (ap length (sym c.as_mut_slice.ensures.value)) c.requires.within
 
 pub returns : goal.returns
