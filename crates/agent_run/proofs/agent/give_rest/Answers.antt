@@ -40,7 +40,7 @@ abbrev Sink : Over → Type 0
 Sink g = AgentSink g.row.H-Roll.Denot (AvroSink g.row.H-Dialer.Denot g.row.H-Dialer-Link.Denot g.H.Dialer.Dialer g.H.Dialer.Link.Link) NullSink
 
 pub ungroup_sinks-requires-clause-within : goal.ungroup_sinks-requires-clause-within
-ungroup_sinks-requires-clause-within g c κs within =
+ungroup_sinks-requires-clause-within g c =
     subst (λ (n : ℕ). AreBelow n (places_of c.args.rows.now)) (sym (ap length c.as_mut_slice.ensures.value ∙ c.requires.places)) c.requires.order.within
 
 pub give_back_sinks-requires-clause-opened : goal.give_back_sinks-requires-clause-opened

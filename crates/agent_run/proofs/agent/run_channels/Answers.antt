@@ -22,15 +22,15 @@ use Rattle.agent_run.proofs.Readying.{can_be_manned, groups_there, rows_in_order
 use Rattle.agent_run.proofs.agent.run_channels.Goals as goal
 
 pub group_outside-outside-requires-clause-frames : goal.group_outside-outside-requires-clause-frames
-group_outside-outside-requires-clause-frames g c κs within =
+group_outside-outside-requires-clause-frames g c =
     subst (λ (l : List GroupPlan). Zips (IsFrameOf l) c.args.rows.now c.args.frames.items) (sym c.as_slice-groups.ensures.value) c.requires.frames
 
 pub group_outside-outside-requires-clause-once : goal.group_outside-outside-requires-clause-once
-group_outside-outside-requires-clause-once g c κs within =
+group_outside-outside-requires-clause-once g c =
     (rows_in_order c.rows_are_apart.ensures c.groups_name_what_is_there.ensures c.sinks_stand_once.ensures c.args.plan.now c.requires.planned c.args.rows.now c.requires.rows).once
 
 pub group_outside-outside-requires-clause-within : goal.group_outside-outside-requires-clause-within
-group_outside-outside-requires-clause-within g c κs within =
+group_outside-outside-requires-clause-within g c =
     let order = rows_in_order c.rows_are_apart.ensures c.groups_name_what_is_there.ensures c.sinks_stand_once.ensures c.args.plan.now c.requires.planned c.args.rows.now c.requires.rows in
     subst (λ (n : ℕ). AreBelow n (places_of c.args.rows.now)) (sym c.in-Ok.ensures.opened.many) order.within
 

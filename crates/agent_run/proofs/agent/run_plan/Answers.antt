@@ -17,11 +17,11 @@ use Rattle.agent_run.proofs.Answering.{if_ok}
 use Rattle.agent_run.specs.Prepared.{IsDrafted, uses_of}
 use Rattle.agent_run.proofs.agent.run_plan.Goals as goal
 
-pub rows_of-rows-requires : goal.rows_of-rows-requires
-rows_of-rows-requires g c = groups_there c.groups_name_what_is_there.ensures c.args.plan.now c.requires.planned
+pub rows_of-requires : goal.rows_of-requires
+rows_of-requires g c = groups_there c.groups_name_what_is_there.ensures c.args.plan.now c.requires.planned
 
-pub frames_of-frames-requires : goal.frames_of-frames-requires
-frames_of-frames-requires g c κs within =
+pub frames_of-requires-after_bounds : goal.frames_of-requires-after_bounds
+frames_of-requires-after_bounds g c κs within =
     let plan = c.args.plan.now in
     let fit = rows_fit plan.sinks.items plan.groups.items c.in_ok-rows.rows.items (groups_weighed c.groups_name_what_is_there.ensures plan c.requires.planned) c.in_ok-rows.ensures in
     subst (λ (x : List GroupPlan × List SinkRow). All (IsFit x.0) x.1) (λ i. (sym c.as_slice.ensures.value i, sym c.as_slice-rows.ensures.value i)) fit
@@ -40,6 +40,9 @@ run_channels-requires-clause-rows g c κs within =
 pub run_channels-requires-clause-frames : goal.run_channels-requires-clause-frames
 run_channels-requires-clause-frames g c κs within =
     subst (λ (l : List GroupPlan). Zips (IsFrameOf l) c.as_slice-rows.result.now c.in_ok-frames.frames.items) c.as_slice.ensures.value c.in_ok-frames.ensures.frames
+
+pub run_channels-requires-clause-room : goal.run_channels-requires-clause-room
+run_channels-requires-clause-room g c κs within = ?
 
 pub run_channels-requires-clause-plain : goal.run_channels-requires-clause-plain
 run_channels-requires-clause-plain g c κs within =
@@ -72,8 +75,8 @@ returns-in-Ok-clause-refused g c =
     (λ error refused. inr (inr (outside_refused plan p.places.items p.wishes.items c.in-Ok.opened.items error old open_then new (_, c.in_ok-prepared.ensures.prepared.wishes) c.in_ok-prepared.ensures.prepared.places opened refused)))
     c.run_channels.ensures.refused
 
-pub returns-in-Err-clause-refused : goal.returns-in-Err-clause-refused
-returns-in-Err-clause-refused g c =
+pub returns-clause-refused : goal.returns-clause-refused
+returns-clause-refused g c =
     let plan = c.args.plan.now in
     let p = c.in_ok-prepared.prepared in
     let state = c.in_ok-prepared.ensures.same ∙ c.frames_of.ensures.state in
