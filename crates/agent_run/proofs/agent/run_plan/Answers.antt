@@ -1,4 +1,4 @@
-use Rattle.std.proofs.Common.{◌≡◌, ◌∙◌, ◌<◌, inl, inr, ℕ, List, All, length, refl, sym, ap, subst}
+use Rattle.std.proofs.Common.{rules, ◌≡◌, ◌∙◌, ◌<◌, inl, inr, ℕ, List, All, length, refl, sym, ap, subst, arith}
 use Rattle.agent_channels.specs.Openings.{HostTold}
 use Rattle.agent_channels.specs.Several.{AreOpened}
 use Rattle.agent_channels.specs.declared.wish.ChannelWish.{ChannelWish}
@@ -12,13 +12,14 @@ use Rattle.grouped_sinks.specs.declared.row.SinkRow.{SinkRow}
 use Rattle.grouped_sinks.proofs.Limits.{rows_fit}
 use Rattle.agent_run.proofs.Readying.{few_users, groups_there, groups_weighed, were_opened}
 use Rattle.agent_run.proofs.Refusing.{channel_refused, if_err, outside_refused, refused_there}
+use Rattle.agent_run.specs.Lists.{HasRoomFor}
 use Rattle.agent_run.specs.NotBegun.{IsRefusedOutside, IsRunRefused}
 use Rattle.agent_run.proofs.Answering.{if_ok}
 use Rattle.agent_run.specs.Prepared.{IsDrafted, uses_of}
 use Rattle.agent_run.proofs.agent.run_plan.Goals as goal
 
 pub rows_of-requires : goal.rows_of-requires
-rows_of-requires g c = groups_there c.groups_name_what_is_there.ensures c.args.plan.now c.requires.planned
+rows_of-requires g c = record { there = groups_there c.groups_name_what_is_there.ensures c.args.plan.now c.requires.planned }
 
 pub frames_of-requires-after_bounds : goal.frames_of-requires-after_bounds
 frames_of-requires-after_bounds g c κs within =
@@ -42,7 +43,11 @@ run_channels-requires-clause-frames g c κs within =
     subst (λ (l : List GroupPlan). Zips (IsFrameOf l) c.as_slice-rows.result.now c.in_ok-frames.frames.items) c.as_slice.ensures.value c.in_ok-frames.ensures.frames
 
 pub run_channels-requires-clause-room : goal.run_channels-requires-clause-room
-run_channels-requires-clause-room g c κs within = ?
+run_channels-requires-clause-room g c κs within =
+    let p = c.in_ok-prepared.prepared in
+    let listeners : c.len-listeners.result ≡ length p.listeners.items = let e = c.len-listeners.ensures in first_of (omega arith, search (rules, arith)) in
+    let lines : c.len.result ≡ length p.lines.items = let e = c.len.ensures in first_of (omega arith, search (rules, arith)) in
+    subst (λ (x : ℕ × ℕ). HasRoomFor c.args.plan.now (length c.as_slice-rows.result.now) x.0 x.1 c.in_ok-room.room) (λ i. (listeners i, lines i)) c.in_ok-room.ensures
 
 pub run_channels-requires-clause-plain : goal.run_channels-requires-clause-plain
 run_channels-requires-clause-plain g c κs within =
