@@ -87,7 +87,7 @@ returns-clause-refused g c =
     let state = c.in_ok-prepared.ensures.same ∙ c.frames_of.ensures.state in
     let folders = c.prepare.ensures.folders ∙ c.frames_of.ensures.folders in
     inr (inl (channel_refused plan _ p.wishes.items c.as_slice-2.result.now _ _ _ c.in-Err.field-0.place c.in-Err.field-0.cause c.cause_error.result (_, c.in_ok-prepared.ensures.prepared.wishes) c.as_slice-2.ensures.value
-        (λ i. record { state = state i; folders = folders i }) c.in-Err.ensures.refused c.cause_error.ensures))
+    (λ i. record { state = state i; folders = folders i }) c.in-Err.ensures.refused c.cause_error.ensures))
 
 pub returns-in-Ok-clause-ran : goal.returns-in-Ok-clause-ran
 returns-in-Ok-clause-ran g c =
