@@ -1,1 +1,4 @@
 pub mod Starting
+pub mod Growing
+pub mod Begun
+pub mod Once
