@@ -6,23 +6,21 @@ use Rattle.std.specs.Prelude.{IsSomeAnd}
 use Rattle.std.specs.List.{AllByRecursion}
 use Rattle.flume_host.specs.Folder.{Allows, Entry, Files, Folder, IsImage, same_name, settle_entry}
 use Rattle.flume_host.specs.Told.{Changes, LeavesOnly, OneFile, Tells, Told}
-use Rattle.flume_host.specs.declared.names.FileName.TheVariants.{Check, Log}
+use Rattle.flume_host.specs.declared.names.FileName.TheVariants.{Log}
 use Rattle.flume_host.specs.declared.names.FileName.{FileName}
 use Rattle.flume_host.proofs.Images.{stable_only}
 use Rattle.flume_host.proofs.Telling.{tells_more, tells_same}
 use Rattle.event_core.specs.Journal.{is_among, taken_numbers}
 use Rattle.record_form.specs.declared.record.Rec.{Rec}
-use Rattle.channel_log.specs.Frames.{Holds, IsFrame, header, opened, record_bytes}
+use Rattle.channel_log.specs.Frames.{IsFrame, header, opened, record_bytes}
 use Rattle.record_form.specs.declared.record.Rec.TheVariants.{Put, Take, Rollback, CommitPut, CommitTake, End}
 use Rattle.channel_log.specs.Writer.{HasFrames, IsAtRest, IsPending, IsReady, LacksOrHas, Writer, file_of}
-use Rattle.event_core.specs.Journal.{after_journal}
-use Rattle.channel_face.specs.Machine.{State, base_of, next_number, settle}
-use Rattle.channel_replay.specs.Recover.{AreLogs, LogFile, Recovers, empty_base}
-use Rattle.channel_writing.specs.Folders.{HasNoCheck}
-use Rattle.channel_writing.specs.Logs.{HasLog}
+use Rattle.channel_face.specs.Machine.{State, next_number, settle}
+use Rattle.checkpoint_opening.proofs.Growing.{other_log}
 use Rattle.channel_writing.specs.Touches.{ChangesAlone}
-use Rattle.channel_writing.specs.Written.{IsLogged, MayRecover, OnDisk, RecoversSettled, Waits}
+use Rattle.channel_writing.specs.Written.{IsLogged, LeavesOthers, MayRecover, OnDisk, RecoversSettled, Waits}
 use Rattle.channel_writing.proofs.Ending.{flush_mirrored}
+use Rattle.channel_writing.proofs.Writes.{disk_steps}
 use Rattle.channel_writing.proofs.Recovering.{flush_logged, flush_recovers, settled_recovers}
 
 -- the frames that a log has where the disk tells
@@ -37,59 +35,21 @@ ready_frames (Some t) w s waits =
 
 -- images of a folder where one file changes
 
-pub other_log : (n number : ℕ) → n ≢ number → same_name (Log n) (Log number) ≡ false
-other_log n number other = from (eqb_tells n number)
-  where
-    from : ((n == number) ≡ true) × (n ≡ number) ⊎ ((n == number) ≡ false) × (n ≢ number) → (n == number) ≡ false
-    from (inl same) = absurd (other same.1)
-    from (inr differs) = differs.0
-
 pub as_read : (file image : Option (List ℕ)) → Allows (settle_entry file) image → image ≡ file
 as_read None None may = refl
 as_read None (Some bytes) may = absurd may
 as_read (Some was) None may = absurd may
 as_read (Some was) (Some bytes) may = ap (λ (l : List ℕ). Some l) (stable_only was bytes may)
 
-pub same_logs : (files files' : Files) (from number : ℕ) (logs : List LogFile) → ((n : ℕ) → n < number → files' (Log n) ≡ files (Log n)) → AreLogs files from number logs → AreLogs files' from number logs
-same_logs files files' from number [] same are = λ n low high. same n high ∙ are n low high
-same_logs files files' from number (log ∷ logs) same are = (
-  are.0,
-  are.1,
-  (λ n low high. same n (omega (arith, high, are.1)) ∙ are.2 n low high),
-  subst (λ (f : Option (List ℕ)). IsSomeAnd f (λ bytes. Holds log.number bytes log.content)) (sym (same log.number are.1)) are.3,
-  same_logs files files' (log.number + 1) number logs same are.4,
-)
-
--- an image in which the log's own file has P
-log_image : (t : Told) (w : Writer) (s : State) (records : List Rec) (P : List ℕ → Type 0) (image : Files) → OnDisk t w s records → OneFile t.now (Log w.file) (λ file. IsSomeAnd file P) image → (d : List LogFile) × HasLog image d w.file P
-log_image t w s records P image disk one = (
-  disk.earlier,
-  record {
-    small = disk.small;
-    before = same_logs t.reads image 0 w.file disk.earlier (λ n low. kept n (λ same. absurd (omega (arith, low, same)))) disk.before;
-    last = one.file;
-    none = λ n high. kept n (λ same. absurd (omega (arith, high, same))) ∙ disk.none n high;
-  },
-)
-  where
-    kept : (n : ℕ) → n ≢ w.file → image (Log n) ≡ t.reads (Log n)
-    kept n other =
-        let differs : same_name (Log n) (Log w.file) ≡ false = other_log n w.file other in
-        as_read (t.reads (Log n)) (image (Log n)) (subst (λ (e : Entry). Allows e (image (Log n))) (disk.still (Log n) differs) (one.others (Log n) differs))
-
--- no image has a checkpoint, as there is none
-none_left : (t : Told) (w : Writer) (s : State) (records : List Rec) (image : Files) → OnDisk t w s records → ((name : FileName) → same_name name (Log w.file) ≡ false → Allows (t.now name) (image name)) → HasNoCheck image
-none_left t w s records image disk others n = as_read (t.reads (Check n)) (image (Check n)) (subst (λ (e : Entry). Allows e (image (Check n))) (disk.still (Check n) refl) (others (Check n) refl)) ∙ disk.unchecked n
-
--- so what its log recovers to is what it opens to
-may_open : (s : State) (image : Files) → HasNoCheck image → (txn : ℕ) × (txn ≤ s.txn) × (Recovers image (base_of s) txn ⊎ Recovers image (after_journal (base_of s) s.staged) txn) → MayRecover s image
-may_open s image none (txn, low, inl is) = (txn, low, inl (none, is))
-may_open s image none (txn, low, inr is) = (txn, low, inr (none, is))
+-- what a log in it recovers to is what a folder opens to
+may_open : (t : Told) (w : Writer) (s : State) (records : List Rec) (folder : Files) (disk : OnDisk t w s records) → LeavesOthers t w.file folder
+    → IsSomeAnd (folder (Log w.file)) (λ bytes. HasFrames disk.birth w.file disk.frames bytes ⊎ HasFrames disk.birth w.file (disk.frames ++ records ∷ []) bytes) → MayRecover s folder
+may_open t w s records folder disk others has = flush_recovers s folder disk.birth w.file disk.frames records (disk.logs folder others) has
 
 -- at any moment of a flush, where records wait
 flush_moments : (told told' : Option Told) (w : Writer) (s : State) (waits : Waits told w s) → ((birth : ℕ) (frames : List (List Rec)) → IsReady told birth w.file w.gate frames → Tells told told' (Changes (Log w.file) (LacksOrHas birth w.file frames waits.records) 2))
     → Tells told told' (λ t u. LeavesOnly t u (MayRecover s))
-unfolding ready_frames log_image
+unfolding ready_frames
 flush_moments None None w s waits given = tt
 flush_moments None (Some u) w s waits given = given 1 [] (λ t is. absurd (cc))
 flush_moments (Some t) None w s waits given = let ready = ready_frames (Some t) w s waits in given ready.0 ready.1 ready.2
@@ -101,8 +61,8 @@ flush_moments (Some t) (Some u) w s waits given =
       more = changes.images.more;
       past = changes.images.past;
       each = λ m image low left.
-          let has = log_image t w s waits.records (λ bytes. HasFrames disk.birth w.file disk.frames bytes ⊎ HasFrames disk.birth w.file (disk.frames ++ waits.records ∷ []) bytes) image disk (changes.images.each m image low left) in
-          may_open s image (none_left t w s waits.records image disk (changes.images.each m image low left).others) (flush_recovers s image disk.earlier disk.birth w.file disk.frames waits.records disk.is_birth disk.logs has.1);
+          let one = changes.images.each m image low left in
+          may_open t w s waits.records image disk one.others one.file;
     }
 
 -- while nothing is written
@@ -112,35 +72,26 @@ closed_frames birth number frames each = (opened frames ++ 0 ∷ [], append_asso
     not_one : (n : ℕ) → n ≡ 0 → n ≢ 1
     not_one n zero one = absurd (omega (arith, zero, one))
 
-pub rest_recovers : (t : Told) (w : Writer) (s : State) (records : List Rec) (image : Files) → OnDisk t w s records → IsImage t.now image → MayRecover s image
-unfolding log_image
-rest_recovers t w s records image disk are =
+-- the log's own file in an image
+pub own_file : (t : Told) (w : Writer) (s : State) (records : List Rec) (image : Files) (disk : OnDisk t w s records) → IsImage t.now image → IsSomeAnd (image (Log w.file)) (HasFrames disk.birth w.file disk.frames)
+own_file t w s records image disk are =
     let bytes : List ℕ = file_of disk.birth w.file disk.frames in
     let may : Allows (settle_entry (Some bytes)) (image (Log w.file)) = subst (λ (e : Entry). Allows e (image (Log w.file))) disk.rest.durable (are (Log w.file)) in
     let is : image (Log w.file) ≡ Some bytes = as_read (Some bytes) (image (Log w.file)) may in
-    let both : List ℕ → Type 0 = λ l. HasFrames disk.birth w.file disk.frames l ⊎ HasFrames disk.birth w.file (disk.frames ++ records ∷ []) l in
-    let one : OneFile t.now (Log w.file) (λ file. IsSomeAnd file both) image = record {
-      file = subst (λ (f : Option (List ℕ)). IsSomeAnd f both) (sym is) (inl (closed_frames disk.birth w.file disk.frames disk.rest.each));
-      others = λ n differs. are n;
-    } in
-    let has = log_image t w s records both image disk one in
-    may_open s image (none_left t w s records image disk one.others) (flush_recovers s image disk.earlier disk.birth w.file disk.frames records disk.is_birth disk.logs has.1)
+    subst (λ (f : Option (List ℕ)). IsSomeAnd f (HasFrames disk.birth w.file disk.frames)) (sym is) (closed_frames disk.birth w.file disk.frames disk.rest.each)
+
+either_of : (file : Option (List ℕ)) (P Q : List ℕ → Type 0) → IsSomeAnd file P → IsSomeAnd file (λ bytes. P bytes ⊎ Q bytes)
+either_of None P Q is = is
+either_of (Some bytes) P Q is = inl is
+
+pub rest_recovers : (t : Told) (w : Writer) (s : State) (records : List Rec) (image : Files) → OnDisk t w s records → IsImage t.now image → MayRecover s image
+rest_recovers t w s records image disk are =
+    may_open t w s records image disk (λ n differs. are n)
+    (either_of (image (Log w.file)) (HasFrames disk.birth w.file disk.frames) (HasFrames disk.birth w.file (disk.frames ++ records ∷ [])) (own_file t w s records image disk are))
 
 -- just what is settled
 pub rest_exactly : (t : Told) (w : Writer) (s : State) (records : List Rec) (image : Files) → OnDisk t w s records → IsImage t.now image → RecoversSettled s image
-unfolding log_image
-rest_exactly t w s records image disk are =
-    let bytes : List ℕ = file_of disk.birth w.file disk.frames in
-    let may : Allows (settle_entry (Some bytes)) (image (Log w.file)) = subst (λ (e : Entry). Allows e (image (Log w.file))) disk.rest.durable (are (Log w.file)) in
-    let is : image (Log w.file) ≡ Some bytes = as_read (Some bytes) (image (Log w.file)) may in
-    let frames : List ℕ → Type 0 = HasFrames disk.birth w.file disk.frames in
-    let one : OneFile t.now (Log w.file) (λ file. IsSomeAnd file frames) image = record {
-      file = subst (λ (f : Option (List ℕ)). IsSomeAnd f frames) (sym is) (closed_frames disk.birth w.file disk.frames disk.rest.each);
-      others = λ n differs. are n;
-    } in
-    let has = log_image t w s records frames image disk one in
-    let found = settled_recovers s image disk.earlier disk.birth w.file disk.frames records disk.is_birth disk.logs has.1 in
-    (found.0, found.1, (none_left t w s records image disk one.others, found.2))
+rest_exactly t w s records image disk are = settled_recovers s image disk.birth w.file disk.frames records (disk.logs image (λ n differs. are n)) (own_file t w s records image disk are)
 
 rest_moments : (told : Option Told) (w : Writer) (s : State) → Waits told w s → Tells told told (λ t u. LeavesOnly t u (MayRecover s))
 rest_moments None w s waits = tt
@@ -181,17 +132,14 @@ disk_after (Some t) (Some v) w w' s waits given flushed file earlier u is =
     let rest : IsAtRest v disk.birth w.file w'.gate (disk.frames ++ waits.records ∷ []) = flushed disk.birth disk.frames ready.2 v refl in
     let same : v ≡ u = some_told v u is in
     subst (λ (x : Told). OnDisk x w' (settle s) []) same (rw file (record {
-      earlier = disk.earlier;
       birth = disk.birth;
       is_birth = disk.is_birth;
       frames = disk.frames ++ waits.records ∷ [];
       rest = rest;
       still = λ name differs. (changes.others name differs).0 ∙ (disk.still name differs ∙ ap settle_entry (sym (changes.others name differs).1));
       small = disk.small;
-      before = same_logs t.reads v.reads 0 w.file disk.earlier (λ n low. (changes.others (Log n) (other_log n w.file (λ at. absurd (omega (arith, low, at))))).1) disk.before;
       none = λ n high. (changes.others (Log n) (other_log n w.file (λ at. absurd (omega (arith, high, at))))).1 ∙ disk.none n high;
-      unchecked = λ n. (changes.others (Check n) refl).1 ∙ disk.unchecked n;
-      logs = flush_logged disk.birth s disk.earlier disk.frames waits.records disk.logs earlier;
+      logs = λ folder others. flush_logged folder disk.birth w.file s disk.frames waits.records (disk.logs folder (λ name differs. subst (λ (e : Entry). Allows e (folder name)) (changes.others name differs).0 (others name differs))) earlier;
     }))
   where
     some_told : (a b : Told) → Some a ≡ Some b → a ≡ b
@@ -211,19 +159,7 @@ logged_after told told' w w' b s log whole earlier given flushed writer none = f
     no_more (r ∷ records) is = absurd (omega (arith, is))
 
     same_disk : (t : Told) → OnDisk t w s [] → OnDisk t w (settle s) []
-    same_disk t disk = record {
-      earlier = disk.earlier;
-      birth = disk.birth;
-      is_birth = disk.is_birth;
-      frames = disk.frames;
-      rest = disk.rest;
-      still = disk.still;
-      small = disk.small;
-      before = disk.before;
-      none = disk.none;
-      unchecked = disk.unchecked;
-      logs = record { sound = disk.logs.sound; legal = disk.logs.legal; mirrors = flush_mirrored empty_base s _ [] disk.logs.mirrors earlier };
-    }
+    same_disk t disk = disk_steps t w s (settle s) [] [] disk (omega arith) (λ start settled m. flush_mirrored start s settled [] m earlier)
 
     from : (length waits.records ≡ 0) ⊎ (1 ≤ length waits.records) → IsLogged told' w' b (settle s)
     from (inl nothing) =

@@ -1,48 +1,44 @@
 -- What an opening finds, and what it leaves of the folder.
-use Rattle.std.proofs.Common.{◌⊎◌, inl, inr, ◌≡◌, ◌<◌, ◌≤◌, ◌+◌, ◌-◌, ◌^◌, ◌++◌, ◌∷◌, [], ℕ, List, length, Option, Some, None, Result, Ok, Err, true, false, refl, sym, ◌∙◌, ap, subst, arith, append_assoc}
-use Rattle.std.specs.Prelude.{max, IsSome, IsSomeAnd}
+use Rattle.std.proofs.Common.{◌⊎◌, inl, inr, ◌≡◌, ◌<◌, ◌≤◌, ◌+◌, ◌-◌, ◌^◌, ◌++◌, ◌∷◌, [], ℕ, List, length, max, Option, Some, None, Result, Ok, Err, Bool, true, false, refl, sym, ◌∙◌, ap, subst, arith, append_assoc}
+use Rattle.std.specs.Prelude.{IsSome, IsSomeAnd}
 use Rattle.std.proofs.lemmas.Bool.{cases_lt}
 use Rattle.std.proofs.lemmas.Bool.Decides.{nat_tests}
 use Rattle.std.proofs.lemmas.List.{append-nil, get_or_past}
-use Rattle.flume_host.specs.Folder.{Files, Folder, IsAbove, IsImage, IsNext, name_below, settle_entry}
+use Rattle.flume_host.specs.Folder.{Allows, Entry, Files, Folder, IsAbove, IsImage, same_name, settle_entry}
 use Rattle.flume_host.specs.Told.{Changes, DidPart, IsLeftAt, Leads, LeavesOnly, OneFile, Settle, Tells, Told, WhereTold, clock, done}
 use Rattle.flume_host.specs.declared.names.Failed.{Failed}
-use Rattle.flume_host.specs.declared.names.FileName.TheVariants.{Check, Log}
+use Rattle.flume_host.specs.declared.names.FileName.{FileName}
+use Rattle.flume_host.specs.declared.names.FileName.TheVariants.{Log}
+use Rattle.flume_host.proofs.Images.{same_name_is}
 use Rattle.flume_host.proofs.Telling.{back, follows, forth, tells_more}
 use Rattle.flume_host.proofs.Moments.{clock_rises, earlier, goes_on, started}
-use Rattle.event_core.specs.Journal.{Base, after_journal}
+use Rattle.event_core.specs.Journal.{Base}
 use Rattle.channel_log.specs.Frames.{Blank, Holds}
 use Rattle.channel_log.specs.Window.{nothing_kept}
 use Rattle.channel_log.specs.Writer.{IsAtRest, IsBlank, IsReady, IsUnused, Writer}
 use Rattle.channel_face.specs.Machine.{State}
-use Rattle.channel_replay.specs.Marks.{journal, next_txn}
-use Rattle.channel_replay.specs.Recover.{AreLogs, AreSound, IsBadLog, LogFile, Recovers, StandsFor, WhereLogs, empty_base, lines, past_lines}
-use Rattle.channel_replay.specs.Replay.{LeavesCount, WhereBadLog, WhereOver}
-use Rattle.channel_replay.specs.declared.refused.ReplayRefused.{ReplayRefused}
-use Rattle.channel_replay.specs.declared.refused.ReplayRefused.TheVariants as replays
-use Rattle.channel_replay.proofs.Ordered.{front_earlier}
-use Rattle.channel_replay.proofs.Lines.{lines-append}
-use Rattle.channel_replay.proofs.OneList.{has_one_list, one_list}
-use Rattle.channel_writing.specs.Folders.{AreSame, FailsToSettle, GainsLog, HasNoCheck, IsAsBefore, IsBegun, IsFirstCheck, IsNextFile, Opens, OpensFrom, OpensOver, OpensTo, Refuses, as_cause, last_file, log_name}
-use Rattle.channel_writing.specs.Logs.{begun}
+use Rattle.channel_replay.specs.declared.line.Line.{Line}
+use Rattle.channel_replay.specs.Marks.{Dropped, Past, journal, next_txn}
+use Rattle.channel_replay.specs.Recover.{StandsFrom, past_lines}
+use Rattle.channel_replay.specs.Start.{IsStart, Start, start_past}
+use Rattle.channel_replay.proofs.Ordered.{ordered_lines}
+use Rattle.channel_replay.proofs.Starts.{start_ordered}
+use Rattle.checkpoint.specs.Newest.{IsNewest}
+use Rattle.checkpoint_reading.specs.Fields.{IsFault}
+use Rattle.checkpoint_recovery.specs.Recovers.{BeginsAt, IsBadLogFrom}
+use Rattle.checkpoint_opening.specs.declared.refused.OpeningRefused.{OpeningRefused}
+use Rattle.checkpoint_opening.specs.declared.refused.OpeningRefused.TheVariants as openings
+use Rattle.checkpoint_opening.specs.Laws.{Grows}
+use Rattle.checkpoint_opening.specs.Opening.{Leaves, WhereBadCheck, WhereBadLog, WhereOver}
+use Rattle.checkpoint_opening.proofs.Begun.{begins_are_starts}
+use Rattle.checkpoint_opening.proofs.Growing.{grown_begins, other_log}
+use Rattle.channel_writing.specs.Folders.{AreSame, FailsToSettle, GainsLog, IsAsBefore, IsBegun, IsNextFile, Opens, OpensFrom, OpensOver, OpensTo, Refuses, as_cause, log_name}
 use Rattle.channel_writing.specs.Mirrors.{Mirrors}
 use Rattle.channel_writing.specs.Written.{IsFresh, IsLogged, OnDisk}
-use Rattle.channel_writing.proofs.Flushing.{as_read, other_log, same_logs}
-use Rattle.channel_writing.proofs.Recovering.{logs_and_one}
+use Rattle.channel_writing.proofs.Flushing.{as_read}
+use Rattle.channel_writing.proofs.Recovering.{grown_goes}
 
 -- names
-
-check_above : (n : ℕ) → IsAbove (Some (Log last_file)) (Check n)
-check_above n = refl
-
-check_below : (n m : ℕ) → n < m → name_below (Check n) (Check m) ≡ true
-check_below n m less = grind (arith, nat_tests)
-
-pub first_check : (files : Files) (number : ℕ) → IsNext files (Some (Log last_file)) (Some (Check number)) → IsFirstCheck files number
-first_check files number next = (next.0, λ n less. next.2 (Check n) (check_above n) (check_below n number less))
-
-pub no_check : (files : Files) → IsNext files (Some (Log last_file)) None → HasNoCheck files
-no_check files next n = next (Check n) (check_above n)
 
 -- how far the names of log files were gone through
 abbrev pub IsLogThere : Files → Option ℕ → Type 0
@@ -63,118 +59,45 @@ pub above_floor : (last : Option ℕ) (n : ℕ) → IsAbove (log_name last) (Log
 above_floor None n above = omega arith
 above_floor (Some m) n above = grind (arith, nat_tests)
 
--- the number after them
-
--- what a folder leaves
-
-recovers_from : (files : Files) (logs : List LogFile) (left : Base) (txn : ℕ) → AreLogs files 0 (2 ^ 32) logs → StandsFor logs left txn → Recovers files left txn
-recovers_from files logs left txn are stands others are' =
-    subst (λ (l : List LogFile). StandsFor l left txn) (one_list files 0 (2 ^ 32) logs others are are') stands
-
--- so many events are left
-pub leaves_count : (files : Files) (count : ℕ) → WhereLogs files (λ logs. LeavesCount logs count) → (base : Base) × (txn : ℕ) × Recovers files base txn × (count ≡ length base.items)
-leaves_count files count leaves =
-    let one = has_one_list files in
-    let it = leaves one.0 one.1 in
-    (it.0, it.1, recovers_from files one.0 it.0 it.1 one.1 it.2, it.3)
-
--- log files up to a number after which there is none
-narrow : (files : Files) (from to number : ℕ) (logs : List LogFile) → number ≤ to → from ≤ number → ((n : ℕ) → number ≤ n → files (Log n) ≡ None) → AreLogs files from to logs → AreLogs files from number logs
-narrow files from to number [] most low none are = λ n more less. are n more (omega (arith, less, most))
-narrow files from to number (log ∷ logs) most low none are = by_place (cases_lt log.number number) (λ less. narrow files (log.number + 1) to number logs most (omega (arith, less)) none are.4)
-  where
-    held : (o : Option (List ℕ)) → IsSomeAnd o (λ bytes. Holds log.number bytes log.content) → o ≡ None → ⊥
-    held None is gone = is
-    held (Some bytes) is gone = absurd (cc)
-
-    by_place : (log.number < number) ⊎ (number ≤ log.number) → (log.number < number → AreLogs files (log.number + 1) number logs) → AreLogs files from number (log ∷ logs)
-    by_place (inl less) rest = (are.0, less, are.2, are.3, rest less)
-    by_place (inr more) rest = absurd (held (files (Log log.number)) are.3 (none log.number more))
-
--- and from such a number on
-widen : (files : Files) (from number to : ℕ) (logs : List LogFile) → number ≤ to → ((n : ℕ) → number ≤ n → files (Log n) ≡ None) → AreLogs files from number logs → AreLogs files from to logs
-widen files from number to [] most none are = λ n low high. by_place n low (cases_lt n number)
-  where
-    by_place : (n : ℕ) → from ≤ n → (n < number) ⊎ (number ≤ n) → files (Log n) ≡ None
-    by_place n low (inl less) = are n low less
-    by_place n low (inr more) = none n more
-widen files from number to (log ∷ logs) most none are = (are.0, omega (arith, are.1, most), are.2, are.3, widen files (log.number + 1) number to logs most none are.4)
-
 -- a log file that counts as empty changes nothing
 
-same_list : (files folder : Files) (logs : List LogFile) (left : Base) (txn : ℕ) → Recovers files left txn → AreLogs files 0 (2 ^ 32) logs → AreLogs folder 0 (2 ^ 32) logs → Recovers folder left txn
-same_list files folder logs left txn recovers are are' = recovers_from folder logs left txn are' (recovers logs are)
+same_begins : (files folder : Files) (start : Start) (found : List Line) → AreSame files folder → BeginsAt files start found → BeginsAt folder start found
+same_begins files folder start found same begins =
+    let is : files ≡ folder = λ i. λ (name : FileName). sym (same name) i in
+    subst (λ (f : Files). BeginsAt f start found) is begins
 
-blank_behind : (logs : List LogFile) (number : ℕ) (left : Base) (txn : ℕ) → StandsFor logs left txn → StandsFor (logs ++ record { number = number; content = Blank } ∷ []) left txn
-blank_behind logs number left txn stands =
-    let last : LogFile = record { number = number; content = Blank } in
-    let same : lines (logs ++ last ∷ []) ≡ lines logs = lines-append logs (last ∷ []) ∙ append-nil (lines logs) in
-    record {
-      sound = subst (λ (l : List _). AreSound empty_base [] l) (sym same) stands.sound;
-      left_is = stands.left_is ∙ ap (λ (l : List _). after_journal empty_base (journal (past_lines [] l))) (sym same);
-      txn_is = stands.txn_is ∙ ap (λ (l : List _). max 1 (next_txn (past_lines [] l))) (sym same);
-    }
-
--- the log files before the one that was gained
-before_gained : (files folder : Files) (P : ℕ → Option (List ℕ) → Type 0) (g : GainsLog files P folder) (logs : List LogFile) → AreLogs files 0 (2 ^ 32) logs → AreLogs folder 0 g.number logs
-before_gained files folder P g logs are =
-    same_logs files folder 0 g.number logs (λ n less. g.others (Log n) (other_log n g.number (λ same. absurd (omega (arith, less, same)))))
-    (narrow files 0 (2 ^ 32) g.number logs (omega (arith, g.next.small)) (omega arith) g.next.none are)
-
-none_behind : (files folder : Files) (P : ℕ → Option (List ℕ) → Type 0) (g : GainsLog files P folder) (n : ℕ) → g.number < n → folder (Log n) ≡ None
-none_behind files folder P g n more = g.others (Log n) (other_log n g.number (λ same. absurd (omega (arith, more, same)))) ∙ g.next.none n (omega (arith, more))
-
-blank_recovers : (files folder : Files) (left : Base) (txn : ℕ) → GainsLog files (λ number file. IsBlank file) folder → Recovers files left txn → Recovers folder left txn
-blank_recovers files folder left txn g recovers = by_file (folder (Log g.number)) refl g.last
+blank_begins : (files folder : Files) (start : Start) (found : List Line) → GainsLog files (λ number file. IsBlank file) folder → BeginsAt files start found → BeginsAt folder start found
+blank_begins files folder start found g begins = by_file (folder (Log g.number)) refl g.last
   where
-    logs : List LogFile
-    logs = (has_one_list files).0
-
-    are : AreLogs files 0 (2 ^ 32) logs
-    are = (has_one_list files).1
-
-    before : AreLogs folder 0 g.number logs
-    before = before_gained files folder (λ number file. IsBlank file) g logs are
-
-    by_file : (file : Option (List ℕ)) → folder (Log g.number) ≡ file → IsBlank file → Recovers folder left txn
-    by_file None is blank = same_list files folder logs left txn recovers are (widen folder 0 g.number (2 ^ 32) logs (omega (arith, g.next.small)) from_there before)
+    none_there : folder (Log g.number) ≡ None → AreSame files folder
+    none_there is name = from (same_name name (Log g.number)) refl
       where
-        first_or_later : (n : ℕ) → g.number ≤ n → (n ≡ g.number) ⊎ (g.number < n)
-        first_or_later n more = grind arith
+        from : (b : Bool) → same_name name (Log g.number) ≡ b → folder name ≡ files name
+        from false differs = g.others name differs
+        from true same = subst (λ (n : FileName). folder n ≡ files n) (sym (same_name_is name (Log g.number) same)) (is ∙ sym (g.next.none g.number (omega arith)))
 
-        from_there : (n : ℕ) → g.number ≤ n → folder (Log n) ≡ None
-        from_there n more = by_place (first_or_later n more)
-          where
-            by_place : (n ≡ g.number) ⊎ (g.number < n) → folder (Log n) ≡ None
-            by_place (inl same) = subst (λ (m : ℕ). folder (Log m) ≡ None) (sym same) is
-            by_place (inr later) = none_behind files folder (λ number file. IsBlank file) g n later
+    by_file : (file : Option (List ℕ)) → folder (Log g.number) ≡ file → IsBlank file → BeginsAt folder start found
+    by_file None is blank = same_begins files folder start found (none_there is) begins
     by_file (Some bytes) is blank =
-        let here : IsSomeAnd (folder (Log g.number)) (λ b. Holds g.number b Blank) = subst (λ (o : Option (List ℕ)). IsSomeAnd o (λ b. Holds g.number b Blank)) (sym is) blank in
-        recovers_from folder (logs ++ record { number = g.number; content = Blank } ∷ []) left txn
-        (logs_and_one folder 0 g.number (2 ^ 32) logs Blank before (omega arith) (omega (arith, g.next.small)) here (none_behind files folder (λ number file. IsBlank file) g))
-        (blank_behind logs g.number left txn (recovers logs are))
+        let grows : Grows files folder g.number Blank = record {
+          small = omega (arith, g.next.small);
+          none = g.next.none;
+          holds = subst (λ (o : Option (List ℕ)). IsSomeAnd o (λ b. Holds g.number b Blank)) (sym is) blank;
+          others = g.others;
+        } in
+        subst (λ (l : List Line). BeginsAt folder start l) (append-nil found) (grown_begins files folder g.number Blank start found grows begins)
 
-same_recovers : (files folder : Files) (left : Base) (txn : ℕ) → AreSame files folder → Recovers files left txn → Recovers folder left txn
-same_recovers files folder left txn same recovers =
-    let one = has_one_list files in
-    same_list files folder one.0 left txn recovers one.1 (same_logs files folder 0 (2 ^ 32) one.0 (λ n less. same (Log n)) one.1)
-
--- what an opening leaves of a folder recovers as the folder did
-pub as_before_recovers : (files folder : Files) (left : Base) (txn : ℕ) → IsAsBefore files folder → Recovers files left txn → Recovers folder left txn
-as_before_recovers files folder left txn (inl same) recovers = same_recovers files folder left txn same recovers
-as_before_recovers files folder left txn (inr gains) recovers = blank_recovers files folder left txn gains recovers
-
--- and has no checkpoint where the folder had none
-pub as_before_unchecked : (files folder : Files) → IsAsBefore files folder → HasNoCheck files → HasNoCheck folder
-as_before_unchecked files folder (inl same) none n = same (Check n) ∙ none n
-as_before_unchecked files folder (inr gains) none n = gains.others (Check n) refl ∙ none n
+-- what an opening leaves of a folder begins as the folder did
+as_before_begins : (files folder : Files) (start : Start) (found : List Line) → IsAsBefore files folder → BeginsAt files start found → BeginsAt folder start found
+as_before_begins files folder start found (inl same) begins = same_begins files folder start found same begins
+as_before_begins files folder start found (inr gains) begins = blank_begins files folder start found gains begins
 
 pub opens_to : (files : Files) (capacity : ℕ) (base : Base) (txn : ℕ) → Opens files capacity base txn → OpensTo files base txn
-opens_to files capacity base txn opens = (opens.check, opens.recovers)
+opens_to files capacity base txn opens = opens.recovers
 
 -- so it opens to the same
 pub as_before_opens : (files folder : Files) (left : Base) (txn : ℕ) → IsAsBefore files folder → OpensTo files left txn → OpensTo folder left txn
-as_before_opens files folder left txn as_before (none, recovers) = (as_before_unchecked files folder as_before none, as_before_recovers files folder left txn as_before recovers)
+as_before_opens files folder left txn as_before opens = record { start = opens.start; found = opens.found; begins = as_before_begins files folder opens.start opens.found as_before opens.begins; stands = opens.stands }
 
 -- images and files during an opening
 
@@ -228,40 +151,55 @@ begun_gains t v number next changes rest = record { number = number; next = next
 
 -- the log of a channel in it
 
-begun_mirrors : (s : State) (logs : List LogFile) (base : Base) (txn : ℕ) → IsFresh s base txn → StandsFor logs base txn → txn ≤ 2 ^ 64 - 1 → 1 ≤ txn → Mirrors empty_base s (begun 1 logs) []
-begun_mirrors s logs base txn fresh stands most some = record {
-  base = fresh.base_is ∙ stands.left_is;
-  earlier = front_earlier (lines logs) stands.sound;
-  staged = sym (append-nil (journal (past_lines [] (lines logs)))) ∙ ap (λ (l : List _). journal (past_lines [] (lines logs)) ++ l) (sym fresh.staged);
-  each = λ n. rw fresh.opened refl;
-  as_many = rw fresh.opened refl;
-  next = omega (arith, fresh.txn_is, stands.txn_is);
-  legal = tt;
-  low = rw fresh.opened tt;
-  below = rw fresh.opened tt;
-  apart = rw fresh.opened tt;
-  high = (omega (arith, fresh.txn_is, some), omega (arith, fresh.txn_is, most));
-  few = omega (arith, ap (λ (l : List _). length l) fresh.opened);
-}
+begun_mirrors : (s : State) (start : Start) (found : List Line) (base : Base) (txn : ℕ) → IsFresh s base txn → IsStart start → StandsFrom start found base txn → txn ≤ 2 ^ 64 - 1 → 1 ≤ txn → Mirrors start.base s (Dropped ∷ past_lines (start_past start) found) []
+begun_mirrors s start found base txn fresh is stands most some =
+    let past : Past = past_lines (start_past start) found in
+    record {
+      base = fresh.base_is ∙ stands.left_is;
+      earlier = (ordered_lines start.base (start_past start) found stands.sound (start_ordered start is)).taken;
+      staged = sym (append-nil (journal past)) ∙ ap (λ (l : List _). journal past ++ l) (sym fresh.staged);
+      each = λ n. rw fresh.opened refl;
+      as_many = rw fresh.opened refl;
+      next = later (next_txn past) start.txn stands.txn_is;
+      legal = tt;
+      low = rw fresh.opened tt;
+      below = rw fresh.opened tt;
+      apart = rw fresh.opened tt;
+      high = (omega (arith, fresh.txn_is, some), omega (arith, fresh.txn_is, most));
+      few = omega (arith, ap (λ (l : List _). length l) fresh.opened);
+    }
+  where
+    later : (a b : ℕ) → txn ≡ max b a → a ≤ s.txn
+    later a b same = let t = fresh.txn_is in grind (arith, same, t)
+
+fresh_low : (s : State) (start : Start) (found : List Line) (base : Base) (txn : ℕ) → IsFresh s base txn → StandsFrom start found base txn → start.txn ≤ s.txn
+fresh_low s start found base txn fresh stands = later start.txn (next_txn (past_lines (start_past start) found)) stands.txn_is
+  where
+    later : (a b : ℕ) → txn ≡ max a b → a ≤ s.txn
+    later a b same = let t = fresh.txn_is in grind (arith, same, t)
 
 begun_on_disk : (t v : Told) (w : Writer) (s : State) (base : Base) (txn number : ℕ) → IsFresh s base txn → OpensTo t.reads base txn → txn ≤ 2 ^ 64 - 1 → 1 ≤ txn → IsNextFile t.reads number
     → Changes (Log number) IsBlank 1 (done Settle t) v → IsAtRest v 1 number 16 [] → w.file ≡ number → w.gate ≡ 16 → OnDisk v w s []
-unfolding begun_gains
-begun_on_disk t v w s base txn number fresh (unchecked, recovers) most some next changes rest file gate =
-    let one = has_one_list t.reads in
-    let g : GainsLog t.reads IsBegun v.reads = begun_gains t v number next changes rest in
+begun_on_disk t v w s base txn number fresh opens most some next changes rest file gate =
+    let was : (name : FileName) → same_name name (Log number) ≡ false → v.now name ≡ settle_entry (t.reads name) = λ name differs. (changes.others name differs).0 in
     rw file (record {
-      earlier = one.0;
       birth = 1;
       is_birth = inl refl;
       frames = [];
       rest = rw gate rest;
-      still = λ name differs. (changes.others name differs).0 ∙ ap settle_entry (sym ((changes.others name differs).1));
+      still = λ name differs. was name differs ∙ ap settle_entry (sym ((changes.others name differs).1));
       small = omega (arith, next.small);
-      before = before_gained t.reads v.reads IsBegun g one.0 one.1;
-      none = none_behind t.reads v.reads IsBegun g;
-      unchecked = λ n. g.others (Check n) refl ∙ unchecked n;
-      logs = record { sound = (recovers one.0 one.1).sound; legal = tt; mirrors = begun_mirrors s one.0 base txn fresh (recovers one.0 one.1) most some };
+      none = λ n more. (changes.others (Log n) (other_log n number (λ same. omega (arith, more, same)))).1 ∙ next.none n (omega (arith, more));
+      logs = λ folder others. record {
+        start = opens.start;
+        past = Dropped ∷ past_lines (start_past opens.start) opens.found;
+        goes = λ more has.
+            grown_goes t.reads folder opens.start opens.found 1 number more (inl refl) (omega (arith, next.small)) next.none
+            (λ name differs. as_read (t.reads name) (folder name) (subst (λ (e : Entry). Allows e (folder name)) (was name differs) (others name differs)))
+            opens.begins opens.stands.sound has;
+        low = fresh_low s opens.start opens.found base txn fresh opens.stands;
+        mirrors = begun_mirrors s opens.start opens.found base txn fresh (begins_are_starts t.reads opens.start opens.found opens.begins) opens.stands most some;
+      };
     })
 
 -- the same over what a disk tells, if it tells
@@ -341,21 +279,17 @@ begun_logged told told' later w s base txn number most_bytes fresh limit recover
       };
     }
 
--- of a replay that was refused
+-- of an opening that was refused
 
-pub of_refused : (files : Files) (capacity : ℕ) (e : ReplayRefused) → HasNoCheck files → WhereBadLog e (λ file at. IsBadLog files file at) → WhereOver e (λ count. (capacity < count) × WhereLogs files (λ logs. LeavesCount logs count)) → Refuses files capacity (as_cause e)
-of_refused files capacity replays.DiskFault none bad over = tt
-of_refused files capacity (replays.BadLog file at) none bad over = (none, bad)
-of_refused files capacity (replays.OverCapacity count) none bad over =
-    let left = leaves_count files count over.1 in
-    (none, (left.0, left.1, left.2, (left.3, subst (λ (n : ℕ). capacity < n) left.3 over.0)))
-of_refused files capacity replays.NoMemory none bad over = tt
-
-pub over_maps : (e : ReplayRefused) (P Q : ℕ → Type 0) → ((count : ℕ) → P count → Q count) → WhereOver e P → WhereOver e Q
-over_maps replays.DiskFault P Q maps is = tt
-over_maps (replays.BadLog file at) P Q maps is = tt
-over_maps (replays.OverCapacity count) P Q maps is = maps count is
-over_maps replays.NoMemory P Q maps is = tt
+pub of_refused : (files : Files) (capacity : ℕ) (e : OpeningRefused) → WhereBadCheck e (λ file at. IsNewest files (Some file) × IsFault files file at) → WhereBadLog e (λ file at. IsBadLogFrom files file at) → WhereOver e (λ count. (capacity < count) × Leaves files count)
+    → Refuses files capacity (as_cause e)
+of_refused files capacity openings.DiskFault check log over = tt
+of_refused files capacity (openings.BadCheck file at) check log over = check
+of_refused files capacity (openings.BadLog file at) check log over = log
+of_refused files capacity (openings.OverCapacity count) check log over =
+    let left = over.1 in
+    (left.0, left.1, left.2, (left.3, subst (λ (n : ℕ). capacity < n) left.3 over.0))
+of_refused files capacity openings.NoMemory check log over = tt
 
 -- what a settle that failed did
 pub unsettled : (told told' : Option Told) (e : Failed) → Tells told told' (Leads {T = Unit {0}} Settle (Err e)) → FailsToSettle told told'

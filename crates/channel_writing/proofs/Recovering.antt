@@ -1,8 +1,9 @@
 -- What a folder recovers to, whose last log file a channel writes.
-use Rattle.std.proofs.Common.{◌⊎◌, inl, inr, ◌≡◌, ◌<◌, ◌≤◌, ◌+◌, ◌^◌, ◌++◌, ◌∷◌, [], ℕ, List, length, length-append, map, Option, Some, None, refl, sym, ◌∙◌, ap, subst, arith, append_assoc}
+use Rattle.std.proofs.Common.{◌⊎◌, inl, inr, ◌≡◌, ◌<◌, ◌≤◌, ◌+◌, ◌^◌, ◌++◌, ◌∷◌, [], ℕ, List, length, length-append, map, max, Option, Some, None, refl, sym, ◌∙◌, ap, subst, arith, append_assoc}
 use Rattle.std.proofs.lemmas.List.{append-nil}
 use Rattle.std.specs.Prelude.{◌==◌, Bool, true, false, if◌then◌else◌, IsSomeAnd}
-use Rattle.flume_host.specs.Folder.{Files}
+use Rattle.flume_host.specs.Folder.{Files, same_name}
+use Rattle.flume_host.specs.declared.names.FileName.{FileName}
 use Rattle.flume_host.specs.declared.names.FileName.TheVariants.{Log}
 use Rattle.event_core.specs.Journal.{Base, after_journal}
 use Rattle.event_core.specs.Numbers.{u16_bytes, u32_bytes}
@@ -15,15 +16,18 @@ use Rattle.channel_replay.specs.declared.line.Line.{Line}
 use Rattle.channel_replay.specs.declared.line.Line.TheVariants.{Begins}
 use Rattle.record_form.specs.Record.{record_length}
 use Rattle.channel_replay.specs.Marks.{Past, Dropped, Applied, journal, next_txn}
-use Rattle.channel_replay.specs.Recover.{AreLogs, AreSound, LogFile, Recovers, StandsFor, empty_base, file_lines, lines, past_lines, record_lines}
-use Rattle.channel_replay.proofs.Lines.{past_lines-append, sound_append, lines-append, txn_from_one}
-use Rattle.channel_replay.proofs.OneList.{one_list}
+use Rattle.channel_replay.specs.Recover.{AreSound, file_lines, past_lines, record_lines}
+use Rattle.channel_replay.specs.Start.{Start, start_past}
+use Rattle.channel_replay.proofs.Lines.{past_lines-append, sound_append}
+use Rattle.checkpoint_recovery.specs.Recovers.{BeginsAt, RecoversTo}
+use Rattle.checkpoint_opening.specs.Laws.{Grows}
+use Rattle.checkpoint_opening.proofs.Growing.{grown_begins}
 use Rattle.channel_writing.specs.Mirrors.{AreLegal, Mirrors, applied}
-use Rattle.channel_writing.specs.Logs.{HasLog, Logs, begun, entered, flat}
+use Rattle.channel_writing.specs.Logs.{AreMarks, GoesOn, Logs, entered, flat}
 use Rattle.channel_writing.specs.Laws.{FramesRecover, FlushRecovers, FlushIsLogged}
 use Rattle.channel_writing.proofs.Ending.{flush_mirrored, staged_base}
 
-length-header : (birth number : ℕ) → length (header birth number) ≡ 16
+pub length-header : (birth number : ℕ) → length (header birth number) ≡ 16
 unfolding header u16_bytes u32_bytes
 length-header birth number = refl
 
@@ -33,13 +37,9 @@ pub applied-append : (past : Past) (a b : List Rec) → applied past (a ++ b) �
 applied-append past [] b = refl
 applied-append past (rec ∷ a) b = applied-append (Applied rec ∷ past) a b
 
-pub legal-append : (past : Past) (a b : List Rec) → AreLegal empty_base past a → AreLegal empty_base (applied past a) b → AreLegal empty_base past (a ++ b)
-legal-append past [] b first later = later
-legal-append past (rec ∷ a) b first later = (first.0, legal-append (Applied rec ∷ past) a b first.1 later)
-
-pub flat-push : (frames : List (List Rec)) (frame : List Rec) → flat (frames ++ frame ∷ []) ≡ flat frames ++ frame
-flat-push [] frame = append-nil frame
-flat-push (f ∷ frames) frame = ap (λ (l : List Rec). f ++ l) (flat-push frames frame) ∙ sym (append_assoc f (flat frames) frame)
+pub legal-append : (base : Base) (past : Past) (a b : List Rec) → AreLegal base past a → AreLegal base (applied past a) b → AreLegal base past (a ++ b)
+legal-append base past [] b first later = later
+legal-append base past (rec ∷ a) b first later = (first.0, legal-append base (Applied rec ∷ past) a b first.1 later)
 
 -- the lines of records
 
@@ -65,9 +65,9 @@ past_records : (file : ℕ) (past : Past) (items : List (Rec × ℕ)) → past_l
 past_records file past [] = refl
 past_records file past (item ∷ items) = past_records file (Applied item.0 ∷ past) items
 
-sound_records : (file : ℕ) (past : Past) (items : List (Rec × ℕ)) → AreLegal empty_base past (firsts items) → AreSound empty_base past (record_lines file items)
-sound_records file past [] legal = tt
-sound_records file past (item ∷ items) legal = (legal.0, sound_records file (Applied item.0 ∷ past) items legal.1)
+sound_records : (base : Base) (file : ℕ) (past : Past) (items : List (Rec × ℕ)) → AreLegal base past (firsts items) → AreSound base past (record_lines file items)
+sound_records base file past [] legal = tt
+sound_records base file past (item ∷ items) legal = (legal.0, sound_records base file (Applied item.0 ∷ past) items legal.1)
 
 -- where a file is entered, nothing is added to the journal, and no transaction number is used
 
@@ -93,18 +93,12 @@ past_entered birth past found = from (birth == 1)
     from true = refl
     from false = refl
 
-sound_entered : (birth : ℕ) (past : Past) (found : List Line) → AreSound empty_base (entered birth past) found → AreSound empty_base past ((if birth == 1 then Begins ∷ [] else []) ++ found)
-sound_entered birth past found sound = from (birth == 1) sound
+sound_entered : (base : Base) (birth : ℕ) (past : Past) (found : List Line) → AreSound base (entered birth past) found → AreSound base past ((if birth == 1 then Begins ∷ [] else []) ++ found)
+sound_entered base birth past found sound = from (birth == 1) sound
   where
-    from : (b : Bool) → AreSound empty_base (if b then Dropped ∷ past else past) found → AreSound empty_base past ((if b then Begins ∷ [] else []) ++ found)
+    from : (b : Bool) → AreSound base (if b then Dropped ∷ past else past) found → AreSound base past ((if b then Begins ∷ [] else []) ++ found)
     from true sound = (tt, sound)
     from false sound = sound
-
--- The file that is written has these lines, as far as recovery goes.
-record LastLines (birth : ℕ) (past : Past) (found : List Line) (frames : List (List Rec)) : Type 0 where
-  sound : AreSound empty_base past found
-  journal_is : journal (past_lines past found) ≡ journal (applied (entered birth past) (flat frames))
-  txn_is : next_txn (past_lines past found) ≡ next_txn (applied (entered birth past) (flat frames))
 
 -- the marks after a whole file, and its lines are sound
 pub whole_past : (birth : ℕ) (past : Past) (number : ℕ) (frames : List (List Rec)) → past_lines past (file_lines number (Whole birth frames)) ≡ applied (entered birth past) (flat frames)
@@ -114,27 +108,17 @@ whole_past birth past number frames =
     past_entered birth past (record_lines number items ++ [])
     ∙ (ap (λ (l : List Line). past_lines first l) (append-nil (record_lines number items)) ∙ (past_records number first items ∙ ap (λ (l : List Rec). applied first l) (firsts-frames 16 frames)))
 
-pub whole_sound : (birth : ℕ) (past : Past) (number : ℕ) (frames : List (List Rec)) → AreLegal empty_base (entered birth past) (flat frames) → AreSound empty_base past (file_lines number (Whole birth frames))
-whole_sound birth past number frames legal =
+pub whole_sound : (base : Base) (birth : ℕ) (past : Past) (number : ℕ) (frames : List (List Rec)) → AreLegal base (entered birth past) (flat frames) → AreSound base past (file_lines number (Whole birth frames))
+whole_sound base birth past number frames legal =
     let items : List (Rec × ℕ) = frame_items 16 frames in
     let first : Past = entered birth past in
-    sound_entered birth past (record_lines number items ++ [])
-    (subst (λ (l : List Line). AreSound empty_base first l) (sym (append-nil (record_lines number items))) (sound_records number first items (subst (λ (l : List Rec). AreLegal empty_base first l) (sym (firsts-frames 16 frames)) legal)))
-
-whole_lines : (birth : ℕ) (past : Past) (number : ℕ) (frames : List (List Rec)) → AreLegal empty_base (entered birth past) (flat frames) → LastLines birth past (file_lines number (Whole birth frames)) frames
-whole_lines birth past number frames legal = record {
-  sound = whole_sound birth past number frames legal;
-  journal_is = ap journal (whole_past birth past number frames);
-  txn_is = ap next_txn (whole_past birth past number frames);
-}
-
-no_lines : (birth : ℕ) (past : Past) (number : ℕ) → LastLines birth past (file_lines number Blank) []
-no_lines birth past number = record { sound = tt; journal_is = sym (entered_journal birth past); txn_is = sym (entered_next birth past) }
+    sound_entered base birth past (record_lines number items ++ [])
+    (subst (λ (l : List Line). AreSound base first l) (sym (append-nil (record_lines number items))) (sound_records base number first items (subst (λ (l : List Rec). AreLegal base first l) (sym (firsts-frames 16 frames)) legal)))
 
 -- a file of these frames holds them, or counts as empty and has none
-held_content : (birth number : ℕ) (frames : List (List Rec)) (bytes : List ℕ) (past : Past) → IsBirth birth → HasFrames birth number frames bytes → AreLegal empty_base (entered birth past) (flat frames)
-    → (content : Content) × Holds number bytes content × LastLines birth past (file_lines number content) frames
-held_content birth number frames bytes past is_birth has legal = from (longer (length bytes))
+held_content : (birth number : ℕ) (frames : List (List Rec)) (bytes : List ℕ) → IsBirth birth → HasFrames birth number frames bytes
+    → (content : Content) × Holds number bytes content × ((content ≡ Whole birth frames) ⊎ ((content ≡ Blank) × (frames ≡ [])))
+held_content birth number frames bytes is_birth has = from (longer (length bytes))
   where
     longer : (n : ℕ) → (17 < n) ⊎ (n ≤ 17)
     longer n = grind arith
@@ -146,41 +130,72 @@ held_content birth number frames bytes past is_birth has legal = from (longer (l
         let two : length (opened (frame ∷ frames) ++ gate ∷ rest) ≡ length (opened (frame ∷ frames)) + length (gate ∷ rest) = length-append (opened (frame ∷ frames)) (gate ∷ rest) in
         absurd (omega (arith, all, two, short, length-header birth number))
 
-    from : ((17 < length bytes) ⊎ (length bytes ≤ 17)) → (content : Content) × Holds number bytes content × LastLines birth past (file_lines number content) frames
-    from (inl long) = (Whole birth frames, (long, (is_birth, has)), whole_lines birth past number frames legal)
-    from (inr short) =
-        let none : frames ≡ [] = no_frames frames has.2.gate has.2.rest short (has.1 ∙ ap (λ (l : List ℕ). header birth number ++ l) has.2.split) in
-        (Blank, short, subst (λ (fs : List (List Rec)). LastLines birth past (file_lines number Blank) fs) (sym none) (no_lines birth past number))
+    from : ((17 < length bytes) ⊎ (length bytes ≤ 17)) → (content : Content) × Holds number bytes content × ((content ≡ Whole birth frames) ⊎ ((content ≡ Blank) × (frames ≡ [])))
+    from (inl long) = (Whole birth frames, (long, (is_birth, has)), inl refl)
+    from (inr short) = (Blank, short, inr (refl, no_frames frames has.2.gate has.2.rest short (has.1 ∙ ap (λ (l : List ℕ). header birth number ++ l) has.2.split)))
 
--- a folder's log files and one more
+-- a folder that gains a log file goes on by the frames of that
 
-pub logs_and_one : (files : Files) (from number to : ℕ) (earlier : List LogFile) (content : Content) → AreLogs files from number earlier → from ≤ number → number < to → IsSomeAnd (files (Log number)) (λ bytes. Holds number bytes content)
-    → ((n : ℕ) → number < n → files (Log n) ≡ None) → AreLogs files from to (earlier ++ record { number = number; content = content } ∷ [])
-logs_and_one files from number to [] content before low small last none = (low, small, before, last, λ n up down. none n (omega (arith, up)))
-logs_and_one files from number to (log ∷ earlier) content before low small last none =
-    (before.0, omega (arith, before.1, small), before.2, before.3, logs_and_one files (log.number + 1) number to earlier content before.4 (omega (arith, before.1)) small last none)
+module _ (files folder : Files) (start : Start) (found : List Line) (birth number : ℕ) (more : List (List Rec)) where
+  abbrev past : Past
+  past = past_lines (start_past start) found
 
-some_held : (birth number : ℕ) (frames : List (List Rec)) (file : Option (List ℕ)) (past : Past) → IsBirth birth → IsSomeAnd file (HasFrames birth number frames) → AreLegal empty_base (entered birth past) (flat frames)
-    → (content : Content) × IsSomeAnd file (λ bytes. Holds number bytes content) × LastLines birth past (file_lines number content) frames
-some_held birth number frames None past is_birth has legal = absurd has
-some_held birth number frames (Some bytes) past is_birth has legal = held_content birth number frames bytes past is_birth has legal
+  grown_whole : Grows files folder number (Whole birth more) → BeginsAt files start found → AreSound start.base (start_past start) found → GoesOn folder start (entered birth past) birth [] more
+  grown_whole grows begins sound =
+      let own : List Line = file_lines number (Whole birth more) in
+      record {
+        found = found ++ own;
+        begins = grown_begins files folder number (Whole birth more) start found grows begins;
+        sound = λ legal. sound_append start.base (start_past start) found own sound (whole_sound start.base birth past number more legal);
+        marks = inl (past_lines-append (start_past start) found own ∙ whole_past birth past number more);
+      }
+
+  grown_blank : Grows files folder number Blank → more ≡ [] → BeginsAt files start found → AreSound start.base (start_past start) found → GoesOn folder start (entered birth past) birth [] more
+  grown_blank grows none begins sound =
+      let same : found ++ [] ≡ found = append-nil found in
+      record {
+        found = found ++ [];
+        begins = grown_begins files folder number Blank start found grows begins;
+        sound = λ legal. subst (λ (l : List Line). AreSound start.base (start_past start) l) (sym same) sound;
+        marks = inr (refl, none, ap (λ (l : List Line). entered birth (past_lines (start_past start) l)) (sym same));
+      }
+
+  pub grown_goes : IsBirth birth → number < 2 ^ 32 → ((n : ℕ) → number ≤ n → files (Log n) ≡ None) → ((name : FileName) → same_name name (Log number) ≡ false → folder name ≡ files name)
+      → BeginsAt files start found → AreSound start.base (start_past start) found → IsSomeAnd (folder (Log number)) (HasFrames birth number more) → GoesOn folder start (entered birth past) birth [] more
+  grown_goes is_birth small none others begins sound has = from (folder (Log number)) refl has
+    where
+      grows : (bytes : List ℕ) (content : Content) → folder (Log number) ≡ Some bytes → Holds number bytes content → Grows files folder number content
+      grows bytes content is holds = record { small = small; none = none; holds = subst (λ (file : Option (List ℕ)). IsSomeAnd file (λ bytes. Holds number bytes content)) (sym is) holds; others = others }
+
+      by_content : (bytes : List ℕ) (content : Content) → folder (Log number) ≡ Some bytes → Holds number bytes content → (content ≡ Whole birth more) ⊎ ((content ≡ Blank) × (more ≡ [])) → GoesOn folder start (entered birth past) birth [] more
+      by_content bytes content is holds (inl whole) = grown_whole (subst (λ (c : Content). Grows files folder number c) whole (grows bytes content is holds)) begins sound
+      by_content bytes content is holds (inr blank) = grown_blank (subst (λ (c : Content). Grows files folder number c) blank.0 (grows bytes content is holds)) blank.1 begins sound
+
+      from : (file : Option (List ℕ)) → folder (Log number) ≡ file → IsSomeAnd file (HasFrames birth number more) → GoesOn folder start (entered birth past) birth [] more
+      from None is has = absurd has
+      from (Some bytes) is has = let held = held_content birth number more bytes is_birth has in by_content bytes held.0 is held.1 held.2
+
+-- what a log that goes on leaves
+
+marks_journal : (birth : ℕ) (found past : Past) (frames more : List (List Rec)) → AreMarks birth found past frames more → journal found ≡ journal (applied past (flat more))
+marks_journal birth found past frames more (inl is) = ap journal is
+marks_journal birth found past frames more (inr is) = sym (ap (λ (m : List (List Rec)). journal (applied past (flat m))) is.1 ∙ (ap journal is.2 ∙ entered_journal birth found))
+
+marks_next : (birth : ℕ) (found past : Past) (frames more : List (List Rec)) → AreMarks birth found past frames more → next_txn found ≡ next_txn (applied past (flat more))
+marks_next birth found past frames more (inl is) = ap next_txn is
+marks_next birth found past frames more (inr is) = sym (ap (λ (m : List (List Rec)). next_txn (applied past (flat m))) is.1 ∙ (ap next_txn is.2 ∙ entered_next birth found))
 
 pub frames_recover : FramesRecover
-frames_recover image earlier birth number frames is_birth has sound legal logs are =
-    let past : Past = past_lines [] (lines earlier) in
-    let held = some_held birth number frames (image (Log number)) past is_birth has.last legal in
-    let content : Content = held.0 in
-    let found : List Line = file_lines number content in
-    let last : LogFile = record { number = number; content = content } in
-    let mine : logs ≡ earlier ++ last ∷ [] = one_list image 0 (2 ^ 32) logs (earlier ++ last ∷ []) are (logs_and_one image 0 number (2 ^ 32) earlier content has.before (omega arith) has.small held.1 has.none) in
-    let all_lines : lines (earlier ++ last ∷ []) ≡ lines earlier ++ found = lines-append earlier (last ∷ []) ∙ ap (λ (l : List Line). lines earlier ++ l) (append-nil found) in
-    let whole : past_lines [] (lines (earlier ++ last ∷ [])) ≡ past_lines past found = ap (λ (l : List Line). past_lines [] l) all_lines ∙ past_lines-append [] (lines earlier) found in
-    subst (λ (l : List LogFile). StandsFor l (after_journal empty_base (journal (applied (begun birth earlier) (flat frames)))) (next_txn (applied (begun birth earlier) (flat frames)))) (sym mine)
-    (record {
-      sound = subst (λ (l : List Line). AreSound empty_base [] l) (sym all_lines) (sound_append empty_base [] (lines earlier) found sound held.2.sound);
-      left_is = ap (λ (j : List _). after_journal empty_base j) (sym (ap journal whole ∙ held.2.journal_is));
-      txn_is = sym (txn_from_one (past_lines [] (lines (earlier ++ last ∷ []))) ∙ (ap next_txn whole ∙ held.2.txn_is));
-    })
+frames_recover folder start past birth frames more goes legal = record {
+  start = start;
+  found = goes.found;
+  begins = goes.begins;
+  stands = record {
+    sound = goes.sound legal;
+    left_is = ap (λ (j : List _). after_journal start.base j) (sym (marks_journal birth (past_lines (start_past start) goes.found) past frames more goes.marks));
+    txn_is = ap (λ (n : ℕ). max start.txn n) (sym (marks_next birth (past_lines (start_past start) goes.found) past frames more goes.marks));
+  };
+}
 
 -- while a frame more is written
 
@@ -192,38 +207,54 @@ next_less : (past : Past) (records : List Rec) → next_txn past ≤ next_txn (a
 next_less past [] = omega arith
 next_less past (rec ∷ records) = omega (arith, next_less (Applied rec ∷ past) records)
 
+both_less : (a b most : ℕ) → a ≤ most → b ≤ most → max a b ≤ most
+both_less a b most x y = grind (arith, x, y)
+
 -- the frames that are there are what is settled
-pub settled_recovers : (s : State) (image : Files) (earlier : List LogFile) (birth number : ℕ) (frames : List (List Rec)) (records : List Rec) → IsBirth birth → Logs birth s earlier frames records → HasLog image earlier number (HasFrames birth number frames) → (txn : ℕ) × (txn ≤ s.txn) × Recovers image (base_of s) txn
-settled_recovers s image earlier birth number frames records is_birth log has =
-    let settled : Past = applied (begun birth earlier) (flat frames) in
-    let it = frames_recover image earlier birth number frames is_birth has log.sound log.legal in
-    (next_txn settled, omega (arith, next_less settled records, log.mirrors.next), subst (λ (b : Base). Recovers image b (next_txn settled)) (sym log.mirrors.base) it)
+pub settled_recovers : (s : State) (folder : Files) (birth number : ℕ) (frames : List (List Rec)) (records : List Rec) → Logs folder birth number s frames records → IsSomeAnd (folder (Log number)) (HasFrames birth number frames)
+    → (txn : ℕ) × (txn ≤ s.txn) × RecoversTo folder (base_of s) txn
+settled_recovers s folder birth number frames records log has =
+    let goes = log.goes [] (subst (λ (l : List (List Rec)). IsSomeAnd (folder (Log number)) (HasFrames birth number l)) (sym (append-nil frames)) has) in
+    let txn : ℕ = max log.start.txn (next_txn log.past) in (
+      txn,
+      both_less log.start.txn (next_txn log.past) s.txn log.low (omega (arith, next_less log.past records, log.mirrors.next)),
+      subst (λ (b : Base). RecoversTo folder b txn) (sym log.mirrors.base) (frames_recover folder log.start log.past birth frames [] goes tt),
+    )
 
 pub flush_recovers : FlushRecovers
-flush_recovers s image earlier birth number frames records is_birth log has = from (or_some (image (Log number)) (HasFrames birth number frames) (HasFrames birth number (frames ++ records ∷ [])) has.last)
+flush_recovers s folder birth number frames records log has = from (or_some (folder (Log number)) (HasFrames birth number frames) (HasFrames birth number (frames ++ records ∷ [])) has)
   where
-    settled : Past
-    settled = applied (begun birth earlier) (flat frames)
-
-    more : applied (begun birth earlier) (flat (frames ++ records ∷ [])) ≡ applied settled records
-    more = ap (λ (l : List Rec). applied (begun birth earlier) l) (flat-push frames records) ∙ applied-append (begun birth earlier) (flat frames) records
-
-    from : IsSomeAnd (image (Log number)) (HasFrames birth number frames) ⊎ IsSomeAnd (image (Log number)) (HasFrames birth number (frames ++ records ∷ []))
-        → (txn : ℕ) × (txn ≤ s.txn) × (Recovers image (base_of s) txn ⊎ Recovers image (after_journal (base_of s) s.staged) txn)
-    from (inl lacks) =
-        let it = frames_recover image earlier birth number frames is_birth (record { small = has.small; before = has.before; last = lacks; none = has.none }) log.sound log.legal in
-        (next_txn settled, omega (arith, next_less settled records, log.mirrors.next), inl (subst (λ (b : Base). Recovers image b (next_txn settled)) (sym log.mirrors.base) it))
+    from : IsSomeAnd (folder (Log number)) (HasFrames birth number frames) ⊎ IsSomeAnd (folder (Log number)) (HasFrames birth number (frames ++ records ∷ []))
+        → (txn : ℕ) × (txn ≤ s.txn) × (RecoversTo folder (base_of s) txn ⊎ RecoversTo folder (after_journal (base_of s) s.staged) txn)
+    from (inl lacks) = let it = settled_recovers s folder birth number frames records log lacks in (it.0, it.1, inl it.2)
     from (inr holds) =
-        let legal : AreLegal empty_base (begun birth earlier) (flat (frames ++ records ∷ [])) = subst (λ (l : List Rec). AreLegal empty_base (begun birth earlier) l) (sym (flat-push frames records)) (legal-append (begun birth earlier) (flat frames) records log.legal log.mirrors.legal) in
-        let it = frames_recover image earlier birth number (frames ++ records ∷ []) is_birth (record { small = has.small; before = has.before; last = holds; none = has.none }) log.sound legal in
-        let same : Recovers image (after_journal empty_base (journal (applied settled records))) (next_txn (applied settled records)) = subst (λ (p : Past). Recovers image (after_journal empty_base (journal p)) (next_txn p)) more it in
-        (next_txn (applied settled records), log.mirrors.next, inr (subst (λ (b : Base). Recovers image b (next_txn (applied settled records))) (sym (staged_base empty_base s settled records log.mirrors)) same))
+        let all : records ++ [] ≡ records = append-nil records in
+        let legal = subst (λ (l : List Rec). AreLegal log.start.base log.past l) (sym all) log.mirrors.legal in
+        let it = frames_recover folder log.start log.past birth frames (records ∷ []) (log.goes (records ∷ []) holds) legal in
+        let txn : ℕ = max log.start.txn (next_txn (applied log.past records)) in
+        let same : RecoversTo folder (after_journal log.start.base (journal (applied log.past records))) txn = subst (λ (l : List Rec). RecoversTo folder (after_journal log.start.base (journal (applied log.past l))) (max log.start.txn (next_txn (applied log.past l)))) all it in
+        (txn, both_less log.start.txn (next_txn (applied log.past records)) s.txn log.low log.mirrors.next, inr (subst (λ (b : Base). RecoversTo folder b txn) (sym (staged_base log.start.base s log.past records log.mirrors)) same))
 
 pub flush_logged : FlushIsLogged
-flush_logged birth s earlier frames records log staged_earlier =
-    let more : applied (begun birth earlier) (flat (frames ++ records ∷ [])) ≡ applied (applied (begun birth earlier) (flat frames)) records = ap (λ (l : List Rec). applied (begun birth earlier) l) (flat-push frames records) ∙ applied-append (begun birth earlier) (flat frames) records in
-    record {
-      sound = log.sound;
-      legal = subst (λ (l : List Rec). AreLegal empty_base (begun birth earlier) l) (sym (flat-push frames records)) (legal-append (begun birth earlier) (flat frames) records log.legal log.mirrors.legal);
-      mirrors = subst (λ (p : Past). Mirrors empty_base (settle s) p []) (sym more) (flush_mirrored empty_base s (applied (begun birth earlier) (flat frames)) records log.mirrors staged_earlier);
+flush_logged folder birth number s frames records log staged_earlier = record {
+  start = log.start;
+  past = applied log.past records;
+  goes = λ more has. further more (log.goes (records ∷ more) (subst (λ (l : List (List Rec)). IsSomeAnd (folder (Log number)) (HasFrames birth number l)) (append_assoc frames (records ∷ []) more) has));
+  low = log.low;
+  mirrors = flush_mirrored log.start.base s log.past records log.mirrors staged_earlier;
+}
+  where
+    marks : (found : Past) (more : List (List Rec)) → AreMarks birth found log.past frames (records ∷ more) → AreMarks birth found (applied log.past records) (frames ++ records ∷ []) more
+    marks found more (inl is) = inl (is ∙ applied-append log.past records (flat more))
+    marks found more (inr is) = absurd (some_more is.1)
+      where
+        some_more : records ∷ more ≡ [] → ⊥
+        some_more none = cc
+
+    further : (more : List (List Rec)) → GoesOn folder log.start log.past birth frames (records ∷ more) → GoesOn folder log.start (applied log.past records) birth (frames ++ records ∷ []) more
+    further more goes = record {
+      found = goes.found;
+      begins = goes.begins;
+      sound = λ legal. goes.sound (legal-append log.start.base log.past records (flat more) log.mirrors.legal legal);
+      marks = marks (past_lines (start_past log.start) goes.found) more goes.marks;
     }

@@ -1,55 +1,28 @@
 -- A log that goes on in a next file: what a crash leaves meanwhile, and the log after it.
 use Rattle.std.proofs.Common.{zero, suc, ◌⊎◌, inl, inr, ◌≡◌, ◌<◌, ◌≤◌, ◌+◌, ◌-◌, ◌++◌, ◌∷◌, [], ℕ, List, length, length-append, Option, Some, None, Bool, true, false, refl, sym, ◌∙◌, ap, subst, arith}
 use Rattle.std.proofs.lemmas.List.{append-nil}
-use Rattle.std.specs.Prelude.{IsSome, IsSomeAnd}
-use Rattle.flume_host.specs.Folder.{Allows, Entry, Files, same_name, settle_entry}
+use Rattle.std.specs.Prelude.{IsSome, IsSomeAnd, if◌then◌else◌}
+use Rattle.flume_host.specs.Folder.{Allows, Entry, Files, Gone, IsImage, same_name, settle_entry, with_at}
 use Rattle.flume_host.specs.Told.{Changes, LeavesOnly, OneFile, Tells, Told}
 use Rattle.flume_host.specs.declared.names.FileName.{FileName}
-use Rattle.flume_host.specs.declared.names.FileName.TheVariants.{Check, Log}
-use Rattle.flume_host.proofs.Images.{same_name_is}
+use Rattle.flume_host.specs.declared.names.FileName.TheVariants.{Log}
+use Rattle.flume_host.proofs.Images.{same_name_is, same_name_self}
 use Rattle.flume_host.proofs.Telling.{back, follows, tells_more}
 use Rattle.record_form.specs.declared.record.Rec.{Rec}
-use Rattle.channel_log.specs.Frames.{Content, Holds, Whole, header, opened}
+use Rattle.channel_log.specs.Frames.{header, opened}
 use Rattle.channel_log.specs.Writer.{HasFrames, IsAtRest, IsBlank, IsPending, IsReady, IsUnused, MustRoll, Writer, file_of}
 use Rattle.channel_face.specs.Machine.{State, base_of}
-use Rattle.channel_replay.specs.declared.line.Line.{Line}
 use Rattle.channel_replay.specs.Marks.{Past}
-use Rattle.channel_replay.specs.Recover.{AreLogs, AreSound, LogFile, empty_base, file_lines, lines, past_lines}
-use Rattle.channel_replay.proofs.Lines.{lines-append, past_lines-append, sound_append}
-use Rattle.channel_writing.specs.Folders.{IsAsBefore, IsNextFile}
-use Rattle.channel_writing.specs.Logs.{HasLog, Logs, begun, flat}
-use Rattle.channel_writing.specs.Mirrors.{Mirrors, applied}
+use Rattle.channel_replay.specs.Recover.{past_lines}
+use Rattle.channel_replay.specs.Start.{start_past}
+use Rattle.checkpoint_opening.proofs.Growing.{other_log}
+use Rattle.channel_writing.specs.Folders.{IsAsBefore}
+use Rattle.channel_writing.specs.Logs.{AreMarks, GoesOn, Logs}
 use Rattle.channel_writing.specs.Touches.{ChangesAlone, FillsFiles, IsFullFor, WritesLast}
 use Rattle.channel_writing.specs.Written.{IsLogged, OnDisk, RecoversSettled, Waits}
-use Rattle.channel_writing.proofs.Flushing.{as_read, closed_frames, none_waits, other_log, same_logs}
+use Rattle.channel_writing.proofs.Flushing.{as_read, none_waits, own_file}
 use Rattle.channel_writing.proofs.Opening.{as_before_opens, only_more}
-use Rattle.channel_writing.proofs.Recovering.{settled_recovers, whole_past, whole_sound}
-
--- a folder's log files, and the one after them
-logs_next : (files : Files) (from number : ℕ) (earlier : List LogFile) (content : Content) → AreLogs files from number earlier → from ≤ number → IsSomeAnd (files (Log number)) (λ bytes. Holds number bytes content)
-    → AreLogs files from (number + 1) (earlier ++ record { number = number; content = content } ∷ [])
-logs_next files from number [] content before low last = (low, omega arith, before, last, λ n up down. absurd (omega (arith, up, down)))
-logs_next files from number (log ∷ earlier) content before low last =
-    (before.0, omega (arith, before.1), before.2, before.3, logs_next files (log.number + 1) number earlier content before.4 (omega (arith, before.1)) last)
-
--- a file that was written whole
-abbrev full : ℕ → ℕ → List (List Rec) → LogFile
-full birth number frames = record { number = number; content = Whole birth frames }
-
--- what was written in it stands before the next file, which drops nothing
-rolled_logs : (birth number : ℕ) (s : State) (earlier : List LogFile) (frames : List (List Rec)) (records : List Rec) → Logs birth s earlier frames records → Logs 2 s (earlier ++ full birth number frames ∷ []) [] records
-rolled_logs birth number s earlier frames records log =
-    let past : Past = past_lines [] (lines earlier) in
-    let found : List Line = file_lines number (Whole birth frames) in
-    let all_lines : lines (earlier ++ full birth number frames ∷ []) ≡ lines earlier ++ found =
-    lines-append earlier (full birth number frames ∷ []) ∙ ap (λ (l : List Line). lines earlier ++ l) (append-nil found) in
-    let there : past_lines [] (lines (earlier ++ full birth number frames ∷ [])) ≡ applied (begun birth earlier) (flat frames) =
-    ap (λ (l : List Line). past_lines [] l) all_lines ∙ (past_lines-append [] (lines earlier) found ∙ whole_past birth past number frames) in
-    record {
-      sound = subst (λ (l : List Line). AreSound empty_base [] l) (sym all_lines) (sound_append empty_base [] (lines earlier) found log.sound (whole_sound birth past number frames log.legal));
-      legal = tt;
-      mirrors = subst (λ (p : Past). Mirrors empty_base s p records) (sym there) log.mirrors;
-    }
+use Rattle.channel_writing.proofs.Recovering.{grown_goes, length-header, settled_recovers}
 
 -- each file is as reads give it, the log's own too
 settled_all : (t : Told) (w : Writer) (s : State) (records : List Rec) → OnDisk t w s records → (name : FileName) → t.now name ≡ settle_entry (t.reads name)
@@ -66,35 +39,82 @@ roll_unused told w s waits = λ t is.
     let none : t.reads (Log (w.file + 1)) ≡ None = disk.none (w.file + 1) (omega arith) in
     (none, settled_all t w s waits.records disk (Log (w.file + 1)) ∙ ap settle_entry none)
 
+-- the folder before the next file was begun
+before_next : Files → ℕ → Files
+before_next folder number = with_at folder (Log number) None
+
+next_none : (folder : Files) (number : ℕ) → before_next folder number (Log number) ≡ None
+unfolding before_next
+next_none folder number = ap (λ (b : Bool). if b then None else folder (Log number)) (same_name_self (Log number))
+
+next_others : (folder : Files) (number : ℕ) (name : FileName) → same_name name (Log number) ≡ false → before_next folder number name ≡ folder name
+unfolding before_next
+next_others folder number name differs = ap (λ (b : Bool). if b then None else folder name) differs
+
+module _ (t : Told) (w : Writer) (s : State) (records : List Rec) (disk : OnDisk t w s records) (folder : Files) (others : (name : FileName) → same_name name (Log (w.file + 1)) ≡ false → Allows (t.now name) (folder name)) where
+  abbrev earlier : Files
+  earlier = before_next folder (w.file + 1)
+
+  -- it was as a crash may have left it
+  earlier_left : IsImage t.now earlier
+  earlier_left name = from (same_name name (Log (w.file + 1))) refl
+    where
+      none_allowed : Allows (t.now (Log (w.file + 1))) (earlier (Log (w.file + 1)))
+      none_allowed =
+          subst (λ (e : Entry). Allows e (earlier (Log (w.file + 1)))) (sym (settled_all t w s records disk (Log (w.file + 1)) ∙ ap settle_entry (disk.none (w.file + 1) (omega arith))))
+          (subst (λ (o : Option (List ℕ)). Allows Gone o) (sym (next_none folder (w.file + 1))) tt)
+
+      from : (b : Bool) → same_name name (Log (w.file + 1)) ≡ b → Allows (t.now name) (earlier name)
+      from false differs = subst (λ (o : Option (List ℕ)). Allows (t.now name) o) (sym (next_others folder (w.file + 1) name differs)) (others name differs)
+      from true same = subst (λ (n : FileName). Allows (t.now n) (earlier n)) (sym (same_name_is name (Log (w.file + 1)) same)) none_allowed
+
+  -- nor had it a later file
+  earlier_none : (n : ℕ) → w.file + 1 ≤ n → earlier (Log n) ≡ None
+  earlier_none n more =
+      as_read None (earlier (Log n)) (subst (λ (e : Entry). Allows e (earlier (Log n))) (settled_all t w s records disk (Log n) ∙ ap settle_entry (disk.none n (omega (arith, more)))) (earlier_left (Log n)))
+
+  abbrev log : Logs earlier disk.birth w.file s disk.frames records
+  log = disk.logs earlier (λ name differs. earlier_left name)
+
+  -- its log went on by no frame more
+  earlier_goes : GoesOn earlier log.start log.past disk.birth disk.frames []
+  earlier_goes = log.goes [] (subst (λ (l : List (List Rec)). IsSomeAnd (earlier (Log w.file)) (HasFrames disk.birth w.file l)) (sym (append-nil disk.frames)) (own_file t w s records earlier disk earlier_left))
+
+-- where the file has a frame, its marks are those of its lines
+framed_marks : (birth number gate : ℕ) (found past : Past) (frames : List (List Rec)) → gate ≡ length (header birth number ++ opened frames) → 16 < gate → AreMarks birth found past frames [] → found ≡ past
+framed_marks birth number gate found past frames offset framed (inl is) = is
+framed_marks birth number gate found past frames offset framed (inr is) =
+    absurd (omega (arith, framed, offset, ap (λ (l : List (List Rec)). length (header birth number ++ opened l)) is.0, length-append (header birth number) (opened []), length-header birth number))
+
 -- the log goes on in the next file
 rolled_disk : (t u : Told) (w : Writer) (s : State) (records : List Rec) → OnDisk t w s records → 16 < w.gate → w.file < 4_294_967_295 → Changes (Log (w.file + 1)) IsBlank 1 t u → IsAtRest u 2 (w.file + 1) 16 []
     → OnDisk u (record w { file = w.file + 1; gate = 16; started = false }) s records
 rolled_disk t u w s records disk framed low changes rest = record {
-  earlier = disk.earlier ++ full disk.birth w.file disk.frames ∷ [];
   birth = 2;
   is_birth = inr refl;
   frames = [];
   rest = rest;
   still = λ name differs. (changes.others name differs).0 ∙ (settled_all t w s records disk name ∙ ap settle_entry (sym (changes.others name differs).1));
   small = omega (arith, low);
-  before = logs_next u.reads 0 w.file disk.earlier (Whole disk.birth disk.frames) (same_logs t.reads u.reads 0 w.file disk.earlier (λ n less. spared n (λ same. absurd (omega (arith, less, same)))) disk.before) (omega arith) own;
-  none = λ n high. spared n (λ same. absurd (omega (arith, high, same))) ∙ disk.none n (omega (arith, high));
-  unchecked = λ n. (changes.others (Check n) refl).1 ∙ disk.unchecked n;
-  logs = rolled_logs disk.birth w.file s disk.earlier disk.frames records disk.logs;
+  none = λ n high. (changes.others (Log n) (other_log n (w.file + 1) (λ same. absurd (omega (arith, high, same))))).1 ∙ disk.none n (omega (arith, high));
+  logs = λ folder others. goes_on folder (λ name differs. subst (λ (e : Entry). Allows e (folder name)) (changes.others name differs).0 (others name differs));
 }
   where
-    spared : (n : ℕ) → (n ≡ w.file + 1 → ⊥) → u.reads (Log n) ≡ t.reads (Log n)
-    spared n other = (changes.others (Log n) (other_log n (w.file + 1) other)).1
-
-    bytes : List ℕ
-    bytes = file_of disk.birth w.file disk.frames
-
-    long : 17 < length bytes
-    long = omega (arith, length-append (header disk.birth w.file ++ opened disk.frames) (0 ∷ []), disk.rest.offset, framed)
-
-    own : IsSomeAnd (u.reads (Log w.file)) (λ b. Holds w.file b (Whole disk.birth disk.frames))
-    own = subst (λ (o : Option (List ℕ)). IsSomeAnd o (λ b. Holds w.file b (Whole disk.birth disk.frames))) (sym (spared w.file (λ same. absurd (omega (arith, same))) ∙ disk.rest.reads))
-        (long, (disk.is_birth, closed_frames disk.birth w.file disk.frames disk.rest.each))
+    goes_on : (folder : Files) → ((name : FileName) → same_name name (Log (w.file + 1)) ≡ false → Allows (t.now name) (folder name)) → Logs folder 2 (w.file + 1) s [] records
+    goes_on folder others =
+        let before = earlier_goes t w s records disk folder others in
+        let own = disk.logs (before_next folder (w.file + 1)) (λ name differs. earlier_left t w s records disk folder others name) in
+        let same : past_lines (start_past own.start) before.found ≡ own.past = framed_marks disk.birth w.file w.gate (past_lines (start_past own.start) before.found) own.past disk.frames disk.rest.offset framed before.marks in
+        record {
+          start = own.start;
+          past = own.past;
+          goes = λ more has.
+              subst (λ (p : Past). GoesOn folder own.start p 2 [] more) same
+              (grown_goes (before_next folder (w.file + 1)) folder own.start before.found 2 (w.file + 1) more (inr refl) (omega (arith, low)) (earlier_none t w s records disk folder others)
+              (λ name differs. sym (next_others folder (w.file + 1) name differs)) before.begins (before.sound tt) has);
+          low = own.low;
+          mirrors = own.mirrors;
+        }
 
 pub rolled_logged : (told told' : Option Told) (w w' : Writer) (b : ℕ) (s : State) → IsLogged told w b s → 16 < w.gate → w.file < 4_294_967_295 → Tells told told' (Changes (Log (w.file + 1)) IsBlank 1)
     → IsReady told' 2 (w.file + 1) 16 [] → w' ≡ record w { file = w.file + 1; gate = 16; started = false } → IsLogged told' w' b s
@@ -113,33 +133,28 @@ rolled_logged told told' w w' b s log framed low changes ready is = rw is (recor
 })
 
 -- a crash meanwhile leaves the next file, where it is there, so that it counts as empty: what is settled is left
-next_of : (t : Told) (w : Writer) (s : State) (records : List Rec) → OnDisk t w s records → w.file < 4_294_967_295 → IsNextFile t.reads (w.file + 1)
-next_of t w s records disk low = record {
-  some = omega arith;
-  small = omega (arith, low);
-  none = λ n more. disk.none n (omega (arith, more));
-  last = λ later.
-      let own : w.file + 1 - 1 ≡ w.file = omega arith in
-      subst (λ (o : Option (List ℕ)). IsSome o) (sym (ap (λ (n : ℕ). t.reads (Log n)) own ∙ disk.rest.reads)) refl;
-}
-
 rolls_image : (t : Told) (w : Writer) (s : State) (records : List Rec) (image : Files) → OnDisk t w s records → w.file < 4_294_967_295 → OneFile t.now (Log (w.file + 1)) IsBlank image → RecoversSettled s image
 rolls_image t w s records image disk low one =
-    let before : IsAsBefore t.reads image = inr (record {
+    let earlier : Files = before_next image (w.file + 1) in
+    let left = earlier_left t w s records disk image one.others in
+    let own = own_file t w s records earlier disk left in
+    let found = settled_recovers s earlier disk.birth w.file disk.frames records (disk.logs earlier (λ name differs. left name)) own in
+    let before : IsAsBefore earlier image = inr (record {
       number = w.file + 1;
-      next = next_of t w s records disk low;
+      next = record {
+        some = omega arith;
+        small = omega (arith, low);
+        none = earlier_none t w s records disk image one.others;
+        last = λ later. let same : w.file + 1 - 1 ≡ w.file = omega arith in subst (λ (n : ℕ). IsSome (earlier (Log n))) (sym same) (is_there (earlier (Log w.file)) (HasFrames disk.birth w.file disk.frames) own);
+      };
       last = one.file;
-      others = λ name differs. as_read (t.reads name) (image name) (subst (λ (e : Entry). Allows e (image name)) (settled_all t w s records disk name) (one.others name differs));
+      others = λ name differs. sym (next_others image (w.file + 1) name differs);
     }) in
-    let frames : List ℕ → Type 0 = HasFrames disk.birth w.file disk.frames in
-    let has : HasLog t.reads disk.earlier w.file frames = record {
-      small = disk.small;
-      before = disk.before;
-      last = subst (λ (o : Option (List ℕ)). IsSomeAnd o frames) (sym disk.rest.reads) (closed_frames disk.birth w.file disk.frames disk.rest.each);
-      none = disk.none;
-    } in
-    let found = settled_recovers s t.reads disk.earlier disk.birth w.file disk.frames records disk.is_birth disk.logs has in
-    (found.0, found.1, as_before_opens t.reads image (base_of s) found.0 before (disk.unchecked, found.2))
+    (found.0, found.1, as_before_opens earlier image (base_of s) found.0 before found.2)
+  where
+    is_there : (o : Option (List ℕ)) (P : List ℕ → Type 0) → IsSomeAnd o P → IsSome o
+    is_there None P is = absurd is
+    is_there (Some bytes) P is = refl
 
 pub roll_moments : (told told' : Option Told) (w : Writer) (s : State) → Waits told w s → w.file < 4_294_967_295 → Tells told told' (Changes (Log (w.file + 1)) IsBlank 1) → Tells told told' (λ t u. LeavesOnly t u (RecoversSettled s))
 roll_moments told told' w s waits low changes =

@@ -5,7 +5,7 @@ use Rattle.flume_host.proofs.Moments.{clock_rises}
 use Rattle.flume_host.proofs.Telling.{back}
 use Rattle.flume_host.specs.Told.{LeavesOnly, Tells, Told, clock}
 use Rattle.event_core.specs.Content.{Content}
-use Rattle.event_core.specs.Journal.{is_among, taken_numbers}
+use Rattle.event_core.specs.Journal.{Base, is_among, taken_numbers}
 use Rattle.event_core.specs.declared.journal.Entry.{Entry}
 use Rattle.event_core.specs.declared.journal.Entry.TheVariants.{Puts, Takes}
 use Rattle.channel_log.specs.Writer.{Writer}
@@ -20,7 +20,6 @@ use Rattle.channel_face.proofs.Numbers.{among_times, number_high, number_of, tim
 use Rattle.channel_face.proofs.Opened.{puts_of-some, takes_of-some}
 use Rattle.channel_face.proofs.Sound.{IsSoundState, sound_after}
 use Rattle.txn_core.proofs.Kept.{few_opened}
-use Rattle.channel_replay.specs.Recover.{empty_base}
 use Rattle.channel_replay.specs.StartLaws.{done_of}
 use Rattle.channel_writing.specs.Mirrors.{busy, one_if_done}
 use Rattle.channel_writing.specs.Written.{IsLogged, MayRecover, MayRest, OnDisk, Waits}
@@ -28,6 +27,7 @@ use Rattle.channel_writing.specs.Whole.{IsWhole}
 use Rattle.channel_writing.proofs.Opens.{busy_push, busy_without, length_without}
 use Rattle.channel_writing.proofs.Ending.{begin_mirrored, end_mirrored}
 use Rattle.channel_writing.proofs.Flushing.{rest_exactly}
+use Rattle.channel_writing.proofs.Writes.{disk_steps}
 use Rattle.channel_writing.specs.Touches.{WritesOn, HadNoRoom, IsSpentLog, Rests, length_before}
 use Rattle.std.specs.Prelude.{IsSomeAnd}
 use Rattle.flume_host.specs.declared.names.FileName.TheVariants.{Log}
@@ -47,8 +47,9 @@ differ : {A : Type 0} → true ≡ false → A
 differ is = absurd (cc)
 
 -- the log is as before, and the state changed so that it has no record
-log_same : (told : Option Told) (w : Writer) (b : ℕ) (s s' : State) → IsLogged told w b s → b ≡ busy s'.opened → length s'.opened ≤ 1024 → s'.broken ≡ s.broken → s'.rules.limits.max_file ≡ s.rules.limits.max_file → ((settled : Past) (records : List Rec) → Mirrors empty_base s settled records → Mirrors empty_base s' settled records) → IsLogged told w b s'
-log_same told w b s s' log many few broken limit step = record {
+log_same : (told : Option Told) (w : Writer) (b : ℕ) (s s' : State) → IsLogged told w b s → b ≡ busy s'.opened → length s'.opened ≤ 1024 → s'.broken ≡ s.broken → s'.rules.limits.max_file ≡ s.rules.limits.max_file → s.txn ≤ s'.txn
+    → ((start : Base) (settled : Past) (records : List Rec) → Mirrors start s settled records → Mirrors start s' settled records) → IsLogged told w b s'
+log_same told w b s s' log many few broken limit up step = record {
   busy_is = many;
   few = few;
   room = log.room;
@@ -56,23 +57,8 @@ log_same told w b s s' log many few broken limit step = record {
   waits = λ whole. same (log.waits (sym broken ∙ whole));
 }
   where
-    same_disk : (t : Told) (records : List Rec) → OnDisk t w s records → OnDisk t w s' records
-    same_disk t records disk = record {
-      earlier = disk.earlier;
-      birth = disk.birth;
-      is_birth = disk.is_birth;
-      frames = disk.frames;
-      rest = disk.rest;
-      still = disk.still;
-      small = disk.small;
-      before = disk.before;
-      none = disk.none;
-      unchecked = disk.unchecked;
-      logs = record { sound = disk.logs.sound; legal = disk.logs.legal; mirrors = step _ records disk.logs.mirrors };
-    }
-
     same : Waits told w s → Waits told w s'
-    same waits = record { records = waits.records; pending = waits.pending; disk = λ t is. same_disk t waits.records (waits.disk t is) }
+    same waits = record { records = waits.records; pending = waits.pending; disk = λ t is. disk_steps t w s s' waits.records waits.records (waits.disk t is) up (λ start settled. step start settled waits.records) }
 
 -- a call that leaves the disk and what is settled and staged alone leaves the images, too
 rests_closed : (told : Option Told) (s s' : State) (number : ℕ) (b : Bool) → s' ≡ cond b (close number s) s → MayRest told s → MayRest told s'
@@ -93,8 +79,8 @@ sound_then s call s' moves sound = subst IsSoundState (sym moves.state) (sound_a
 
 begun_logged : (told : Option Told) (w : Writer) (b : ℕ) (s : State) (entry : Entry) → IsLogged told w b s → done_of (Some entry) ≡ None → length s.opened < 1024 → s.txn < 2 ^ 64 - 1 → IsLogged told w b (record s { opened = s.opened ++ (s.txn, entry) ∷ []; txn = s.txn + 1 })
 begun_logged told w b s entry log idle room below =
-    log_same told w b s (record s { opened = s.opened ++ (s.txn, entry) ∷ []; txn = s.txn + 1 }) log (omega (arith, log.busy_is, busy_push s.opened (s.txn, entry), ap one_if_done idle)) (omega (arith, room, length-append s.opened ((s.txn, entry) ∷ []))) refl refl
-    (λ settled records m. begin_mirrored empty_base s settled records entry m idle room below)
+    log_same told w b s (record s { opened = s.opened ++ (s.txn, entry) ∷ []; txn = s.txn + 1 }) log (omega (arith, log.busy_is, busy_push s.opened (s.txn, entry), ap one_if_done idle)) (omega (arith, room, length-append s.opened ((s.txn, entry) ∷ []))) refl refl (omega arith)
+    (λ start settled records m. begin_mirrored start s settled records entry m idle room below)
 
 pub begun_whole : (told : Option Told) (w : Writer) (b : ℕ) (s s' : State) (entry : Entry) (reply : Result Token BeginRefused) → IsWhole told w b s → AdmitsBegin s reply → s' ≡ after_begin entry s reply → IsSoundState s' → done_of (Some entry) ≡ None → IsWhole told w b s'
 begun_whole told w b s s' entry (Ok token) whole may is sound idle =
@@ -123,8 +109,8 @@ failed_whole told w b s rests sound kind = record { logged = λ still. differ st
 -- a transaction that did nothing ends
 ended_logged : (told : Option Told) (w : Writer) (b : ℕ) (s : State) (txn : ℕ) (entry : Entry) → IsLogged told w b s → entry_of txn s.opened ≡ Some entry → done_of (Some entry) ≡ None → IsLogged told w b (close txn s)
 ended_logged told w b s txn entry log is idle =
-    log_same told w b s (close txn s) log (omega (arith, log.busy_is, busy_without s.opened txn entry is, ap one_if_done idle)) (omega (arith, log.few, length_without s.opened txn)) refl refl
-    (λ settled records m. end_mirrored empty_base s settled records txn entry m is idle)
+    log_same told w b s (close txn s) log (omega (arith, log.busy_is, busy_without s.opened txn entry is, ap one_if_done idle)) (omega (arith, log.few, length_without s.opened txn)) refl refl (omega arith)
+    (λ start settled records m. end_mirrored start s settled records txn entry m is idle)
 
 fits_number : (most n : ℕ) → cond (nat_lt most n) (Some (StageNo.Spent Number)) None ≡ None → n ≤ most
 fits_number most n none = grind (arith, nat_tests)

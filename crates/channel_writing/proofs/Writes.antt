@@ -4,6 +4,7 @@ use Rattle.std.proofs.lemmas.List.{append-nil}
 use Rattle.std.specs.List.{AllByRecursion}
 use Rattle.flume_host.specs.Told.{Told}
 use Rattle.event_core.specs.Content.{Content}
+use Rattle.event_core.specs.Journal.{Base}
 use Rattle.event_core.specs.declared.journal.Entry.{Entry}
 use Rattle.event_core.specs.declared.journal.Entry.TheVariants.{Puts, Takes}
 use Rattle.record_form.specs.declared.record.Rec.{Rec}
@@ -15,7 +16,6 @@ use Rattle.channel_log.specs.Frames.{IsFramed, record_bytes}
 use Rattle.channel_log.specs.Writer.{Appends, HasRoom, IsPending, Writer}
 use Rattle.channel_face.specs.Machine.{State, close, entry_of, free, next_number, stage, with_entry, without_entry}
 use Rattle.channel_replay.specs.Marks.{Past}
-use Rattle.channel_replay.specs.Recover.{empty_base}
 use Rattle.channel_replay.specs.StartLaws.{done_of}
 use Rattle.channel_writing.specs.Mirrors.{Mirrors, busy, one_if_done}
 use Rattle.channel_writing.specs.Written.{IsLogged, OnDisk, Waits, kept}
@@ -39,30 +39,43 @@ pending-push w w' records rec pending adds = record {
   each = all-push records rec pending.each adds.framed;
 }
 
+-- the disk has the log of another state, whose changes these records mirror
+pub disk_steps : (t : Told) (w : Writer) (s s' : State) (records records' : List Rec) → OnDisk t w s records → s.txn ≤ s'.txn → ((start : Base) (settled : Past) → Mirrors start s settled records → Mirrors start s' settled records') → OnDisk t w s' records'
+disk_steps t w s s' records records' disk up step = record {
+  birth = disk.birth;
+  is_birth = disk.is_birth;
+  frames = disk.frames;
+  rest = disk.rest;
+  still = disk.still;
+  small = disk.small;
+  none = disk.none;
+  logs = λ folder others.
+      let log = disk.logs folder others in
+      record { start = log.start; past = log.past; goes = log.goes; low = omega (arith, log.low, up); mirrors = step log.start.base log.past log.mirrors };
+}
+
+-- and of another writer that is at the same place
+disk_there : (t : Told) (w w' : Writer) (s : State) (records : List Rec) → OnDisk t w s records → w'.file ≡ w.file → w'.gate ≡ w.gate → OnDisk t w' s records
+disk_there t w w' s records disk file gate = record {
+  birth = disk.birth;
+  is_birth = disk.is_birth;
+  frames = disk.frames;
+  rest = rw (file, gate) disk.rest;
+  still = rw file disk.still;
+  small = rw file disk.small;
+  none = rw file disk.none;
+  logs = rw file disk.logs;
+}
+
 -- a record more waits, which mirrors a step of the state
-waits_more : (told : Option Told) (w w' : Writer) (s s' : State) (rec : Rec) → Waits told w s → Appends w w' rec → ((settled : Past) (records : List Rec) → Mirrors empty_base s settled records → Mirrors empty_base s' settled (records ++ rec ∷ [])) → Waits told w' s'
-waits_more told w w' s s' rec waits adds step =
+waits_more : (told : Option Told) (w w' : Writer) (s s' : State) (rec : Rec) → Waits told w s → Appends w w' rec → s.txn ≤ s'.txn → ((start : Base) (settled : Past) (records : List Rec) → Mirrors start s settled records → Mirrors start s' settled (records ++ rec ∷ [])) → Waits told w' s'
+waits_more told w w' s s' rec waits adds up step =
     let file : w'.file ≡ w.file = ap (λ (v : Writer). v.file) adds.is in
     let gate : w'.gate ≡ w.gate = ap (λ (v : Writer). v.gate) adds.is in
     record {
       records = waits.records ++ rec ∷ [];
       pending = pending-push w w' waits.records rec waits.pending adds;
-      disk = λ t is. more t (waits.disk t is) file gate;
-    }
-  where
-    more : (t : Told) → OnDisk t w s waits.records → w'.file ≡ w.file → w'.gate ≡ w.gate → OnDisk t w' s' (waits.records ++ rec ∷ [])
-    more t disk file gate = record {
-      earlier = disk.earlier;
-      birth = disk.birth;
-      is_birth = disk.is_birth;
-      frames = disk.frames;
-      rest = rw (file, gate) disk.rest;
-      still = rw file disk.still;
-      small = rw file disk.small;
-      before = rw file disk.before;
-      none = rw file disk.none;
-      unchecked = disk.unchecked;
-      logs = record { sound = disk.logs.sound; legal = disk.logs.legal; mirrors = step _ waits.records disk.logs.mirrors };
+      disk = λ t is. disk_there t w w' s' (waits.records ++ rec ∷ []) (disk_steps t w s s' waits.records (waits.records ++ rec ∷ []) (waits.disk t is) up (λ start settled. step start settled waits.records)) file gate;
     }
 
 longer_by : (w w' : Writer) (rec : Rec) → Appends w w' rec → length w'.bytes ≡ length w.bytes + length (spelling rec)
@@ -107,7 +120,7 @@ put_logged told w w' b b' s txn events event first log is is_first adds more roo
       few = omega (arith, log.few, length_with s.opened txn new);
       room = room_after w w' (Put txn event) b b' first adds more room;
       limit = same_limit w w' (Put txn event) adds ∙ log.limit;
-      waits = λ whole. waits_more told w w' s (record s { opened = with_entry txn new s.opened }) (Put txn event) (log.waits whole) adds (λ settled records m. put_mirrored empty_base s settled records txn events event m is);
+      waits = λ whole. waits_more told w w' s (record s { opened = with_entry txn new s.opened }) (Put txn event) (log.waits whole) adds (omega arith) (λ start settled records m. put_mirrored start s settled records txn events event m is);
     }
 
 pub take_logged : (told : Option Told) (w w' : Writer) (b b' : ℕ) (s : State) (txn : ℕ) (numbers : List ℕ) (item : ℕ × Content) (rest : List (ℕ × Content)) (first : Bool) → IsLogged told w b s → entry_of txn s.opened ≡ Some (Takes numbers) → free s ≡ item ∷ rest → first ≡ (length numbers == 0)
@@ -119,7 +132,7 @@ take_logged told w w' b b' s txn numbers item rest first log is free_is is_first
       few = omega (arith, log.few, length_with s.opened txn new);
       room = room_after w w' (Take txn item.0) b b' first adds more room;
       limit = same_limit w w' (Take txn item.0) adds ∙ log.limit;
-      waits = λ whole. waits_more told w w' s (record s { opened = with_entry txn new s.opened }) (Take txn item.0) (log.waits whole) adds (λ settled records m. take_mirrored empty_base s settled records txn numbers item rest m is free_is);
+      waits = λ whole. waits_more told w w' s (record s { opened = with_entry txn new s.opened }) (Take txn item.0) (log.waits whole) adds (omega arith) (λ start settled records m. take_mirrored start s settled records txn numbers item rest m is free_is);
     }
 
 rollback_length : (txn : ℕ) → length (spelling (Rollback txn)) ≡ 9
@@ -143,7 +156,7 @@ rollback_logged told w w' b b' s txn entry log is busy_one adds fewer =
       few = omega (arith, log.few, length_without s.opened txn);
       room = omega (arith, log.room, fewer, longer_by w w' (Rollback txn) adds, rollback_length txn);
       limit = same_limit w w' (Rollback txn) adds ∙ log.limit;
-      waits = λ whole. waits_more told w w' s (close txn s) (Rollback txn) (log.waits whole) adds (λ settled records m. rollback_mirrored empty_base s settled records txn entry m is busy_one);
+      waits = λ whole. waits_more told w w' s (close txn s) (Rollback txn) (log.waits whole) adds (omega arith) (λ start settled records m. rollback_mirrored start s settled records txn entry m is busy_one);
     }
 
 pub puts_done : (events : List Content) → 1 ≤ length events → done_of (Some (Puts events)) ≡ Some (Puts events)
@@ -159,14 +172,15 @@ record IsStaged (s s' : State) (txn : ℕ) : Type 0 where
   opened : s'.opened ≡ without_entry txn s.opened
   broken : s'.broken ≡ s.broken
   limit : s'.rules.limits.max_file ≡ s.rules.limits.max_file
+  txn : s.txn ≤ s'.txn
 
 staged_puts : (s : State) (txn : ℕ) (events : List Content) → 1 ≤ length events → IsStaged s (stage txn (Some (Puts events)) s) txn
 staged_puts s txn [] some = absurd (omega (arith, some))
-staged_puts s txn (e ∷ events) some = record { opened = refl; broken = refl; limit = refl }
+staged_puts s txn (e ∷ events) some = record { opened = refl; broken = refl; limit = refl; txn = omega arith }
 
 staged_takes : (s : State) (txn : ℕ) (numbers : List ℕ) → 1 ≤ length numbers → IsStaged s (stage txn (Some (Takes numbers)) s) txn
 staged_takes s txn [] some = absurd (omega (arith, some))
-staged_takes s txn (n ∷ numbers) some = record { opened = refl; broken = refl; limit = refl }
+staged_takes s txn (n ∷ numbers) some = record { opened = refl; broken = refl; limit = refl; txn = omega arith }
 
 pub commit_put_logged : (told : Option Told) (w w' : Writer) (b b' : ℕ) (s : State) (txn first count : ℕ) (events : List Content) → IsLogged told w b s → entry_of txn s.opened ≡ Some (Puts events) → 1 ≤ count → count ≡ length events → first ≡ next_number s → next_number s + length events ≤ 2 ^ 64 - 1
     → Appends w w' (CommitPut txn first count) → b' + 1 ≡ b → IsLogged told w' b' (stage txn (Some (Puts events)) s)
@@ -181,7 +195,7 @@ commit_put_logged told w w' b b' s txn first count events log is some counted fi
       few = omega (arith, log.few, length_without s.opened txn, ap (λ (l : List (ℕ × Entry)). length l) to.opened);
       room = omega (arith, log.room, fewer, longer_by w w' rec adds', commit_put_length txn (next_number s) (length events));
       limit = same_limit w w' rec adds' ∙ (log.limit ∙ sym to.limit);
-      waits = λ whole. waits_more told w w' s (stage txn (Some (Puts events)) s) rec (log.waits (sym to.broken ∙ whole)) adds' (λ settled records m. stage_put_mirrored empty_base s settled records txn events m is many fits);
+      waits = λ whole. waits_more told w w' s (stage txn (Some (Puts events)) s) rec (log.waits (sym to.broken ∙ whole)) adds' to.txn (λ start settled records m. stage_put_mirrored start s settled records txn events m is many fits);
     }
 
 pub commit_take_logged : (told : Option Told) (w w' : Writer) (b b' : ℕ) (s : State) (txn count : ℕ) (numbers : List ℕ) → IsLogged told w b s → entry_of txn s.opened ≡ Some (Takes numbers) → 1 ≤ count → count ≡ length numbers
@@ -196,5 +210,5 @@ commit_take_logged told w w' b b' s txn count numbers log is some counted adds f
       few = omega (arith, log.few, length_without s.opened txn, ap (λ (l : List (ℕ × Entry)). length l) to.opened);
       room = omega (arith, log.room, fewer, longer_by w w' rec adds', commit_take_length txn (length numbers));
       limit = same_limit w w' rec adds' ∙ (log.limit ∙ sym to.limit);
-      waits = λ whole. waits_more told w w' s (stage txn (Some (Takes numbers)) s) rec (log.waits (sym to.broken ∙ whole)) adds' (λ settled records m. stage_take_mirrored empty_base s settled records txn numbers m is many);
+      waits = λ whole. waits_more told w w' s (stage txn (Some (Takes numbers)) s) rec (log.waits (sym to.broken ∙ whole)) adds' to.txn (λ start settled records m. stage_take_mirrored start s settled records txn numbers m is many);
     }

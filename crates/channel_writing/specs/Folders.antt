@@ -4,23 +4,17 @@ use Rattle.flume_host.specs.Folder.{Files, IsImage, same_name}
 use Rattle.flume_host.specs.Causes.{Rose}
 use Rattle.flume_host.specs.Told.{DidPart, LeavesOnly, Settle, Tells, Told, WhereTold, done}
 use Rattle.flume_host.specs.declared.names.FileName.{FileName}
-use Rattle.flume_host.specs.declared.names.FileName.TheVariants.{Check, Log}
+use Rattle.flume_host.specs.declared.names.FileName.TheVariants.{Log}
 use Rattle.event_core.specs.Journal.{Base}
 use Rattle.channel_face.specs.declared.replies.Counter.TheVariants.{File}
 use Rattle.channel_face.specs.declared.replies.OpenCause.{OpenCause}
 use Rattle.channel_face.specs.declared.replies.OpenCause.TheVariants as causes
 use Rattle.channel_log.specs.Writer.{IsBlank, file_of}
-use Rattle.channel_replay.specs.Recover.{IsBadLog, Recovers}
-use Rattle.channel_replay.specs.declared.refused.ReplayRefused.{ReplayRefused}
-use Rattle.channel_replay.specs.declared.refused.ReplayRefused.TheVariants as replays
-
--- no checkpoint is there
-abbrev pub HasNoCheck : Files → Type 0
-HasNoCheck files = (n : ℕ) → files (Check n) ≡ None
-
--- the checkpoint of the least number
-abbrev pub IsFirstCheck : Files → ℕ → Type 0
-IsFirstCheck files number = IsSome (files (Check number)) × ((n : ℕ) → n < number → files (Check n) ≡ None)
+use Rattle.checkpoint.specs.Newest.{IsNewest}
+use Rattle.checkpoint_reading.specs.Fields.{IsFault}
+use Rattle.checkpoint_recovery.specs.Recovers.{IsBadLogFrom, RecoversTo}
+use Rattle.checkpoint_opening.specs.declared.refused.OpeningRefused.{OpeningRefused}
+use Rattle.checkpoint_opening.specs.declared.refused.OpeningRefused.TheVariants as openings
 
 -- the log file of a number
 abbrev pub log_name : Option ℕ → Option FileName
@@ -36,37 +30,36 @@ IsLastLog files (Some number) = IsSome (files (Log number)) × ((n : ℕ) → nu
 abbrev pub last_file : ℕ
 last_file = 2 ^ 32 - 1
 
--- A folder opens to what it recovers to: so many events are within the capacity, no checkpoint is there, and numbers of log files are left.
+-- A folder opens to what it recovers to from its newest checkpoint on: so many events are within the capacity, and numbers of log files are left.
 pub record Opens (files : Files) (capacity : ℕ) (base : Base) (txn : ℕ) : Type 0 where
-  pub check : HasNoCheck files
-  pub recovers : Recovers files base txn
+  pub recovers : RecoversTo files base txn
   pub within : length base.items ≤ capacity
   pub last : files (Log last_file) ≡ None
 
--- A folder opens to this where its events are within the capacity and a number of a log file is left: no checkpoint is there, and its log
--- recovers to it.
+-- a folder opens to this where its events are within the capacity and a number of a log file is left: from its newest checkpoint on it recovers to it
 abbrev pub OpensTo : Files → Base → ℕ → Type 0
-OpensTo files base txn = HasNoCheck files × Recovers files base txn
+OpensTo files base txn = RecoversTo files base txn
 
--- a folder without checkpoints leaves so many events of which P holds
+-- a folder leaves so many events of which P holds
 abbrev pub LeavesSo : Files → (ℕ → Type 0) → Type 0
-LeavesSo files P = HasNoCheck files × ((base : Base) × (txn : ℕ) × Recovers files base txn × P (length base.items))
+LeavesSo files P = (base : Base) × (txn : ℕ) × RecoversTo files base txn × P (length base.items)
 
 -- Why a folder does not open. A fault of the disk and out of memory say nothing of the folder.
 abbrev pub Refuses : Files → ℕ → OpenCause → Type 0
 Refuses files capacity causes.DiskFault = Unit {0}
-Refuses files capacity (causes.BadCheck file at) = IsFirstCheck files file × (at ≡ 0)
-Refuses files capacity (causes.BadLog file at) = HasNoCheck files × IsBadLog files file at
+Refuses files capacity (causes.BadCheck file at) = IsNewest files (Some file) × IsFault files file at
+Refuses files capacity (causes.BadLog file at) = IsBadLogFrom files file at
 Refuses files capacity (causes.OverCapacity count) = LeavesSo files (λ n. (count ≡ n) × (capacity < n))
 Refuses files capacity (causes.Spent counter) = (counter ≡ File) × LeavesSo files (λ n. n ≤ capacity) × IsSome (files (Log last_file))
 Refuses files capacity causes.NoMemory = Unit {0}
 
--- why a folder is not opened that was not replayed
-abbrev pub as_cause : ReplayRefused → OpenCause
-as_cause replays.DiskFault = causes.DiskFault
-as_cause (replays.BadLog file at) = causes.BadLog file at
-as_cause (replays.OverCapacity count) = causes.OverCapacity count
-as_cause replays.NoMemory = causes.NoMemory
+-- why a folder is not opened that was not read
+abbrev pub as_cause : OpeningRefused → OpenCause
+as_cause openings.DiskFault = causes.DiskFault
+as_cause (openings.BadCheck file at) = causes.BadCheck file at
+as_cause (openings.BadLog file at) = causes.BadLog file at
+as_cause (openings.OverCapacity count) = causes.OverCapacity count
+as_cause openings.NoMemory = causes.NoMemory
 
 -- the number of the log file after those that are there: one above the greatest, or 1
 pub record IsNextFile (files : Files) (number : ℕ) : Type 0 where

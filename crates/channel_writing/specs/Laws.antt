@@ -1,22 +1,22 @@
 -- Laws of the records that a channel writes: after each call the log mirrors the state again.
-use Rattle.std.specs.Prelude.{◌⊎◌, ◌≡◌, ◌<◌, ◌≤◌, ◌+◌, ◌-◌, ◌^◌, ℕ, List, [], ◌∷◌, ◌++◌, length, Some, None, false}
+use Rattle.std.specs.Prelude.{◌⊎◌, ◌≡◌, ◌<◌, ◌≤◌, ◌+◌, ◌-◌, ◌^◌, ℕ, List, [], ◌∷◌, ◌++◌, length, max, Some, None, IsSomeAnd, false}
 use Rattle.event_core.specs.Content.{Content}
 use Rattle.flume_host.specs.Folder.{Files}
+use Rattle.flume_host.specs.declared.names.FileName.TheVariants.{Log}
 use Rattle.event_core.specs.Journal.{Base, after_journal, is_among, taken_numbers}
 use Rattle.event_core.specs.declared.journal.Entry.{Entry}
 use Rattle.event_core.specs.declared.journal.Entry.TheVariants.{Puts, Takes}
 use Rattle.record_form.specs.declared.record.Rec.{Rec}
 use Rattle.record_form.specs.declared.record.Rec.TheVariants.{Put, Take, Rollback, CommitPut, CommitTake}
-use Rattle.channel_log.specs.Frames.{IsBirth}
 use Rattle.channel_log.specs.Writer.{HasFrames}
 use Rattle.channel_face.specs.Machine.{State, base_of, entry_of, with_entry, close, free, next_number, settle, stage}
 use Rattle.channel_replay.specs.Marks.{Past, journal, next_txn}
-use Rattle.channel_replay.specs.Recover.{AreSound, LogFile, Recovers, empty_base, lines}
 use Rattle.channel_face.proofs.Sound.{IsSoundState}
-use Rattle.channel_replay.specs.Start.{IsStart, start_past}
+use Rattle.channel_replay.specs.Start.{IsStart, Start, start_past}
 use Rattle.channel_replay.specs.StartLaws.{done_of, start_of}
 use Rattle.channel_writing.specs.Mirrors.{AreLegal, Mirrors, applied}
-use Rattle.channel_writing.specs.Logs.{HasLog, Logs, begun, flat}
+use Rattle.checkpoint_recovery.specs.Recovers.{RecoversTo}
+use Rattle.channel_writing.specs.Logs.{GoesOn, Logs, flat}
 
 -- A transaction that did nothing yet writes no record.
 abbrev pub BeginIsMirrored : Type 0
@@ -78,21 +78,21 @@ StartsLeaveTheSame =
     (a b : Base) (s : State) (p q : Past) (records more : List Rec) → Mirrors a s p records → Mirrors b s q more
     → (after_journal a (journal p) ≡ after_journal b (journal q)) × (after_journal a (journal (applied p records)) ≡ after_journal b (journal (applied q more)))
 
--- A log whose last file has these committed frames recovers to what they and the files before leave.
+-- A folder whose log goes on by legal records recovers to what they leave after its start.
 abbrev pub FramesRecover : Type 0
 FramesRecover =
-    (image : Files) (earlier : List LogFile) (birth number : ℕ) (frames : List (List Rec)) → IsBirth birth → HasLog image earlier number (HasFrames birth number frames) → AreSound empty_base [] (lines earlier) → AreLegal empty_base (begun birth earlier) (flat frames)
-    → Recovers image (after_journal empty_base (journal (applied (begun birth earlier) (flat frames)))) (next_txn (applied (begun birth earlier) (flat frames)))
+    (folder : Files) (start : Start) (past : Past) (birth : ℕ) (frames more : List (List Rec)) → GoesOn folder start past birth frames more → AreLegal start.base past (flat more)
+    → RecoversTo folder (after_journal start.base (journal (applied past (flat more)))) (max start.txn (next_txn (applied past (flat more))))
 
 -- While a channel's records are flushed as a frame more, a stop leaves what is settled, or that with what is staged.
 abbrev pub FlushRecovers : Type 0
 FlushRecovers =
-    (s : State) (image : Files) (earlier : List LogFile) (birth number : ℕ) (frames : List (List Rec)) (records : List Rec) → IsBirth birth → Logs birth s earlier frames records
-    → HasLog image earlier number (λ bytes. HasFrames birth number frames bytes ⊎ HasFrames birth number (frames ++ records ∷ []) bytes)
-    → (txn : ℕ) × (txn ≤ s.txn) × (Recovers image (base_of s) txn ⊎ Recovers image (after_journal (base_of s) s.staged) txn)
+    (s : State) (folder : Files) (birth number : ℕ) (frames : List (List Rec)) (records : List Rec) → Logs folder birth number s frames records
+    → IsSomeAnd (folder (Log number)) (λ bytes. HasFrames birth number frames bytes ⊎ HasFrames birth number (frames ++ records ∷ []) bytes)
+    → (txn : ℕ) × (txn ≤ s.txn) × (RecoversTo folder (base_of s) txn ⊎ RecoversTo folder (after_journal (base_of s) s.staged) txn)
 
 -- After a flush the log's frames are one more.
 abbrev pub FlushIsLogged : Type 0
 FlushIsLogged =
-    (birth : ℕ) (s : State) (earlier : List LogFile) (frames : List (List Rec)) (records : List Rec) → Logs birth s earlier frames records → ((n : ℕ) → next_number s ≤ n → is_among (taken_numbers s.staged) n ≡ false)
-    → Logs birth (settle s) earlier (frames ++ records ∷ []) []
+    (folder : Files) (birth number : ℕ) (s : State) (frames : List (List Rec)) (records : List Rec) → Logs folder birth number s frames records → ((n : ℕ) → next_number s ≤ n → is_among (taken_numbers s.staged) n ≡ false)
+    → Logs folder birth number (settle s) (frames ++ records ∷ []) []

@@ -1,11 +1,15 @@
--- The log files of a channel: earlier ones, and the one that it writes.
-use Rattle.std.specs.Prelude.{◌≡◌, ◌==◌, ◌<◌, ◌^◌, ℕ, List, [], ◌∷◌, ◌++◌, None, IsSomeAnd, if◌then◌else◌}
+-- How the log of a channel goes on in a folder.
+use Rattle.std.specs.Prelude.{◌≡◌, ◌⊎◌, ◌==◌, ◌≤◌, ℕ, List, [], ◌∷◌, ◌++◌, IsSomeAnd, if◌then◌else◌}
 use Rattle.flume_host.specs.Folder.{Files}
 use Rattle.flume_host.specs.declared.names.FileName.TheVariants.{Log}
 use Rattle.record_form.specs.declared.record.Rec.{Rec}
 use Rattle.channel_face.specs.Machine.{State}
+use Rattle.channel_log.specs.Writer.{HasFrames}
+use Rattle.channel_replay.specs.declared.line.Line.{Line}
 use Rattle.channel_replay.specs.Marks.{Past, Dropped}
-use Rattle.channel_replay.specs.Recover.{AreLogs, AreSound, LogFile, empty_base, lines, past_lines}
+use Rattle.channel_replay.specs.Recover.{AreSound, past_lines}
+use Rattle.channel_replay.specs.Start.{Start, start_past}
+use Rattle.checkpoint_recovery.specs.Recovers.{BeginsAt}
 use Rattle.channel_writing.specs.Mirrors.{AreLegal, Mirrors, applied}
 
 -- the records of frames
@@ -17,20 +21,22 @@ flat (frame ∷ frames) = frame ++ flat frames
 abbrev pub entered : ℕ → Past → Past
 entered birth past = if birth == 1 then Dropped ∷ past else past
 
--- the marks up to the file that is written, which has this birth
-abbrev pub begun : ℕ → List LogFile → Past
-begun birth earlier = entered birth (past_lines [] (lines earlier))
+-- The marks that were found are these and those of more frames; or the file of these frames has none yet, and is entered only once it has.
+abbrev pub AreMarks : ℕ → Past → Past → List (List Rec) → List (List Rec) → Type 0
+AreMarks birth found past frames more = (found ≡ applied past (flat more)) ⊎ ((frames ≡ []) × (more ≡ []) × (past ≡ entered birth found))
 
--- A folder has these log files and then one more, whose bytes have P.
-pub record HasLog (files : Files) (earlier : List LogFile) (number : ℕ) (P : List ℕ → Type 0) : Type 0 where
-  pub small : number < 2 ^ 32
-  pub before : AreLogs files 0 number earlier
-  pub last : IsSomeAnd (files (Log number)) P
-  pub none : (n : ℕ) → number < n → files (Log n) ≡ None
+-- A folder begins at this start, and its last log file has these frames, up to which it has these marks, and then more. Its lines are sound as far as the records of these are legal.
+pub record GoesOn (folder : Files) (start : Start) (past : Past) (birth : ℕ) (frames more : List (List Rec)) : Type 0 where
+  pub found : List Line
+  pub begins : BeginsAt folder start found
+  pub sound : AreLegal start.base past (flat more) → AreSound start.base (start_past start) found
+  pub marks : AreMarks birth (past_lines (start_past start) found) past frames more
 
--- A channel's log has these files without fault before it, and in its own file of this birth these frames and then these records, which
--- mirror its state.
-pub record Logs (birth : ℕ) (s : State) (earlier : List LogFile) (frames : List (List Rec)) (records : List Rec) : Type 0 where
-  pub sound : AreSound empty_base [] (lines earlier)
-  pub legal : AreLegal empty_base (begun birth earlier) (flat frames)
-  pub mirrors : Mirrors empty_base s (applied (begun birth earlier) (flat frames)) records
+-- A channel's log in a folder: from some start on it has the marks up to these frames of its last file and then these records, which mirror the
+-- channel's state, and it goes on so whichever frames the file has after its own.
+pub record Logs (folder : Files) (birth number : ℕ) (s : State) (frames : List (List Rec)) (records : List Rec) : Type 0 where
+  pub start : Start
+  pub past : Past
+  pub goes : (more : List (List Rec)) → IsSomeAnd (folder (Log number)) (HasFrames birth number (frames ++ more)) → GoesOn folder start past birth frames more
+  pub low : start.txn ≤ s.txn
+  pub mirrors : Mirrors start.base s past records

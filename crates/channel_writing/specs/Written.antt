@@ -1,6 +1,6 @@
 -- What a channel writes of its state, and what a stop leaves of it.
 use Rattle.std.specs.Prelude.{◌≡◌, ◌⊎◌, ◌<◌, ◌≤◌, ◌+◌, ◌*◌, ◌^◌, ℕ, List, [], length, Option, None, Bool, false, if◌then◌else◌}
-use Rattle.flume_host.specs.Folder.{Files, IsImage, same_name, settle_entry}
+use Rattle.flume_host.specs.Folder.{Allows, Files, IsImage, same_name, settle_entry}
 use Rattle.flume_host.specs.Told.{Told, WhereTold}
 use Rattle.flume_host.specs.declared.names.FileName.{FileName}
 use Rattle.flume_host.specs.declared.names.FileName.TheVariants.{Log}
@@ -9,8 +9,7 @@ use Rattle.record_form.specs.declared.record.Rec.{Rec}
 use Rattle.channel_log.specs.Frames.{IsBirth}
 use Rattle.channel_log.specs.Writer.{IsAtRest, IsPending, Writer}
 use Rattle.channel_face.specs.Machine.{State, base_of}
-use Rattle.channel_replay.specs.Recover.{AreLogs, LogFile}
-use Rattle.channel_writing.specs.Folders.{HasNoCheck, OpensTo}
+use Rattle.channel_writing.specs.Folders.{OpensTo}
 use Rattle.channel_writing.specs.Mirrors.{busy}
 use Rattle.channel_writing.specs.Logs.{Logs}
 
@@ -22,19 +21,20 @@ kept busy first = 21 * (busy + (if first then 1 else 0))
 abbrev pub AreStill : Told → ℕ → Type 0
 AreStill t file = (name : FileName) → same_name name (Log file) ≡ false → t.now name ≡ settle_entry (t.reads name)
 
+-- a folder whose files are as a crash may leave them, but for this log file
+abbrev pub LeavesOthers : Told → ℕ → Files → Type 0
+LeavesOthers t file folder = (name : FileName) → same_name name (Log file) ≡ false → Allows (t.now name) (folder name)
+
 -- The disk has the log of this state, but for the records that wait.
 pub record OnDisk (t : Told) (w : Writer) (s : State) (records : List Rec) : Type 0 where
-  pub earlier : List LogFile
   pub birth : ℕ
   pub is_birth : IsBirth birth
   pub frames : List (List Rec)
   pub rest : IsAtRest t birth w.file w.gate frames
   pub still : AreStill t w.file
   pub small : w.file < 2 ^ 32
-  pub before : AreLogs t.reads 0 w.file earlier
   pub none : (n : ℕ) → w.file < n → t.reads (Log n) ≡ None
-  pub unchecked : HasNoCheck t.reads
-  pub logs : Logs birth s earlier frames records
+  pub logs : (folder : Files) → LeavesOthers t w.file folder → Logs folder birth w.file s frames records
 
 -- Some records wait, and the disk, as far as it tells, has the rest.
 pub record Waits (told : Option Told) (w : Writer) (s : State) : Type 0 where

@@ -5,7 +5,7 @@ mod folder;
 mod laws;
 mod writing;
 
-pub use folder::{first_check, last_log, of_replay};
+pub use folder::{last_log, of_opening};
 pub use laws::{
     a_begin_is_mirrored, a_checkpoint_is_mirrored, a_flush_is_logged, a_flush_is_mirrored,
     a_flush_recovers, a_put_is_mirrored, a_rollback_is_mirrored, a_staged_put_is_mirrored,
