@@ -32,6 +32,7 @@ use Rattle.checkpoint_opening.specs.Laws.{Grows}
 use Rattle.checkpoint_opening.specs.Opening.{Leaves, WhereBadCheck, WhereBadLog, WhereOver}
 use Rattle.checkpoint_opening.proofs.Begun.{begins_are_starts}
 use Rattle.checkpoint_opening.proofs.Growing.{grown_begins, other_log}
+use Rattle.checkpoint_opening.proofs.Once.{first_low}
 use Rattle.channel_writing.specs.Folders.{AreSame, FailsToSettle, GainsLog, IsAsBefore, IsBegun, IsNextFile, Opens, OpensFrom, OpensOver, OpensTo, Refuses, as_cause, log_name}
 use Rattle.channel_writing.specs.Mirrors.{Mirrors}
 use Rattle.channel_writing.specs.Written.{IsFresh, IsLogged, OnDisk}
@@ -93,11 +94,11 @@ as_before_begins files folder start found (inl same) begins = same_begins files 
 as_before_begins files folder start found (inr gains) begins = blank_begins files folder start found gains begins
 
 pub opens_to : (files : Files) (capacity : ℕ) (base : Base) (txn : ℕ) → Opens files capacity base txn → OpensTo files base txn
-opens_to files capacity base txn opens = opens.recovers
+opens_to files capacity base txn opens = (opens.recovers, opens.fits)
 
 -- so it opens to the same
 pub as_before_opens : (files folder : Files) (left : Base) (txn : ℕ) → IsAsBefore files folder → OpensTo files left txn → OpensTo folder left txn
-as_before_opens files folder left txn as_before opens = record { start = opens.start; found = opens.found; begins = as_before_begins files folder opens.start opens.found as_before opens.begins; stands = opens.stands }
+as_before_opens files folder left txn as_before (r, fits) = (record { start = r.start; found = r.found; begins = as_before_begins files folder r.start r.found as_before r.begins; stands = r.stands }, fits)
 
 -- images and files during an opening
 
@@ -181,6 +182,7 @@ fresh_low s start found base txn fresh stands = later start.txn (next_txn (past_
 begun_on_disk : (t v : Told) (w : Writer) (s : State) (base : Base) (txn number : ℕ) → IsFresh s base txn → OpensTo t.reads base txn → txn ≤ 2 ^ 64 - 1 → 1 ≤ txn → IsNextFile t.reads number
     → Changes (Log number) IsBlank 1 (done Settle t) v → IsAtRest v 1 number 16 [] → w.file ≡ number → w.gate ≡ 16 → OnDisk v w s []
 begun_on_disk t v w s base txn number fresh opens most some next changes rest file gate =
+    let r = opens.0 in
     let was : (name : FileName) → same_name name (Log number) ≡ false → v.now name ≡ settle_entry (t.reads name) = λ name differs. (changes.others name differs).0 in
     rw file (record {
       birth = 1;
@@ -191,14 +193,15 @@ begun_on_disk t v w s base txn number fresh opens most some next changes rest fi
       small = omega (arith, next.small);
       none = λ n more. (changes.others (Log n) (other_log n number (λ same. omega (arith, more, same)))).1 ∙ next.none n (omega (arith, more));
       logs = λ folder others. record {
-        start = opens.start;
-        past = Dropped ∷ past_lines (start_past opens.start) opens.found;
+        start = r.start;
+        past = Dropped ∷ past_lines (start_past r.start) r.found;
         goes = λ more has.
-            grown_goes t.reads folder opens.start opens.found 1 number more (inl refl) (omega (arith, next.small)) next.none
+            grown_goes t.reads folder r.start r.found 1 number more (inl refl) (omega (arith, next.small)) next.none
             (λ name differs. as_read (t.reads name) (folder name) (subst (λ (e : Entry). Allows e (folder name)) (was name differs) (others name differs)))
-            opens.begins opens.stands.sound has;
-        low = fresh_low s opens.start opens.found base txn fresh opens.stands;
-        mirrors = begun_mirrors s opens.start opens.found base txn fresh (begins_are_starts t.reads opens.start opens.found opens.begins) opens.stands most some;
+            r.begins r.stands.sound has;
+        low = fresh_low s r.start r.found base txn fresh r.stands;
+        fits = first_low r.start r.found base txn (2 ^ 64) r.stands opens.1.0;
+        mirrors = begun_mirrors s r.start r.found base txn fresh (begins_are_starts t.reads r.start r.found r.begins) r.stands most some;
       };
     })
 

@@ -16,15 +16,18 @@ use Rattle.channel_replay.specs.declared.line.Line.{Line}
 use Rattle.channel_replay.specs.declared.line.Line.TheVariants.{Begins}
 use Rattle.record_form.specs.Record.{record_length}
 use Rattle.channel_replay.specs.Marks.{Past, Dropped, Applied, journal, next_txn}
-use Rattle.channel_replay.specs.Recover.{AreSound, file_lines, past_lines, record_lines}
+use Rattle.channel_replay.specs.Recover.{AreSound, StandsFrom, file_lines, past_lines, record_lines}
 use Rattle.channel_replay.specs.Start.{Start, start_past}
 use Rattle.channel_replay.proofs.Lines.{past_lines-append, sound_append}
 use Rattle.checkpoint_recovery.specs.Recovers.{BeginsAt, RecoversTo}
 use Rattle.checkpoint_opening.specs.Laws.{Grows}
 use Rattle.checkpoint_opening.proofs.Growing.{grown_begins}
+use Rattle.checkpoint_opening.proofs.Fitting.{left_fits}
+use Rattle.channel_writing.specs.Folders.{Fit, OpensTo}
 use Rattle.channel_writing.specs.Mirrors.{AreLegal, Mirrors, applied}
 use Rattle.channel_writing.specs.Logs.{AreMarks, GoesOn, Logs, entered, flat}
 use Rattle.channel_writing.specs.Laws.{FramesRecover, FlushRecovers, FlushIsLogged}
+use Rattle.channel_writing.specs.Written.{MayRecover, RecoversSettled}
 use Rattle.channel_writing.proofs.Ending.{flush_mirrored, staged_base}
 
 pub length-header : (birth number : ℕ) → length (header birth number) ≡ 16
@@ -210,30 +213,35 @@ next_less past (rec ∷ records) = omega (arith, next_less (Applied rec ∷ past
 both_less : (a b most : ℕ) → a ≤ most → b ≤ most → max a b ≤ most
 both_less a b most x y = grind (arith, x, y)
 
+-- the next numbers of what is left fit
+
+left_fit : (s : State) (start : Start) (past : Past) (records : List Rec) (found : List Line) (left : Base) (txn : ℕ) → start.base.first < 2 ^ 64 → Mirrors start.base s past records → StandsFrom start found left txn → txn ≤ s.txn → Fit left txn
+left_fit s start past records found left txn fits m stands low = (left_fits start found left txn stands fits, (let high = m.high.1 in omega (arith, high, low)))
+
 -- the frames that are there are what is settled
-pub settled_recovers : (s : State) (folder : Files) (birth number : ℕ) (frames : List (List Rec)) (records : List Rec) → Logs folder birth number s frames records → IsSomeAnd (folder (Log number)) (HasFrames birth number frames)
-    → (txn : ℕ) × (txn ≤ s.txn) × RecoversTo folder (base_of s) txn
+pub settled_recovers : (s : State) (folder : Files) (birth number : ℕ) (frames : List (List Rec)) (records : List Rec) → Logs folder birth number s frames records → IsSomeAnd (folder (Log number)) (HasFrames birth number frames) → RecoversSettled s folder
 settled_recovers s folder birth number frames records log has =
     let goes = log.goes [] (subst (λ (l : List (List Rec)). IsSomeAnd (folder (Log number)) (HasFrames birth number l)) (sym (append-nil frames)) has) in
-    let txn : ℕ = max log.start.txn (next_txn log.past) in (
-      txn,
-      both_less log.start.txn (next_txn log.past) s.txn log.low (omega (arith, next_less log.past records, log.mirrors.next)),
-      subst (λ (b : Base). RecoversTo folder b txn) (sym log.mirrors.base) (frames_recover folder log.start log.past birth frames [] goes tt),
-    )
+    let txn : ℕ = max log.start.txn (next_txn log.past) in
+    let low : txn ≤ s.txn = both_less log.start.txn (next_txn log.past) s.txn log.low (omega (arith, next_less log.past records, log.mirrors.next)) in
+    let it : RecoversTo folder (after_journal log.start.base (journal log.past)) txn = frames_recover folder log.start log.past birth frames [] goes tt in
+    (txn, low, subst (λ (b : Base). OpensTo folder b txn) (sym log.mirrors.base) (it, left_fit s log.start log.past records it.found (after_journal log.start.base (journal log.past)) txn log.fits log.mirrors it.stands low))
 
 pub flush_recovers : FlushRecovers
 flush_recovers s folder birth number frames records log has = from (or_some (folder (Log number)) (HasFrames birth number frames) (HasFrames birth number (frames ++ records ∷ [])) has)
   where
-    from : IsSomeAnd (folder (Log number)) (HasFrames birth number frames) ⊎ IsSomeAnd (folder (Log number)) (HasFrames birth number (frames ++ records ∷ []))
-        → (txn : ℕ) × (txn ≤ s.txn) × (RecoversTo folder (base_of s) txn ⊎ RecoversTo folder (after_journal (base_of s) s.staged) txn)
+    from : IsSomeAnd (folder (Log number)) (HasFrames birth number frames) ⊎ IsSomeAnd (folder (Log number)) (HasFrames birth number (frames ++ records ∷ [])) → MayRecover s folder
     from (inl lacks) = let it = settled_recovers s folder birth number frames records log lacks in (it.0, it.1, inl it.2)
     from (inr holds) =
         let all : records ++ [] ≡ records = append-nil records in
         let legal = subst (λ (l : List Rec). AreLegal log.start.base log.past l) (sym all) log.mirrors.legal in
-        let it = frames_recover folder log.start log.past birth frames (records ∷ []) (log.goes (records ∷ []) holds) legal in
+        let left : Base = after_journal log.start.base (journal (applied log.past records)) in
         let txn : ℕ = max log.start.txn (next_txn (applied log.past records)) in
-        let same : RecoversTo folder (after_journal log.start.base (journal (applied log.past records))) txn = subst (λ (l : List Rec). RecoversTo folder (after_journal log.start.base (journal (applied log.past l))) (max log.start.txn (next_txn (applied log.past l)))) all it in
-        (txn, both_less log.start.txn (next_txn (applied log.past records)) s.txn log.low log.mirrors.next, inr (subst (λ (b : Base). RecoversTo folder b txn) (sym (staged_base log.start.base s log.past records log.mirrors)) same))
+        let low : txn ≤ s.txn = both_less log.start.txn (next_txn (applied log.past records)) s.txn log.low log.mirrors.next in
+        let it : RecoversTo folder left txn =
+        subst (λ (l : List Rec). RecoversTo folder (after_journal log.start.base (journal (applied log.past l))) (max log.start.txn (next_txn (applied log.past l)))) all
+        (frames_recover folder log.start log.past birth frames (records ∷ []) (log.goes (records ∷ []) holds) legal) in
+        (txn, low, inr (subst (λ (b : Base). OpensTo folder b txn) (sym (staged_base log.start.base s log.past records log.mirrors)) (it, left_fit s log.start log.past records it.found left txn log.fits log.mirrors it.stands low)))
 
 pub flush_logged : FlushIsLogged
 flush_logged folder birth number s frames records log staged_earlier = record {
@@ -241,6 +249,7 @@ flush_logged folder birth number s frames records log staged_earlier = record {
   past = applied log.past records;
   goes = λ more has. further more (log.goes (records ∷ more) (subst (λ (l : List (List Rec)). IsSomeAnd (folder (Log number)) (HasFrames birth number l)) (append_assoc frames (records ∷ []) more) has));
   low = log.low;
+  fits = log.fits;
   mirrors = flush_mirrored log.start.base s log.past records log.mirrors staged_earlier;
 }
   where

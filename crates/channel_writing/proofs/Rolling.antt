@@ -113,6 +113,7 @@ rolled_disk t u w s records disk framed low changes rest = record {
               (grown_goes (before_next folder (w.file + 1)) folder own.start before.found 2 (w.file + 1) more (inr refl) (omega (arith, low)) (earlier_none t w s records disk folder others)
               (λ name differs. sym (next_others folder (w.file + 1) name differs)) before.begins (before.sound tt) has);
           low = own.low;
+          fits = own.fits;
           mirrors = own.mirrors;
         }
 

@@ -51,7 +51,7 @@ disk_steps t w s s' records records' disk up step = record {
   none = disk.none;
   logs = λ folder others.
       let log = disk.logs folder others in
-      record { start = log.start; past = log.past; goes = log.goes; low = omega (arith, log.low, up); mirrors = step log.start.base log.past log.mirrors };
+      record { start = log.start; past = log.past; goes = log.goes; low = omega (arith, log.low, up); fits = log.fits; mirrors = step log.start.base log.past log.mirrors };
 }
 
 -- and of another writer that is at the same place

@@ -30,15 +30,21 @@ IsLastLog files (Some number) = IsSome (files (Log number)) × ((n : ℕ) → nu
 abbrev pub last_file : ℕ
 last_file = 2 ^ 32 - 1
 
+-- the next numbers of an event and of a transaction fit 64 bits
+abbrev pub Fit : Base → ℕ → Type 0
+Fit base txn = (base.first < 2 ^ 64) × (txn < 2 ^ 64)
+
 -- A folder opens to what it recovers to from its newest checkpoint on: so many events are within the capacity, and numbers of log files are left.
 pub record Opens (files : Files) (capacity : ℕ) (base : Base) (txn : ℕ) : Type 0 where
   pub recovers : RecoversTo files base txn
+  pub fits : Fit base txn
   pub within : length base.items ≤ capacity
   pub last : files (Log last_file) ≡ None
 
--- a folder opens to this where its events are within the capacity and a number of a log file is left: from its newest checkpoint on it recovers to it
+-- A folder opens to this where its events are within the capacity and a number of a log file is left: from its newest checkpoint on it recovers to it, and
+-- the next numbers fit.
 abbrev pub OpensTo : Files → Base → ℕ → Type 0
-OpensTo files base txn = RecoversTo files base txn
+OpensTo files base txn = RecoversTo files base txn × Fit base txn
 
 -- a folder leaves so many events of which P holds
 abbrev pub LeavesSo : Files → (ℕ → Type 0) → Type 0

@@ -17,6 +17,7 @@ use Rattle.channel_replay.specs.StartLaws.{done_of, start_of}
 use Rattle.channel_writing.specs.Mirrors.{AreLegal, Mirrors, applied}
 use Rattle.checkpoint_recovery.specs.Recovers.{RecoversTo}
 use Rattle.channel_writing.specs.Logs.{GoesOn, Logs, flat}
+use Rattle.channel_writing.specs.Written.{MayRecover}
 
 -- A transaction that did nothing yet writes no record.
 abbrev pub BeginIsMirrored : Type 0
@@ -89,7 +90,7 @@ abbrev pub FlushRecovers : Type 0
 FlushRecovers =
     (s : State) (folder : Files) (birth number : ℕ) (frames : List (List Rec)) (records : List Rec) → Logs folder birth number s frames records
     → IsSomeAnd (folder (Log number)) (λ bytes. HasFrames birth number frames bytes ⊎ HasFrames birth number (frames ++ records ∷ []) bytes)
-    → (txn : ℕ) × (txn ≤ s.txn) × (RecoversTo folder (base_of s) txn ⊎ RecoversTo folder (after_journal (base_of s) s.staged) txn)
+    → MayRecover s folder
 
 -- After a flush the log's frames are one more.
 abbrev pub FlushIsLogged : Type 0

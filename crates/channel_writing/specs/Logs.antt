@@ -1,5 +1,5 @@
 -- How the log of a channel goes on in a folder.
-use Rattle.std.specs.Prelude.{◌≡◌, ◌⊎◌, ◌==◌, ◌≤◌, ℕ, List, [], ◌∷◌, ◌++◌, IsSomeAnd, if◌then◌else◌}
+use Rattle.std.specs.Prelude.{◌≡◌, ◌⊎◌, ◌==◌, ◌<◌, ◌≤◌, ◌^◌, ℕ, List, [], ◌∷◌, ◌++◌, IsSomeAnd, if◌then◌else◌}
 use Rattle.flume_host.specs.Folder.{Files}
 use Rattle.flume_host.specs.declared.names.FileName.TheVariants.{Log}
 use Rattle.record_form.specs.declared.record.Rec.{Rec}
@@ -39,4 +39,5 @@ pub record Logs (folder : Files) (birth number : ℕ) (s : State) (frames : List
   pub past : Past
   pub goes : (more : List (List Rec)) → IsSomeAnd (folder (Log number)) (HasFrames birth number (frames ++ more)) → GoesOn folder start past birth frames more
   pub low : start.txn ≤ s.txn
+  pub fits : start.base.first < 2 ^ 64
   pub mirrors : Mirrors start.base s past records

@@ -211,7 +211,7 @@ module _ (files : Files) (bounded : AreBounded files) where
       )
 
 -- what is left begins with no number below that of its start
-first_low : (s : Start) (found : List Line) (left : Base) (txn high : ℕ) → StandsFrom s found left txn → left.first < high → s.base.first < high
+pub first_low : (s : Start) (found : List Line) (left : Base) (txn high : ℕ) → StandsFrom s found left txn → left.first < high → s.base.first < high
 first_low s found left txn high stands low = omega (arith, low, ap (λ (b : Base). b.first) stands.left_is)
 
 txn_low : (s : Start) (found : List Line) (left : Base) (txn high : ℕ) → StandsFrom s found left txn → txn < high → s.txn < high
