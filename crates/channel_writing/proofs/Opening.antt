@@ -294,6 +294,27 @@ of_refused files capacity (openings.OverCapacity count) check log over =
     (left.0, left.1, left.2, (left.3, subst (λ (n : ℕ). capacity < n) left.3 over.0))
 of_refused files capacity openings.NoMemory check log over = tt
 
+pub check_maps : (e : OpeningRefused) (P Q : ℕ → ℕ → Type 0) → ((file at : ℕ) → P file at → Q file at) → WhereBadCheck e P → WhereBadCheck e Q
+check_maps openings.DiskFault P Q maps is = tt
+check_maps (openings.BadCheck file at) P Q maps is = maps file at is
+check_maps (openings.BadLog file at) P Q maps is = tt
+check_maps (openings.OverCapacity count) P Q maps is = tt
+check_maps openings.NoMemory P Q maps is = tt
+
+pub log_maps : (e : OpeningRefused) (P Q : ℕ → ℕ → Type 0) → ((file at : ℕ) → P file at → Q file at) → WhereBadLog e P → WhereBadLog e Q
+log_maps openings.DiskFault P Q maps is = tt
+log_maps (openings.BadCheck file at) P Q maps is = tt
+log_maps (openings.BadLog file at) P Q maps is = maps file at is
+log_maps (openings.OverCapacity count) P Q maps is = tt
+log_maps openings.NoMemory P Q maps is = tt
+
+pub over_maps : (e : OpeningRefused) (P Q : ℕ → Type 0) → ((count : ℕ) → P count → Q count) → WhereOver e P → WhereOver e Q
+over_maps openings.DiskFault P Q maps is = tt
+over_maps (openings.BadCheck file at) P Q maps is = tt
+over_maps (openings.BadLog file at) P Q maps is = tt
+over_maps (openings.OverCapacity count) P Q maps is = maps count is
+over_maps openings.NoMemory P Q maps is = tt
+
 -- what a settle that failed did
 pub unsettled : (told told' : Option Told) (e : Failed) → Tells told told' (Leads {T = Unit {0}} Settle (Err e)) → FailsToSettle told told'
 unsettled told told' e leads = tells_more told told' (Leads {T = Unit {0}} Settle (Err e)) (λ t u. (u ≡ t) ⊎ DidPart Settle t u) (λ t u _ _ l. l.err) leads

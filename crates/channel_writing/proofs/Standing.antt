@@ -593,7 +593,7 @@ stands_opened told told' faults c start capacity base same state count none well
     images u is m image since left =
         let b = back told told' OpensFrom tells u is in
         let first : clock (done Settle b.0) ≤ m = omega (arith, since, from, ap moment_of b.1, length-append b.0.past (under_way Settle b.0.now ∷ [])) in
-        (start.txn, as_before_opens b.0.reads image start.base start.txn (b.2.each m image first left) ((opens b.0 b.1).check, (opens b.0 b.1).recovers))
+        (start.txn, as_before_opens b.0.reads image start.base start.txn (b.2.each m image first left) ((opens b.0 b.1).recovers, (opens b.0 b.1).fits))
 
 -- a reopening that was not refused for a fault counted none
 pub still_by : (r : Result (Unit {0}) OpenCause) (kept : Reopened) (X : Type 0) (told told' : Option Told) (f f' capacity : ℕ) → OnOk r (f' ≡ f) → (X → f' ≡ f) → IfErr r (λ e. ((e ≡ OpenNo.Spent Life) × X) ⊎ IsRefused told told' f f' capacity e)

@@ -22,22 +22,22 @@ use Rattle.channel_face.specs.declared.replies.Limits.{Limits}
 use Rattle.channel_face.specs.declared.replies.OpenCause.{OpenCause}
 use Rattle.channel_face.specs.declared.replies.OpenCause.TheVariants as causes
 use Rattle.channel_places.specs.Looks.{Known, LookLeft, Looks, Numbers, Places, StandsIn, held_in}
-use Rattle.channel_replay.specs.Recover.{lines}
+use Rattle.checkpoint_opening.specs.Laws.{AreBounded}
+use Rattle.checkpoint_opening.proofs.Growing.{other_log}
 use Rattle.channel_writing.specs.Folders.{AreSame, GainsLog, IsBegun, IsNextFile, IsOfFile, IsRefused, Opens, OpensFrom, OpensOver, OpensTo, Refuses, StaysAs}
 use Rattle.channel_writing.specs.Written.{IsFresh, IsLogged}
-use Rattle.channel_writing.proofs.Flushing.{other_log}
 use Rattle.channel_writing.proofs.Opening.{BeginsFile, EitherImage, ReadsAreLeft, SettledAs, as_settled, begun_logged, begun_over, begun_stays, opens_to, refused_over}
 use Rattle.channel_writing.proofs.Reopening.{opened_fresh, opened_whole}
 use Rattle.channel_writing.proofs.Standing.{stands_as, stands_opened}
-use Rattle.ring_replay.specs.Folder.{IsReady, puts_of}
+use Rattle.ring_replay.specs.Folder.{IsReady}
 use Rattle.ring_replay.specs.Indexing.{HasItems}
 use Rattle.ring_replay.specs.declared.folder.Replayed.{Replayed}
-use Rattle.file_channel.specs.Opened.{AreSeen, FailsToBegin, IsBegunAs, OpensWith, ReplaysTo, state_of}
+use Rattle.file_channel.specs.Opened.{AreSeen, AreShort, FailsToBegin, IsBegunAs, OpensWith, ReplaysTo, state_of}
 use Rattle.file_channel.specs.Placed.{ArePlaced, IsStateOf, bytes_of, settled_in}
 use Rattle.file_channel.specs.Stands.{FileState, StandsOver, items_at, opened_as}
 use Rattle.file_channel.proofs.Placing.{end_other, not_waiting}
 use Rattle.file_channel.proofs.Seen.{blanks, blanks_seen, blanks_sized, has_blanks, items_seen, placed_seen}
-use Rattle.file_channel.proofs.Replaying.{InFile, are_long, as_many, items_look, logs_stand, replay_recovers, same_base}
+use Rattle.file_channel.proofs.Replaying.{InFile, are_long, as_many, has_ring, items_look, ring_places, ring_stands, same_base}
 
 -- a refusal
 
@@ -186,6 +186,17 @@ placed_begun was mid now w number known settles next begins file kept long files
         let f = files a.0 a.1 p event in_known in
         still_there a.0 v w number p event f.0 f.1 (subst (λ (u : Told). IsNextFile u.reads number) a.2 (next b.0 b.1)) (subst (λ (u : Told). BeginsFile number u v) a.2 b.2) file
 
+-- numbers of log files and offsets in them fit their fields
+short_bounded : (files : Files) (number : ℕ) → IsNextFile files number → AreShort files → AreBounded files
+short_bounded files number next short n bytes is = (by_number (side n number), omega (arith, short n bytes is))
+  where
+    side : (a b : ℕ) → (a < b) ⊎ (b ≤ a)
+    side a b = grind arith
+
+    by_number : (n < number) ⊎ (number ≤ n) → n < 2 ^ 32
+    by_number (inl less) = omega (arith, less, next.small)
+    by_number (inr more) = absurd (some_is_none bytes (sym is ∙ next.none n more))
+
 -- what was begun after a folder that was replayed
 
 abbrev pub fresh_writer : ℕ → ℕ → Writer
@@ -196,9 +207,9 @@ none_then None None P tells is = refl
 none_then None (Some u) P tells is = absurd tells
 none_then (Some t) new P tells is = absurd (cc)
 
-pub begun_as : (was mid now : Option Told) (r : Replayed) (w : Writer) (number capacity most : ℕ) → Tells was mid SettledAs → WhereTold was (λ t. ReplaysTo t.reads r) → IsReady capacity r → r.next.txn ≤ 2 ^ 64 - 1 → WhereTold mid (λ t. IsNextFile t.reads number) → Tells mid now (BeginsFile number)
+pub begun_as : (was mid now : Option Told) (r : Replayed) (w : Writer) (number capacity most : ℕ) → Tells was mid SettledAs → WhereTold was (λ t. ReplaysTo t.reads r) → IsReady capacity r → r.next.txn ≤ 2 ^ 64 - 1 → r.next.number < 2 ^ 64 → WhereTold mid (λ t. IsNextFile t.reads number) → Tells mid now (BeginsFile number)
     → writers.IsReady now 1 number 16 [] → w ≡ fresh_writer number most → IsBegunAs was now capacity most r w
-begun_as was mid now r w number capacity most settles replays ready few next begins begun writer = from was refl
+begun_as was mid now r w number capacity most settles replays ready few low next begins begun writer = from was refl
   where
     file : w.file ≡ number
     file = ap (λ (v : Writer). v.file) writer
@@ -224,32 +235,37 @@ begun_as was mid now r w number capacity most settles replays ready few next beg
           left = items_look known r.ring.live base.items has ready.free;
           first = refl;
           opens = λ t told. absurd (none t told);
+          bounded = λ t told. absurd (none t told);
           placed = placed_begun was mid now w number known settles next begins file kept (are_long known (blanks_sized places r.ring.live found.items ready.base.3 ready.base.5)) (λ t told. absurd (none t told));
           seen = subst (λ (v : Option Told). AreSeen v known) (sym (none_then mid now (BeginsFile number) begins (none_then was mid SettledAs settles is))) (blanks_seen r.ring.live);
           logged = logged base (λ t told. absurd (none t told));
         }
     from (Some t) is =
         let found = replays t is in
-        let base = found.replayed.left in
-        let known = puts_of (lines found.logs) in
+        let o = found.opened in
+        let base = o.left in
+        let known = ring_places r.ring.live base.items in
+        let has : HasItems known r.ring.live base.items = has_ring t.reads r.ring.live base.items o.items in
+        let next_at : IsNextFile t.reads number = as_settled was mid (λ files. IsNextFile files number) settles next t is in
         let opens : Opens t.reads capacity base r.next.txn = record {
-          check = found.check;
-          recovers = replay_recovers t.reads found.logs r found.replayed found.are;
-          within = omega (arith, ready.within, as_many known r.ring.live base.items found.replayed.items ready.free);
+          recovers = o.recovers;
+          fits = (omega (arith, low, o.number), omega (arith, few));
+          within = omega (arith, ready.within, as_many known r.ring.live base.items has ready.free);
           last = found.last;
         } in
         let each : (u : Told) → was ≡ Some u → Opens u.reads capacity base r.next.txn = λ u told. subst (λ (v : Told). Opens v.reads capacity base r.next.txn) (some_same t u (sym is ∙ told)) opens in
-        let stand : AreInFiles t.reads known = λ p event in_known. let f = logs_stand t.reads 0 (2 ^ 32) found.logs p event found.are in_known in (f, found.short p.file f.bytes f.reads) in
+        let stand : AreInFiles t.reads known = λ p event in_known. let f = ring_stands t.reads r.ring.live base.items p event o.items in_known in (f, found.short p.file f.bytes f.reads) in
         let between = forth was mid SettledAs settles t is in
         let after = forth mid now (BeginsFile number) begins between.0 between.1 in
         let placed : ArePlaced now w known known = placed_begun was mid now w number known settles next begins file kept (λ p event in_known. (stand p event in_known).0.stands.long) (λ u told. subst (λ (v : Told). AreInFiles v.reads known) (some_same t u (sym is ∙ told)) stand) in
         record {
           base = base;
           known = known;
-          rises = same_base ready.base.0 known r.ring.live ready.base.1 base ready.base.3 found.replayed.items (ready.base.4 ∙ found.replayed.number) ready.base.2;
-          left = items_look known r.ring.live base.items found.replayed.items ready.free;
-          first = sym found.replayed.number;
+          rises = same_base ready.base.0 known r.ring.live ready.base.1 base ready.base.3 has (ready.base.4 ∙ o.number) ready.base.2;
+          left = items_look known r.ring.live base.items has ready.free;
+          first = sym o.number;
           opens = each;
+          bounded = λ u told. subst (λ (v : Told). AreBounded v.reads) (some_same t u (sym is ∙ told)) (short_bounded t.reads number next_at found.short);
           placed = placed;
           seen = placed_seen now w known after.0 after.1 (ap (λ (v : Writer). v.bytes) writer) placed;
           logged = logged base (λ u told. opens_to u.reads capacity base r.next.txn (each u told));

@@ -21,7 +21,7 @@ use Rattle.channel_places.specs.Looks.{Known, Looks, Moves, StandsIn}
 use Rattle.channel_places.proofs.Moved.{all_moved, known_moved}
 use Rattle.channel_places.proofs.Opening.{grows_behind, grows_front}
 use Rattle.channel_writing.specs.Written.{IsLogged, OnDisk, Waits}
-use Rattle.channel_writing.proofs.Flushing.{other_log}
+use Rattle.checkpoint_opening.proofs.Growing.{other_log}
 use Rattle.file_channel.specs.Placed.{ArePlaced, IsStateOf, IsThere, Logged, bytes_of, settled_in}
 use Rattle.file_channel.proofs.Placing.{end_other, no_put, not_waiting, settled_own}
 use Rattle.file_channel.proofs.Replaying.{in_either}

@@ -15,7 +15,8 @@ use Rattle.channel_log.proofs.Pointed.{within}
 use Rattle.channel_log.proofs.Pointing.{put_grows}
 use Rattle.channel_face.specs.Machine.{State}
 use Rattle.channel_writing.specs.Written.{OnDisk}
-use Rattle.channel_writing.proofs.Flushing.{as_read, other_log}
+use Rattle.checkpoint_opening.proofs.Growing.{other_log}
+use Rattle.channel_writing.proofs.Flushing.{as_read}
 use Rattle.file_channel.specs.Images.{StandsInImages}
 use Rattle.file_channel.specs.Placed.{IsThere, bytes_of}
 

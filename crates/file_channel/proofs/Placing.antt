@@ -21,7 +21,7 @@ use Rattle.channel_log.proofs.Pointed.{within}
 use Rattle.channel_log.proofs.Pointing.{one_event, part-append, put_grows}
 use Rattle.channel_face.specs.Machine.{is_some_of}
 use Rattle.channel_places.specs.Looks.{Known, StandsIn}
-use Rattle.channel_writing.proofs.Flushing.{other_log}
+use Rattle.checkpoint_opening.proofs.Growing.{other_log}
 use Rattle.file_channel.specs.Placed.{ArePlaced, IsThere, bytes_of, settled_in}
 use Rattle.file_channel.specs.Stepped.{ReadsAs}
 

@@ -1,15 +1,18 @@
 -- A channel that is opened anew.
 use Rattle.std.proofs.Common.{◌⊎◌, inl, inr, ◌≡◌, ◌<◌, ◌≤◌, ◌-◌, ◌^◌, ◌++◌, ◌∷◌, [], ℕ, List, length, length-append, take, Option, Some, None, Result, Ok, Err, Bool, true, false, cond, ◌==◌, refl, sym, ◌∙◌, ap, subst, arith}
 use Rattle.std.specs.Prelude.{OnOk}
+use Rattle.std.proofs.lemmas.Bool.Decides.{nat_tests}
 use Rattle.std.proofs.lemmas.List.{take_all}
 use Rattle.flume_host.specs.Causes.{Rose}
+use Rattle.flume_host.specs.Folder.{Files, same_name}
 use Rattle.flume_host.specs.Told.{LeavesOnly, Tells, Told, WhereTold, moment_of}
+use Rattle.flume_host.specs.declared.names.FileName.TheVariants.{Log}
 use Rattle.flume_host.proofs.Telling.{forth}
 use Rattle.event_core.specs.Journal.{Base, IsBase, IsJournal, after_journal, is_among, left, numbered, put_events, taken_numbers}
 use Rattle.event_core.specs.declared.journal.Entry.{Entry}
 use Rattle.event_core.specs.declared.journal.Entry.TheVariants.{Puts, Takes}
 use Rattle.event_ring.specs.Slots.{Left}
-use Rattle.channel_log.specs.Writer.{Writer}
+use Rattle.channel_log.specs.Writer.{IsBlank, Writer}
 use Rattle.open_table.specs.Tables.{Listed}
 use Rattle.channel_face.specs.Counters.{counted}
 use Rattle.channel_face.specs.History.{AddsOne, Moves, Step, opening, state_after}
@@ -21,7 +24,8 @@ use Rattle.channel_face.proofs.Adding.{state-push}
 use Rattle.channel_face.proofs.LawLemmas.{after_none}
 use Rattle.channel_face.proofs.Numbers.{Items, among_times, distinct_times, number_of, number_of-without, one_if, rising_base, same_number, times, times-append}
 use Rattle.channel_places.specs.Looks.{IsSound, Known, LookLeft, LookStaged, Looks, Numbers, Places, held_in, numbers_of}
-use Rattle.channel_replay.proofs.OneList.{recovers_once}
+use Rattle.checkpoint_opening.specs.Laws.{AreBounded}
+use Rattle.checkpoint_opening.proofs.Once.{recovers_to_once}
 use Rattle.channel_writing.specs.Folders.{IsAsBefore, IsOfFile, Opens, OpensOver, OpensTo}
 use Rattle.channel_writing.specs.Stands.{Seen, StandsIn, is_fault}
 use Rattle.channel_writing.specs.Touches.{Rests}
@@ -135,12 +139,15 @@ chosen settled known p s base looks (inr is) = (length s.staged, λ left other v
         subst (λ (k : ℕ). KeepsSo base k v) (sym (ap (λ (l : List Entry). length l) none)) (keeps_none base v first_is)
 
 -- what a folder leaves that was settled so, or so with what was staged
-either_found : (told : Option Told) (t : Told) (s : State) (base : Base) (txn capacity : ℕ) → told ≡ Some t → MayRest told s → ReadsAreLeft told → Opens t.reads capacity base txn → Either base s
-either_found told t s base txn capacity is rests reads opens = from (rests t is t.reads (reads t is))
+either_found : (told : Option Told) (t : Told) (s : State) (base : Base) (txn capacity : ℕ) → told ≡ Some t → MayRest told s → ReadsAreLeft told → AreBounded t.reads → Opens t.reads capacity base txn → Either base s
+either_found told t s base txn capacity is rests reads bounded opens = from (rests t is t.reads (reads t is))
   where
+    one : (other : Base) (n : ℕ) → OpensTo t.reads other n → base ≡ other
+    one other n found = (recovers_to_once t.reads base other txn n bounded opens.recovers found.0 opens.fits.0 found.1.0 opens.fits.1 found.1.1).0
+
     from : MayRecover s t.reads → Either base s
-    from (n, low, inl found) = inl (recovers_once t.reads base (base_of s) txn n opens.recovers found.1).0
-    from (n, low, inr found) = inr (recovers_once t.reads base (after_journal (base_of s) s.staged) txn n opens.recovers found.1).0
+    from (n, low, inl found) = inl (one (base_of s) n found)
+    from (n, low, inr found) = inr (one (after_journal (base_of s) s.staged) n found)
 
 -- the machine's step
 
@@ -178,7 +185,7 @@ reopened told told' old p w r capacity most has reads life limit b empty renew =
     from : (o : Option Told) → told ≡ o → (kept : Kept) × StepsOn told told' old new (Reopen (Ok (record { kept = kept; txn = r.next.txn })))
     from None is = (Read b.base, λ s state. renews told told' old p w r capacity most (Read b.base) s state life limit b empty renew (ap is_some_of is, b.rises) refl)
     from (Some t) is =
-        let found : (v : State) → IsStateOf told old v → Either b.base v = λ v state. either_found told t v b.base r.next.txn capacity is (whole_may_rest told old.log old.busy v state.whole) reads (b.opens t is) in
+        let found : (v : State) → IsStateOf told old v → Either b.base v = λ v state. either_found told t v b.base r.next.txn capacity is (whole_may_rest told old.log old.busy v state.whole) reads (b.bounded t is) (b.opens t is) in
         let choice = chosen has.1.settled has.1.known old.places has.0 b.base has.1.looks (found has.0 has.1) in (
           Front choice.0,
           λ s state.
@@ -242,6 +249,23 @@ spent_anew told old p life breaks s is =
 pub not_spent : (told : Option Told) (old : Logged) → old.places.numbers.life < 2 ^ 64 - 1 → ShowsOf told old (λ s. 2 ^ 64 - 1 ≤ s.life → ⊥)
 not_spent told old life s is most = absurd (omega (arith, life, life_of told old s is, most))
 
+same_number_is : (a b : ℕ) → (a == b) ≡ true → a ≡ b
+same_number_is a b same = grind (arith, nat_tests)
+
+-- numbers fit their fields in what an opening left of a folder, as they did in it
+as_before_bounded : (files folder : Files) → IsAsBefore files folder → AreBounded files → AreBounded folder
+as_before_bounded files folder (inl same) bounded n bytes is = bounded n bytes (sym (same (Log n)) ∙ is)
+as_before_bounded files folder (inr gains) bounded n bytes is = by_name (same_name (Log n) (Log gains.number)) refl
+  where
+    short : (file : Option (List ℕ)) → IsBlank file → file ≡ Some bytes → length bytes ≤ 17
+    short file blank same = subst (λ (f : Option (List ℕ)). IsBlank f) same blank
+
+    by_name : (b : Bool) → same_name (Log n) (Log gains.number) ≡ b → (n < 2 ^ 32) × (length bytes < 2 ^ 64)
+    by_name false differs = bounded n bytes (sym (gains.others (Log n) differs) ∙ is)
+    by_name true same =
+        let number : n ≡ gains.number = same_number_is n gains.number same in
+        (omega (arith, number, gains.next.small), omega (arith, short (folder (Log gains.number)) gains.last (ap (λ (k : ℕ). folder (Log k)) (sym number) ∙ is)))
+
 -- the folder opened to what the channel has then
 pub opens_anew : (told told' : Option Told) (new : Logged) (r : Replayed) (capacity most : ℕ) → IsBegunAs told told' capacity most r new.log → ReadsAreLeft told' → Tells told told' (λ t u. IsAsBefore t.reads u.reads) → (was : State) → IsStateOf told' new was → was.broken ≡ false → was.txn ≡ r.next.txn → was.rules.limits.capacity ≡ capacity
     → ShowsOf told' new (λ s. WhereTold told (λ t. Opens t.reads s.rules.limits.capacity (base_of s) s.txn))
@@ -253,7 +277,8 @@ opens_anew told told' new r capacity most b reads stays was stands whole txn lim
     let here = rests still f.0 f.1 f.0.reads (reads f.0 f.1) in
     let opens : Opens t.reads capacity b.base r.next.txn = b.opens t told_is in
     let there : OpensTo f.0.reads b.base r.next.txn = as_before_opens t.reads f.0.reads b.base r.next.txn f.2 (opens_to t.reads capacity b.base r.next.txn opens) in
-    let base : b.base ≡ base_of s = (recovers_once f.0.reads b.base (base_of s) r.next.txn here.0 there.1 here.2.1).0 in
+    let bounded : AreBounded f.0.reads = as_before_bounded t.reads f.0.reads f.2 (b.bounded t told_is) in
+    let base : b.base ≡ base_of s = (recovers_to_once f.0.reads b.base (base_of s) r.next.txn here.0 bounded there.0 here.2.0 there.1.0 here.2.1.0 there.1.1 here.2.1.1).0 in
     let last : r.next.txn ≡ s.txn = sym txn ∙ ap (λ (n : Numbers). n.txn) numbers in
     let cap : capacity ≡ s.rules.limits.capacity = sym limit ∙ ap (λ (n : Numbers). n.rules.limits.capacity) numbers in
     subst (λ (n : ℕ). Opens t.reads n (base_of s) s.txn) cap

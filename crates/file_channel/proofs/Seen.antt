@@ -18,7 +18,7 @@ use Rattle.ring_replay.specs.Indexing.{AreSized, HasItems, IsPlaced}
 use Rattle.file_channel.specs.Opened.{AreSeen}
 use Rattle.file_channel.specs.Placed.{ArePlaced, IsThere, bytes_of}
 use Rattle.file_channel.specs.Stands.{blank, event_at, event_of, items_at}
-use Rattle.file_channel.proofs.Replaying.{are_long, placed_known}
+use Rattle.file_channel.proofs.Replaying.{are_long, has_more, placed_known}
 
 -- over a disk that does not tell
 
@@ -26,12 +26,6 @@ use Rattle.file_channel.proofs.Replaying.{are_long, placed_known}
 abbrev pub blanks : List Left → Known
 blanks [] = []
 blanks (l ∷ live) = (l.pointer, blank l.pointer.length) ∷ blanks live
-
-has_more : (k : Pointer × Content) (places : Known) (live : List Left) (items : List (ℕ × Content)) → HasItems places live items → HasItems (k ∷ places) live items
-has_more k places [] [] has = has
-has_more k places [] (item ∷ items) has = has
-has_more k places (l ∷ live) [] has = has
-has_more k places (l ∷ live) (item ∷ items) has = (has.0, inr has.1, has_more k places live items has.2)
 
 pub has_blanks : (live : List Left) → HasItems (blanks live) live (items_at None live)
 has_blanks [] = tt

@@ -14,10 +14,10 @@ use Rattle.channel_face.specs.declared.replies.Limits.{Limits}
 use Rattle.channel_face.specs.declared.replies.OpenCause.{OpenCause}
 use Rattle.channel_face.specs.declared.replies.OpenCause.TheVariants as causes
 use Rattle.channel_places.specs.Looks.{Known, LookLeft, StandsIn}
-use Rattle.channel_replay.specs.Recover.{AreLogs, LogFile}
-use Rattle.channel_writing.specs.Folders.{HasNoCheck, Opens, last_file}
+use Rattle.checkpoint_opening.specs.Laws.{AreBounded}
+use Rattle.checkpoint_opening.specs.Opening.{HasSteps, IsOpened}
+use Rattle.channel_writing.specs.Folders.{Opens, last_file}
 use Rattle.channel_writing.specs.Written.{IsFresh, IsLogged}
-use Rattle.ring_replay.specs.Folder.{AreReplayed}
 use Rattle.ring_replay.specs.declared.folder.Replayed.{Replayed}
 use Rattle.file_channel.specs.Placed.{ArePlaced, IsStateOf, Logged}
 use Rattle.file_channel.specs.Stands.{base_at, event_at}
@@ -26,14 +26,16 @@ use Rattle.file_channel.specs.Stands.{base_at, event_at}
 abbrev pub AreShort : Files → Type 0
 AreShort files = (n : ℕ) (bytes : List ℕ) → files (Log n) ≡ Some bytes → length bytes < 2 ^ 63
 
--- A folder without checkpoints, whose log files are not the last that there can be, was replayed to this.
+-- A folder, whose log files are not the last that there can be, was replayed to this from its newest checkpoint on.
 pub record ReplaysTo (files : Files) (r : Replayed) : Type 0 where
-  pub logs : List LogFile
-  pub are : AreLogs files 0 (2 ^ 32) logs
-  pub replayed : AreReplayed logs r
-  pub check : HasNoCheck files
+  pub check : Option ℕ
+  pub opened : IsOpened files (record { check = check; replayed = r })
   pub last : files (Log last_file) ≡ None
   pub short : AreShort files
+
+-- no step was counted, or at most one for each record after the place from which the folder is replayed
+abbrev pub CountsSteps : Files → ℕ → ℕ → Type 0
+CountsSteps files before now = (now ≡ before) ⊎ HasSteps files before now
 
 -- A log file could not be begun: the disk failed, or when out of memory, and then nothing was done.
 abbrev pub FailsToBegin : OpenCause → Option Told → Option Told → Type 0
@@ -52,6 +54,7 @@ pub record IsBegunAs (was told : Option Told) (capacity max_file : ℕ) (r : Rep
   pub left : LookLeft known [] r.ring.live base.items
   pub first : base.first ≡ r.next.number
   pub opens : WhereTold was (λ t. Opens t.reads capacity base r.next.txn)
+  pub bounded : WhereTold was (λ t. AreBounded t.reads)
   pub placed : ArePlaced told w known known
   pub seen : AreSeen told known
   pub logged : (s : State) → IsFresh s base r.next.txn → s.rules.limits.max_file ≡ max_file → IsLogged told w 0 s

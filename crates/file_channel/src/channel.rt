@@ -14,12 +14,11 @@ ghost use Rattle.channel_face.specs.declared.replies.Kind.{Kind};
 ghost use Rattle.channel_face.specs.declared.replies.OpenCause.{OpenCause};
 ghost use Rattle.channel_face.specs.declared.replies.PutRefused.{PutRefused};
 ghost use Rattle.channel_face.specs.declared.replies.TakeRefused.{TakeRefused};
-ghost use Rattle.channel_replay.specs.Recover.{WhereLogs, lines};
-ghost use Rattle.channel_replay.specs.Replay.{record_count};
 ghost use Rattle.channel_writing.specs.Folders.{FailsToSettle, GainsLog, IsBegun, IsRefused, Opens, OpensFrom, OpensOver};
 ghost use Rattle.channel_writing.specs.Stands.{is_fault};
 ghost use Rattle.channel_writing.specs.Written.{MayRecover};
 ghost use Rattle.channel_writing.specs.Touches.{FillsFiles, Flushed, HadNoRoom, HasNoRoom, IsSpentLog, Rests, flushes, room_of};
+ghost use Rattle.file_channel.specs.Opened.{CountsSteps};
 ghost use Rattle.file_channel.specs.Stands.{IsStanding, StandsOver, flush_settles, opened_as, put_spills, take_spills};
 
 use crate::logged::LoggedPlaces;
@@ -121,10 +120,10 @@ fn flush_reply(done: &Result<(), FlushRefused>, staged: (u64, u64)) -> Reply
     }
 }
 
-/// Opens the channel of a folder: it is settled and replayed, and a log file is begun after those that are there; no other
-/// file is written. `steps` counts the records that are read. 1. `DiskFault`. 2. `BadCheck`, where a checkpoint is there:
-/// they are not read yet. 3. `BadLog`, at the first fault of the log. 4. `OverCapacity`, where more events are left than
-/// the limits allow. 5. `Spent` of `Counter::File`, where log file 4,294,967,295 is there. 6. `NoMemory`. After a refusal
+/// Opens the channel of a folder: it is settled and replayed from its newest checkpoint on, and a log file is begun after those
+/// that are there; no other file is written. `steps` counts the records that are read. 1. `DiskFault`. 2. `BadCheck`, at the
+/// first fault of the newest checkpoint. 3. `BadLog`, at the first fault of the log after its place. 4. `OverCapacity`, where
+/// more events are left than the limits allow. 5. `Spent` of `Counter::File`, where log file 4,294,967,295 is there. 6. `NoMemory`. After a refusal
 /// the files are as they were, and after `DiskFault` one log file more of at most 17 bytes may be there.
 pub fn open_channel<D: Disk + Drop, L: Ledger>(
     alloc: Global,
@@ -156,8 +155,7 @@ pub fn open_channel<D: Disk + Drop, L: Ledger>(
         (λ refused. ((refused.cause ≡ OpenCause.DiskFault)
         × FailsToSettle (D.told disk) (D.told refused.disk))
         ⊎ Tells (D.told disk) (D.told refused.disk) OpensFrom) }
-    ensures ticks { WhereTold (D.told disk)
-        (λ t. WhereLogs t.reads (λ logs. steps.new ≤ steps.old + record_count (lines logs))) }
+    ensures ticks { WhereTold (D.told disk) (λ t. CountsSteps t.reads steps.old steps.new) }
 {
     match LoggedPlaces::open(alloc, disk, limits, steps) {
         Ok(logged) => Ok(FileChannel {
@@ -207,7 +205,7 @@ impl<D: Disk + Drop> FileChannel<D> {
             ⊎ IsRefused (D.told self.old.0) (D.told self.new.0) (D.faults self.old.0)
             (D.faults self.new.0) s.rules.limits.capacity cause)) }
         ensures ticks { WhereTold (D.told self.old.0)
-            (λ t. WhereLogs t.reads (λ logs. steps.new ≤ steps.old + record_count (lines logs))) }
+            (λ t. CountsSteps t.reads steps.old steps.new) }
     {
         let result = self.logged.reopen(steps);
         let reply = Reply::quiet(result.is_ok());

@@ -1,4 +1,4 @@
-// A folder is opened: it is settled and replayed, and a log file is begun after those that are there.
+// A folder is opened: it is settled and replayed from its newest checkpoint on, and a log file is begun after those that are there.
 ghost use Rattle.std.specs.Prelude.{[], ◌⊎◌, ◌≡◌, ◌<◌, ◌≤◌, ◌+◌, ◌-◌, ◌^◌, Err, IfErr, IfOk, IsErrOf, OnOk, false, length};
 ghost use Rattle.flume_host.specs.Causes.{HasCause, Rose};
 ghost use Rattle.flume_host.specs.Told.{Changes, LeavesOnly, Settle, Tells, WhereTold, done};
@@ -14,12 +14,10 @@ ghost use Rattle.channel_log.specs.Window.{nothing_kept};
 ghost use Rattle.channel_log.specs.Writer.{IsBlank, IsUnused};
 ghost use Rattle.channel_log.specs.Writer as writers;
 ghost use Rattle.channel_places.specs.Looks.{Known, LookLeft, Looks};
-ghost use Rattle.channel_replay.specs.Recover.{WhereLogs, lines};
-ghost use Rattle.channel_replay.specs.Replay.{record_count};
 ghost use Rattle.channel_writing.specs.Folders.{FailsToSettle, GainsLog, IsAsBefore, IsBegun, IsNextFile, IsOfFile, IsRefused, Opens, OpensFrom, OpensOver, Refuses, log_name};
 ghost use Rattle.channel_writing.specs.Written.{MayRecover};
 ghost use Rattle.ring_replay.specs.Folder.{IsReady};
-ghost use Rattle.file_channel.specs.Opened.{AreShort, FailsToBegin, IsBegunAs, OpensWith, ReplaysTo};
+ghost use Rattle.file_channel.specs.Opened.{AreShort, CountsSteps, FailsToBegin, IsBegunAs, OpensWith, ReplaysTo};
 ghost use Rattle.file_channel.specs.Stepped.{ShowsOf, StepsOn};
 
 use crate::channel::OpenRefused;
@@ -27,10 +25,11 @@ use crate::logged::LoggedPlaces;
 use channel_face::{Counter, Limits, OpenCause};
 use channel_log::{LogBeginRefused, LogWriter};
 use channel_places::Held;
-use channel_writing::{Writing, first_check, last_log, of_replay};
+use channel_writing::{Writing, last_log, of_opening};
+use checkpoint_opening::{Opened, open_newest};
 use event_core::NoMemory;
 use flume_host::{Disk, Failed, FileName, Steps};
-use ring_replay::{Replayed, replay};
+use ring_replay::Replayed;
 use std::alloc::Global;
 use std::sync::ledger::Ledger;
 
@@ -85,8 +84,7 @@ fn read_folder<D: Disk, L: Ledger>(
     ensures refused { IfErr result
         (λ cause. WhereTold (D.told disk.old) (λ t. Refuses t.reads capacity cause)) }
     ensures counter { IfErr result IsOfFile }
-    ensures ticks { WhereTold (D.told disk.old)
-        (λ t. WhereLogs t.reads (λ logs. steps.new ≤ steps.old + record_count (lines logs))) }
+    ensures ticks { WhereTold (D.told disk.old) (λ t. CountsSteps t.reads steps.old steps.new) }
     ensures same { D.told disk.new ≡ D.told disk.old }
     ensures fault { IsErrOf result OpenCause.DiskFault
         → Rose (D.faults disk.old) (D.faults disk.new) }
@@ -94,14 +92,9 @@ fn read_folder<D: Disk, L: Ledger>(
     ensures well { (IsErrOf result OpenCause.DiskFault → ⊥)
         → D.faults disk.new ≡ D.faults disk.old }
 {
-    match first_check(disk) {
-        Ok(None) => {}
-        Ok(Some(file)) => return Err(OpenCause::BadCheck { file, at: 0 }),
-        Err(_) => return Err(OpenCause::DiskFault),
-    }
-    let replayed = match replay(alloc, disk, capacity, steps) {
-        Ok(replayed) => replayed,
-        Err(refused) => return Err(of_replay(refused)),
+    let Opened { check: _, replayed } = match open_newest(alloc, disk, capacity, steps) {
+        Ok(opened) => opened,
+        Err(refused) => return Err(of_opening(refused)),
     };
     match measure_logs(disk) {
         Ok(()) => {}
@@ -155,8 +148,7 @@ fn settle_folder<D: Disk, L: Ledger>(
         (λ cause. ((cause ≡ OpenCause.DiskFault)
         × FailsToSettle (D.told disk.old) (D.told disk.new))
         ⊎ Tells (D.told disk.old) (D.told disk.new) OpensFrom) }
-    ensures ticks { WhereTold (D.told disk.old)
-        (λ t. WhereLogs t.reads (λ logs. steps.new ≤ steps.old + record_count (lines logs))) }
+    ensures ticks { WhereTold (D.told disk.old) (λ t. CountsSteps t.reads steps.old steps.new) }
     ensures well { OnOk result (D.faults disk.new ≡ D.faults disk.old) }
 {
     match disk.settle() {
@@ -228,8 +220,7 @@ fn open_log<D: Disk, L: Ledger>(
         (λ cause. ((cause ≡ OpenCause.DiskFault)
         × FailsToSettle (D.told disk.old) (D.told disk.new))
         ⊎ Tells (D.told disk.old) (D.told disk.new) OpensFrom) }
-    ensures ticks { WhereTold (D.told disk.old)
-        (λ t. WhereLogs t.reads (λ logs. steps.new ≤ steps.old + record_count (lines logs))) }
+    ensures ticks { WhereTold (D.told disk.old) (λ t. CountsSteps t.reads steps.old steps.new) }
 {
     let (replayed, number) = match settle_folder(alloc, disk, limits.capacity, steps) {
         Ok(found) => found,
@@ -266,8 +257,7 @@ fn reopen_log<D: Disk, L: Ledger>(
     ensures refused { IfErr result
         (IsRefused (D.told disk.old) (D.told disk.new) (D.faults disk.old) (D.faults disk.new)
         capacity) }
-    ensures ticks { WhereTold (D.told disk.old)
-        (λ t. WhereLogs t.reads (λ logs. steps.new ≤ steps.old + record_count (lines logs))) }
+    ensures ticks { WhereTold (D.told disk.old) (λ t. CountsSteps t.reads steps.old steps.new) }
 {
     let (replayed, number) = match settle_folder(alloc, disk, capacity, steps) {
         Ok(found) => found,
@@ -301,8 +291,7 @@ impl<D: Disk + Drop> LoggedPlaces<D> {
             (λ refused. ((refused.cause ≡ OpenCause.DiskFault)
             × FailsToSettle (D.told disk) (D.told refused.disk))
             ⊎ Tells (D.told disk) (D.told refused.disk) OpensFrom) }
-        ensures ticks { WhereTold (D.told disk)
-            (λ t. WhereLogs t.reads (λ logs. steps.new ≤ steps.old + record_count (lines logs))) }
+        ensures ticks { WhereTold (D.told disk) (λ t. CountsSteps t.reads steps.old steps.new) }
     {
         let mut disk = disk;
         match open_log(alloc, &mut disk, limits, steps) {
@@ -346,7 +335,7 @@ impl<D: Disk + Drop> LoggedPlaces<D> {
             ⊎ IsRefused (D.told self.old.0) (D.told self.new.0) (D.faults self.old.0)
             (D.faults self.new.0) s.rules.limits.capacity cause)) }
         ensures ticks { WhereTold (D.told self.old.0)
-            (λ t. WhereLogs t.reads (λ logs. steps.new ≤ steps.old + record_count (lines logs))) }
+            (λ t. CountsSteps t.reads steps.old steps.new) }
     {
         if self.held.life() == u64::MAX {
             self.held.set_broken();

@@ -1,4 +1,4 @@
-use Rattle.std.proofs.Common.{rules, ◌≤◌, ◌-◌, ◌^◌, length, ap}
+use Rattle.std.proofs.Common.{rules, ◌<◌, ◌≤◌, ◌-◌, ◌^◌, length, ap}
 use Rattle.channel_log.specs.Writer.{Writer}
 use Rattle.channel_writing.proofs.Opening.{begun_over, begun_stays, is_unused}
 use Rattle.file_channel.proofs.Begun.{begun_as, begun_gains, refused_begin}
@@ -11,7 +11,8 @@ pub returns-in-Ok-begin_log-clause-begun : goal.returns-in-Ok-begin_log-clause-b
 returns-in-Ok-begin_log-clause-begun g c =
     let found = c.in-Ok.found in
     let fits : found.0.next.txn ≤ 2 ^ 64 - 1 = search rules in
-    begun_as (g.D.Disk.told c.args.disk.now) (g.D.Disk.told c.settle_folder.new.disk) (g.D.Disk.told c.begin_log.new.disk) found.0 c.in-Ok-begin_log.log found.1 c.args.capacity c.args.max_file c.in-Ok.ensures.settles c.in-Ok.ensures.replays c.in-Ok.ensures.ready fits c.in-Ok.ensures.next c.in-Ok-begin_log.ensures.any_moment c.in-Ok-begin_log.ensures.begun c.in-Ok-begin_log.ensures.writer
+    let low : found.0.next.number < 2 ^ 64 = search rules in
+    begun_as (g.D.Disk.told c.args.disk.now) (g.D.Disk.told c.settle_folder.new.disk) (g.D.Disk.told c.begin_log.new.disk) found.0 c.in-Ok-begin_log.log found.1 c.args.capacity c.args.max_file c.in-Ok.ensures.settles c.in-Ok.ensures.replays c.in-Ok.ensures.ready fits low c.in-Ok.ensures.next c.in-Ok-begin_log.ensures.any_moment c.in-Ok-begin_log.ensures.begun c.in-Ok-begin_log.ensures.writer
 
 pub returns-in-Ok-begin_log-clause-waits : goal.returns-in-Ok-begin_log-clause-waits
 returns-in-Ok-begin_log-clause-waits g c = ap (λ (w : Writer). length w.bytes) c.in-Ok-begin_log.ensures.writer
