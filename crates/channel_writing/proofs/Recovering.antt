@@ -140,20 +140,20 @@ held_content birth number frames bytes is_birth has = from (longer (length bytes
 -- a folder that gains a log file goes on by the frames of that
 
 module _ (files folder : Files) (start : Start) (found : List Line) (birth number : ℕ) (more : List (List Rec)) where
-  abbrev past : Past
-  past = past_lines (start_past start) found
+  abbrev before : Past
+  before = past_lines (start_past start) found
 
-  grown_whole : Grows files folder number (Whole birth more) → BeginsAt files start found → AreSound start.base (start_past start) found → GoesOn folder start (entered birth past) birth [] more
+  grown_whole : Grows files folder number (Whole birth more) → BeginsAt files start found → AreSound start.base (start_past start) found → GoesOn folder start (entered birth before) birth [] more
   grown_whole grows begins sound =
       let own : List Line = file_lines number (Whole birth more) in
       record {
         found = found ++ own;
         begins = grown_begins files folder number (Whole birth more) start found grows begins;
-        sound = λ legal. sound_append start.base (start_past start) found own sound (whole_sound start.base birth past number more legal);
-        marks = inl (past_lines-append (start_past start) found own ∙ whole_past birth past number more);
+        sound = λ legal. sound_append start.base (start_past start) found own sound (whole_sound start.base birth before number more legal);
+        marks = inl (past_lines-append (start_past start) found own ∙ whole_past birth before number more);
       }
 
-  grown_blank : Grows files folder number Blank → more ≡ [] → BeginsAt files start found → AreSound start.base (start_past start) found → GoesOn folder start (entered birth past) birth [] more
+  grown_blank : Grows files folder number Blank → more ≡ [] → BeginsAt files start found → AreSound start.base (start_past start) found → GoesOn folder start (entered birth before) birth [] more
   grown_blank grows none begins sound =
       let same : found ++ [] ≡ found = append-nil found in
       record {
@@ -164,17 +164,17 @@ module _ (files folder : Files) (start : Start) (found : List Line) (birth numbe
       }
 
   pub grown_goes : IsBirth birth → number < 2 ^ 32 → ((n : ℕ) → number ≤ n → files (Log n) ≡ None) → ((name : FileName) → same_name name (Log number) ≡ false → folder name ≡ files name)
-      → BeginsAt files start found → AreSound start.base (start_past start) found → IsSomeAnd (folder (Log number)) (HasFrames birth number more) → GoesOn folder start (entered birth past) birth [] more
+      → BeginsAt files start found → AreSound start.base (start_past start) found → IsSomeAnd (folder (Log number)) (HasFrames birth number more) → GoesOn folder start (entered birth before) birth [] more
   grown_goes is_birth small none others begins sound has = from (folder (Log number)) refl has
     where
       grows : (bytes : List ℕ) (content : Content) → folder (Log number) ≡ Some bytes → Holds number bytes content → Grows files folder number content
       grows bytes content is holds = record { small = small; none = none; holds = subst (λ (file : Option (List ℕ)). IsSomeAnd file (λ bytes. Holds number bytes content)) (sym is) holds; others = others }
 
-      by_content : (bytes : List ℕ) (content : Content) → folder (Log number) ≡ Some bytes → Holds number bytes content → (content ≡ Whole birth more) ⊎ ((content ≡ Blank) × (more ≡ [])) → GoesOn folder start (entered birth past) birth [] more
+      by_content : (bytes : List ℕ) (content : Content) → folder (Log number) ≡ Some bytes → Holds number bytes content → (content ≡ Whole birth more) ⊎ ((content ≡ Blank) × (more ≡ [])) → GoesOn folder start (entered birth before) birth [] more
       by_content bytes content is holds (inl whole) = grown_whole (subst (λ (c : Content). Grows files folder number c) whole (grows bytes content is holds)) begins sound
       by_content bytes content is holds (inr blank) = grown_blank (subst (λ (c : Content). Grows files folder number c) blank.0 (grows bytes content is holds)) blank.1 begins sound
 
-      from : (file : Option (List ℕ)) → folder (Log number) ≡ file → IsSomeAnd file (HasFrames birth number more) → GoesOn folder start (entered birth past) birth [] more
+      from : (file : Option (List ℕ)) → folder (Log number) ≡ file → IsSomeAnd file (HasFrames birth number more) → GoesOn folder start (entered birth before) birth [] more
       from None is has = absurd has
       from (Some bytes) is has = let held = held_content birth number more bytes is_birth has in by_content bytes held.0 is held.1 held.2
 
@@ -220,6 +220,7 @@ left_fit s start past records found left txn fits m stands low = (left_fits star
 
 -- the frames that are there are what is settled
 pub settled_recovers : (s : State) (folder : Files) (birth number : ℕ) (frames : List (List Rec)) (records : List Rec) → Logs folder birth number s frames records → IsSomeAnd (folder (Log number)) (HasFrames birth number frames) → RecoversSettled s folder
+unfolding frames_recover
 settled_recovers s folder birth number frames records log has =
     let goes = log.goes [] (subst (λ (l : List (List Rec)). IsSomeAnd (folder (Log number)) (HasFrames birth number l)) (sym (append-nil frames)) has) in
     let txn : ℕ = max log.start.txn (next_txn log.past) in
@@ -228,20 +229,21 @@ settled_recovers s folder birth number frames records log has =
     (txn, low, subst (λ (b : Base). OpensTo folder b txn) (sym log.mirrors.base) (it, left_fit s log.start log.past records it.found (after_journal log.start.base (journal log.past)) txn log.fits log.mirrors it.stands low))
 
 pub flush_recovers : FlushRecovers
+unfolding frames_recover
 flush_recovers s folder birth number frames records log has = from (or_some (folder (Log number)) (HasFrames birth number frames) (HasFrames birth number (frames ++ records ∷ [])) has)
   where
     from : IsSomeAnd (folder (Log number)) (HasFrames birth number frames) ⊎ IsSomeAnd (folder (Log number)) (HasFrames birth number (frames ++ records ∷ [])) → MayRecover s folder
     from (inl lacks) = let it = settled_recovers s folder birth number frames records log lacks in (it.0, it.1, inl it.2)
     from (inr holds) =
         let all : records ++ [] ≡ records = append-nil records in
+        let left : List Rec → Base = λ l. after_journal log.start.base (journal (applied log.past l)) in
+        let txn : List Rec → ℕ = λ l. max log.start.txn (next_txn (applied log.past l)) in
         let legal = subst (λ (l : List Rec). AreLegal log.start.base log.past l) (sym all) log.mirrors.legal in
-        let left : Base = after_journal log.start.base (journal (applied log.past records)) in
-        let txn : ℕ = max log.start.txn (next_txn (applied log.past records)) in
-        let low : txn ≤ s.txn = both_less log.start.txn (next_txn (applied log.past records)) s.txn log.low log.mirrors.next in
-        let it : RecoversTo folder left txn =
-        subst (λ (l : List Rec). RecoversTo folder (after_journal log.start.base (journal (applied log.past l))) (max log.start.txn (next_txn (applied log.past l)))) all
-        (frames_recover folder log.start log.past birth frames (records ∷ []) (log.goes (records ∷ []) holds) legal) in
-        (txn, low, inr (subst (λ (b : Base). OpensTo folder b txn) (sym (staged_base log.start.base s log.past records log.mirrors)) (it, left_fit s log.start log.past records it.found left txn log.fits log.mirrors it.stands low)))
+        let low : txn records ≤ s.txn = both_less log.start.txn (next_txn (applied log.past records)) s.txn log.low log.mirrors.next in
+        let it = frames_recover folder log.start log.past birth frames (records ∷ []) (log.goes (records ∷ []) holds) legal in
+        let fit = left_fit s log.start log.past records it.found (left (records ++ [])) (txn (records ++ [])) log.fits log.mirrors it.stands (subst (λ (l : List Rec). txn l ≤ s.txn) (sym all) low) in
+        let same : OpensTo folder (left records) (txn records) = subst (λ (l : List Rec). OpensTo folder (left l) (txn l)) all (it, fit) in
+        (txn records, low, inr (subst (λ (b : Base). OpensTo folder b (txn records)) (sym (staged_base log.start.base s log.past records log.mirrors)) same))
 
 pub flush_logged : FlushIsLogged
 flush_logged folder birth number s frames records log staged_earlier = record {

@@ -172,15 +172,15 @@ record IsStaged (s s' : State) (txn : ℕ) : Type 0 where
   opened : s'.opened ≡ without_entry txn s.opened
   broken : s'.broken ≡ s.broken
   limit : s'.rules.limits.max_file ≡ s.rules.limits.max_file
-  txn : s.txn ≤ s'.txn
+  up : s.txn ≤ s'.txn
 
 staged_puts : (s : State) (txn : ℕ) (events : List Content) → 1 ≤ length events → IsStaged s (stage txn (Some (Puts events)) s) txn
 staged_puts s txn [] some = absurd (omega (arith, some))
-staged_puts s txn (e ∷ events) some = record { opened = refl; broken = refl; limit = refl; txn = omega arith }
+staged_puts s txn (e ∷ events) some = record { opened = refl; broken = refl; limit = refl; up = omega arith }
 
 staged_takes : (s : State) (txn : ℕ) (numbers : List ℕ) → 1 ≤ length numbers → IsStaged s (stage txn (Some (Takes numbers)) s) txn
 staged_takes s txn [] some = absurd (omega (arith, some))
-staged_takes s txn (n ∷ numbers) some = record { opened = refl; broken = refl; limit = refl; txn = omega arith }
+staged_takes s txn (n ∷ numbers) some = record { opened = refl; broken = refl; limit = refl; up = omega arith }
 
 pub commit_put_logged : (told : Option Told) (w w' : Writer) (b b' : ℕ) (s : State) (txn first count : ℕ) (events : List Content) → IsLogged told w b s → entry_of txn s.opened ≡ Some (Puts events) → 1 ≤ count → count ≡ length events → first ≡ next_number s → next_number s + length events ≤ 2 ^ 64 - 1
     → Appends w w' (CommitPut txn first count) → b' + 1 ≡ b → IsLogged told w' b' (stage txn (Some (Puts events)) s)
@@ -195,7 +195,7 @@ commit_put_logged told w w' b b' s txn first count events log is some counted fi
       few = omega (arith, log.few, length_without s.opened txn, ap (λ (l : List (ℕ × Entry)). length l) to.opened);
       room = omega (arith, log.room, fewer, longer_by w w' rec adds', commit_put_length txn (next_number s) (length events));
       limit = same_limit w w' rec adds' ∙ (log.limit ∙ sym to.limit);
-      waits = λ whole. waits_more told w w' s (stage txn (Some (Puts events)) s) rec (log.waits (sym to.broken ∙ whole)) adds' to.txn (λ start settled records m. stage_put_mirrored start s settled records txn events m is many fits);
+      waits = λ whole. waits_more told w w' s (stage txn (Some (Puts events)) s) rec (log.waits (sym to.broken ∙ whole)) adds' to.up (λ start settled records m. stage_put_mirrored start s settled records txn events m is many fits);
     }
 
 pub commit_take_logged : (told : Option Told) (w w' : Writer) (b b' : ℕ) (s : State) (txn count : ℕ) (numbers : List ℕ) → IsLogged told w b s → entry_of txn s.opened ≡ Some (Takes numbers) → 1 ≤ count → count ≡ length numbers
@@ -210,5 +210,5 @@ commit_take_logged told w w' b b' s txn count numbers log is some counted adds f
       few = omega (arith, log.few, length_without s.opened txn, ap (λ (l : List (ℕ × Entry)). length l) to.opened);
       room = omega (arith, log.room, fewer, longer_by w w' rec adds', commit_take_length txn (length numbers));
       limit = same_limit w w' rec adds' ∙ (log.limit ∙ sym to.limit);
-      waits = λ whole. waits_more told w w' s (stage txn (Some (Takes numbers)) s) rec (log.waits (sym to.broken ∙ whole)) adds' to.txn (λ start settled records m. stage_take_mirrored start s settled records txn numbers m is many);
+      waits = λ whole. waits_more told w w' s (stage txn (Some (Takes numbers)) s) rec (log.waits (sym to.broken ∙ whole)) adds' to.up (λ start settled records m. stage_take_mirrored start s settled records txn numbers m is many);
     }
