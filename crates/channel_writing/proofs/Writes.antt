@@ -55,7 +55,7 @@ disk_steps t w s s' records records' disk up step = record {
 }
 
 -- and of another writer that is at the same place
-disk_there : (t : Told) (w w' : Writer) (s : State) (records : List Rec) → OnDisk t w s records → w'.file ≡ w.file → w'.gate ≡ w.gate → OnDisk t w' s records
+pub disk_there : (t : Told) (w w' : Writer) (s : State) (records : List Rec) → OnDisk t w s records → w'.file ≡ w.file → w'.gate ≡ w.gate → OnDisk t w' s records
 disk_there t w w' s records disk file gate = record {
   birth = disk.birth;
   is_birth = disk.is_birth;

@@ -30,6 +30,7 @@ use Rattle.channel_writing.specs.Written.{IsLogged, kept}
 use Rattle.channel_writing.proofs.Freeing.{take_in, take_moves, take_still, take_whole}
 use Rattle.channel_writing.proofs.Putting.{put_fails, put_in, put_may, put_moves, put_whole}
 use Rattle.channel_writing.proofs.Whole.{sound_then, still_not}
+use Rattle.channel_writing.proofs.Writes.{disk_there}
 use Rattle.file_channel.specs.Placed.{ArePlaced, Fits, IsStateOf, Logged}
 use Rattle.file_channel.specs.Stepped.{ReadsAs, Steps, as_take}
 
@@ -316,19 +317,7 @@ kept_whole told w b s k whole = record { logged = λ still. kept_logged (whole.l
       waits = λ still. let waits = log.waits still in record {
         records = waits.records;
         pending = record { spelled = waits.pending.spelled; counted = waits.pending.counted; each = waits.pending.each };
-        disk = λ t is. let disk = waits.disk t is in record {
-          earlier = disk.earlier;
-          birth = disk.birth;
-          is_birth = disk.is_birth;
-          frames = disk.frames;
-          rest = disk.rest;
-          still = disk.still;
-          small = disk.small;
-          before = disk.before;
-          none = disk.none;
-          unchecked = disk.unchecked;
-          logs = disk.logs;
-        };
+        disk = λ t is. disk_there t w (record w { kept = k }) s waits.records (waits.disk t is) refl refl;
       };
     }
 
