@@ -37,6 +37,9 @@ const BAD_TAKE: &[u8] = b"FLUMELOG\x00\x01\x00\x01\x00\x00\x00\x01\
 // No header, of any length.
 const GARBAGE: &[u8] = b"\xff\xff\xff\xff\xff\xff\xff\xff\xff\xff\xff\xff\xff\xff\xff\xff\xff";
 
+// An open checkpoint whose first field is not one.
+const BAD_CHECK: &[u8] = b"\x01x";
+
 // A log whose only transaction has the last number but one.
 const LAST_BUT_ONE: &[u8] = b"FLUMELOG\x00\x01\x00\x01\x00\x00\x00\x01\
 \x01\x01\xff\xff\xff\xff\xff\xff\xff\xfd\x00\x00\x00\x09\x00\x00\x00\x00\x00\x00\x00\x01a\
@@ -57,7 +60,7 @@ const _: () = prove!(TWO_LINES.len() == 115);
 const _: () = prove!(THIRD_LINE.len() == 66);
 
 /// Each by its name.
-pub const LOGS: [(&str, &[u8]); 11] = [
+pub const LOGS: [(&str, &[u8]); 12] = [
     ("TWO_LINES", TWO_LINES),
     ("BEGUN", BEGUN),
     ("THIRD_LINE", THIRD_LINE),
@@ -66,6 +69,7 @@ pub const LOGS: [(&str, &[u8]); 11] = [
     ("BAD_END", BAD_END),
     ("BAD_TAKE", BAD_TAKE),
     ("GARBAGE", GARBAGE),
+    ("BAD_CHECK", BAD_CHECK),
     ("LAST_BUT_ONE", LAST_BUT_ONE),
     ("LAST_NUMBER", LAST_NUMBER),
     ("NUMBER_2", NUMBER_2),

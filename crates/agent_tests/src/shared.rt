@@ -188,15 +188,15 @@ begins OK\n{"CHANNEL.c1":{"ChannelCapacity":"1000000","ChannelSize":"1","EventPu
 said
 file log 1 = GARBAGE
 
-An empty checkpoint.
+A bad checkpoint.
 use UNTAKEN
-folder check 3 = -
+folder check 3 = BAD_CHECK
 input a\n
 run agent -n a -f x.conf
 status 4
 writes
-said flume: d: bad checkpoint 3 at 0
-file check 3 = -
+said flume: d: bad checkpoint 3 at 1
+file check 3 = BAD_CHECK
 
 The last number of a log.
 use UNTAKEN

@@ -171,15 +171,15 @@ writes OK\n
 said
 file log 1 = GARBAGE
 
-An empty checkpoint.
-folder check 3 = -
+A bad checkpoint.
+folder check 3 = BAD_CHECK
 input a\n
 run pipe d
 status 4
 calls 0
 writes
-said flume: d: bad checkpoint 3 at 0
-file check 3 = -
+said flume: d: bad checkpoint 3 at 1
+file check 3 = BAD_CHECK
 
 The last number of a log.
 folder log 4294967295 = -

@@ -304,9 +304,9 @@ const REFUSED: [Refusal; 6] = [
     ),
     (Kept::Logs(LINES), 1, OpenCause::OverCapacity { count: 2 }),
     (
-        Kept::Check(3, b"x"),
+        Kept::Check(3, b"\x01x"),
         10,
-        OpenCause::BadCheck { file: 3, at: 0 },
+        OpenCause::BadCheck { file: 3, at: 1 },
     ),
 ];
 
@@ -371,4 +371,21 @@ fn a_broken_channel_is_opened_anew(rt: HostRuntime) -> Result<(), Fail> {
     assert!(rt; reopen(&mut tried.channel).is_ok());
     assert!(rt; tried.channel.size() <= 1 && !tried.channel.is_broken());
     answer(alloc, "mended", &mut tried, &MENDED)
+}
+
+// Checkpoints that are passed over: none has a byte after an open commit byte.
+const PASSED: [&[u8]; 4] = [b"", b"\x01", b"\x00x", b"\xffx"];
+
+// Whether a folder opens in which there is only this checkpoint.
+fn is_passed(alloc: Global, bytes: &'static [u8]) -> Result<bool, AllocError> {
+    let disk = disk_of(alloc, Kept::Check(3, bytes))?;
+    Ok(open(alloc, disk, LIMITS).is_ok())
+}
+
+#[test]
+fn a_checkpoint_is_passed_over(rt: HostRuntime) -> Result<(), Fail> {
+    for (row, bytes) in PASSED.iter().enumerate() {
+        assert!(rt; is_passed(rt.alloc(), bytes)?, "row {row}");
+    }
+    Ok(())
 }
