@@ -1,5 +1,5 @@
 -- Where a folder begins is a start.
-use Rattle.std.proofs.Common.{◌≡◌, ◌<◌, ◌≤◌, ◌+◌, ◌++◌, ◌∷◌, [], ℕ, List, map, Option, Some, None, Bool, true, false, refl, sym, ◌∙◌, ap, subst, arith}
+use Rattle.std.proofs.Common.{◌≡◌, ◌≤◌, ◌+◌, ◌++◌, ◌∷◌, [], ℕ, List, map, Bool, true, false, refl, sym, ◌∙◌, ap, subst, arith}
 use Rattle.flume_host.specs.Folder.{Files}
 use Rattle.event_core.specs.Content.{Content}
 use Rattle.event_core.specs.Journal.{is_among}

@@ -1,5 +1,5 @@
 -- The next number of what sound lines leave fits 64 bits where that of their start does.
-use Rattle.std.proofs.Common.{◌≡◌, ◌<◌, ◌≤◌, ◌+◌, ◌-◌, ◌^◌, ◌++◌, ◌∷◌, [], ℕ, List, length, length-append, Option, Some, None, refl, sym, ◌∙◌, ap, subst, arith}
+use Rattle.std.proofs.Common.{◌≡◌, ◌<◌, ◌+◌, ◌^◌, ◌++◌, ◌∷◌, [], ℕ, List, length, length-append, Option, Some, None, refl, ◌∙◌, ap, arith}
 use Rattle.std.specs.Prelude.{IsSomeAnd}
 use Rattle.std.proofs.lemmas.List.{append-nil}
 use Rattle.event_core.specs.Content.{Content}
@@ -18,7 +18,6 @@ use Rattle.channel_replay.specs.Start.{Start, start_past}
 use Rattle.channel_replay.proofs.Starts.{open_commits_none}
 
 -- how many puts are committed
-
 
 many_more : (a b : List Entry) → length (put_events (a ++ b)) ≡ length (put_events a) + length (put_events b)
 many_more a b = ap (λ (l : List Content). length l) (put_events-append a b) ∙ length-append (put_events a) (put_events b)

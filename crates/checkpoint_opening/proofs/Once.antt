@@ -1,32 +1,32 @@
 -- A folder recovers to one list.
-use Rattle.std.proofs.Common.{inl, inr, ◌≡◌, ◌<◌, ◌≤◌, ◌+◌, ◌^◌, ◌++◌, ◌∷◌, [], ℕ, List, length, length-append, map, Option, Some, None, Bool, true, false, max, refl, sym, ◌∙◌, ap, subst, arith}
+use Rattle.std.proofs.Common.{inl, inr, ◌≡◌, ◌<◌, ◌≤◌, ◌^◌, ◌++◌, ◌∷◌, [], ℕ, List, length, map, Option, Some, None, true, max, refl, sym, ◌∙◌, ap, subst, arith}
 use Rattle.std.specs.Prelude.{IsSomeAnd}
 use Rattle.std.specs.List.{AllByRecursion}
 use Rattle.std.proofs.lemmas.Bool.{cases_lt}
 use Rattle.flume_host.specs.Folder.{Files}
-use Rattle.flume_host.specs.declared.names.FileName.TheVariants.{Check, Log}
+use Rattle.flume_host.specs.declared.names.FileName.TheVariants.{Log}
 use Rattle.event_core.specs.Content.{Content}
-use Rattle.event_core.specs.Journal.{Base, is_among, put_events}
+use Rattle.event_core.specs.Journal.{Base, is_among}
 use Rattle.event_core.specs.declared.journal.Entry.{Entry}
 use Rattle.event_core.specs.declared.journal.Entry.TheVariants.{Puts, Takes}
 use Rattle.record_form.specs.declared.record.Pointer.{Pointer}
 use Rattle.channel_log.specs.Pointers.{PutAt}
 use Rattle.channel_log.proofs.Pointed.{within}
 use Rattle.channel_log.proofs.Pointing.{one_event}
-use Rattle.channel_replay.specs.Marks.{journal, next_txn}
-use Rattle.channel_replay.specs.Recover.{LogFile, StandsFrom, lines, past_lines, replayed}
+use Rattle.channel_replay.specs.Marks.{next_txn}
+use Rattle.channel_replay.specs.Recover.{StandsFrom, lines, past_lines, replayed}
 use Rattle.channel_replay.specs.declared.line.Line.{Line}
 use Rattle.channel_replay.specs.Start.{Start, start_past}
 use Rattle.channel_replay.proofs.Among.{differ}
 use Rattle.channel_replay.proofs.OneList.{one_list}
-use Rattle.checkpoint.specs.Right.{AreOnceAmong, EventsAre, IsRight, LiveAre, OpenAre, PutIn, PutOf, all_of, number_of}
+use Rattle.checkpoint.specs.Right.{AreOnceAmong, EventsAre, IsRight, LiveAre, OpenAre, all_of, number_of}
 use Rattle.checkpoint.specs.Text.{CheckText, Rise, check_bytes}
 use Rattle.checkpoint_reading.specs.Fields.{FitsFields, Gives, Good, Is64}
 use Rattle.checkpoint_reading.specs.Laws.{Fits}
 use Rattle.checkpoint_reading.proofs.Complete.{right_is_read}
 use Rattle.checkpoint_reading.proofs.Unique.{one_outcome}
 use Rattle.checkpoint_recovery.specs.Reading.{LinesFrom}
-use Rattle.checkpoint_recovery.specs.Recovers.{BeginsAt, Front, From, IsCheck, Means, RecoversTo}
+use Rattle.checkpoint_recovery.specs.Recovers.{BeginsAt, Front, From, IsCheck, Means}
 use Rattle.checkpoint_recovery.proofs.Elsewhere.{one_newest}
 use Rattle.checkpoint_recovery.proofs.Readings.{one_reading}
 use Rattle.checkpoint_replay.proofs.Opened.{not_above}
@@ -223,8 +223,8 @@ txn_low s found left txn high stands low = from s.txn (next_txn (past_lines (sta
 pub recovers_to_once : RecoversToOnce
 recovers_to_once files a b x y bounded r q fa fb fx fy =
     let one = one_beginning files bounded r.start q.start r.found q.found r.begins q.begins
-        (first_low r.start r.found a x (2 ^ 64) r.stands fa) (first_low q.start q.found b y (2 ^ 64) q.stands fb)
-        (txn_low r.start r.found a x (2 ^ 64) r.stands fx) (txn_low q.start q.found b y (2 ^ 64) q.stands fy) in (
+    (first_low r.start r.found a x (2 ^ 64) r.stands fa) (first_low q.start q.found b y (2 ^ 64) q.stands fb)
+    (txn_low r.start r.found a x (2 ^ 64) r.stands fx) (txn_low q.start q.found b y (2 ^ 64) q.stands fy) in (
       r.stands.left_is ∙ ((λ k. replayed (one.0 k) (one.1 k)) ∙ sym q.stands.left_is),
       r.stands.txn_is ∙ ((λ k. let s : Start = one.0 k in max s.txn (next_txn (past_lines (start_past s) (one.1 k)))) ∙ sym q.stands.txn_is),
     )

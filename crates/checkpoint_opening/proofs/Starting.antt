@@ -1,36 +1,39 @@
 -- A checkpoint that was read is one from which a replay may start.
-use Rattle.std.specs.Prelude.{IsSomeAnd, Option, None, Some, map}
+use Rattle.std.specs.Prelude.{IfSome, Option, None, Some}
 use Rattle.std.specs.List.{AllByRecursion}
-use Rattle.std.proofs.Common.{◌⊎◌, inl, inr, ◌≡◌, ◌<◌, ◌≤◌, ◌+◌, ◌++◌, ◌∷◌, [], ℕ, List, length, Result, Ok, Err, refl, sym, ap, subst, ◌∙◌}
+use Rattle.std.proofs.Common.{◌⊎◌, inl, inr, ◌≡◌, ◌≤◌, ◌+◌, ◌++◌, ◌∷◌, [], ℕ, List, refl, sym, ap, subst, ◌∙◌}
 use Rattle.flume_host.specs.Folder.{Files}
 use Rattle.flume_host.specs.Told.{Told, WhereTold}
 use Rattle.event_core.specs.Content.{Content}
-use Rattle.event_core.specs.Journal.{Base}
 use Rattle.event_core.specs.declared.journal.Entry.{Entry}
 use Rattle.event_core.specs.declared.journal.Entry.TheVariants.{Puts, Takes}
 use Rattle.record_form.specs.declared.record.Pointer.{Pointer}
 use Rattle.channel_replay.specs.declared.line.Line.{Line}
-use Rattle.channel_replay.specs.Recover.{IsBadFrom, StandsFrom, empty_start, lines}
+use Rattle.channel_replay.specs.Recover.{IsBadFrom, empty_start, lines}
 use Rattle.channel_replay.specs.Replay.{record_count}
+use Rattle.channel_replay.specs.Replay as replaying
+use Rattle.channel_replay.specs.declared.refused.ReplayRefused.{ReplayRefused}
+use Rattle.channel_replay.specs.declared.refused.ReplayRefused.TheVariants as replays
 use Rattle.channel_replay.specs.Start.{Start}
 use Rattle.channel_replay.proofs.OneList.{has_one_list}
 use Rattle.checkpoint.specs.declared.check.Check.{Check}
 use Rattle.checkpoint.specs.declared.place.Next.{Next}
 use Rattle.checkpoint.specs.declared.place.Place.{Place}
 use Rattle.checkpoint.specs.Newest.{IsNewest}
-use Rattle.checkpoint.specs.Text.{CheckText}
 use Rattle.checkpoint_reading.specs.Logs.{IsSized}
 use Rattle.checkpoint_reading.specs.Newest.{IsNewestOf, IsOfFolder, IsRead}
-use Rattle.checkpoint_reading.specs.Opens.{AreEvents}
+use Rattle.checkpoint_reading.specs.Reader.{WhereBad}
+use Rattle.checkpoint_reading.specs.declared.refused.CheckReadRefused.{CheckReadRefused}
+use Rattle.checkpoint_reading.specs.declared.refused.CheckReadRefused.TheVariants as checks
 use Rattle.checkpoint_recovery.specs.Reading.{AllLines, IsInLog, LinesFrom}
 use Rattle.checkpoint_recovery.specs.Recovers.{BeginsAt, From, Front, IsBadLogFrom}
 use Rattle.checkpoint_recovery.proofs.SomeReading.{some_reading}
-use Rattle.checkpoint_replay.specs.Checked.{IsPlacedAt, LivePlaced, OpenPlaced}
+use Rattle.checkpoint_replay.specs.Checked.{LivePlaced, OpenPlaced}
 use Rattle.checkpoint_replay.specs.Replayed.{HasEvents, IsReplayedFrom, IsRightFor, IsStartOf, LeavesFrom, StartsAt, WhereStarts}
 use Rattle.ring_replay.specs.declared.folder.Replayed.{Replayed}
 use Rattle.ring_replay.specs.Indexing.{ArePlaced, AreSized, IsPlaced, Places}
-use Rattle.checkpoint_opening.specs.declared.opening.Opened.{Opened}
-use Rattle.checkpoint_opening.specs.Opening.{HasSteps, IsOpened, Leaves, number_in}
+use Rattle.checkpoint_opening.specs.declared.refused.OpeningRefused.{OpeningRefused}
+use Rattle.checkpoint_opening.specs.Opening.{HasSteps, IsOpened, Leaves, WhereBadCheck, WhereBadLog, WhereOver, number_in, of_check, of_replay}
 
 -- each place of some is among others
 abbrev Within : Places → Places → Type 0
@@ -171,6 +174,7 @@ record Begun (files : Files) (check : Option Check) : Type 0 where
   begins : BeginsAt files start found
 
 begun : (files : Files) (check : Option Check) → IsNewestOf files check → Begun files check
+unfolding start_of
 begun files None newest =
     let some = has_one_list files in
     let all : AllLines files (lines some.0) = record { logs = some.0; are = some.1; lines_are = refl } in
@@ -229,3 +233,36 @@ pub steps_of : (was later : Option Told) (check : Option Check) (before now : �
 steps_of was later check before now same newest few = λ t told.
     let b = begun t.reads check (newest t told) in
     inr (record { start = b.start; found = b.found; begins = b.begins; few = few t (same ∙ told) b.start b.found b.starts })
+
+-- what was read of a checkpoint, if there is one
+pub some_events : (check : Option Check) → IfSome check IsRead → IfSome check HasEvents
+some_events None read = tt
+some_events (Some check) read = read_has_events check read
+
+-- why a folder was not opened
+
+pub check_of : (e : CheckReadRefused) (x : OpeningRefused) (P : ℕ → ℕ → Type 0) → x ≡ of_check e → WhereBad e P → WhereBadCheck x P
+check_of e x P is bad = subst (λ (y : OpeningRefused). WhereBadCheck y P) (sym is) (from e bad)
+  where
+    from : (e : CheckReadRefused) → WhereBad e P → WhereBadCheck (of_check e) P
+    from checks.DiskFault bad = tt
+    from (checks.BadCheck file at) bad = bad
+    from checks.NoMemory bad = tt
+
+pub log_of : (e : ReplayRefused) (x : OpeningRefused) (P Q : ℕ → ℕ → Type 0) → x ≡ of_replay e → ((file at : ℕ) → P file at → Q file at) → replaying.WhereBadLog e P → WhereBadLog x Q
+log_of e x P Q is maps bad = subst (λ (y : OpeningRefused). WhereBadLog y Q) (sym is) (from e bad)
+  where
+    from : (e : ReplayRefused) → replaying.WhereBadLog e P → WhereBadLog (of_replay e) Q
+    from replays.DiskFault bad = tt
+    from (replays.BadLog file at) bad = maps file at bad
+    from (replays.OverCapacity count) bad = tt
+    from replays.NoMemory bad = tt
+
+pub over_of : (e : ReplayRefused) (x : OpeningRefused) (P Q : ℕ → Type 0) → x ≡ of_replay e → ((count : ℕ) → P count → Q count) → replaying.WhereOver e P → WhereOver x Q
+over_of e x P Q is maps over = subst (λ (y : OpeningRefused). WhereOver y Q) (sym is) (from e over)
+  where
+    from : (e : ReplayRefused) → replaying.WhereOver e P → WhereOver (of_replay e) Q
+    from replays.DiskFault over = tt
+    from (replays.BadLog file at) over = tt
+    from (replays.OverCapacity count) over = maps count over
+    from replays.NoMemory over = tt

@@ -1,5 +1,5 @@
 -- Laws of what a folder recovers to: once only, and after it gained a log file.
-use Rattle.std.specs.Prelude.{◌≡◌, ◌<◌, ◌≤◌, ◌^◌, ℕ, List, ◌++◌, length, Option, None, Some, IsSomeAnd, false}
+use Rattle.std.specs.Prelude.{◌≡◌, ◌<◌, ◌≤◌, ◌^◌, ℕ, List, ◌++◌, length, None, Some, IsSomeAnd, false}
 use Rattle.flume_host.specs.Folder.{Files, same_name}
 use Rattle.flume_host.specs.declared.names.FileName.{FileName}
 use Rattle.flume_host.specs.declared.names.FileName.TheVariants.{Log}
