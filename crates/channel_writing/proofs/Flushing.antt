@@ -1,13 +1,11 @@
 -- What a flush leaves, at each moment of it and after it.
-use Rattle.std.proofs.Common.{◌⊎◌, inl, inr, ◌≡◌, ◌≢◌, ◌<◌, ◌≤◌, ◌+◌, ◌++◌, ◌∷◌, [], ℕ, List, length, Option, Some, None, true, false, ◌==◌, refl, sym, ◌∙◌, ap, subst, arith, append_assoc}
+use Rattle.std.proofs.Common.{◌⊎◌, inl, inr, ◌≡◌, ◌≢◌, ◌≤◌, ◌+◌, ◌++◌, ◌∷◌, [], ℕ, List, length, Option, Some, None, true, false, refl, sym, ◌∙◌, ap, subst, arith, append_assoc}
 use Rattle.std.proofs.lemmas.List.{append-nil, get_or_past}
-use Rattle.std.proofs.lemmas.Bool.Decides.{eqb_tells}
 use Rattle.std.specs.Prelude.{IsSomeAnd}
 use Rattle.std.specs.List.{AllByRecursion}
-use Rattle.flume_host.specs.Folder.{Allows, Entry, Files, Folder, IsImage, same_name, settle_entry}
-use Rattle.flume_host.specs.Told.{Changes, LeavesOnly, OneFile, Tells, Told}
+use Rattle.flume_host.specs.Folder.{Allows, Entry, Files, Folder, IsImage, settle_entry}
+use Rattle.flume_host.specs.Told.{Changes, LeavesOnly, Tells, Told}
 use Rattle.flume_host.specs.declared.names.FileName.TheVariants.{Log}
-use Rattle.flume_host.specs.declared.names.FileName.{FileName}
 use Rattle.flume_host.proofs.Images.{stable_only}
 use Rattle.flume_host.proofs.Telling.{tells_more, tells_same}
 use Rattle.event_core.specs.Journal.{is_among, taken_numbers}

@@ -11,7 +11,7 @@ use Rattle.record_form.specs.declared.record.Rec.{Rec}
 use Rattle.channel_log.specs.Frames.{Content, Blank, IsBirth, Whole, Holds, frame_bytes, header, opened}
 use Rattle.channel_log.specs.Reader.{frame_items, record_items}
 use Rattle.channel_log.specs.Writer.{HasFrames}
-use Rattle.channel_face.specs.Machine.{State, base_of, settle}
+use Rattle.channel_face.specs.Machine.{State}
 use Rattle.channel_replay.specs.declared.line.Line.{Line}
 use Rattle.channel_replay.specs.declared.line.Line.TheVariants.{Begins}
 use Rattle.record_form.specs.Record.{record_length}

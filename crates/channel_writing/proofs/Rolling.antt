@@ -18,7 +18,7 @@ use Rattle.channel_replay.specs.Start.{start_past}
 use Rattle.checkpoint_opening.proofs.Growing.{other_log}
 use Rattle.channel_writing.specs.Folders.{IsAsBefore}
 use Rattle.channel_writing.specs.Logs.{AreMarks, GoesOn, Logs}
-use Rattle.channel_writing.specs.Touches.{ChangesAlone, FillsFiles, IsFullFor, WritesLast}
+use Rattle.channel_writing.specs.Touches.{ChangesAlone, FillsFiles, WritesLast}
 use Rattle.channel_writing.specs.Written.{IsLogged, OnDisk, RecoversSettled, Waits}
 use Rattle.channel_writing.proofs.Flushing.{as_read, none_waits, own_file}
 use Rattle.channel_writing.proofs.Opening.{as_before_opens, only_more}
