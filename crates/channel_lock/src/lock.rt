@@ -60,7 +60,11 @@ pub type Place<C> = Seat<Option<C>, SeatView>;
 impl<C: Guarded> ChannelLock<C> {
     /// Shares a value that stands for an opening and no calls. Out of memory hands it back. The seat deals the numbers of so
     /// many passes.
-    pub fn new(alloc: Global, value: C, passes: u64) -> Result<(ChannelLock<C>, Place<C>), Unshared<C>>
+    pub fn new(
+        alloc: Global,
+        value: C,
+        passes: u64,
+    ) -> Result<(ChannelLock<C>, Place<C>), Unshared<C>>
         ghost opening: { Opening }
         requires { C.stands value opening [] }
         ensures shared { IfOk result (λ r. (r.1.table_id ≡ r.0.table.shared.table_id) × (r.1.me ≡ (dealer opening passes, []))) }

@@ -8,5 +8,6 @@ pub mod Measuring
 pub mod Images
 pub mod Going
 pub mod Seen
+pub mod Removing
 pub mod Begun
 pub mod Reopening

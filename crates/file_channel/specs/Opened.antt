@@ -1,7 +1,8 @@
 -- What an opening finds in a folder, and what it makes of it.
-use Rattle.std.specs.Prelude.{◌≡◌, ◌⊎◌, ◌<◌, ◌^◌, ℕ, List, [], length, Option, None, Some, true}
+use Rattle.std.specs.Prelude.{◌≡◌, ◌⊎◌, ◌<◌, ◌^◌, ℕ, List, [], length, Option, None, Some, Result, true}
 use Rattle.flume_host.specs.Folder.{Files}
-use Rattle.flume_host.specs.Told.{Told, WhereTold}
+use Rattle.flume_host.specs.Told.{Leads, On, Remove, Told, WhereTold}
+use Rattle.flume_host.specs.declared.names.Failed.{Failed}
 use Rattle.flume_host.specs.declared.names.FileName.TheVariants.{Log}
 use Rattle.event_core.specs.Content.{Content}
 use Rattle.event_core.specs.Journal.{Base, IsBase}
@@ -40,6 +41,10 @@ CountsSteps files before now = (now ≡ before) ⊎ HasSteps files before now
 -- A log file could not be begun: the disk failed, or when out of memory, and then nothing was done.
 abbrev pub FailsToBegin : OpenCause → Option Told → Option Told → Type 0
 FailsToBegin cause told told' = (cause ≡ causes.DiskFault) ⊎ ((cause ≡ causes.NoMemory) × (told' ≡ told))
+
+-- the log file of this number was removed, or some part of that was done, or nothing
+abbrev pub MayRemove : ℕ → Told → Told → Type 0
+MayRemove number t u = (u ≡ t) ⊎ ((result : Result (Unit {0}) Failed) × Leads (On (Log number) Remove) result t u)
 
 -- each event that is known is the one that the disk tells of at its pointer
 abbrev pub AreSeen : Option Told → Known → Type 0

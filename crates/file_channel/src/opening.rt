@@ -17,7 +17,7 @@ ghost use Rattle.channel_places.specs.Looks.{Known, LookLeft, Looks};
 ghost use Rattle.channel_writing.specs.Folders.{FailsToSettle, GainsLog, IsAsBefore, IsBegun, IsNextFile, IsOfFile, IsRefused, Opens, OpensFrom, OpensOver, Refuses, log_name};
 ghost use Rattle.channel_writing.specs.Written.{MayRecover};
 ghost use Rattle.ring_replay.specs.Folder.{IsReady};
-ghost use Rattle.file_channel.specs.Opened.{AreShort, CountsSteps, FailsToBegin, IsBegunAs, OpensWith, ReplaysTo};
+ghost use Rattle.file_channel.specs.Opened.{AreShort, CountsSteps, FailsToBegin, IsBegunAs, MayRemove, OpensWith, ReplaysTo};
 ghost use Rattle.file_channel.specs.Stepped.{ShowsOf, StepsOn};
 
 use crate::channel::OpenRefused;
@@ -161,7 +161,21 @@ fn settle_folder<D: Disk, L: Ledger>(
     }
 }
 
-// Begins a log file that has no frame yet.
+// Removes a log file that could not be begun, where it is there: so the folder of a disk that is full gains no file with each mend.
+// The file counts as empty, so nothing rests on what is answered here.
+fn remove_unbegun<D: Disk>(disk: &mut D, number: u32)
+    ensures removes { Tells (D.told disk.old) (D.told disk.new) (MayRemove number) }
+    ensures later { D.faults disk.old ≤ D.faults disk.new }
+{
+    match disk.next_name(log_name(number.checked_sub(1))) {
+        Ok(Some(FileName::Log(found))) if found == number => {
+            let _ = disk.remove(FileName::Log(number));
+        }
+        _ => {}
+    }
+}
+
+// Begins a log file that has no frame yet. Where the disk fails it is removed again, if that can be.
 fn begin_log<D: Disk>(
     alloc: Global,
     disk: &mut D,
@@ -191,7 +205,10 @@ fn begin_log<D: Disk>(
 {
     match LogWriter::begin(alloc, disk, number, BEGUN, max_file) {
         Ok(log) => Ok(log),
-        Err(LogBeginRefused::DiskFault) => Err(OpenCause::DiskFault),
+        Err(LogBeginRefused::DiskFault) => {
+            remove_unbegun(disk, number);
+            Err(OpenCause::DiskFault)
+        }
         Err(LogBeginRefused::NoMemory) => Err(OpenCause::NoMemory),
     }
 }

@@ -59,9 +59,12 @@ impl Dialer for RealDialer {
 
     fn dial(&mut self) -> Result<RealLink, Failed> {
         match connect(self.teller.rt, self.host.as_str(), self.port) {
-            Ok(link) => Ok(link),
+            Ok(link) => {
+                self.teller.works_at(self.host.as_str(), self.port);
+                Ok(link)
+            }
             Err(e) => {
-                self.teller.failed_at(self.host.as_str(), self.port, &e);
+                self.teller.fails_at(self.host.as_str(), self.port, &e);
                 self.faults = self.faults.saturating_add(1);
                 Err(Failed)
             }

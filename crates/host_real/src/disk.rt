@@ -220,7 +220,7 @@ impl RealDisk {
         match answer {
             Ok(value) => Ok(value),
             Err(e) => {
-                self.teller.failed(self.path.as_str(), &e);
+                self.teller.fails(self.path.as_str(), &e);
                 self.faults = self.faults.saturating_add(1);
                 Err(Failed)
             }
@@ -351,6 +351,9 @@ impl Disk for RealDisk {
 
     fn sync(&mut self, name: FileName) -> Result<(), Failed> {
         let synced = self.sync_file(name);
+        if synced.is_ok() {
+            self.teller.works(self.path.as_str());
+        }
         self.counted(synced)
     }
 

@@ -86,14 +86,17 @@ impl Listener for RealListener {
     fn accept(&mut self) -> Result<Option<RealLink>, Failed> {
         match accept_some(&self.socket) {
             Ok((stream, _)) => match RealLink::new(self.teller.rt, stream) {
-                Ok(link) => Ok(Some(link)),
+                Ok(link) => {
+                    self.teller.works_with(self.socket.local_addr());
+                    Ok(Some(link))
+                }
                 Err(_) => self.wait_over(),
             },
             Err(e)
                 if e.kind() == ErrorKind::WouldBlock || e.kind() == ErrorKind::ConnectionAborted =>
                 { self.wait_over() }
             Err(e) => {
-                self.teller.failed_with(self.socket.local_addr(), &e);
+                self.teller.fails_with(self.socket.local_addr(), &e);
                 self.faults = self.faults.saturating_add(1);
                 Err(Failed)
             }

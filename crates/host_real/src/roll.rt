@@ -65,7 +65,7 @@ impl RealRoll {
         ensures counted { Rose self.old.faults self.new.faults × (self.old.faults ≤ self.new.faults) }
         ensures failed { IsErr result }
     {
-        self.teller.failed(self.path.as_str(), error);
+        self.teller.fails(self.path.as_str(), error);
         self.faults = self.faults.saturating_add(1);
         Err(Failed)
     }
@@ -101,7 +101,10 @@ impl RollDir for RealRoll {
             None => Ok(()),
         };
         match synced {
-            Ok(()) => Ok(()),
+            Ok(()) => {
+                self.teller.works(self.path.as_str());
+                Ok(())
+            }
             Err(e) => self.fail(&e),
         }
     }

@@ -11,10 +11,10 @@ use crate::pass::Pass;
 use crate::shared::Shared;
 use atomic_table::Badge;
 use channel_face::{CheckRefused, Counter, Durable, PruneRefused};
+use channel_lock::Place;
 use std::marker::Brand;
 use std::mem;
 use std::sync::Wait;
-use channel_lock::Place;
 
 impl<C: Durable> Shared<C> {
     fn make_checkpoint(

@@ -13,9 +13,9 @@ use channel_face::{
     BeginRefused, Channel, CommitRefused, Counter, FlushRefused, PutRefused, PutTxn, Settled,
     StageCause, StageRefused, TakeRefused, TakeTxn, Taken, Ticket,
 };
+use channel_lock::Place;
 use event_core::Event;
 use std::marker::Brand;
-use channel_lock::Place;
 
 // A call that no rollback needs the count for is made where fewer were counted.
 pub(crate) const MOST: u64 = 18446744073709550591;

@@ -13,11 +13,11 @@ use crate::home::Home;
 use crate::shared::Shared;
 use atomic_table::Badge;
 use channel_face::Channel;
+use channel_lock::{ChannelLock, Gather, Place, SeatView};
 use std::alloc::{AllocError, Global};
 use std::marker::Model;
 use std::mem;
 use std::sync::Wait;
-use channel_lock::{ChannelLock, Gather, Place, SeatView};
 
 /// What one thread has seen of the history, and the numbers of its calls.
 #[derive(Drop)]

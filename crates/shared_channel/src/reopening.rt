@@ -11,12 +11,12 @@ use crate::pass::Pass;
 use crate::shared::Shared;
 use atomic_table::Badge;
 use channel_face::{Counter, OpenCause, Reopen};
+use channel_lock::Place;
 use flume_host::Steps;
 use std::marker::Brand;
 use std::mem;
 use std::sync::Wait;
 use std::sync::ledger::Ledger;
-use channel_lock::Place;
 
 impl<C: Reopen> Shared<C> {
     // What it kept is known to be there, and not what it is. So one of the calls is counted that its reply may stand for.

@@ -7,8 +7,8 @@ ghost use Rattle.shared_channel.specs.Calls.{IsOut, IsIn, Left};
 
 use crate::home::Home;
 use channel_face::Channel;
-use std::sync::Wait;
 use channel_lock::{ChannelLock, Gather, Place};
+use std::sync::Wait;
 
 /// A channel that threads share. Its calls have one history, in which each was made whole.
 #[derive(Drop)]
