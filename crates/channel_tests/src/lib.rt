@@ -13,6 +13,8 @@ mod folders;
 #[cfg(test)]
 mod frames;
 #[cfg(test)]
+mod mending;
+#[cfg(test)]
 mod open_transactions;
 #[cfg(test)]
 mod pointers;
@@ -28,6 +30,8 @@ mod rolls;
 mod spelled;
 #[cfg(test)]
 mod steps;
+#[cfg(test)]
+mod takes;
 #[cfg(test)]
 mod torn;
 #[cfg(test)]

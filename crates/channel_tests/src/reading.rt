@@ -119,8 +119,8 @@ const READ_CALLS: [(u64, u32, u64); 6] = [
     (2, 3_000, 5),
 ];
 
-// A log file of so many frames of so many PUTs.
-fn long_file(alloc: Global, frames: u64, puts: u32) -> Result<Vec<u8>, AllocError> {
+/// A log file of so many frames of so many PUTs.
+pub fn long_file(alloc: Global, frames: u64, puts: u32) -> Result<Vec<u8>, AllocError> {
     let mut pieces = Vec::new(alloc);
     pieces.push(Piece::Header(1, 1, 1))?;
     for n in 0..frames {

@@ -19,6 +19,7 @@ pub enum Step {
     PutBytes(u64, usize),
     Take(u64),
     StagePut(u64),
+    StageTake(u64),
     CommitPut(u64),
     CommitTake(u64),
     RollbackPut(u64),
@@ -42,7 +43,7 @@ pub enum Count {
 }
 
 /// What a call answered.
-#[derive(Clone, Copy, Debug, PartialEq, Eq)]
+#[derive(Clone, Copy, PartialEq, Eq)]
 pub enum Said {
     Token(u64),
     Done,
@@ -59,6 +60,7 @@ pub enum Said {
     TooLarge(u64),
     Full(u32),
     DiskFault,
+    ReadFault,
     InDoubt,
     SpentFile,
     Other,
@@ -170,6 +172,7 @@ fn said_of_take(reply: Result<Taken, TakeRefused>) -> Said {
             },
         ) => Said::SpentFile,
         Err(TakeRefused::DiskFault) => Said::DiskFault,
+        Err(TakeRefused::ReadFault) => Said::ReadFault,
         Err(_) => Said::Other,
     }
 }
@@ -208,6 +211,13 @@ fn stage_put<C: Channel>(channel: &mut C, number: u64) -> Result<Ticket, Said> {
     match channel.stage_put(PutTxn::new(1, number)) {
         Ok(ticket) => Ok(ticket),
         Err(refused) => Err(put_not_staged(refused)),
+    }
+}
+
+fn stage_take<C: Channel>(channel: &mut C, number: u64) -> Result<Ticket, Said> {
+    match channel.stage_take(TakeTxn::new(1, number)) {
+        Ok(ticket) => Ok(ticket),
+        Err(refused) => Err(take_not_staged(refused)),
     }
 }
 
@@ -270,6 +280,7 @@ fn made<C: Channel + Drop>(
         Step::PutBytes(number, size) => return put_bytes(alloc, channel, number, b'a', size),
         Step::Take(number) => take(channel, number),
         Step::StagePut(number) => keep(ticket, stage_put(channel, number)),
+        Step::StageTake(number) => keep(ticket, stage_take(channel, number)),
         Step::CommitPut(number) => keep(ticket, commit_put(channel, number)),
         Step::CommitTake(number) => keep(ticket, commit_take(channel, number)),
         Step::RollbackPut(number) => Said::Ended(channel.rollback_put(PutTxn::new(1, number))),
@@ -282,19 +293,31 @@ fn made<C: Channel + Drop>(
     })
 }
 
-/// Makes each call, up to the first that does not answer as its row has it.
+/// Makes each call, up to the first that does not answer as its row has it, and tells how many did.
+pub fn answered<C: Channel + Drop>(
+    alloc: Global,
+    tried: &mut Tried<C>,
+    turns: &[Turn],
+) -> Result<usize, EventRefused> {
+    for row in 0..turns.len() {
+        let (step, want) = turns[row];
+        if made(alloc, tried, step)? != want {
+            return Ok(row);
+        }
+    }
+    Ok(turns.len())
+}
+
+/// Makes each call, up to the first that does not answer as its row has it, which is named.
 pub fn answer<C: Channel + Drop>(
     alloc: Global,
     name: &str,
     tried: &mut Tried<C>,
     turns: &[Turn],
 ) -> Result<(), Fail> {
-    for row in 0..turns.len() {
-        let (step, want) = turns[row];
-        let said = made(alloc, tried, step)?;
-        if said != want {
-            return Err(Fail::new(format_args!("{name}, row {row}: {said:?}")));
-        }
+    let row = answered(alloc, tried, turns)?;
+    if row < turns.len() {
+        return Err(Fail::new(format_args!("{name}, row {row}")));
     }
     Ok(())
 }

@@ -1,5 +1,6 @@
 // Worked examples of channels: the plain one, the one in memory and the one on a disk.
 use crate::steps::{Count, Said, Step, Tried, Turn, answer, begin_put};
+use crate::takes::unread;
 use channel_face::{Channel, Kind, Limits, Settled};
 use event_core::Entry;
 use host_memory::MemDisk;
@@ -80,6 +81,21 @@ const STAGED: [Turn; 7] = [
     (Step::Put(1, b'a'), Said::Stale),
 ];
 
+// Two events are left, and the read of the first one fails. It is still there.
+const UNREAD: [Turn; 11] = [
+    (Step::BeginTake, Said::Token(3)),
+    (Step::Take(3), Said::ReadFault),
+    (Step::Size, Said::Number(2)),
+    (Step::Counted(Count::TakeAttempts), Said::Number(1)),
+    (Step::Take(3), Said::Event(b'a')),
+    (Step::Take(3), Said::Event(b'b')),
+    (Step::Take(3), Said::NoEvent),
+    (Step::CommitTake(3), Said::First(0)),
+    (Step::Size, Said::Number(0)),
+    (Step::Counted(Count::TakeAttempts), Said::Number(4)),
+    (Step::Counted(Count::TakeSuccesses), Said::Number(2)),
+];
+
 // An event has at most 1,048,576 bytes, eight of which are not its body's.
 const LARGE: [Turn; 3] = [
     (Step::BeginPut, Said::Token(1)),
@@ -126,6 +142,8 @@ enum Over {
     Disk,
     // A disk of which the second sync of the first flush fails.
     FailingDisk,
+    // A disk with two events, of which the first read of one fails.
+    UnreadDisk,
 }
 
 struct Example {
@@ -168,7 +186,7 @@ const TWO_OF_THREE: Limits = Limits {
     max_file: 0,
 };
 
-const EXAMPLES: [Example; 11] = [
+const EXAMPLES: [Example; 12] = [
     Example {
         name: "a full channel, plain",
         over: Over::Plain(Kind::File),
@@ -224,6 +242,12 @@ const EXAMPLES: [Example; 11] = [
         turns: &STAGED,
     },
     Example {
+        name: "a take whose read fails",
+        over: Over::UnreadDisk,
+        limits: TEN,
+        turns: &UNREAD,
+    },
+    Example {
         name: "an event's size",
         over: Over::Disk,
         limits: TEN,
@@ -253,6 +277,10 @@ fn works(alloc: Global, example: &Example) -> Result<(), Fail> {
         }
         Over::FailingDisk => {
             let disk = disk_failing_in_flush(alloc, limits)?;
+            answers(alloc, example, channel_on(alloc, disk, limits)?)
+        }
+        Over::UnreadDisk => {
+            let disk = unread(alloc, limits)?;
             answers(alloc, example, channel_on(alloc, disk, limits)?)
         }
     }
