@@ -8,7 +8,7 @@ use flume_host::FileName;
 use host_memory::MemDisk;
 use open_table::{Item, OpenTable, TableRefused};
 use record_form::Pointer;
-use scenarios::{Scene, add_text, number_of, numbers_of, pass, word_and_rest};
+use scenarios::{Scene, add_text, number_of, pass, two_numbers, word_and_rest};
 use std::alloc::Global;
 use std::test::Fail;
 
@@ -110,8 +110,8 @@ struct Check {
 }
 
 fn set_place(scene: &mut Check, numbers: &str) -> bool {
-    match numbers_of::<2>(numbers) {
-        Some([file, at]) => {
+    match two_numbers(numbers) {
+        Some((file, at)) => {
             scene.place = Place {
                 file: (file % 10) as u32,
                 at,
@@ -123,8 +123,8 @@ fn set_place(scene: &mut Check, numbers: &str) -> bool {
 }
 
 fn set_next(scene: &mut Check, numbers: &str) -> bool {
-    match numbers_of::<2>(numbers) {
-        Some([number, txn]) => {
+    match two_numbers(numbers) {
+        Some((number, txn)) => {
             scene.next = Next { number, txn };
             true
         }

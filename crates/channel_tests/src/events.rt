@@ -1,6 +1,6 @@
 // Events, their headers, and batches.
 use event_core::{Batch, Event, EventRefused, Headers, MAX_EVENT_SIZE, Numbers};
-use scenarios::{Scene, number_of, numbers_of, pass, word_and_rest};
+use scenarios::{Scene, number_of, pass, two_numbers, word_and_rest};
 use std::alloc::Global;
 use std::test::Fail;
 use test_fixtures::event;
@@ -189,7 +189,7 @@ fn has_parts(event: Option<Event>, sizes: &str) -> bool {
     match event {
         Some(event) => {
             let (headers, body) = event.into_parts();
-            numbers_of::<2>(sizes) == Some([headers.size(), body.len() as u64])
+            two_numbers(sizes) == Some((headers.size(), body.len() as u64))
         }
         None => false,
     }
@@ -225,11 +225,13 @@ fn add_number(numbers: &mut Numbers, number: &str) -> bool {
 
 // Whether a copy of the numbers has these two, and no more.
 fn are_numbers(numbers: &Numbers, want: &str) -> bool {
-    let Some(want) = numbers_of::<2>(want) else {
+    let Some((first, second)) = two_numbers(want) else {
         return false;
     };
     match numbers.copy() {
-        Ok(copied) => copied.as_slice() == want.as_slice() && numbers.len() == 2,
+        Ok(copied) => {
+            copied.as_slice() == [first, second].as_slice() && numbers.len() == 2
+        }
         Err(_) => false,
     }
 }

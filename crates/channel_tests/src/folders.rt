@@ -167,12 +167,30 @@ refused over-capacity 2
 
 A checkpoint is there.
 limits 10 10 1000000
-check 3 x
-refused bad-check 3 0"#;
+check 3 \x01x
+refused bad-check 3 1"#;
 
 #[test]
 fn a_folder_is_refused_for_its_cause(rt: HostRuntime) -> Result<(), Fail> {
     pass::<Channels>(rt.alloc(), REFUSED)
+}
+
+// A checkpoint is passed over that has no byte after an open commit byte.
+const PASSED: &str = r#"An empty checkpoint is passed over.
+limits 10 10 1000000
+check 3
+on-disk
+size > count 0
+
+So is one of an open commit byte alone, and one whose commit byte is closed, for \x01, \x00x, \xffx
+limits 10 10 1000000
+check 3 $
+on-disk
+size > count 0"#;
+
+#[test]
+fn a_checkpoint_is_passed_over(rt: HostRuntime) -> Result<(), Fail> {
+    pass::<Channels>(rt.alloc(), PASSED)
 }
 
 // How many events of one frame are taken one after another, and how many reads of the disk that takes. A block of 65,536 bytes is

@@ -7,7 +7,7 @@ use channel_replay::{RecoverRefused, ReplayRefused, Replayed, WholeFile, recover
 use event_core::Event;
 use flume_host::FileName;
 use host_memory::MemDisk;
-use scenarios::{Scene, is_text, number_of, numbers_of, word_and_rest};
+use scenarios::{Scene, is_text, number_of, three_numbers, two_numbers, word_and_rest};
 use std::alloc::Global;
 
 /// Some log files.
@@ -76,9 +76,7 @@ fn is_left(alloc: Global, left: &Replayed, want: &str) -> bool {
 fn is_found(alloc: Global, found: &Found, want: &str) -> bool {
     match (found, word_and_rest(want)) {
         (Ok(left), ("left", rest)) => is_left(alloc, left, rest),
-        (Err((file, at)), ("bad", rest)) => {
-            numbers_of::<2>(rest) == Some([u64::from(*file), *at])
-        }
+        (Err((file, at)), ("bad", rest)) => { two_numbers(rest) == Some((u64::from(*file), *at)) }
         _ => false,
     }
 }
@@ -217,7 +215,7 @@ fn read_frames(alloc: Global, frames: u64, puts: u64) -> Option<Read> {
 
 // Whether each record of so many frames of so many PUTs is read with so many calls, as `100 1 3`.
 fn is_read_with(scene: &Logs, row: &str) -> bool {
-    let Some([frames, puts, calls]) = numbers_of::<3>(row) else {
+    let Some((frames, puts, calls)) = three_numbers(row) else {
         return false;
     };
     match read_frames(scene.alloc, frames, puts) {

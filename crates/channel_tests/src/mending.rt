@@ -2,7 +2,7 @@
 use crate::crashes::logs_of;
 use crate::scene::{Channels, calls, fault, has, is_answered, is_closed};
 use host_memory::DiskFault;
-use scenarios::{Scene, numbers_of, word_and_rest};
+use scenarios::{Scene, three_numbers, word_and_rest};
 use std::alloc::Global;
 
 // One event is settled, and the write of the next one's frame fails, which is the fifth call after the opening.
@@ -86,7 +86,7 @@ fn is_mended(alloc: Global, faults: &[DiskFault], refused: u64) -> bool {
 }
 
 fn is_right(alloc: Global, row: &str) -> bool {
-    let Some([refused, stays, files]) = numbers_of::<3>(row) else {
+    let Some((refused, stays, files)) = three_numbers(row) else {
         return false;
     };
     match faults_of(alloc, refused, stays == 1) {

@@ -5,7 +5,7 @@ ghost use Rattle.record_form.specs.Record.{IsWithinLimits, record_length};
 use crate::calls::value_of;
 use event_core::Event;
 use record_form::{Read, Rec, read_record, rec_of, write_record};
-use scenarios::{Scene, add_text, number_of, numbers_of, pass, word_and_rest};
+use scenarios::{Scene, add_text, number_of, pass, three_numbers, word_and_rest};
 use std::alloc::Global;
 use std::test::Fail;
 use test_fixtures::event;
@@ -154,7 +154,7 @@ fn is_bad(bytes: &[u8], at: u64) -> bool {
 
 // Whether the PUT with one byte changed is at fault there, as `9 1 9`.
 fn is_bad_changed(row: &str) -> bool {
-    let Some([place, value, at]) = numbers_of::<3>(row) else {
+    let Some((place, value, at)) = three_numbers(row) else {
         return false;
     };
     let mut bytes = PUT;

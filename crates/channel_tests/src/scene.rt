@@ -7,7 +7,7 @@ use file_channel::FileChannel;
 use flume_host::FileName;
 use host_memory::{DiskFault, MemDisk, MemFile, Part};
 use memory_channel::MemoryChannel;
-use scenarios::{Scene, add_text, number_of, numbers_of, word_and_rest};
+use scenarios::{Scene, add_text, number_of, three_numbers, two_numbers, word_and_rest};
 use std::alloc::Global;
 use std::mem;
 use test_fixtures::{disk_after_opening, open, reopen};
@@ -52,7 +52,7 @@ const SHORT: Limits = Limits {
 };
 
 fn set_limits(scene: &mut Channels, numbers: &str) -> bool {
-    let Some([capacity, txn_capacity, max_file]) = numbers_of::<3>(numbers) else {
+    let Some((capacity, txn_capacity, max_file)) = three_numbers(numbers) else {
         return false;
     };
     if let (Ok(capacity), Ok(txn_capacity)) = (
@@ -104,7 +104,7 @@ fn add_log(scene: &mut Channels, file: &str) -> bool {
 
 // Adds log file 1 of so many frames of so many PUTs, as `100 2`.
 fn add_long_log(scene: &mut Channels, numbers: &str) -> bool {
-    let Some([frames, puts]) = numbers_of::<2>(numbers) else {
+    let Some((frames, puts)) = two_numbers(numbers) else {
         return false;
     };
     let name = FileName::Log(1);

@@ -5,4 +5,4 @@ mod reader;
 mod texts;
 
 pub use reader::{Scene, Wrong, pass, wrong_in};
-pub use texts::{add_text, is_text, number_of, numbers_of, word_and_rest};
+pub use texts::{add_text, is_text, number_of, three_numbers, two_numbers, word_and_rest};

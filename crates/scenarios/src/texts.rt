@@ -11,15 +11,17 @@ pub fn number_of(text: &str) -> Option<u64> {
     text.parse::<u64>().ok()
 }
 
-/// So many numbers.
-pub fn numbers_of<const N: usize>(text: &str) -> Option<[u64; N]> {
-    let mut numbers = [0; N];
-    let mut count = 0;
-    for word in text.split(' ') {
-        *numbers.get_mut(count)? = number_of(word)?;
-        count = count.saturating_add(1);
-    }
-    if count == N { Some(numbers) } else { None }
+/// Two numbers.
+pub fn two_numbers(text: &str) -> Option<(u64, u64)> {
+    let (first, second) = word_and_rest(text);
+    Some((number_of(first)?, number_of(second)?))
+}
+
+/// Three numbers.
+pub fn three_numbers(text: &str) -> Option<(u64, u64, u64)> {
+    let (first, rest) = word_and_rest(text);
+    let (second, third) = two_numbers(rest)?;
+    Some((number_of(first)?, second, third))
 }
 
 // What the bytes of a text say so far.
