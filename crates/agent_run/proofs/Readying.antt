@@ -7,13 +7,13 @@ use Rattle.flume_config.specs.declared.plan.ChannelPlan.{ChannelPlan}
 use Rattle.flume_config.specs.declared.plan.Plan.{Plan}
 use Rattle.flume_config.specs.declared.plan.SinkPlan.{SinkPlan}
 use Rattle.flume_config.specs.declared.plan.GroupPlan.{GroupPlan}
-use Rattle.grouped_sinks.specs.Rows.{AreDistinct, AreRows, AreThere, IsOrder, RowsAreApart, group_places, places_of}
+use Rattle.grouped_sinks.specs.Rows.{AreRows, AreThere, IsOrder, RowsAreApart, places_of}
+use Rattle.plan_laws.specs.Once.{AreDistinct, group_places}
 use Rattle.grouped_sinks.specs.declared.row.SinkRow.{SinkRow}
 use Rattle.grouped_sinks.proofs.Limits.{rows_named, rows_some}
 use Rattle.plan_laws.specs.Limits.{IsFromTo, NumbersAreLimited}
 use Rattle.plan_laws.specs.Names.{GroupsNameWhatIsThere, IsGroupWithin, SinksNameWhatIsThere}
 use Rattle.plan_laws.specs.Once.{SinksStandOnce}
-use Rattle.plan_laws.specs.Once.{AreDistinct as StandOnce}
 use Rattle.agent_channels.specs.Closings.{AreOut, IsOutIn}
 use Rattle.agent_channels.specs.Several.{AreOpened, WereOpened}
 use Rattle.agent_channels.specs.Openings.{HostTold}
@@ -48,15 +48,11 @@ groups_weighed names plan planned =
     All-weaker (IsGroupWithin (length plan.sinks.items)) (λ (g : GroupPlan). length g.priorities.items ≡ length g.sinks.items) (λ g is. is.priorities) plan.groups.items
     (names planned.0 planned.1 plan planned.2)
 
-distinct_same : (places : List ℕ) → StandOnce places → AreDistinct places
-distinct_same [] once = tt
-distinct_same (place ∷ places) once = (once.0, distinct_same places once.1)
-
 -- each sink of a plan is in one of its rows, once
 pub rows_in_order : RowsAreApart → GroupsNameWhatIsThere → SinksStandOnce → (plan : Plan) → IsPlanned plan → (rows : List SinkRow) → AreRows plan.sinks.items plan.groups.items rows
     → IsOrder (length plan.sinks.items) (places_of rows)
 rows_in_order apart names once plan planned rows are =
-    apart plan.sinks.items plan.groups.items rows (groups_there names plan planned) (distinct_same (group_places plan.groups.items) (once planned.0 planned.1 plan planned.2)) are
+    apart plan.sinks.items plan.groups.items rows (groups_there names plan planned) (once planned.0 planned.1 plan planned.2) are
 
 -- ---- the channels are used as they were wanted
 

@@ -6,7 +6,8 @@ ghost use Rattle.agent_outside.specs.Listening.{IsFresh};
 ghost use Rattle.agent_outside.specs.Sinks.{IsPlain};
 ghost use Rattle.agent_run.specs.Lists.{IsEmptyFor};
 ghost use Rattle.grouped_sinks.specs.Frames.{IsFrameOf};
-ghost use Rattle.grouped_sinks.specs.Rows.{AreBelow, AreDistinct, Zips, places_of};
+ghost use Rattle.grouped_sinks.specs.Rows.{AreBelow, Zips, places_of};
+ghost use Rattle.plan_laws.specs.Once.{AreDistinct};
 ghost use Rattle.agent_run.specs.Outside.{AreBack, AreFrom, IsGrouped, IsOutside, LeavesDisks, OutsideRefused, WithPlaces};
 
 use agent_outside::{

@@ -9,7 +9,8 @@ use Rattle.grouped_sinks.specs.Frames.{IsFrame}
 use Rattle.grouped_sinks.specs.declared.frame.Frame.{Frame}
 use Rattle.grouped_sinks.specs.declared.frame.Frame.TheVariants as frame
 use Rattle.grouped_sinks.specs.Picks.{AreDealt, ArePicked, KeepsOthers}
-use Rattle.grouped_sinks.specs.Rows.{AreDistinct, AreOthers, Zips, places_of}
+use Rattle.grouped_sinks.specs.Rows.{Zips, places_of}
+use Rattle.plan_laws.specs.Once.{AreDistinct, AreOthers}
 use Rattle.grouped_sinks.specs.Runners.{members_of}
 use Rattle.grouped_sinks.specs.declared.runner.Runner.{Runner}
 use Rattle.grouped_sinks.specs.declared.row.SinkRow.{SinkRow}

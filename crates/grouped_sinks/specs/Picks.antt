@@ -2,7 +2,8 @@
 use Rattle.std.specs.Prelude.{◌≡◌, ℕ, List, length, slice_get, Some}
 use Rattle.flume_config.specs.declared.plan.GroupPlan.{GroupPlan}
 use Rattle.grouped_sinks.specs.Frames.{IsNewRunner}
-use Rattle.grouped_sinks.specs.Rows.{AreOthers, Zips}
+use Rattle.grouped_sinks.specs.Rows.{Zips}
+use Rattle.plan_laws.specs.Once.{AreOthers}
 use Rattle.grouped_sinks.specs.Runners.{members_of}
 use Rattle.grouped_sinks.specs.declared.row.SinkRow.{SinkRow}
 use Rattle.grouped_sinks.specs.declared.runner.Runner.{Runner}

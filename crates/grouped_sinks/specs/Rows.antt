@@ -1,8 +1,9 @@
 -- The rows of a run: each is of a sink that stands in no group, or of a group.
-use Rattle.std.specs.Prelude.{◌≡◌, ◌⊎◌, ◌<◌, ◌++◌, ◌==◌, ◌≢◌, min, not, ℕ, zero, suc, Bool, true, false, List, [], ◌∷◌, All, codes, fold, flat_map, length, map, slice_get, slice_index, Some, None, string_bytes, if◌then◌else◌}
+use Rattle.std.specs.Prelude.{◌≡◌, ◌⊎◌, ◌<◌, ◌++◌, ◌==◌, min, not, ℕ, zero, suc, Bool, true, false, List, [], ◌∷◌, All, codes, fold, flat_map, length, map, slice_get, slice_index, Some, None, string_bytes, if◌then◌else◌}
 use Rattle.std.specs.List.{list_any, AllByRecursion}
 use Rattle.flume_config.specs.declared.plan.GroupPlan.{GroupPlan}
 use Rattle.flume_config.specs.declared.plan.SinkPlan.{SinkPlan}
+use Rattle.plan_laws.specs.Once.{AreDistinct, group_places}
 use Rattle.grouped_sinks.specs.declared.row.SinkRow.{SinkRow}
 
 -- the numbers below this one that pass
@@ -93,19 +94,6 @@ AreThere count groups = All (λ (g : GroupPlan). All (λ place. place < count) g
 -- the places of the rows' sinks, one row after the other
 abbrev pub places_of : List SinkRow → List ℕ
 places_of rows = flat_map (λ (row : SinkRow). row.places.items) rows
-
--- the places of the groups' sinks
-abbrev pub group_places : List GroupPlan → List ℕ
-group_places groups = flat_map (λ (g : GroupPlan). g.sinks.items) groups
-
--- none of these is the other
-abbrev pub AreOthers : ℕ → List ℕ → Type 0
-AreOthers place places = AllByRecursion (λ other. other ≢ place) places
-
--- none stands twice
-abbrev pub AreDistinct : List ℕ → Type 0
-AreDistinct [] = Unit {0}
-AreDistinct (place ∷ places) = AreOthers place places × AreDistinct places
 
 -- each is below this number
 abbrev pub AreBelow : ℕ → List ℕ → Type 0

@@ -3,7 +3,8 @@ ghost use Rattle.std.specs.Prelude.{◌≡◌, ◌≤◌, [], length};
 ghost use Rattle.std.specs.Vec.{vec_capacity};
 ghost use Rattle.grouped_sinks.specs.Frames.{IsFrameOf, IsNewRunner};
 ghost use Rattle.grouped_sinks.specs.Picks.{AreDealt, AreNewRunners, ArePicked, HaveMembers, KeepsOthers};
-ghost use Rattle.grouped_sinks.specs.Rows.{AreBelow, AreDistinct, Zips, places_of};
+ghost use Rattle.grouped_sinks.specs.Rows.{AreBelow, Zips, places_of};
+ghost use Rattle.plan_laws.specs.Once.{AreDistinct};
 ghost use Rattle.grouped_sinks.specs.Runners.{members_of};
 
 use crate::frame::Frame;

@@ -1,13 +1,12 @@
 -- What it tells that there is no least line.
-use Rattle.std.proofs.Common.{◌≡◌, ◌++◌, ℕ, min, List, [], ◌∷◌, Bool, true, false, cond, All, map, flat_map, fold, take, Option, Some, None, IfNone, refl, sym, subst}
+use Rattle.std.proofs.Common.{◌≡◌, ◌++◌, ℕ, min, List, [], ◌∷◌, Bool, true, false, cond, All, flat_map, fold, Option, Some, None, IfNone, refl, sym, subst}
 use Rattle.std.proofs.lemmas.List.Elements.{All-cons, All-nil}
 use Rattle.flume_config.specs.declared.plan.Plan.{Plan}
 use Rattle.flume_config.specs.declared.plan.SourcePlan.{SourcePlan}
 use Rattle.flume_config.specs.declared.plan.StepPlan.{StepPlan}
 use Rattle.flume_config.specs.declared.plan.StepPlan.TheVariants.{Step, Regex, Plugin}
 use Rattle.flume_config.specs.declared.plan.SinkPlan.{SinkPlan}
-use Rattle.flume_config.specs.declared.plan.GroupPlan.{GroupPlan}
-use Rattle.plan_support.specs.Least.{HasNoPlugin, HasOwnSteps, IsOwn, IsSupported, first_plugin, group_lines, is_plugin, line_at, nearer, plugin_lines, sink_plugin_lines, source_plugin_lines, unsupported}
+use Rattle.plan_support.specs.Least.{HasNoPlugin, HasOwnSteps, IsOwn, first_plugin, is_plugin, nearer, plugin_lines, sink_plugin_lines, source_plugin_lines}
 
 -- ---- lists
 
@@ -70,14 +69,3 @@ no_plugin plan is =
       sinks = each_none sink_plugin_lines (λ (s : SinkPlan). is_plugin s.kind ≡ false) (λ s no. untold (is_plugin s.kind) s.line no) plan.sinks.items
           (nil_back (flat_map source_plugin_lines plan.sources.items) (flat_map sink_plugin_lines plan.sinks.items) none);
     }
-
--- ---- what an agent does not run yet
-
-no_member : (sinks : List SinkPlan) (places : List ℕ) → map (line_at sinks) (take 1 places) ≡ [] → places ≡ []
-no_member sinks [] is = refl
-no_member sinks (place ∷ places) is = absurd (no_cons (line_at sinks place) (map (line_at sinks) (take 0 places)) is)
-
-pub none_unsupported : (plan : Plan) → unsupported plan ≡ None → IsSupported plan
-none_unsupported plan is = record {
-  groups = each_none (group_lines plan.sinks.items) (λ (g : GroupPlan). g.sinks.items ≡ []) (λ g no. no_member plan.sinks.items g.sinks.items no) plan.groups.items (no_lines (flat_map (group_lines plan.sinks.items) plan.groups.items) is);
-}

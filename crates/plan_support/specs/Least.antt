@@ -1,5 +1,5 @@
--- The least line of what an agent does not run.
-use Rattle.std.specs.Prelude.{◌≡◌, ◌++◌, ℕ, min, Bool, true, false, List, [], ◌∷◌, All, map, flat_map, fold, take, slice_index, if◌then◌else◌, Option, Some, None}
+-- The least line of what is handed in.
+use Rattle.std.specs.Prelude.{◌≡◌, ◌++◌, ℕ, min, Bool, true, false, List, [], ◌∷◌, All, flat_map, fold, if◌then◌else◌, Option, Some, None}
 use Rattle.flume_config.specs.declared.plan.Plan.{Plan}
 use Rattle.flume_config.specs.declared.plan.SourcePlan.{SourcePlan}
 use Rattle.flume_config.specs.declared.plan.StepPlan.{StepPlan}
@@ -7,13 +7,10 @@ use Rattle.flume_config.specs.declared.plan.StepPlan.TheVariants as step
 use Rattle.flume_config.specs.declared.plan.SinkPlan.{SinkPlan}
 use Rattle.flume_config.specs.declared.plan.SinkKind.{SinkKind}
 use Rattle.flume_config.specs.declared.plan.SinkKind.TheVariants.{Null, Roll, Avro, Plugin}
-use Rattle.flume_config.specs.declared.plan.GroupPlan.{GroupPlan}
 
 abbrev pub nearer : Option ℕ → ℕ → Option ℕ
 nearer None line = Some line
 nearer (Some first) line = Some (min first line)
-
--- ---- what is handed in
 
 -- the line of an interceptor that is handed in
 abbrev pub plugin_lines : StepPlan → List ℕ
@@ -51,21 +48,3 @@ HasOwnSteps s = All IsOwn s.steps.items
 pub record HasNoPlugin (p : Plan) : Type 0 where
   pub steps : All HasOwnSteps p.sources.items
   pub sinks : All (λ s. is_plugin s.kind ≡ false) p.sinks.items
-
--- ---- what an agent does not run yet
-
--- the line of the sink at a place, which is one of these, and else 0
-abbrev pub line_at : List SinkPlan → ℕ → ℕ
-line_at sinks place = slice_index (map (λ (s : SinkPlan). s.line) sinks) place
-
--- the line of the first sink of a group, which has no line of its own
-abbrev pub group_lines : List SinkPlan → GroupPlan → List ℕ
-group_lines sinks g = map (line_at sinks) (take 1 g.sinks.items)
-
--- the least of those lines
-abbrev pub unsupported : Plan → Option ℕ
-unsupported p = fold nearer None (flat_map (group_lines p.sinks.items) p.groups.items)
-
--- no group has a sink
-pub record IsSupported (p : Plan) : Type 0 where
-  pub groups : All (λ g. g.sinks.items ≡ []) p.groups.items

@@ -1,6 +1,6 @@
-//! The least line of a plan that an agent cannot run: of what is handed in, and of what it does not support yet.
+//! The least line of a plan at which something is asked for that was handed in.
 #![tactic(auto)]
 
 mod least;
 
-pub use least::{first_plugin, unsupported};
+pub use least::first_plugin;

@@ -3,7 +3,8 @@ use Rattle.std.proofs.lemmas.List.{length-append}
 use Rattle.agent_sinks.specs.declared.sink.AgentSink.{AgentSink}
 use Rattle.grouped_sinks.specs.Frames.{IsFrameOf, IsNewRunner}
 use Rattle.grouped_sinks.specs.Picks.{AreDealt, AreNewRunners, ArePicked, KeepsOthers}
-use Rattle.grouped_sinks.specs.Rows.{AreBelow, AreDistinct, Zips, places_of}
+use Rattle.grouped_sinks.specs.Rows.{AreBelow, Zips, places_of}
+use Rattle.plan_laws.specs.Once.{AreDistinct}
 use Rattle.grouped_sinks.specs.Runners.{members_of}
 use Rattle.grouped_sinks.specs.declared.frame.Frame.{Frame}
 use Rattle.grouped_sinks.specs.declared.row.SinkRow.{SinkRow}

@@ -2,7 +2,8 @@ use Rattle.std.proofs.Common.{◌≡◌, ◌∙◌, ◌<◌, ◌+◌, ◌∷◌,
 use Rattle.std.proofs.lemmas.List.{length-append}
 use Rattle.agent_sinks.specs.declared.sink.AgentSink.{AgentSink}
 use Rattle.grouped_sinks.specs.Picks.{ArePicked, KeepsOthers}
-use Rattle.grouped_sinks.specs.Rows.{AreBelow, AreDistinct}
+use Rattle.grouped_sinks.specs.Rows.{AreBelow}
+use Rattle.plan_laws.specs.Once.{AreDistinct}
 use Rattle.grouped_sinks.proofs.Picking.{all_back, all_front, apart_turned, distinct_apart, distinct_front, keeps_set, keeps_then, picked_kept, set_there, zips_push}
 use Rattle.grouped_sinks.proofs.grouping.+put_sinks.Goals as goal
 

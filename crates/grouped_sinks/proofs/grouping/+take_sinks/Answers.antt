@@ -3,7 +3,8 @@ use Rattle.std.proofs.lemmas.List.{length-append}
 use Rattle.std.proofs.lemmas.Option.{slice_get_read}
 use Rattle.agent_sinks.specs.declared.sink.AgentSink.{AgentSink}
 use Rattle.grouped_sinks.specs.Picks.{ArePicked, KeepsOthers}
-use Rattle.grouped_sinks.specs.Rows.{AreBelow, AreDistinct}
+use Rattle.grouped_sinks.specs.Rows.{AreBelow}
+use Rattle.plan_laws.specs.Once.{AreDistinct}
 use Rattle.grouped_sinks.proofs.Picking.{all_back, all_front, distinct_apart, distinct_front, keeps_set, keeps_then, zips_length, zips_push}
 use Rattle.grouped_sinks.proofs.grouping.+take_sinks.Goals as goal
 

@@ -2,7 +2,8 @@ use Rattle.std.proofs.Common.{rules, ◌≡◌, ◌∙◌, ◌<◌, ◌+◌, ◌
 use Rattle.std.proofs.lemmas.List.{length-append}
 use Rattle.agent_sinks.specs.declared.sink.AgentSink.{AgentSink}
 use Rattle.grouped_sinks.specs.Picks.{AreDealt, ArePicked, HaveMembers, KeepsOthers}
-use Rattle.grouped_sinks.specs.Rows.{AreBelow, AreDistinct, places_of}
+use Rattle.grouped_sinks.specs.Rows.{AreBelow, places_of}
+use Rattle.plan_laws.specs.Once.{AreDistinct}
 use Rattle.grouped_sinks.specs.Runners.{members_of}
 use Rattle.grouped_sinks.specs.declared.row.SinkRow.{SinkRow}
 use Rattle.grouped_sinks.specs.declared.runner.Runner.{Runner}
