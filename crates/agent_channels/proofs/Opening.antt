@@ -32,7 +32,7 @@ pub first_stays : {X : Type 0} (xs : List X) (x : X) (rest : List X) → 0 < len
 first_stays [] x rest some is gone = absurd (omega (arith, some))
 first_stays (y ∷ ys) x rest some is gone = ap (λ z. z ∷ rest) is ∙ ap (λ l. y ∷ l) gone
 
--- a disk tells after a call exactly where it told before
+-- a disk shows its contents after a call exactly where it did before
 pub tells_still : {T : Type 0} (old new : Option T) (P : T → T → Type 0) → Tells old new P → is_some_of new ≡ is_some_of old
 tells_still None None P is = refl
 tells_still None (Some u) P is = absurd is

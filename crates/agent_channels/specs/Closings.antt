@@ -14,13 +14,13 @@ use Rattle.agent_channels.specs.declared.wish.ChannelPlace.{ChannelPlace}
 use Rattle.agent_channels.specs.declared.wish.ChannelPlace.TheVariants.{Memory, Folder}
 use Rattle.agent_channels.specs.declared.wish.ChannelWish.{ChannelWish}
 
--- A disk that comes back: the path of its folder, what it tells, and how many faults it has counted.
+-- A disk that comes back: the path of its folder, what it shows, and how many faults it has counted.
 pub record DiskBack : Type 0 where
   pub path : List ℕ
   pub told : Option Told
   pub faults : ℕ
 
--- What is told of a path once these disks came back, the last of them first: what the first of them with this path tells, or else what
+-- What is told of a path once these disks came back, the last of them first: what the first of them with this path shows, or else what
 -- was told before.
 abbrev pub told_of : List DiskBack → List ℕ → Option Told → Option Told
 told_of [] p before = before
@@ -68,7 +68,7 @@ AreOfWishes folders [] [] = Unit {0}
 AreOfWishes folders (wish ∷ wishes) (c ∷ cs) = IsOfPlace folders wish.place c × AreOfWishes folders wishes cs
 AreOfWishes folders wishes cs = ⊥
 
--- a disk that tells this and counted so many faults, for the folder that is wanted
+-- a disk that shows this and counted so many faults, for the folder that is wanted
 abbrev pub disk_back : ChannelPlace → Option Told → ℕ → List DiskBack
 disk_back Memory told faults = []
 disk_back (Folder path) told faults = record { path = string_bytes path; told = told; faults = faults } ∷ []

@@ -47,7 +47,7 @@ pub record IsFresh {A B : Type 0} (Starts : Opening → Type 0) (users : ℕ) (s
   pub begins : Starts start
   pub passes : home ∷ others ≡ new_passes (table_of share) start (users + 1) (users + 1)
 
--- what a host tells of itself and of its folders
+-- what a host shows of itself and of its folders
 pub record HostTold : Type 0 where
   pub state : HostState
   pub folders : Folders

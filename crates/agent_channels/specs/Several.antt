@@ -46,12 +46,12 @@ pub record TookOthers (table : TableId) (home : Known) (n : ℕ) (joined : Known
   pub seen : joined.view.seen ≡ []
   pub numbers : (k : ℕ) → k < n → has joined.view.numbers k ≡ true
 
--- A channel that began so has a disk that tells this and counted no fault since, and made no call but rollbacks of stale tokens, which
+-- A channel that began so has a disk that shows this and counted no fault since, and made no call but rollbacks of stale tokens, which
 -- change nothing.
 abbrev pub IsSpared : Option Told → Opening → Type 0
 IsSpared told start = (c : FileState) × StandsAgreeing (StandsOver told start.faults) c start []
 
--- The disk of a channel that began so came back, where it made no call. What else the host tells is as before.
+-- The disk of a channel that began so came back, where it made no call. What else the host shows is as before.
 abbrev pub IsUnused : ChannelPlace → Opening → HostTold → HostTold → Type 0
 IsUnused Memory start a b = DisksBack [] a b
 IsUnused (Folder path) start a b =

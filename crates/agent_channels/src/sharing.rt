@@ -35,7 +35,7 @@ struct Parts<C: Channel> {
     others: Vec<Pass>,
 }
 
-// Shares a channel that has made no call. Out of memory hands it back.
+// Shares a channel that has made no call. Where memory runs out, the channel comes back.
 fn share<C: Channel>(alloc: Global, channel: C, users: u32) -> Result<Parts<C>, C>
     ghost start: { Opening }
     requires users { users < 4_294_967_295 }

@@ -87,7 +87,7 @@ began before told faults c o stands rests from settled = record {
       omega (arith, rises, one, from, here);
 }
 
--- a disk tells afterwards where it told before
+-- a disk shows its contents afterwards where it did before
 pub tells_as : (before told : Option Told) (P : Told → Told → Type 0) → Tells before told P → is_some_of told ≡ is_some_of before
 tells_as None None P tells = refl
 tells_as None (Some u) P tells = absurd tells

@@ -265,7 +265,7 @@ ok_put done = Ok done
 
 -- images
 
--- what a stop may leave in a stretch of calls: what was settled before, or that and the event
+-- what a crash may leave in a stretch of calls: what was settled before, or that and the event
 abbrev pub Stays : State → Told → Told → Type 0
 Stays start t u = LeavesOnly t u (Keeps (base_of start))
 

@@ -37,7 +37,7 @@ Keeps base image = (txn : ℕ) × OpensTo image base txn
 abbrev pub MayGain : Base → Content → Files → Type 0
 MayGain base event image = (txn : ℕ) × (OpensTo image base txn ⊎ OpensTo image (after_journal base (one_put event)) txn)
 
--- what a stop may leave while an event is put: with the event only where it is accepted or in doubt
+-- what a crash may leave while an event is put: with the event only where it is accepted or in doubt
 abbrev pub MayShow : LineVerdict → Base → Content → Files → Type 0
 MayShow Accepted base event image = MayGain base event image
 MayShow Refused base event image = Keeps base image
@@ -48,7 +48,7 @@ MayShow NoMemory base event image = Keeps base image
 abbrev pub IsFull : State → Type 0
 IsFull s = (default_limits.capacity ≤ length s.items) ⊎ (2 ^ 64 - 1 ≤ s.first) ⊎ (2 ^ 64 - 1 ≤ s.txn)
 
--- no log file is left, as far as the disk tells
+-- no log file is left, as far as the disk shows
 abbrev pub HasSpentLog : Option Told → Type 0
 HasSpentLog told = WhereTold told (λ t. IsSpentLog t default_limits.max_file)
 
@@ -69,7 +69,7 @@ pub record PutsOne (event : Content) (verdict : LineVerdict) (told told' : Optio
   -- where no log file is left, it is not accepted, and the disk stays as it is
   pub spent : WhereTold told (λ t. IsSpentLog t default_limits.max_file → (verdict ≡ Accepted → ⊥) × (told' ≡ told))
 
--- From what a disk told to what it tells, by the state of the channel on it.
+-- From what a disk showed to what it shows, by the state of the channel on it.
 pub record Follows (first : List Handled) (doubt : List (List ℕ)) (s : State) (t u : Told) : Type 0 where
   pub holds : Holds first doubt t u
   pub base : base_of s ≡ behind holds.base (lines_in holds.acks)

@@ -95,7 +95,7 @@ pub record Passed (before told : Option Told) (faults : ℕ) (start : Opening) (
   pub well : has_doubt (verdicts_of done) ≡ false → faults ≡ start.faults
   pub rose : has_doubt (verdicts_of done) ≡ true → Rose start.faults faults
 
--- what a channel stands for, by what its disk tells and has counted, and what it has beside
+-- what a channel stands for, by what its disk shows and has counted, and what it has beside
 abbrev pub traced : {C : Type 0} → (C → Option Told) → (C → ℕ) → (C → FileState) → C → Opening → List Step → Type 0
 traced told_by faults_by state_by c = StandsTraced (told_by c) (faults_by c) (state_by c)
 

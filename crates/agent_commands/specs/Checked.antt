@@ -69,7 +69,7 @@ IsAtFault bytes agent =
     (file_limit < length bytes) ⊎ ((why : PropRefused) × (why ≢ text.NoMemory) × Reads bytes (Err why))
     ⊎ ((pairs : List Pair) × Reads bytes (Ok pairs) × IsUnplanned pairs agent)
 
--- the agent's plan by the bytes that the file holds; where the host tells of a file, it tells these
+-- the agent's plan by the bytes that the file holds; where the host shows a file, it shows these
 abbrev pub IsPlanOf : Option (List ℕ) → List ℕ → Plan → Type 0
 IsPlanOf file agent p =
     (bytes : List ℕ) × (length bytes ≤ file_limit) × IsPlanIn bytes agent p × ((told : List ℕ) → file ≡ Some told → bytes ≡ told)
@@ -93,7 +93,7 @@ pub record IsBeside (old new : HostState) : Type 0 where
   pub files : new.files ≡ old.files
   pub disks : new.disk_faults ≡ old.disk_faults
 
--- From one state of the host to the next, by what the file holds, where the host tells.
+-- From one state of the host to the next, by what the file holds, where the host shows its contents.
 pub record Checked (file : Option (List ℕ)) (agent : List ℕ) (old new : HostState) (status : ℕ) : Type 0 where
   -- the file has no fault, and the plan's line was written
   pub done : status ≡ 0 → (p : Plan) × IsPlanOf file agent p × Appends old.output new.output (plan_line agent p)

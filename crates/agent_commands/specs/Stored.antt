@@ -1,4 +1,4 @@
--- What a folder holds of the lines that were handled, and what a stop leaves of it.
+-- What a folder holds of the lines that were handled, and what a crash leaves of it.
 use Rattle.std.specs.Prelude.{◌≡◌, ◌⊎◌, ℕ, ◌+◌, ◌-◌, ◌^◌, ◌<◌, ◌≤◌, nat_le, if◌then◌else◌, List, [], ◌∷◌, ◌++◌, length, map}
 use Rattle.flume_host.specs.Folder.{Files, IsImage}
 use Rattle.flume_host.specs.Told.{EachMoment, Told, clock}
@@ -54,7 +54,7 @@ pub record GivesFront (base : Base) (lines acknowledged : List (List ℕ)) (imag
 abbrev pub IsAtEnd : Base → ℕ → ℕ → Type 0
 IsAtEnd base txn n = (default_limits.capacity ≤ length base.items + n) ⊎ (2 ^ 64 - 1 ≤ base.first + n) ⊎ (2 ^ 64 - 1 ≤ txn + n)
 
--- From what a disk told to what it tells: its folder was opened, and lines were handled, of which some may be in doubt.
+-- From what a disk showed to what it shows: its folder was opened, and lines were handled, of which some may be in doubt.
 pub record Holds (done : List Handled) (doubt : List (List ℕ)) (t u : Told) : Type 0 where
   -- what the folder held, and the number of the next transaction
   pub base : Base
@@ -64,7 +64,7 @@ pub record Holds (done : List Handled) (doubt : List (List ℕ)) (t u : Told) : 
   pub acks : List Acknowledged
   pub refused : List (List ℕ)
   pub split : done ≡ all_with Accepted (lines_in acks) ++ all_with Refused refused
-  -- whatever a stop leaves at a moment since the folder was settled has each line that was acknowledged by then
+  -- whatever a crash leaves at a moment since the folder was settled has each line that was acknowledged by then
   pub since : EachMoment (clock t + 1) (λ m image. GivesFront base (lines_in acks ++ doubt) (by m acks) image) u
   -- whatever it leaves now has each line that was accepted
   pub now : (image : Files) → IsImage u.now image → GivesFront base (lines_in acks ++ doubt) (lines_in acks) image
@@ -72,7 +72,7 @@ pub record Holds (done : List Handled) (doubt : List (List ℕ)) (t u : Told) : 
   pub room : (n : ℕ) → n < length acks → IsAtEnd base txn n → ⊥
   pub ends : 0 < length refused → IsAtEnd base txn (length acks) ⊎ IsSpentLog u default_limits.max_file
 
--- The folder was not opened: it reads as before, and a stop leaves it as it could before or as it reads, each time but for a log file that counts as empty.
+-- The folder was not opened: it reads as before, and a crash leaves it as it could before or as it reads, each time but for a log file that counts as empty.
 pub record IsUnopened (t u : Told) : Type 0 where
   pub reads : IsAsBefore t.reads u.reads
   pub images : OpensOver t u
@@ -86,7 +86,7 @@ IsOfFolder (causes.OverCapacity count) = Unit {0}
 IsOfFolder (causes.Spent counter) = Unit {0}
 IsOfFolder causes.NoMemory = ⊥
 
--- The folder was refused for what it holds: it reads as before, and since it was settled a stop leaves it so.
+-- The folder was refused for what it holds: it reads as before, and since it was settled a crash leaves it so.
 pub record IsRefusedFolder (t u : Told) : Type 0 where
   pub cause : OpenCause
   pub folder : IsOfFolder cause

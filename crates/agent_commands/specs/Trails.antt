@@ -15,7 +15,7 @@ FindsLog s (Put token event result) told =
     s.broken ≡ false → IsSome (puts_of s token) → WhereTold told (λ t. (result ≡ Err (PutNo.Spent File)) ↔ IsSpentLog t s.rules.limits.max_file)
 FindsLog s call told = Unit {0}
 
--- What a call in this state did to the disk. Unless it came to a flush it left it alone; and whatever a stop then leaves opens to just
+-- What a call in this state did to the disk. Unless it came to a flush it left it alone; and whatever a crash then leaves opens to just
 -- what is settled, unless the channel is broken.
 pub record Touches (s : State) (call : Call) (told told' : Option Told) : Type 0 where
   pub quiet : flushes call ≡ false → told' ≡ told
@@ -23,7 +23,7 @@ pub record Touches (s : State) (call : Call) (told told' : Option Told) : Type 0
   pub log : FindsLog s call told
   pub rests : Rests told' (after s call)
 
--- the calls, from this state on, led the disk from what it told to what it tells
+-- the calls, from this state on, led the disk from what it showed to what it shows
 abbrev pub Trail : State → Option Told → List Step → Option Told → Type 0
 Trail s told [] told' = told' ≡ told
 Trail s told (step ∷ h) told' = (mid : Option Told) × Touches s step.call told mid × Trail (after s step.call) mid h told'

@@ -161,7 +161,7 @@ fn only(passes: Vec<Pass>) -> Pass
     pass
 }
 
-// Shares a channel that was opened on a disk that was so before, with one pass. Out of memory hands it back.
+// Shares a channel that was opened on a disk that was so before, with one pass. Where memory runs out, the channel comes back.
 pub(crate) fn share<D: Disk + Drop>(
     alloc: Global,
     channel: TracedChannel<D>,

@@ -22,7 +22,7 @@ use Rattle.agent_outside.specs.Sinks.{AreOfPlans, IsOfKind}
 use Rattle.agent_outside.proofs.Ending.{all_one, all_then, count_append, count_no, count_yes, end_decides, ends_append}
 use Rattle.agent_outside.proofs.Listening.{Between, all_out_then, between, is_from, out_unused, same_ends, same_fresh, whole}
 
--- ---- what the host tells
+-- ---- what the host shows
 
 pub dial_one : (one : CameBack) (old new : HostState) (dialers : Option HandedOut) → new ≡ record old { dialers = dialers } → TakesBack one old.dialers dialers → DialersBack (one ∷ []) old new
 dial_one one old new dialers is back =
@@ -170,7 +170,7 @@ module _ {R A B : Type 0} (dial : DialTold A) where
   one_unused f t all is (plan.Plugin name) (Boxed sink) of has = refl
   one_unused f t all is kind sink of has = absurd of
 
-  -- where the host tells, new ones come back unused
+  -- where the host shows its contents, new ones come back unused
   pub dials_unused : (f : Folders) (t : HandedOut) (all : Option HandedOut) → all ≡ Some t → (plans : List SinkPlan) (sinks : List (AgentSink R A B)) → AreOfPlans f plans sinks → HaveNewDials dial all plans sinks
       → dials_back dial plans sinks ≡ map unused (dials_of (take (length sinks) plans))
   dials_unused f t all is plans [] are have = refl

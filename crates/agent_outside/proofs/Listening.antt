@@ -64,7 +64,7 @@ module _ {L : Type 0} (told : L → Option LinksTold) (endpoint : L → Option E
   fresh_before : (end : Endpoint) (f g : Option HandedOut) (P : HandedOut → HandedOut → Type 0) (l : L) → Tells f g P → IsFresh told endpoint waits faults end g l → IsFresh told endpoint waits faults end f l
   fresh_before end f g P l tells fresh = record { links = fresh.links ∙ same_fresh f g P tells; from = fresh.from ∙ same_ends end.host end.port f g P tells; no_waits = fresh.no_waits; no_faults = fresh.no_faults }
 
-  -- where the host tells, it comes back as one that was not used
+  -- where the host shows its contents, it comes back as one that was not used
   back_unused : (end : Endpoint) (t : HandedOut) (all : Option HandedOut) (l : L) → all ≡ Some t → IsFresh told endpoint waits faults end all l → end_back told waits faults end l ≡ unused end
   back_unused end t all l is fresh =
       let links : told l ≡ Some no_links = fresh.links ∙ ap fresh_links is in

@@ -29,7 +29,7 @@ pub record RollsBack (backs : List RollBack) (old new : Folders) : Type 0 where
   pub disks : new.disks ≡ old.disks
   pub disks_opened : new.disk_opened ≡ old.disk_opened
 
--- Folders were opened, which tell this now, and nothing else of the folders changed.
+-- Folders were opened, which show this now, and nothing else of the folders changed.
 pub record RollsOut (backs : List RollBack) (old new : Folders) : Type 0 where
   -- where a path was opened more than once, what was opened first tells what was told before
   pub told : (p : List ℕ) → told_of backs p (opened (old.rolls p)) ≡ opened (old.rolls p)
@@ -38,7 +38,7 @@ pub record RollsOut (backs : List RollBack) (old new : Folders) : Type 0 where
   pub disks : new.disks ≡ old.disks
   pub disks_opened : new.disk_opened ≡ old.disk_opened
 
--- The folders of these paths were opened and came back unused: each tells what it told when it was opened. Nothing else of
+-- The folders of these paths were opened and came back unused: each shows what it showed when it was opened. Nothing else of
 -- the folders changed.
 pub record Reopened (paths : List (List ℕ)) (old new : Folders) : Type 0 where
   pub rolls : (p : List ℕ) → new.rolls p ≡ (if is_among paths p then opened (old.rolls p) else old.rolls p)

@@ -67,12 +67,12 @@ module _ {R A B : Type 0} (dial : DialTold A) where
   dials_back [] (sink ∷ sinks) = []
   dials_back (plan ∷ plans) (sink ∷ sinks) = dial_back plan.kind sink ++ dials_back plans sinks
 
--- What a host tells of itself once dialers were handed out for these addresses and ports: nothing else changed.
+-- What a host shows of itself once dialers were handed out for these addresses and ports: nothing else changed.
 pub record DialersOut (ends : List Endpoint) (old new : HostState) : Type 0 where
   pub state : new ≡ record old { dialers = new.dialers }
   pub told : Tells old.dialers new.dialers (AllOut ends)
 
--- what a host tells of itself after these dialers came back: nothing else changed
+-- what a host shows of itself after these dialers came back: nothing else changed
 pub record DialersBack (backs : List CameBack) (old new : HostState) : Type 0 where
   pub state : new ≡ record old { dialers = new.dialers }
   pub told : Tells old.dialers new.dialers (AllBack backs)
@@ -82,7 +82,7 @@ abbrev pub FailsBy : NameRefused → ℕ → ℕ → Type 0
 FailsBy Failed old new = Rose old new
 FailsBy NoMemory old new = old ≤ new
 
--- What a host tells of itself where an opening was refused: dialers for these addresses and ports came back unused, and nothing else
+-- What a host shows of itself where an opening was refused: dialers for these addresses and ports came back unused, and nothing else
 -- changed but its count of faults.
 pub record DialsRefused (refused : NameRefused) (ends : List Endpoint) (old new : HostState) : Type 0 where
   pub state : new ≡ record old { dialers = new.dialers; faults = new.faults }

@@ -62,12 +62,12 @@ pub record AllBack (backs : List CameBack) (old new : HandedOut) : Type 0 where
   pub out : (host : List ℕ) (port : ℕ) → old.out host port ≡ new.out host port + count_at host port (ends_of backs)
   pub back : new.back ≡ old.back ++ reverse backs
 
--- as many are out at each address and port, where the host tells of it
+-- as many are out at each address and port, where the host shows it
 abbrev pub AreOut : List Endpoint → Option HandedOut → Type 0
 AreOut ends None = Unit {0}
 AreOut ends (Some all) = (host : List ℕ) (port : ℕ) → count_at host port ends ≤ all.out host port
 
--- what a host tells of itself after these came back: nothing else changed
+-- what a host shows of itself after these came back: nothing else changed
 pub record ListenersBack (backs : List CameBack) (old new : HostState) : Type 0 where
   pub state : new ≡ record old { listeners = new.listeners }
   pub told : Tells old.listeners new.listeners (AllBack backs)

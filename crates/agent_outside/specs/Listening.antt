@@ -21,7 +21,7 @@ pub record AllOut (ends : List Endpoint) (old new : HandedOut) : Type 0 where
   pub out : (host : List ℕ) (port : ℕ) → new.out host port ≡ old.out host port + count_at host port ends
   pub back : new.back ≡ old.back
 
--- what a host tells of itself then: nothing else changed
+-- what a host shows of itself then: nothing else changed
 pub record ListenersOut (ends : List Endpoint) (old new : HostState) : Type 0 where
   pub state : new ≡ record old { listeners = new.listeners }
   pub told : Tells old.listeners new.listeners (AllOut ends)
@@ -35,7 +35,7 @@ pub record CameUnused (ends : List Endpoint) (old new : HandedOut) : Type 0 wher
   pub out : (host : List ℕ) (port : ℕ) → new.out host port ≡ old.out host port
   pub back : new.back ≡ old.back ++ reverse (map unused ends)
 
--- What a host tells of itself where an opening was refused and all came back: its count of faults rose where a fault is
+-- What a host shows of itself where an opening was refused and all came back: its count of faults rose where a fault is
 -- answered, and nothing else changed.
 pub record ListensRefused (refused : NameRefused) (ends : List Endpoint) (old new : HostState) : Type 0 where
   pub state : new ≡ record old { listeners = new.listeners; faults = new.faults }

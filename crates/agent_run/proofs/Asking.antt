@@ -107,7 +107,7 @@ module _ {R P Q D L : Type 0} (dial : DialTold P) (links_of : P → SinkLinks D 
   AsksOnLinks = (s : P) (batch : List Content) (moment : ℕ) (answer : Result (Unit {0}) SinkRefused) (b : AgentSink R P Q) → one (Avro s) batch moment answer b
       → (t : P) × (b ≡ Avro t) × (said : Result (Unit {0}) DeliverRefused) × (answer ≡ sink_answer said) × Delivers links troubles told faults (links_of s) batch said (links_of t)
 
-  -- its dialer tells of its links once it is closed, and it is idle where none is open
+  -- its dialer shows its links once it is closed, and it is idle where none is open
   pub record ClosesSo : Type 0 where
     pub closed : (s : P) → dial.links s ≡ closed_links links told (links_of s).dialer (links_of s).opened
     pub idle : (s : P) → dial.IsIdle s → (links_of s).opened ≡ None
@@ -169,7 +169,7 @@ module _ {R P Q D L : Type 0} (dial : DialTold P) (links_of : P → SinkLinks D 
           (shared : RowsShared one sink moments split shares finals jobs runners) (sinks backs : List (AgentSink R P Q))
           (dealt : AreDealt sinks rows (map (λ (job : SinkWorker Known (Runner (AgentSink R P Q) N) C). job.sink) jobs)) (came : AreDealt backs rows runners) (as_many : length jobs ≡ length rows)
           (order : IsOrder (length sinks) (places_of rows)) (all : Option HandedOut) (x : HandedOut) (is : all ≡ Some x) (f : Folders) where
-        -- by its part a sink of Avro tells so of its links
+        -- by its part a sink of Avro shows so of its links
         told_at : (end : Endpoint) (place : ℕ) (s : P) (b : AgentSink R P Q) → slice_get sinks place ≡ Some (Avro s) → slice_get backs place ≡ Some b → IsNewDial dial end all s
             → (at i : ℕ) (row : SinkRow) (worker : SinkWorker Known (Runner (AgentSink R P Q) N) C) (took : List (ℕ × List Content)) → at < length rows
             → slice_get (get_or rows at row).places.items i ≡ Some place → Told' (calls_of finals (get_or jobs at worker)) (taken_at i (get_or shared.taken at took)) b

@@ -102,7 +102,7 @@ after_bare s (Prune reply) idle may bare = bare
 after_bare s (Reopen (Ok r)) idle may bare = record { items = kept_bare s r.kept may.0.1 bare; staged = refl }
 after_bare s (Reopen (Err cause)) idle may bare = record { items = bare.items; staged = bare.staged }
 
--- So it stays over calls that are no puts, where the disk tells.
+-- So it stays over calls that are no puts, where the disk shows its contents.
 pub stays_bare : (s : State) (h : List Step) → AllByRecursion (λ (step : Step). IsNoPut step.call) h → IsRun true s h → IsBare s → IsBare (state_after s h)
 stays_bare s [] none run bare = bare
 stays_bare s (step ∷ h) none run bare = stays_bare (after s step.call) h none.1 run.1 (after_bare s step.call none.0 run.0 bare)

@@ -40,7 +40,7 @@ takes_state : (place : ChannelPlace) (a b : HostTold) → TakesDisk place a b �
 takes_state Memory a b takes = ap (λ (h : HostTold). h.state) takes
 takes_state (Folder path) a b takes = takes.state
 
--- the host tells the same of itself while channels are opened
+-- the host shows the same of itself while channels are opened
 pub opened_state : {A B : Type 0} (wishes : List ChannelWish) (cs : List (OpenedChannel A B)) (a b : HostTold) → AreOpened wishes cs a b → b.state ≡ a.state
 opened_state [] [] a b are = ap (λ (h : HostTold). h.state) are
 opened_state [] (c ∷ cs) a b are = absurd are

@@ -36,7 +36,7 @@ pub there : {X : Type 0} (xs : List X) (i : ℕ) → i < length xs → X
 there [] i below = absurd (omega (arith, below))
 there (x ∷ xs) i below = x
 
--- what a channel on a disk stands for, and whether its disk tells
+-- what a channel on a disk stands for, and whether its disk shows its contents
 abbrev pub Stands : {D : Type 0} → (D → Option Told) → (D → ℕ) → D × FileState → Opening → List Step → Type 0
 Stands told faults c = StandsOver (told c.0) (faults c.0) c.1
 

@@ -41,7 +41,7 @@ module _ {D : Type 0} (told : D → Option Told) (faults : D → ℕ) where
   told_here B (Folder folder) c rest path before placed =
       ap (λ (b : Bool). cond b (told c.channel.0) (told_of rest path before)) ((bytes_eq-Decides (string_bytes folder) path).1 placed)
 
-  -- What is told of a folder once the disks came back is what the disk of the first channel tells that was wanted in it.
+  -- What is told of a folder once the disks came back is what the disk of the first channel shows that was wanted in it.
   pub told_at : {B : Type 0} (wishes : List ChannelWish) (ends : List (EitherClosed (D × FileState) B)) (place : ℕ) (w : ChannelWish) (c : Closed (D × FileState)) (path : List ℕ) (before : Option Told)
       → place < length wishes → place < length ends → ((e : EitherClosed (D × FileState) B) → get_or ends place e ≡ closed.Disk c) → IsPlacedIn (get_or wishes place w).place path
       → ((i : ℕ) → i < place → IsPlacedIn (get_or wishes i w).place path → ⊥) → told_of (backs_of told faults wishes ends) path before ≡ told c.channel.0

@@ -1,4 +1,4 @@
--- How the reading of standard input ended, and what the host tells of it.
+-- How the reading of standard input ended, and what the host shows of it.
 use Rattle.std.proofs.Common.{◌≡◌, ◌∙◌, ◌<◌, ◌≤◌, ◌⊎◌, ◌++◌, inl, inr, ℕ, List, [], ◌∷◌, true, false, Option, Some, None, length, map, min, ◌-◌, ◌^◌, get_or, refl, sym, ap, subst, true≢false, arith}
 use Rattle.std.specs.Io.KnownBytes.{Consumes, IsAtEnd}
 use Rattle.std.specs.declared.alloc.Global.{Global}

@@ -107,7 +107,7 @@ read_same limit s a b old new first last same later is = record {
   later = let l = is.later in omega (arith, same, later, l);
 }
 
--- What the host tells once all came back: the input is as it was, and where the report failed the output had failed before, or the
+-- What the host shows once all came back: the input is as it was, and where the report failed the output had failed before, or the
 -- count of faults rose.
 pub record GoesBack (failed : Bool) (answer : Result (Unit {0}) ReportRefused) (old new : HostState) : Type 0 where
   pub input : new.input ≡ old.input

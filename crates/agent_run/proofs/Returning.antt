@@ -1,4 +1,4 @@
--- What the host tells of itself once a run gave all back and reported.
+-- What the host shows of itself once a run gave all back and reported.
 use Rattle.std.proofs.Common.{◌≡◌, ◌∙◌, ◌⊎◌, inl, inr, ℕ, List, Bool, true, false, Option, Result, Ok, Err, refl, ap, arith}
 use Rattle.flume_config.specs.declared.plan.SinkPlan.{SinkPlan}
 use Rattle.grouped_sinks.specs.declared.row.SinkRow.{SinkRow}

@@ -149,7 +149,7 @@ module _ {R P Q : Type 0} (rolled : R → Option Rolled) where
   skip (plan.Avro host port) e rest path before other = refl
   skip (plan.Plugin name) e rest path before other = refl
 
-  -- what is told of a folder once these came back is what the first sink tells that has it
+  -- what is told of a folder once these came back is what the first sink shows that has it
   told_at : (plans : List SinkPlan) (sinks : List (AgentSink R P Q)) (place : ℕ) (d : SinkPlan) (t : RollSink R) (path : List ℕ) (before : Option Rolled)
       → place < length plans → place < length sinks → folder_of (get_or plans place d).kind ≡ path ∷ [] → ((e : AgentSink R P Q) → get_or sinks place e ≡ Roll t)
       → ((i : ℕ) → i < place → folder_of (get_or plans i d).kind ≡ path ∷ [] → ⊥) → told_of (backs_of rolled plans sinks) path before ≡ rolled t.dir

@@ -26,7 +26,7 @@ pub record RequestsTold (own : List Own) (took : List (List Content)) (links : L
   pub taken : AllByRecursion (λ (d : Delivery). WasTaken own d.batch) done
   pub these : delivered done ≡ took
 
--- A dialer of this address and port came back, and tells so of its links.
+-- A dialer of this address and port came back, and shows so of its links.
 pub record DialBack (host : List ℕ) (port : ℕ) (Asked : LinksTold → Type 0) (one : CameBack) : Type 0 where
   pub of_host : one.host ≡ host
   pub of_port : one.port ≡ port
@@ -52,7 +52,7 @@ AskedAt {S} {C} rows jobs taken finals place links =
     → slice_get (slice_index_or rows at row).places.items in_row ≡ Some place
     → RequestsTold (calls_of finals (slice_index_or jobs at job)) (taken_at in_row (slice_index_or taken at took)) links
 
--- Each dialer that was handed out has come back, and they tell so of their links.
+-- Each dialer that was handed out has come back, and they show so of their links.
 pub record DialsTold {S C : Type 0} (plans : List SinkPlan) (rows : List SinkRow) (jobs : List (SinkWorker Known S C)) (taken : List (List (ℕ × List Content)))
     (finals : List Known) (old new : HandedOut) : Type 0 where
   pub out : (host : List ℕ) (port : ℕ) → new.out host port ≡ old.out host port
@@ -60,6 +60,6 @@ pub record DialsTold {S C : Type 0} (plans : List SinkPlan) (rows : List SinkRow
   pub back : new.back ≡ old.back ++ reverse backs
   pub each : AreDialsBack (AskedAt rows jobs taken finals) 0 plans backs
 
--- So it is where the host tells of its dialers.
+-- So it is where the host shows its dialers.
 abbrev pub DialedTold : {S C : Type 0} → List SinkPlan → List SinkRow → List (SinkWorker Known S C) → List (List (ℕ × List Content)) → List Known → HostState → HostState → Type 0
 DialedTold plans rows jobs taken finals a b = Tells a.dialers b.dialers (DialsTold plans rows jobs taken finals)

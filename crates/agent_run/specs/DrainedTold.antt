@@ -27,7 +27,7 @@ pub record PutsEnd (home final : Known) : Type 0 where
   pub none : AllByRecursion (λ (step : Step). IsNoPut step.call) rest
 
 -- After what the one pass had seen there was a moment at which no event was left. Where none was staged then either, none is left in
--- the end, as long as the disk tells.
+-- the end, as long as the disk shows.
 pub record WasEmptied (home final : Known) : Type 0 where
   pub front : List Step
   pub behind : IsPrefix home.view.seen front

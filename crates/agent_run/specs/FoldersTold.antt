@@ -29,9 +29,9 @@ abbrev pub limits_of : ChannelPlan → Limits
 limits_of plan = record { capacity = plan.capacity; txn_capacity = plan.txn_capacity; max_file = file_of plan.kind }
 
 -- Of a folder the host told this before a run and that after it, by the pass that has seen all calls of the folder's channel. The
--- channel began with what the folder opened to, and its calls were answered as the machine answers them. Whatever a stop left of the
+-- channel began with what the folder opened to, and its calls were answered as the machine answers them. Whatever a crash left of the
 -- folder at a moment since then opens to something that the calls up to that moment may leave. In the end the channel was not broken,
--- and whatever a stop now leaves opens to just what is settled.
+-- and whatever a crash now leaves opens to just what is settled.
 pub record FolderTold (limits : Limits) (before after : Option Told) (final : Known) : Type 0 where
   pub begins : BeginsOnDisk limits before final.view.base
   pub tells : is_some_of after ≡ is_some_of before

@@ -7,7 +7,7 @@ use Rattle.agent_run.specs.Errors.{IsRunStatus}
 abbrev pub IsAgentStatus : ℕ → Type 0
 IsAgentStatus status = (status ≡ 2) ⊎ IsRunStatus status
 
--- Where the status is 2 and the host tells of the file, that is at fault.
+-- Where the status is 2 and the host shows the file, that is at fault.
 pub record AgentEnds (file : Option (List ℕ)) (agent : List ℕ) (status : ℕ) : Type 0 where
   pub which : IsAgentStatus status
   pub fault : status ≡ 2 → (bytes : List ℕ) → file ≡ Some bytes → IsAtFault bytes agent

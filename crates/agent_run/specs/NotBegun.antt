@@ -113,7 +113,7 @@ pub record FolderIsCause (plans : List ChannelPlan) (old new : Folders) : Type 0
   pub reads : Tells (old.disks path) (new.disks path) (λ t u. AreSame t.reads u.reads)
   pub settled : Tells (old.disks path) (new.disks path) OpensFrom
 
--- a folder of rolled files tells what it told, or, as one of these, what it told when it was opened
+-- a folder of rolled files shows what it showed, or, as one of these, what it showed when it was opened
 abbrev pub IsRollSpared : List (List ℕ) → Folders → Folders → List ℕ → Type 0
 IsRollSpared sinks old new path = (new.rolls path ≡ old.rolls path) ⊎ ((is_among sinks path ≡ true) × (new.rolls path ≡ opened (old.rolls path)))
 

@@ -50,7 +50,7 @@ pub record DialsMayReturn {R A B : Type 0} (dial : DialTold A) (plans : List Sin
   pub dialed : AreDialed dial plans sinks
   pub out : AreOut (ends_of (dials_back dial plans sinks)) all
 
--- Unless a closed channel is broken, whatever a stop now leaves of its folder opens to just what is settled.
+-- Unless a closed channel is broken, whatever a crash now leaves of its folder opens to just what is settled.
 abbrev pub IsAtRest : {D B : Type 0} → (D → Option Told) → (D → ℕ) → EitherClosed (D × FileState) B → Type 0
 IsAtRest told faults (closed.Disk c) = Shows (StandsOver (told c.channel.0) (faults c.channel.0) c.channel.1) (Rests (told c.channel.0))
 IsAtRest told faults (closed.Memory c) = Unit {0}

@@ -60,7 +60,7 @@ last_or before (a ∷ more) = last_or a more
 abbrev pub ended_of : {I O : Type 0} → List (DrainWorker I) → List (LineEnded I O) → StreamsEnded
 ended_of drains lines = last_or (last_or unread (map drain_ended drains)) (map talk_ended lines)
 
--- ---- what the host tells
+-- ---- what the host shows
 
 -- one step of the host for each of these, in order
 abbrev pub InTurn : {A : Type 0} → (A → HostState → HostState → Type 0) → List A → HostState → HostState → Type 0
@@ -81,7 +81,7 @@ module _ {I : Type 0} (left : I → Option (List ℕ)) (read_faults : I → ℕ)
     pub count : Counts old.faults new.faults (read_faults worker.input)
 
   module _ {O : Type 0} (took handed : O → Option (List ℕ)) (write_faults : O → ℕ) where
-    -- the host handed out standard input and output, which tell what it told of them
+    -- the host handed out standard input and output, which show what it showed of them
     pub record TalkTaken (talk : LineEnded I O) (old new : HostState) : Type 0 where
       pub left_there : left talk.input ≡ old.input
       pub took_there : took talk.output ≡ old.output

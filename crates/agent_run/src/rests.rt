@@ -17,7 +17,7 @@ fn channel_rests<D: Disk + Drop>(closed: &EitherClosed<FileChannel<D>, MemoryCha
     }
 }
 
-/// Unless a closed channel is broken, whatever a stop now leaves of its folder opens to just what is settled. It does nothing: each
+/// Unless a closed channel is broken, whatever a crash now leaves of its folder opens to just what is settled. It does nothing: each
 /// channel on a disk knows it of itself.
 pub(crate) fn channels_rest<D: Disk + Drop>(closed: &[EitherClosed<FileChannel<D>, MemoryChannel>])
     ensures { All (IsAtRest D.told D.faults) closed.now }

@@ -36,7 +36,7 @@ fails_then xs ys sent p =
       part = ap (λ (l : List ℕ). texts xs ++ l) p.part ∙ sym (append_assoc (texts xs) (texts p.first) reply) ∙ ap (λ (l : List ℕ). l ++ reply) (sym (texts-append xs p.first));
     }
 
--- what a link tells at the end, it tells also from before
+-- what a link shows at the end, it shows also from before
 leaves_then : (x y z : Option LinkTold) (given taken : List ℕ) (n : ℕ) (end : AvroEnd) → Tells x y (Talks given taken n) → LeavesLink end y z → LeavesLink end x z
 leaves_then x y z given taken n End first leaves = tt
 leaves_then x y z given taken n LinkFault first failed = failed_behind x y z given taken n first failed

@@ -42,7 +42,7 @@ module _ (first : Bool) (want : ℕ) where
     pub cut : Cuts given serial payload more
     pub judged : Judges first want serial payload result
 
-  -- by what the link gave, and what it tells before and after
+  -- by what the link gave, and what it shows before and after
   abbrev pub AnswersBy : Result Bool DeliverRefused → List ℕ → Option LinkTold → Option LinkTold
       → Type 0
   AnswersBy (Ok more) given told now = IsJudged given more (Ok tt)
@@ -97,7 +97,7 @@ last_serial = 4_294_967_295
 abbrev pub request_pack : ℕ → List Content → List ℕ
 request_pack serial events = pack serial (asking (serial == 1) events ∷ [])
 
--- of the links that the dialer gave, one is out, as far as it tells
+-- of the links that the dialer gave, one is out, as far as it shows
 abbrev pub IsOut : Option LinksTold → Type 0
 IsOut None = Unit {0}
 IsOut (Some l) = length l.kept + 1 ≡ l.given

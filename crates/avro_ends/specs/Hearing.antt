@@ -35,7 +35,7 @@ abbrev pub finds : DeliverRefused → ℕ
 finds Ended = 1
 finds other = 0
 
--- why no whole pack came: all that the link gave, and what it tells before and after
+-- why no whole pack came: all that the link gave, and what it shows before and after
 abbrev pub IsUnheard : DeliverRefused → List ℕ → Option LinkTold → Option LinkTold → Type 0
 IsUnheard LinkFault given told now = IsPart given × FailedLast told now
 IsUnheard Ended given told now = IsPart given

@@ -52,7 +52,7 @@ pub record Begins (bytes : List ℕ) (serial count : ℕ) (buffers : List (List 
   pub lacking : length buffers < count
   pub small : length (joined buffers) ≤ max_bytes
 
--- less than a whole pack, within the limits as far as it tells
+-- less than a whole pack, within the limits as far as it shows
 pub data IsPart (bytes : List ℕ) : Type 0 where
   -- the number of buffers is still to come
   InHead : length bytes < 8 → IsPart bytes

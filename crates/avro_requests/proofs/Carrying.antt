@@ -172,7 +172,7 @@ module _ {D L : Type 0} (links : D → Option LinksTold) (troubles : D → ℕ) 
 
   module _ (done : List Delivery) (batch : List Content) (talks : List Talk) (all : LinksTold) (each : AllZip (Carries done) talks all.kept) (dialer : D) (is : links dialer ≡ Some all)
       (given : all.given ≡ length all.kept + 1) (link now : L) (serial : ℕ) (before : Before link serial) (batches : batches_of talks ++ before.batches ≡ delivered done) where
-    -- the link that was asked, by what it tells then
+    -- the link that was asked, by what it shows then
     asked : (answer : Result Bool DeliverRefused) → Exchanged (request_pack serial batch) (serial == 1) serial answer (told link) (told now) → (next : SinkLinks D L)
         → StaysOrWentBack links troubles told faults (stays answer serial) serial dialer now next → Standing (done ++ record { batch = batch; answer = said answer } ∷ []) next
     asked (Err e) x next leaves =

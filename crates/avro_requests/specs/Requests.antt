@@ -73,7 +73,7 @@ module _ {D L : Type 0} (links : D → Option LinksTold) (troubles : D → ℕ) 
   AllDeliver [] s t = t ≡ s
   AllDeliver (d ∷ done) s t = (next : SinkLinks D L) × Delivers links troubles told faults s d.batch d.answer next × AllDeliver done next t
 
--- Over any list of deliveries of a sink whose dialer tells and gave no link before, the links are so once the sink is closed.
+-- Over any list of deliveries of a sink whose dialer shows its links and gave none before, the links are so once the sink is closed.
 abbrev pub RequestsAreOnLinks : (D L : Type 0) → Type 0
 RequestsAreOnLinks D L =
     (links : D → Option LinksTold) (troubles : D → ℕ) (told : L → Option LinkTold) (faults : L → ℕ) (done : List Delivery) (s t : SinkLinks D L)

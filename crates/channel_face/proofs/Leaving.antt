@@ -1,4 +1,4 @@
--- What a stop may leave, as calls are added.
+-- What a crash may leave, as calls are added.
 use Rattle.std.proofs.Common.{◌≡◌, ◌++◌, ◌∷◌, [], ℕ, zero, suc, List, take, refl, sym, ◌∙◌, ap, append_assoc}
 use Rattle.std.proofs.lemmas.List.{append-nil}
 use Rattle.event_core.specs.Journal.{Base, after_journal}

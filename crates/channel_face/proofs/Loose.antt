@@ -1,4 +1,4 @@
--- A run over a disk that tells is one over a disk that doesn't.
+-- A run over a disk that shows its contents is one over a disk that doesn't.
 use Rattle.std.proofs.Common.{◌≡◌, ℕ, List, Option, None, Some, Result, Ok, Err, true, false, refl, ap}
 use Rattle.event_core.specs.Content.{Content, size}
 use Rattle.channel_face.specs.Machine.{State, Call, BeginPut, BeginTake, Put, Take, StagePut, StageTake, Flush, RollbackPut, RollbackTake, Checkpoint, Prune, Reopen, Kept, Front, Read, Admits, AdmitsTake, AdmitsReopen, MayKeep, Gives, takes_of}

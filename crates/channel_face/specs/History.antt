@@ -63,7 +63,7 @@ journal s (step ∷ steps) = kept_by s step.call ++ journal (after s step.call) 
 abbrev pub commits : State → List Step → List Entry
 commits s h = journal s h ++ (state_after s h).staged
 
--- what a stop may leave: what is settled, and a first part of what is staged
+-- what a crash may leave: what is settled, and a first part of what is staged
 abbrev pub MayLeave : Opening → List Step → Base → Type 0
 MayLeave o h found = (k : ℕ) × (found ≡ after_journal o.base (journal (opening o) h ++ take k (state_after (opening o) h).staged))
 

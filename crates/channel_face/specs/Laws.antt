@@ -13,7 +13,7 @@ abbrev pub IsFront : Kept → Type 0
 IsFront (Front k) = Unit {0}
 IsFront (Read base) = ⊥
 
--- the call is no reopen that read its list from a disk that doesn't tell
+-- the call is no reopen that read its list from a disk that doesn't show its contents
 abbrev pub KeepsFront : Call → Type 0
 KeepsFront (Reopen (Ok r)) = IsFront r.kept
 KeepsFront call = Unit {0}

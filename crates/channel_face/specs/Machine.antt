@@ -55,7 +55,7 @@ pub record State : Type 0 where
   -- the frame that each earlier life ended with
   pub ends : List ℕ
 
--- What a reopen kept: so many of the staged entries, from the first on, or what it read from a disk that doesn't tell.
+-- What a reopen kept: so many of the staged entries, from the first on, or what it read from a disk that doesn't show its contents.
 pub data Kept : Type 0 where
   Front : ℕ → Kept
   Read : Base → Kept
@@ -210,7 +210,7 @@ abbrev pub first_event : List (ℕ × Content) → Option Content
 first_event [] = None
 first_event (item ∷ items) = Some item.1
 
--- what a take gives. Over a disk that doesn't tell it is known by its size alone
+-- what a take gives. Over a disk that doesn't show its contents it is known by its size alone
 abbrev pub Gives : Bool → Option Content → Option Content → Type 0
 Gives true kept given = given ≡ kept
 Gives false None None = Unit {0}

@@ -30,7 +30,7 @@ pub trait Channel {
     /// The channel stands for an opening and the calls since.
     ghost stands: { Self → Opening → List Step → Type 0 };
 
-    /// Whether takes give just the events that were put. Over a disk that does not tell they give some of the same size.
+    /// Whether takes give just the events that were put. Over a disk that does not show its contents they give some of the same size.
     ghost tells: { Self → Bool };
 
     /// The clock of its disk, and 0 without one.
@@ -59,7 +59,7 @@ pub trait Channel {
 
     /// Takes the event of the least number that no transaction holds, or none. 1. `Stale`. 2. `Broken`. 3. `Spent` of
     /// `Counter::File`. 4. `TxnFull`. 5. `ReadFault`, where the disk failed to read in this call. 6. `Damaged`, only over a
-    /// disk that does not tell. 7. `NoMemory`. 8. `DiskFault`, where the disk failed in this call.
+    /// disk that does not show its contents. 7. `NoMemory`. 8. `DiskFault`, where the disk failed in this call.
     fn take(&mut self, txn: &mut TakeTxn) -> Result<Taken, TakeRefused>
         ensures step { AddsOne (stands self.old) (stands self.new) (Take txn.old result) (moment self.new) }
         ensures same { txn.new ≡ txn.old }
@@ -146,7 +146,7 @@ pub trait Channel {
     /// The calls were answered as the machine answers them.
     ghost is_run: { (channel : Self) (start : Opening) (h : List Step) → stands channel start h → IsRun (tells channel) (opening start) h };
 
-    /// Whether it tells never changes.
+    /// Whether it shows its contents never changes.
     ghost tells_as_opened: { (channel : Self) (start : Opening) (h : List Step) → stands channel start h → start.tells ≡ tells channel };
 }
 

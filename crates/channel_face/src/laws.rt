@@ -27,7 +27,7 @@ pub fn counts_one_call()
 {}
 
 /// A channel never counts more events than its capacity: in a file those that are left, open and staged, in memory those that
-/// are left and staged. It begins with no more, and no reopening reads its list from a disk that does not tell.
+/// are left and staged. It begins with no more, and no reopening reads its list from a disk that does not show its contents.
 pub fn count_stays_within()
     ensures { CountStaysWithin }
 {}

@@ -1,4 +1,4 @@
--- Where an entry stands after its stage, and what its ticket tells of that.
+-- Where an entry stands after its stage, and what its ticket shows of that.
 use Rattle.std.proofs.Common.{◌⊎◌, inl, inr, ◌≡◌, ◌<◌, ◌≤◌, ◌+◌, ◌++◌, ◌∷◌, [], ℕ, zero, suc, List, take, Bool, false, cond, refl, sym, ◌∙◌, ap, subst, append_assoc, arith}
 use Rattle.event_core.specs.declared.journal.Entry.{Entry}
 use Rattle.channel_face.specs.Machine.{State, Call, Kept, Front, Read, after, is_none_staged, settled}
@@ -130,7 +130,7 @@ module _ (t : Ticket) (front : List Entry) (entry : Entry) where
       from (inr (inl past)) more = inr (inl (past_run t new h past.0, behind-append front entry kept (journal new h) past.1))
       from (inr (inr dropped)) more = inr (inr (dropped_run t new h some counted dropped))
 
--- What a ticket tells of that.
+-- What a ticket shows of that.
 
 pub staged_not_yes : (t : Ticket) (front : List Entry) (entry : Entry) (s : State) → 1 ≤ t.frame → IsStaged t front entry s → settled s t ≡ Yes → ⊥
 staged_not_yes t front entry s some is told = from (yes_tells t s told)

@@ -1,4 +1,4 @@
--- What the answer to a ticket tells of lives and frames, and that it stays Yes.
+-- What the answer to a ticket shows of lives and frames, and that it stays Yes.
 use Rattle.std.proofs.Common.{◌⊎◌, inl, inr, ◌≡◌, ◌≢◌, ◌<◌, ◌≤◌, ◌-◌, ◌++◌, ◌∷◌, [], ℕ, suc, List, get_or, length, Bool, true, false, cond, nat_lt, ◌==◌, ◌&&◌, not, refl, sym, ◌∙◌, ap, subst, arith}
 use Rattle.std.proofs.lemmas.List.{get_or_append_left}
 use Rattle.std.proofs.Math.Seq.{get_or-append_seam}

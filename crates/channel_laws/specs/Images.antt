@@ -6,7 +6,7 @@ use Rattle.channel_writing.specs.Stands.{MayFind, until}
 use Rattle.file_channel.specs.Stands.{FileState, StandsOver}
 use Rattle.shared_channel.specs.Counting.{StandsCounting}
 
--- Where the disk tells, whatever a crash leaves of the folder, at each moment since the opening settled it, opens to something that the calls up to that moment may leave.
+-- Where the disk shows its contents, whatever a crash leaves of the folder, at each moment since the opening settled it, opens to something that the calls up to that moment may leave.
 abbrev pub LeavesAtEach : Option Told → Opening → List Step → Type 0
 LeavesAtEach told start h = WhereTold told (EachMoment start.from (λ m image. MayFind start (until m h) image))
 

@@ -35,7 +35,7 @@ LeftAtEnd saw o h = (all : List Own) (s : State) → saw all s → s ≡ state_a
 
 -- The transaction that these calls began with was staged with a ticket of this first number, that of the next event there, when its puts were just these
 -- events. Where there are some, the ticket is settled at the end, and the journal has them as one entry, right after what was committed before that
--- stage. Without a reopen before that read its list from a disk that doesn't tell, the number is that of the next event after the commits too.
+-- stage. Without a reopen before that read its list from a disk that doesn't show its contents, the number is that of the next event after the commits too.
 pub record ArePutInJournal (o : Opening) (h : List Step) (own : List Own) (events : List Content) (number : ℕ) : Type 0 where
   pub token : Token
   pub begun : BeginsWith own token

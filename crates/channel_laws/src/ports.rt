@@ -5,7 +5,7 @@ use channel_face::Channel;
 
 /// A batch that a port answered Ok is in the journal of each history that begins with what its pass has seen, and so in that of the
 /// history at the end, where no call that the pass has seen, with a number that is not its own, changed its puts: its events, if any, are one entry, right after what was committed before its stage. The number that was
-/// answered is that of the next event when it was staged, and, where no reopen before read its list from a disk that doesn't tell,
+/// answered is that of the next event when it was staged, and, where no reopen before read its list from a disk that doesn't show its contents,
 /// of the next event after those commits.
 pub fn port_answered_is_in_journal<C: Channel>()
     ensures { PortAnsweredIsInJournal C.stands C.tells }

@@ -26,7 +26,7 @@ pub fn stays_settled()
 {}
 
 /// A ticket of puts has how many they are, and the number of the first: that of the next event after all that was committed before,
-/// where no reopen before read its list from a disk that doesn't tell.
+/// where no reopen before read its list from a disk that doesn't show its contents.
 pub fn tickets_number_puts()
     ensures { TicketsNumberPuts }
 {}

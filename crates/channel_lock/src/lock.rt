@@ -58,7 +58,7 @@ pub struct ChannelLock<C: Guarded> {
 pub type Place<C> = Seat<Option<C>, SeatView>;
 
 impl<C: Guarded> ChannelLock<C> {
-    /// Shares a value that stands for an opening and no calls. Out of memory hands it back. The seat deals the numbers of so
+    /// Shares a value that stands for an opening and no calls. Where memory runs out, it comes back. The seat deals the numbers of so
     /// many passes.
     pub fn new(
         alloc: Global,

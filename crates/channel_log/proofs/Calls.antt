@@ -1,4 +1,4 @@
--- The four calls of a flush, over what the disk tells.
+-- The four calls of a flush, over what the disk shows.
 use Rattle.std.proofs.Common.{◌≡◌, ◌≢◌, ◌≤◌, ◌⊎◌, inl, inr, ℕ, ◌+◌, List, [], ◌∷◌, ◌++◌, length, get_or, drop, Option, Some, None, IsSomeAnd, Result, sym, ◌∙◌, ap, subst, arith, append_assoc, length-append}
 use Rattle.std.proofs.lemmas.List.{append-nil, take_all, take_at, drop_all, drop_at}
 use Rattle.std.proofs.lemmas.Bool.{cases_eq}

@@ -12,11 +12,11 @@ use Rattle.channel_log.specs.declared.loading.Sought.{Sought}
 use Rattle.channel_log.specs.declared.loading.Sought.TheVariants as soughts
 use Rattle.channel_log.specs.Frames.{Content, Blank, BadHeader, Whole, BadFrame, IsBirth, header, IsFrame, IsFramed, Commits, Breaks, frame_bytes, opened, record_bytes}
 
--- the disk has the file, as far as it tells
+-- the disk has the file, as far as it shows
 abbrev pub IsThere : Option Told → ℕ → Type 0
 IsThere told number = WhereTold told (λ t. IsSome (t.reads (Log number)))
 
--- The disk tells, and this is the file's content.
+-- The disk shows its contents, and this is the file's.
 pub record HasFile (told : Option Told) (number : ℕ) (bytes : List ℕ) : Type 0 where
   pub tells : Told
   pub is : told ≡ Some tells

@@ -61,11 +61,11 @@ IsUnused told number = WhereTold told (λ t. (t.reads (Log number) ≡ None) × 
 abbrev pub HasFrames : ℕ → ℕ → List (List Rec) → List ℕ → Type 0
 HasFrames birth number frames bytes = (rest : List ℕ) × (bytes ≡ header birth number ++ rest) × Commits rest frames
 
--- a stop leaves the frames from before, or these and the new one
+-- a crash leaves the frames from before, or these and the new one
 abbrev pub LacksOrHas : ℕ → ℕ → List (List Rec) → List Rec → Option (List ℕ) → Type 0
 LacksOrHas birth number frames frame file = IsSomeAnd file (λ bytes. HasFrames birth number frames bytes ⊎ HasFrames birth number (frames ++ frame ∷ []) bytes)
 
--- a stop leaves no such file, or one that counts as empty
+-- a crash leaves no such file, or one that counts as empty
 abbrev pub IsBlank : Option (List ℕ) → Type 0
 IsBlank file = IfSome file (λ bytes. length bytes ≤ 17)
 

@@ -149,7 +149,7 @@ impl Window {
         Ok(0)
     }
 
-    /// Has all of a PUT that stands at a pointer, of whichever length, and tells where that is in what is kept. Only what stands
+    /// Has all of a PUT that stands at a pointer, of whichever length, and says where that is in what is kept. Only what stands
     /// below the end is kept.
     pub(crate) fn find_put<D: Disk>(
         &mut self,

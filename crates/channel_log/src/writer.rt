@@ -60,10 +60,10 @@ pub(crate) fn header_of(birth: u16, number: u32) -> [u8; 17]
 fn make_file<D: Disk>(disk: &mut D, number: u32, text: &[u8]) -> Result<(), Failed>
     requires { IsUnused (D.told disk.old) number }
 
-    // A stop at any moment of the call leaves no file, or one that counts as empty.
+    // A crash at any moment of the call leaves no file, or one that counts as empty.
     ensures any_moment { (birth : ℕ) → text.now ≡ header birth number ++ 0 ∷ [] → Tells (D.told disk.old) (D.told disk.new) (Changes (Log number) IsBlank 1) }
 
-    // After Ok a stop leaves the header and no frame.
+    // After Ok a crash leaves the header and no frame.
     ensures begun { OnOk result ((birth : ℕ) → text.now ≡ header birth number ++ 0 ∷ [] → IsReady (D.told disk.new) birth number 16 []) }
     ensures cause { HasCause (D.faults disk.old) (D.faults disk.new) result }
 {
@@ -80,11 +80,11 @@ fn write_frame<D: Disk>(disk: &mut D, number: u32, gate: u64, piece: &[u8]) -> R
     requires ready { (birth : ℕ) × (frames : List (List Rec)) × (frame : List Rec) × IsReady (D.told disk.old) birth number gate frames × IsFrame frame × (piece.now ≡ frame_bytes frame ++ 0 ∷ []) }
     requires room { gate < 2 ^ 63 }
 
-    // A stop at any moment of the call leaves the frames from before it, or these and the new one.
+    // A crash at any moment of the call leaves the frames from before it, or these and the new one.
     ensures any_moment { (birth : ℕ) (frames : List (List Rec)) (frame : List Rec) → IsReady (D.told disk.old) birth number gate frames → IsFrame frame → piece.now ≡ frame_bytes frame ++ 0 ∷ []
         → Tells (D.told disk.old) (D.told disk.new) (Changes (Log number) (LacksOrHas birth number frames frame) 2) }
 
-    // After Ok a stop leaves them all.
+    // After Ok a crash leaves them all.
     ensures flushed { OnOk result ((birth : ℕ) (frames : List (List Rec)) (frame : List Rec) → IsReady (D.told disk.old) birth number gate frames → IsFrame frame → piece.now ≡ frame_bytes frame ++ 0 ∷ []
         → IsReady (D.told disk.new) birth number (gate + length piece.now) (frames ++ frame ∷ [])) }
     ensures bounded { OnOk result (gate + length piece.now < 2 ^ 63) }
@@ -219,11 +219,11 @@ impl LogWriter {
     pub fn flush<D: Disk>(&mut self, disk: &mut D) -> Result<(), LogFlushRefused>
         requires { (birth : ℕ) × (frames : List (List Rec)) × (records : List Rec) × IsReady (D.told disk.old) birth self.old.file self.old.gate frames × IsPending self.old records }
 
-        // A stop at any moment of the call leaves the frames from before it, or these and the new one.
+        // A crash at any moment of the call leaves the frames from before it, or these and the new one.
         ensures any_moment { (birth : ℕ) (frames : List (List Rec)) (records : List Rec) → IsReady (D.told disk.old) birth self.old.file self.old.gate frames → IsPending self.old records → 1 ≤ length records
             → Tells (D.told disk.old) (D.told disk.new) (Changes (Log self.old.file) (LacksOrHas birth self.old.file frames records) 2) }
 
-        // After Ok a stop leaves them all.
+        // After Ok a crash leaves them all.
         ensures flushed { OnOk result ((birth : ℕ) (frames : List (List Rec)) (records : List Rec) → IsReady (D.told disk.old) birth self.old.file self.old.gate frames → IsPending self.old records → 1 ≤ length records
             → IsReady (D.told disk.new) birth self.old.file self.new.gate (frames ++ records ∷ [])) }
         ensures writer { OnOk result (1 ≤ self.old.count → self.new ≡ record self.old { gate = self.old.gate + length self.old.bytes + 6; started = true; bytes = []; count = 0 }) }

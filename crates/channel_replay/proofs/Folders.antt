@@ -202,7 +202,7 @@ recovered logs now r is items number txn = record {
   txn_is = txn ∙ (is.1.txn ∙ sym (txn_from_one (past_lines [] (lines logs))));
 }
 
--- and whether the disk tells or not
+-- and whether the disk shows its contents or not
 pub replayed_base : (now : Recovery) (r : Replayed) → IsReached now → r.items.items ≡ now.items.items → r.next.number ≡ now.number → IsBase (base_of r)
 replayed_base now r reached items number =
     let all : base_of r ≡ after_journal empty_base (journal reached.0) = same_base (base_of r) (after_journal empty_base (journal reached.0)) (items ∙ reached.1.items) (number ∙ reached.1.number) in

@@ -151,7 +151,7 @@ pub fn replay<D: Disk, L: Ledger>(
     ensures ok { IfOk result (λ r. WhereTold (D.told disk.old) (λ t. Recovers t.reads (base_of r) r.next.txn)) }
     ensures within { IfOk result (λ r. vec_len r.items ≤ capacity) }
 
-    // Also where the disk tells nothing, numbers rise, and transactions have numbers from 1 on.
+    // Also where the disk shows nothing, numbers rise, and transactions have numbers from 1 on.
     ensures base { IfOk result (λ r. IsBase (base_of r)) }
     ensures txn { IfOk result (λ r. 1 ≤ r.next.txn) }
     ensures bad { IfErr result (λ e. WhereBadLog e (λ file at. WhereTold (D.told disk.old) (λ t. IsBadLog t.reads file at))) }

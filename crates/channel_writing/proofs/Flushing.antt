@@ -21,7 +21,7 @@ use Rattle.channel_writing.proofs.Ending.{flush_mirrored}
 use Rattle.channel_writing.proofs.Writes.{disk_steps}
 use Rattle.channel_writing.proofs.Recovering.{flush_logged, flush_recovers, settled_recovers}
 
--- the frames that a log has where the disk tells
+-- the frames that a log has where the disk shows its contents
 pub ready_frames : (told : Option Told) (w : Writer) (s : State) → Waits told w s → (birth : ℕ) × (frames : List (List Rec)) × IsReady told birth w.file w.gate frames
 ready_frames None w s waits = (1, [], λ t is. absurd (cc))
 ready_frames (Some t) w s waits =

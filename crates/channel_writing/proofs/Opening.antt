@@ -205,7 +205,7 @@ begun_on_disk t v w s base txn number fresh opens most some next changes rest fi
       };
     })
 
--- the same over what a disk tells, if it tells
+-- the same over what a disk shows, if anything
 
 abbrev pub SettledAs : Told → Told → Type 0
 SettledAs t u = u ≡ done Settle t

@@ -37,7 +37,7 @@ opened_whole told w b s o is kind base log = record {
   kind = ap (λ (v : State). v.rules.kind) is ∙ kind;
 }
 
--- what a stop may leave before
+-- what a crash may leave before
 
 pub whole_may_rest : (told : Option Told) (w : Writer) (b : ℕ) (s : State) → IsWhole told w b s → MayRest told s
 whole_may_rest told w b s whole = by_broken s.broken refl

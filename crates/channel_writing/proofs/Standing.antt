@@ -128,7 +128,7 @@ no_fault-push (x ∷ h) step is =
     let rest = no_fault-push h step none.1 in
     (rw (none.0, rest.0) refl, rest.1)
 
--- over a disk that tells no reopen reads what it keeps
+-- over a disk that shows its contents no reopen reads what it keeps
 
 front_kept : (s : State) (kept : Kept) (txn : ℕ) → AdmitsReopen true s (Ok (record { kept = kept; txn = txn })) → KeepsFront (Reopen (Ok (record { kept = kept; txn = txn })))
 front_kept s (Front k) txn may = tt
@@ -287,7 +287,7 @@ still_broken s (Prune reply) may broken = none_staged s (Prune reply) refl refl
 still_broken s (Reopen (Ok r)) may broken = differ (sym broken)
 still_broken s (Reopen (Err e)) may broken = none_staged s (Reopen (Err e)) refl refl
 
--- what a call did to what the disk tells
+-- what a call did to what the disk shows
 
 abbrev pub Touched : Option Told → Option Told → State → Type 0
 Touched told told' s = (told' ≡ told) ⊎ Tells told told' (λ t u. Flushed s t u)
@@ -313,7 +313,7 @@ told_before told told' s (inr tells) u is = let old = back told told' (λ t v. F
 run_of : (b : Bool) (c : Bool) (s : State) (h : List Step) → b ≡ c → IsRun c s h → IsRun b s h
 run_of b c s h is run = subst (λ (v : Bool). IsRun v s h) (sym is) run
 
--- where the disk tells, its run is exact
+-- where the disk shows its contents, its run is exact
 exact_run : (told : Option Told) (t : Told) (s : State) (h : List Step) → told ≡ Some t → IsRun (is_some_of told) s h → IsRun true s h
 exact_run told t s h is run = run_of true (is_some_of told) s h (sym (ap is_some_of is)) run
 
@@ -333,7 +333,7 @@ longer_run t start h step old new a = run-push true (opening start) h step a.run
 longer_state : (t : Told) (start : Opening) (h : List Step) (step : Step) (old new : State) → Adds t start h step old new → state_after (opening start) (h ++ step ∷ []) ≡ new
 longer_state t start h step old new a = state-push (opening start) h step ∙ (ap (λ (s : State). after s step.call) a.state ∙ sym a.new_is)
 
--- what a stop leaves after the call
+-- what a crash leaves after the call
 finds_now : (t : Told) (start : Opening) (h : List Step) (step : Step) (old new : State) → Adds t start h step old new → (image : Files) → (new.broken ≡ false → RecoversSettled new image) → (new.broken ≡ true → MayFind start h image) → MayFind start (h ++ step ∷ []) image
 finds_now t start h step old new a image whole broken = from new.broken refl
   where
@@ -360,7 +360,7 @@ images_untouched t start h step old new a at rests m image since left = from (so
         let all : until m (h ++ step ∷ []) ≡ h ++ step ∷ [] = until_all m (h ++ step ∷ []) (none_later m h step (no_later (clock t) m h now a.moments) (rw at now)) in
         subst (λ (l : List Step). MayFind start l image) (sym all) (finds_now t start h step old new a image (λ whole. rests whole t refl image (only_now t m image now left)) (λ broken. here))
 
--- a run at each moment of which a stop leaves what was settled, or that with what was staged
+-- a run at each moment of which a crash leaves what was settled, or that with what was staged
 images_run : (t u : Told) (start : Opening) (h : List Step) (step : Step) (old new : State) → Adds t start h step old new → LeavesOnly t u (MayRecover old) → ((image : Files) → MayRecover old image → MayFind start h image) → step.moment ≡ clock u → Rests (Some u) new
     → EachMoment start.from (λ m image. MayFind start (until m (h ++ step ∷ [])) image) u
 images_run t u start h step old new a run finds at rests =
@@ -426,7 +426,7 @@ adds_with told told' f f' old call new moves count waits up cause still tells ri
       new_is = moves.state;
     }
 
--- a call of the machine adds itself, also over a disk that does not tell
+-- a call of the machine adds itself, also over a disk that does not show its contents
 pub adds_loosely : (told told' : Option Told) (f f' : ℕ) (old : Seen) (call : Call) (new : Seen) → Moves (is_some_of told) old.state call new.state → new.tally ≡ counted old.state call old.tally → new.waiting ≡ waiting_after old.state call old.waiting → f ≤ f' → (is_fault call ≡ true → Rose f f') → (is_fault call ≡ false → f' ≡ f) → Touched told told' old.state → Rests told' new.state
     → AddsOne (StandsIn told f old) (StandsIn told' f' new) call (moment_of told')
 adds_loosely told told' f f' old call new moves count waits up cause still touched rests =
@@ -467,7 +467,7 @@ finds_reopening : (start : Opening) (h : List Step) (s : State) (image : Files) 
 finds_reopening start h s image base run is life kind (n, low, inl found) = finds_settled start h s image base run is (n, low, found)
 finds_reopening start h s image base run is life kind (n, low, inr found) = finds_kept start h s image n base run is life kind found
 
--- it left the disk alone, or a stop in it left what was settled, or that with what was staged
+-- it left the disk alone, or a crash in it left what was settled, or that with what was staged
 abbrev Reopens : Option Told → Option Told → State → Type 0
 Reopens told told' s = (told' ≡ told) ⊎ ((s.life < 2 ^ 64 - 1) × Tells told told' (λ t u. LeavesOnly t u (MayRecover s)))
 
@@ -531,7 +531,7 @@ flush_fault (Err FlushNo.Broken) is = absurd (cc)
 flush_fault (Err FlushNo.DiskFault) is = refl
 flush_fault (Err (FlushNo.Spent counter)) is = absurd (cc)
 
--- A channel that was just opened stands for no calls: whatever a stop left since recovers to its base.
+-- A channel that was just opened stands for no calls: whatever a crash left since recovers to its base.
 pub stands_first : (told : Option Told) (faults : ℕ) (c : Seen) (start : Opening) → IsBase start.base → start.tells ≡ is_some_of told → c.state ≡ opening start → c.tally ≡ tally (opening start) [] → c.waiting ≡ 0 → faults ≡ start.faults
     → WhereTold told (EachMoment start.from (λ m image. (txn : ℕ) × OpensTo image start.base txn)) → StandsIn told faults c start []
 stands_first told faults c start base same state count none well images = record {
@@ -584,7 +584,7 @@ pub adds_reopen : (told told' told0 : Option Told) (f f' f0 : ℕ) (old new old0
 adds_reopen told told' told0 f f' f0 old new old0 reply told_is f_is old_is did =
     rw (← told_is, ← f_is, ← old_is) (reopens_over told told' f f' old reply new did.moves did.tally did.waits did.up did.cause did.still (reopens_of told told' old.state did.spent did.images) did.rests)
 
--- A channel that was opened: since then a stop leaves what recovers to what it has.
+-- A channel that was opened: since then a crash leaves what recovers to what it has.
 pub stands_opened : (told told' : Option Told) (faults : ℕ) (c : Seen) (start : Opening) (capacity : ℕ) → IsBase start.base → start.tells ≡ is_some_of told' → c.state ≡ opening start → c.tally ≡ tally (opening start) [] → c.waiting ≡ 0 → faults ≡ start.faults → start.from ≡ moment_of told + 1
     → WhereTold told (λ t. Opens t.reads capacity start.base start.txn) → Tells told told' OpensFrom → StandsIn told' faults c start []
 stands_opened told told' faults c start capacity base same state count none well from opens tells = stands_first told' faults c start base same state count none well images

@@ -65,7 +65,7 @@ rests_closed : (told : Option Told) (s s' : State) (number : ℕ) (b : Bool) →
 rests_closed told s s' number true is rests = subst (λ (v : State). MayRest told v) (sym is) rests
 rests_closed told s s' number false is rests = subst (λ (v : State). MayRest told v) (sym is) rests
 
--- what a stop leaves after a run at each moment of which it leaves this
+-- what a crash leaves after a run at each moment of which it leaves this
 pub rests_over : (told told' : Option Told) (s : State) → Tells told told' (λ t u. LeavesOnly t u (MayRecover s)) → MayRest told' s
 rests_over told told' s tells u is image are =
     let b = back told told' (λ t v. LeavesOnly t v (MayRecover s)) tells u is in
@@ -337,7 +337,7 @@ pub stage_takes_idle : (told : Option Told) (w : Writer) (b : ℕ) (s : State) (
 stage_takes_idle told w b s number [] log is none = ended_logged told w b s number (Takes []) log is refl
 stage_takes_idle told w b s number (n ∷ numbers) log is none = absurd (omega (arith, none))
 
--- what a stop leaves between two calls
+-- what a crash leaves between two calls
 pub whole_rests : (told : Option Told) (w : Writer) (b : ℕ) (s : State) → IsWhole told w b s → Rests told s
 whole_rests told w b s whole still t is image are =
     let waits : Waits told w s = (whole.logged still).waits still in

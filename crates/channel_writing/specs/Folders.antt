@@ -101,7 +101,7 @@ StaysAs (causes.OverCapacity count) files folder = AreSame files folder
 StaysAs (causes.Spent counter) files folder = AreSame files folder
 StaysAs causes.NoMemory files folder = AreSame files folder
 
--- a stop during an opening leaves what it could before, or what reads gave, but for that log file
+-- a crash during an opening leaves what it could before, or what reads gave, but for that log file
 abbrev pub OpensOver : Told → Told → Type 0
 OpensOver t u = LeavesOnly t u (λ image. IsImage t.now image ⊎ IsAsBefore t.reads image)
 

@@ -85,7 +85,7 @@ FramesRecover =
     (folder : Files) (start : Start) (past : Past) (birth : ℕ) (frames more : List (List Rec)) → GoesOn folder start past birth frames more → AreLegal start.base past (flat more)
     → RecoversTo folder (after_journal start.base (journal (applied past (flat more)))) (max start.txn (next_txn (applied past (flat more))))
 
--- While a channel's records are flushed as a frame more, a stop leaves what is settled, or that with what is staged.
+-- While a channel's records are flushed as a frame more, a crash leaves what is settled, or that with what is staged.
 abbrev pub FlushRecovers : Type 0
 FlushRecovers =
     (s : State) (folder : Files) (birth number : ℕ) (frames : List (List Rec)) (records : List Rec) → Logs folder birth number s frames records

@@ -22,7 +22,7 @@ abbrev pub until : ℕ → List Step → List Step
 until m [] = []
 until m (step ∷ h) = if nat_le step.moment m then step ∷ until m h else until m h
 
--- an image opens to something that a stop after these calls may leave
+-- an image opens to something that a crash after these calls may leave
 abbrev pub MayFind : Opening → List Step → Files → Type 0
 MayFind start h image = (found : Base) × (txn : ℕ) × OpensTo image found txn × MayLeave start h found
 
@@ -43,10 +43,10 @@ abbrev pub has_fault : List Step → Bool
 has_fault [] = false
 has_fault (step ∷ h) = is_fault step.call || has_fault h
 
--- The opening's numbers rise, and the disk tells as it did then. The calls are a run from there to a state of which IsState
+-- The opening's numbers rise, and the disk shows its contents as it did then. The calls are a run from there to a state of which IsState
 -- is true, with these counts and so many waiting bytes, and none ended later than now. The disk's count of faults is no less than at
--- the opening: it rose where a call was refused for a fault of the disk, and else it stayed. Where the disk
--- tells, whatever a stop leaves at a moment since the opening opens to something that the calls up to that
+-- the opening: it rose where a call was refused for a fault of the disk, and else it stayed. Where the disk shows
+-- its contents, whatever a crash leaves at a moment since the opening opens to something that the calls up to that
 -- moment may leave.
 pub record StandsBy (IsState : State → Type 0) (told : Option Told) (faults : ℕ) (counts : Tally) (waits : ℕ) (start : Opening) (h : List Step) : Type 0 where
   pub base : IsBase start.base

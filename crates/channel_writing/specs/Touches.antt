@@ -50,7 +50,7 @@ pub record FillsFiles (max_file waiting : ℕ) (t u : Told) : Type 0 where
   pub here : (IsFullFor max_file waiting file was → ⊥) → ChangesAlone file 2 t u
   pub next : IsFullFor max_file waiting file was → ChangesAlone (file + 1) 3 t u
 
--- A channel that was not broken flushed: a stop at any moment leaves what was settled, or that with what was staged.
+-- A channel that was not broken flushed: a crash at any moment leaves what was settled, or that with what was staged.
 pub record Flushed (s : State) (t u : Told) : Type 0 where
   pub whole : s.broken ≡ false
   pub images : LeavesOnly t u (MayRecover s)
@@ -86,6 +86,6 @@ WritesOn w new =
 abbrev pub IsSpentLog : Told → ℕ → Type 0
 IsSpentLog t max_file = IsSomeAnd (t.reads (Log 4_294_967_295)) (λ bytes. max_file ≤ length bytes)
 
--- Unless the channel is broken, whatever a stop now leaves opens to just what is settled.
+-- Unless the channel is broken, whatever a crash now leaves opens to just what is settled.
 abbrev pub Rests : Option Told → State → Type 0
 Rests told s = s.broken ≡ false → WhereTold told (λ t. (image : Files) → IsImage t.now image → RecoversSettled s image)

@@ -7,7 +7,7 @@ use Rattle.channel_face.specs.declared.replies.Kind.TheVariants.{File as OnFile}
 use Rattle.channel_face.proofs.Sound.{IsSoundState}
 use Rattle.channel_writing.specs.Written.{IsLogged, MayRest}
 
--- its log has its state, unless it is broken; then a stop may also leave what is staged
+-- its log has its state, unless it is broken; then a crash may also leave what is staged
 pub record IsWhole (told : Option Told) (w : Writer) (busy_ones : ℕ) (s : State) : Type 0 where
   pub logged : s.broken ≡ false → IsLogged told w busy_ones s
   pub left : s.broken ≡ true → MayRest told s

@@ -1,4 +1,4 @@
--- What a channel writes of its state, and what a stop leaves of it.
+-- What a channel writes of its state, and what a crash leaves of it.
 use Rattle.std.specs.Prelude.{◌≡◌, ◌⊎◌, ◌<◌, ◌≤◌, ◌+◌, ◌*◌, ◌^◌, ℕ, List, [], length, Option, None, Bool, false, if◌then◌else◌}
 use Rattle.flume_host.specs.Folder.{Allows, Files, IsImage, same_name, settle_entry}
 use Rattle.flume_host.specs.Told.{Told, WhereTold}
@@ -17,7 +17,7 @@ use Rattle.channel_writing.specs.Logs.{Logs}
 abbrev pub kept : ℕ → Bool → ℕ
 kept busy first = 21 * (busy + (if first then 1 else 0))
 
--- no other file is changing: a stop leaves it as reads give it
+-- no other file is changing: a crash leaves it as reads give it
 abbrev pub AreStill : Told → ℕ → Type 0
 AreStill t file = (name : FileName) → same_name name (Log file) ≡ false → t.now name ≡ settle_entry (t.reads name)
 
@@ -36,7 +36,7 @@ pub record OnDisk (t : Told) (w : Writer) (s : State) (records : List Rec) : Typ
   pub none : (n : ℕ) → w.file < n → t.reads (Log n) ≡ None
   pub logs : (folder : Files) → LeavesOthers t w.file folder → Logs folder birth w.file s frames records
 
--- Some records wait, and the disk, as far as it tells, has the rest.
+-- Some records wait, and the disk, as far as it shows, has the rest.
 pub record Waits (told : Option Told) (w : Writer) (s : State) : Type 0 where
   pub records : List Rec
   pub pending : IsPending w records
@@ -55,7 +55,7 @@ pub record IsLogged (told : Option Told) (w : Writer) (busy_ones : ℕ) (s : Sta
 abbrev pub MayRecover : State → Files → Type 0
 MayRecover s image = (txn : ℕ) × (txn ≤ s.txn) × (OpensTo image (base_of s) txn ⊎ OpensTo image (after_journal (base_of s) s.staged) txn)
 
--- whatever a stop now leaves opens so
+-- whatever a crash now leaves opens so
 abbrev pub MayRest : Option Told → State → Type 0
 MayRest told s = WhereTold told (λ t. (image : Files) → IsImage t.now image → MayRecover s image)
 

@@ -56,7 +56,7 @@ pub fn frames_recover()
     ensures { FramesRecover }
 {}
 
-/// While records are flushed as a frame more, a stop leaves what is settled, or that with what is staged.
+/// While records are flushed as a frame more, a crash leaves what is settled, or that with what is staged.
 pub fn a_flush_recovers()
     ensures { FlushRecovers }
 {}

@@ -1,4 +1,4 @@
-//! What a channel writes of its changes: the records of its log, and what a stop leaves of them.
+//! What a channel writes of its changes: the records of its log, and what a crash leaves of them.
 #![tactic(auto)]
 
 mod folder;

@@ -177,7 +177,7 @@ impl<D: Disk + Drop> Writing<D> {
         }
     }
 
-    /// Writes the waiting records as a frame. A stop at any moment of the call leaves what is settled, or that with what is
+    /// Writes the waiting records as a frame. A crash at any moment of the call leaves what is settled, or that with what is
     /// staged.
     pub fn flush(&mut self) -> Result<(), Failed>
         requires { (s : State) × IsLogged (D.told self.old.disk) self.old.log self.old.busy s

@@ -33,7 +33,7 @@ pub record IsOrdered (c : CheckText) : Type 0 where
   pub puts_fit : FitCounts c.puts
   pub takes_fit : FitCounts c.takes
 
--- It keeps a text whose numbers are in order, also where a disk tells nothing.
+-- It keeps a text whose numbers are in order, also where a disk shows nothing.
 pub record IsKept (check : Check) : Type 0 where
   pub c : CheckText
   pub keeps : Keeps check c

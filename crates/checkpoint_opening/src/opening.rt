@@ -67,7 +67,7 @@ pub fn open_newest<D: Disk, L: Ledger>(
     steps: &mut Steps<L>,
 ) -> Result<Opened, OpeningRefused>
     ensures opened { IfOk result (λ o. WhereTold (D.told disk.old) (λ t. IsOpened t.reads o)) }
-    // Also where the disk tells nothing.
+    // Also where the disk shows nothing.
     ensures ready { IfOk result (λ o. IsReady capacity o.replayed) }
     ensures bad_check { IfErr result (λ e. WhereBadCheck e (λ file at. WhereTold (D.told disk.old) (λ t. IsNewest t.reads (Some file) × IsFault t.reads file at))) }
     ensures bad_log { IfErr result (λ e. WhereBadLog e (λ file at. WhereTold (D.told disk.old) (λ t. IsBadLogFrom t.reads file at))) }

@@ -91,7 +91,7 @@ mixed_image : (old : Told) (least laid : ℕ) (image : Files) → IsImage old.no
 mixed_image old least laid image reads kept (Log n) = either_file (old.now (Log n)) (image (Log n)) (old.reads (Log n)) (nat_le least n) (λ is. kept (Log n) (less_from least n is)) (reads (Log n))
 mixed_image old least laid image reads kept (Check n) = either_file (old.now (Check n)) (image (Check n)) (old.reads (Check n)) (nat_le laid n) (λ is. kept (Check n) (less_from laid n is)) (reads (Check n))
 
--- a stop while a folder is pruned leaves what it recovered to before
+-- a crash while a folder is pruned leaves what it recovered to before
 pub pruned_at_any_moment : PrunedAtAnyMoment
 pruned_at_any_moment old new least laid left txn reads keeps before = record {
   more = keeps.images.more;

@@ -74,7 +74,7 @@ newest_read was later number start now d c same newest is at held held' end has 
       },
     )
 
--- and where the disk tells nothing, its numbers are in order
+-- and where the disk shows nothing, its numbers are in order
 pub what_is_read : (number : ℕ) (d : Draft) (c : CheckText) → HasRead d c → IsRead (check_of number d)
 what_is_read number d c has = record { c = c; keeps = has.keeps number; ordered = has.ordered; events = has.events }
 

@@ -106,7 +106,7 @@ order_rises (Some (Log a)) (Check n) above low low' = omega (arith, low' a refl)
 order_rises (Some (Check a)) (Log n) above low low' = absurd (cc)
 order_rises (Some (Check a)) (Check n) above low low' = omega (arith, ltb-true a n above)
 
--- what the first two bytes of a file tell
+-- what the first two bytes of a file show
 pub front_tells : (bytes front old : List ℕ) (n : ℕ) → length old ≡ 2 → n ≡ min (length old) (length bytes - 0) → front ≡ take n (drop 0 bytes) ++ drop n old
     → ((n ≡ 2) → get_or front 0 0 ≡ 1 → IsPassed bytes → ⊥) × ((n ≢ 2) ⊎ (get_or front 0 0 ≢ 1) → IsPassed bytes)
 front_tells bytes front old n two is read = (λ all one passed. at passed all one, λ either. by either (cases_lt 1 (length bytes)))

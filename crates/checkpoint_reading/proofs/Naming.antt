@@ -107,7 +107,7 @@ some_bytes : (file : Option (List ℕ)) → IsSome file → (bytes : List ℕ) �
 some_bytes None some = absurd (cc)
 some_bytes (Some bytes) some = (bytes, refl)
 
--- what a piece that is as long as the PUT has tells of the pointer
+-- what a piece that is as long as the PUT has shows of the pointer
 pub put_in : (files : Files) (p : Pointer) (piece : List ℕ) (txn : Option ℕ) → IsSome (files (Log p.file)) → ((bytes : List ℕ) → files (Log p.file) ≡ Some bytes → piece ≡ take (p.length + 13) (drop p.at bytes))
     → IsPutAt piece (front p) txn → IsPutIn files p txn
 put_in files p piece None there read is = λ event put. from (files (Log p.file)) refl event put

@@ -33,7 +33,7 @@ pub record IsHeld (t : Told) (r : Reader) : Type 0 where
   pub size : r.size ≡ length (check_file t.reads r.number)
   pub held : r.held ≡ take (length r.held) (rest t r)
 
--- as far as the disk tells
+-- as far as the disk shows
 abbrev pub Holds : Option Told → Reader → Type 0
 Holds told r = WhereTold told (λ t. IsHeld t r)
 

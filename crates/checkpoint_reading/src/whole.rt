@@ -79,7 +79,7 @@ fn read_check<D: Disk>(alloc: Global, disk: &mut D, number: u32) -> Result<Check
 ///
 /// `BadCheck` names the checkpoint and the first field that is wrong or not whole; an entry of a list is one field.
 pub fn newest<D: Disk>(alloc: Global, disk: &mut D) -> Result<Option<Check>, CheckReadRefused>
-    // Ring and table are those of a text whose numbers are in order, also where the disk tells nothing.
+    // Ring and table are those of a text whose numbers are in order, also where the disk shows nothing.
     ensures read { IfOk result (λ check. IfSome check IsRead) }
     // It is the newest one, and right for the folder.
     ensures newest { IfOk result (λ check. WhereTold (D.told disk.old) (λ t. IsNewestOf t.reads check)) }

@@ -33,7 +33,7 @@ use Rattle.checkpoint_replay.proofs.PutsStand.{from_front, from_place}
 pub right_place : (files : Files) (check : Check) (start : Start) → IsStartOf files check start → IsInLog files check.place
 right_place files check start is = subst (λ (p : _). IsInLog files p) is.stands.keeps.says.place_is is.stands.right.place
 
--- what a replay begins with is kept, also where the disk tells nothing
+-- what a replay begins with is kept, also where the disk shows nothing
 pub begun_kept : (check : Check) (index : Indexing) → HasEvents check → IsOfCheck check index → IsKept index
 begun_kept check index has of = (has.places, has.start, start_past has.start, checks_are_kept check has.c has.places has.start index has.keeps has.ordered has.placed of, has.sized)
 

@@ -44,7 +44,7 @@ pub record IsReplayedFrom (files : Files) (start : Start) (found : List Line) (r
 abbrev pub LeavesFrom : Start → List Line → ℕ → Type 0
 LeavesFrom start found count = (left : Base) × (txn : ℕ) × StandsFrom start found left txn × (count ≡ length left.items)
 
--- Ring and table are those of a checkpoint whose numbers are in order and whose pointers have lengths of events, also where a disk tells nothing.
+-- Ring and table are those of a checkpoint whose numbers are in order and whose pointers have lengths of events, also where a disk shows nothing.
 pub record HasEvents (check : Check) : Type 0 where
   pub c : CheckText
   pub keeps : checks.Keeps check c

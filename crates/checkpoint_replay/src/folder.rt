@@ -80,13 +80,13 @@ pub fn replay<D: Disk, L: Ledger>(
     capacity: u32,
     steps: &mut Steps<L>,
 ) -> Result<Replayed, ReplayRefused>
-    // Ring and table are those of a checkpoint, also where the disk tells nothing.
+    // Ring and table are those of a checkpoint, also where the disk shows nothing.
     requires kept { IfSome check HasEvents }
     // The checkpoint is right for the folder.
     requires right { WhereTold (D.told disk.old) (λ t. IsRightFor t.reads check) }
     ensures ok { IfOk result (λ r. WhereStarts (D.told disk.old) check (λ files start found. IsReplayedFrom files start found r)) }
 
-    // Also where the disk tells nothing.
+    // Also where the disk shows nothing.
     ensures ready { IfOk result (λ r. IsReady capacity r) }
     ensures bad { IfErr result (λ e. WhereBadLog e (λ file at. WhereStarts (D.told disk.old) check (λ files start found. IsBadFrom start found file at))) }
     ensures over { IfErr result (λ e. WhereOver e (λ count. (capacity < count) × WhereStarts (D.told disk.old) check (λ files start found. LeavesFrom start found count))) }

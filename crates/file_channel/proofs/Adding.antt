@@ -101,7 +101,7 @@ flushed_both None (Some u) s still images writes = absurd images
 flushed_both (Some t) None s still images writes = absurd images
 flushed_both (Some t) (Some u) s still images writes = record { whole = still; images = images; writes = writes }
 
--- while the log goes on in a next file, a stop leaves what is settled
+-- while the log goes on in a next file, a crash leaves what is settled
 settled_may : (s : State) (image : Files) → RecoversSettled s image → MayRecover s image
 settled_may s image found = (found.0, found.1, inl found.2)
 

@@ -1,4 +1,4 @@
--- A channel's events stand at their pointers in whatever a stop leaves.
+-- A channel's events stand at their pointers in whatever a crash leaves.
 use Rattle.std.proofs.Common.{◌⊎◌, inl, inr, ◌≡◌, ◌≢◌, ◌==◌, ℕ, List, [], drop, take, Option, Some, None, true, false, sym, ◌∙◌, subst, arith}
 use Rattle.std.specs.Prelude.{IsSomeAnd}
 use Rattle.std.proofs.lemmas.Bool.Decides.{eqb_tells}
@@ -20,7 +20,7 @@ use Rattle.channel_writing.proofs.Flushing.{as_read}
 use Rattle.file_channel.specs.Images.{StandsInImages}
 use Rattle.file_channel.specs.Placed.{IsThere, bytes_of}
 
--- between calls a stop leaves each log file as reads give it
+-- between calls a crash leaves each log file as reads give it
 image_is : (t : Told) (w : Writer) (s : State) (records : List Rec) (image : Files) (n : ℕ) → OnDisk t w s records → IsImage t.now image → image (Log n) ≡ t.reads (Log n)
 image_is t w s records image n disk are = from (eqb_tells n w.file)
   where

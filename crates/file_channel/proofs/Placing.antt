@@ -246,7 +246,7 @@ pub reads_event : (t : Told) (w : Writer) (p : Pointer) (event : Content) (r : R
     → ((part : ℕ → List ℕ) → IsPieceOf w.kept part → IsBelow t p.file (end_of w p.file) (part p.file) → (IsWaiting w p → ⊥) → FoundAt (part p.file) p r) → GivesEvent event r
 reads_event t w p event r piece there waiting settled = gives p event r (found_there t w p event r there (λ waits. (waiting waits).0) (λ elsewhere. settled (settled_in t w) piece (is_below t w p) elsewhere))
 
--- where the disk doesn't tell, an event of the pointer's length is read, or damage
+-- where the disk doesn't show its contents, an event of the pointer's length is read, or damage
 pub reads_as : (told : Option Told) (w : Writer) (p : Pointer) (event : Content) (settled known : Known) (r : Result Content ReadRefused) → ArePlaced told w settled known → StandsIn known p event → IsOfLength p.length r → (IsWaiting w p → FoundAt w.bytes (in_frame w p) r × (IsErrOf r ReadFault → ⊥))
     → WhereTold told (λ t. (part : ℕ → List ℕ) → IsPieceOf w.kept part → IsBelow t p.file (end_of w p.file) (part p.file) → (IsWaiting w p → ⊥) → FoundAt (part p.file) p r) → ReadsAs (is_some_of told) event r
 reads_as told w p event settled known r are in_known long waiting there = from told refl

@@ -13,7 +13,7 @@ use Rattle.flume_host.proofs.Telling.{follows, tells_more}
 use Rattle.channel_log.specs.Writer.{IsBlank}
 use Rattle.file_channel.specs.Opened.{MayRemove}
 
--- files that a stop may leave, with another one that it may leave of one name
+-- files that a crash may leave, with another one that it may leave of one name
 with_one : (u : Told) (name : FileName) (file : Option (List ℕ)) → IsImage u.now u.reads → Allows (u.now name) file → IsImage u.now (with_at u.reads name file)
 with_one u name file reads allowed n = by (same_name n name) refl
   where
@@ -34,7 +34,7 @@ module _ (number : ℕ) where
   abbrev Blank : Told → Told → Type 0
   Blank t u = Changes (Log number) IsBlank 1 t u
 
-  -- whatever a stop may leave of the file now counts as empty
+  -- whatever a crash may leave of the file now counts as empty
   now_blank : (t u : Told) → Blank t u → IsImage u.now u.reads → (file : Option (List ℕ)) → Allows (u.now (Log number)) file → IsBlank file
   now_blank t u blank reads file allowed =
       let image : Files = with_at u.reads (Log number) file in

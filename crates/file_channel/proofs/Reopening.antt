@@ -195,7 +195,7 @@ reopened told told' old p w r capacity most has reads life limit b empty renew =
 
 -- a refusal
 
--- what a stop may leave of a channel's log
+-- what a crash may leave of a channel's log
 log_rests : (told : Option Told) (c : Logged) (s : State) → IsStateOf told c s → MayRest told s
 log_rests told c s is = whole_may_rest told c.log c.busy s is.whole
 

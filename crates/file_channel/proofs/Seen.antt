@@ -1,4 +1,4 @@
--- The events that a disk tells of at the pointers of a channel.
+-- The events that a disk shows at the pointers of a channel.
 use Rattle.std.proofs.Common.{inl, inr, ◌≡◌, ◌≤◌, ◌-◌, ◌++◌, ◌∷◌, [], ℕ, List, drop, take, Option, Some, None, refl, ◌∙◌, ap, subst, arith}
 use Rattle.std.proofs.lemmas.List.{length-replicate, take-append-drop}
 use Rattle.flume_host.specs.Told.{Told}
@@ -20,7 +20,7 @@ use Rattle.file_channel.specs.Placed.{ArePlaced, IsThere, bytes_of}
 use Rattle.file_channel.specs.Stands.{blank, event_at, event_of, items_at}
 use Rattle.file_channel.proofs.Replaying.{are_long, has_more, placed_known}
 
--- over a disk that does not tell
+-- over a disk that does not show its contents
 
 -- the pointers of a ring, each with an event of its size
 abbrev pub blanks : List Left → Known
@@ -48,7 +48,7 @@ blanks_seen [] p event is = absurd is
 blanks_seen (l ∷ live) p event (inl same) = subst (λ (k : Pointer × Content). event_at None k.0 ≡ k.1) same refl
 blanks_seen (l ∷ live) p event (inr older) = blanks_seen live p event older
 
--- over a disk that tells
+-- over a disk that shows its contents
 
 put_front : (n : ℕ) (bytes : List ℕ) (p : Pointer) (event : Content) → PutAt (take n bytes) p event → PutAt bytes p event
 put_front n bytes p event at = subst (λ (l : List ℕ). PutAt l p event) (take-append-drop n bytes) (put_grows (take n bytes) (drop n bytes) p event at)
@@ -71,7 +71,7 @@ placed_seen told w known t is empty placed p event in_known = ap (λ (v : Option
     from (inl at) = ap (λ (o : Outcome). event_of p.length o) (put_read bytes p event (put_front (end_of w p.file) bytes p event at)).1
     from (inr waits) = absurd (no_put (in_frame w p) event (subst (λ (l : List ℕ). PutAt l (in_frame w p) event) empty waits.1))
 
--- the events that are left are those that the disk tells of
+-- the events that are left are those that the disk shows
 pub items_seen : (told : Option Told) (known : Known) (held : List ℕ) (live : List Left) (items : List (ℕ × Content)) → AreSeen told known → LookLeft known held live items → items_at told live ≡ items
 items_seen told known held [] [] seen look = refl
 items_seen told known held [] (item ∷ items) seen look = absurd look

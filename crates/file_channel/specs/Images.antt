@@ -1,4 +1,4 @@
--- The law of what stands at a channel's pointers in whatever a stop leaves.
+-- The law of what stands at a channel's pointers in whatever a crash leaves.
 use Rattle.std.specs.Prelude.{◌≡◌, ◌⊎◌, Option, Some, IsSomeAnd, false}
 use Rattle.flume_host.specs.Folder.{Files, IsImage}
 use Rattle.flume_host.specs.Told.{Told}

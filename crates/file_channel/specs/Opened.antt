@@ -46,12 +46,12 @@ FailsToBegin cause told told' = (cause ≡ causes.DiskFault) ⊎ ((cause ≡ cau
 abbrev pub MayRemove : ℕ → Told → Told → Type 0
 MayRemove number t u = (u ≡ t) ⊎ ((result : Result (Unit {0}) Failed) × Leads (On (Log number) Remove) result t u)
 
--- each event that is known is the one that the disk tells of at its pointer
+-- each event that is known is the one that the disk shows at its pointer
 abbrev pub AreSeen : Option Told → Known → Type 0
 AreSeen told known = (p : Pointer) (event : Content) → StandsIn known p event → event_at told p ≡ event
 
 -- A folder opened to this base and to the next transaction number of what was replayed, and a log file was begun after it. The ring has the base's
--- events, each known to stand at its pointer, as the disk tells, and the log has each state of just these.
+-- events, each known to stand at its pointer, as the disk shows, and the log has each state of just these.
 pub record IsBegunAs (was told : Option Told) (capacity max_file : ℕ) (r : Replayed) (w : Writer) : Type 0 where
   pub base : Base
   pub known : Known
@@ -68,7 +68,7 @@ pub record IsBegunAs (was told : Option Told) (capacity max_file : ℕ) (r : Rep
 abbrev pub state_of : Limits → Base → ℕ → State
 state_of limits base txn = opening (record { rules = record { kind = File; limits = limits }; base = base; txn = txn; faults = 0; from = 0; tells = true })
 
--- A folder opened within these limits, and places and log stand for what it opened to, as the disk tells.
+-- A folder opened within these limits, and places and log stand for what it opened to, as the disk shows.
 pub record OpensWith (was told : Option Told) (limits : Limits) (c : Logged) : Type 0 where
   pub base : Base
   pub txn : ℕ

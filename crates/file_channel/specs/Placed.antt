@@ -31,7 +31,7 @@ settled_in t w file = take (end_of w file) (bytes_of (t.reads (Log file)))
 abbrev pub IsThere : Told → Writer → Pointer → Content → Type 0
 IsThere t w p event = PutAt (settled_in t w p.file) p event ⊎ (IsWaiting w p × PutAt w.bytes (in_frame w p) event)
 
--- Each pointer has its event's length. Where the disk tells, the event's PUT stands at the pointer, what is kept of the last reading is what its file has,
+-- Each pointer has its event's length. Where the disk shows its contents, the event's PUT stands at the pointer, what is kept of the last reading is what its file has,
 -- and nothing of what is known to be settled waits for a flush.
 pub record ArePlaced (told : Option Told) (w : Writer) (settled known : Known) : Type 0 where
   pub long : (p : Pointer) (event : Content) → StandsIn known p event → size event ≡ p.length

@@ -43,7 +43,7 @@ abbrev pub event_of : ℕ → Outcome → Content
 event_of size (Complete (PutRecord txn event) end) = event
 event_of size outcome = blank size
 
--- the event whose PUT stands at a pointer; a disk that does not tell tells no more of it than its size
+-- the event whose PUT stands at a pointer; a disk that does not show its contents shows no more of it than its size
 abbrev pub event_at : Option Told → Pointer → Content
 event_at None p = blank p.length
 event_at (Some t) p = event_of p.length (outcome_of (drop p.at (bytes_of (t.reads (Log p.file)))))

@@ -24,7 +24,7 @@ StepsOn told told' old new call = (s : State) → IsStateOf told old s → Steps
 abbrev pub ShowsOf : Option Told → Logged → (State → Type 0) → Type 0
 ShowsOf told c P = (s : State) → IsStateOf told c s → P s
 
--- A reading at the pointer of this event gives it; over a disk that doesn't tell it gives one of its length, or finds damage.
+-- A reading at the pointer of this event gives it; over a disk that doesn't show its contents it gives one of its length, or finds damage.
 abbrev pub ReadsAs : Bool → Content → Result Content ReadRefused → Type 0
 ReadsAs tells event (Ok given) = Gives tells (Some event) (Some given)
 ReadsAs tells event (Err ReadFault) = Unit {0}

@@ -40,7 +40,7 @@ pub struct OpenRefused<D> {
 }
 
 /// A channel in a folder of a disk that keeps pointers to its events in memory (Flume User Guide, "File Channel"). Each change has
-/// its record in a log file, an event is read there when it is taken, and what a flush settled a stop leaves there.
+/// its record in a log file, an event is read there when it is taken, and what a flush settled a crash leaves there.
 #[derive(Drop)]
 pub struct FileChannel<D: Disk + Drop> {
     logged: LoggedPlaces<D>,
@@ -131,7 +131,7 @@ pub fn open_channel<D: Disk + Drop, L: Ledger>(
     limits: Limits,
     steps: &mut Steps<L>,
 ) -> Result<FileChannel<D>, OpenRefused<D>>
-    // It stands for no calls: since the folder was settled, whatever a stop leaves recovers to what the folder opened to.
+    // It stands for no calls: since the folder was settled, whatever a crash leaves recovers to what the folder opened to.
     ensures stands { IfOk result
         (λ c. StandsOver (D.told c.0) (D.faults c.0) c.1
         (opened_as (D.told disk) (D.faults disk) (D.told c.0) c.1) []) }
@@ -229,7 +229,7 @@ impl<D: Disk + Drop> FileChannel<D> {
         let _ = &self.logged;
     }
 
-    /// Hands the disk back. It touches no device. Whatever a stop now leaves recovers to just what is settled, unless the channel was broken.
+    /// Hands the disk back. It touches no device. Whatever a crash now leaves recovers to just what is settled, unless the channel was broken.
     pub fn close(self) -> D
         ensures disk { result ≡ self.0 }
         ensures settled { Shows (StandsOver (D.told self.0) (D.faults self.0) self.1)
@@ -281,7 +281,7 @@ impl<D: Disk + Drop> Channel for FileChannel<D> {
         result
     }
 
-    /// Where the frame has no room for the event's record, it flushes first, as [`Channel::flush`] does. A stop at any moment of
+    /// Where the frame has no room for the event's record, it flushes first, as [`Channel::flush`] does. A crash at any moment of
     /// the call leaves what is settled, or that with what is staged.
     fn put(&mut self, txn: &mut PutTxn, event: &Event) -> Result<Put, PutRefused>
         ensures step { AddsOne (StandsOver (D.told self.old.0) (D.faults self.old.0) self.old.1)
@@ -402,7 +402,7 @@ impl<D: Disk + Drop> Channel for FileChannel<D> {
     }
 
     /// At most two syncs, or three where the log file has a frame and would pass its greatest length, so that the next one is
-    /// begun. A stop at any moment of the call leaves what is settled, or that with what is staged. A broken channel's flush
+    /// begun. A crash at any moment of the call leaves what is settled, or that with what is staged. A broken channel's flush
     /// touches no device.
     fn flush(&mut self) -> Result<(), FlushRefused>
         ensures step { AddsOne (StandsOver (D.told self.old.0) (D.faults self.old.0) self.old.1)

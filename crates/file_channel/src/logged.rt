@@ -174,7 +174,7 @@ impl<D: Disk + Drop> LoggedPlaces<D> {
         Ok(ticket)
     }
 
-    /// Puts an event. Where the frame has no room for its record, it flushes first. A stop at any moment of the call leaves what
+    /// Puts an event. Where the frame has no room for its record, it flushes first. A crash at any moment of the call leaves what
     /// is settled, or that with what is staged. It takes no memory.
     pub fn put_in_log(&mut self, txn: &PutTxn, event: &Event) -> Result<Put, PutRefused>
         ensures step { StepsOn (D.told self.old.0) (D.told self.new.0) self.old.1 self.new.1
@@ -271,7 +271,7 @@ impl<D: Disk + Drop> LoggedPlaces<D> {
         }
     }
 
-    /// Settles all that is staged. A stop at any moment of the call leaves what is settled, or that with what is staged. It takes
+    /// Settles all that is staged. A crash at any moment of the call leaves what is settled, or that with what is staged. It takes
     /// no memory.
     pub fn flush(&mut self) -> Result<(), FlushRefused>
         ensures step { StepsOn (D.told self.old.0) (D.told self.new.0) self.old.1 self.new.1

@@ -17,7 +17,7 @@ talks_both found given taken given' taken' n m t u v first second = record {
 pub talks_none : (told : Option LinkTold) → Tells told told (Talks [] [] 0)
 talks_none told = tells_same told (Talks [] [] 0) (λ t _. record { gave = sym (append-nil t.gave); took = sym (append-nil t.took); count = omega arith; ends = omega arith })
 
--- one talk after another, where the link tells, and the second may find the end
+-- one talk after another, where the link shows its contents, and the second may find the end
 pub talks_to : (found : ℕ) (a b c : Option LinkTold) (given taken given' taken' : List ℕ) (n m : ℕ) → Tells a b (Talks given taken n) → Tells b c (TalksTo found given' taken' m) → Tells a c (TalksTo found (given ++ given') (taken ++ taken') (n + m))
 talks_to found a b c given taken given' taken' n m = follows a b c (Talks given taken n) (TalksTo found given' taken' m) (TalksTo found (given ++ given') (taken ++ taken') (n + m)) (λ t u v _ _ _ first second. talks_both found given taken given' taken' n m t u v first second)
 

@@ -8,21 +8,21 @@ some_same x y is = cc
 pub silent : {A : Type 0} (x : A) → None ≡ Some x → ⊥
 silent x is = cc
 
--- a disk that tells afterwards told before
+-- a disk that shows its contents afterwards did so before
 pub back : {T : Type 0} (old new : Option T) (P : T → T → Type 0) → Tells old new P → (u : T) → new ≡ Some u → (t : T) × (old ≡ Some t) × P t u
 back None None P tells u is = absurd (silent u is)
 back None (Some v) P tells u is = absurd tells
 back (Some t) None P tells u is = absurd tells
 back (Some t) (Some v) P tells u is = (t, refl, subst (λ w. P t w) (some_same v u is) tells)
 
--- a disk that told before tells afterwards
+-- a disk that showed its contents before shows them afterwards
 pub forth : {T : Type 0} (old new : Option T) (P : T → T → Type 0) → Tells old new P → (t : T) → old ≡ Some t → (u : T) × (new ≡ Some u) × P t u
 forth None None P tells t is = absurd (silent t is)
 forth None (Some v) P tells t is = absurd tells
 forth (Some s) None P tells t is = absurd tells
 forth (Some s) (Some v) P tells t is = (v, refl, subst (λ w. P w v) (some_same s t is) tells)
 
--- what it tells may be used for what it told
+-- what it shows may be used for what it showed
 pub tells_more : {T : Type 0} (old new : Option T) (P Q : T → T → Type 0) → ((t u : T) → old ≡ Some t → new ≡ Some u → P t u → Q t u) → Tells old new P → Tells old new Q
 tells_more None None P Q more tells = tt
 tells_more None (Some v) P Q more tells = absurd tells

@@ -45,7 +45,7 @@ HandsOut (Err refused) host port old new = new ≡ old
 abbrev pub TakesBack : CameBack → Option HandedOut → Option HandedOut → Type 0
 TakesBack one old new = Tells old new (ComesBack one)
 
--- what is handed out tells, where the host tells of it, and gave no links yet
+-- what is handed out shows its contents, where the host shows it, and gave no links yet
 abbrev pub fresh_links : Option HandedOut → Option LinksTold
 fresh_links told = option_map (λ (all : HandedOut). no_links) told
 
@@ -53,7 +53,7 @@ fresh_links told = option_map (λ (all : HandedOut). no_links) told
 abbrev pub endpoint_of : List ℕ → ℕ → Option HandedOut → Option Endpoint
 endpoint_of host port told = option_map (λ (all : HandedOut). record { host = host; port = port }) told
 
--- one of this address and port is out, where the host tells of it
+-- one of this address and port is out, where the host shows it
 abbrev pub IsOut : List ℕ → ℕ → Option HandedOut → Type 0
 IsOut host port None = Unit {0}
 IsOut host port (Some all) = 0 < all.out host port

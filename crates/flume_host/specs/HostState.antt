@@ -1,4 +1,4 @@
--- What a host tells of itself.
+-- What a host shows of itself.
 use Rattle.std.specs.Prelude.{◌≡◌, ◌≢◌, ◌<◌, ◌≤◌, ℕ, Bool, List, length, Option, Some}
 use Rattle.flume_host.specs.Causes.{Rose}
 use Rattle.flume_host.specs.HandedOut.{HandedOut}
@@ -7,7 +7,7 @@ use Rattle.flume_host.specs.Rolled.{Rolled}
 use Rattle.flume_host.specs.declared.names.FileRefused.{FileRefused}
 use Rattle.flume_host.specs.declared.names.FileRefused.TheVariants.{Failed, TooLarge, NoMemory}
 
--- A stream is None where the host does not tell of it, and while it is handed out.
+-- A stream is None where the host does not show it, and while it is handed out.
 pub record HostState : Type 0 where
   -- what standard input has left
   pub input : Option (List ℕ)
@@ -15,12 +15,12 @@ pub record HostState : Type 0 where
   pub output : Option (List ℕ)
   -- what standard output has surely handed on
   pub handed : Option (List ℕ)
-  -- the bytes of each file that the host tells of, by its path; it never changes them
+  -- the bytes of each file that the host shows, by its path; it never changes them
   pub files : List ℕ → Option (List ℕ)
   -- the moments that each clock gives that is handed out, and the numbers of each chance
   pub moments : Option (ℕ → ℕ)
   pub draws : Option (ℕ → ℕ)
-  -- its listeners, and its dialers, where it tells of them
+  -- its listeners, and its dialers, where it shows them
   pub listeners : Option HandedOut
   pub dialers : Option HandedOut
   -- the host's name and its address, as texts
@@ -31,9 +31,9 @@ pub record HostState : Type 0 where
   -- the faults of the disks that were given back
   pub disk_faults : ℕ
 
--- What the folders of a host tell, by their paths: None where the host does not tell of one, and while it is handed out.
+-- What the folders of a host show, by their paths: None where the host does not show one, and while it is handed out.
 pub record Folders : Type 0 where
-  -- what the disk of a folder tells, and what a folder of rolled files tells
+  -- what the disk of a folder shows, and what a folder of rolled files shows
   pub disks : List ℕ → Option Told
   pub rolls : List ℕ → Option Rolled
   -- one was opened, so it can be given back

@@ -1,4 +1,4 @@
--- What a link tells, and what each call does to it.
+-- What a link shows, and what each call does to it.
 use Rattle.std.specs.Prelude.{◌≡◌, ℕ, ◌+◌, ◌^◌, ◌≤◌, ◌<◌, List, [], ◌++◌, length, take, Option, Bool, true, false}
 use Rattle.std.specs.Prelude.{Result, Ok, Err, MatchResult}
 use Rattle.flume_host.specs.Causes.{Rose}
@@ -7,7 +7,7 @@ use Rattle.flume_host.specs.declared.names.Failed.{Failed}
 use Rattle.flume_host.specs.declared.link.LinkRead.{LinkRead}
 use Rattle.flume_host.specs.declared.link.LinkRead.TheVariants.{Got, End, Quiet}
 
--- What a link tells of all its calls.
+-- What a link shows of all its calls.
 pub record LinkTold : Type 0 where
   -- all that its reads gave, and all that its writes took
   pub gave : List ℕ

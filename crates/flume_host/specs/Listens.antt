@@ -1,4 +1,4 @@
--- What a listener and a dialer tell of their links.
+-- What a listener and a dialer show of their links.
 use Rattle.std.specs.Prelude.{◌≡◌, ℕ, ◌+◌, ◌<◌, length, List, [], ◌∷◌, ◌++◌}
 use Rattle.std.specs.Prelude.{Option, Some, None, Bool, true, false}
 use Rattle.std.specs.Option.{option_map}
@@ -9,7 +9,7 @@ pub record Endpoint : Type 0 where
   pub host : List ℕ
   pub port : ℕ
 
--- it was handed out for this address and port, where it tells for which
+-- it was handed out for this address and port, where it shows for which
 abbrev pub IsFrom : List ℕ → ℕ → Option Endpoint → Type 0
 IsFrom host port None = Unit {0}
 IsFrom host port (Some endpoint) = (endpoint.host ≡ host) × (endpoint.port ≡ port)
@@ -38,22 +38,22 @@ gave_none told = option_map (λ (l : LinksTold). record l { failed = false }) to
 abbrev pub refused_link : Option LinksTold → Option LinksTold
 refused_link told = option_map (λ (l : LinksTold). record l { failed = true }) told
 
--- what a new link tells: a link tells where the one that gave it does
+-- what a new link shows: it does so where the one that gave it does
 abbrev pub fresh_from : Option LinksTold → Option LinkTold
 fresh_from told = option_map (λ (l : LinksTold). unused) told
 
--- It took a link back that tells this. What took back a link that doesn't tell, tells no more.
+-- It took a link back that shows this. What took back a link that doesn't show its contents, shows no more.
 abbrev pub kept_in : Option LinksTold → Option LinkTold → Option LinksTold
 kept_in None link = None
 kept_in (Some l) None = None
 kept_in (Some l) (Some t) = Some (record l { kept = l.kept ++ t ∷ [] })
 
--- it gave more links than it took back, as far as it tells
+-- it gave more links than it took back, as far as it shows
 abbrev pub IsOwed : Option LinksTold → Type 0
 IsOwed None = Unit {0}
 IsOwed (Some l) = length l.kept < l.given
 
--- it took back as many links as it gave, as far as it tells
+-- it took back as many links as it gave, as far as it shows
 abbrev pub IsSettled : Option LinksTold → Type 0
 IsSettled None = Unit {0}
 IsSettled (Some l) = length l.kept ≡ l.given

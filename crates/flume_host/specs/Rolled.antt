@@ -1,4 +1,4 @@
--- What a folder of rolled files tells, and what each call does to it.
+-- What a folder of rolled files shows, and what each call does to it.
 use Rattle.std.specs.Prelude.{◌≡◌, ℕ, List, [], ◌∷◌, ◌++◌, take, Option, Bool, true, false, Result, MatchResult}
 use Rattle.std.specs.Option.{option_map}
 use Rattle.flume_host.specs.declared.names.Failed.{Failed}
@@ -55,6 +55,6 @@ Adds bytes result old new = Tells old new (λ r s. MatchResult result (λ n. Add
 abbrev pub HandsOn : Result (Unit {0}) Failed → Option Rolled → Option Rolled → Type 0
 HandsOn result old new = Tells old new (λ r s. MatchResult result (λ _. s ≡ record r { flushed = true; failed = false }) (λ _. s ≡ refused_roll r.begun r))
 
--- what a folder tells when it is opened: no file of it gets what is written
+-- what a folder shows when it is opened: no file of it gets what is written
 abbrev pub opened : Option Rolled → Option Rolled
 opened rolled = option_map (λ (r : Rolled). record r { begun = false; failed = false }) rolled

@@ -1,4 +1,4 @@
--- What a disk tells, and what each call does to it.
+-- What a disk shows, and what each call does to it.
 use Rattle.std.specs.Prelude.{◌≤◌, ◌≡◌, ◌⊎◌, ◌+◌, ℕ, List, [], ◌∷◌, ◌++◌, length, get_or, Option, Some, None, Result, OnOk, OnErr, Bool, true, false, not}
 use Rattle.flume_host.specs.declared.names.FileName.{FileName}
 use Rattle.flume_host.specs.declared.names.Failed.{Failed}
@@ -7,9 +7,9 @@ use Rattle.flume_host.specs.Folder.{Files, Folder, Entry, Gone, There, Allows, I
 pub record Told : Type 0 where
   -- the files that reads give
   pub reads : Files
-  -- what a stop may leave between this call and the next
+  -- what a crash may leave between this call and the next
   pub now : Folder
-  -- what a stop might have left at each earlier moment, the call that ended it included
+  -- what a crash might have left at each earlier moment, the call that ended it included
   pub past : List Folder
   -- how many of the calls were syncs
   pub syncs : ℕ
@@ -26,14 +26,14 @@ pub data Call : Type 0 where
   On : FileName → Change → Call
   Settle : Call
 
--- what a stop may leave of the file while the change is under way, or after it failed
+-- what a crash may leave of the file while the change is under way, or after it failed
 abbrev pub entry_under : Change → Entry → Entry
 entry_under Make entry = make_entry entry
 entry_under (Write at bytes) entry = write_entry at (length bytes) entry
 entry_under Sync entry = entry
 entry_under Remove entry = remove_entry entry
 
--- what a stop may leave of it after the change answered Ok
+-- what a crash may leave of it after the change answered Ok
 abbrev pub entry_after : Change → Option (List ℕ) → Entry → Entry
 entry_after Make file entry = There (stable [])
 entry_after (Write at bytes) file entry = write_entry at (length bytes) entry
@@ -97,11 +97,11 @@ pub record Leads {T : Type 0} (call : Call) (result : Result T Failed) (old new 
   pub ok : OnOk result (new ≡ done call old)
   pub err : OnErr result ((new ≡ old) ⊎ DidPart call old new)
 
--- P of what a disk tells, where it tells
+-- P of what a disk shows, where it shows its contents
 abbrev pub WhereTold : Option Told → (Told → Type 0) → Type 0
 WhereTold told P = (t : Told) → told ≡ Some t → P t
 
--- What told goes on telling, and P leads from the one to the other. What did not tell does not begin to.
+-- What showed its contents goes on showing them, and P leads from the one to the other. What did not does not begin to.
 abbrev pub Tells : {T : Type 0} → Option T → Option T → (T → T → Type 0) → Type 0
 Tells None None P = Unit {0}
 Tells None (Some u) P = ⊥
@@ -115,11 +115,11 @@ Does call result old new = Tells old new (Leads call result)
 abbrev pub clock : Told → ℕ
 clock t = length t.past
 
--- a stop at moment m might leave this image
+-- a crash at moment m might leave this image
 abbrev pub IsLeftAt : Told → ℕ → Files → Type 0
 IsLeftAt t m image = IsImage (get_or t.past m t.now) image
 
--- From one state to another the past only grew, and a stop at any moment since leaves an image that has P.
+-- From one state to another the past only grew, and a crash at any moment since leaves an image that has P.
 pub record LeavesOnly (old new : Told) (P : Files → Type 0) : Type 0 where
   pub more : List Folder
   pub past : new.past ≡ old.past ++ more
@@ -130,7 +130,7 @@ pub record OneFile (folder : Folder) (name : FileName) (P : Option (List ℕ) �
   pub file : P (image name)
   pub others : (n : FileName) → same_name n name ≡ false → Allows (folder n) (image n)
 
--- Calls changed one file alone, with no more syncs than this, and a stop at any moment since leaves it as P.
+-- Calls changed one file alone, with no more syncs than this, and a crash at any moment since leaves it as P.
 pub record Changes (name : FileName) (P : Option (List ℕ) → Type 0) (most : ℕ) (old new : Told) : Type 0 where
   pub images : LeavesOnly old new (OneFile old.now name P)
   pub others : (n : FileName) → same_name n name ≡ false → (new.now n ≡ old.now n) × (new.reads n ≡ old.reads n)

@@ -4,7 +4,7 @@ ghost use Rattle.flume_host.specs.Series.{Gives};
 
 /// The time of day.
 pub trait Clock {
-    /// The moments that are still to come, where it tells: the first of them has the number 0.
+    /// The moments that are still to come, where it shows them: the first of them has the number 0.
     ghost moments: { Self → Option (ℕ → ℕ) };
 
     /// Milliseconds since the first moment of 1970, UTC. Two calls may give any two moments: a clock may be set.
@@ -18,7 +18,7 @@ pub trait Clock {
 
 /// Numbers by chance.
 pub trait Random {
-    /// The numbers that are still to come, where it tells: the first of them has the number 0.
+    /// The numbers that are still to come, where it shows them: the first of them has the number 0.
     ghost draws: { Self → Option (ℕ → ℕ) };
 
     /// Any number.

@@ -1,4 +1,4 @@
-// A disk is one folder of named files. Where it tells, its contract says what reads give, and what a stop at each moment may leave.
+// A disk is one folder of named files. Where it shows its contents, its contract says what reads give, and what a crash at each moment may leave.
 ghost use Rattle.std.specs.Prelude.{◌≡◌, ◌≤◌, ◌<◌, ◌^◌, ◌+◌, ◌-◌, ◌++◌, ℕ, List, Option, Some, None, length, take, drop, min, IfOk, OnOk, IfSome, IsSome};
 ghost use Rattle.flume_host.specs.Causes.{HasCause};
 ghost use Rattle.flume_host.specs.Folder.{IsImage, IsAbove, IsNext};
@@ -8,7 +8,7 @@ use crate::{Failed, FileName};
 
 /// A folder of files named by [`FileName`]. No file has more than 2^63 - 1 bytes.
 pub trait Disk {
-    /// What the disk tells, if it tells: the files as they read, and what a stop at each moment might have left.
+    /// What the disk shows, if anything: the files as they read, and what a crash at each moment might have left.
     ghost told: { Self → Option Told };
 
     /// How often it has failed. The count stops at 2^64 - 1.
@@ -74,6 +74,6 @@ pub trait Disk {
         ensures same { told self.new ≡ told self.old }
         ensures cause { HasCause (faults self.old) (faults self.new) result };
 
-    /// What reads give is one of the images that a stop may leave.
+    /// What reads give is one of the images that a crash may leave.
     ghost reads_are_left: { (disk : Self) (t : Told) → told disk ≡ Some t → IsImage t.now t.reads };
 }

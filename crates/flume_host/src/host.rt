@@ -30,10 +30,10 @@ pub trait Host {
 
     type Random: Random + Send + Drop;
 
-    /// What it tells of itself.
+    /// What it shows of itself.
     ghost state: { Self → HostState };
 
-    /// What its folders tell, by their paths.
+    /// What its folders show, by their paths.
     ghost folders: { Self → Folders };
 
     /// Hands standard input out.

@@ -1,6 +1,6 @@
 //! The outside of the agent as traits: a source and a sink of bytes, a disk that is one folder of files, a folder of
 //! rolled files, links with peers, who accepts them and who dials them, time and chance, the wish to stop, and the host
-//! that hands them out. Each object counts its faults, and may tell its contents to the contracts.
+//! that hands them out. Each object counts its faults, and may show its contents to the contracts.
 #![tactic(auto)]
 
 mod clock;

@@ -19,7 +19,7 @@ pub enum LinkRead {
 
 /// A link of bytes with a peer.
 pub trait Link {
-    /// What it gave and took so far, where it tells.
+    /// What it gave and took so far, where it shows that.
     ghost told: { Self → Option LinkTold };
 
     /// How often it has failed. The count stops at 2^64 - 1.

@@ -10,10 +10,10 @@ pub trait Listener {
     /// What it gives.
     type Link: Link + Send + Drop;
 
-    /// The links that it gave and took back, where it tells.
+    /// The links that it gave and took back, where it shows them.
     ghost told: { Self → Option LinksTold };
 
-    /// The address and port for which a host handed it out, where it tells.
+    /// The address and port for which a host handed it out, where it shows them.
     ghost endpoint: { Self → Option Endpoint };
 
     /// How often it has failed. The count stops at 2^64 - 1.
@@ -53,10 +53,10 @@ pub trait Dialer {
     /// What it gives.
     type Link: Link + Send + Drop;
 
-    /// The links that it gave and took back, where it tells.
+    /// The links that it gave and took back, where it shows them.
     ghost told: { Self → Option LinksTold };
 
-    /// The address and port for which a host handed it out, where it tells.
+    /// The address and port for which a host handed it out, where it shows them.
     ghost endpoint: { Self → Option Endpoint };
 
     /// How often it has failed. The count stops at 2^64 - 1.

@@ -8,7 +8,7 @@ use crate::Failed;
 
 /// A folder of files that are written once, one after the other: each is begun, and then gets its bytes.
 pub trait RollDir {
-    /// The files that it took, where it tells.
+    /// The files that it took, where it shows them.
     ghost rolled: { Self → Option Rolled };
 
     /// How often it has failed. The count stops at 2^64 - 1.

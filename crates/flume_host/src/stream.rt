@@ -8,7 +8,7 @@ use crate::Failed;
 
 /// Bytes that come in.
 pub trait Source {
-    /// The bytes that are left, where it tells.
+    /// The bytes that are left, where it shows them.
     ghost left: { Self → Option (List ℕ) };
 
     /// How often it has failed. The count stops at 2^64 - 1.
@@ -27,10 +27,10 @@ pub trait Source {
 
 /// Bytes that go out.
 pub trait Sink {
-    /// The bytes that it took, where it tells.
+    /// The bytes that it took, where it shows them.
     ghost took: { Self → Option (List ℕ) };
 
-    /// The bytes of these that it has surely handed on, where it tells.
+    /// The bytes of these that it has surely handed on, where it shows them.
     ghost handed: { Self → Option (List ℕ) };
 
     /// How often it has failed. The count stops at 2^64 - 1.

@@ -26,10 +26,10 @@ module _ (stands : ℕ → Stood) (first : List MemFile) (calls : List MemCall) 
         ∙ image_after-all n past
   ]
 
-  -- a stop within a call
+  -- a crash within a call
   pub chosen_within : (i : ℕ) (call : MemCall) → slice_get calls i ≡ Some call → image_chosen stands first calls i ≡ image_torn (stands i) (call_of call.change) (image_after stands first calls i)
   chosen_within i call is = ap (λ (c : Option MemCall). image_within (stands i) c (image_after stands first calls i)) is
 
-  -- a stop after all calls
+  -- a crash after all calls
   pub chosen_after : (n : ℕ) → length calls ≤ n → image_chosen stands first calls n ≡ image_after stands first calls (length calls)
   chosen_after n all = ap (λ (c : Option MemCall). image_within (stands n) c (image_after stands first calls n)) (slice_get_past calls n all) ∙ image_after-all n all

@@ -1,4 +1,4 @@
--- What a host in memory tells of its listeners and dialers, before and after one is handed out or comes back.
+-- What a host in memory shows of its listeners and dialers, before and after one is handed out or comes back.
 use Rattle.std.proofs.Common.{◌≡◌, ◌∙◌, ◌==◌, ap, sym, refl, ℕ, ◌+◌, ◌<◌, List, [], ◌∷◌, ◌++◌, length, take, drop, get_or, map, Option, Bool, true, false, cond, count_by, arith, bytes_eq, string_bytes}
 use Rattle.std.proofs.lemmas.List.{take-append-drop, map-append, drop_more, append_assoc}
 use Rattle.std.proofs.lemmas.List.Sums.{sum_by-append}

@@ -45,7 +45,7 @@ module _ {T V : Type 0} (home : Option T → V) (other : V) where
   abbrev home_of : Named T → V
   home_of named = home named.object
 
-  -- what the first object of a path tells
+  -- what the first object of a path shows
   abbrev pub told_at : List (Named T) → List ℕ → V
   told_at = look_up bytes_eq path_of home_of other
 
@@ -77,7 +77,7 @@ module _ {T V : Type 0} (home : Option T → V) (other : V) where
   not_at : (p path : List ℕ) (x y : V) → (p ≡ path → ⊥) → cond (bytes_eq p path) x y ≡ y
   not_at p path x y differ = ap (λ (b : Bool). cond b x y) (path_other p path differ)
 
-  -- what handing out the object of a path does: what it told, and what the others tell
+  -- what handing out the object of a path does: what it told, and what the others show
   pub record Out (objects new : List (Named T)) (path : List ℕ) (value : V) : Type 0 where
     pub told : told_at objects path ≡ value
     pub others : (p : List ℕ) → (p ≡ path → ⊥) → told_at new p ≡ told_at objects p

@@ -121,7 +121,7 @@ leads_by Whole (Err e) call t u sound ok err = record { ok = tt; err = inl err }
 leads_by (Partly n) noted call t u sound ok err = record { ok = tt; err = part_leads (Partly n) noted call t u (λ is. cc) sound ok err }
 leads_by Nothing noted call t u sound ok err = record { ok = tt; err = part_leads Nothing noted call t u (λ is. cc) sound ok err }
 
--- what a disk tells of a call, by what was recorded
+-- what a disk shows of a call, by what was recorded
 pub does_by : (tells : Bool) (first new_first : List MemFile) (calls new_calls : List MemCall) (outcome : Outcome) (noted result : Result (Unit {0}) Failed) (call : Call) → result ≡ answer_of outcome noted
     → OnOk noted (told_of new_first new_calls ≡ step_by outcome call (told_of first calls)) → OnErr noted (told_of new_first new_calls ≡ told_of first calls) → Does call result (told_by tells first calls) (told_by tells new_first new_calls)
 does_by true first new_first calls new_calls outcome noted result call is ok err =

@@ -1,4 +1,4 @@
--- An image that is changed along the calls stays one that a stop may leave.
+-- An image that is changed along the calls stays one that a crash may leave.
 use Rattle.std.proofs.Common.{◌≡◌, ◌<◌, ◌≤◌, ◌+◌, ◌-◌, ℕ, zero, suc, List, [], ◌∷◌, ◌++◌, length, get_or, take, min, Option, Some, None, refl, sym, ◌∙◌, ap, subst, arith, inl, inr, length-append, length-take}
 use Rattle.std.proofs.lemmas.List.{get_or_append_left, get_or-append_right, get_or_past, length-replicate, take_all, drop_all, take_more}
 use Rattle.std.proofs.lemmas.Bool.{cases_lt}

@@ -1,4 +1,4 @@
--- What a host in memory tells of its listeners and dialers.
+-- What a host in memory shows of its listeners and dialers.
 use Rattle.std.specs.Prelude.{ℕ, ◌==◌, ◌&&◌, List, [], map, Option, Bool, count_by, bytes_eq, string_bytes}
 use Rattle.flume_host.specs.Listens.{LinksTold}
 use Rattle.flume_host.specs.HandedOut.{HandedOut, CameBack}

@@ -1,4 +1,4 @@
--- What a host in memory tells of the parts that are not handed out.
+-- What a host in memory shows of the parts that are not handed out.
 use Rattle.std.specs.Prelude.{◌≡◌, ℕ, List, [], get_or, Bool, Option, None, Some, is_some, bytes_eq, string_bytes}
 use Rattle.std.specs.declared.vec.Vec.{Vec}
 use Rattle.std.specs.declared.alloc.Global.{Global}
@@ -49,11 +49,11 @@ IsAt objects i named = named ≡ get_or objects i named
 abbrev pub with_object : {T : Type 0} → Named T → Option T → Named T
 with_object named object = record named { object = object }
 
--- What the disk of the first folder of each path tells. A path without a folder has an empty disk.
+-- What the disk of the first folder of each path shows. A path without a folder has an empty disk.
 abbrev pub folder_of : List (Named MemDisk) → List ℕ → Option Told
 folder_of = look_up bytes_eq (λ named. string_bytes named.path) (λ named. told_home named.object) (Some (start []))
 
--- What the first folder of rolled files of each path tells. A path without one has no files.
+-- What the first folder of rolled files of each path shows. A path without one has no files.
 abbrev pub roll_of : List (Named MemRoll) → List ℕ → Option Rolled
 roll_of = look_up bytes_eq (λ named. string_bytes named.path) (λ named. rolled_home named.object) (Some no_files)
 

@@ -1,4 +1,4 @@
--- What a host in memory tells.
+-- What a host in memory shows.
 use Rattle.std.specs.Prelude.{ℕ, List, Option, Some, IsSome, string_bytes}
 use Rattle.std.specs.declared.string.String.{String}
 use Rattle.std.specs.declared.alloc.Global.{Global}
@@ -38,7 +38,7 @@ state_in h = record {
   disk_faults = h.disk_faults;
 }
 
--- what the disk of a folder tells, by the folder's path
+-- what the disk of a folder shows, by the folder's path
 abbrev pub folder_in : MemHost → List ℕ → Option Told
 folder_in h = folder_of h.folders.items
 
@@ -46,7 +46,7 @@ folder_in h = folder_of h.folders.items
 abbrev pub HasFolder : MemHost → List ℕ → Type 0
 HasFolder h path = IsSome (place_in h.folders.items path)
 
--- what a folder of rolled files tells, by its path
+-- what a folder of rolled files shows, by its path
 abbrev pub roll_in : MemHost → List ℕ → Option Rolled
 roll_in h = roll_of h.rolls.items
 
@@ -54,7 +54,7 @@ roll_in h = roll_of h.rolls.items
 abbrev pub HasRoll : MemHost → List ℕ → Type 0
 HasRoll h path = IsSome (place_in h.rolls.items path)
 
--- what its folders tell, by their paths
+-- what its folders show, by their paths
 abbrev pub folders_in : MemHost → Folders
 folders_in h = record {
   disks = folder_in h;

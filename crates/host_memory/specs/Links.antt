@@ -1,4 +1,4 @@
--- What a link in memory tells, and what each read does by its script.
+-- What a link in memory shows, and what each read does by its script.
 use Rattle.std.specs.Prelude.{◌≡◌, ◌⊎◌, ◌<◌, ◌≤◌, ℕ, ◌+◌, ◌-◌, ◌^◌, length, take, drop, min, get_or}
 use Rattle.std.specs.Prelude.{List, Bool, if◌then◌else◌, Option, Some, None, Result, Ok, Err, IsErr, OnOk}
 use Rattle.flume_host.specs.Links.{LinkTold}
@@ -9,11 +9,11 @@ use Rattle.host_memory.specs.declared.mem_link.MemLink.{MemLink}
 use Rattle.host_memory.specs.declared.mem_link.LinkStep.{LinkStep}
 use Rattle.host_memory.specs.declared.mem_link.LinkStep.TheVariants as Step
 
--- what an object tells that would tell this
+-- what an object shows that would show this
 abbrev pub where_tells : {T : Type 0} → Bool → T → Option T
 where_tells tells told = if tells then Some told else None
 
--- what a link would tell, also where it tells nothing
+-- what a link would show, also where it shows nothing
 abbrev pub link_record : MemLink → LinkTold
 link_record l = record {
   gave = l.gave.items;

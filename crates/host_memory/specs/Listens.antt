@@ -1,4 +1,4 @@
--- What a listener and a dialer in memory tell, and what each call does by its script.
+-- What a listener and a dialer in memory show, and what each call does by its script.
 use Rattle.std.specs.Prelude.{◌≡◌, ◌⊎◌, ◌<◌, ◌≤◌, ◌+◌, length, get_or, map, set, string_bytes}
 use Rattle.std.specs.Prelude.{Option, Some, None, Result, Ok, IsErr, IfOk, OnOk, MatchOption}
 use Rattle.std.specs.Option.{option_map}

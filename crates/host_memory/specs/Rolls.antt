@@ -1,4 +1,4 @@
--- What a folder of rolled files in memory tells.
+-- What a folder of rolled files in memory shows.
 use Rattle.std.specs.Prelude.{List, [], ◌∷◌, Bool, if◌then◌else◌, Option, None, Some, string_bytes}
 use Rattle.flume_host.specs.Rolled.{Rolled, RollFile}
 use Rattle.host_memory.specs.declared.mem_roll.RolledFile.{RolledFile}

@@ -1,4 +1,4 @@
--- One image of many: what a stop leaves, where each call's change is chosen to stand or not.
+-- One image of many: what a crash leaves, where each call's change is chosen to stand or not.
 use Rattle.std.specs.Prelude.{◌%◌, ℕ, zero, suc, List, [], ◌∷◌, take, length, get_or, replicate, slice_get, Option, Some, None}
 use Rattle.flume_host.specs.Folder.{Files, with_at}
 use Rattle.flume_host.specs.Told.{Change, Make, Write, Sync, Remove, Call, On, Settle, read_by, file_after}
@@ -78,6 +78,6 @@ abbrev pub image_within : Stood → Option MemCall → Files → Files
 image_within stood None image = image
 image_within stood (Some call) image = image_torn stood (call_of call.change) image
 
--- what a stop at this moment leaves, by the choices
+-- what a crash at this moment leaves, by the choices
 abbrev pub image_chosen : (ℕ → Stood) → List MemFile → List MemCall → ℕ → Files
 image_chosen stands first calls moment = image_within (stands moment) (slice_get calls moment) (image_after stands first calls moment)

@@ -1,4 +1,4 @@
--- What the objects in memory tell.
+-- What the objects in memory show.
 use Rattle.std.specs.Prelude.{ℕ, List, [], Option, take, true, false}
 use Rattle.flume_host.specs.Folder.{Files}
 use Rattle.flume_host.specs.Rolled.{Rolled}
@@ -15,7 +15,7 @@ use Rattle.host_memory.specs.Stream.{left_of, took_by}
 use Rattle.host_memory.specs.Rolls.{files_by, rolled_by}
 use Rattle.host_memory.specs.Parts.{told_of, told_by}
 
--- what a source has left, where it tells
+-- what a source has left, where it shows its contents
 abbrev pub left_in : MemSource → Option (List ℕ)
 left_in s = left_of s.tells s.bytes.items s.at
 
@@ -33,7 +33,7 @@ source_pieces s = s.pieces.items
 abbrev pub source_faults : MemSource → ℕ
 source_faults s = s.faults
 
--- what a sink took, where it tells
+-- what a sink took, where it shows its contents
 abbrev pub took_in : MemSink → Option (List ℕ)
 took_in s = took_by s.tells s.bytes.items
 
@@ -59,11 +59,11 @@ sink_faults s = s.faults
 abbrev pub replayed : Store → Told
 replayed s = told_of s.first.items s.calls.items
 
--- what a disk tells, where it tells
+-- what a disk shows, where it shows its contents
 abbrev pub told_in : MemDisk → Option Told
 told_in d = told_by d.tells d.store.first.items d.store.calls.items
 
--- what a disk would tell by its record, also where it tells nothing
+-- what a disk would show by its record, also where it shows nothing
 abbrev pub record_in : MemDisk → Told
 record_in d = replayed d.store
 
@@ -92,7 +92,7 @@ disk_calls d = d.script.calls
 abbrev pub disk_faults : MemDisk → ℕ
 disk_faults d = d.faults
 
--- what a folder of rolled files tells, where it tells
+-- what a folder of rolled files shows, where it shows its contents
 abbrev pub rolled_in : MemRoll → Option Rolled
 rolled_in r = rolled_by r.tells (record { files = files_by r.files.items; flushed = r.flushed; begun = r.begun; failed = r.failed })
 

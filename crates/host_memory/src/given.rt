@@ -54,7 +54,7 @@ impl Given {
         }
     }
 
-    /// As new, and it tells.
+    /// As new, and it shows its contents.
     pub fn fresh(mut self) -> Given
         ensures { given_told result ≡ Some no_links }
     {

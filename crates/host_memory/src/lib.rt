@@ -1,4 +1,4 @@
-//! The outside in memory, whose contents contracts see, with chosen failures. A disk also tells what a stop might have
+//! The outside in memory, whose contents contracts see, with chosen failures. A disk also shows what a crash might have
 //! left of it at each moment.
 #![tactic(auto)]
 

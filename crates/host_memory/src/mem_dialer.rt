@@ -24,7 +24,7 @@ pub struct MemDialer {
 }
 
 impl MemDialer {
-    /// A dialer that tells, with these links.
+    /// A dialer that shows its contents, with these links.
     pub fn new(alloc: Global, links: Vec<Option<MemLink>>) -> MemDialer
         ensures told { dialer_told result ≡ Some no_links }
         ensures nowhere { result.at ≡ None }
@@ -40,7 +40,7 @@ impl MemDialer {
         }
     }
 
-    /// A dialer that tells nothing, and whose links tell nothing.
+    /// A dialer that shows nothing, and whose links show nothing.
     pub fn silent(mut self) -> MemDialer
         ensures told { dialer_told result ≡ None }
         ensures at { result.at ≡ self.at }
@@ -51,7 +51,7 @@ impl MemDialer {
         self
     }
 
-    /// The rest of its script, of which nothing was asked yet, and it tells. It is handed out for this address.
+    /// The rest of its script, of which nothing was asked yet, and it shows its contents. It is handed out for this address.
     pub(crate) fn fresh(mut self, at: Address) -> MemDialer
         ensures told { dialer_told result ≡ Some no_links }
         ensures at { result.at ≡ Some at }

@@ -93,7 +93,7 @@ impl MemDisk {
     ghost use Rattle.host_memory.specs.Stops.{chosen, image_chosen};
     ghost use Rattle.host_memory.specs.Words.{told_in, calls_made, disk_calls, disk_faults, disk_script, files_first, reads_in, record_in, syncs_in};
 
-    /// An empty disk that tells, no call of which is to fail.
+    /// An empty disk that shows its contents, no call of which is to fail.
     pub fn new(alloc: Global) -> Self
         ensures told { told_in result ≡ Some (start []) }
         ensures script { (disk_script result ≡ []) × (disk_calls result ≡ 0) }
@@ -110,7 +110,7 @@ impl MemDisk {
         }
     }
 
-    /// A disk that holds these files, all of them stable, and tells; no call of it is to fail. Where a name stands twice, its first file counts.
+    /// A disk that holds these files, all of them stable, and shows its contents; no call of it is to fail. Where a name stands twice, its first file counts.
     pub fn with_files(alloc: Global, files: Vec<MemFile>) -> Result<Self, AllocError>
         ensures told { IfOk result (λ disk. told_in disk ≡ Some (start files.items)) }
         ensures script { IfOk result (λ disk. (disk_script disk ≡ []) × (disk_calls disk ≡ 0)) }
@@ -121,7 +121,7 @@ impl MemDisk {
         Ok(disk)
     }
 
-    /// What the file of this name holds, if it is there, also where the disk tells nothing.
+    /// What the file of this name holds, if it is there, also where the disk shows nothing.
     pub fn file(&self, name: FileName) -> Option<&[u8]>
         ensures { MatchOption result (reads_in self.now name ≡ None) (λ bytes. reads_in self.now name ≡ Some bytes.now) }
     {
@@ -138,7 +138,7 @@ impl MemDisk {
         self.store.syncs()
     }
 
-    /// A disk as a stop at a moment may have left this one, its files stable, no call of which is to fail: moment m is within the recorded call
+    /// A disk as a crash at a moment may have left this one, its files stable, no call of which is to fail: moment m is within the recorded call
     /// number m, or after the last. Each recorded call has a choice of what stands of it, and the choices go round.
     pub fn stopped_at(&self, moment: u64, choices: &[Stood]) -> Result<Self, AllocError>
         ensures left { IfOk result (λ disk. (files : List MemFile) × (told_in disk ≡ Some (start files)) × IsLeftAt (record_in self.now) moment (files_of files)
@@ -168,7 +168,7 @@ impl MemDisk {
         self
     }
 
-    /// A disk that tells nothing.
+    /// A disk that shows nothing.
     pub fn silent(mut self) -> Self
         ensures told { told_in result ≡ None }
         ensures script { (disk_script result ≡ disk_script self) × (disk_calls result ≡ disk_calls self) }

@@ -56,7 +56,7 @@ struct Due {
 }
 
 impl MemLink {
-    /// A link that tells, takes all that it is given, and of which nothing was asked.
+    /// A link that shows its contents, takes all that it is given, and of which nothing was asked.
     pub fn new(alloc: Global, steps: Vec<LinkStep>) -> MemLink
         ensures told { link_told result ≡ Some unused }
         ensures script { (link_steps result ≡ steps.items) × (link_place result ≡ start_place) }
@@ -111,7 +111,7 @@ impl MemLink {
         self
     }
 
-    /// A link that tells nothing.
+    /// A link that shows nothing.
     pub fn silent(mut self) -> MemLink
         ensures told { link_told result ≡ None }
         ensures script { (link_steps result ≡ link_steps self) × (link_place result ≡ link_place self) }
@@ -121,7 +121,7 @@ impl MemLink {
         self
     }
 
-    /// Whether it tells.
+    /// Whether it shows its contents.
     pub(crate) fn does_tell(&self) -> bool
         ensures { result ≡ self.now.tells }
     {
@@ -150,14 +150,14 @@ impl MemLink {
         self
     }
 
-    /// What its reads gave, also where it tells nothing.
+    /// What its reads gave, also where it shows nothing.
     pub fn gave(&self) -> &[u8]
         ensures { result.now ≡ (link_record self.now).gave }
     {
         &self.gave
     }
 
-    /// What its writes took, also where it tells nothing.
+    /// What its writes took, also where it shows nothing.
     pub fn took(&self) -> &[u8]
         ensures { result.now ≡ (link_record self.now).took }
     {

@@ -39,7 +39,7 @@ pub struct MemListener {
 }
 
 impl MemListener {
-    /// A listener that tells, with this script.
+    /// A listener that shows its contents, with this script.
     pub fn new(alloc: Global, offers: Vec<Offer>) -> MemListener
         ensures told { listener_told result ≡ Some no_links }
         ensures nowhere { result.at ≡ None }
@@ -56,7 +56,7 @@ impl MemListener {
         }
     }
 
-    /// A listener that tells nothing, and whose links tell nothing.
+    /// A listener that shows nothing, and whose links show nothing.
     pub fn silent(mut self) -> MemListener
         ensures told { listener_told result ≡ None }
         ensures at { result.at ≡ self.at }
@@ -67,7 +67,7 @@ impl MemListener {
         self
     }
 
-    /// The rest of its script, of which nothing was asked yet, and it tells. It is handed out for this address.
+    /// The rest of its script, of which nothing was asked yet, and it shows its contents. It is handed out for this address.
     pub(crate) fn fresh(mut self, at: Address) -> MemListener
         ensures told { listener_told result ≡ Some no_links }
         ensures at { result.at ≡ Some at }

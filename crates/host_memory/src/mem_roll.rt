@@ -40,7 +40,7 @@ impl MemRoll {
     ghost use Rattle.std.specs.Prelude.{None};
     ghost use Rattle.host_memory.specs.Words.{rolled_in, no_files, roll_calls, roll_fails, roll_faults, roll_pieces};
 
-    /// An empty folder that tells, takes all that it is given, and fails only when out of memory and at a name that is
+    /// An empty folder that shows its contents, takes all that it is given, and fails only when out of memory and at a name that is
     /// there already.
     pub fn new(alloc: Global) -> Self
         ensures rolled { rolled_in result ≡ Some no_files }
@@ -93,7 +93,7 @@ impl MemRoll {
         self
     }
 
-    /// A folder that tells nothing.
+    /// A folder that shows nothing.
     pub fn silent(mut self) -> Self
         ensures rolled { rolled_in result ≡ None }
         ensures script { (roll_fails result ≡ roll_fails self) × (roll_calls result ≡ roll_calls self) × (roll_pieces result ≡ roll_pieces self) }
@@ -103,7 +103,7 @@ impl MemRoll {
         self
     }
 
-    /// The files that were begun, in that order, also where the folder tells nothing.
+    /// The files that were begun, in that order, also where the folder shows nothing.
     pub fn files(&self) -> &[RolledFile]
         ensures { files_by result.now ≡ files_by self.now.files.items }
     {

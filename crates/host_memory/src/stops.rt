@@ -1,4 +1,4 @@
-// An image that a stop at a past moment may have left.
+// An image that a crash at a past moment may have left.
 ghost use Rattle.std.specs.Prelude.{◌≡◌, None, Some, OnOk, IfOk};
 ghost use Rattle.flume_host.specs.Folder.{with_at};
 ghost use Rattle.flume_host.specs.Told.{IsLeftAt, Make, Write, file_after, read_by};
@@ -11,7 +11,7 @@ use crate::parts::{
 use flume_host::FileName;
 use std::alloc::{AllocError, Global};
 
-/// What a stop leaves of a call that no sync or settle has made stable, or that was under way or failed.
+/// What a crash leaves of a call that no sync or settle has made stable, or that was under way or failed.
 #[derive(Clone, Copy, Debug, PartialEq, Eq)]
 pub enum Stood {
     /// All is as it was before the call.
@@ -226,7 +226,7 @@ fn choice_at(choices: &[Stood], i: usize) -> Stood
     }
 }
 
-/// The files that a stop at this moment may leave, by a choice for each call: of a disk that had the first files and
+/// The files that a crash at this moment may leave, by a choice for each call: of a disk that had the first files and
 /// whose calls were these.
 pub fn image_at(
     alloc: Global,

@@ -25,7 +25,7 @@ pub struct MemSource {
 impl MemSource {
     ghost use Rattle.host_memory.specs.Words.{left_in, source_calls, source_fails, source_faults, source_pieces};
 
-    /// A source that tells, gives all that is asked for, and never fails.
+    /// A source that shows its contents, gives all that is asked for, and never fails.
     pub fn new(alloc: Global, bytes: Vec<u8>) -> Self
         ensures left { left_in result ≡ Some bytes.items }
         ensures script { (source_fails result ≡ []) × (source_calls result ≡ 0) × (source_pieces result ≡ []) }
@@ -75,7 +75,7 @@ impl MemSource {
         self
     }
 
-    /// A source that tells nothing.
+    /// A source that shows nothing.
     pub fn silent(mut self) -> Self
         ensures left { left_in result ≡ None }
         ensures script { (source_fails result ≡ source_fails self) × (source_calls result ≡ source_calls self) × (source_pieces result ≡ source_pieces self) }
@@ -130,7 +130,7 @@ pub struct MemSink {
 impl MemSink {
     ghost use Rattle.host_memory.specs.Words.{took_in, handed_in, sink_calls, sink_fails, sink_faults, sink_pieces};
 
-    /// An empty sink that tells, takes all that it is given, and fails only when out of memory.
+    /// An empty sink that shows its contents, takes all that it is given, and fails only when out of memory.
     pub fn new(alloc: Global) -> Self
         ensures took { (took_in result ≡ Some []) × (handed_in result ≡ Some []) }
         ensures script { (sink_fails result ≡ []) × (sink_calls result ≡ 0) × (sink_pieces result ≡ []) }
@@ -168,7 +168,7 @@ impl MemSink {
         self
     }
 
-    /// A sink that tells nothing.
+    /// A sink that shows nothing.
     pub fn silent(mut self) -> Self
         ensures took { (took_in result ≡ None) × (handed_in result ≡ None) }
         ensures script { (sink_fails result ≡ sink_fails self) × (sink_calls result ≡ sink_calls self) × (sink_pieces result ≡ sink_pieces self) }

@@ -1,4 +1,4 @@
-// A dialer over sockets. It tells nothing.
+// A dialer over sockets. It shows nothing of its contents.
 ghost use Rattle.std.specs.Prelude.{◌≡◌, ◌≤◌, None};
 ghost use Rattle.flume_host.specs.Causes.{HasCause};
 

@@ -16,7 +16,7 @@ use std::io;
 use std::io::{ErrorKind, Read};
 use std::net::ToSocketAddrs;
 
-/// The host that a program runs in. It tells nothing of contents.
+/// The host that a program runs in. It shows nothing of its contents.
 #[derive(Drop)]
 pub struct RealHost {
     teller: Teller,

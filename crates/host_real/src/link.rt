@@ -1,4 +1,4 @@
-// A link over a socket. It tells nothing.
+// A link over a socket. It shows nothing of its contents.
 ghost use Rattle.std.specs.Prelude.{◌≡◌, ◌≤◌, ◌<◌, None, length};
 ghost use Rattle.std.specs.Io.{ReadsAtMost, WritesAtMost};
 ghost use Rattle.flume_host.specs.Causes.{HasCause};

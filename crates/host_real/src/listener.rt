@@ -1,4 +1,4 @@
-// A listener over a socket. It tells nothing.
+// A listener over a socket. It shows nothing of its contents.
 ghost use Rattle.std.specs.Prelude.{◌≡◌, ◌≤◌, Ok, None, IfOk};
 ghost use Rattle.flume_host.specs.Causes.{HasCause};
 

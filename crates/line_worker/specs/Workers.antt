@@ -43,7 +43,7 @@ feeding moments w links due = record {
   due = due;
 }
 
--- what an input and an output tell: what is left to read, what was written, what of that was surely handed on, and how often
+-- what an input and an output show: what is left to read, what was written, what of that was surely handed on, and how often
 -- each has failed
 pub record Talk : Type 0 where
   pub left : Option (List ℕ)

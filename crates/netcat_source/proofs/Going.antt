@@ -86,7 +86,7 @@ module _ (max : ℕ) (ack : Bool) (vs ws : List LineVerdict) (rest sent : List �
   ends_then Turns p = (answered_then Rest p.0, p.1)
   ends_then NoMemory p = (lacks_then p.0, ap (λ (l : List ℕ). flat_map (reply ack) vs ++ l) p.1 ∙ sym (replies-append ack vs ws Rest))
 
--- what a link tells at the end, it tells also from before
+-- what a link shows at the end, it shows also from before
 leaves_then : (x y z : Option LinkTold) (given taken : List ℕ) (n : ℕ) (end : SessionEnd) → Tells x y (Talks given taken n) → LeavesLink end y z → LeavesLink end x z
 leaves_then x y z given taken n End first found = tt
 leaves_then x y z given taken n LinkFault first failed = failed_behind x y z given taken n first failed

@@ -28,7 +28,7 @@ TakesAll Takes old [] new = new ≡ old
 TakesAll {S} Takes old (j ∷ done) new =
     (next : S) × Takes old j.line j.verdict next × TakesAll Takes next done new
 
--- a session's two sides: where its lines go, and what its link tells
+-- a session's two sides: where its lines go, and what its link shows
 pub record Sides (S : Type 0) : Type 0 where
   pub into : S
   pub told : Option LinkTold

@@ -1,4 +1,4 @@
--- What a look at an event of the ring tells.
+-- What a look at an event of the ring shows.
 use Rattle.std.proofs.Common.{inl, inr, ◌≡◌, ◌≢◌, ◌∷◌, [], ℕ, List, Some, Bool, true, false, not, ◌==◌, ◌||◌, cond, refl, sym, ◌∙◌}
 use Rattle.std.specs.List.{AllByRecursion}
 use Rattle.std.specs.Prelude.{◌↔◌, map}

@@ -180,7 +180,7 @@ pub fn replay<D: Disk, L: Ledger>(
 ) -> Result<Replayed, ReplayRefused>
     ensures ok { IfOk result (λ r. WhereTold (D.told disk.old) (λ t. WhereLogs t.reads (λ logs. AreReplayed logs r))) }
 
-    // Also where the disk tells nothing.
+    // Also where the disk shows nothing.
     ensures ready { IfOk result (λ r. IsReady capacity r) }
     ensures bad { IfErr result (λ e. WhereBadLog e (λ file at. WhereTold (D.told disk.old) (λ t. IsBadLog t.reads file at))) }
     ensures over { IfErr result (λ e. WhereOver e (λ count. (capacity < count) × WhereTold (D.told disk.old) (λ t. WhereLogs t.reads (λ logs. LeavesCount logs count)))) }

@@ -132,7 +132,7 @@ record Goes (done : List Delivery) (base new : List RollFile) (t : RollState) : 
   fills : Fills done filled base new
   fits : Fits t filled
 
--- a sink over a folder that tells leaves one that tells
+-- a sink over a folder that shows its contents leaves one that shows its contents
 told_on : (starts : Bool) (s t : RollState) (batch : List Content) (moment : ℕ) (answer : Result (Unit {0}) RollRefused) (r : Rolled) (told : Option Rolled)
     → RollsBy starts s batch moment answer t (Some r) told → (u : Rolled) × (told ≡ Some u)
 told_on starts s t batch moment answer r (Some u) rolls = (u, refl)

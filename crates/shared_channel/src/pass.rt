@@ -119,8 +119,8 @@ fn add_marks(into: &mut Vec<bool>, from: &Vec<bool>)
 
 impl<C: Channel> Shared<C> {
     /// Shares a channel that has made no call since the opening that it stands for. The pass at place i of the list has number
-    /// i, and has made no call; there are no other passes, and without one nobody can close it. Out of memory hands the channel
-    /// back.
+    /// i, and has made no call; there are no other passes, and without one nobody can close it. Where memory runs out, the
+    /// channel comes back.
     pub fn new(
         alloc: Global,
         channel: C,

@@ -37,7 +37,7 @@ Found = Result (Option LinkEnd) Failed
 abbrev pub Answer : Type 0
 Answer = Result Bool OpenCause
 
--- what a listener tells: its links, how often it has failed, and how often it has waited
+-- what a listener shows: its links, how often it has failed, and how often it has waited
 pub record Heard : Type 0 where
   pub links : Option LinksTold
   pub faults : ℕ

@@ -25,11 +25,11 @@ pub record CanListen {F N C B : Type 0} (w : ListenWorker F N C B) : Type 0 wher
   pub few : length w.ports.items < 2 ^ 32
   pub named : NamesBelow w.selector (length w.ports.items)
 
--- what a listener tells of itself
+-- what a listener shows of itself
 abbrev pub heard_of : {N : Type 0} → (N → Option LinksTold) → (N → ℕ) → (N → ℕ) → N → Heard
 heard_of told faults waits listener = record { links = told listener; faults = faults listener; waits = waits listener }
 
--- where events go, what a listener tells, and whether a mend was refused
+-- where events go, what a listener shows, and whether a mend was refused
 abbrev pub stood : {F B : Type 0} → Intake F B → Option (ℕ → ℕ) → Heard → Bool → Serving (Into F B)
 stood intake moments heard due = record { into = into_of intake moments; heard = heard; due = due }
 

@@ -8,10 +8,10 @@ use flume_host::{Failed, Link, Listener};
 // A listener, with its links as a parameter. The kit's borrow checker refuses, within an impl of a trait, a call whose bound has
 // an associated type that is `Send`, as the links of `Listener` are.
 pub trait Listens<L: Link> {
-    // The links that it gave and took back, where it tells.
+    // The links that it gave and took back, where it shows them.
     ghost told: { Self → Option LinksTold };
 
-    // The address and port for which a host handed it out, where it tells.
+    // The address and port for which a host handed it out, where it shows them.
     ghost endpoint: { Self → Option Endpoint };
 
     // How often it has failed.

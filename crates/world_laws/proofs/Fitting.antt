@@ -79,7 +79,7 @@ all_push : (events : List Content) (e : Content) → AllByRecursion (λ x. size 
 all_push [] e all small = (small, tt)
 all_push (x ∷ events) e all small = (all.0, all_push events e all.1 small)
 
--- what an answer Ok tells of the state
+-- what an answer Ok shows of the state
 
 pub begin_allows : (s : State) → begin_refusal s ≡ None → (s.broken ≡ false) × (length s.opened < 1024) × (s.txn < 2 ^ 64 - 1)
 begin_allows s none = (grind (arith, nat_tests), grind (arith, nat_tests), grind (arith, nat_tests))

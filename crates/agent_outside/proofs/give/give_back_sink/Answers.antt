@@ -16,7 +16,7 @@ use Rattle.agent_outside.proofs.Dialing.{dial_one}
 use Rattle.agent_outside.proofs.Ending.{out_own}
 use Rattle.agent_outside.proofs.give.give_back_sink.Goals as goal
 
--- what the Avro sinks of the host tell of their dialers
+-- what the Avro sinks of the host show of their dialers
 abbrev dial_of : (g : Over) → DialTold (AvroSink g.row.H-Dialer.Denot g.row.H-Dialer-Link.Denot g.H.Dialer.Dialer g.H.Dialer.Link.Link)
 dial_of g = record {
   endpoint = λ s. g.H.Dialer.Dialer.endpoint s.dialer;

@@ -9,7 +9,7 @@ use Rattle.agent_outside.specs.Ends.{AreOut, ends_of}
 use Rattle.agent_outside.specs.Sinks.{AreOpened, backs_of}
 use Rattle.agent_outside.proofs.give.give_back_sinks.Given as goal
 
--- what the Avro sinks of the host tell of their dialers
+-- what the Avro sinks of the host show of their dialers
 abbrev pub dial_of : (g : goal.Over) → DialTold (AvroSink g.row.H-Dialer.Denot g.row.H-Dialer-Link.Denot g.H.Dialer.Dialer g.H.Dialer.Link.Link)
 dial_of g = record {
   endpoint = λ s. g.H.Dialer.Dialer.endpoint s.dialer;

@@ -6,7 +6,7 @@ use Rattle.agent_outside.specs.Dials.{DialsOpened}
 use Rattle.agent_outside.specs.Sinks.{SinksOpened}
 use Rattle.agent_outside.proofs.sinks.open_sinks.Given as goal
 
--- what the Avro sinks of the host tell of their dialers
+-- what the Avro sinks of the host show of their dialers
 abbrev pub dial_of : (g : goal.Over) → DialTold (AvroSink g.row.H-Dialer.Denot g.row.H-Dialer-Link.Denot g.H.Dialer.Dialer g.H.Dialer.Link.Link)
 dial_of g = record {
   endpoint = λ s. g.H.Dialer.Dialer.endpoint s.dialer;

@@ -43,7 +43,7 @@ use Rattle.agent_run.proofs.Throughout.{back_same, joined_same, returned_same, s
 use Rattle.agent_run.specs.Staff.{IsSinkOf}
 use Rattle.agent_run.proofs.agent.run_opened.Goals as goal
 
--- what the Avro sinks of the host tell of their dialers
+-- what the Avro sinks of the host show of their dialers
 abbrev dial_of : (g : Over) → DialTold (AvroSink g.row.H-Dialer.Denot g.row.H-Dialer-Link.Denot g.H.Dialer.Dialer g.H.Dialer.Link.Link)
 dial_of g = record {
   endpoint = λ s. g.H.Dialer.Dialer.endpoint s.dialer;

@@ -17,7 +17,7 @@ use Rattle.agent_run.proofs.Unopened.{listeners_refused, opened_out, sinks_refus
 use Rattle.agent_run.proofs.outside.open_outside.Given.{Over}
 use Rattle.agent_run.proofs.outside.open_outside.Goals as goal
 
--- what the Avro sinks of the host tell of their dialers
+-- what the Avro sinks of the host show of their dialers
 abbrev dial_of : (g : Over) → DialTold (AvroSink g.row.H-Dialer.Denot g.row.H-Dialer-Link.Denot g.H.Dialer.Dialer g.H.Dialer.Link.Link)
 dial_of g = record {
   endpoint = λ s. g.H.Dialer.Dialer.endpoint s.dialer;
