@@ -1,7 +1,7 @@
 -- Calls of a channel on a disk, under one lock.
-use Rattle.std.proofs.Common.{◌≡◌, ◌⊎◌, ◌-◌, ◌^◌, inl, inr, ℕ, List, [], ◌∷◌, ◌++◌, length, Option, Result, Ok, Err, Bool, true, false, not, refl, sym, ◌∙◌, ap, subst}
+use Rattle.std.proofs.Common.{◌≡◌, ◌⊎◌, inl, inr, ℕ, List, [], length, Result, Ok, Err, Bool, true, false, not, refl, sym, ◌∙◌, ap, subst}
 use Rattle.std.proofs.lemmas.List.{append-nil}
-use Rattle.atomic_table.specs.Table.{Me}
+use Rattle.atomic_table.specs.Seated.{TableId}
 use Rattle.channel_face.specs.Machine.{State, Reopen, Reopened, AdmitsCheckpoint, AdmitsPrune, AdmitsReopen}
 use Rattle.channel_face.specs.History.{Opening, Step, opening, state_after, reopen_reply}
 use Rattle.channel_face.specs.declared.replies.Counter.TheVariants.{Txn, Number, File, Check, Life, Calls}
@@ -12,12 +12,15 @@ use Rattle.channel_face.specs.declared.replies.PruneRefused.TheVariants as Prune
 use Rattle.channel_face.specs.declared.replies.OpenCause.{OpenCause}
 use Rattle.channel_face.specs.declared.replies.OpenCause.TheVariants as OpenNo
 use Rattle.channel_lock.specs.Calls.{has}
-use Rattle.channel_lock.specs.Views.{View, with_call}
+use Rattle.channel_lock.specs.Views.{View}
 use Rattle.channel_lock.specs.Turns.{Making}
-use Rattle.shared_channel.specs.Calls.{step, made_if, state_seen, Bounds, IsIn, Makes, Left}
+use Rattle.shared_channel.specs.Calls.{made_if, state_seen}
+use Rattle.shared_channel.specs.Holding.{IsReleased, Makes, made_by}
+use Rattle.shared_channel.specs.Passes.{Known, known, view_of}
+use Rattle.shared_channel.specs.declared.shared.Holder.{Holder}
 use Rattle.channel_face.specs.Keeps.{is_spent_check, is_spent_prune, is_spent_open}
-use Rattle.shared_channel.specs.Durables.{calls_of, WasBroken, IsReopen, MakesReopen, MakesMended, Reopens, Mends}
-use Rattle.shared_channel.proofs.Turning.{makes_kept, answers}
+use Rattle.shared_channel.specs.Durables.{calls_of, WasBroken, TriesReopen, MakesMended, Reopens, Mends}
+use Rattle.shared_channel.proofs.Turning.{answers, looks}
 
 -- the machine refuses none of them because no more calls are counted
 
@@ -57,69 +60,34 @@ open_spares tells s kept (Err (OpenNo.Spent Check)) may = refl
 open_spares tells s kept (Err (OpenNo.Spent Life)) may = refl
 open_spares tells s kept (Err (OpenNo.Spent Calls)) may = absurd (no_open may)
 
--- one of the calls was counted that the reply of a reopen may stand for
-abbrev pub CountedOne : {S C : Type 0} → (C → Opening → List Step → Type 0) → ℕ → ℕ → Result (Unit {0}) OpenCause → Me (Option S) View → C → Me (Option S) View → Type 0
-CountedOne stands by moment reply m d w =
-    (e : Step) × IsReopen stands by moment reply d m.0 e × (w ≡ (with_call e m.0, m.1)) × ((v : View) (es : List Step) → Making v es m.0 → has v.numbers e.pass ≡ true → Making v (es ++ e ∷ []) w.0)
-
-pub reopen_made : {S C : Type 0} (stands : C → Opening → List Step → Type 0) (tells : C → Bool) (by moment : ℕ) (reply : Result (Unit {0}) OpenCause) (m w : Me (Option S) View) (c d : C) → IsIn stands m c → CountedOne stands by moment reply m d w → is_spent_open reply ≡ false → MakesReopen stands by moment reply m d w
-reopen_made {S} {C} stands tells by moment reply m w c d inside one unspent = (kept, subst (λ (b : Bool). Makes stands by (made_if (not b) s) m d w) (sym unspent) made)
-  where
-    kept : Reopened
-    kept = one.1.0
-
-    s : Step
-    s = step by (Reopen (reopen_reply reply kept)) moment
-
-    made : Makes stands by (s ∷ []) m d w
-    made = subst (λ (x : Step). Makes stands x.pass (x ∷ []) m d w) one.1.1 (makes_kept stands tells one.0 m w c d inside one.1.2 one.2 one.3)
-
 length_made : (spent : Bool) (s : Step) → length (made_if (not spent) s) ≡ calls_of spent
 length_made true s = refl
 length_made false s = refl
 
-module _ {S C : Type 0} (stands : C → Opening → List Step → Type 0) (tells : C → Bool) (moment : C → ℕ) where
-  -- one lock with a reopen, which may have been spent
-  pub reopens : (reply : Result (Unit {0}) OpenCause) (v w : View) (by : ℕ) (k : Me (Option S) View) (d : C) (n : Me (Option S) View) → Making v [] k.0 → has v.numbers by ≡ true → MakesReopen stands by (moment d) reply k d n → Bounds (is_spent_open reply) (2 ^ 64 - 1025) (length k.0.seen)
-      → ((u : View) (calls : List Step) → Making u calls n.0 → Left stands tells u calls w d) → w.seen ≡ n.0.seen → Reopens stands tells moment v by reply w
-  reopens reply v w by k d n making own makes bound leaves same =
-      (makes.0, answers stands tells moment (is_spent_open reply) v w by (Reopen (reopen_reply reply makes.0)) k d n making own makes.1 bound leaves same)
+-- From the pass before a lock to its views after it, with a reopening or a mend under the lock.
+module _ {C : Type 0} (stands : C → Opening → List Step → Type 0) (tells : C → Bool) (table held : TableId) (number : ℕ) (before after : List View) (p : Known) (is : known table number before ≡ p) (own : has (view_of before).numbers number ≡ true)
+    (a b : Holder C) (mine : a.by ≡ number) (making : Making (view_of before) [] a.seat.me.0) (count : ℕ) (released : IsReleased stands tells b after count) (moment : C → ℕ) where
+  pub reopens : (reply : Result (Unit {0}) OpenCause) → TriesReopen stands held moment reply a b → Reopens stands tells moment p.view p.number reply (view_of after)
+  reopens reply tried = (tried.0, answers stands tells table held number before after p is own a b mine making count released moment (is_spent_open reply) (Reopen (reopen_reply reply tried.0)) tried.1)
 
-  -- one lock with a mend
-  mends_broken : (reply : Result (Unit {0}) OpenCause) (v w : View) (by : ℕ) (k : Me (Option S) View) (d : C) (n : Me (Option S) View) → Making v [] k.0 → has v.numbers by ≡ true → MakesReopen stands by (moment d) reply k d n → Bounds (is_spent_open reply) (2 ^ 64 - 1025) (length k.0.seen)
-      → (state_seen k.0).broken ≡ true → ((u : View) (calls : List Step) → Making u calls n.0 → Left stands tells u calls w d) → w.seen ≡ n.0.seen → Reopens stands tells moment v by reply w × WasBroken (calls_of (is_spent_open reply)) w
-  mends_broken reply v w by k d n making own makes bound broken leaves same =
-      (reopens reply v w by k d n making own makes bound leaves same, (k.0.seen, made_if (not (is_spent_open reply)) s, same ∙ makes.1.seen, length_made (is_spent_open reply) s, subst (λ (b : Opening). (state_after (opening b) k.0.seen).broken ≡ true) base broken))
-    where
-      s : Step
-      s = step by (Reopen (reopen_reply reply makes.0)) (moment d)
+  -- the history that was opened is the one that was seen
+  based : (es : List Step) → Makes stands held es a b → a.seat.me.0.base ≡ (view_of after).base
+  based es makes = ap (λ (x : View). x.base) making.1 ∙ sym (ap (λ (x : View). x.base) (released.saw (view_of before) es (makes.goes_on (view_of before) [] making (ap (has (view_of before).numbers) mine ∙ own))))
 
-      l : Left stands tells v (made_if (not (is_spent_open reply)) s) w d
-      l = leaves v (made_if (not (is_spent_open reply)) s) (makes.1.goes_on v [] making own)
+  mends_broken : (reply : Result (Unit {0}) OpenCause) → TriesReopen stands held moment reply a b → (state_seen a.seat.me.0).broken ≡ true → Reopens stands tells moment p.view p.number reply (view_of after) × WasBroken (calls_of (is_spent_open reply)) (view_of after)
+  mends_broken reply tried broken =
+      let s : Step = made_by moment a (Reopen (reopen_reply reply tried.0)) b in
+      (reopens reply tried, (a.seat.me.0.seen, made_if (not (is_spent_open reply)) s, released.seen ∙ tried.1.0.seen, length_made (is_spent_open reply) s, subst (λ (o : Opening). (state_after (opening o) a.seat.me.0.seen).broken ≡ true) (based _ tried.1.0) broken))
 
-      base : k.0.base ≡ w.base
-      base = ap (λ (x : View). x.base) making.1 ∙ sym (ap (λ (x : View). x.base) l.made.1)
+  pub mends : (result : Result Bool OpenCause) → MakesMended stands held moment result a b → Mends stands tells moment p.view p.number result (view_of after)
+  mends (Ok false) made =
+      let seen : a.seat.me.0.seen ≡ (view_of after).seen = sym (released.seen ∙ made.0.seen ∙ append-nil a.seat.me.0.seen) in
+      (looks stands tells table held number before after p is own a b mine making count released made.0, subst (λ (x : Opening × List Step). (state_after (opening x.0) x.1).broken ≡ false) (λ i. (based [] made.0 i, seen i)) made.1)
+  mends (Ok true) made = let m = mends_broken made.0 made.1 made.2 in (made.0, m.0, m.1, made.3)
+  mends (Err cause) made = let m = mends_broken made.0 made.1 made.2 in (made.0, m.0, m.1, made.3)
 
-  mends_none : (v w : View) (by : ℕ) (k : Me (Option S) View) (d : C) (n : Me (Option S) View) → Making v [] k.0 → has v.numbers by ≡ true → Makes stands by [] k d n → (state_seen k.0).broken ≡ false → ((u : View) (calls : List Step) → Making u calls n.0 → Left stands tells u calls w d) → w.seen ≡ n.0.seen → Mends stands tells moment v by (Ok false) w
-  mends_none v w by k d n making own makes sound leaves same = ((d, l), subst (λ (x : Opening × List Step). (state_after (opening x.0) x.1).broken ≡ false) (λ i. (base i, seen i)) sound)
-    where
-      l : Left stands tells v [] w d
-      l = leaves v [] (makes.goes_on v [] making own)
-
-      base : k.0.base ≡ w.base
-      base = ap (λ (x : View). x.base) making.1 ∙ sym (ap (λ (x : View). x.base) l.made.1)
-
-      seen : k.0.seen ≡ w.seen
-      seen = sym (same ∙ makes.seen ∙ append-nil k.0.seen)
-
-  pub mends : (result : Result Bool OpenCause) (v w : View) (by : ℕ) (k : Me (Option S) View) (d : C) (n : Me (Option S) View) → Making v [] k.0 → has v.numbers by ≡ true → MakesMended stands by (moment d) result k d n → ((u : View) (calls : List Step) → Making u calls n.0 → Left stands tells u calls w d)
-      → w.seen ≡ n.0.seen → Mends stands tells moment v by result w
-  mends (Ok false) v w by k d n making own makes leaves same = mends_none v w by k d n making own makes.0 makes.1 leaves same
-  mends (Ok true) v w by k d n making own makes leaves same = let b = mends_broken makes.0 v w by k d n making own makes.1 makes.2 makes.3 leaves same in (makes.0, b.0, b.1, makes.4)
-  mends (Err cause) v w by k d n making own makes leaves same = let b = mends_broken makes.0 v w by k d n making own makes.1 makes.2 makes.3 leaves same in (makes.0, b.0, b.1, makes.4)
-
-  -- so goes the lock of a mend
-  pub mended_on : (result : Result Bool OpenCause) (v : View) (by : ℕ) (k : Me (Option S) View) (d : C) (n : Me (Option S) View) → Making v [] k.0 → has v.numbers by ≡ true → MakesMended stands by (moment d) result k d n → (calls : List Step) × Making v calls n.0
-  mended_on (Ok false) v by k d n making own makes = ([], makes.0.goes_on v [] making own)
-  mended_on (Ok true) v by k d n making own makes = (_, makes.1.1.goes_on v [] making own)
-  mended_on (Err cause) v by k d n making own makes = (_, makes.1.1.goes_on v [] making own)
+-- what calls a mend made
+pub mend_makes : {C : Type 0} (stands : C → Opening → List Step → Type 0) (table : TableId) (moment : C → ℕ) (result : Result Bool OpenCause) (a b : Holder C) → MakesMended stands table moment result a b → (calls : List Step) × Makes stands table calls a b
+mend_makes stands table moment (Ok false) a b made = ([], made.0)
+mend_makes stands table moment (Ok true) a b made = (_, made.1.1.0)
+mend_makes stands table moment (Err cause) a b made = (_, made.1.1.0)

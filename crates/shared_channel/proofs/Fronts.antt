@@ -1,5 +1,5 @@
 -- What a pass saw is a fact of each history that begins with what it has seen.
-use Rattle.std.proofs.Common.{◌≡◌, ◌≤◌, ℕ, List, ◌++◌, length, length-append, sym, ◌∙◌, ap, append_assoc, arith}
+use Rattle.std.proofs.Common.{◌≤◌, ℕ, List, ◌++◌, length, length-append, sym, ◌∙◌, ap, append_assoc, arith}
 use mathlib.Core.List.{IsPrefix}
 use Rattle.channel_face.specs.Machine.{State}
 use Rattle.channel_face.specs.History.{Opening, Step}

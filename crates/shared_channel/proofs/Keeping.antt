@@ -149,6 +149,22 @@ agrees start all h is = record {
 pub stands_agreeing : {C : Type 0} (stands : C → Opening → List Step → Type 0) (c : C) (start : Opening) (h : List Step) → StandsCounting stands c start h → StandsAgreeing stands c start h
 stands_agreeing stands c start h k = (k.0, k.1, k.2, agrees start k.0 h k.2)
 
+-- What rollbacks of puts and of takes have in common: one that is counted closed a transaction, and the token of any other is stale.
+pub record IsRollback (rollback : Bool → Call) (IsStale : State → Type 0) : Type 0 where
+  pub counted : (ended : Bool) → is_counted (rollback ended) ≡ ended
+  pub ends : (tells : Bool) (s : State) → Admits tells s (rollback true) → length (after s (rollback true)).opened + 1 ≡ length s.opened
+  pub stale : (tells : Bool) (s : State) → Admits tells s (rollback false) → IsStale s
+
+none_of : {A : Type 0} (o : Option A) → false ≡ is_some_of o → o ≡ None
+none_of None is = refl
+none_of (Some x) is = absurd (cc)
+
+pub puts_back : (token : Token) → IsRollback (RollbackPut token) (λ s. puts_of s token ≡ None)
+puts_back token = record { counted = λ ended. refl; ends = λ tells s may. put_ends s token may; stale = λ tells s may. none_of _ may }
+
+pub takes_back : (token : Token) → IsRollback (RollbackTake token) (λ s. takes_of s token ≡ None)
+takes_back token = record { counted = λ ended. refl; ends = λ tells s may. take_ends s token may; stale = λ tells s may. none_of _ may }
+
 module _ {C : Type 0} (stands : C → Opening → List Step → Type 0) (tells : C → Bool) where
   abbrev pub Law : Type 0
   Law = (c : C) (start : Opening) (h : List Step) → stands c start h → IsRun (tells c) (opening start) h
@@ -191,39 +207,24 @@ module _ {C : Type 0} (stands : C → Opening → List Step → Type 0) (tells :
           (few_after (tells d) (state_after (opening start) h) call (answered law c d start h call moment adds k.calls) k.room.few)
 
   -- a rollback that ended a transaction
-  rolled : Law → (c d : C) (start : Opening) (h : List Step) (by : ℕ) (call : Call) (moment : ℕ) → AddsOne (stands c) (stands d) call moment → is_counted call ≡ true → length (after (state_after (opening start) h) call).opened + 1 ≡ length (state_after (opening start) h).opened → Keeps stands c start h
-      → Keeps stands d start (h ++ step by call moment ∷ [])
-  rolled law c d start h by call moment adds is ends k = record {
-    calls = counts_more c d start h by call moment adds is k.calls;
-    room = record { few = omega (arith, now, ends, k.room.few); room = omega (arith, now, ends, k.room.room, length-append h (step by call moment ∷ [])) };
-  }
-    where
-      now : length (state_after (opening start) (h ++ step by call moment ∷ [])).opened ≡ length (after (state_after (opening start) h) call).opened
-      now = ap (λ (s : State). length s.opened) (state-push (opening start) h (step by call moment))
-
-  pub rolled_put : Law → (c d : C) (start : Opening) (h : List Step) (by : ℕ) (token : Token) (moment : ℕ) → AddsOne (stands c) (stands d) (RollbackPut token true) moment → Keeps stands c start h → Keeps stands d start (h ++ step by (RollbackPut token true) moment ∷ [])
-  rolled_put law c d start h by token moment adds k = rolled law c d start h by (RollbackPut token true) moment adds refl (put_ends (state_after (opening start) h) token (answered law c d start h (RollbackPut token true) moment adds k.calls)) k
-
-  pub rolled_take : Law → (c d : C) (start : Opening) (h : List Step) (by : ℕ) (token : Token) (moment : ℕ) → AddsOne (stands c) (stands d) (RollbackTake token true) moment → Keeps stands c start h → Keeps stands d start (h ++ step by (RollbackTake token true) moment ∷ [])
-  rolled_take law c d start h by token moment adds k = rolled law c d start h by (RollbackTake token true) moment adds refl (take_ends (state_after (opening start) h) token (answered law c d start h (RollbackTake token true) moment adds k.calls)) k
+  pub rolled : Law → (rollback : Bool → Call) (IsStale : State → Type 0) → IsRollback rollback IsStale → (c d : C) (start : Opening) (h : List Step) (by moment : ℕ) → AddsOne (stands c) (stands d) (rollback true) moment → Keeps stands c start h → Keeps stands d start (h ++ step by (rollback true) moment ∷ [])
+  rolled law rollback IsStale is c d start h by moment adds k =
+      let call = rollback true in
+      let now : length (state_after (opening start) (h ++ step by call moment ∷ [])).opened ≡ length (after (state_after (opening start) h) call).opened = ap (λ (s : State). length s.opened) (state-push (opening start) h (step by call moment)) in
+      let ends = is.ends (tells d) (state_after (opening start) h) (answered law c d start h call moment adds k.calls) in
+      record {
+        calls = counts_more c d start h by call moment adds (is.counted true) k.calls;
+        room = record { few = omega (arith, now, ends, k.room.few); room = omega (arith, now, ends, k.room.room, length-append h (step by call moment ∷ [])) };
+      }
 
   -- a rollback has room
-  pub room_put : Law → (c d : C) (start : Opening) (h : List Step) (token : Token) (moment : ℕ) → AddsOne (stands c) (stands d) (RollbackPut token true) moment → Keeps stands c start h → length h + 1 < 2 ^ 64
-  room_put law c d start h token moment adds k = let e = put_ends (state_after (opening start) h) token (answered law c d start h (RollbackPut token true) moment adds k.calls) in let r = k.room.room in omega arith
-
-  pub room_take : Law → (c d : C) (start : Opening) (h : List Step) (token : Token) (moment : ℕ) → AddsOne (stands c) (stands d) (RollbackTake token true) moment → Keeps stands c start h → length h + 1 < 2 ^ 64
-  room_take law c d start h token moment adds k = let e = take_ends (state_after (opening start) h) token (answered law c d start h (RollbackTake token true) moment adds k.calls) in let r = k.room.room in omega arith
-
-  none_of : {A : Type 0} (o : Option A) → false ≡ is_some_of o → o ≡ None
-  none_of None is = refl
-  none_of (Some x) is = absurd (cc)
+  pub room : Law → (rollback : Bool → Call) (IsStale : State → Type 0) → IsRollback rollback IsStale → (c d : C) (start : Opening) (h : List Step) (moment : ℕ) → AddsOne (stands c) (stands d) (rollback true) moment → Keeps stands c start h → length h + 1 < 2 ^ 64
+  room law rollback IsStale is c d start h moment adds k = let e = is.ends (tells d) (state_after (opening start) h) (answered law c d start h (rollback true) moment adds k.calls) in let r = k.room.room in omega arith
 
   -- a rollback of a stale token
-  pub stale_put : Law → (c d : C) (start : Opening) (h : List Step) (token : Token) (moment : ℕ) → AddsOne (stands c) (stands d) (RollbackPut token false) moment → Keeps stands c start h → Keeps stands d start h × (puts_of (state_after (opening start) h) token ≡ None)
-  stale_put law c d start h token moment adds k = (record { calls = counts_none c d start h (RollbackPut token false) moment adds refl k.calls; room = k.room }, none_of _ (answered law c d start h (RollbackPut token false) moment adds k.calls))
-
-  pub stale_take : Law → (c d : C) (start : Opening) (h : List Step) (token : Token) (moment : ℕ) → AddsOne (stands c) (stands d) (RollbackTake token false) moment → Keeps stands c start h → Keeps stands d start h × (takes_of (state_after (opening start) h) token ≡ None)
-  stale_take law c d start h token moment adds k = (record { calls = counts_none c d start h (RollbackTake token false) moment adds refl k.calls; room = k.room }, none_of _ (answered law c d start h (RollbackTake token false) moment adds k.calls))
+  pub stale : Law → (rollback : Bool → Call) (IsStale : State → Type 0) → IsRollback rollback IsStale → (c d : C) (start : Opening) (h : List Step) (moment : ℕ) → AddsOne (stands c) (stands d) (rollback false) moment → Keeps stands c start h → Keeps stands d start h × IsStale (state_after (opening start) h)
+  stale law rollback IsStale is c d start h moment adds k =
+      (record { calls = counts_none c d start h (rollback false) moment adds (is.counted false) k.calls; room = k.room }, is.stale (tells d) (state_after (opening start) h) (answered law c d start h (rollback false) moment adds k.calls))
 
   pub answered_by : Law → (c d : C) (start : Opening) (h : List Step) (call : Call) (moment : ℕ) → AddsOne (stands c) (stands d) call moment → Keeps stands c start h → Admits (tells d) (state_after (opening start) h) call
   answered_by law c d start h call moment adds k = answered law c d start h call moment adds k.calls

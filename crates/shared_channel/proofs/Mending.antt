@@ -1,5 +1,5 @@
 -- What those who keep a channel call through a pass, from the calls that it makes.
-use Rattle.std.proofs.Common.{◌≡◌, ◌∙◌, ◌-◌, ◌^◌, ◌≤◌, ℕ, List, [], ◌∷◌, ◌++◌, take, length, length-append, Result, Ok, Err, Bool, true, false, refl, sym, ap, subst, arith}
+use Rattle.std.proofs.Common.{◌≡◌, ◌∙◌, ℕ, List, [], ◌∷◌, ◌++◌, take, length, length-append, Result, Ok, Err, Bool, true, false, refl, sym, ap, subst, arith}
 use Rattle.std.proofs.lemmas.List.{append-nil}
 use Rattle.std.proofs.Math.Seq.{take-append_seam}
 use Rattle.channel_face.specs.Faces.{Own, IsMade}
@@ -14,7 +14,7 @@ use Rattle.channel_lock.specs.Views.{View}
 use Rattle.shared_channel.specs.Calls.{Answers, Looks, step, state_seen}
 use Rattle.shared_channel.specs.Durables.{Mends, WasBroken, calls_of}
 use Rattle.shared_channel.specs.Ports.{Saw, Went, WentBy, own_calls, own_if, owned}
-use Rattle.shared_channel.proofs.Porting.{IsOne, begun, own_one, one_call, went_made}
+use Rattle.shared_channel.proofs.Porting.{begun, own_one, one_call, went_made}
 
 -- a list that ends with one thing, split so that one thing is after
 same_front : (a front last : List Step) (x : Step) → a ++ x ∷ [] ≡ front ++ last → length last ≡ 1 → front ≡ a

@@ -23,14 +23,16 @@ use Rattle.channel_lock.specs.Views.{View, saw}
 use Rattle.channel_lock.specs.Turns.{Making, MadeInTurn}
 use Rattle.channel_lock.proofs.Histories.{calls_by-append, nil_of}
 use Rattle.shared_channel.specs.Counting.{StandsCounting}
-use Rattle.shared_channel.specs.Passes.{Known}
+use Rattle.shared_channel.specs.Passes.{Known, known, view_of}
 use Rattle.channel_face.specs.declared.replies.OpenCause.{OpenCause}
 use Rattle.channel_face.specs.History.{reopen_reply}
 use Rattle.channel_face.specs.Machine.{Reopen}
 use Rattle.channel_face.specs.Keeps.{is_spent_open}
 use Rattle.shared_channel.specs.Durables.{Mends}
-use Rattle.shared_channel.specs.Calls.{step, state_seen, made_if, Bounds, IsIn, Answers, RolledBack}
-use Rattle.atomic_table.specs.Table.{Me}
+use Rattle.shared_channel.specs.Calls.{step, state_seen, made_if, Bounds, Answers, RolledBack}
+use Rattle.shared_channel.specs.Holding.{Holds, IsReleased}
+use Rattle.shared_channel.specs.declared.shared.Holder.{Holder}
+use Rattle.atomic_table.specs.Seated.{TableId}
 use Rattle.shared_channel.specs.Ports.{SettledBy, MakesSettled, own_if, own_calls, owned, AreOwned, AreUnder, Saw, Went, WentBy, Later, Settles, SawAll, under_then}
 
 own_if-append : (b : Bool) (o : Own) (x y : List Own) → own_if b o (x ++ y) ≡ own_if b o x ++ y
@@ -298,62 +300,70 @@ module _ {C : Type 0} (stands : C → Opening → List Step → Type 0) (tells :
 pub puts_none : (by : ℕ) (v : View) (token : Token) → WentBy by v v (λ earlier. ArePut token [])
 puts_none by v token = ([], went_none by v, refl)
 
--- what a lock's holder settling did
-pub settles : {S C : Type 0} (stands : C → Opening → List Step → Type 0) (v w : View) (by moment : ℕ) (ticket : Ticket) (sure : Bool) (k : Me (Option S) View) (c d : C) (n : Me (Option S) View) → IsIn stands k c → Making v [] k.0 → has v.numbers by ≡ true → MakesSettled stands by moment ticket sure k d n → w ≡ saw v w.seen → w.seen ≡ n.0.seen → Settles stands by v w ticket sure
-settles stands v w by moment ticket sure k c d n inside making own makes is same =
-    (more, g, (s, found (settled s ticket) makes.2, ends (settled s ticket) makes.2))
+-- what calls under one lock settled
+settled_in : {C : Type 0} (stands : C → Opening → List Step → Type 0) (v w : View) (by moment : ℕ) (ticket : Ticket) (sure : Bool) (k : View) (c : C) (es : List Step) → StandsCounting stands c k.base k.seen → Making v [] k → has v.numbers by ≡ true
+    → SettledBy (settled (state_seen k) ticket) by moment k es sure → w ≡ saw v w.seen → w.seen ≡ k.seen ++ es → Settles stands by v w ticket sure
+settled_in stands v w by moment ticket sure k c es stood making own found_by is all =
+    (more, g, (s, found (settled s ticket) found_by, ends (settled s ticket) found_by))
   where
     s : State
-    s = state_seen k.0
-
-    all : w.seen ≡ k.0.seen ++ makes.0
-    all = same ∙ makes.1.seen
+    s = state_seen k
 
     more : List Own
-    more = own_calls v.numbers s makes.0
+    more = own_calls v.numbers s es
 
     under_flush : (spent : Bool) (reply : Result (Unit {0}) FlushRefused) → AreUnder by (made_if (not spent) (step by (Flush reply) moment))
     under_flush true reply = tt
     under_flush false reply = (refl, tt)
 
-    under : (a : Settled) → SettledBy a by moment k.0 makes.0 sure → AreUnder by makes.0
+    under : (a : Settled) → SettledBy a by moment k es sure → AreUnder by es
     under Yes h = subst (AreUnder by) (sym h.0) tt
     under No h = subst (AreUnder by) (sym h.1) (under_flush (is_spent_flush h.0) h.0)
     under InDoubt h = subst (AreUnder by) (sym h.0) tt
 
     g : Went by v w more
-    g = went_turn by v k.0 w makes.0 making is all (under (settled s ticket) makes.2)
+    g = went_turn by v k w es making is all (under (settled s ticket) found_by)
 
-    base : w.base ≡ k.0.base
+    base : w.base ≡ k.base
     base = ap (λ (x : View). x.base) is ∙ sym (ap (λ (x : View). x.base) making.1)
 
-    here : makes.0 ≡ [] → Saw stands w (owned v) s
+    here : es ≡ [] → Saw stands w (owned v) s
     here none =
-        let seen : w.seen ≡ k.0.seen = all ∙ ap (λ (l : List Step). k.0.seen ++ l) none ∙ append-nil k.0.seen in
+        let seen : w.seen ≡ k.seen = all ∙ ap (λ (l : List Step). k.seen ++ l) none ∙ append-nil k.seen in
         record {
           channel = c;
-          calls = subst (λ (o : Opening). StandsCounting stands c o w.seen) (sym base) (subst (λ (l : List Step). StandsCounting stands c k.0.base l) (sym seen) inside.3.calls);
+          calls = subst (λ (o : Opening). StandsCounting stands c o w.seen) (sym base) (subst (λ (l : List Step). StandsCounting stands c k.base l) (sym seen) stood);
           own_all = g.owned ∙ ap (λ (l : List Step). owned v ++ own_calls v.numbers s l) none ∙ append-nil (owned v);
           state = λ i. state_after (opening (base i)) (seen i);
         }
 
-    without : makes.0 ≡ [] → IsFound (Saw stands w) (owned v) more s
+    without : es ≡ [] → IsFound (Saw stands w) (owned v) more s
     without none = subst (λ (l : List Step). IsFound (Saw stands w) (owned v) (own_calls v.numbers s l) s) (sym none) (here none)
 
-    with_flush : (spent : Bool) (reply : Result (Unit {0}) FlushRefused) → makes.0 ≡ made_if (not spent) (step by (Flush reply) moment) → IsFound (Saw stands w) (owned v) more s
-    with_flush true reply calls = without calls
-    with_flush false reply calls = subst (λ (l : List Own). IsFound (Saw stands w) (owned v) l s) (sym (ap (own_calls v.numbers s) calls ∙ ap (λ b. own_if b (record { call = Flush reply; before = s; moment = moment }) []) own)) refl
+    with_flush : (spent : Bool) (reply : Result (Unit {0}) FlushRefused) → es ≡ made_if (not spent) (step by (Flush reply) moment) → IsFound (Saw stands w) (owned v) more s
+    with_flush true reply made = without made
+    with_flush false reply made = subst (λ (l : List Own). IsFound (Saw stands w) (owned v) l s) (sym (ap (own_calls v.numbers s) made ∙ ap (λ b. own_if b (record { call = Flush reply; before = s; moment = moment }) []) own)) refl
 
-    found : (a : Settled) → SettledBy a by moment k.0 makes.0 sure → IsFound (Saw stands w) (owned v) more s
+    found : (a : Settled) → SettledBy a by moment k es sure → IsFound (Saw stands w) (owned v) more s
     found Yes h = without h.0
     found No h = with_flush (is_spent_flush h.0) h.0 h.1
     found InDoubt h = without h.0
 
-    flushed : (spent : Bool) (reply : Result (Unit {0}) FlushRefused) → makes.0 ≡ made_if (not spent) (step by (Flush reply) moment) → Bounds spent (2 ^ 64 - 1025) (length k.0.seen) → IsMade (length w.seen) spent (Flush reply) s more
-    flushed true reply calls bound = (ap (own_calls v.numbers s) calls, let l = ap length all in omega (arith, length-append k.0.seen makes.0))
-    flushed false reply calls bound = (moment, ap (own_calls v.numbers s) calls ∙ ap (λ b. own_if b (record { call = Flush reply; before = s; moment = moment }) []) own)
+    flushed : (spent : Bool) (reply : Result (Unit {0}) FlushRefused) → es ≡ made_if (not spent) (step by (Flush reply) moment) → Bounds spent (2 ^ 64 - 1025) (length k.seen) → IsMade (length w.seen) spent (Flush reply) s more
+    flushed true reply made bound = (ap (own_calls v.numbers s) made, let l = ap length all in omega (arith, length-append k.seen es))
+    flushed false reply made bound = (moment, ap (own_calls v.numbers s) made ∙ ap (λ b. own_if b (record { call = Flush reply; before = s; moment = moment }) []) own)
 
-    ends : (a : Settled) → SettledBy a by moment k.0 makes.0 sure → EndsAs (length w.seen) s a more sure
+    ends : (a : Settled) → SettledBy a by moment k es sure → EndsAs (length w.seen) s a more sure
     ends Yes h = (ap (own_calls v.numbers s) h.0, h.1)
     ends No h = (h.0, flushed (is_spent_flush h.0) h.0 h.1 h.2, h.3)
     ends InDoubt h = (ap (own_calls v.numbers s) h.0, h.1)
+
+-- what the one who holds the lock did to settle a ticket
+pub settles : {C : Type 0} (stands : C → Opening → List Step → Type 0) (tells : C → Bool) (table held : TableId) (number : ℕ) (before after : List View) (p : Known) → known table number before ≡ p → has (view_of before).numbers number ≡ true → (a b : Holder C) → a.by ≡ number → Making (view_of before) [] a.seat.me.0
+    → (count : ℕ) → IsReleased stands tells b after count → Holds stands held a → (moment : C → ℕ) (ticket : Ticket) (sure : Bool) → MakesSettled stands held moment ticket sure a b → Settles stands p.number p.view (view_of after) ticket sure
+settles stands tells table held number before after p is own a b mine making count released holds moment ticket sure makes =
+    subst (λ (k : Known). Settles stands k.number k.view (view_of after) ticket sure) is (subst (λ (n : ℕ). Settles stands n (view_of before) (view_of after) ticket sure) mine
+    (settled_in stands (view_of before) (view_of after) a.by (moment b.home.channel) ticket sure a.seat.me.0 a.home.channel makes.0 holds.1.3.calls making theirs makes.2 (released.saw (view_of before) _ (makes.1.goes_on (view_of before) [] making theirs)) (released.seen ∙ makes.1.seen)))
+  where
+    theirs : has (view_of before).numbers a.by ≡ true
+    theirs = ap (has (view_of before).numbers) mine ∙ own

@@ -1,165 +1,236 @@
 -- What one lock tells, call by call.
-use Rattle.std.proofs.Common.{◌≡◌, ◌<◌, ◌≤◌, ◌-◌, ◌^◌, ◌||◌, max, get_or, ℕ, zero, suc, Result, List, [], ◌∷◌, ◌++◌, length, length-append, append_assoc, Option, Bool, true, false, not, ⊎_elim, refl, sym, ◌∙◌, ap, subst, arith}
+use Rattle.std.proofs.Common.{◌≡◌, ◌<◌, ◌≤◌, ◌-◌, ◌^◌, ◌||◌, ◌+◌, max, get_or, ℕ, zero, suc, Result, List, [], ◌∷◌, ◌++◌, length, length-append, append_assoc, Bool, true, false, not, ⊎_elim, refl, sym, ◌∙◌, ap, subst, inl, inr, Ok, Err, arith}
 use Rattle.std.proofs.lemmas.List.{append-nil}
-use Rattle.atomic_table.specs.Table.{Me}
+use Rattle.atomic_table.specs.Seated.{TableId}
 use Rattle.channel_face.specs.Token.{Token}
-use Rattle.channel_face.specs.Machine.{State, Call}
+use Rattle.channel_face.specs.Machine.{State, Call, Flush, Admits}
+use Rattle.channel_face.specs.Calls.{flushed}
+use Rattle.channel_face.specs.Faces.{is_spent_flush, is_spent_stage}
 use Rattle.channel_face.specs.History.{Opening, Step, Said, AddsOne, by_pass, opening, state_after}
+use Rattle.channel_face.specs.declared.replies.FlushRefused.{FlushRefused}
 use Rattle.channel_face.specs.declared.replies.Ticket.{Ticket}
 use Rattle.channel_face.specs.declared.replies.StageCause.{StageCause}
 use Rattle.channel_face.specs.declared.replies.CommitRefused.{CommitRefused}
+use Rattle.channel_face.specs.declared.replies.CommitRefused.TheVariants.{Stage}
 use Rattle.channel_lock.specs.Calls.{has, calls_by, Below}
 use Rattle.channel_lock.specs.Views.{View, idle, with_call, saw, longer, both, joined}
 use Rattle.channel_lock.proofs.Histories.{has_left, has-append, all_own, below_front'}
 use Rattle.std.proofs.lemmas.Bool.{cases_lt}
 use Rattle.channel_lock.specs.Turns.{Making, MadeInTurn, HasAll}
 use Rattle.shared_channel.specs.Counting.{StandsCounting, Keeps, is_counted}
-use Rattle.shared_channel.specs.Calls.{step, made_if, Bounds, IsIn, Makes, Left, Answers, RolledBack, Looks, Commits, MakesCommit, is_spent_commit, state_seen}
+use Rattle.shared_channel.specs.Calls.{step, made_if, Bounds, Left, Answers, RolledBack, Looks, Commits, state_seen}
+use Rattle.shared_channel.specs.Holding.{Holds, IsReleased, Makes, MakesCommit, Rolls, Tries, made_by}
+use Rattle.shared_channel.specs.declared.shared.Holder.{Holder}
 use Rattle.std.specs.List.{All}
 use Rattle.std.proofs.lemmas.List.Elements.{All-push}
-use Rattle.atomic_table.specs.Seated.{TableId}
-use Rattle.shared_channel.specs.Passes.{Known, new_pass, new_passes, view_of, AreMarks, IsPass}
-use Rattle.shared_channel.proofs.Keeping.{Law, TellsAsOpened, kept_run, keeps_more}
+use Rattle.shared_channel.specs.Passes.{Known, known, new_pass, new_passes, view_of, AreMarks, IsPass}
+use Rattle.shared_channel.proofs.Keeping.{IsRollback, Law, TellsAsOpened, answered_by, kept_run, keeps_more, rolled, room, stale}
 
 -- while fewer calls were counted, none is spent
 pub unspent : (spent : Bool) (most calls : ℕ) → Bounds spent most calls → calls < most → spent ≡ false
 unspent true most calls bound below = absurd (omega arith)
 unspent false most calls bound below = refl
 
-module _ {S C : Type 0} (stands : C → Opening → List Step → Type 0) (tells : C → Bool) where
+module _ {C : Type 0} (stands : C → Opening → List Step → Type 0) (tells : C → Bool) (table : TableId) where
   -- no call was made
-  pub makes_none : (by : ℕ) (m : Me (Option S) View) (c : C) → IsIn stands m c → Makes stands by [] m c m
-  makes_none by m c inside = record {
-    within = inside;
-    seen = sym (append-nil m.0.seen);
-    numbers = refl;
-    goes_on = λ v es making own. subst (λ (l : List Step). Making v l m.0) (sym (append-nil es)) making;
+  pub makes_none : (h : Holder C) → Holds stands table h → Makes stands table [] h h
+  makes_none h holds = record {
+    holds = holds;
+    by = refl;
+    seen = sym (append-nil h.seat.me.0.seen);
+    goes_on = λ v es making own. subst (λ (l : List Step). Making v l h.seat.me.0) (sym (append-nil es)) making;
   }
 
   -- a call was made and counted
-  pub makes_kept : (s : Step) (m w : Me (Option S) View) (c d : C) → IsIn stands m c → Keeps stands d m.0.base (m.0.seen ++ s ∷ []) → w ≡ (with_call s m.0, m.1) → ((v : View) (es : List Step) → Making v es m.0 → has v.numbers s.pass ≡ true → Making v (es ++ s ∷ []) w.0)
-      → Makes stands s.pass (s ∷ []) m d w
-  makes_kept s m w c d inside keeps is goes = record {
-    within = subst (λ (x : Me (Option S) View). IsIn stands x d) (sym is) (inside.0, inside.1, inside.2, keeps);
-    seen = ap (λ (x : Me (Option S) View). x.0.seen) is;
-    numbers = ap (λ (x : Me (Option S) View). x.0.numbers) is;
+  pub makes_kept : (s : Step) (old new : Holder C) → Holds stands table old → Keeps stands new.home.channel old.seat.me.0.base (old.seat.me.0.seen ++ s ∷ []) → new.seat.table_id ≡ old.seat.table_id → new.by ≡ old.by → new.calls ≡ old.calls + 1
+      → new.seat.me ≡ (with_call s old.seat.me.0, old.seat.me.1) → ((v : View) (es : List Step) → Making v es old.seat.me.0 → has v.numbers old.by ≡ true → Making v (es ++ s ∷ []) new.seat.me.0) → Makes stands table (s ∷ []) old new
+  makes_kept s old new holds keeps same by more is goes = record {
+    holds = (
+      same ∙ holds.0,
+      (ap (λ m. m.0.turn) is ∙ holds.1.0, ap (λ m. m.0.live) is ∙ holds.1.1, ap (λ m. m.1) is ∙ holds.1.2, subst (λ (x : Opening × List Step). Keeps stands new.home.channel x.0 x.1) (λ i. (sym (ap (λ m. m.0.base) is) i, sym (ap (λ m. m.0.seen) is) i)) keeps),
+      (λ i. has (ap (λ m. m.0.numbers) is i) (by i)) ∙ holds.2,
+      let l = ap (λ m. length m.0.seen) is in let c = holds.3 in omega (arith, c, more, l, length-append old.seat.me.0.seen (s ∷ [])),
+    );
+    by = by;
+    seen = ap (λ m. m.0.seen) is;
     goes_on = goes;
   }
 
-  pub makes_one : Law stands tells → (by : ℕ) (call : Call) (moment : ℕ) (m w : Me (Option S) View) (c d : C) → IsIn stands m c → AddsOne (stands c) (stands d) call moment → is_counted call ≡ true → length m.0.seen < 2 ^ 64 - 1025 → w ≡ (with_call (step by call moment) m.0, m.1)
-      → ((v : View) (es : List Step) → Making v es m.0 → has v.numbers by ≡ true → Making v (es ++ step by call moment ∷ []) w.0) → (made : Bool) → made ≡ true → Makes stands by (made_if made (step by call moment)) m d w
-  makes_one law by call moment m w c d inside adds is below new goes made made_is = subst (λ (b : Bool). Makes stands by (made_if b (step by call moment)) m d w) (sym made_is)
-      (makes_kept (step by call moment) m w c d inside (keeps_more stands tells law c d m.0.base m.0.seen by call moment adds is (omega arith) inside.3) new goes)
-
   -- calls after calls
-  pub makes_then : (by : ℕ) (x y : List Step) (m n w : Me (Option S) View) (c d : C) → Makes stands by x m c n → Makes stands by y n d w → Makes stands by (x ++ y) m d w
-  makes_then by x y m n w c d f h = record {
-    within = h.within;
-    seen = h.seen ∙ ap (λ (l : List Step). l ++ y) f.seen ∙ append_assoc m.0.seen x y;
-    numbers = h.numbers ∙ f.numbers;
-    goes_on = λ v es making own. subst (λ (l : List Step). Making v l w.0) (append_assoc es x y) (h.goes_on v (es ++ x) (f.goes_on v es making own) own);
+  pub makes_then : (x y : List Step) (a b c : Holder C) → Makes stands table x a b → Makes stands table y b c → Makes stands table (x ++ y) a c
+  makes_then x y a b c f h = record {
+    holds = h.holds;
+    by = h.by ∙ f.by;
+    seen = h.seen ∙ ap (λ (l : List Step). l ++ y) f.seen ∙ append_assoc a.seat.me.0.seen x y;
+    goes_on = λ v es making own. subst (λ (l : List Step). Making v l c.seat.me.0) (append_assoc es x y) (h.goes_on v (es ++ x) (f.goes_on v es making own) (ap (has v.numbers) f.by ∙ own));
   }
 
-module _ {C : Type 0} (stands : C → Opening → List Step → Type 0) (tells : C → Bool) where
-  -- the lock is released
-  pub left : Law stands tells → TellsAsOpened stands tells → (c : C) (v k w : View) (calls : List Step) → Keeps stands c k.base k.seen → MadeInTurn v calls w → w ≡ idle k → Left stands tells v calls w c
-  left law told c v k w calls keeps made is =
-      let seen : StandsCounting stands c w.base w.seen = subst (λ (x : View). StandsCounting stands c x.base x.seen) (sym is) keeps.calls in
-      record { made = made; seen = record { calls = seen; run = kept_run stands tells law c w.base w.seen seen; same = told c w.base seen.0 seen.1 } }
+  module _ (moment : C → ℕ) where
+    -- no more calls are counted
+    pub tries_none : (h : Holder C) → Holds stands table h → 2 ^ 64 - 1025 ≤ h.calls → Makes stands table [] h h × Bounds true (2 ^ 64 - 1025) (length h.seat.me.0.seen)
+    tries_none h holds many = (makes_none h holds, let c = holds.3 in omega arith)
 
-  -- one lock with one call, which may have been spent
-  pub answers : {S : Type 0} (moment : C → ℕ) (spent : Bool) (v w : View) (by : ℕ) (call : Call) (k : Me (Option S) View) (d : C) (n : Me (Option S) View) → Making v [] k.0 → has v.numbers by ≡ true → Makes stands by (made_if (not spent) (step by call (moment d))) k d n → Bounds spent (2 ^ 64 - 1025) (length k.0.seen)
-      → ((u : View) (calls : List Step) → Making u calls n.0 → Left stands tells u calls w d) → w.seen ≡ n.0.seen → Answers stands tells moment spent v by call w
-  answers moment true v w by call k d n making own makes bound leaves same =
-      let l : Left stands tells v [] w d = leaves v [] (makes.goes_on v [] making own) in
-      let q : length w.seen ≡ length k.0.seen = ap length (same ∙ makes.seen ∙ append-nil k.0.seen) in
-      ((d, l), omega arith)
-  answers moment false v w by call k d n making own makes bound leaves same =
-      let q : length w.seen ≡ length (k.0.seen ++ step by call (moment d) ∷ []) = ap length (same ∙ makes.seen) in
-      ((d, leaves v (step by call (moment d) ∷ []) (makes.goes_on v [] making own)), omega (arith, length-append k.0.seen (step by call (moment d) ∷ [])))
+    -- a call was made, of which it is known what the channel keeps
+    pub tries_kept : (call : Call) (spent : Bool) (old new : Holder C) → Holds stands table old → Keeps stands new.home.channel old.seat.me.0.base (old.seat.me.0.seen ++ made_by moment old call new ∷ []) → spent ≡ false → old.calls < 2 ^ 64 - 1025 → new.seat.table_id ≡ old.seat.table_id → new.by ≡ old.by → new.calls ≡ old.calls + 1
+        → new.seat.me ≡ (with_call (made_by moment old call new) old.seat.me.0, old.seat.me.1) → ((v : View) (es : List Step) → Making v es old.seat.me.0 → has v.numbers old.by ≡ true → Making v (es ++ made_by moment old call new ∷ []) new.seat.me.0)
+        → Tries stands table moment spent call old new
+    tries_kept call spent old new holds keeps sure below same by more is goes =
+        subst (λ (b : Bool). Tries stands table moment b call old new) (sym sure) (makes_kept (made_by moment old call new) old new holds keeps same by more is goes, (let c = holds.3 in omega arith))
+
+    -- a call was made, and the machine refuses none because no more are counted
+    pub tries_one : Law stands tells → (call : Call) (spent : Bool) (old new : Holder C) → Holds stands table old → AddsOne (stands old.home.channel) (stands new.home.channel) call (moment new.home.channel) → is_counted call ≡ true
+        → (Admits (tells new.home.channel) (state_seen old.seat.me.0) call → spent ≡ false) → old.calls < 2 ^ 64 - 1025 → new.seat.table_id ≡ old.seat.table_id → new.by ≡ old.by → new.calls ≡ old.calls + 1
+        → new.seat.me ≡ (with_call (made_by moment old call new) old.seat.me.0, old.seat.me.1) → ((v : View) (es : List Step) → Making v es old.seat.me.0 → has v.numbers old.by ≡ true → Making v (es ++ made_by moment old call new ∷ []) new.seat.me.0)
+        → Tries stands table moment spent call old new
+    tries_one law call spent old new holds adds counted never below same by more is goes =
+        let k = old.seat.me.0 in
+        tries_kept call spent old new holds
+        (keeps_more stands tells law old.home.channel new.home.channel k.base k.seen old.by call (moment new.home.channel) adds counted (let c = holds.3 in omega arith) holds.1.3)
+        (never (answered_by stands tells law old.home.channel new.home.channel k.base k.seen call (moment new.home.channel) adds holds.1.3)) below same by more is goes
+
+    module _ (law : Law stands tells) {rollback : Bool → Call} {IsStale : State → Type 0} (is : IsRollback rollback IsStale) (h : Holder C) (holds : Holds stands table h) (d : C) (ended : Bool) (adds : AddsOne (stands h.home.channel) (stands d) (rollback ended) (moment d)) where
+      -- a rollback has room
+      pub rolls_room : ended ≡ true → length h.seat.me.0.seen + 1 < 2 ^ 64
+      rolls_room so = room stands tells law rollback IsStale is h.home.channel d h.seat.me.0.base h.seat.me.0.seen (moment d) (subst (λ (b : Bool). AddsOne (stands h.home.channel) (stands d) (rollback b) (moment d)) so adds) holds.1.3
+
+      -- a rollback of a stale token is not counted
+      pub rolls_none : ended ≡ false → Makes stands table [] h (record { seat = h.seat; home = record { channel = d }; by = h.by; calls = h.calls }) × IsStale (state_seen h.seat.me.0)
+      rolls_none so =
+          let s = stale stands tells law rollback IsStale is h.home.channel d h.seat.me.0.base h.seat.me.0.seen (moment d) (subst (λ (b : Bool). AddsOne (stands h.home.channel) (stands d) (rollback b) (moment d)) so adds) holds.1.3 in (
+            record {
+              holds = (holds.0, (holds.1.0, holds.1.1, holds.1.2, s.0), holds.2, holds.3);
+              by = refl;
+              seen = sym (append-nil h.seat.me.0.seen);
+              goes_on = λ v es making own. subst (λ (l : List Step). Making v l h.seat.me.0) (sym (append-nil es)) making;
+            },
+            s.1,
+          )
+
+      -- each other one is
+      pub rolls_one : ended ≡ true → Keeps stands d h.seat.me.0.base (h.seat.me.0.seen ++ step h.by (rollback true) (moment d) ∷ [])
+      rolls_one so = rolled stands tells law rollback IsStale is h.home.channel d h.seat.me.0.base h.seat.me.0.seen h.by (moment d) (subst (λ (b : Bool). AddsOne (stands h.home.channel) (stands d) (rollback b) (moment d)) so adds) holds.1.3
+
+    module _ (stage : Result Ticket StageCause → Call) (token : Token) where
+      -- a commit whose stage was refused
+      pub commit_unstaged : (cause : StageCause) (other : Token) (a b : Holder C) → Holds stands table a → a.calls < 2 ^ 64 - 1026 → Tries stands table moment (is_spent_stage (Err cause)) (stage (Err cause)) a b → other ≡ token
+          → MakesCommit stands table (is_spent_stage (Err cause)) stage token (Err (Stage (record { txn = other; cause = cause }))) a b
+      commit_unstaged cause other a b holds below staged same = by_spent (is_spent_stage (Err cause)) (unspent (is_spent_stage (Err cause)) (2 ^ 64 - 1025) (length a.seat.me.0.seen) staged.1 (omega (arith, few))) staged
+        where
+          few : length a.seat.me.0.seen < 2 ^ 64 - 1026
+          few = let c = holds.3 in omega arith
+
+          by_spent : (s : Bool) → s ≡ false → Tries stands table moment s (stage (Err cause)) a b → MakesCommit stands table s stage token (Err (Stage (record { txn = other; cause = cause }))) a b
+          by_spent true is t = absurd (cc)
+          by_spent false is t = (record { call = stage (Err cause); moment = moment b.home.channel } ∷ [], t.0, inl (cause, refl, ap (λ (k : Token). Err (Stage (record { txn = k; cause = cause }))) same), few)
+
+      -- a commit whose flush was tried
+      pub commit_flushed : (ticket : Ticket) (reply : Result (Unit {0}) FlushRefused) (a b c : Holder C) → Holds stands table a → a.calls < 2 ^ 64 - 1026 → Tries stands table moment false (stage (Ok ticket)) a b → Tries stands table moment (is_spent_flush reply) (Flush reply) b c
+          → MakesCommit stands table false stage token (flushed reply ticket) a c
+      commit_flushed ticket reply a b c holds below staged tried = by_spent (is_spent_flush reply) (unspent (is_spent_flush reply) (2 ^ 64 - 1025) (length b.seat.me.0.seen) tried.1 (let l = ap length staged.0.seen in omega (arith, few, length-append a.seat.me.0.seen (made_by moment a (stage (Ok ticket)) b ∷ [])))) tried.0
+        where
+          few : length a.seat.me.0.seen < 2 ^ 64 - 1026
+          few = let c = holds.3 in omega arith
+
+          own : List Said
+          own = record { call = stage (Ok ticket); moment = moment b.home.channel } ∷ record { call = Flush reply; moment = moment c.home.channel } ∷ []
+
+          by_spent : (s : Bool) → s ≡ false → Makes stands table (made_if (not s) (made_by moment b (Flush reply) c)) b c → MakesCommit stands table false stage token (flushed reply ticket) a c
+          by_spent true is m = absurd (cc)
+          by_spent false is m =
+              (own, subst (λ (n : ℕ). Makes stands table (made_by moment a (stage (Ok ticket)) b ∷ step n (Flush reply) (moment c.home.channel) ∷ []) a c) staged.0.by (makes_then (made_by moment a (stage (Ok ticket)) b ∷ []) (made_by moment b (Flush reply) c ∷ []) a b c staged.0 m), inr (ticket, reply, refl, refl), few)
+
+      -- what calls a commit made
+      pub commit_makes : (spent : Bool) (result : Result Ticket (CommitRefused Token)) (a b : Holder C) → MakesCommit stands table spent stage token result a b → (calls : List Step) × Makes stands table calls a b
+      commit_makes true result a b m = ([], m.0)
+      commit_makes false result a b m = (by_pass a.by m.0, m.1)
+
+-- the lock is released
+pub left : {C : Type 0} (stands : C → Opening → List Step → Type 0) (tells : C → Bool) → Law stands tells → TellsAsOpened stands tells → (c : C) (v k w : View) (calls : List Step) → Keeps stands c k.base k.seen → MadeInTurn v calls w → w ≡ idle k → Left stands tells v calls w c
+left stands tells law told c v k w calls keeps made is =
+    let seen : StandsCounting stands c w.base w.seen = subst (λ (x : View). StandsCounting stands c x.base x.seen) (sym is) keeps.calls in
+    record { made = made; seen = record { calls = seen; run = kept_run stands tells law c w.base w.seen seen; same = told c w.base seen.0 seen.1 } }
 
 length-by_pass : (by : ℕ) (own : List Said) → length (by_pass by own) ≡ length own
 length-by_pass by [] = refl
 length-by_pass by (s ∷ own) = ap suc (length-by_pass by own)
 
-module _ {S C : Type 0} (stands : C → Opening → List Step → Type 0) (tells : C → Bool) where
-  -- one lock with a rollback
-  pub rolled_back : (moment : C → ℕ) (ended : Bool) (v w : View) (by : ℕ) (call : Call) (IsStale : State → Type 0) (k : Me (Option S) View) (d : C) (n : Me (Option S) View) → Making v [] k.0 → has v.numbers by ≡ true → Makes stands by (made_if ended (step by call (moment d))) k d n
-      → (ended ≡ false → IsStale (state_seen n.0)) → ((u : View) (calls : List Step) → Making u calls n.0 → Left stands tells u calls w d) → w.seen ≡ n.0.seen → RolledBack stands tells moment ended v by call IsStale w
-  rolled_back moment true v w by call IsStale k d n making own makes stale leaves same = (d, leaves v (step by call (moment d) ∷ []) (makes.goes_on v [] making own))
-  rolled_back moment false v w by call IsStale k d n making own makes stale leaves same =
-      let inside : Making v [] n.0 = makes.goes_on v [] making own in
-      let l : Left stands tells v [] w d = leaves v [] inside in
-      let base : n.0.base ≡ w.base = ap (λ (x : View). x.base) inside.1 ∙ sym (ap (λ (x : View). x.base) l.made.1) in
-      ((d, l), subst IsStale (λ i. state_after (opening (base i)) (sym same i)) (stale refl))
+-- From the pass before a lock to its views after it: what its number's calls were under the lock, it did.
+module _ {C : Type 0} (stands : C → Opening → List Step → Type 0) (tells : C → Bool) (table held : TableId) (number : ℕ) (before after : List View) (p : Known) (is : known table number before ≡ p) (own : has (view_of before).numbers number ≡ true)
+    (a b : Holder C) (mine : a.by ≡ number) (making : Making (view_of before) [] a.seat.me.0) (count : ℕ) (released : IsReleased stands tells b after count) where
+  view_is : view_of before ≡ p.view
+  view_is = ap (λ (k : Known). k.view) is
 
-  -- one lock without a call
-  pub looks : (v w : View) (k : Me (Option S) View) (d : C) → Making v [] k.0 → ((u : View) (calls : List Step) → Making u calls k.0 → Left stands tells u calls w d) → Looks stands tells v w
-  looks v w k d making leaves = (d, leaves v [] making)
+  number_is : a.by ≡ p.number
+  number_is = mine ∙ ap (λ (k : Known). k.number) is
 
-  -- one lock with a commit
-  pub commits : (v w : View) (by : ℕ) (stage : Result Ticket StageCause → Call) (token : Token) (result : Result Ticket (CommitRefused Token)) (k : Me (Option S) View) (d : C) (n : Me (Option S) View) → Making v [] k.0 → has v.numbers by ≡ true → MakesCommit stands (is_spent_commit result) by stage token result k d n
-      → ((u : View) (calls : List Step) → Making u calls n.0 → Left stands tells u calls w d) → w.seen ≡ n.0.seen → Commits stands tells (is_spent_commit result) v by stage token result w
-  commits v w by stage token result k d n making own makes leaves same = by_spent (is_spent_commit result) makes
+  theirs : has (view_of before).numbers a.by ≡ true
+  theirs = ap (has (view_of before).numbers) mine ∙ own
+
+  -- so the pass was left
+  pub gone : (es : List Step) → Makes stands held es a b → Left stands tells p.view es (view_of after) b.home.channel
+  gone es makes = subst (λ (v : View). Left stands tells v es (view_of after) b.home.channel) view_is (released.left (view_of before) es (makes.goes_on (view_of before) [] making theirs))
+
+  -- what was so with the lock is so once it is over
+  pub shown : (P : Opening → List Step → Type 0) → Makes stands held [] a b → P b.seat.me.0.base b.seat.me.0.seen → P (view_of after).base (view_of after).seen
+  shown P makes holds =
+      let m : Making (view_of before) [] b.seat.me.0 = makes.goes_on (view_of before) [] making theirs in
+      let base : b.seat.me.0.base ≡ (view_of after).base = ap (λ (x : View). x.base) m.1 ∙ sym (ap (λ (x : View). x.base) (released.saw (view_of before) [] m)) in
+      subst (λ (x : Opening × List Step). P x.0 x.1) (λ i. (base i, sym released.seen i)) holds
+
+  -- nothing was called
+  pub looks : Makes stands held [] a b → Looks stands tells p.view (view_of after)
+  looks makes = (b.home.channel, gone [] makes)
+
+  -- under the pass's number
+  renumbered : (call : Call) (moment : ℕ) → Left stands tells p.view (step a.by call moment ∷ []) (view_of after) b.home.channel → Left stands tells p.view (step p.number call moment ∷ []) (view_of after) b.home.channel
+  renumbered call moment l = subst (λ (n : ℕ). Left stands tells p.view (step n call moment ∷ []) (view_of after) b.home.channel) number_is l
+
+  module _ (moment : C → ℕ) where
+    -- a call, which may have been spent
+    pub answers : (spent : Bool) (call : Call) → Tries stands held moment spent call a b → Answers stands tells moment spent p.view p.number call (view_of after)
+    answers true call tried = (looks tried.0, let l = ap length (released.seen ∙ tried.0.seen ∙ append-nil a.seat.me.0.seen) in let most = tried.1 in omega arith)
+    answers false call tried =
+        let l = ap length (released.seen ∙ tried.0.seen) in
+        let few = tried.1 in
+        ((b.home.channel, renumbered call (moment b.home.channel) (gone _ tried.0)), omega (arith, l, length-append a.seat.me.0.seen (made_by moment a call b ∷ [])))
+
+    -- a rollback
+    pub rolled_back : (ended : Bool) (call : Call) (IsStale : State → Type 0) → Rolls stands held moment ended call IsStale a b → RolledBack stands tells moment ended p.view p.number call IsStale (view_of after)
+    rolled_back true call IsStale rolls = (b.home.channel, renumbered call (moment b.home.channel) (gone _ rolls.0))
+    rolled_back false call IsStale rolls = (looks rolls.0, shown (λ o h. IsStale (state_after (opening o) h)) rolls.0 (rolls.1 refl))
+
+  -- a commit
+  pub commits : (spent : Bool) (stage : Result Ticket StageCause → Call) (token : Token) (result : Result Ticket (CommitRefused Token)) → MakesCommit stands held spent stage token result a b → Commits stands tells spent p.view p.number stage token result (view_of after)
+  commits true stage token result m = (looks m.0, (let l = ap length (released.seen ∙ m.0.seen ∙ append-nil a.seat.me.0.seen) in let most = m.1 in omega arith), m.2)
+  commits false stage token result m =
+      let l = ap length (released.seen ∙ m.1.seen) in
+      let few = m.3 in
+      (m.0, b.home.channel, subst (λ (n : ℕ). Left stands tells p.view (by_pass n m.0) (view_of after) b.home.channel) number_is (gone _ m.1), m.2, omega (arith, l, few, length-append a.seat.me.0.seen (by_pass a.by m.0), length-by_pass a.by m.0))
+
+  -- what holds of the pass holds again
+  pub pass_kept : (es : List Step) (calls : ℕ) (marks : List Bool) → IsPass before number calls marks → Makes stands held es a b → IsPass after number count marks
+  pass_kept es calls marks pass makes = (
+    (released.one, ap (λ (x : View). x.turn) same, ap (λ (x : View). x.live) same ∙ pass.0.2, ap (λ (ns : List ℕ). has ns number) numbers ∙ own),
+    released.calls,
+    subst (λ (ns : List ℕ). AreMarks ns marks) (sym numbers) pass.2,
+    (λ n h. subst (λ (k : ℕ). n < k) (sym passes) (pass.3 n (subst (λ (ns : List ℕ). has ns n ≡ true) numbers h))),
+    pass.4 ∙ sym passes,
+  )
     where
-      by_spent : (spent : Bool) → MakesCommit stands spent by stage token result k d n → Commits stands tells spent v by stage token result w
-      by_spent true m =
-          let l : Left stands tells v [] w d = leaves v [] (m.0.goes_on v [] making own) in
-          let q : length w.seen ≡ length k.0.seen = ap length (same ∙ m.0.seen ∙ append-nil k.0.seen) in
-          ((d, l), let b = m.1 in omega arith, m.2)
-      by_spent false m =
-          let q : length w.seen ≡ length (k.0.seen ++ by_pass by m.0) = ap length (same ∙ m.1.seen) in
-          (m.0, d, leaves v (by_pass by m.0) (m.1.goes_on v [] making own), m.2, let b = m.3 in omega (arith, length-append k.0.seen (by_pass by m.0), length-by_pass by m.0))
+      same : view_of after ≡ saw (view_of before) (view_of after).seen
+      same = released.saw (view_of before) es (makes.goes_on (view_of before) [] making theirs)
 
-module _ {S C : Type 0} (stands : C → Opening → List Step → Type 0) (tells : C → Bool) where
-  -- so goes the lock of a commit
-  pub committed_on : (v : View) (by : ℕ) (stage : Result Ticket StageCause → Call) (token : Token) (result : Result Ticket (CommitRefused Token)) (k : Me (Option S) View) (d : C) (n : Me (Option S) View) → Making v [] k.0 → has v.numbers by ≡ true → MakesCommit stands (is_spent_commit result) by stage token result k d n → (calls : List Step) × Making v calls n.0
-  committed_on v by stage token result k d n making own makes = by_spent (is_spent_commit result) makes
-    where
-      by_spent : (spent : Bool) → MakesCommit stands spent by stage token result k d n → (calls : List Step) × Making v calls n.0
-      by_spent true m = ([], m.0.goes_on v [] making own)
-      by_spent false m = (by_pass by m.0, m.1.goes_on v [] making own)
+      numbers : (view_of after).numbers ≡ (view_of before).numbers
+      numbers = ap (λ (x : View). x.numbers) same
+
+      passes : (view_of after).passes ≡ (view_of before).passes
+      passes = ap (λ (x : View). x.passes) same
 
 -- a pass with each number sees no call that it had not seen
 pub nothing_new : (v w : View) → HasAll v → MadeInTurn v [] w → w.seen ≡ v.seen
 nothing_new v w every m =
     let before : Below v.passes v.seen = below_front' v.passes v.seen (m.0 ++ []) w.seen (sym (append_assoc v.seen m.0 []) ∙ sym m.2) m.4 in
     sym (all_own v.numbers v.passes w.seen every m.4) ∙ m.3 ∙ append-nil (calls_by v.numbers v.seen) ∙ all_own v.numbers v.passes v.seen every before
-
--- what was so with the lock is so once it is over
-pub shown : (P : Opening → List Step → Type 0) (v w k : View) → Making v [] k → w ≡ saw v w.seen → w.seen ≡ k.seen → P k.base k.seen → P w.base w.seen
-shown P v w k making same seen holds =
-    let base : k.base ≡ w.base = ap (λ (x : View). x.base) making.1 ∙ sym (ap (λ (x : View). x.base) same) in
-    subst (λ (x : Opening × List Step). P x.0 x.1) (λ i. (base i, sym seen i)) holds
-
--- a pass once its lock is released
-pub pass_after : (before after : List View) (number calls calls' : ℕ) (marks : List Bool) (v w : View) → before ≡ v ∷ [] → after ≡ w ∷ [] → IsPass before number calls marks → w ≡ saw v w.seen → calls' ≡ length w.seen → IsPass after number calls' marks
-pass_after before after number calls calls' marks v w was is pass same count = subst (λ (l : List View). IsPass l number calls' marks) (sym is) from
-  where
-    old : IsPass (v ∷ []) number calls marks
-    old = subst (λ (l : List View). IsPass l number calls marks) was pass
-
-    numbers : w.numbers ≡ v.numbers
-    numbers = ap (λ (x : View). x.numbers) same
-
-    passes : w.passes ≡ v.passes
-    passes = ap (λ (x : View). x.passes) same
-
-    from : IsPass (w ∷ []) number calls' marks
-    from = (
-      refl,
-      ap (λ (x : View). x.turn) same,
-      ap (λ (x : View). x.live) same ∙ old.2,
-      ap (λ (ns : List ℕ). has ns number) numbers ∙ old.3,
-      count,
-      subst (λ (ns : List ℕ). AreMarks ns marks) (sym numbers) old.5,
-      λ n h. subst (λ (k : ℕ). n < k) (sym passes) (old.6 n (subst (λ (ns : List ℕ). has ns n ≡ true) numbers h)),
-      old.7 ∙ sym passes,
-    )
-
--- the same of the views of a pass as of those of its seat
-pub of_views : (P : View → View → Type 0) (before after : List View) (v w : View) → before ≡ v ∷ [] → after ≡ w ∷ [] → P v w → P (view_of before) (view_of after)
-of_views P before after v w was is holds = subst (λ (x : View). P x (view_of after)) (sym (ap view_of was)) (subst (λ (x : View). P v x) (sym (ap view_of is)) holds)
 
 longer_length : (a b : List Step) → length (longer a b) ≡ max (length a) (length b)
 longer_length [] b = omega arith
@@ -177,20 +248,17 @@ not_true false never = refl
 
 -- a mark says whether a pass has the number, also where there is none
 mark_of : (v : View) (number calls : ℕ) (marks : List Bool) → IsPass (v ∷ []) number calls marks → (n : ℕ) → get_or marks n false ≡ has v.numbers n
-mark_of v number calls marks pass n = ⊎_elim (λ (lt : n < length marks). pass.5 n lt) (λ (ge : length marks ≤ n). beyond marks n (omega arith) ∙ sym (not_true (has v.numbers n) (λ h. let lt = pass.6 n h in let same = pass.7 in absurd (omega arith)))) (cases_lt n (length marks))
+mark_of v number calls marks pass n = ⊎_elim (λ (lt : n < length marks). pass.2 n lt) (λ (ge : length marks ≤ n). beyond marks n (omega arith) ∙ sym (not_true (has v.numbers n) (λ h. let lt = pass.3 n h in let same = pass.4 in absurd (omega arith)))) (cases_lt n (length marks))
 
 -- a pass after it took in another
 pub pass_joined : (v w j : View) (number number' calls calls' : ℕ) (mine theirs after : List Bool) → IsPass (v ∷ []) number calls mine → IsPass (w ∷ []) number' calls' theirs → j ≡ joined (both v w) → ((n : ℕ) → has j.numbers n ≡ true → n < j.passes)
     → ((n : ℕ) → n < length mine → get_or after n false ≡ (get_or mine n false || get_or theirs n false)) → length after ≡ length mine → IsPass (j ∷ []) number (max calls calls') after
 pass_joined v w j number number' calls calls' mine theirs after p q is below each same = (
-  refl,
-  ap (λ (x : View). x.turn) is ∙ p.1,
-  ap (λ (x : View). x.live) is ∙ p.2,
-  ap (λ (x : View). has x.numbers number) is ∙ has_left v.numbers w.numbers number p.3,
-  (λ i. max (p.4 i) (q.4 i)) ∙ sym (longer_length v.seen w.seen) ∙ sym (ap (λ (x : View). length x.seen) is),
+  (refl, ap (λ (x : View). x.turn) is ∙ p.0.1, ap (λ (x : View). x.live) is ∙ p.0.2, ap (λ (x : View). has x.numbers number) is ∙ has_left v.numbers w.numbers number p.0.3),
+  (λ i. max (p.1 i) (q.1 i)) ∙ sym (longer_length v.seen w.seen) ∙ sym (ap (λ (x : View). length x.seen) is),
   λ n lt. each n (subst (λ (k : ℕ). n < k) same lt) ∙ (λ i. mark_of v number calls mine p n i || mark_of w number' calls' theirs q n i) ∙ sym (has-append v.numbers w.numbers n) ∙ sym (ap (λ (x : View). has x.numbers n) is),
   below,
-  same ∙ p.7 ∙ sym (ap (λ (x : View). x.passes) is),
+  same ∙ p.4 ∙ sym (ap (λ (x : View). x.passes) is),
 )
 
 -- new passes are of their table

@@ -1,6 +1,5 @@
 -- What a call through a pass did.
-use Rattle.std.specs.Prelude.{◌≡◌, ◌<◌, ◌≤◌, ◌+◌, ◌-◌, ◌^◌, ℕ, List, [], ◌∷◌, ◌++◌, length, Bool, true, false, Option, None, Result, Err}
-use Rattle.atomic_table.specs.Table.{Me}
+use Rattle.std.specs.Prelude.{◌≡◌, ◌<◌, ◌≤◌, ◌+◌, ◌-◌, ◌^◌, ℕ, List, [], ◌∷◌, length, Bool, true, false, Result, Err}
 use Rattle.channel_face.specs.Token.{Token}
 use Rattle.channel_face.specs.Machine.{State, Call}
 use Rattle.channel_face.specs.History.{Opening, Step, Said, opening, state_after, IsRun, by_pass, calls}
@@ -12,10 +11,9 @@ use Rattle.channel_face.specs.declared.replies.StageCause.{StageCause}
 use Rattle.channel_face.specs.declared.replies.StageCause.TheVariants.{Spent}
 use Rattle.channel_face.specs.declared.replies.CommitRefused.{CommitRefused}
 use Rattle.channel_face.specs.declared.replies.CommitRefused.TheVariants.{Stage}
-use Rattle.channel_lock.specs.Calls.{has}
 use Rattle.channel_lock.specs.Views.{View}
-use Rattle.channel_lock.specs.Turns.{Making, MadeInTurn}
-use Rattle.shared_channel.specs.Counting.{StandsCounting, Keeps}
+use Rattle.channel_lock.specs.Turns.{MadeInTurn}
+use Rattle.shared_channel.specs.Counting.{StandsCounting}
 
 -- a call of the pass with this number
 abbrev pub step : ℕ → Call → ℕ → Step
@@ -24,14 +22,6 @@ step by call moment = record { pass = by; call = call; moment = moment }
 -- the state that the pass has seen
 abbrev pub state_seen : View → State
 state_seen v = state_after (opening v.base) v.seen
-
--- The seat does not hold the lock.
-abbrev pub IsOut : {S : Type 0} → Me S View → Type 0
-IsOut m = (m.0.turn ≡ false) × (m.1 ≡ []) × (m.0.live ≡ true)
-
--- The seat holds the lock, and took this channel out.
-abbrev pub IsIn : {S C : Type 0} → (C → Opening → List Step → Type 0) → Me (Option S) View → C → Type 0
-IsIn stands m c = (m.0.turn ≡ true) × (m.0.live ≡ true) × (m.1 ≡ (0, None) ∷ []) × Keeps stands c m.0.base m.0.seen
 
 -- the call, where it was made
 abbrev pub made_if : Bool → Step → List Step
@@ -42,13 +32,6 @@ made_if false s = []
 abbrev pub Bounds : Bool → ℕ → ℕ → Type 0
 Bounds true most calls = most ≤ calls
 Bounds false most calls = calls < most
-
--- With the lock, a seat made these calls with this number, and the channel is then this one.
-pub record Makes {S C : Type 0} (stands : C → Opening → List Step → Type 0) (by : ℕ) (calls : List Step) (m : Me (Option S) View) (d : C) (w : Me (Option S) View) : Type 0 where
-  pub within : IsIn stands w d
-  pub seen : w.0.seen ≡ m.0.seen ++ calls
-  pub numbers : w.0.numbers ≡ m.0.numbers
-  pub goes_on : (v : View) (es : List Step) → Making v es m.0 → has v.numbers by ≡ true → Making v (es ++ calls) w.0
 
 module _ {C : Type 0} (stands : C → Opening → List Step → Type 0) (tells : C → Bool) where
   -- This channel stands for what was seen, of which each call was answered as the machine answers it there. It tells where the one that was shared did.
@@ -89,11 +72,6 @@ module _ {C : Type 0} (stands : C → Opening → List Step → Type 0) (tells :
 abbrev pub is_spent_commit : Result Ticket (CommitRefused Token) → Bool
 is_spent_commit (Err (Stage refused)) = is_spent_stage (Err refused.cause)
 is_spent_commit reply = false
-
--- With the lock, a seat made a commit, or it was spent.
-abbrev pub MakesCommit : {S C : Type 0} → (C → Opening → List Step → Type 0) → Bool → ℕ → (Result Ticket StageCause → Call) → Token → Result Ticket (CommitRefused Token) → Me (Option S) View → C → Me (Option S) View → Type 0
-MakesCommit stands true by stage token result m d w = Makes stands by [] m d w × (2 ^ 64 - 1026 ≤ length m.0.seen) × (result ≡ Err (Stage (record { txn = token; cause = Spent CallsCount })))
-MakesCommit stands false by stage token result m d w = (own : List Said) × Makes stands by (by_pass by own) m d w × IsCommit stage token (calls own) result × (length m.0.seen < 2 ^ 64 - 1026)
 
 -- The commit's calls were made while so many fewer were counted. Where it is spent, none was made, the channel was seen as it is, and the token comes back.
 abbrev pub Commits : {C : Type 0} → (C → Opening → List Step → Type 0) → (C → Bool) → Bool → View → ℕ → (Result Ticket StageCause → Call) → Token → Result Ticket (CommitRefused Token) → View → Type 0

@@ -1,13 +1,15 @@
 -- What a call of a channel on a disk did through a pass.
-use Rattle.std.specs.Prelude.{◌≡◌, ◌-◌, ◌^◌, ℕ, List, [], ◌∷◌, ◌++◌, length, Bool, true, false, not, Option, Result, Ok, Err}
-use Rattle.atomic_table.specs.Table.{Me}
+use Rattle.std.specs.Prelude.{◌≡◌, ℕ, List, [], ◌∷◌, ◌++◌, length, Bool, true, false, Result, Ok}
+use Rattle.atomic_table.specs.Seated.{TableId}
 use Rattle.channel_face.specs.Keeps.{is_spent_open, mended}
 use Rattle.channel_face.specs.Machine.{Reopen, Reopened}
 use Rattle.channel_face.specs.History.{Opening, Step, opening, state_after, reopen_reply}
 use Rattle.channel_face.specs.declared.replies.OpenCause.{OpenCause}
 use Rattle.channel_lock.specs.Views.{View}
 use Rattle.shared_channel.specs.Counting.{Keeps}
-use Rattle.shared_channel.specs.Calls.{step, made_if, state_seen, Bounds, Makes, Answers, Looks}
+use Rattle.shared_channel.specs.Calls.{step, state_seen, Answers, Looks}
+use Rattle.shared_channel.specs.Holding.{Makes, Tries}
+use Rattle.shared_channel.specs.declared.shared.Holder.{Holder}
 
 -- how many calls a reply stands for
 abbrev pub calls_of : Bool → ℕ
@@ -22,15 +24,16 @@ WasBroken n w = (front last : List Step) × (w.seen ≡ front ++ last) × (lengt
 abbrev pub IsReopen : {C : Type 0} → (C → Opening → List Step → Type 0) → ℕ → ℕ → Result (Unit {0}) OpenCause → C → View → Step → Type 0
 IsReopen stands by moment reply d v e = (kept : Reopened) × (e ≡ step by (Reopen (reopen_reply reply kept)) moment) × Keeps stands d v.base (v.seen ++ e ∷ [])
 
--- With the lock, a seat made a reopen with this reply, which kept something; or it was spent.
-abbrev pub MakesReopen : {S C : Type 0} → (C → Opening → List Step → Type 0) → ℕ → ℕ → Result (Unit {0}) OpenCause → Me (Option S) View → C → Me (Option S) View → Type 0
-MakesReopen stands by moment reply m d w = (kept : Reopened) × Makes stands by (made_if (not (is_spent_open reply)) (step by (Reopen (reopen_reply reply kept)) moment)) m d w
+module _ {C : Type 0} (stands : C → Opening → List Step → Type 0) (table : TableId) (moment : C → ℕ) where
+  -- With the lock, it made a reopen with this reply, which kept something; or that was spent.
+  abbrev pub TriesReopen : Result (Unit {0}) OpenCause → Holder C → Holder C → Type 0
+  TriesReopen reply old new = (kept : Reopened) × Tries stands table moment (is_spent_open reply) (Reopen (reopen_reply reply kept)) old new
 
--- With the lock, a seat reopened what was broken, and nothing else.
-abbrev pub MakesMended : {S C : Type 0} → (C → Opening → List Step → Type 0) → ℕ → ℕ → Result Bool OpenCause → Me (Option S) View → C → Me (Option S) View → Type 0
-MakesMended stands by moment (Ok false) m d w = Makes stands by [] m d w × ((state_seen m.0).broken ≡ false)
-MakesMended stands by moment result m d w =
-    (reply : Result (Unit {0}) OpenCause) × MakesReopen stands by moment reply m d w × Bounds (is_spent_open reply) (2 ^ 64 - 1025) (length m.0.seen) × ((state_seen m.0).broken ≡ true) × (result ≡ mended reply)
+  -- With the lock, it reopened what was broken, and nothing else.
+  abbrev pub MakesMended : Result Bool OpenCause → Holder C → Holder C → Type 0
+  MakesMended (Ok false) old new = Makes stands table [] old new × ((state_seen old.seat.me.0).broken ≡ false)
+  MakesMended result old new =
+      (reply : Result (Unit {0}) OpenCause) × TriesReopen reply old new × ((state_seen old.seat.me.0).broken ≡ true) × (result ≡ mended reply)
 
 module _ {C : Type 0} (stands : C → Opening → List Step → Type 0) (tells : C → Bool) (moment : C → ℕ) where
   -- A reopen was made and kept something, or it was spent.

@@ -1,5 +1,6 @@
 pub mod Counting
 pub mod Passes
 pub mod Calls
+pub mod Holding
 pub mod Durables
 pub mod Ports

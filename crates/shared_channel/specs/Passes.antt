@@ -15,6 +15,10 @@ abbrev pub view_of : List View → View
 view_of [] = dealer no_opening 0
 view_of (v ∷ vs) = v
 
+-- a pass with this number and these views
+abbrev pub known : TableId → ℕ → List View → Known
+known table number views = record { table_id = table; number = number; view = view_of views }
+
 -- a pass with the number n that has made no call
 abbrev pub new_pass : TableId → Opening → ℕ → ℕ → Known
 new_pass table start passes n = record { table_id = table; number = n; view = newcomer (dealer_of start passes n) }
@@ -32,8 +36,13 @@ AreMarks numbers marks = (n : ℕ) → n < length marks → get_or marks n false
 abbrev pub IsBlank : ℕ → List Bool → Type 0
 IsBlank passes marks = AreMarks [] marks × (length marks ≡ passes)
 
+-- The views are those of one seat that does not hold the lock, and has this number.
+abbrev pub IsHome : List View → ℕ → Type 0
+IsHome views number =
+    (views ≡ view_of views ∷ []) × ((view_of views).turn ≡ false) × ((view_of views).live ≡ true) × (has (view_of views).numbers number ≡ true)
+
 -- what holds of a pass: it does not hold the lock, its next call's number is one of its own, and it knows how many calls it saw and which numbers it has
 abbrev pub IsPass : List View → ℕ → ℕ → List Bool → Type 0
 IsPass views number calls marks =
-    (views ≡ view_of views ∷ []) × ((view_of views).turn ≡ false) × ((view_of views).live ≡ true) × (has (view_of views).numbers number ≡ true) × (calls ≡ length (view_of views).seen)
-    × AreMarks (view_of views).numbers marks × ((n : ℕ) → has (view_of views).numbers n ≡ true → n < (view_of views).passes) × (length marks ≡ (view_of views).passes)
+    IsHome views number × (calls ≡ length (view_of views).seen) × AreMarks (view_of views).numbers marks
+    × ((n : ℕ) → has (view_of views).numbers n ≡ true → n < (view_of views).passes) × (length marks ≡ (view_of views).passes)

@@ -1,9 +1,9 @@
 -- What a source and a sink see of a shared channel through a pass.
-use Rattle.std.specs.Prelude.{◌≡◌, ◌-◌, ◌^◌, ℕ, List, [], ◌∷◌, ◌++◌, length, Option, Result, Bool, true, false, not, is_ok}
+use Rattle.std.specs.Prelude.{◌≡◌, ◌-◌, ◌^◌, ℕ, List, [], ◌∷◌, ◌++◌, length, Result, Bool, true, false, not, is_ok}
 use Rattle.std.proofs.Common.{refl, sym, ◌∙◌, ap, subst, append_assoc}
 use Rattle.std.proofs.lemmas.List.{append-nil}
 use mathlib.Core.List.{IsPrefix}
-use Rattle.atomic_table.specs.Table.{Me}
+use Rattle.atomic_table.specs.Seated.{TableId}
 use Rattle.channel_face.specs.Faces.{Own, Ends, is_spent_flush}
 use Rattle.channel_face.specs.Machine.{State, Flush, after, settled}
 use Rattle.channel_face.specs.History.{Opening, Step, opening, state_after}
@@ -16,7 +16,9 @@ use Rattle.channel_lock.proofs.Histories.{calls_by-append}
 use Rattle.channel_lock.specs.Views.{View}
 use Rattle.shared_channel.specs.Counting.{StandsCounting}
 use Rattle.shared_channel.specs.Passes.{Known}
-use Rattle.shared_channel.specs.Calls.{step, state_seen, made_if, Bounds, Makes, IsSeen}
+use Rattle.shared_channel.specs.Calls.{step, state_seen, made_if, Bounds, IsSeen}
+use Rattle.shared_channel.specs.Holding.{Makes}
+use Rattle.shared_channel.specs.declared.shared.Holder.{Holder}
 
 abbrev pub own_if : Bool → Own → List Own → List Own
 own_if true o own = o ∷ own
@@ -88,9 +90,10 @@ SettledBy Yes by moment k calls sure = (calls ≡ []) × (sure ≡ true)
 SettledBy No by moment k calls sure = (reply : Result (Unit {0}) FlushRefused) × (calls ≡ made_if (not (is_spent_flush reply)) (step by (Flush reply) moment)) × Bounds (is_spent_flush reply) (2 ^ 64 - 1025) (length k.seen) × (sure ≡ is_ok reply)
 SettledBy InDoubt by moment k calls sure = (calls ≡ []) × (sure ≡ false)
 
--- With the lock, a seat asked for the ticket, and flushed where it was No.
-abbrev pub MakesSettled : {S C : Type 0} → (C → Opening → List Step → Type 0) → ℕ → ℕ → Ticket → Bool → Me (Option S) View → C → Me (Option S) View → Type 0
-MakesSettled stands by moment ticket sure m d w = (calls : List Step) × Makes stands by calls m d w × SettledBy (settled (state_seen m.0) ticket) by moment m.0 calls sure
+-- With the lock, it asked for the ticket, and flushed where it was No.
+abbrev pub MakesSettled : {C : Type 0} → (C → Opening → List Step → Type 0) → TableId → (C → ℕ) → Ticket → Bool → Holder C → Holder C → Type 0
+MakesSettled stands table moment ticket sure old new =
+    (calls : List Step) × Makes stands table calls old new × SettledBy (settled (state_seen old.seat.me.0) ticket) old.by (moment new.home.channel) old.seat.me.0 calls sure
 
 pub under-append : (number : ℕ) (a b : List Step) → AreUnder number a → AreUnder number b → AreUnder number (a ++ b)
 under-append number [] b x y = y

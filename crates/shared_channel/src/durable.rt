@@ -1,75 +1,58 @@
 // The calls of a channel on a disk through a pass that lay checkpoints and remove old files.
-ghost use Rattle.std.specs.Prelude.{◌≡◌, ◌^◌, ◌-◌, length, true, not};
+ghost use Rattle.std.specs.Prelude.{◌≡◌};
 ghost use Rattle.channel_face.specs.Machine.{Checkpoint, Prune};
-ghost use Rattle.channel_lock.specs.Calls.{has};
-ghost use Rattle.shared_channel.specs.Calls.{IsIn, Makes, Bounds, Answers, made_if, step};
+ghost use Rattle.shared_channel.specs.Calls.{Answers};
+ghost use Rattle.shared_channel.specs.Holding.{Holds, Tries};
 ghost use Rattle.channel_face.specs.Keeps.{is_spent_check, is_spent_prune};
 
 use crate::home::Home;
 use crate::making::MOST;
 use crate::pass::Pass;
-use crate::shared::Shared;
-use atomic_table::Badge;
+use crate::shared::{Holder, Shared};
 use channel_face::{CheckRefused, Counter, Durable, PruneRefused};
-use channel_lock::Place;
 use std::marker::Brand;
-use std::mem;
 use std::sync::Wait;
 
 impl<C: Durable> Shared<C> {
-    fn make_checkpoint(
-        &self,
-        seat: &mut Place<Home<C>>,
-        home: &mut Home<C>,
-        calls: u64,
-        by: u64,
-    ) -> Result<(), CheckRefused>
-        requires table { seat.old.table_id ≡ self.now.turn.table.shared.table_id }
-        requires within { IsIn C.stands seat.old.me home.old.channel }
-        requires own { has seat.old.me.0.numbers by ≡ true }
-        requires calls { calls ≡ length seat.old.me.0.seen }
-        ensures same { seat.new.table_id ≡ seat.old.table_id }
-        ensures makes { Makes C.stands by (made_if (not (is_spent_check result))
-            (step by (Checkpoint result) (C.moment home.new.channel))) seat.old.me home.new.channel
-            seat.new.me }
-        ensures bound { Bounds (is_spent_check result) (2 ^ 64 - 1025) (length seat.old.me.0.seen) }
+    fn make_checkpoint(&self, holder: &mut Holder<C>) -> Result<(), CheckRefused>
+        requires { Holds C.stands self.now.turn.table.shared.table_id holder.old }
+        ensures { Tries C.stands self.now.turn.table.shared.table_id C.moment
+            (is_spent_check result) (Checkpoint result) holder.old holder.new }
     {
-        if calls >= MOST {
+        if holder.calls >= MOST {
             return Err(CheckRefused::Spent {
                 counter: Counter::Calls,
             });
         }
-        let reply = home.channel.checkpoint();
+        let reply = holder.home.channel.checkpoint();
         self.turn
-            .count::<Brand, (&Result<(), CheckRefused>, &Home<C>)>(seat, by, &(&reply, &*home));
+            .count::<Brand, (&Result<(), CheckRefused>, &Home<C>)>(
+                &mut holder.seat,
+                holder.by,
+                &(&reply, &holder.home),
+            );
+        holder.calls += 1;
         reply
     }
 
-    fn make_prune(
-        &self,
-        seat: &mut Place<Home<C>>,
-        home: &mut Home<C>,
-        calls: u64,
-        by: u64,
-    ) -> Result<u64, PruneRefused>
-        requires table { seat.old.table_id ≡ self.now.turn.table.shared.table_id }
-        requires within { IsIn C.stands seat.old.me home.old.channel }
-        requires own { has seat.old.me.0.numbers by ≡ true }
-        requires calls { calls ≡ length seat.old.me.0.seen }
-        ensures same { seat.new.table_id ≡ seat.old.table_id }
-        ensures makes { Makes C.stands by (made_if (not (is_spent_prune result))
-            (step by (Prune result) (C.moment home.new.channel))) seat.old.me home.new.channel
-            seat.new.me }
-        ensures bound { Bounds (is_spent_prune result) (2 ^ 64 - 1025) (length seat.old.me.0.seen) }
+    fn make_prune(&self, holder: &mut Holder<C>) -> Result<u64, PruneRefused>
+        requires { Holds C.stands self.now.turn.table.shared.table_id holder.old }
+        ensures { Tries C.stands self.now.turn.table.shared.table_id C.moment
+            (is_spent_prune result) (Prune result) holder.old holder.new }
     {
-        if calls >= MOST {
+        if holder.calls >= MOST {
             return Err(PruneRefused::Spent {
                 counter: Counter::Calls,
             });
         }
-        let reply = home.channel.prune();
+        let reply = holder.home.channel.prune();
         self.turn
-            .count::<Brand, (&Result<u64, PruneRefused>, &Home<C>)>(seat, by, &(&reply, &*home));
+            .count::<Brand, (&Result<u64, PruneRefused>, &Home<C>)>(
+                &mut holder.seat,
+                holder.by,
+                &(&reply, &holder.home),
+            );
+        holder.calls += 1;
         reply
     }
 
@@ -82,12 +65,9 @@ impl<C: Durable> Shared<C> {
             (is_spent_check result) pass.old.view pass.old.number
             (Checkpoint result) pass.new.view }
     {
-        let badge = mem::replace(&mut pass.badge, Badge::blank());
-        let mut seat = badge.into_seat();
-        let (mut home, calls) = self.enter(rt, &mut seat);
-        let reply = self.make_checkpoint(&mut seat, &mut home, calls, pass.number);
-        pass.calls = self.leave(&mut seat, home);
-        pass.badge = seat.into_badge();
+        let mut holder = self.hold(rt, &mut pass.badge, pass.number);
+        let reply = self.make_checkpoint(&mut holder);
+        pass.calls = self.release(holder, &mut pass.badge);
         reply
     }
 
@@ -99,12 +79,9 @@ impl<C: Durable> Shared<C> {
         ensures call { Answers C.stands C.tells C.moment
             (is_spent_prune result) pass.old.view pass.old.number (Prune result) pass.new.view }
     {
-        let badge = mem::replace(&mut pass.badge, Badge::blank());
-        let mut seat = badge.into_seat();
-        let (mut home, calls) = self.enter(rt, &mut seat);
-        let reply = self.make_prune(&mut seat, &mut home, calls, pass.number);
-        pass.calls = self.leave(&mut seat, home);
-        pass.badge = seat.into_badge();
+        let mut holder = self.hold(rt, &mut pass.badge, pass.number);
+        let reply = self.make_prune(&mut holder);
+        pass.calls = self.release(holder, &mut pass.badge);
         reply
     }
 }

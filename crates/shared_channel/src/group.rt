@@ -6,10 +6,8 @@ ghost use Rattle.shared_channel.specs.Ports.{WentBy, Saw, SawAll, Settles};
 
 use crate::pass::Pass;
 use crate::shared::Shared;
-use atomic_table::Badge;
 use channel_face::{Channel, FaceRefused, PutRefused, PutTxn, StageRefused, TakeTxn, Ticket};
 use event_core::Batch;
-use std::mem;
 use std::sync::Wait;
 
 // Rises with the frames of a life, and with the lives while a life has fewer than 2^32 frames. No clause rests on it.
@@ -37,12 +35,9 @@ impl<C: Channel> Shared<C> {
             self.flushing.await_company(rt);
             self.turn.give_way();
         }
-        let badge = mem::replace(&mut pass.badge, Badge::blank());
-        let mut seat = badge.into_seat();
-        let (mut home, calls) = self.enter(rt, &mut seat);
-        let sure = self.make_settled(&mut seat, &mut home, calls, pass.number, ticket);
-        pass.calls = self.leave(&mut seat, home);
-        pass.badge = seat.into_badge();
+        let mut holder = self.hold(rt, &mut pass.badge, pass.number);
+        let sure = self.make_settled(&mut holder, ticket);
+        pass.calls = self.release(holder, &mut pass.badge);
         if leads {
             self.flushing.done(mark, self.turn.waiting());
         }

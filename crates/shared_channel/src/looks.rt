@@ -7,9 +7,7 @@ ghost use Rattle.shared_channel.specs.Calls.{Looks, state_seen};
 
 use crate::pass::Pass;
 use crate::shared::Shared;
-use atomic_table::Badge;
 use channel_face::{Channel, Counts, Settled, Ticket};
-use std::mem;
 use std::sync::Wait;
 
 /// What is counted of a channel, and whether it is broken.
@@ -28,12 +26,9 @@ impl<C: Channel> Shared<C> {
         ensures look { Looks C.stands C.tells pass.old.view pass.new.view }
         ensures answer { result ≡ settled (state_seen pass.new.view) ticket.now }
     {
-        let badge = mem::replace(&mut pass.badge, Badge::blank());
-        let mut seat = badge.into_seat();
-        let (home, _) = self.enter(rt, &mut seat);
-        let answer = home.channel.settled(ticket);
-        pass.calls = self.leave(&mut seat, home);
-        pass.badge = seat.into_badge();
+        let holder = self.hold(rt, &mut pass.badge, pass.number);
+        let answer = holder.home.channel.settled(ticket);
+        pass.calls = self.release(holder, &mut pass.badge);
         answer
     }
 
@@ -45,12 +40,9 @@ impl<C: Channel> Shared<C> {
         ensures look { Looks C.stands C.tells pass.old.view pass.new.view }
         ensures answer { result ≡ length (state_seen pass.new.view).items }
     {
-        let badge = mem::replace(&mut pass.badge, Badge::blank());
-        let mut seat = badge.into_seat();
-        let (home, _) = self.enter(rt, &mut seat);
-        let answer = home.channel.size();
-        pass.calls = self.leave(&mut seat, home);
-        pass.badge = seat.into_badge();
+        let holder = self.hold(rt, &mut pass.badge, pass.number);
+        let answer = holder.home.channel.size();
+        pass.calls = self.release(holder, &mut pass.badge);
         answer
     }
 
@@ -62,12 +54,9 @@ impl<C: Channel> Shared<C> {
         ensures look { Looks C.stands C.tells pass.old.view pass.new.view }
         ensures answer { result ≡ (state_seen pass.new.view).rules.limits.capacity }
     {
-        let badge = mem::replace(&mut pass.badge, Badge::blank());
-        let mut seat = badge.into_seat();
-        let (home, _) = self.enter(rt, &mut seat);
-        let answer = home.channel.capacity();
-        pass.calls = self.leave(&mut seat, home);
-        pass.badge = seat.into_badge();
+        let holder = self.hold(rt, &mut pass.badge, pass.number);
+        let answer = holder.home.channel.capacity();
+        pass.calls = self.release(holder, &mut pass.badge);
         answer
     }
 
@@ -79,12 +68,9 @@ impl<C: Channel> Shared<C> {
         ensures look { Looks C.stands C.tells pass.old.view pass.new.view }
         ensures answer { result ≡ (state_seen pass.new.view).broken }
     {
-        let badge = mem::replace(&mut pass.badge, Badge::blank());
-        let mut seat = badge.into_seat();
-        let (home, _) = self.enter(rt, &mut seat);
-        let answer = home.channel.is_broken();
-        pass.calls = self.leave(&mut seat, home);
-        pass.badge = seat.into_badge();
+        let holder = self.hold(rt, &mut pass.badge, pass.number);
+        let answer = holder.home.channel.is_broken();
+        pass.calls = self.release(holder, &mut pass.badge);
         answer
     }
 
@@ -96,12 +82,9 @@ impl<C: Channel> Shared<C> {
         ensures look { Looks C.stands C.tells pass.old.view pass.new.view }
         ensures answer { result ≡ counts_of pass.new.view.base pass.new.view.seen }
     {
-        let badge = mem::replace(&mut pass.badge, Badge::blank());
-        let mut seat = badge.into_seat();
-        let (home, _) = self.enter(rt, &mut seat);
-        let answer = home.channel.counts();
-        pass.calls = self.leave(&mut seat, home);
-        pass.badge = seat.into_badge();
+        let holder = self.hold(rt, &mut pass.badge, pass.number);
+        let answer = holder.home.channel.counts();
+        pass.calls = self.release(holder, &mut pass.badge);
         answer
     }
 
@@ -116,13 +99,10 @@ impl<C: Channel> Shared<C> {
         ensures counts { result.counts ≡ counts_of pass.new.view.base pass.new.view.seen }
         ensures broken { result.broken ≡ (state_seen pass.new.view).broken }
     {
-        let badge = mem::replace(&mut pass.badge, Badge::blank());
-        let mut seat = badge.into_seat();
-        let (home, _) = self.enter(rt, &mut seat);
-        let counts = home.channel.counts();
-        let broken = home.channel.is_broken();
-        pass.calls = self.leave(&mut seat, home);
-        pass.badge = seat.into_badge();
+        let holder = self.hold(rt, &mut pass.badge, pass.number);
+        let counts = holder.home.channel.counts();
+        let broken = holder.home.channel.is_broken();
+        pass.calls = self.release(holder, &mut pass.badge);
         Look { counts, broken }
     }
 }

@@ -1,19 +1,18 @@
 // The calls of the one who holds the lock, each counted as it is made.
-ghost use Rattle.std.specs.Prelude.{◌≡◌, ◌^◌, ◌-◌, IfErr, None, length, true, false, not};
+ghost use Rattle.std.specs.Prelude.{◌≡◌, IfErr, None, true};
 ghost use Rattle.channel_face.specs.Calls.{cause_of};
 ghost use Rattle.channel_face.specs.Faces.{is_spent_begin, is_spent_put, is_spent_take, is_spent_stage, is_spent_flush};
 ghost use Rattle.channel_face.specs.Machine.{BeginPut, BeginTake, Put, Take, StagePut, StageTake, Flush, RollbackPut, RollbackTake, puts_of, takes_of};
-ghost use Rattle.channel_lock.specs.Calls.{has};
 ghost use Rattle.shared_channel.specs.Ports.{MakesSettled};
-ghost use Rattle.shared_channel.specs.Calls.{IsIn, Makes, MakesCommit, Bounds, is_spent_commit, made_if, state_seen, step};
+ghost use Rattle.shared_channel.specs.Calls.{is_spent_commit};
+ghost use Rattle.shared_channel.specs.Holding.{Holds, MakesCommit, Rolls, Tries};
 
 use crate::home::Home;
-use crate::shared::Shared;
+use crate::shared::{Holder, Shared};
 use channel_face::{
     BeginRefused, Channel, CommitRefused, Counter, FlushRefused, PutRefused, PutTxn, Settled,
     StageCause, StageRefused, TakeRefused, TakeTxn, Taken, Ticket,
 };
-use channel_lock::Place;
 use event_core::Event;
 use std::marker::Brand;
 
@@ -21,92 +20,65 @@ use std::marker::Brand;
 pub(crate) const MOST: u64 = 18446744073709550591;
 
 impl<C: Channel> Shared<C> {
-    pub(crate) fn make_begin_put(
-        &self,
-        seat: &mut Place<Home<C>>,
-        home: &mut Home<C>,
-        calls: u64,
-        by: u64,
-    ) -> Result<PutTxn, BeginRefused>
-        requires table { seat.old.table_id ≡ self.now.turn.table.shared.table_id }
-        requires within { IsIn C.stands seat.old.me home.old.channel }
-        requires own { has seat.old.me.0.numbers by ≡ true }
-        requires calls { calls ≡ length seat.old.me.0.seen }
-        ensures same { seat.new.table_id ≡ seat.old.table_id }
-        ensures makes { Makes C.stands by (made_if (not (is_spent_begin result))
-            (step by (BeginPut result) (C.moment home.new.channel))) seat.old.me home.new.channel
-            seat.new.me }
-        ensures bound { Bounds (is_spent_begin result) (2 ^ 64 - 1025) (length seat.old.me.0.seen) }
+    pub(crate) fn make_begin_put(&self, holder: &mut Holder<C>) -> Result<PutTxn, BeginRefused>
+        requires { Holds C.stands self.now.turn.table.shared.table_id holder.old }
+        ensures { Tries C.stands self.now.turn.table.shared.table_id C.moment
+            (is_spent_begin result) (BeginPut result) holder.old holder.new }
     {
-        if calls >= MOST {
+        if holder.calls >= MOST {
             return Err(BeginRefused::Spent {
                 counter: Counter::Calls,
             });
         }
-        let reply = home.channel.begin_put();
+        let reply = holder.home.channel.begin_put();
         self.turn
-            .count::<Brand, (&Result<PutTxn, BeginRefused>, &Home<C>)>(seat, by, &(&reply, &*home));
+            .count::<Brand, (&Result<PutTxn, BeginRefused>, &Home<C>)>(
+                &mut holder.seat,
+                holder.by,
+                &(&reply, &holder.home),
+            );
+        holder.calls += 1;
         reply
     }
 
-    pub(crate) fn make_begin_take(
-        &self,
-        seat: &mut Place<Home<C>>,
-        home: &mut Home<C>,
-        calls: u64,
-        by: u64,
-    ) -> Result<TakeTxn, BeginRefused>
-        requires table { seat.old.table_id ≡ self.now.turn.table.shared.table_id }
-        requires within { IsIn C.stands seat.old.me home.old.channel }
-        requires own { has seat.old.me.0.numbers by ≡ true }
-        requires calls { calls ≡ length seat.old.me.0.seen }
-        ensures same { seat.new.table_id ≡ seat.old.table_id }
-        ensures makes { Makes C.stands by (made_if (not (is_spent_begin result))
-            (step by (BeginTake result) (C.moment home.new.channel))) seat.old.me home.new.channel
-            seat.new.me }
-        ensures bound { Bounds (is_spent_begin result) (2 ^ 64 - 1025) (length seat.old.me.0.seen) }
+    pub(crate) fn make_begin_take(&self, holder: &mut Holder<C>) -> Result<TakeTxn, BeginRefused>
+        requires { Holds C.stands self.now.turn.table.shared.table_id holder.old }
+        ensures { Tries C.stands self.now.turn.table.shared.table_id C.moment
+            (is_spent_begin result) (BeginTake result) holder.old holder.new }
     {
-        if calls >= MOST {
+        if holder.calls >= MOST {
             return Err(BeginRefused::Spent {
                 counter: Counter::Calls,
             });
         }
-        let reply = home.channel.begin_take();
+        let reply = holder.home.channel.begin_take();
         self.turn
             .count::<Brand, (&Result<TakeTxn, BeginRefused>, &Home<C>)>(
-                seat,
-                by,
-                &(&reply, &*home),
+                &mut holder.seat,
+                holder.by,
+                &(&reply, &holder.home),
             );
+        holder.calls += 1;
         reply
     }
 
     pub(crate) fn make_put(
         &self,
-        seat: &mut Place<Home<C>>,
-        home: &mut Home<C>,
-        calls: u64,
-        by: u64,
+        holder: &mut Holder<C>,
         txn: &mut PutTxn,
         event: &Event,
     ) -> Result<channel_face::Put, PutRefused>
-        requires table { seat.old.table_id ≡ self.now.turn.table.shared.table_id }
-        requires within { IsIn C.stands seat.old.me home.old.channel }
-        requires own { has seat.old.me.0.numbers by ≡ true }
-        requires calls { calls ≡ length seat.old.me.0.seen }
-        ensures same { seat.new.table_id ≡ seat.old.table_id }
-        ensures makes { Makes C.stands by (made_if (not (is_spent_put result))
-            (step by (Put txn.old event.now result) (C.moment home.new.channel))) seat.old.me
-            home.new.channel seat.new.me }
-        ensures bound { Bounds (is_spent_put result) (2 ^ 64 - 1025) (length seat.old.me.0.seen) }
+        requires { Holds C.stands self.now.turn.table.shared.table_id holder.old }
+        ensures tries { Tries C.stands self.now.turn.table.shared.table_id C.moment
+            (is_spent_put result) (Put txn.old event.now result) holder.old holder.new }
         ensures token { txn.new ≡ txn.old }
     {
-        if calls >= MOST {
+        if holder.calls >= MOST {
             return Err(PutRefused::Spent {
                 counter: Counter::Calls,
             });
         }
-        let reply = home.channel.put(txn, event);
+        let reply = holder.home.channel.put(txn, event);
         self.turn
             .count::<
                 Brand,
@@ -116,65 +88,52 @@ impl<C: Channel> Shared<C> {
                     &Result<channel_face::Put, PutRefused>,
                     &Home<C>,
                 ),
-            >(seat, by, &(&*txn, event, &reply, &*home));
+            >(
+                &mut holder.seat,
+                holder.by,
+                &(&*txn, event, &reply, &holder.home),
+            );
+        holder.calls += 1;
         reply
     }
 
     pub(crate) fn make_take(
         &self,
-        seat: &mut Place<Home<C>>,
-        home: &mut Home<C>,
-        calls: u64,
-        by: u64,
+        holder: &mut Holder<C>,
         txn: &mut TakeTxn,
     ) -> Result<Taken, TakeRefused>
-        requires table { seat.old.table_id ≡ self.now.turn.table.shared.table_id }
-        requires within { IsIn C.stands seat.old.me home.old.channel }
-        requires own { has seat.old.me.0.numbers by ≡ true }
-        requires calls { calls ≡ length seat.old.me.0.seen }
-        ensures same { seat.new.table_id ≡ seat.old.table_id }
-        ensures makes { Makes C.stands by (made_if (not (is_spent_take result))
-            (step by (Take txn.old result) (C.moment home.new.channel))) seat.old.me
-            home.new.channel seat.new.me }
-        ensures bound { Bounds (is_spent_take result) (2 ^ 64 - 1025) (length seat.old.me.0.seen) }
+        requires { Holds C.stands self.now.turn.table.shared.table_id holder.old }
+        ensures tries { Tries C.stands self.now.turn.table.shared.table_id C.moment
+            (is_spent_take result) (Take txn.old result) holder.old holder.new }
         ensures token { txn.new ≡ txn.old }
     {
-        if calls >= MOST {
+        if holder.calls >= MOST {
             return Err(TakeRefused::Spent {
                 counter: Counter::Calls,
             });
         }
-        let reply = home.channel.take(txn);
+        let reply = holder.home.channel.take(txn);
         self.turn
             .count::<Brand, (&TakeTxn, &Result<Taken, TakeRefused>, &Home<C>)>(
-                seat,
-                by,
-                &(&*txn, &reply, &*home),
+                &mut holder.seat,
+                holder.by,
+                &(&*txn, &reply, &holder.home),
             );
+        holder.calls += 1;
         reply
     }
 
     pub(crate) fn make_stage_put(
         &self,
-        seat: &mut Place<Home<C>>,
-        home: &mut Home<C>,
-        calls: u64,
-        by: u64,
+        holder: &mut Holder<C>,
         txn: PutTxn,
     ) -> Result<Ticket, StageRefused<PutTxn>>
-        requires table { seat.old.table_id ≡ self.now.turn.table.shared.table_id }
-        requires within { IsIn C.stands seat.old.me home.old.channel }
-        requires own { has seat.old.me.0.numbers by ≡ true }
-        requires calls { calls ≡ length seat.old.me.0.seen }
-        ensures same { seat.new.table_id ≡ seat.old.table_id }
-        ensures makes { Makes C.stands by (made_if (not (is_spent_stage (cause_of result)))
-            (step by (StagePut txn (cause_of result)) (C.moment home.new.channel))) seat.old.me
-            home.new.channel seat.new.me }
-        ensures bound { Bounds (is_spent_stage (cause_of result)) (2 ^ 64 - 1025)
-            (length seat.old.me.0.seen) }
+        requires { Holds C.stands self.now.turn.table.shared.table_id holder.old }
+        ensures tries { Tries C.stands self.now.turn.table.shared.table_id C.moment
+            (is_spent_stage (cause_of result)) (StagePut txn (cause_of result)) holder.old holder.new }
         ensures back { IfErr result (λ refused. refused.txn ≡ txn) }
     {
-        if calls >= MOST {
+        if holder.calls >= MOST {
             return Err(StageRefused {
                 txn,
                 cause: StageCause::Spent {
@@ -183,37 +142,28 @@ impl<C: Channel> Shared<C> {
             });
         }
         let (life, number) = (txn.life(), txn.number());
-        let reply = home.channel.stage_put(txn);
+        let reply = holder.home.channel.stage_put(txn);
         self.turn
             .count::<Brand, (&u64, &u64, &Result<Ticket, StageRefused<PutTxn>>, &Home<C>)>(
-                seat,
-                by,
-                &(&life, &number, &reply, &*home),
+                &mut holder.seat,
+                holder.by,
+                &(&life, &number, &reply, &holder.home),
             );
+        holder.calls += 1;
         reply
     }
 
     pub(crate) fn make_stage_take(
         &self,
-        seat: &mut Place<Home<C>>,
-        home: &mut Home<C>,
-        calls: u64,
-        by: u64,
+        holder: &mut Holder<C>,
         txn: TakeTxn,
     ) -> Result<Ticket, StageRefused<TakeTxn>>
-        requires table { seat.old.table_id ≡ self.now.turn.table.shared.table_id }
-        requires within { IsIn C.stands seat.old.me home.old.channel }
-        requires own { has seat.old.me.0.numbers by ≡ true }
-        requires calls { calls ≡ length seat.old.me.0.seen }
-        ensures same { seat.new.table_id ≡ seat.old.table_id }
-        ensures makes { Makes C.stands by (made_if (not (is_spent_stage (cause_of result)))
-            (step by (StageTake txn (cause_of result)) (C.moment home.new.channel))) seat.old.me
-            home.new.channel seat.new.me }
-        ensures bound { Bounds (is_spent_stage (cause_of result)) (2 ^ 64 - 1025)
-            (length seat.old.me.0.seen) }
+        requires { Holds C.stands self.now.turn.table.shared.table_id holder.old }
+        ensures tries { Tries C.stands self.now.turn.table.shared.table_id C.moment
+            (is_spent_stage (cause_of result)) (StageTake txn (cause_of result)) holder.old holder.new }
         ensures back { IfErr result (λ refused. refused.txn ≡ txn) }
     {
-        if calls >= MOST {
+        if holder.calls >= MOST {
             return Err(StageRefused {
                 txn,
                 cause: StageCause::Spent {
@@ -222,116 +172,89 @@ impl<C: Channel> Shared<C> {
             });
         }
         let (life, number) = (txn.life(), txn.number());
-        let reply = home.channel.stage_take(txn);
+        let reply = holder.home.channel.stage_take(txn);
         self.turn
             .count::<Brand, (&u64, &u64, &Result<Ticket, StageRefused<TakeTxn>>, &Home<C>)>(
-                seat,
-                by,
-                &(&life, &number, &reply, &*home),
+                &mut holder.seat,
+                holder.by,
+                &(&life, &number, &reply, &holder.home),
             );
+        holder.calls += 1;
         reply
     }
 
-    pub(crate) fn make_flush(
-        &self,
-        seat: &mut Place<Home<C>>,
-        home: &mut Home<C>,
-        calls: u64,
-        by: u64,
-    ) -> Result<(), FlushRefused>
-        requires table { seat.old.table_id ≡ self.now.turn.table.shared.table_id }
-        requires within { IsIn C.stands seat.old.me home.old.channel }
-        requires own { has seat.old.me.0.numbers by ≡ true }
-        requires calls { calls ≡ length seat.old.me.0.seen }
-        ensures same { seat.new.table_id ≡ seat.old.table_id }
-        ensures makes { Makes C.stands by (made_if (not (is_spent_flush result))
-            (step by (Flush result) (C.moment home.new.channel))) seat.old.me home.new.channel
-            seat.new.me }
-        ensures bound { Bounds (is_spent_flush result) (2 ^ 64 - 1025) (length seat.old.me.0.seen) }
+    pub(crate) fn make_flush(&self, holder: &mut Holder<C>) -> Result<(), FlushRefused>
+        requires { Holds C.stands self.now.turn.table.shared.table_id holder.old }
+        ensures { Tries C.stands self.now.turn.table.shared.table_id C.moment
+            (is_spent_flush result) (Flush result) holder.old holder.new }
     {
-        if calls >= MOST {
+        if holder.calls >= MOST {
             return Err(FlushRefused::Spent {
                 counter: Counter::Calls,
             });
         }
-        let reply = home.channel.flush();
+        let reply = holder.home.channel.flush();
         self.turn
-            .count::<Brand, (&Result<(), FlushRefused>, &Home<C>)>(seat, by, &(&reply, &*home));
+            .count::<Brand, (&Result<(), FlushRefused>, &Home<C>)>(
+                &mut holder.seat,
+                holder.by,
+                &(&reply, &holder.home),
+            );
+        holder.calls += 1;
         reply
     }
 
     // Answers whether the token was not stale. A rollback of a stale token is not counted.
-    pub(crate) fn make_rollback_put(
-        &self,
-        seat: &mut Place<Home<C>>,
-        home: &mut Home<C>,
-        by: u64,
-        txn: PutTxn,
-    ) -> bool
-        requires table { seat.old.table_id ≡ self.now.turn.table.shared.table_id }
-        requires within { IsIn C.stands seat.old.me home.old.channel }
-        requires own { has seat.old.me.0.numbers by ≡ true }
-        ensures same { seat.new.table_id ≡ seat.old.table_id }
-        ensures makes { Makes C.stands by (made_if result
-            (step by (RollbackPut txn true) (C.moment home.new.channel))) seat.old.me
-            home.new.channel seat.new.me }
-        ensures stale { result ≡ false → puts_of (state_seen seat.new.me.0) txn ≡ None }
+    pub(crate) fn make_rollback_put(&self, holder: &mut Holder<C>, txn: PutTxn) -> bool
+        requires { Holds C.stands self.now.turn.table.shared.table_id holder.old }
+        ensures { Rolls C.stands self.now.turn.table.shared.table_id C.moment
+            result (RollbackPut txn true) (λ s. puts_of s txn ≡ None) holder.old holder.new }
     {
         let (life, number) = (txn.life(), txn.number());
-        let ended = home.channel.rollback_put(txn);
+        let ended = holder.home.channel.rollback_put(txn);
         if !ended {
             return false;
         }
-        self.turn
-            .count::<Brand, (&u64, &u64, &Home<C>)>(seat, by, &(&life, &number, &*home));
+        self.turn.count::<Brand, (&u64, &u64, &Home<C>)>(
+            &mut holder.seat,
+            holder.by,
+            &(&life, &number, &holder.home),
+        );
+        holder.calls += 1;
         true
     }
 
     // Answers whether the token was not stale. A rollback of a stale token is not counted.
-    pub(crate) fn make_rollback_take(
-        &self,
-        seat: &mut Place<Home<C>>,
-        home: &mut Home<C>,
-        by: u64,
-        txn: TakeTxn,
-    ) -> bool
-        requires table { seat.old.table_id ≡ self.now.turn.table.shared.table_id }
-        requires within { IsIn C.stands seat.old.me home.old.channel }
-        requires own { has seat.old.me.0.numbers by ≡ true }
-        ensures same { seat.new.table_id ≡ seat.old.table_id }
-        ensures makes { Makes C.stands by (made_if result
-            (step by (RollbackTake txn true) (C.moment home.new.channel))) seat.old.me
-            home.new.channel seat.new.me }
-        ensures stale { result ≡ false → takes_of (state_seen seat.new.me.0) txn ≡ None }
+    pub(crate) fn make_rollback_take(&self, holder: &mut Holder<C>, txn: TakeTxn) -> bool
+        requires { Holds C.stands self.now.turn.table.shared.table_id holder.old }
+        ensures { Rolls C.stands self.now.turn.table.shared.table_id C.moment
+            result (RollbackTake txn true) (λ s. takes_of s txn ≡ None) holder.old holder.new }
     {
         let (life, number) = (txn.life(), txn.number());
-        let ended = home.channel.rollback_take(txn);
+        let ended = holder.home.channel.rollback_take(txn);
         if !ended {
             return false;
         }
-        self.turn
-            .count::<Brand, (&u64, &u64, &Home<C>)>(seat, by, &(&life, &number, &*home));
+        self.turn.count::<Brand, (&u64, &u64, &Home<C>)>(
+            &mut holder.seat,
+            holder.by,
+            &(&life, &number, &holder.home),
+        );
+        holder.calls += 1;
         true
     }
 
     // Stages a transaction, then flushes.
     pub(crate) fn make_commit_put(
         &self,
-        seat: &mut Place<Home<C>>,
-        home: &mut Home<C>,
-        calls: u64,
-        by: u64,
+        holder: &mut Holder<C>,
         txn: PutTxn,
     ) -> Result<Ticket, CommitRefused<PutTxn>>
-        requires table { seat.old.table_id ≡ self.now.turn.table.shared.table_id }
-        requires within { IsIn C.stands seat.old.me home.old.channel }
-        requires own { has seat.old.me.0.numbers by ≡ true }
-        requires calls { calls ≡ length seat.old.me.0.seen }
-        ensures same { seat.new.table_id ≡ seat.old.table_id }
-        ensures commit { MakesCommit C.stands (is_spent_commit result) by
-            (StagePut txn) txn result seat.old.me home.new.channel seat.new.me }
+        requires { Holds C.stands self.now.turn.table.shared.table_id holder.old }
+        ensures { MakesCommit C.stands self.now.turn.table.shared.table_id
+            (is_spent_commit result) (StagePut txn) txn result holder.old holder.new }
     {
-        if calls >= MOST - 1 {
+        if holder.calls >= MOST - 1 {
             return Err(CommitRefused::Stage(StageRefused {
                 txn,
                 cause: StageCause::Spent {
@@ -339,8 +262,8 @@ impl<C: Channel> Shared<C> {
                 },
             }));
         }
-        match self.make_stage_put(seat, home, calls, by, txn) {
-            Ok(ticket) => match self.make_flush(seat, home, calls + 1, by) {
+        match self.make_stage_put(holder, txn) {
+            Ok(ticket) => match self.make_flush(holder) {
                 Ok(()) => Ok(ticket),
                 Err(_) => Err(CommitRefused::InDoubt),
             },
@@ -351,21 +274,14 @@ impl<C: Channel> Shared<C> {
     // Stages a transaction, then flushes.
     pub(crate) fn make_commit_take(
         &self,
-        seat: &mut Place<Home<C>>,
-        home: &mut Home<C>,
-        calls: u64,
-        by: u64,
+        holder: &mut Holder<C>,
         txn: TakeTxn,
     ) -> Result<Ticket, CommitRefused<TakeTxn>>
-        requires table { seat.old.table_id ≡ self.now.turn.table.shared.table_id }
-        requires within { IsIn C.stands seat.old.me home.old.channel }
-        requires own { has seat.old.me.0.numbers by ≡ true }
-        requires calls { calls ≡ length seat.old.me.0.seen }
-        ensures same { seat.new.table_id ≡ seat.old.table_id }
-        ensures commit { MakesCommit C.stands (is_spent_commit result) by
-            (StageTake txn) txn result seat.old.me home.new.channel seat.new.me }
+        requires { Holds C.stands self.now.turn.table.shared.table_id holder.old }
+        ensures { MakesCommit C.stands self.now.turn.table.shared.table_id
+            (is_spent_commit result) (StageTake txn) txn result holder.old holder.new }
     {
-        if calls >= MOST - 1 {
+        if holder.calls >= MOST - 1 {
             return Err(CommitRefused::Stage(StageRefused {
                 txn,
                 cause: StageCause::Spent {
@@ -373,8 +289,8 @@ impl<C: Channel> Shared<C> {
                 },
             }));
         }
-        match self.make_stage_take(seat, home, calls, by, txn) {
-            Ok(ticket) => match self.make_flush(seat, home, calls + 1, by) {
+        match self.make_stage_take(holder, txn) {
+            Ok(ticket) => match self.make_flush(holder) {
                 Ok(()) => Ok(ticket),
                 Err(_) => Err(CommitRefused::InDoubt),
             },
@@ -383,25 +299,14 @@ impl<C: Channel> Shared<C> {
     }
 
     // Flushes where the ticket is `No`, and answers whether it then is settled.
-    pub(crate) fn make_settled(
-        &self,
-        seat: &mut Place<Home<C>>,
-        home: &mut Home<C>,
-        calls: u64,
-        by: u64,
-        ticket: &Ticket,
-    ) -> bool
-        requires table { seat.old.table_id ≡ self.now.turn.table.shared.table_id }
-        requires within { IsIn C.stands seat.old.me home.old.channel }
-        requires own { has seat.old.me.0.numbers by ≡ true }
-        requires calls { calls ≡ length seat.old.me.0.seen }
-        ensures same { seat.new.table_id ≡ seat.old.table_id }
-        ensures makes { MakesSettled C.stands by (C.moment home.new.channel) ticket.now result
-            seat.old.me home.new.channel seat.new.me }
+    pub(crate) fn make_settled(&self, holder: &mut Holder<C>, ticket: &Ticket) -> bool
+        requires { Holds C.stands self.now.turn.table.shared.table_id holder.old }
+        ensures { MakesSettled C.stands self.now.turn.table.shared.table_id C.moment
+            ticket.now result holder.old holder.new }
     {
-        match home.channel.settled(ticket) {
+        match holder.home.channel.settled(ticket) {
             Settled::Yes => true,
-            Settled::No => self.make_flush(seat, home, calls, by).is_ok(),
+            Settled::No => self.make_flush(holder).is_ok(),
             Settled::InDoubt => false,
         }
     }

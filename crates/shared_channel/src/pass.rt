@@ -10,7 +10,7 @@ ghost use Rattle.shared_channel.specs.Counting.{StandsAgreeing};
 ghost use Rattle.shared_channel.specs.Passes.{Known, new_pass, new_passes, IsBlank};
 
 use crate::home::Home;
-use crate::shared::Shared;
+use crate::shared::{Holder, Shared};
 use atomic_table::Badge;
 use channel_face::Channel;
 use channel_lock::{ChannelLock, Gather, Place, SeatView};
@@ -254,13 +254,17 @@ impl<C: Channel> Shared<C> {
         ensures whole { HasAll pass.view → result.pass.view.seen ≡ pass.view.seen }
     {
         let Pass {
-            badge,
+            mut badge,
             number,
             calls: _,
             marks,
         } = pass;
-        let mut seat = badge.into_seat();
-        let (home, calls) = self.enter(rt, &mut seat);
+        let Holder {
+            mut seat,
+            home,
+            by: _,
+            calls,
+        } = self.hold(rt, &mut badge, number);
         self.turn.shut(&mut seat);
         let Home { channel } = home;
         Closed {

@@ -7,12 +7,10 @@ ghost use Rattle.shared_channel.specs.Calls.{Answers, RolledBack, Commits, is_sp
 
 use crate::pass::Pass;
 use crate::shared::Shared;
-use atomic_table::Badge;
 use channel_face::{
     BeginRefused, Channel, CommitRefused, FlushRefused, PutRefused, PutTxn, StageRefused, Ticket,
 };
 use event_core::Event;
-use std::mem;
 use std::sync::Wait;
 
 impl<C: Channel> Shared<C> {
@@ -24,12 +22,9 @@ impl<C: Channel> Shared<C> {
         ensures call { Answers C.stands C.tells C.moment
             (is_spent_begin result) pass.old.view pass.old.number (BeginPut result) pass.new.view }
     {
-        let badge = mem::replace(&mut pass.badge, Badge::blank());
-        let mut seat = badge.into_seat();
-        let (mut home, calls) = self.enter(rt, &mut seat);
-        let reply = self.make_begin_put(&mut seat, &mut home, calls, pass.number);
-        pass.calls = self.leave(&mut seat, home);
-        pass.badge = seat.into_badge();
+        let mut holder = self.hold(rt, &mut pass.badge, pass.number);
+        let reply = self.make_begin_put(&mut holder);
+        pass.calls = self.release(holder, &mut pass.badge);
         reply
     }
 
@@ -49,12 +44,9 @@ impl<C: Channel> Shared<C> {
             (Put txn.old event.now result) pass.new.view }
         ensures token { txn.new ≡ txn.old }
     {
-        let badge = mem::replace(&mut pass.badge, Badge::blank());
-        let mut seat = badge.into_seat();
-        let (mut home, calls) = self.enter(rt, &mut seat);
-        let reply = self.make_put(&mut seat, &mut home, calls, pass.number, txn, event);
-        pass.calls = self.leave(&mut seat, home);
-        pass.badge = seat.into_badge();
+        let mut holder = self.hold(rt, &mut pass.badge, pass.number);
+        let reply = self.make_put(&mut holder, txn, event);
+        pass.calls = self.release(holder, &mut pass.badge);
         reply
     }
 
@@ -73,12 +65,9 @@ impl<C: Channel> Shared<C> {
             (StagePut txn (cause_of result)) pass.new.view }
         ensures back { IfErr result (λ refused. refused.txn ≡ txn) }
     {
-        let badge = mem::replace(&mut pass.badge, Badge::blank());
-        let mut seat = badge.into_seat();
-        let (mut home, calls) = self.enter(rt, &mut seat);
-        let reply = self.make_stage_put(&mut seat, &mut home, calls, pass.number, txn);
-        pass.calls = self.leave(&mut seat, home);
-        pass.badge = seat.into_badge();
+        let mut holder = self.hold(rt, &mut pass.badge, pass.number);
+        let reply = self.make_stage_put(&mut holder, txn);
+        pass.calls = self.release(holder, &mut pass.badge);
         reply
     }
 
@@ -90,12 +79,9 @@ impl<C: Channel> Shared<C> {
         ensures call { Answers C.stands C.tells C.moment
             (is_spent_flush result) pass.old.view pass.old.number (Flush result) pass.new.view }
     {
-        let badge = mem::replace(&mut pass.badge, Badge::blank());
-        let mut seat = badge.into_seat();
-        let (mut home, calls) = self.enter(rt, &mut seat);
-        let reply = self.make_flush(&mut seat, &mut home, calls, pass.number);
-        pass.calls = self.leave(&mut seat, home);
-        pass.badge = seat.into_badge();
+        let mut holder = self.hold(rt, &mut pass.badge, pass.number);
+        let reply = self.make_flush(&mut holder);
+        pass.calls = self.release(holder, &mut pass.badge);
         reply
     }
 
@@ -113,12 +99,9 @@ impl<C: Channel> Shared<C> {
         ensures call { Commits C.stands C.tells (is_spent_commit result) pass.old.view
             pass.old.number (StagePut txn) txn result pass.new.view }
     {
-        let badge = mem::replace(&mut pass.badge, Badge::blank());
-        let mut seat = badge.into_seat();
-        let (mut home, calls) = self.enter(rt, &mut seat);
-        let reply = self.make_commit_put(&mut seat, &mut home, calls, pass.number, txn);
-        pass.calls = self.leave(&mut seat, home);
-        pass.badge = seat.into_badge();
+        let mut holder = self.hold(rt, &mut pass.badge, pass.number);
+        let reply = self.make_commit_put(&mut holder, txn);
+        pass.calls = self.release(holder, &mut pass.badge);
         reply
     }
 
@@ -131,12 +114,9 @@ impl<C: Channel> Shared<C> {
         ensures call { RolledBack C.stands C.tells C.moment result pass.old.view pass.old.number
             (RollbackPut txn true) (λ s. puts_of s txn ≡ None) pass.new.view }
     {
-        let badge = mem::replace(&mut pass.badge, Badge::blank());
-        let mut seat = badge.into_seat();
-        let (mut home, _) = self.enter(rt, &mut seat);
-        let ended = self.make_rollback_put(&mut seat, &mut home, pass.number, txn);
-        pass.calls = self.leave(&mut seat, home);
-        pass.badge = seat.into_badge();
+        let mut holder = self.hold(rt, &mut pass.badge, pass.number);
+        let ended = self.make_rollback_put(&mut holder, txn);
+        pass.calls = self.release(holder, &mut pass.badge);
         ended
     }
 }

@@ -1,20 +1,15 @@
 // The reopening of a shared channel, and the mending of a broken one.
-ghost use Rattle.std.specs.Prelude.{◌≡◌, ◌^◌, ◌-◌, length, true};
-ghost use Rattle.channel_lock.specs.Calls.{has};
-ghost use Rattle.shared_channel.specs.Calls.{IsIn, Bounds};
-ghost use Rattle.channel_face.specs.Keeps.{is_spent_open};
-ghost use Rattle.shared_channel.specs.Durables.{MakesReopen, MakesMended, Reopens, Mends};
+ghost use Rattle.std.specs.Prelude.{◌≡◌};
+ghost use Rattle.shared_channel.specs.Durables.{MakesMended, Mends, Reopens, TriesReopen};
+ghost use Rattle.shared_channel.specs.Holding.{Holds};
 
 use crate::home::Home;
 use crate::making::MOST;
 use crate::pass::Pass;
-use crate::shared::Shared;
-use atomic_table::Badge;
+use crate::shared::{Holder, Shared};
 use channel_face::{Counter, OpenCause, Reopen};
-use channel_lock::Place;
 use flume_host::Steps;
 use std::marker::Brand;
-use std::mem;
 use std::sync::Wait;
 use std::sync::ledger::Ledger;
 
@@ -22,54 +17,44 @@ impl<C: Reopen> Shared<C> {
     // What it kept is known to be there, and not what it is. So one of the calls is counted that its reply may stand for.
     fn make_reopen<L: Ledger>(
         &self,
-        seat: &mut Place<Home<C>>,
-        home: &mut Home<C>,
-        calls: u64,
-        by: u64,
+        holder: &mut Holder<C>,
         steps: &mut Steps<L>,
     ) -> Result<(), OpenCause>
-        requires table { seat.old.table_id ≡ self.now.turn.table.shared.table_id }
-        requires within { IsIn C.stands seat.old.me home.old.channel }
-        requires own { has seat.old.me.0.numbers by ≡ true }
-        requires calls { calls ≡ length seat.old.me.0.seen }
-        ensures same { seat.new.table_id ≡ seat.old.table_id }
-        ensures makes { MakesReopen C.stands by (C.moment home.new.channel) result seat.old.me
-            home.new.channel seat.new.me }
-        ensures bound { Bounds (is_spent_open result) (2 ^ 64 - 1025) (length seat.old.me.0.seen) }
+        requires { Holds C.stands self.now.turn.table.shared.table_id holder.old }
+        ensures { TriesReopen C.stands self.now.turn.table.shared.table_id C.moment result
+            holder.old holder.new }
     {
-        if calls >= MOST {
+        if holder.calls >= MOST {
             return Err(OpenCause::Spent {
                 counter: Counter::Calls,
             });
         }
-        let reply = home.channel.reopen(steps);
+        let reply = holder.home.channel.reopen(steps);
         self.turn
-            .count_one::<Brand, (&Result<(), OpenCause>, &Home<C>)>(seat, by, &(&reply, &*home));
+            .count_one::<Brand, (&Result<(), OpenCause>, &Home<C>)>(
+                &mut holder.seat,
+                holder.by,
+                &(&reply, &holder.home),
+            );
+        holder.calls += 1;
         reply
     }
 
     // Reopens the channel where it is broken, and answers whether it was.
     fn make_mended<L: Ledger>(
         &self,
-        seat: &mut Place<Home<C>>,
-        home: &mut Home<C>,
-        calls: u64,
-        by: u64,
+        holder: &mut Holder<C>,
         steps: &mut Steps<L>,
     ) -> Result<bool, OpenCause>
-        requires table { seat.old.table_id ≡ self.now.turn.table.shared.table_id }
-        requires within { IsIn C.stands seat.old.me home.old.channel }
-        requires own { has seat.old.me.0.numbers by ≡ true }
-        requires calls { calls ≡ length seat.old.me.0.seen }
-        ensures same { seat.new.table_id ≡ seat.old.table_id }
-        ensures makes { MakesMended C.stands by (C.moment home.new.channel) result seat.old.me
-            home.new.channel seat.new.me }
+        requires { Holds C.stands self.now.turn.table.shared.table_id holder.old }
+        ensures { MakesMended C.stands self.now.turn.table.shared.table_id C.moment result
+            holder.old holder.new }
     {
-        let broken = home.channel.is_broken();
+        let broken = holder.home.channel.is_broken();
         if !broken {
             return Ok(false);
         }
-        match self.make_reopen(seat, home, calls, by, steps) {
+        match self.make_reopen(holder, steps) {
             Ok(()) => Ok(true),
             Err(cause) => Err(cause),
         }
@@ -89,12 +74,9 @@ impl<C: Reopen> Shared<C> {
         ensures call { Reopens C.stands C.tells C.moment pass.old.view pass.old.number result
             pass.new.view }
     {
-        let badge = mem::replace(&mut pass.badge, Badge::blank());
-        let mut seat = badge.into_seat();
-        let (mut home, calls) = self.enter(rt, &mut seat);
-        let reply = self.make_reopen(&mut seat, &mut home, calls, pass.number, steps);
-        pass.calls = self.leave(&mut seat, home);
-        pass.badge = seat.into_badge();
+        let mut holder = self.hold(rt, &mut pass.badge, pass.number);
+        let reply = self.make_reopen(&mut holder, steps);
+        pass.calls = self.release(holder, &mut pass.badge);
         reply
     }
 
@@ -112,12 +94,9 @@ impl<C: Reopen> Shared<C> {
         ensures call { Mends C.stands C.tells C.moment pass.old.view pass.old.number result
             pass.new.view }
     {
-        let badge = mem::replace(&mut pass.badge, Badge::blank());
-        let mut seat = badge.into_seat();
-        let (mut home, calls) = self.enter(rt, &mut seat);
-        let reply = self.make_mended(&mut seat, &mut home, calls, pass.number, steps);
-        pass.calls = self.leave(&mut seat, home);
-        pass.badge = seat.into_badge();
+        let mut holder = self.hold(rt, &mut pass.badge, pass.number);
+        let reply = self.make_mended(&mut holder, steps);
+        pass.calls = self.release(holder, &mut pass.badge);
         reply
     }
 }

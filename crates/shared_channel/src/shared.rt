@@ -1,13 +1,14 @@
 // A channel behind one lock, as the one who holds the lock sees it.
-ghost use Rattle.std.specs.Prelude.{◌≡◌, [], List, length};
-ghost use Rattle.channel_face.specs.History.{Step};
-ghost use Rattle.channel_lock.specs.Views.{View, saw};
+ghost use Rattle.std.specs.Prelude.{◌≡◌, []};
 ghost use Rattle.channel_lock.specs.Turns.{Making};
-ghost use Rattle.shared_channel.specs.Calls.{IsOut, IsIn, Left};
+ghost use Rattle.shared_channel.specs.Holding.{Holds, IsReleased};
+ghost use Rattle.shared_channel.specs.Passes.{IsHome, view_of};
 
 use crate::home::Home;
+use atomic_table::Badge;
 use channel_face::Channel;
-use channel_lock::{ChannelLock, Gather, Place};
+use channel_lock::{ChannelLock, Gather, Place, SeatView};
+use std::mem;
 use std::sync::Wait;
 
 /// A channel that threads share. Its calls have one history, in which each was made whole.
@@ -18,36 +19,50 @@ pub struct Shared<C: Channel> {
     pub(crate) flushing: Gather,
 }
 
+/// A pass that holds the lock, with the channel.
+pub(crate) struct Holder<C: Channel> {
+    pub(crate) seat: Place<Home<C>>,
+    pub(crate) home: Home<C>,
+    // The number that its calls carry.
+    pub(crate) by: u64,
+    // How many calls are counted.
+    pub(crate) calls: u64,
+}
+
 impl<C: Channel> Shared<C> {
-    // Takes the lock and the channel, and tells how many calls were counted.
-    pub(crate) fn enter<R: Wait>(&self, rt: &R, seat: &mut Place<Home<C>>) -> (Home<C>, u64)
-        requires table { seat.old.table_id ≡ self.now.turn.table.shared.table_id }
-        requires out { IsOut seat.old.me }
-        ensures same { seat.new.table_id ≡ seat.old.table_id }
-        ensures within { IsIn C.stands seat.new.me result.0.channel }
-        ensures making { Making seat.old.me.0 [] seat.new.me.0 }
-        ensures calls { result.1 ≡ length seat.new.me.0.seen }
+    // Takes the lock with a pass, whose badge is out until the lock is released.
+    pub(crate) fn hold<R: Wait>(&self, rt: &R, badge: &mut Badge<SeatView>, by: u64) -> Holder<C>
+        requires table { badge.old.table_id ≡ self.now.turn.table.shared.table_id }
+        requires home { IsHome badge.old.views by }
+        ensures holds { Holds C.stands self.now.turn.table.shared.table_id result }
+        ensures by { result.by ≡ by }
+        ensures making { Making (view_of badge.old.views) [] result.seat.me.0 }
     {
-        let home = self.turn.enter(rt, seat);
-        let calls = self.turn.calls(seat);
-        (home, calls)
+        let mut seat = mem::replace(badge, Badge::blank()).into_seat();
+        let home = self.turn.enter(rt, &mut seat);
+        let calls = self.turn.calls(&mut seat);
+        Holder {
+            seat,
+            home,
+            by,
+            calls,
+        }
     }
 
-    // Brings the channel home, releases the lock, and tells how many calls were counted.
-    pub(crate) fn leave(&self, seat: &mut Place<Home<C>>, home: Home<C>) -> u64
-        requires table { seat.old.table_id ≡ self.now.turn.table.shared.table_id }
-        requires within { IsIn C.stands seat.old.me home.channel }
-        ensures same { seat.new.table_id ≡ seat.old.table_id }
-        ensures out { IsOut seat.new.me }
-        ensures left { (v : View) (calls : List Step) → Making v calls seat.old.me.0
-            → Left C.stands C.tells v calls seat.new.me.0 home.channel }
-        ensures saw { (v : View) (calls : List Step) → Making v calls seat.old.me.0
-            → seat.new.me.0 ≡ saw v seat.new.me.0.seen }
-        ensures seen { seat.new.me.0.seen ≡ seat.old.me.0.seen }
-        ensures calls { result ≡ length seat.new.me.0.seen }
+    // Brings the channel home, releases the lock, and puts the badge back. It answers how many calls are counted.
+    pub(crate) fn release(&self, holder: Holder<C>, badge: &mut Badge<SeatView>) -> u64
+        requires { Holds C.stands self.now.turn.table.shared.table_id holder }
+        ensures table { badge.new.table_id ≡ self.now.turn.table.shared.table_id }
+        ensures released { IsReleased C.stands C.tells holder badge.new.views result }
     {
-        let calls = self.turn.calls(seat);
-        self.turn.leave(seat, home);
+        let Holder {
+            mut seat,
+            home,
+            by: _,
+            calls,
+        } = holder;
+        self.turn.leave(&mut seat, home);
+        *badge = seat.into_badge();
         calls
     }
 }

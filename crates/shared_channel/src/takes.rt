@@ -7,11 +7,9 @@ ghost use Rattle.shared_channel.specs.Calls.{Answers, RolledBack, Commits, is_sp
 
 use crate::pass::Pass;
 use crate::shared::Shared;
-use atomic_table::Badge;
 use channel_face::{
     BeginRefused, Channel, CommitRefused, StageRefused, TakeRefused, TakeTxn, Taken, Ticket,
 };
-use std::mem;
 use std::sync::Wait;
 
 impl<C: Channel> Shared<C> {
@@ -23,12 +21,9 @@ impl<C: Channel> Shared<C> {
         ensures call { Answers C.stands C.tells C.moment
             (is_spent_begin result) pass.old.view pass.old.number (BeginTake result) pass.new.view }
     {
-        let badge = mem::replace(&mut pass.badge, Badge::blank());
-        let mut seat = badge.into_seat();
-        let (mut home, calls) = self.enter(rt, &mut seat);
-        let reply = self.make_begin_take(&mut seat, &mut home, calls, pass.number);
-        pass.calls = self.leave(&mut seat, home);
-        pass.badge = seat.into_badge();
+        let mut holder = self.hold(rt, &mut pass.badge, pass.number);
+        let reply = self.make_begin_take(&mut holder);
+        pass.calls = self.release(holder, &mut pass.badge);
         reply
     }
 
@@ -47,12 +42,9 @@ impl<C: Channel> Shared<C> {
             (Take txn.old result) pass.new.view }
         ensures token { txn.new ≡ txn.old }
     {
-        let badge = mem::replace(&mut pass.badge, Badge::blank());
-        let mut seat = badge.into_seat();
-        let (mut home, calls) = self.enter(rt, &mut seat);
-        let reply = self.make_take(&mut seat, &mut home, calls, pass.number, txn);
-        pass.calls = self.leave(&mut seat, home);
-        pass.badge = seat.into_badge();
+        let mut holder = self.hold(rt, &mut pass.badge, pass.number);
+        let reply = self.make_take(&mut holder, txn);
+        pass.calls = self.release(holder, &mut pass.badge);
         reply
     }
 
@@ -71,12 +63,9 @@ impl<C: Channel> Shared<C> {
             (StageTake txn (cause_of result)) pass.new.view }
         ensures back { IfErr result (λ refused. refused.txn ≡ txn) }
     {
-        let badge = mem::replace(&mut pass.badge, Badge::blank());
-        let mut seat = badge.into_seat();
-        let (mut home, calls) = self.enter(rt, &mut seat);
-        let reply = self.make_stage_take(&mut seat, &mut home, calls, pass.number, txn);
-        pass.calls = self.leave(&mut seat, home);
-        pass.badge = seat.into_badge();
+        let mut holder = self.hold(rt, &mut pass.badge, pass.number);
+        let reply = self.make_stage_take(&mut holder, txn);
+        pass.calls = self.release(holder, &mut pass.badge);
         reply
     }
 
@@ -94,12 +83,9 @@ impl<C: Channel> Shared<C> {
         ensures call { Commits C.stands C.tells (is_spent_commit result) pass.old.view
             pass.old.number (StageTake txn) txn result pass.new.view }
     {
-        let badge = mem::replace(&mut pass.badge, Badge::blank());
-        let mut seat = badge.into_seat();
-        let (mut home, calls) = self.enter(rt, &mut seat);
-        let reply = self.make_commit_take(&mut seat, &mut home, calls, pass.number, txn);
-        pass.calls = self.leave(&mut seat, home);
-        pass.badge = seat.into_badge();
+        let mut holder = self.hold(rt, &mut pass.badge, pass.number);
+        let reply = self.make_commit_take(&mut holder, txn);
+        pass.calls = self.release(holder, &mut pass.badge);
         reply
     }
 
@@ -112,12 +98,9 @@ impl<C: Channel> Shared<C> {
         ensures call { RolledBack C.stands C.tells C.moment result pass.old.view pass.old.number
             (RollbackTake txn true) (λ s. takes_of s txn ≡ None) pass.new.view }
     {
-        let badge = mem::replace(&mut pass.badge, Badge::blank());
-        let mut seat = badge.into_seat();
-        let (mut home, _) = self.enter(rt, &mut seat);
-        let ended = self.make_rollback_take(&mut seat, &mut home, pass.number, txn);
-        pass.calls = self.leave(&mut seat, home);
-        pass.badge = seat.into_badge();
+        let mut holder = self.hold(rt, &mut pass.badge, pass.number);
+        let ended = self.make_rollback_take(&mut holder, txn);
+        pass.calls = self.release(holder, &mut pass.badge);
         ended
     }
 }

@@ -1,31 +1,14 @@
-use Rattle.std.proofs.Common.{◌≡◌, List, length}
+use Rattle.std.proofs.Common.{length}
 use Rattle.channel_face.specs.Keeps.{IsCheck}
-use Rattle.channel_face.specs.Faces.{Own}
-use Rattle.shared_channel.specs.Ports.{Saw, WentBy}
 use Rattle.shared_channel.proofs.Porting.{gains, goes_grows, later}
 use Rattle.shared_channel.proofs.Mending.{check_goes}
 use Rattle.shared_channel.proofs.keeper.PortKeepFace.checkpoint.Goals as goal
 
 pub returns-clause-seen : goal.returns-clause-seen
-returns-clause-seen g c =
-    let p = c.args.self.now.pass in
-    let q = c.checkpoint.new.pass in
-    let P : List Own → List Own → Type 0 = λ earlier. IsCheck (length q.view.seen) c.checkpoint.result in
-    let went : WentBy p.number p.view q.view P = check_goes g.C.Channel.stands g.C.Channel.tells g.C.Channel.moment p.view q.view p.number c.checkpoint.result c.checkpoint.ensures.call in
-    goes_grows p.number p.view q.view P went
+returns-clause-seen g c = goes_grows c.args.self.now.pass.number c.args.self.now.pass.view c.checkpoint.new.pass.view (λ earlier. IsCheck (length c.checkpoint.new.pass.view.seen) c.checkpoint.result) (check_goes g.C.Channel.stands g.C.Channel.tells g.C.Channel.moment _ _ _ c.checkpoint.result c.checkpoint.ensures.call)
 
 pub returns-clause-calls : goal.returns-clause-calls
-returns-clause-calls g c =
-    let p = c.args.self.now.pass in
-    let q = c.checkpoint.new.pass in
-    let P : List Own → List Own → Type 0 = λ earlier. IsCheck (length q.view.seen) c.checkpoint.result in
-    let went : WentBy p.number p.view q.view P = check_goes g.C.Channel.stands g.C.Channel.tells g.C.Channel.moment p.view q.view p.number c.checkpoint.result c.checkpoint.ensures.call in
-    gains p.number p.view q.view P went
+returns-clause-calls g c = gains c.args.self.now.pass.number c.args.self.now.pass.view c.checkpoint.new.pass.view (λ earlier. IsCheck (length c.checkpoint.new.pass.view.seen) c.checkpoint.result) (check_goes g.C.Channel.stands g.C.Channel.tells g.C.Channel.moment _ _ _ c.checkpoint.result c.checkpoint.ensures.call)
 
 pub returns-clause-kept : goal.returns-clause-kept
-returns-clause-kept g c =
-    let p = c.args.self.now.pass in
-    let q = c.checkpoint.new.pass in
-    let P : List Own → List Own → Type 0 = λ earlier. IsCheck (length q.view.seen) c.checkpoint.result in
-    let went : WentBy p.number p.view q.view P = check_goes g.C.Channel.stands g.C.Channel.tells g.C.Channel.moment p.view q.view p.number c.checkpoint.result c.checkpoint.ensures.call in
-    later p q P c.checkpoint.ensures.same went
+returns-clause-kept g c = later c.args.self.now.pass c.checkpoint.new.pass (λ earlier. IsCheck (length c.checkpoint.new.pass.view.seen) c.checkpoint.result) c.checkpoint.ensures.same (check_goes g.C.Channel.stands g.C.Channel.tells g.C.Channel.moment _ _ _ c.checkpoint.result c.checkpoint.ensures.call)

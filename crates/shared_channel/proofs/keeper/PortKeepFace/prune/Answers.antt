@@ -1,31 +1,14 @@
-use Rattle.std.proofs.Common.{◌≡◌, List, length}
+use Rattle.std.proofs.Common.{length}
 use Rattle.channel_face.specs.Keeps.{IsPrune}
-use Rattle.channel_face.specs.Faces.{Own}
-use Rattle.shared_channel.specs.Ports.{Saw, WentBy}
 use Rattle.shared_channel.proofs.Porting.{gains, goes_grows, later}
 use Rattle.shared_channel.proofs.Mending.{prune_goes}
 use Rattle.shared_channel.proofs.keeper.PortKeepFace.prune.Goals as goal
 
 pub returns-clause-seen : goal.returns-clause-seen
-returns-clause-seen g c =
-    let p = c.args.self.now.pass in
-    let q = c.prune.new.pass in
-    let P : List Own → List Own → Type 0 = λ earlier. IsPrune (length q.view.seen) c.prune.result in
-    let went : WentBy p.number p.view q.view P = prune_goes g.C.Channel.stands g.C.Channel.tells g.C.Channel.moment p.view q.view p.number c.prune.result c.prune.ensures.call in
-    goes_grows p.number p.view q.view P went
+returns-clause-seen g c = goes_grows c.args.self.now.pass.number c.args.self.now.pass.view c.prune.new.pass.view (λ earlier. IsPrune (length c.prune.new.pass.view.seen) c.prune.result) (prune_goes g.C.Channel.stands g.C.Channel.tells g.C.Channel.moment _ _ _ c.prune.result c.prune.ensures.call)
 
 pub returns-clause-calls : goal.returns-clause-calls
-returns-clause-calls g c =
-    let p = c.args.self.now.pass in
-    let q = c.prune.new.pass in
-    let P : List Own → List Own → Type 0 = λ earlier. IsPrune (length q.view.seen) c.prune.result in
-    let went : WentBy p.number p.view q.view P = prune_goes g.C.Channel.stands g.C.Channel.tells g.C.Channel.moment p.view q.view p.number c.prune.result c.prune.ensures.call in
-    gains p.number p.view q.view P went
+returns-clause-calls g c = gains c.args.self.now.pass.number c.args.self.now.pass.view c.prune.new.pass.view (λ earlier. IsPrune (length c.prune.new.pass.view.seen) c.prune.result) (prune_goes g.C.Channel.stands g.C.Channel.tells g.C.Channel.moment _ _ _ c.prune.result c.prune.ensures.call)
 
 pub returns-clause-kept : goal.returns-clause-kept
-returns-clause-kept g c =
-    let p = c.args.self.now.pass in
-    let q = c.prune.new.pass in
-    let P : List Own → List Own → Type 0 = λ earlier. IsPrune (length q.view.seen) c.prune.result in
-    let went : WentBy p.number p.view q.view P = prune_goes g.C.Channel.stands g.C.Channel.tells g.C.Channel.moment p.view q.view p.number c.prune.result c.prune.ensures.call in
-    later p q P c.prune.ensures.same went
+returns-clause-kept g c = later c.args.self.now.pass c.prune.new.pass (λ earlier. IsPrune (length c.prune.new.pass.view.seen) c.prune.result) c.prune.ensures.same (prune_goes g.C.Channel.stands g.C.Channel.tells g.C.Channel.moment _ _ _ c.prune.result c.prune.ensures.call)

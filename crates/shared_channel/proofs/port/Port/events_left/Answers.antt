@@ -1,31 +1,15 @@
-use Rattle.std.proofs.Common.{◌≡◌, List, length}
+use Rattle.std.proofs.Common.{◌≡◌, length}
 use Rattle.channel_face.specs.Keeps.{IsLook}
-use Rattle.channel_face.specs.Faces.{Own}
-use Rattle.shared_channel.specs.Ports.{Saw, WentBy}
+use Rattle.shared_channel.specs.Ports.{Saw}
 use Rattle.shared_channel.proofs.Porting.{gains, goes_grows, later}
 use Rattle.shared_channel.proofs.Mending.{looked}
 use Rattle.shared_channel.proofs.port.Port.events_left.Goals as goal
 
 pub returns-clause-seen : goal.returns-clause-seen
-returns-clause-seen g c =
-    let p = c.args.self.now.pass in
-    let q = c.size.new.pass in
-    let P : List Own → List Own → Type 0 = IsLook (Saw g.C.Channel.stands q.view) (λ s. c.size.result ≡ length s.items) in
-    let went : WentBy p.number p.view q.view P = looked g.C.Channel.stands g.C.Channel.tells g.C.Channel.moment p.view q.view p.number (λ s. c.size.result ≡ length s.items) c.size.ensures.look c.size.ensures.answer in
-    goes_grows p.number p.view q.view P went
+returns-clause-seen g c = goes_grows c.args.self.now.pass.number c.args.self.now.pass.view c.size.new.pass.view (IsLook (Saw g.C.Channel.stands c.size.new.pass.view) (λ s. c.size.result ≡ length s.items)) (looked g.C.Channel.stands g.C.Channel.tells g.C.Channel.moment _ _ _ (λ s. c.size.result ≡ length s.items) c.size.ensures.look c.size.ensures.answer)
 
 pub returns-clause-calls : goal.returns-clause-calls
-returns-clause-calls g c =
-    let p = c.args.self.now.pass in
-    let q = c.size.new.pass in
-    let P : List Own → List Own → Type 0 = IsLook (Saw g.C.Channel.stands q.view) (λ s. c.size.result ≡ length s.items) in
-    let went : WentBy p.number p.view q.view P = looked g.C.Channel.stands g.C.Channel.tells g.C.Channel.moment p.view q.view p.number (λ s. c.size.result ≡ length s.items) c.size.ensures.look c.size.ensures.answer in
-    gains p.number p.view q.view P went
+returns-clause-calls g c = gains c.args.self.now.pass.number c.args.self.now.pass.view c.size.new.pass.view (IsLook (Saw g.C.Channel.stands c.size.new.pass.view) (λ s. c.size.result ≡ length s.items)) (looked g.C.Channel.stands g.C.Channel.tells g.C.Channel.moment _ _ _ (λ s. c.size.result ≡ length s.items) c.size.ensures.look c.size.ensures.answer)
 
 pub returns-clause-kept : goal.returns-clause-kept
-returns-clause-kept g c =
-    let p = c.args.self.now.pass in
-    let q = c.size.new.pass in
-    let P : List Own → List Own → Type 0 = IsLook (Saw g.C.Channel.stands q.view) (λ s. c.size.result ≡ length s.items) in
-    let went : WentBy p.number p.view q.view P = looked g.C.Channel.stands g.C.Channel.tells g.C.Channel.moment p.view q.view p.number (λ s. c.size.result ≡ length s.items) c.size.ensures.look c.size.ensures.answer in
-    later p q P c.size.ensures.same went
+returns-clause-kept g c = later c.args.self.now.pass c.size.new.pass (IsLook (Saw g.C.Channel.stands c.size.new.pass.view) (λ s. c.size.result ≡ length s.items)) c.size.ensures.same (looked g.C.Channel.stands g.C.Channel.tells g.C.Channel.moment _ _ _ (λ s. c.size.result ≡ length s.items) c.size.ensures.look c.size.ensures.answer)

@@ -1,7 +1,7 @@
 use Rattle.std.proofs.Common.{length}
 use Rattle.channel_face.specs.Faces.{picked_events, IsPutBatch}
 use Rattle.shared_channel.specs.Ports.{Saw}
-use Rattle.shared_channel.proofs.Porting.{gains, later}
+use Rattle.shared_channel.proofs.Porting.{later}
 use Rattle.shared_channel.proofs.port.PortPutFace.put_batch.Goals as goal
 
 pub returns-clause-kept : goal.returns-clause-kept

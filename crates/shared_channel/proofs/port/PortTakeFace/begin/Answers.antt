@@ -6,31 +6,19 @@ use Rattle.shared_channel.proofs.Porting.{gains, later, take_begun, all_seen}
 use Rattle.shared_channel.proofs.port.PortTakeFace.begin.Goals as goal
 
 pub returns-in-Ok-clause-calls : goal.returns-in-Ok-clause-calls
-returns-in-Ok-clause-calls g c =
-    let v = c.args.self.now.pass.view in
-    let w = c.begin_take.new.pass.view in
-    gains c.args.self.now.pass.number v w (λ earlier. IsTakeBegun (length w.seen) (Ok c.in-Ok.txn)) (take_begun g.C.Channel.stands g.C.Channel.tells g.C.Channel.moment v w c.args.self.now.pass.number (Ok c.in-Ok.txn) (Ok c.in-Ok.txn) c.in-Ok.ensures.call refl)
-
-pub returns-in-Err-clause-calls : goal.returns-in-Err-clause-calls
-returns-in-Err-clause-calls g c =
-    let v = c.args.self.now.pass.view in
-    let w = c.begin_take.new.pass.view in
-    gains c.args.self.now.pass.number v w (λ earlier. IsTakeBegun (length w.seen) (Err (Face.Begin c.in-Err.refused))) (take_begun g.C.Channel.stands g.C.Channel.tells g.C.Channel.moment v w c.args.self.now.pass.number (Err c.in-Err.refused) (Err (Face.Begin c.in-Err.refused)) c.in-Err.ensures.call refl)
+returns-in-Ok-clause-calls g c = gains c.args.self.now.pass.number c.args.self.now.pass.view c.begin_take.new.pass.view (λ earlier. IsTakeBegun (length c.begin_take.new.pass.view.seen) (Ok c.in-Ok.txn)) (take_begun g.C.Channel.stands g.C.Channel.tells g.C.Channel.moment _ _ _ (Ok c.in-Ok.txn) (Ok c.in-Ok.txn) c.in-Ok.ensures.call refl)
 
 pub returns-in-Ok-clause-kept : goal.returns-in-Ok-clause-kept
-returns-in-Ok-clause-kept g c =
-    let p = c.args.self.now.pass in
-    let q = c.begin_take.new.pass in
-    later p q (λ earlier. IsTakeBegun (length q.view.seen) (Ok c.in-Ok.txn)) c.in-Ok.ensures.same (take_begun g.C.Channel.stands g.C.Channel.tells g.C.Channel.moment p.view q.view p.number (Ok c.in-Ok.txn) (Ok c.in-Ok.txn) c.in-Ok.ensures.call refl)
-
-pub returns-in-Err-clause-kept : goal.returns-in-Err-clause-kept
-returns-in-Err-clause-kept g c =
-    let p = c.args.self.now.pass in
-    let q = c.begin_take.new.pass in
-    later p q (λ earlier. IsTakeBegun (length q.view.seen) (Err (Face.Begin c.in-Err.refused))) c.in-Err.ensures.same (take_begun g.C.Channel.stands g.C.Channel.tells g.C.Channel.moment p.view q.view p.number (Err c.in-Err.refused) (Err (Face.Begin c.in-Err.refused)) c.in-Err.ensures.call refl)
+returns-in-Ok-clause-kept g c = later c.args.self.now.pass c.begin_take.new.pass (λ earlier. IsTakeBegun (length c.begin_take.new.pass.view.seen) (Ok c.in-Ok.txn)) c.in-Ok.ensures.same (take_begun g.C.Channel.stands g.C.Channel.tells g.C.Channel.moment _ _ _ (Ok c.in-Ok.txn) (Ok c.in-Ok.txn) c.in-Ok.ensures.call refl)
 
 pub returns-in-Ok-clause-all : goal.returns-in-Ok-clause-all
 returns-in-Ok-clause-all g c = all_seen g.C.Channel.stands g.C.Channel.tells g.C.Channel.moment (is_spent_begin (Ok c.in-Ok.txn)) c.args.self.now.pass.view c.begin_take.new.pass.view c.args.self.now.pass.number (BeginTake (Ok c.in-Ok.txn)) c.in-Ok.ensures.call
+
+pub returns-in-Err-clause-calls : goal.returns-in-Err-clause-calls
+returns-in-Err-clause-calls g c = gains c.args.self.now.pass.number c.args.self.now.pass.view c.begin_take.new.pass.view (λ earlier. IsTakeBegun (length c.begin_take.new.pass.view.seen) (Err (Face.Begin c.in-Err.refused))) (take_begun g.C.Channel.stands g.C.Channel.tells g.C.Channel.moment _ _ _ (Err c.in-Err.refused) (Err (Face.Begin c.in-Err.refused)) c.in-Err.ensures.call refl)
+
+pub returns-in-Err-clause-kept : goal.returns-in-Err-clause-kept
+returns-in-Err-clause-kept g c = later c.args.self.now.pass c.begin_take.new.pass (λ earlier. IsTakeBegun (length c.begin_take.new.pass.view.seen) (Err (Face.Begin c.in-Err.refused))) c.in-Err.ensures.same (take_begun g.C.Channel.stands g.C.Channel.tells g.C.Channel.moment _ _ _ (Err c.in-Err.refused) (Err (Face.Begin c.in-Err.refused)) c.in-Err.ensures.call refl)
 
 pub returns-in-Err-clause-all : goal.returns-in-Err-clause-all
 returns-in-Err-clause-all g c = all_seen g.C.Channel.stands g.C.Channel.tells g.C.Channel.moment (is_spent_begin (Err c.in-Err.refused)) c.args.self.now.pass.view c.begin_take.new.pass.view c.args.self.now.pass.number (BeginTake (Err c.in-Err.refused)) c.in-Err.ensures.call

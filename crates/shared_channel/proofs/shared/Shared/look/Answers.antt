@@ -1,53 +1,28 @@
-use Rattle.std.proofs.Common.{rules, ◌≡◌, [], ◌∷◌, sym, ap, subst, true, List}
-use Rattle.channel_face.specs.History.{Opening, Step, opening, state_after}
+use Rattle.std.proofs.Common.{◌≡◌}
 use Rattle.channel_face.specs.Counters.{counts_of}
-use Rattle.channel_lock.specs.Calls.{has}
-use Rattle.channel_lock.specs.Views.{View}
-use Rattle.shared_channel.specs.Calls.{Looks}
-use Rattle.shared_channel.specs.Passes.{Known, view_of}
-use Rattle.shared_channel.proofs.Keeping.{kept_shows, kept_counts}
-use Rattle.shared_channel.proofs.Turning.{looks, nothing_new, shown, pass_after, of_views}
+use Rattle.channel_face.specs.History.{opening, state_after}
+use Rattle.shared_channel.specs.Passes.{view_of}
+use Rattle.shared_channel.proofs.Keeping.{kept_counts, kept_shows}
+use Rattle.shared_channel.proofs.Turning.{looks, makes_none, nothing_new, pass_kept, shown}
 use Rattle.shared_channel.proofs.shared.Shared.look.Goals as goal
 
 pub invariant_of-pass : goal.invariant_of-pass
-invariant_of-pass g c =
-    let v = c.into_seat-seat.result.me.0 in
-    let w = c.leave-pass-inside.new.seat.me.0 in
-    let was : c.pass.inside.badge.views ≡ v ∷ [] = search rules in
-    let own : has v.numbers c.pass.inside.number ≡ true = search rules in
-    pass_after c.pass.inside.badge.views c.into_badge.result.views c.pass.inside.number c.pass.inside.calls c.leave-pass-inside.result c.pass.inside.marks.items v w was c.into_badge.ensures.2 c.pass.invariant
-    (c.leave-pass-inside.ensures.saw v [] c.enter-home.ensures.making) c.leave-pass-inside.ensures.calls
+invariant_of-pass g c = pass_kept g.C.Channel.stands g.C.Channel.tells _ _ _ c.pass.inside.badge.views _ _ c.pass.view_is c.pass.invariant.0.3 _ _ c.hold-holder.ensures.by c.hold-holder.ensures.making _ c.release-pass-inside.ensures.released _ _ _ c.pass.invariant (makes_none g.C.Channel.stands g.C.Channel.tells _ _ c.hold-holder.ensures.holds)
 
 pub returns-clause-look : goal.returns-clause-look
-returns-clause-look g c =
-    let S = g.C.Channel.stands in
-    let T = g.C.Channel.tells in
-    let v = c.into_seat-seat.result.me.0 in
-    let w = c.leave-pass-inside.new.seat.me.0 in
-    let was : c.pass.inside.badge.views ≡ v ∷ [] = search rules in
-    let here : Looks S T v w = looks S T v w c.enter-home.new.seat.me c.enter-home.result.0.channel c.enter-home.ensures.making c.leave-pass-inside.ensures.left in
-    subst (λ (p : Known). Looks S T p.view (view_of c.into_badge.result.views)) c.pass.view_is
-    (of_views (λ x y. Looks S T x y) c.pass.inside.badge.views c.into_badge.result.views v w was c.into_badge.ensures.2 here)
+returns-clause-look g c = looks g.C.Channel.stands g.C.Channel.tells _ _ _ c.pass.inside.badge.views _ _ c.pass.view_is c.pass.invariant.0.3 _ _ c.hold-holder.ensures.by c.hold-holder.ensures.making _ c.release-pass-inside.ensures.released (makes_none g.C.Channel.stands g.C.Channel.tells _ _ c.hold-holder.ensures.holds)
 
 pub returns-clause-whole : goal.returns-clause-whole
-returns-clause-whole g c = λ every. nothing_new c.args.pass.now.view (view_of c.into_badge.result.views) every (returns-clause-look g c).1.made
+returns-clause-whole g c = λ every. nothing_new c.args.pass.now.view (view_of c.release-pass-inside.new.badge.views) every (returns-clause-look g c).1.made
 
 pub returns-clause-counts : goal.returns-clause-counts
 returns-clause-counts g c =
-    let v = c.into_seat-seat.result.me.0 in
-    let w = c.leave-pass-inside.new.seat.me.0 in
-    let k = c.enter-home.new.seat.me.0 in
-    let P : Opening → List Step → Type 0 = λ o h. c.counts-counts.result ≡ counts_of o h in
-    subst (λ (x : View). P x.base x.seen) (sym (ap view_of c.into_badge.ensures.2))
-    (shown P v w k c.enter-home.ensures.making (c.leave-pass-inside.ensures.saw v [] c.enter-home.ensures.making) c.leave-pass-inside.ensures.seen
-    (kept_counts g.C.Channel.stands g.C.Channel.tells c.enter-home.result.0.channel k.base k.seen c.counts-counts.result c.counts-counts.ensures c.enter-home.ensures.within.3.calls))
+    let k = c.hold-holder.result.seat.me.0 in
+    shown g.C.Channel.stands g.C.Channel.tells _ _ _ c.pass.inside.badge.views _ _ c.pass.view_is c.pass.invariant.0.3 _ _ c.hold-holder.ensures.by c.hold-holder.ensures.making _ c.release-pass-inside.ensures.released (λ o h. c.counts-counts.result ≡ counts_of o h) (makes_none g.C.Channel.stands g.C.Channel.tells _ _ c.hold-holder.ensures.holds)
+    (kept_counts g.C.Channel.stands g.C.Channel.tells c.hold-holder.result.home.channel k.base k.seen c.counts-counts.result c.counts-counts.ensures c.hold-holder.ensures.holds.1.3.calls)
 
 pub returns-clause-broken : goal.returns-clause-broken
 returns-clause-broken g c =
-    let v = c.into_seat-seat.result.me.0 in
-    let w = c.leave-pass-inside.new.seat.me.0 in
-    let k = c.enter-home.new.seat.me.0 in
-    let P : Opening → List Step → Type 0 = λ o h. c.is_broken-broken.result ≡ (state_after (opening o) h).broken in
-    subst (λ (x : View). P x.base x.seen) (sym (ap view_of c.into_badge.ensures.2))
-    (shown P v w k c.enter-home.ensures.making (c.leave-pass-inside.ensures.saw v [] c.enter-home.ensures.making) c.leave-pass-inside.ensures.seen
-    (kept_shows g.C.Channel.stands g.C.Channel.tells c.enter-home.result.0.channel k.base k.seen (λ s. c.is_broken-broken.result ≡ s.broken) c.is_broken-broken.ensures c.enter-home.ensures.within.3.calls))
+    let k = c.hold-holder.result.seat.me.0 in
+    shown g.C.Channel.stands g.C.Channel.tells _ _ _ c.pass.inside.badge.views _ _ c.pass.view_is c.pass.invariant.0.3 _ _ c.hold-holder.ensures.by c.hold-holder.ensures.making _ c.release-pass-inside.ensures.released (λ o h. c.is_broken-broken.result ≡ (state_after (opening o) h).broken) (makes_none g.C.Channel.stands g.C.Channel.tells _ _ c.hold-holder.ensures.holds)
+    (kept_shows g.C.Channel.stands g.C.Channel.tells c.hold-holder.result.home.channel k.base k.seen (λ s. c.is_broken-broken.result ≡ s.broken) c.is_broken-broken.ensures c.hold-holder.ensures.holds.1.3.calls)

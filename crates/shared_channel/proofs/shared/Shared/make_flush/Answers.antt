@@ -1,33 +1,15 @@
-use Rattle.std.proofs.Common.{rules, refl, sym, ap, subst, not, Bool, length, ◌^◌, ◌-◌}
+use Rattle.std.proofs.Common.{rules, refl}
 use Rattle.channel_face.specs.Machine.{Flush}
-use Rattle.channel_face.specs.Faces.{is_spent_flush}
 use Rattle.channel_face.proofs.Spent.{flush_spares}
-use Rattle.shared_channel.specs.Calls.{state_seen, Bounds}
-use Rattle.shared_channel.proofs.Keeping.{answered_by}
-use Rattle.shared_channel.proofs.Turning.{makes_none, makes_one}
+use Rattle.shared_channel.specs.Calls.{state_seen}
+use Rattle.shared_channel.proofs.Turning.{tries_none, tries_one}
 use Rattle.shared_channel.proofs.shared.Shared.make_flush.Goals as goal
 
-pub returns-then-calls-ge-MOST-clause-makes : goal.returns-then-calls-ge-MOST-clause-makes
-returns-then-calls-ge-MOST-clause-makes g c = makes_none g.C.Channel.stands g.C.Channel.tells c.args.by c.args.seat.now.me c.args.home.now.channel c.requires.within
+pub returns-then-holder-ge-MOST : goal.returns-then-holder-ge-MOST
+returns-then-holder-ge-MOST g c = tries_none g.C.Channel.stands g.C.Channel.tells _ g.C.Channel.moment c.args.holder.now c.requires (search rules)
 
-pub returns-clause-makes : goal.returns-clause-makes
-returns-clause-makes g c =
-    let k = c.args.seat.now.me.0 in
-    let S = g.C.Channel.stands in
-    let T = g.C.Channel.tells in
-    let L = g.met.C.Channel.is_run in
-    let d = c.flush-reply.new.self in
-    let reply = c.flush-reply.result in
-    let unspent = flush_spares (state_seen k) reply (answered_by S T L c.args.home.now.channel d k.base k.seen _ _ c.flush-reply.ensures.step c.requires.within.3) in
-    makes_one S T L c.args.by (Flush reply) (g.C.Channel.moment d) c.args.seat.now.me c.count.new.seat.me c.args.home.now.channel d c.requires.within (search rules) refl (search rules) c.count.ensures.call c.count.ensures.making (not (is_spent_flush reply)) (ap not unspent)
-
-pub returns-clause-bound : goal.returns-clause-bound
-returns-clause-bound g c =
-    let k = c.args.seat.now.me.0 in
-    let S = g.C.Channel.stands in
-    let T = g.C.Channel.tells in
-    let L = g.met.C.Channel.is_run in
-    let d = c.flush-reply.new.self in
-    let reply = c.flush-reply.result in
-    let unspent = flush_spares (state_seen k) reply (answered_by S T L c.args.home.now.channel d k.base k.seen _ _ c.flush-reply.ensures.step c.requires.within.3) in
-    subst (λ (b : Bool). Bounds b (2 ^ 64 - 1025) (length k.seen)) (sym unspent) (search rules)
+pub returns : goal.returns
+returns g c =
+    let s = state_seen c.args.holder.now.seat.me.0 in
+    tries_one g.C.Channel.stands g.C.Channel.tells _ g.C.Channel.moment g.met.C.Channel.is_run (Flush c.flush-reply.result) _ c.args.holder.now _ c.requires c.flush-reply.ensures.step refl (λ may. flush_spares s c.flush-reply.result may) (search rules)
+    c.count.ensures.same.0 refl refl c.count.ensures.call c.count.ensures.making

@@ -1,35 +1,25 @@
-use Rattle.std.proofs.Common.{rules, refl, sym, ap, subst, not, Bool, length, ◌^◌, ◌-◌}
+use Rattle.std.proofs.Common.{rules, refl, subst, ◌≡◌, ◌∷◌, ◌++◌, [], List, true}
+use Rattle.channel_face.specs.History.{Step}
 use Rattle.channel_face.specs.Token.{Token}
 use Rattle.channel_face.specs.Machine.{Put, puts_of}
-use Rattle.channel_face.specs.Faces.{is_spent_put}
 use Rattle.channel_face.proofs.Spent.{put_spares}
-use Rattle.shared_channel.specs.Calls.{step, state_seen, made_if, Makes, Bounds}
-use Rattle.shared_channel.proofs.Keeping.{answered_by}
-use Rattle.shared_channel.proofs.Turning.{makes_none, makes_one}
+use Rattle.channel_lock.specs.Calls.{has}
+use Rattle.channel_lock.specs.Turns.{Making}
+use Rattle.channel_lock.specs.Views.{View, with_call}
+use Rattle.shared_channel.specs.Calls.{state_seen, step}
+use Rattle.shared_channel.proofs.Turning.{tries_none, tries_one}
 use Rattle.shared_channel.proofs.shared.Shared.make_put.Goals as goal
 
-pub returns-then-calls-ge-MOST-clause-makes : goal.returns-then-calls-ge-MOST-clause-makes
-returns-then-calls-ge-MOST-clause-makes g c = makes_none g.C.Channel.stands g.C.Channel.tells c.args.by c.args.seat.now.me c.args.home.now.channel c.requires.within
+pub returns-then-holder-ge-MOST-clause-tries : goal.returns-then-holder-ge-MOST-clause-tries
+returns-then-holder-ge-MOST-clause-tries g c = tries_none g.C.Channel.stands g.C.Channel.tells _ g.C.Channel.moment c.args.holder.now c.requires (search rules)
 
-pub returns-clause-makes : goal.returns-clause-makes
-returns-clause-makes g c =
-    let k = c.args.seat.now.me.0 in
-    let S = g.C.Channel.stands in
-    let T = g.C.Channel.tells in
-    let L = g.met.C.Channel.is_run in
-    let d = c.put-reply.new.self in
+pub returns-clause-tries : goal.returns-clause-tries
+returns-clause-tries g c =
+    let old = c.args.holder.now in
+    let s = state_seen old.seat.me.0 in
+    let m = c.count.new.seat.me in
     let reply = c.put-reply.result in
-    let unspent = put_spares (state_seen k) (puts_of (state_seen k) c.args.txn.now) c.args.event.now reply (answered_by S T L c.args.home.now.channel d k.base k.seen _ _ c.put-reply.ensures.step c.requires.within.3) in
-    subst (λ (t : Token). Makes S c.args.by (made_if (not (is_spent_put reply)) (step c.args.by (Put t c.args.event.now reply) (g.C.Channel.moment d))) c.args.seat.now.me d c.count.new.seat.me) c.put-reply.ensures.same
-    (makes_one S T L c.args.by (Put c.put-reply.new.txn c.args.event.now reply) (g.C.Channel.moment d) c.args.seat.now.me c.count.new.seat.me c.args.home.now.channel d c.requires.within (search rules) refl (search rules) c.count.ensures.call c.count.ensures.making (not (is_spent_put reply)) (ap not unspent))
-
-pub returns-clause-bound : goal.returns-clause-bound
-returns-clause-bound g c =
-    let k = c.args.seat.now.me.0 in
-    let S = g.C.Channel.stands in
-    let T = g.C.Channel.tells in
-    let L = g.met.C.Channel.is_run in
-    let d = c.put-reply.new.self in
-    let reply = c.put-reply.result in
-    let unspent = put_spares (state_seen k) (puts_of (state_seen k) c.args.txn.now) c.args.event.now reply (answered_by S T L c.args.home.now.channel d k.base k.seen _ _ c.put-reply.ensures.step c.requires.within.3) in
-    subst (λ (b : Bool). Bounds b (2 ^ 64 - 1025) (length k.seen)) (sym unspent) (search rules)
+    let made = λ (t : Token). step old.by (Put t c.args.event.now reply) (g.C.Channel.moment c.put-reply.new.self) in
+    tries_one g.C.Channel.stands g.C.Channel.tells _ g.C.Channel.moment g.met.C.Channel.is_run (Put c.args.txn.now c.args.event.now reply) _ old _ c.requires c.put-reply.ensures.step refl (λ may. put_spares s (puts_of s c.args.txn.now) c.args.event.now reply may) (search rules) c.count.ensures.same.0 refl refl
+    (subst (λ (t : Token). m ≡ (with_call (made t) old.seat.me.0, old.seat.me.1)) c.put-reply.ensures.same c.count.ensures.call)
+    (subst (λ (t : Token). (v : View) (es : List Step) → Making v es old.seat.me.0 → has v.numbers old.by ≡ true → Making v (es ++ made t ∷ []) m.0) c.put-reply.ensures.same c.count.ensures.making)

@@ -1,47 +1,40 @@
-use Rattle.std.proofs.Common.{rules, refl, sym, subst, Bool, length, ◌^◌, ◌-◌}
-use Rattle.channel_face.specs.History.{reopen_reply}
+use Rattle.std.proofs.Common.{rules, refl, subst, ◌≡◌, ◌∷◌, ◌++◌, ◌∙◌, [], ap}
+use Rattle.channel_face.specs.History.{Step, reopen_reply}
 use Rattle.channel_face.specs.Machine.{Reopen, Front}
-use Rattle.shared_channel.specs.Calls.{step, state_seen, Bounds}
+use Rattle.channel_lock.specs.Calls.{has}
+use Rattle.channel_lock.specs.Turns.{Making}
+use Rattle.channel_lock.specs.Views.{with_call}
+use Rattle.shared_channel.specs.Calls.{step, state_seen}
+use Rattle.shared_channel.specs.Counting.{Keeps}
+use Rattle.shared_channel.proofs.Durables.{open_spares}
 use Rattle.shared_channel.proofs.Keeping.{answered_by, keeps_more}
-use Rattle.shared_channel.proofs.Turning.{makes_none}
-use Rattle.shared_channel.proofs.Durables.{open_spares, reopen_made}
+use Rattle.shared_channel.proofs.Turning.{tries_kept, tries_none}
 use Rattle.shared_channel.proofs.shared.Shared.make_reopen.Goals as goal
 
-pub returns-then-calls-ge-MOST-clause-makes : goal.returns-then-calls-ge-MOST-clause-makes
-returns-then-calls-ge-MOST-clause-makes g c = (record { kept = Front 0; txn = 0 }, makes_none g.C.Channel.stands g.C.Channel.tells c.args.by c.args.seat.now.me c.args.home.now.channel c.requires.within)
+pub returns-then-holder-ge-MOST : goal.returns-then-holder-ge-MOST
+returns-then-holder-ge-MOST g c = (record { kept = Front 0; txn = 0 }, tries_none g.C.Channel.stands g.C.Channel.tells _ g.C.Channel.moment c.args.holder.now c.requires (search rules))
 
-pub count_one-requires : goal.count_one-requires
-count_one-requires g c =
-    let k = c.args.seat.now.me.0 in
-    let S = g.C.Channel.stands in
-    let d = c.reopen-reply.new.self in
-    let reply = c.reopen-reply.result in
+pub count_one-requires-clause-some : goal.count_one-requires-clause-some
+count_one-requires-clause-some g c =
+    let h = c.args.holder.now in
     let kept = c.reopen-reply.ensures.step.0 in
-    let m = g.C.Channel.moment d in
-    record {
-      table = c.requires.table;
-      turn = (c.requires.within.0, search rules, c.requires.within.1);
-      some = (step c.args.by (Reopen (reopen_reply reply kept)) m, (kept, refl, keeps_more S g.C.Channel.tells g.met.C.Channel.is_run c.args.home.now.channel d k.base k.seen c.args.by (Reopen (reopen_reply reply kept)) m c.reopen-reply.ensures.step.1 refl (search rules) c.requires.within.3), c.requires.own);
-    }
+    let d = c.reopen-reply.new.self in
+    let call = Reopen (reopen_reply c.reopen-reply.result kept) in
+    (step h.by call (g.C.Channel.moment d), (kept, refl, keeps_more g.C.Channel.stands g.C.Channel.tells g.met.C.Channel.is_run h.home.channel d h.seat.me.0.base h.seat.me.0.seen h.by call (g.C.Channel.moment d) c.reopen-reply.ensures.step.1 refl (search rules) c.requires.1.3), c.requires.2)
 
-pub returns-clause-makes : goal.returns-clause-makes
-returns-clause-makes g c =
-    let k = c.args.seat.now.me.0 in
-    let S = g.C.Channel.stands in
-    let T = g.C.Channel.tells in
+pub returns : goal.returns
+returns g c =
+    let h = c.args.holder.now in
+    let m = c.count_one.new.seat.me in
     let d = c.reopen-reply.new.self in
-    let reply = c.reopen-reply.result in
-    let kept = c.reopen-reply.ensures.step.0 in
-    let unspent = open_spares (T d) (state_seen k) kept reply (answered_by S T g.met.C.Channel.is_run c.args.home.now.channel d k.base k.seen _ _ c.reopen-reply.ensures.step.1 c.requires.within.3).0 in
-    reopen_made S T c.args.by (g.C.Channel.moment d) reply c.args.seat.now.me c.count_one.new.seat.me c.args.home.now.channel d c.requires.within c.count_one.ensures.call unspent
-
-pub returns-clause-bound : goal.returns-clause-bound
-returns-clause-bound g c =
-    let k = c.args.seat.now.me.0 in
-    let S = g.C.Channel.stands in
-    let T = g.C.Channel.tells in
-    let d = c.reopen-reply.new.self in
-    let reply = c.reopen-reply.result in
-    let kept = c.reopen-reply.ensures.step.0 in
-    let unspent = open_spares (T d) (state_seen k) kept reply (answered_by S T g.met.C.Channel.is_run c.args.home.now.channel d k.base k.seen _ _ c.reopen-reply.ensures.step.1 c.requires.within.3).0 in
-    subst (λ (b : Bool). Bounds b (2 ^ 64 - 1025) (length k.seen)) (sym unspent) (search rules)
+    let one = c.count_one.ensures.call in
+    let kept = one.1.0 in
+    let same = one.1.1 in
+    let made = c.reopen-reply.ensures.step in (
+      kept,
+      tries_kept g.C.Channel.stands g.C.Channel.tells _ g.C.Channel.moment (Reopen (reopen_reply c.reopen-reply.result kept)) _ h _ c.requires
+          (subst (λ (e : Step). Keeps g.C.Channel.stands d h.seat.me.0.base (h.seat.me.0.seen ++ e ∷ [])) same one.1.2)
+          (open_spares (g.C.Channel.tells d) (state_seen h.seat.me.0) made.0 c.reopen-reply.result (answered_by g.C.Channel.stands g.C.Channel.tells g.met.C.Channel.is_run h.home.channel d h.seat.me.0.base h.seat.me.0.seen _ _ made.1 c.requires.1.3).0) (search rules) c.count_one.ensures.same.0 refl refl
+          (subst (λ (e : Step). m ≡ (with_call e h.seat.me.0, h.seat.me.1)) same one.2)
+          (λ v es making own. subst (λ (e : Step). Making v (es ++ e ∷ []) m.0) same (one.3 v es making (ap (λ (e : Step). has v.numbers e.pass) same ∙ own))),
+    )

@@ -1,54 +1,32 @@
-use Rattle.std.proofs.Common.{subst, Bool, true, false, ◌≡◌, List, [], ◌∷◌, ◌++◌}
-use Rattle.channel_face.specs.Token.{Token}
+use Rattle.std.proofs.Common.{subst, true, refl, arith, ◌≡◌, ◌∷◌, ◌++◌, [], List}
+use Rattle.channel_face.specs.History.{Step}
 use Rattle.channel_face.specs.Machine.{RollbackPut}
-use Rattle.channel_face.specs.History.{Step, AddsOne}
+use Rattle.channel_face.specs.Token.{Token}
 use Rattle.channel_lock.specs.Calls.{has}
 use Rattle.channel_lock.specs.Turns.{Making}
 use Rattle.channel_lock.specs.Views.{View, with_call}
 use Rattle.shared_channel.specs.Calls.{step}
-use Rattle.shared_channel.proofs.Keeping.{rolled_put, room_put, stale_put}
-use Rattle.shared_channel.proofs.Turning.{makes_none, makes_kept}
+use Rattle.shared_channel.proofs.Keeping.{puts_back}
+use Rattle.shared_channel.proofs.Turning.{makes_kept, rolls_none, rolls_one, rolls_room}
 use Rattle.shared_channel.proofs.shared.Shared.make_rollback_put.Goals as goal
 
-pub count-requires : goal.count-requires
-count-requires g c =
-    let k = c.args.seat.now.me.0 in
-    let S = g.C.Channel.stands in
-    let d = c.rollback_put-ended.new.self in
-    let made : AddsOne (S c.args.home.now.channel) (S d) (RollbackPut c.args.txn true) (g.C.Channel.moment d) = subst (λ (b : Bool). AddsOne (S c.args.home.now.channel) (S d) (RollbackPut c.args.txn b) (g.C.Channel.moment d)) c.if-not-ended.false c.rollback_put-ended.ensures in
-    record {
-      table = c.requires.table;
-      turn = (c.requires.within.0, room_put S g.C.Channel.tells g.met.C.Channel.is_run c.args.home.now.channel d k.base k.seen c.args.txn (g.C.Channel.moment d) made c.requires.within.3, c.requires.within.1);
-      own = c.requires.own;
-    }
+pub count-requires-clause-turn : goal.count-requires-clause-turn
+count-requires-clause-turn g c = (c.requires.1.0, rolls_room g.C.Channel.stands g.C.Channel.tells _ g.C.Channel.moment g.met.C.Channel.is_run (puts_back c.args.txn) c.args.holder.now c.requires _ _ c.rollback_put-ended.ensures c.if-not-ended.false, c.requires.1.1)
 
-pub returns-then-not-ended-clause-makes : goal.returns-then-not-ended-clause-makes
-returns-then-not-ended-clause-makes g c =
-    let k = c.args.seat.now.me.0 in
-    let S = g.C.Channel.stands in
-    let d = c.rollback_put-ended.new.self in
-    let made : AddsOne (S c.args.home.now.channel) (S d) (RollbackPut c.args.txn false) (g.C.Channel.moment d) = subst (λ (b : Bool). AddsOne (S c.args.home.now.channel) (S d) (RollbackPut c.args.txn b) (g.C.Channel.moment d)) c.if-not-ended.true c.rollback_put-ended.ensures in
-    makes_none S g.C.Channel.tells c.args.by c.args.seat.now.me d
-    (c.requires.within.0, c.requires.within.1, c.requires.within.2, (stale_put S g.C.Channel.tells g.met.C.Channel.is_run c.args.home.now.channel d k.base k.seen c.args.txn (g.C.Channel.moment d) made c.requires.within.3).0)
+pub overflow_add-holder : goal.overflow_add-holder
+overflow_add-holder g c = let l = rolls_room g.C.Channel.stands g.C.Channel.tells _ g.C.Channel.moment g.met.C.Channel.is_run (puts_back c.args.txn) c.args.holder.now c.requires _ _ c.rollback_put-ended.ensures c.if-not-ended.false in let e = c.requires.3 in omega arith
 
-pub returns-then-not-ended-clause-stale : goal.returns-then-not-ended-clause-stale
-returns-then-not-ended-clause-stale g c =
-    let k = c.args.seat.now.me.0 in
-    let S = g.C.Channel.stands in
-    let d = c.rollback_put-ended.new.self in
-    let made : AddsOne (S c.args.home.now.channel) (S d) (RollbackPut c.args.txn false) (g.C.Channel.moment d) = subst (λ (b : Bool). AddsOne (S c.args.home.now.channel) (S d) (RollbackPut c.args.txn b) (g.C.Channel.moment d)) c.if-not-ended.true c.rollback_put-ended.ensures in
-    λ _. (stale_put S g.C.Channel.tells g.met.C.Channel.is_run c.args.home.now.channel d k.base k.seen c.args.txn (g.C.Channel.moment d) made c.requires.within.3).1
+pub returns-then-not-ended : goal.returns-then-not-ended
+returns-then-not-ended g c = let none = rolls_none g.C.Channel.stands g.C.Channel.tells _ g.C.Channel.moment g.met.C.Channel.is_run (puts_back c.args.txn) c.args.holder.now c.requires _ _ c.rollback_put-ended.ensures c.if-not-ended.true in (none.0, (λ _. none.1))
 
-pub returns-clause-makes : goal.returns-clause-makes
-returns-clause-makes g c =
-    let k = c.args.seat.now.me.0 in
-    let S = g.C.Channel.stands in
-    let d = c.rollback_put-ended.new.self in
-    let m = g.C.Channel.moment d in
-    let made : AddsOne (S c.args.home.now.channel) (S d) (RollbackPut c.args.txn true) m = subst (λ (b : Bool). AddsOne (S c.args.home.now.channel) (S d) (RollbackPut c.args.txn b) m) c.if-not-ended.false c.rollback_put-ended.ensures in
-    let same : Token = record { life = c.life-life.result; number = c.number-number.result } in
-    let is : same ≡ c.args.txn = (λ i. record { life = c.life-life.ensures i; number = c.number-number.ensures i }) in
-    makes_kept S g.C.Channel.tells (step c.args.by (RollbackPut c.args.txn true) m) c.args.seat.now.me c.count.new.seat.me c.args.home.now.channel d c.requires.within
-    (rolled_put S g.C.Channel.tells g.met.C.Channel.is_run c.args.home.now.channel d k.base k.seen c.args.by c.args.txn m made c.requires.within.3)
-    (subst (λ (t : Token). c.count.new.seat.me ≡ (with_call (step c.args.by (RollbackPut t true) m) k, c.args.seat.now.me.1)) is c.count.ensures.call)
-    (subst (λ (t : Token). (v : View) (es : List Step) → Making v es k → has v.numbers c.args.by ≡ true → Making v (es ++ step c.args.by (RollbackPut t true) m ∷ []) c.count.new.seat.me.0) is c.count.ensures.making)
+pub returns : goal.returns
+returns g c =
+    let h = c.args.holder.now in
+    let m = c.count.new.seat.me in
+    let made = λ (t : Token). step h.by (RollbackPut t true) (g.C.Channel.moment c.rollback_put-ended.new.self) in
+    let is : record { life = c.life-life.result; number = c.number-number.result } ≡ c.args.txn = (λ i. record { life = c.life-life.ensures i; number = c.number-number.ensures i }) in (
+      makes_kept g.C.Channel.stands g.C.Channel.tells _ (made c.args.txn) h _ c.requires (rolls_one g.C.Channel.stands g.C.Channel.tells _ g.C.Channel.moment g.met.C.Channel.is_run (puts_back c.args.txn) c.args.holder.now c.requires _ _ c.rollback_put-ended.ensures c.if-not-ended.false) c.count.ensures.same.0 refl refl
+          (subst (λ (t : Token). m ≡ (with_call (made t) h.seat.me.0, h.seat.me.1)) is c.count.ensures.call)
+          (subst (λ (t : Token). (v : View) (es : List Step) → Making v es h.seat.me.0 → has v.numbers h.by ≡ true → Making v (es ++ made t ∷ []) m.0) is c.count.ensures.making),
+      (λ is. absurd (cc)),
+    )

@@ -1,40 +1,17 @@
-use Rattle.std.proofs.Common.{rules, ◌≡◌, [], ◌∷◌, sym, ap, subst, true, length}
-use Rattle.channel_face.specs.Machine.{State}
+use Rattle.std.proofs.Common.{◌≡◌, length}
 use Rattle.channel_face.specs.History.{opening, state_after}
-use Rattle.channel_lock.specs.Calls.{has}
-use Rattle.channel_lock.specs.Views.{View}
-use Rattle.shared_channel.specs.Calls.{Looks, state_seen}
-use Rattle.shared_channel.specs.Passes.{Known, view_of}
 use Rattle.shared_channel.proofs.Keeping.{kept_shows}
-use Rattle.shared_channel.proofs.Turning.{looks, shown, pass_after, of_views}
+use Rattle.shared_channel.proofs.Turning.{looks, makes_none, pass_kept, shown}
 use Rattle.shared_channel.proofs.shared.Shared.size.Goals as goal
 
 pub invariant_of-pass : goal.invariant_of-pass
-invariant_of-pass g c =
-    let v = c.into_seat-seat.result.me.0 in
-    let w = c.leave-pass-inside.new.seat.me.0 in
-    let was : c.pass.inside.badge.views ≡ v ∷ [] = search rules in
-    let own : has v.numbers c.pass.inside.number ≡ true = search rules in
-    pass_after c.pass.inside.badge.views c.into_badge.result.views c.pass.inside.number c.pass.inside.calls c.leave-pass-inside.result c.pass.inside.marks.items v w was c.into_badge.ensures.2 c.pass.invariant
-    (c.leave-pass-inside.ensures.saw v [] c.enter-home.ensures.making) c.leave-pass-inside.ensures.calls
+invariant_of-pass g c = pass_kept g.C.Channel.stands g.C.Channel.tells _ _ _ c.pass.inside.badge.views _ _ c.pass.view_is c.pass.invariant.0.3 _ _ c.hold-holder.ensures.by c.hold-holder.ensures.making _ c.release-pass-inside.ensures.released _ _ _ c.pass.invariant (makes_none g.C.Channel.stands g.C.Channel.tells _ _ c.hold-holder.ensures.holds)
 
 pub returns-clause-look : goal.returns-clause-look
-returns-clause-look g c =
-    let S = g.C.Channel.stands in
-    let T = g.C.Channel.tells in
-    let v = c.into_seat-seat.result.me.0 in
-    let w = c.leave-pass-inside.new.seat.me.0 in
-    let was : c.pass.inside.badge.views ≡ v ∷ [] = search rules in
-    let here : Looks S T v w = looks S T v w c.enter-home.new.seat.me c.enter-home.result.0.channel c.enter-home.ensures.making c.leave-pass-inside.ensures.left in
-    subst (λ (p : Known). Looks S T p.view (view_of c.into_badge.result.views)) c.pass.view_is
-    (of_views (λ x y. Looks S T x y) c.pass.inside.badge.views c.into_badge.result.views v w was c.into_badge.ensures.2 here)
+returns-clause-look g c = looks g.C.Channel.stands g.C.Channel.tells _ _ _ c.pass.inside.badge.views _ _ c.pass.view_is c.pass.invariant.0.3 _ _ c.hold-holder.ensures.by c.hold-holder.ensures.making _ c.release-pass-inside.ensures.released (makes_none g.C.Channel.stands g.C.Channel.tells _ _ c.hold-holder.ensures.holds)
 
 pub returns-clause-answer : goal.returns-clause-answer
 returns-clause-answer g c =
-    let v = c.into_seat-seat.result.me.0 in
-    let w = c.leave-pass-inside.new.seat.me.0 in
-    let k = c.enter-home.new.seat.me.0 in
-    let P : State → Type 0 = λ s. c.size-answer.result ≡ length (s).items in
-    subst (λ (x : View). P (state_seen x)) (sym (ap view_of c.into_badge.ensures.2))
-    (shown (λ o h. P (state_after (opening o) h)) v w k c.enter-home.ensures.making (c.leave-pass-inside.ensures.saw v [] c.enter-home.ensures.making) c.leave-pass-inside.ensures.seen
-    (kept_shows g.C.Channel.stands g.C.Channel.tells c.enter-home.result.0.channel k.base k.seen P c.size-answer.ensures c.enter-home.ensures.within.3.calls))
+    let k = c.hold-holder.result.seat.me.0 in
+    shown g.C.Channel.stands g.C.Channel.tells _ _ _ c.pass.inside.badge.views _ _ c.pass.view_is c.pass.invariant.0.3 _ _ c.hold-holder.ensures.by c.hold-holder.ensures.making _ c.release-pass-inside.ensures.released (λ o h. c.size-answer.result ≡ length (state_after (opening o) h).items) (makes_none g.C.Channel.stands g.C.Channel.tells _ _ c.hold-holder.ensures.holds)
+    (kept_shows g.C.Channel.stands g.C.Channel.tells c.hold-holder.result.home.channel k.base k.seen (λ s. c.size-answer.result ≡ length s.items) c.size-answer.ensures c.hold-holder.ensures.holds.1.3.calls)
