@@ -8,3 +8,4 @@ pub mod Freeing
 pub mod Leaving
 pub mod Renewing
 pub mod Moved
+pub mod Keeping

@@ -160,6 +160,23 @@ staged_of (Puts []) = []
 staged_of (Takes []) = []
 staged_of listed = listed ∷ []
 
+-- a transaction has so few puts or takes that 32 bits tell how many
+abbrev pub IsFewOpen : Option Open → Type 0
+IsFewOpen None = Unit {0}
+IsFewOpen (Some o) = size o.listed < 2 ^ 32
+
+-- the pointers of what a transaction puts, if it is open
+abbrev pub pointers_of : Option Open → List Pointer
+pointers_of None = []
+pointers_of (Some o) = puts_of o.listed
+
+abbrev pub pointers_at : Table → ℕ → List Pointer
+pointers_at table txn = pointers_of (open_at table txn)
+
+-- each transaction has the puts that it had, or none
+abbrev pub KeepsPuts : Table → Table → Type 0
+KeepsPuts old new = (txn : ℕ) → (pointers_at new txn ≡ pointers_at old txn) ⊎ (pointers_at new txn ≡ [])
+
 -- each event that is known to stand at a pointer is known to stand where that pointer was moved
 abbrev pub Moves : ℕ → ℕ → ℕ → ℕ → Known → Known → Type 0
 Moves file at to_file to_at known more = (p : Pointer) (event : Content) → StandsIn known p event → StandsIn more (moved_pointer file at to_file to_at p) event

@@ -1,5 +1,5 @@
 // The pointers of a channel's events, and each call of the channel on them that needs no disk.
-ghost use Rattle.std.specs.Prelude.{◌≡◌, ◌<◌, ◌≤◌, ◌+◌, ◌^◌, ◌++◌, ◌∷◌, ◌-◌, [], ℕ, List, length, Some, None, Ok, IsSome, IsTrue, IfNone, IfOk, IfSome, OnOk, OnErr, true, false};
+ghost use Rattle.std.specs.Prelude.{◌≡◌, ◌<◌, ◌≤◌, ◌+◌, ◌^◌, ◌++◌, ◌∷◌, ◌-◌, [], ℕ, List, length, Some, None, Ok, IsSome, IsTrue, IfNone, IfOk, IfSome, OnOk, OnErr, option_map, true, false};
 ghost use Rattle.event_core.specs.Content.{Content};
 ghost use Rattle.event_core.specs.Content as contents;
 ghost use Rattle.event_core.specs.Journal.{IsBase, put_events, taken_numbers};
@@ -9,10 +9,10 @@ ghost use Rattle.channel_face.specs.Token.{Token};
 ghost use Rattle.channel_face.specs.declared.replies.Kind.TheVariants.{File};
 ghost use Rattle.channel_face.specs.Machine as face;
 ghost use Rattle.channel_face.specs.Machine.{Reopened, State, BeginPut, BeginTake, add_put, add_take, after_reopen, broken_state, close, entry_of, free, kept_base, puts_of, takes_of};
-ghost use Rattle.open_table.specs.Tables.{MayAdd, is_open, open_at};
+ghost use Rattle.open_table.specs.Tables.{HasAt, MayAdd, added, is_open, moved_open, open_at};
 ghost use Rattle.open_table.specs.declared.opened.Item.TheVariants.{Put, Take};
 ghost use Rattle.record_form.specs.declared.record.Pointer as pointers;
-ghost use Rattle.channel_places.specs.Looks.{IsFree, IsOpenFor, Known, LookLeft, Looks, MayPut, MayStage, MayTake, Moves, Steps, eventless, puts_in, puts_of_open, with_begun};
+ghost use Rattle.channel_places.specs.Looks.{IsFewOpen, IsFree, IsOpenFor, KeepsPuts, Known, LookLeft, Looks, MayPut, MayStage, MayTake, Moves, Steps, eventless, puts_in, puts_of_open, with_begun};
 
 use crate::moving::move_staged;
 use crate::settling::{
@@ -82,9 +82,10 @@ impl Held {
         requires room { length ring.live ≤ limits.capacity }
         requires below { ring.top ≤ first }
         requires txn { 1 ≤ txn }
-        ensures { IfOk result (λ held. (settled known : Known) (o : Opening) → o.base.first ≡ first → o.txn ≡ txn
+        ensures looks { IfOk result (λ held. (settled known : Known) (o : Opening) → o.base.first ≡ first → o.txn ≡ txn
             → o.rules ≡ record { kind = File; limits = limits } → LookLeft settled [] ring.live o.base.items → IsBase o.base
             → Looks settled known held (opening o)) }
+        ensures opened { IfOk result (λ held. held.opened ≡ []) }
     {
         let _ = limits.capacity;
         let Ok(table) = OpenTable::new(alloc) else {
@@ -105,6 +106,30 @@ impl Held {
             open_puts: 0,
             staged_puts: 0,
         })
+    }
+
+    /// The events that are left, with their pointers.
+    pub fn ring(&self) -> &Ring
+        ensures live { result.now.live ≡ self.now.live }
+        ensures few { length self.now.live < 2 ^ 32 }
+    {
+        &self.ring
+    }
+
+    /// The open transactions, with the pointers of their puts and the numbers of their takes.
+    pub fn table(&self) -> &OpenTable
+        ensures opened { result.now ≡ self.now.opened }
+        ensures few { (txn : ℕ) → IsFewOpen (open_at self.now.opened txn) }
+    {
+        let _most = self.limits.txn_capacity;
+        &self.table
+    }
+
+    /// The number of the next event after those that are settled, and that of the next transaction.
+    pub fn next(&self) -> (u64, u64)
+        ensures { result ≡ (self.now.numbers.first, self.now.numbers.txn) }
+    {
+        (self.first, self.txn)
     }
 
     /// How many events are left.
@@ -141,6 +166,7 @@ impl Held {
         ensures ok { OnOk result ((settled known : Known) (s : State) → Looks settled known self.old s
             → Looks settled known self.new (with_begun puts s)) }
         ensures err { OnErr result (self.new ≡ self.old) }
+        ensures opened { KeepsPuts self.old.opened self.new.opened }
     {
         self.staged.reserve(self.open_txns + 1)?;
         match self.table.begin(self.txn, puts, self.limits.txn_capacity) {
@@ -155,7 +181,8 @@ impl Held {
 
     /// Begins a transaction of puts.
     pub fn begin_put(&mut self) -> Result<PutTxn, BeginRefused>
-        ensures { Steps self.old (BeginPut result) self.new }
+        ensures step { Steps self.old (BeginPut result) self.new }
+        ensures opened { KeepsPuts self.old.opened self.new.opened }
     {
         if let Some(refused) = self.begin_refusal() {
             return Err(refused);
@@ -169,7 +196,8 @@ impl Held {
 
     /// Begins a transaction of takes.
     pub fn begin_take(&mut self) -> Result<TakeTxn, BeginRefused>
-        ensures { Steps self.old (BeginTake result) self.new }
+        ensures step { Steps self.old (BeginTake result) self.new }
+        ensures opened { KeepsPuts self.old.opened self.new.opened }
     {
         if let Some(refused) = self.begin_refusal() {
             return Err(refused);
@@ -247,8 +275,10 @@ impl Held {
     /// Adds the pointer of an event to a transaction's puts. It takes no memory.
     pub fn put(&mut self, txn: &PutTxn, pointer: Pointer)
         requires { MayPut self.old txn.now pointer }
-        ensures { (settled known : Known) (s : State) (event : Content) → Looks settled known self.old s
+        ensures looks { (settled known : Known) (s : State) (event : Content) → Looks settled known self.old s
             → Looks settled ((pointer, event) ∷ known) self.new (add_put s txn.now.number (puts_of s txn.now) event) }
+        ensures added { HasAt txn.now.number (added (Put pointer) (open_at self.old.opened txn.now.number))
+            self.old.opened self.new.opened }
     {
         self.table.add(txn.number(), Item::Put(pointer));
         self.open_puts += 1;
@@ -288,8 +318,9 @@ impl Held {
     /// Adds the number of the first free event to a transaction's takes. It takes no memory.
     pub fn take(&mut self, txn: &TakeTxn)
         requires { MayTake self.old txn.now }
-        ensures { (settled known : Known) (s : State) → Looks settled known self.old s
+        ensures looks { (settled known : Known) (s : State) → Looks settled known self.old s
             → Looks settled known self.new (add_take s txn.now.number (takes_of s txn.now) (free s)) }
+        ensures opened { KeepsPuts self.old.opened self.new.opened }
     {
         if let Some(number) = self.ring.first_free() {
             self.table.add(txn.number(), Item::Take(number));
@@ -399,8 +430,9 @@ impl Held {
     /// Takes a transaction that is open out of the open ones, and adds what it has to what is staged. It takes no memory.
     pub fn stage(&mut self, number: u64)
         requires { MayStage self.old number }
-        ensures { (settled known : Known) (s : State) → Looks settled known self.old s
+        ensures looks { (settled known : Known) (s : State) → Looks settled known self.old s
             → Looks settled known self.new (face.stage number (entry_of number s.opened) s) }
+        ensures opened { KeepsPuts self.old.opened self.new.opened }
     {
         let ended = self.table.end(number);
         let puts = put_count(&ended);
@@ -431,7 +463,8 @@ impl Held {
     /// Takes a transaction of puts that is open out of the open ones. It takes no memory.
     pub fn drop_puts(&mut self, number: u64)
         requires { is_open true (open_at self.old.opened number) ≡ true }
-        ensures { (settled known : Known) (s : State) → Looks settled known self.old s → Looks settled known self.new (close number s) }
+        ensures looks { (settled known : Known) (s : State) → Looks settled known self.old s → Looks settled known self.new (close number s) }
+        ensures opened { KeepsPuts self.old.opened self.new.opened }
     {
         let ended = self.table.end(number);
         self.open_txns -= 1;
@@ -442,7 +475,8 @@ impl Held {
     /// Takes a transaction of takes that is open out of the open ones: what it took is free again, in its place. It takes no memory.
     pub fn drop_takes(&mut self, number: u64)
         requires { is_open false (open_at self.old.opened number) ≡ true }
-        ensures { (settled known : Known) (s : State) → Looks settled known self.old s → Looks settled known self.new (close number s) }
+        ensures looks { (settled known : Known) (s : State) → Looks settled known self.old s → Looks settled known self.new (close number s) }
+        ensures opened { KeepsPuts self.old.opened self.new.opened }
     {
         let ended = self.table.end(number);
         self.open_txns -= 1;
@@ -456,6 +490,7 @@ impl Held {
         ensures step { (known : Known) (s : State) → Looks known known self.old s → Looks known known self.new (face.settle s) }
         ensures put { (token : Token) (pointer : pointers.Pointer) → MayPut self.old token pointer → MayPut self.new token pointer }
         ensures take { (token : Token) → MayTake self.old token → MayTake self.new token }
+        ensures opened { self.new.opened ≡ self.old.opened }
     {
         self.frame += one_if_staged(&self.staged);
         remove_staged(&mut self.ring, &self.staged);
@@ -466,7 +501,8 @@ impl Held {
 
     /// No call but a rollback goes on from now on.
     pub fn set_broken(&mut self)
-        ensures { (settled known : Known) (s : State) → Looks settled known self.old s → Looks settled known self.new (broken_state s) }
+        ensures looks { (settled known : Known) (s : State) → Looks settled known self.old s → Looks settled known self.new (broken_state s) }
+        ensures opened { self.new.opened ≡ self.old.opened }
     {
         self.broken = true;
     }
@@ -479,6 +515,8 @@ impl Held {
             → Moves file at to_file to_at known more → Looks settled more self.new s }
         ensures put { (token : Token) (pointer : pointers.Pointer) → MayPut self.old token pointer → MayPut self.new token pointer }
         ensures take { (token : Token) → MayTake self.old token → MayTake self.new token }
+        ensures opened { (txn : ℕ) → open_at self.new.opened txn
+            ≡ option_map (moved_open file at to_file to_at) (open_at self.old.opened txn) }
     {
         self.table.moved(file, at, to_file, to_at);
         move_staged(&mut self.staged, file, at, to_file, to_at);
@@ -578,9 +616,10 @@ impl Held {
         requires below { ring.top ≤ first }
         requires txn { 1 ≤ txn }
         requires life { self.old.numbers.life < 2 ^ 64 - 1 }
-        ensures { (before old settled known : Known) (s : State) (r : Reopened) → Looks before old self.old s → r.txn ≡ txn
+        ensures looks { (before old settled known : Known) (s : State) (r : Reopened) → Looks before old self.old s → r.txn ≡ txn
             → (kept_base s r.kept).first ≡ first → LookLeft settled [] ring.live (kept_base s r.kept).items
             → IsBase (kept_base s r.kept) → Looks settled known self.new (after_reopen s (Ok r)) }
+        ensures opened { self.new.opened ≡ [] }
     {
         end_all(&mut self.table);
         self.ring = ring;

@@ -1,9 +1,9 @@
 -- A checkpoint of a state mirrors it.
-use Rattle.std.proofs.Common.{◌⊎◌, inl, inr, ◌≡◌, ◌<◌, ◌≤◌, ◌+◌, ◌++◌, ◌∷◌, [], ℕ, List, length, Option, Some, None, Bool, true, false, ◌==◌, ◌||◌, refl, sym, ◌∙◌, ap, arith}
+use Rattle.std.proofs.Common.{◌⊎◌, inl, inr, ◌≡◌, ◌<◌, ◌≤◌, ◌+◌, ◌++◌, ◌∷◌, [], ℕ, List, length, Option, Some, None, Bool, true, false, ◌==◌, ◌||◌, refl, sym, ◌∙◌, ap, subst, arith}
 use Rattle.std.specs.List.{AllByRecursion}
 use Rattle.std.proofs.lemmas.List.{append-nil}
 use Rattle.event_core.specs.Content.{Content}
-use Rattle.event_core.specs.Journal.{IsNotEmpty, after_journal, is_among, taken_numbers}
+use Rattle.event_core.specs.Journal.{Base, IsBase, IsNotEmpty, after_journal, is_among, taken_numbers}
 use Rattle.event_core.specs.declared.journal.Entry.{Entry}
 use Rattle.event_core.specs.declared.journal.Entry.TheVariants.{Puts, Takes}
 use Rattle.channel_face.specs.Machine.{State, base_of, entries, entry_of}
@@ -18,7 +18,7 @@ use Rattle.channel_replay.specs.Start.{AreApart, IsStart, Start, entry_marks, op
 use Rattle.channel_replay.proofs.Laying.{busy_entry}
 use Rattle.channel_replay.proofs.Starts.{open_commits_none, start_as_many, start_each}
 use Rattle.channel_writing.specs.Laws.{CheckpointIsMirrored, StartsLeaveTheSame}
-use Rattle.channel_writing.specs.Mirrors.{busy, one_if_done}
+use Rattle.channel_writing.specs.Mirrors.{IsStartOf, Mirrors, busy, one_if_done}
 use Rattle.channel_writing.proofs.Ending.{staged_base}
 
 pub same_left : StartsLeaveTheSame
@@ -60,7 +60,7 @@ busy_some : (os : List (ℕ × Entry)) → AllByRecursion (λ o. IsNotEmpty o.1)
 busy_some [] = tt
 busy_some (o ∷ os) = some_or o.1 o.0 (busy_ones os) (busy_some os)
 
-busy_length : (os : List (ℕ × Entry)) → length (busy_ones os) ≡ busy os
+pub busy_length : (os : List (ℕ × Entry)) → length (busy_ones os) ≡ busy os
 busy_length [] = refl
 busy_length (o ∷ os) = from (done_of (Some o.1)) (busy_length os)
   where
@@ -116,24 +116,36 @@ busy_below top (o ∷ os) below = from (done_of (Some o.1)) (busy_below top os b
     from None rest = rest
     from (Some e) rest = (below.0, rest)
 
-pub checkpoint_mirrored : CheckpointIsMirrored
-checkpoint_mirrored start s settled m sound none =
-    let now : Start = start_of s in
+-- the open transactions that did something are a start's
+start_of_is : (base : Base) (s : State) (settled : Past) → Mirrors base s settled [] → IsStartOf s (start_of s)
+start_of_is base s settled m = record {
+  base = refl;
+  txn = refl;
+  each = λ n. busy_entry s.opened n m.apart;
+  as_many = busy_length s.opened;
+  apart = busy_apart s.opened m.apart;
+  some = busy_some s.opened;
+  below = busy_below s.txn s.opened m.below;
+}
+
+start_mirrored : (base : Base) (s : State) (settled : Past) → Mirrors base s settled [] → IsSoundState s → s.staged ≡ [] → (now : Start) → IsStartOf s now → IsStart now × Mirrors now.base s (start_past now) []
+start_mirrored base s settled m sound none now of =
+    let first : now.base.first ≡ s.first = ap (λ (b : Base). b.first) of.base in
     let is : IsStart now = record {
-      base = base_rising (base_of s) sound.rising;
-      apart = busy_apart s.opened m.apart;
-      some = busy_some s.opened;
-      earlier = λ t n more. ap (λ (e : Option Entry). is_among (numbers_of e) n) (busy_entry s.opened t m.apart) ∙ (ap (λ (l : List ℕ). is_among l n) (numbers_done (entry_of t s.opened)) ∙ held_earlier s t n sound more);
+      base = subst IsBase (sym of.base) (base_rising (base_of s) sound.rising);
+      apart = of.apart;
+      some = of.some;
+      earlier = λ t n more. ap (λ (e : Option Entry). is_among (numbers_of e) n) (of.each t) ∙ (ap (λ (l : List ℕ). is_among l n) (numbers_done (entry_of t s.opened)) ∙ held_earlier s t n sound (omega (arith, more, first)));
     } in
-    let quiet : journal (start_past now) ≡ [] = open_commits_none (busy_ones s.opened) [] in (
+    let quiet : journal (start_past now) ≡ [] = open_commits_none now.opened [] in (
       is,
       record {
-        base = sym (ap (λ (j : List Entry). after_journal (base_of s) j) quiet ∙ after_none (base_of s));
+        base = sym (ap (λ (j : List Entry). after_journal now.base j) quiet ∙ (after_none now.base ∙ of.base));
         earlier = λ n more. ap (λ (j : List Entry). is_among (taken_numbers j) n) quiet;
         staged = sym (ap (λ (j : List Entry). journal (start_past now) ++ j) none ∙ append-nil (journal (start_past now)));
-        each = λ n. start_each now n is ∙ busy_entry s.opened n m.apart;
-        as_many = start_as_many now is ∙ busy_length s.opened;
-        next = opens_next s.txn (busy_ones s.opened) [] (busy_below s.txn s.opened m.below) m.high.0;
+        each = λ n. start_each now n is ∙ of.each n;
+        as_many = start_as_many now is ∙ of.as_many;
+        next = opens_next s.txn now.opened [] of.below m.high.0;
         legal = tt;
         low = m.low;
         below = m.below;
@@ -142,3 +154,6 @@ checkpoint_mirrored start s settled m sound none =
         few = m.few;
       },
     )
+
+pub checkpoint_mirrored : CheckpointIsMirrored
+checkpoint_mirrored base s settled m sound none = (start_of_is base s settled m, start_mirrored base s settled m sound none)

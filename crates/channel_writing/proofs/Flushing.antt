@@ -134,9 +134,9 @@ disk_after (Some t) (Some v) w w' s waits given flushed file earlier u is =
       is_birth = disk.is_birth;
       frames = disk.frames ++ waits.records ∷ [];
       rest = rest;
-      still = λ name differs. (changes.others name differs).0 ∙ (disk.still name differs ∙ ap settle_entry (sym (changes.others name differs).1));
       small = disk.small;
       none = λ n high. (changes.others (Log n) (other_log n w.file (λ at. absurd (omega (arith, high, at))))).1 ∙ disk.none n high;
+      gone = λ n high. (changes.others (Log n) (other_log n w.file (λ at. absurd (omega (arith, high, at))))).0 ∙ disk.gone n high;
       logs = λ folder others. flush_logged folder disk.birth w.file s disk.frames waits.records (disk.logs folder (λ name differs. subst (λ (e : Entry). Allows e (folder name)) (changes.others name differs).0 (others name differs))) earlier;
     }))
   where
@@ -208,11 +208,11 @@ writes_of told told' w s waits given none = from (some_or_none (length waits.rec
   where
     from : (length waits.records ≡ 0) ⊎ (1 ≤ length waits.records) → Tells told told' (ChangesAlone w.file 2)
     from (inl nothing) = subst (λ (v : Option Told). Tells told v (ChangesAlone w.file 2)) (sym (none (waits.pending.counted ∙ nothing)))
-        (tells_same told (ChangesAlone w.file 2) (λ t is. record { others = λ name other. refl; syncs = omega arith }))
+        (tells_same told (ChangesAlone w.file 2) (λ t is. record { others = λ name other. refl; left = λ name other. refl; syncs = omega arith }))
     from (inr some) =
         let ready = ready_frames told w s waits in
         tells_more told told' (Changes (Log w.file) (LacksOrHas ready.0 w.file ready.1 waits.records) 2) (ChangesAlone w.file 2)
-        (λ t u old new changes. record { others = λ name other. (changes.others name other).1; syncs = changes.syncs })
+        (λ t u old new changes. record { others = λ name other. (changes.others name other).1; left = λ name other. (changes.others name other).0; syncs = changes.syncs })
         (given ready.0 ready.1 ready.2 some)
 
 pub no_ok : {A : Type 0} → false ≡ true → A

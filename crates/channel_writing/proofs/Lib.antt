@@ -14,3 +14,4 @@ pub mod Standing
 pub mod Opening
 pub mod Reopening
 pub mod Rolling
+pub mod Laid

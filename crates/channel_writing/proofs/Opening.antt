@@ -189,9 +189,9 @@ begun_on_disk t v w s base txn number fresh opens most some next changes rest fi
       is_birth = inl refl;
       frames = [];
       rest = rw gate rest;
-      still = λ name differs. was name differs ∙ ap settle_entry (sym ((changes.others name differs).1));
       small = omega (arith, next.small);
       none = λ n more. (changes.others (Log n) (other_log n number (λ same. omega (arith, more, same)))).1 ∙ next.none n (omega (arith, more));
+      gone = λ n more. was (Log n) (other_log n number (λ same. omega (arith, more, same))) ∙ ap settle_entry (next.none n (omega (arith, more)));
       logs = λ folder others. record {
         start = r.start;
         past = Dropped ∷ past_lines (start_past r.start) r.found;
@@ -199,6 +199,7 @@ begun_on_disk t v w s base txn number fresh opens most some next changes rest fi
             grown_goes t.reads folder r.start r.found 1 number more (inl refl) (omega (arith, next.small)) next.none
             (λ name differs. as_read (t.reads name) (folder name) (subst (λ (e : Entry). Allows e (folder name)) (was name differs) (others name differs)))
             r.begins r.stands.sound has;
+        fresh = λ first none. refl;
         low = fresh_low s r.start r.found base txn fresh r.stands;
         fits = first_low r.start r.found base txn (2 ^ 64) r.stands opens.1.0;
         mirrors = begun_mirrors s r.start r.found base txn fresh (begins_are_starts t.reads r.start r.found r.begins) r.stands most some;

@@ -46,7 +46,7 @@ legal-append base past (rec ∷ a) b first later = (first.0, legal-append base (
 
 -- the lines of records
 
-abbrev firsts : List (Rec × ℕ) → List Rec
+abbrev pub firsts : List (Rec × ℕ) → List Rec
 firsts items = map (λ (item : Rec × ℕ). item.0) items
 
 firsts-append : (a b : List (Rec × ℕ)) → firsts (a ++ b) ≡ firsts a ++ firsts b
@@ -57,18 +57,18 @@ firsts-records : (at : ℕ) (records : List Rec) → firsts (record_items at rec
 firsts-records at [] = refl
 firsts-records at (rec ∷ records) = ap (λ (l : List Rec). rec ∷ l) (firsts-records (at + record_length rec) records)
 
-firsts-frames : (gate : ℕ) (frames : List (List Rec)) → firsts (frame_items gate frames) ≡ flat frames
+pub firsts-frames : (gate : ℕ) (frames : List (List Rec)) → firsts (frame_items gate frames) ≡ flat frames
 firsts-frames gate [] = refl
 firsts-frames gate (frame ∷ frames) =
     firsts-append (record_items (gate + 1) frame) (frame_items (gate + 1 + length (frame_bytes frame)) frames)
     ∙ (ap (λ (l : List Rec). l ++ firsts (frame_items (gate + 1 + length (frame_bytes frame)) frames)) (firsts-records (gate + 1) frame)
     ∙ ap (λ (l : List Rec). frame ++ l) (firsts-frames (gate + 1 + length (frame_bytes frame)) frames))
 
-past_records : (file : ℕ) (past : Past) (items : List (Rec × ℕ)) → past_lines past (record_lines file items) ≡ applied past (firsts items)
+pub past_records : (file : ℕ) (past : Past) (items : List (Rec × ℕ)) → past_lines past (record_lines file items) ≡ applied past (firsts items)
 past_records file past [] = refl
 past_records file past (item ∷ items) = past_records file (Applied item.0 ∷ past) items
 
-sound_records : (base : Base) (file : ℕ) (past : Past) (items : List (Rec × ℕ)) → AreLegal base past (firsts items) → AreSound base past (record_lines file items)
+pub sound_records : (base : Base) (file : ℕ) (past : Past) (items : List (Rec × ℕ)) → AreLegal base past (firsts items) → AreSound base past (record_lines file items)
 sound_records base file past [] legal = tt
 sound_records base file past (item ∷ items) legal = (legal.0, sound_records base file (Applied item.0 ∷ past) items legal.1)
 
@@ -119,7 +119,7 @@ whole_sound base birth past number frames legal =
     (subst (λ (l : List Line). AreSound base first l) (sym (append-nil (record_lines number items))) (sound_records base number first items (subst (λ (l : List Rec). AreLegal base first l) (sym (firsts-frames 16 frames)) legal)))
 
 -- a file of these frames holds them, or counts as empty and has none
-held_content : (birth number : ℕ) (frames : List (List Rec)) (bytes : List ℕ) → IsBirth birth → HasFrames birth number frames bytes
+pub held_content : (birth number : ℕ) (frames : List (List Rec)) (bytes : List ℕ) → IsBirth birth → HasFrames birth number frames bytes
     → (content : Content) × Holds number bytes content × ((content ≡ Whole birth frames) ⊎ ((content ≡ Blank) × (frames ≡ [])))
 held_content birth number frames bytes is_birth has = from (longer (length bytes))
   where
@@ -250,11 +250,16 @@ flush_logged folder birth number s frames records log staged_earlier = record {
   start = log.start;
   past = applied log.past records;
   goes = λ more has. further more (log.goes (records ∷ more) (subst (λ (l : List (List Rec)). IsSomeAnd (folder (Log number)) (HasFrames birth number l)) (append_assoc frames (records ∷ []) more) has));
+  fresh = λ first none. absurd (some_frames frames none);
   low = log.low;
   fits = log.fits;
   mirrors = flush_mirrored log.start.base s log.past records log.mirrors staged_earlier;
 }
   where
+    some_frames : (fs : List (List Rec)) → fs ++ records ∷ [] ≡ [] → ⊥
+    some_frames [] none = cc
+    some_frames (f ∷ fs) none = cc
+
     marks : (found : Past) (more : List (List Rec)) → AreMarks birth found log.past frames (records ∷ more) → AreMarks birth found (applied log.past records) (frames ++ records ∷ []) more
     marks found more (inl is) = inl (is ∙ applied-append log.past records (flat more))
     marks found more (inr is) = absurd (some_more is.1)

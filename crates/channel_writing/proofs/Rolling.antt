@@ -24,20 +24,11 @@ use Rattle.channel_writing.proofs.Flushing.{as_read, none_waits, own_file}
 use Rattle.channel_writing.proofs.Opening.{as_before_opens, only_more}
 use Rattle.channel_writing.proofs.Recovering.{grown_goes, length-header, settled_recovers}
 
--- each file is as reads give it, the log's own too
-settled_all : (t : Told) (w : Writer) (s : State) (records : List Rec) → OnDisk t w s records → (name : FileName) → t.now name ≡ settle_entry (t.reads name)
-settled_all t w s records disk name = from (same_name name (Log w.file)) refl
-  where
-    from : (b : Bool) → same_name name (Log w.file) ≡ b → t.now name ≡ settle_entry (t.reads name)
-    from false differs = disk.still name differs
-    from true same = subst (λ (n : FileName). t.now n ≡ settle_entry (t.reads n)) (sym (same_name_is name (Log w.file) same)) (disk.rest.durable ∙ ap settle_entry (sym disk.rest.reads))
-
 -- no file of the next number is there, and no crash leaves one
 pub roll_unused : (told : Option Told) (w : Writer) (s : State) → Waits told w s → IsUnused told (w.file + 1)
 roll_unused told w s waits = λ t is.
     let disk = waits.disk t is in
-    let none : t.reads (Log (w.file + 1)) ≡ None = disk.none (w.file + 1) (omega arith) in
-    (none, settled_all t w s waits.records disk (Log (w.file + 1)) ∙ ap settle_entry none)
+    (disk.none (w.file + 1) (omega arith), disk.gone (w.file + 1) (omega arith))
 
 -- the folder before the next file was begun
 before_next : Files → ℕ → Files
@@ -61,7 +52,7 @@ module _ (t : Told) (w : Writer) (s : State) (records : List Rec) (disk : OnDisk
     where
       none_allowed : Allows (t.now (Log (w.file + 1))) (earlier (Log (w.file + 1)))
       none_allowed =
-          subst (λ (e : Entry). Allows e (earlier (Log (w.file + 1)))) (sym (settled_all t w s records disk (Log (w.file + 1)) ∙ ap settle_entry (disk.none (w.file + 1) (omega arith))))
+          subst (λ (e : Entry). Allows e (earlier (Log (w.file + 1)))) (sym (disk.gone (w.file + 1) (omega arith)))
           (subst (λ (o : Option (List ℕ)). Allows Gone o) (sym (next_none folder (w.file + 1))) tt)
 
       from : (b : Bool) → same_name name (Log (w.file + 1)) ≡ b → Allows (t.now name) (earlier name)
@@ -71,7 +62,7 @@ module _ (t : Told) (w : Writer) (s : State) (records : List Rec) (disk : OnDisk
   -- nor had it a later file
   earlier_none : (n : ℕ) → w.file + 1 ≤ n → earlier (Log n) ≡ None
   earlier_none n more =
-      as_read None (earlier (Log n)) (subst (λ (e : Entry). Allows e (earlier (Log n))) (settled_all t w s records disk (Log n) ∙ ap settle_entry (disk.none n (omega (arith, more)))) (earlier_left (Log n)))
+      as_read None (earlier (Log n)) (subst (λ (e : Entry). Allows e (earlier (Log n))) (disk.gone n (omega (arith, more))) (earlier_left (Log n)))
 
   abbrev log : Logs earlier disk.birth w.file s disk.frames records
   log = disk.logs earlier (λ name differs. earlier_left name)
@@ -94,9 +85,9 @@ rolled_disk t u w s records disk framed low changes rest = record {
   is_birth = inr refl;
   frames = [];
   rest = rest;
-  still = λ name differs. (changes.others name differs).0 ∙ (settled_all t w s records disk name ∙ ap settle_entry (sym (changes.others name differs).1));
   small = omega (arith, low);
   none = λ n high. (changes.others (Log n) (other_log n (w.file + 1) (λ same. absurd (omega (arith, high, same))))).1 ∙ disk.none n (omega (arith, high));
+  gone = λ n high. (changes.others (Log n) (other_log n (w.file + 1) (λ same. absurd (omega (arith, high, same))))).0 ∙ disk.gone n (omega (arith, high));
   logs = λ folder others. goes_on folder (λ name differs. subst (λ (e : Entry). Allows e (folder name)) (changes.others name differs).0 (others name differs));
 }
   where
@@ -112,6 +103,7 @@ rolled_disk t u w s records disk framed low changes rest = record {
               subst (λ (p : Past). GoesOn folder own.start p 2 [] more) same
               (grown_goes (before_next folder (w.file + 1)) folder own.start before.found 2 (w.file + 1) more (inr refl) (omega (arith, low)) (earlier_none t w s records disk folder others)
               (λ name differs. sym (next_others folder (w.file + 1) name differs)) before.begins (before.sound tt) has);
+          fresh = λ first none. absurd (omega (arith, first));
           low = own.low;
           fits = own.fits;
           mirrors = own.mirrors;
@@ -176,7 +168,7 @@ writes_here told told' w s waits changes = tells_more told told' (ChangesAlone w
 pub writes_begun : (told told' : Option Told) (w : Writer) (s : State) → Waits told w s → Tells told told' (Changes (Log (w.file + 1)) IsBlank 1) → Tells told told' WritesLast
 writes_begun told told' w s waits changes =
     tells_more told told' (Changes (Log (w.file + 1)) IsBlank 1) WritesLast
-    (λ t u old new begins. last_there t w s waits.records (waits.disk t old) u (inr (record { others = λ name other. (begins.others name other).1; syncs = omega (arith, begins.syncs) })))
+    (λ t u old new begins. last_there t w s waits.records (waits.disk t old) u (inr (record { others = λ name other. (begins.others name other).1; left = λ name other. (begins.others name other).0; syncs = omega (arith, begins.syncs) })))
     changes
 
 -- in the next one, once it was begun
@@ -185,6 +177,7 @@ writes_next told mid told' w s waits begins changes =
     follows told mid told' (Changes (Log (w.file + 1)) IsBlank 1) (ChangesAlone (w.file + 1) 2) WritesLast
     (λ t m u old between new first second. last_there t w s waits.records (waits.disk t old) u (inr (record {
       others = λ name other. second.others name other ∙ (first.others name other).1;
+      left = λ name other. second.left name other ∙ (first.others name other).0;
       syncs = omega (arith, first.syncs, second.syncs);
     })))
     begins changes
@@ -247,7 +240,7 @@ fills_here told told' w busy s log still fits started changes =
 pub fills_begun : (told told' : Option Told) (w : Writer) (busy : ℕ) (s : State) → IsLogged told w busy s → s.broken ≡ false → MustRoll w → 16 < w.gate → Tells told told' (Changes (Log (w.file + 1)) IsBlank 1) → Tells told told' (FillsFiles s.rules.limits.max_file (length w.bytes))
 fills_begun told told' w busy s log still must framed changes =
     tells_more told told' (Changes (Log (w.file + 1)) IsBlank 1) (FillsFiles s.rules.limits.max_file (length w.bytes))
-    (λ t u old new begins. fills_next told t u w busy s log still old must framed (record { others = λ name other. (begins.others name other).1; syncs = omega (arith, begins.syncs) }))
+    (λ t u old new begins. fills_next told t u w busy s log still old must framed (record { others = λ name other. (begins.others name other).1; left = λ name other. (begins.others name other).0; syncs = omega (arith, begins.syncs) }))
     changes
 
 -- in the next one, once it was begun
@@ -257,6 +250,7 @@ fills_then told mid told' w busy s log still must framed begins changes =
     follows told mid told' (Changes (Log (w.file + 1)) IsBlank 1) (ChangesAlone (w.file + 1) 2) (FillsFiles s.rules.limits.max_file (length w.bytes))
     (λ t m u old between new first second. fills_next told t u w busy s log still old must framed (record {
       others = λ name other. second.others name other ∙ (first.others name other).1;
+      left = λ name other. second.left name other ∙ (first.others name other).0;
       syncs = omega (arith, first.syncs, second.syncs);
     }))
     begins changes

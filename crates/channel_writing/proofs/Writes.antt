@@ -46,12 +46,12 @@ disk_steps t w s s' records records' disk up step = record {
   is_birth = disk.is_birth;
   frames = disk.frames;
   rest = disk.rest;
-  still = disk.still;
   small = disk.small;
   none = disk.none;
+  gone = disk.gone;
   logs = λ folder others.
       let log = disk.logs folder others in
-      record { start = log.start; past = log.past; goes = log.goes; low = omega (arith, log.low, up); fits = log.fits; mirrors = step log.start.base log.past log.mirrors };
+      record { start = log.start; past = log.past; goes = log.goes; fresh = log.fresh; low = omega (arith, log.low, up); fits = log.fits; mirrors = step log.start.base log.past log.mirrors };
 }
 
 -- and of another writer that is at the same place
@@ -61,9 +61,9 @@ disk_there t w w' s records disk file gate = record {
   is_birth = disk.is_birth;
   frames = disk.frames;
   rest = rw (file, gate) disk.rest;
-  still = rw file disk.still;
   small = rw file disk.small;
   none = rw file disk.none;
+  gone = rw file disk.gone;
   logs = rw file disk.logs;
 }
 

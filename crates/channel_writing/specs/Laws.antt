@@ -8,15 +8,18 @@ use Rattle.event_core.specs.declared.journal.Entry.{Entry}
 use Rattle.event_core.specs.declared.journal.Entry.TheVariants.{Puts, Takes}
 use Rattle.record_form.specs.declared.record.Rec.{Rec}
 use Rattle.record_form.specs.declared.record.Rec.TheVariants.{Put, Take, Rollback, CommitPut, CommitTake}
+use Rattle.channel_log.specs.Frames.{IsBirth, header, opened}
 use Rattle.channel_log.specs.Writer.{HasFrames}
 use Rattle.channel_face.specs.Machine.{State, base_of, entry_of, with_entry, close, free, next_number, settle, stage}
 use Rattle.channel_replay.specs.Marks.{Past, journal, next_txn}
 use Rattle.channel_face.proofs.Sound.{IsSoundState}
 use Rattle.channel_replay.specs.Start.{IsStart, Start, start_past}
 use Rattle.channel_replay.specs.StartLaws.{done_of, start_of}
-use Rattle.channel_writing.specs.Mirrors.{AreLegal, Mirrors, applied}
-use Rattle.checkpoint_recovery.specs.Recovers.{RecoversTo}
-use Rattle.channel_writing.specs.Logs.{GoesOn, Logs, flat}
+use Rattle.channel_writing.specs.Mirrors.{AreLegal, IsStartOf, Mirrors, applied}
+use Rattle.checkpoint.specs.Newest.{IsNewest}
+use Rattle.checkpoint.specs.Text.{CheckText}
+use Rattle.checkpoint_recovery.specs.Recovers.{IsCheck, RecoversTo}
+use Rattle.channel_writing.specs.Logs.{GoesOn, Logs, entered_at, flat}
 use Rattle.channel_writing.specs.Written.{MayRecover}
 
 -- A transaction that did nothing yet writes no record.
@@ -67,11 +70,32 @@ FlushIsMirrored =
     (start : Base) (s : State) (settled : Past) (records : List Rec) → Mirrors start s settled records → ((n : ℕ) → next_number s ≤ n → is_among (taken_numbers s.staged) n ≡ false)
     → Mirrors start (settle s) (applied settled records) []
 
--- A checkpoint of a state that some log mirrors, with nothing staged and no records pending, is right, and mirrors it too, without any record after it.
+-- Where some log mirrors a state, with nothing staged and no records pending, each start that has what the state has mirrors it too, without any record after it; and there is one.
 abbrev pub CheckpointIsMirrored : Type 0
 CheckpointIsMirrored =
-    (start : Base) (s : State) (settled : Past) → Mirrors start s settled [] → IsSoundState s → s.staged ≡ []
-    → IsStart (start_of s) × Mirrors (base_of s) s (start_past (start_of s)) []
+    (base : Base) (s : State) (settled : Past) → Mirrors base s settled [] → IsSoundState s → s.staged ≡ []
+    → IsStartOf s (start_of s) × ((start : Start) → IsStartOf s start → IsStart start × Mirrors start.base s (start_past start) [])
+
+-- A folder's newest checkpoint has for its place the commit byte after these frames of the last log file, and stands for this start.
+pub record IsLaidAt (folder : Files) (birth number : ℕ) (frames : List (List Rec)) (start : Start) : Type 0 where
+  pub check : ℕ
+  pub text : CheckText
+  pub newest : IsNewest folder (Some check)
+  pub is : IsCheck folder check text start
+  pub place : text.place ≡ record { file = number; at = length (header birth number ++ opened frames) }
+  pub none : (n : ℕ) → number < n → folder (Log n) ≡ None
+
+-- It goes on from there by the frames that the file has after these.
+abbrev pub LaidGoesOn : Type 0
+LaidGoesOn =
+    (folder : Files) (start : Start) (birth number : ℕ) (frames more : List (List Rec)) → IsLaidAt folder birth number frames start → IsBirth birth → IsSomeAnd (folder (Log number)) (HasFrames birth number (frames ++ more))
+    → GoesOn folder start (entered_at birth frames (start_past start)) birth frames more
+
+-- And where the start has what the state has, of which an earlier folder has the log with nothing staged and no records pending, the log from there on is the channel's.
+abbrev pub LaidIsLogged : Type 0
+LaidIsLogged =
+    (earlier folder : Files) (start : Start) (birth number : ℕ) (s : State) (frames : List (List Rec)) → Logs earlier birth number s frames [] → IsBirth birth → IsSoundState s → s.staged ≡ [] → s.first < 2 ^ 64 → IsStartOf s start
+    → ((more : List (List Rec)) → IsSomeAnd (folder (Log number)) (HasFrames birth number (frames ++ more)) → IsLaidAt folder birth number frames start) → Logs folder birth number s frames []
 
 -- Logs after two starts that mirror one state leave the same, and the same again with the records that are pending.
 abbrev pub StartsLeaveTheSame : Type 0

@@ -6,7 +6,7 @@ use Rattle.record_form.specs.declared.record.Rec.{Rec}
 use Rattle.channel_face.specs.Machine.{State}
 use Rattle.channel_log.specs.Writer.{HasFrames}
 use Rattle.channel_replay.specs.declared.line.Line.{Line}
-use Rattle.channel_replay.specs.Marks.{Past, Dropped}
+use Rattle.channel_replay.specs.Marks.{Past, Dropped, open_txns}
 use Rattle.channel_replay.specs.Recover.{AreSound, past_lines}
 use Rattle.channel_replay.specs.Start.{Start, start_past}
 use Rattle.checkpoint_recovery.specs.Recovers.{BeginsAt}
@@ -20,6 +20,11 @@ flat (frame ∷ frames) = frame ++ flat frames
 -- the marks where a file of this birth is entered: one that an opening began drops what is open, and one that follows a full file does not
 abbrev pub entered : ℕ → Past → Past
 entered birth past = if birth == 1 then Dropped ∷ past else past
+
+-- the marks at the place after these frames of a file: before the first one the file is only to be entered
+abbrev pub entered_at : ℕ → List (List Rec) → Past → Past
+entered_at birth [] past = entered birth past
+entered_at birth (frame ∷ frames) past = past
 
 -- The marks that were found are these and those of more frames; or the file of these frames has none yet, and is entered only once it has.
 abbrev pub AreMarks : ℕ → Past → Past → List (List Rec) → List (List Rec) → Type 0
@@ -38,6 +43,8 @@ pub record Logs (folder : Files) (birth number : ℕ) (s : State) (frames : List
   pub start : Start
   pub past : Past
   pub goes : (more : List (List Rec)) → IsSomeAnd (folder (Log number)) (HasFrames birth number (frames ++ more)) → GoesOn folder start past birth frames more
+  -- where an opening began the file, and it has no frame yet, nothing that is open has a record before its own
+  pub fresh : birth ≡ 1 → frames ≡ [] → open_txns past ≡ []
   pub low : start.txn ≤ s.txn
   pub fits : start.base.first < 2 ^ 64
   pub mirrors : Mirrors start.base s past records

@@ -1,7 +1,7 @@
 -- How the records of a log mirror a channel's state.
 use Rattle.std.specs.Prelude.{◌≡◌, ◌<◌, ◌≤◌, ◌+◌, ◌-◌, ◌^◌, ℕ, List, [], ◌∷◌, ◌++◌, length, Option, Some, None, false}
 use Rattle.std.specs.List.{AllByRecursion}
-use Rattle.event_core.specs.Journal.{Base, after_journal, is_among, taken_numbers}
+use Rattle.event_core.specs.Journal.{Base, IsNotEmpty, after_journal, is_among, taken_numbers}
 use Rattle.event_core.specs.declared.journal.Entry.{Entry}
 use Rattle.record_form.specs.declared.record.Rec.{Rec}
 use Rattle.channel_face.specs.Machine.{State, base_of, entry_of}
@@ -9,7 +9,7 @@ use Rattle.channel_replay.specs.Marks.{Past, Applied, opened, open_txns, journal
 use Rattle.channel_replay.specs.Open.{keys}
 use Rattle.channel_replay.specs.Rules.{IsLegal}
 use Rattle.channel_replay.specs.StartLaws.{done_of}
-use Rattle.channel_replay.specs.Start.{AreApart}
+use Rattle.channel_replay.specs.Start.{AreApart, Start}
 
 -- the marks after these records
 abbrev pub applied : Past → List Rec → Past
@@ -29,6 +29,16 @@ one_if_done (Some entry) = 1
 abbrev pub busy : List (ℕ × Entry) → ℕ
 busy [] = 0
 busy (o ∷ opened) = one_if_done (done_of (Some o.1)) + busy opened
+
+-- A start has what a state has: what is left with the next numbers, and each open transaction that did something, with just that.
+pub record IsStartOf (s : State) (start : Start) : Type 0 where
+  pub base : start.base ≡ base_of s
+  pub txn : start.txn ≡ s.txn
+  pub each : (n : ℕ) → entry_of n start.opened ≡ done_of (entry_of n s.opened)
+  pub as_many : length start.opened ≡ busy s.opened
+  pub apart : AreApart (keys start.opened)
+  pub some : AllByRecursion (λ o. IsNotEmpty o.1) start.opened
+  pub below : AllByRecursion (λ o. o.0 < s.txn) start.opened
 
 -- After a start, these marks and these records, which no flush has settled, a log has what the state has: what is settled, what is staged, and what the open transactions did. The records are legal.
 pub record Mirrors (start : Base) (s : State) (settled : Past) (records : List Rec) : Type 0 where

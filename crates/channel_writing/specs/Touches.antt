@@ -22,9 +22,10 @@ flushes (Flush (Ok done)) = true
 flushes (Flush (Err FlushNo.DiskFault)) = true
 flushes call = false
 
--- This log file alone may read otherwise now, and at most so many syncs were made.
+-- This log file alone may read otherwise now, or be left otherwise by a crash, and at most so many syncs were made.
 pub record ChangesAlone (file most : ℕ) (t u : Told) : Type 0 where
   pub others : (name : FileName) → same_name name (Log file) ≡ false → u.reads name ≡ t.reads name
+  pub left : (name : FileName) → same_name name (Log file) ≡ false → u.now name ≡ t.now name
   pub syncs : u.syncs ≤ t.syncs + most
 
 -- A log file was there, and none above it. It alone may read otherwise now, and at most two syncs were made; or the next one alone, which was begun, and at most

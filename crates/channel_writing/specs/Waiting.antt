@@ -1,8 +1,9 @@
 -- How many bytes of records wait in the frame for a flush.
-use Rattle.std.specs.Prelude.{◌+◌, ◌==◌, ◌||◌, ℕ, List, [], ◌∷◌, Ok, Option, Some, None, Bool, if◌then◌else◌}
+use Rattle.std.specs.Prelude.{◌+◌, ◌==◌, ◌||◌, ℕ, List, [], ◌∷◌, Ok, Err, Option, Some, None, Bool, if◌then◌else◌}
 use Rattle.event_core.specs.Content.{Content, size}
 use Rattle.channel_face.specs.History.{Step}
-use Rattle.channel_face.specs.Machine.{State, Call, Put, Take, StagePut, StageTake, Flush, RollbackPut, RollbackTake, Reopen, after, puts_of, size_of_list, takes_of}
+use Rattle.channel_face.specs.declared.replies.CheckRefused.TheVariants as CheckNo
+use Rattle.channel_face.specs.Machine.{State, Call, Put, Take, StagePut, StageTake, Flush, Checkpoint, RollbackPut, RollbackTake, Reopen, after, puts_of, size_of_list, takes_of}
 
 -- the length of the record of a take, if it gave an event
 abbrev pub take_length : Option Content → ℕ
@@ -20,6 +21,8 @@ waiting_after s (Take token (Ok taken)) waiting = (if taken.spilled then 0 else 
 waiting_after s (StagePut token (Ok ticket)) waiting = waiting + (if ticket.count == 0 then 0 else 21)
 waiting_after s (StageTake token (Ok ticket)) waiting = waiting + (if ticket.count == 0 then 0 else 13)
 waiting_after s (Flush (Ok done)) waiting = 0
+waiting_after s (Checkpoint (Ok done)) waiting = 0
+waiting_after s (Checkpoint (Err CheckNo.CheckFault)) waiting = 0
 waiting_after s (RollbackPut token ended) waiting = waiting + rollback_length s.broken (size_of_list (puts_of s token))
 waiting_after s (RollbackTake token ended) waiting = waiting + rollback_length s.broken (size_of_list (takes_of s token))
 waiting_after s (Reopen (Ok r)) waiting = 0

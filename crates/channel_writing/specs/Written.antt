@@ -1,6 +1,6 @@
 -- What a channel writes of its state, and what a crash leaves of it.
 use Rattle.std.specs.Prelude.{◌≡◌, ◌⊎◌, ◌<◌, ◌≤◌, ◌+◌, ◌*◌, ◌^◌, ℕ, List, [], length, Option, None, Bool, false, if◌then◌else◌}
-use Rattle.flume_host.specs.Folder.{Allows, Files, IsImage, same_name, settle_entry}
+use Rattle.flume_host.specs.Folder.{Allows, Files, Gone, IsImage, same_name}
 use Rattle.flume_host.specs.Told.{Told, WhereTold}
 use Rattle.flume_host.specs.declared.names.FileName.{FileName}
 use Rattle.flume_host.specs.declared.names.FileName.TheVariants.{Log}
@@ -17,10 +17,6 @@ use Rattle.channel_writing.specs.Logs.{Logs}
 abbrev pub kept : ℕ → Bool → ℕ
 kept busy first = 21 * (busy + (if first then 1 else 0))
 
--- no other file is changing: a crash leaves it as reads give it
-abbrev pub AreStill : Told → ℕ → Type 0
-AreStill t file = (name : FileName) → same_name name (Log file) ≡ false → t.now name ≡ settle_entry (t.reads name)
-
 -- a folder whose files are as a crash may leave them, but for this log file
 abbrev pub LeavesOthers : Told → ℕ → Files → Type 0
 LeavesOthers t file folder = (name : FileName) → same_name name (Log file) ≡ false → Allows (t.now name) (folder name)
@@ -31,9 +27,9 @@ pub record OnDisk (t : Told) (w : Writer) (s : State) (records : List Rec) : Typ
   pub is_birth : IsBirth birth
   pub frames : List (List Rec)
   pub rest : IsAtRest t birth w.file w.gate frames
-  pub still : AreStill t w.file
   pub small : w.file < 2 ^ 32
   pub none : (n : ℕ) → w.file < n → t.reads (Log n) ≡ None
+  pub gone : (n : ℕ) → w.file < n → t.now (Log n) ≡ Gone
   pub logs : (folder : Files) → LeavesOthers t w.file folder → Logs folder birth w.file s frames records
 
 -- Some records wait, and the disk, as far as it shows, has the rest.

@@ -1,5 +1,5 @@
 // Laws of the records that a channel writes, after any start.
-ghost use Rattle.channel_writing.specs.Laws.{BeginIsMirrored, PutIsMirrored, TakeIsMirrored, RollbackIsMirrored, EndIsMirrored, StagePutIsMirrored, StageTakeIsMirrored, FlushIsMirrored, CheckpointIsMirrored, StartsLeaveTheSame, FramesRecover, FlushRecovers, FlushIsLogged};
+ghost use Rattle.channel_writing.specs.Laws.{BeginIsMirrored, PutIsMirrored, TakeIsMirrored, RollbackIsMirrored, EndIsMirrored, StagePutIsMirrored, StageTakeIsMirrored, FlushIsMirrored, CheckpointIsMirrored, LaidGoesOn, LaidIsLogged, StartsLeaveTheSame, FramesRecover, FlushRecovers, FlushIsLogged};
 
 /// A transaction that did nothing yet writes no record.
 pub fn a_begin_is_mirrored()
@@ -41,7 +41,7 @@ pub fn a_flush_is_mirrored()
     ensures { FlushIsMirrored }
 {}
 
-/// A checkpoint is a start that mirrors the state.
+/// A checkpoint's start mirrors the state.
 pub fn a_checkpoint_is_mirrored()
     ensures { CheckpointIsMirrored }
 {}
@@ -64,4 +64,14 @@ pub fn a_flush_recovers()
 /// After a flush the log's frames are one more, and nothing waits.
 pub fn a_flush_is_logged()
     ensures { FlushIsLogged }
+{}
+
+/// After the place of a folder's newest checkpoint the log goes on by the frames that come after it.
+pub fn a_laid_log_goes_on()
+    ensures { LaidGoesOn }
+{}
+
+/// From the checkpoint of a state on the log is the channel's.
+pub fn a_laid_log_is_the_channels()
+    ensures { LaidIsLogged }
 {}

@@ -72,11 +72,11 @@ keeps_on least laid name result t u v not_kept reads so_far leads = record {
         subst (λ (e : Entry). Allows e (image n)) (with_at_other u.now name n (entry_under Remove (u.now name)) (differs least laid name n not_kept from) ∙ (so_far.same n from).0) (left n)
 
 -- an image's kept files, and the other files of a folder
-abbrev mixed : ℕ → ℕ → Files → Files → Files
+abbrev pub mixed : ℕ → ℕ → Files → Files → Files
 mixed least laid image reads (Log n) = cond (nat_le least n) (image (Log n)) (reads (Log n))
 mixed least laid image reads (Check n) = cond (nat_le laid n) (image (Check n)) (reads (Check n))
 
-less_equal : (a b : ℕ) → a ≤ b → nat_le a b ≡ true
+pub less_equal : (a b : ℕ) → a ≤ b → nat_le a b ≡ true
 less_equal a b le = grind (arith, nat_tests)
 
 either_file : (entry : Entry) (a b : Option (List ℕ)) (is : Bool) → (is ≡ true → Allows entry a) → Allows entry b → Allows entry (cond is a b)
@@ -86,10 +86,14 @@ either_file entry a b false one two = two
 less_from : (a b : ℕ) → nat_le a b ≡ true → a ≤ b
 less_from a b is = grind (arith, nat_tests)
 
--- an image's kept files, with the others as they read, are an image of the folder before
+-- an image's kept file, or another as it reads, is one that a crash might have left before
+pub mixed_left : (old : Told) (least laid : ℕ) (image : Files) (name : FileName) → Allows (old.now name) (old.reads name) → (IsFrom least laid name → Allows (old.now name) (image name)) → Allows (old.now name) (mixed least laid image old.reads name)
+mixed_left old least laid image (Log n) reads kept = either_file (old.now (Log n)) (image (Log n)) (old.reads (Log n)) (nat_le least n) (λ is. kept (less_from least n is)) reads
+mixed_left old least laid image (Check n) reads kept = either_file (old.now (Check n)) (image (Check n)) (old.reads (Check n)) (nat_le laid n) (λ is. kept (less_from laid n is)) reads
+
+-- such files are an image of the folder before
 mixed_image : (old : Told) (least laid : ℕ) (image : Files) → IsImage old.now old.reads → ((name : FileName) → IsFrom least laid name → Allows (old.now name) (image name)) → (name : FileName) → Allows (old.now name) (mixed least laid image old.reads name)
-mixed_image old least laid image reads kept (Log n) = either_file (old.now (Log n)) (image (Log n)) (old.reads (Log n)) (nat_le least n) (λ is. kept (Log n) (less_from least n is)) (reads (Log n))
-mixed_image old least laid image reads kept (Check n) = either_file (old.now (Check n)) (image (Check n)) (old.reads (Check n)) (nat_le laid n) (λ is. kept (Check n) (less_from laid n is)) (reads (Check n))
+mixed_image old least laid image reads kept name = mixed_left old least laid image name (reads name) (kept name)
 
 -- a crash while a folder is pruned leaves what it recovered to before
 pub pruned_at_any_moment : PrunedAtAnyMoment

@@ -10,9 +10,11 @@ use Rattle.record_form.specs.declared.record.Pointer.{Pointer}
 use Rattle.record_form.specs.declared.record.Rec.{Rec}
 use Rattle.record_form.specs.declared.record.Rec.TheVariants.{Put, Take}
 use Rattle.channel_log.specs.Writer.{Appends, IsPending, IsReady, LacksOrHas, Writer}
+use Rattle.open_table.specs.Tables.{HasAt, added as with_item, open_at}
+use Rattle.open_table.specs.declared.opened.Item.TheVariants as items
 use Rattle.channel_face.specs.Token.{Token}
 use Rattle.channel_face.specs.Machine.{State, add_put, add_take, broken_state, free, puts_of, settle, takes_of}
-use Rattle.channel_places.specs.Looks.{Known, Looks}
+use Rattle.channel_places.specs.Looks.{KeepsPuts, Known, Looks}
 use Rattle.channel_writing.specs.Touches.{Flushed, WritesLast}
 use Rattle.channel_writing.specs.Written.{IsLogged, MayRecover, RecoversSettled, Waits}
 use Rattle.channel_writing.proofs.Flushing.{ready_frames}
@@ -22,29 +24,32 @@ use Rattle.channel_writing.proofs.Putting.{put_in}
 use Rattle.channel_writing.proofs.Whole.{failed_whole, rests_over}
 use Rattle.channel_places.proofs.Opening.{looks_grow}
 use Rattle.file_channel.specs.Placed.{Fits, IsStateOf, Logged}
+use Rattle.file_channel.proofs.Owning.{own_appends, own_grows, own_less, own_put, own_same}
 use Rattle.file_channel.proofs.Placing.{Grows, frame_grows, next_place, placed_appends, placed_grows, placed_put, same_grows}
 
 -- a put
 pub put_fits : (told : Option Told) (old new : Logged) (token : Token) (p : Pointer) (event : Content) (s : State) (events : List Content) → Fits told old s → puts_of s token ≡ Some events → Appends old.log new.log (Put token.number event) → p ≡ next_place old.log (size event)
-    → ((settled known : Known) → Looks settled known old.places s → Looks settled ((p, event) ∷ known) new.places (add_put s token.number (puts_of s token) event)) → IsLogged told new.log new.busy (put_in s false token.number events event) → Fits told new (put_in s false token.number events event)
-put_fits told old new token p event s events fits list adds is places log = record {
+    → ((settled known : Known) → Looks settled known old.places s → Looks settled ((p, event) ∷ known) new.places (add_put s token.number (puts_of s token) event)) → HasAt token.number (with_item (items.Put p) (open_at old.places.opened token.number)) old.places.opened new.places.opened → IsLogged told new.log new.busy (put_in s false token.number events event) → Fits told new (put_in s false token.number events event)
+put_fits told old new token p event s events fits list adds is places added log = record {
   settled = fits.settled;
   known = (p, event) ∷ fits.known;
   looks = subst (λ (l : Option (List Content)). Looks fits.settled ((p, event) ∷ fits.known) new.places (add_put s token.number l event)) list (places fits.settled fits.known fits.looks);
   placed = placed_put told old.log new.log token.number event p fits.settled fits.known adds is fits.placed;
+  owned = own_put told old.log new.log token.number event p old.places.opened new.places.opened adds is added fits.owned;
   logged = log;
 }
 
 -- a take
 pub take_fits : (told : Option Told) (old new : Logged) (token : Token) (number : ℕ) (event : Content) (rest : List (ℕ × Content)) (s : State) (numbers : List ℕ) → Fits told old s → takes_of s token ≡ Some numbers → free s ≡ (number, event) ∷ rest → Appends old.log new.log (Take token.number number)
-    → ((settled known : Known) → Looks settled known old.places s → Looks settled known new.places (add_take s token.number (takes_of s token) (free s))) → IsLogged told new.log new.busy (take_in s false token.number numbers number) → Fits told new (take_in s false token.number numbers number)
-take_fits told old new token number event rest s numbers fits list first adds places log = record {
+    → ((settled known : Known) → Looks settled known old.places s → Looks settled known new.places (add_take s token.number (takes_of s token) (free s))) → KeepsPuts old.places.opened new.places.opened → IsLogged told new.log new.busy (take_in s false token.number numbers number) → Fits told new (take_in s false token.number numbers number)
+take_fits told old new token number event rest s numbers fits list first adds places keeps log = record {
   settled = fits.settled;
   known = fits.known;
   looks =
       let here : Looks fits.settled fits.known new.places (add_take s token.number (Some numbers) (free s)) = subst (λ (l : Option (List ℕ)). Looks fits.settled fits.known new.places (add_take s token.number l (free s))) list (places fits.settled fits.known fits.looks) in
       subst (λ (l : List (ℕ × Content)). Looks fits.settled fits.known new.places (add_take s token.number (Some numbers) l)) first here;
   placed = placed_appends told old.log new.log (Take token.number number) fits.settled fits.known adds fits.placed;
+  owned = own_appends told old.log new.log (Take token.number number) new.places.opened adds (own_less told old.log old.places.opened new.places.opened keeps fits.owned);
   logged = log;
 }
 
@@ -72,12 +77,13 @@ flush_grows told told' w w' s waits changes flushed moved same u is = from (some
         (was.0, was.1, frame_grows was.0 u w w' ready.0 ready.1 waits.records (ready.2 was.0 was.1) rest waits.pending was.2 (moved some))
 
 pub settle_fits : (told told' : Option Told) (old new : Logged) (s : State) (is : IsStateOf told old s) (still : s.broken ≡ false) → ((u : Told) → told' ≡ Some u → (t : Told) × (told ≡ Some t) × Grows t u old.log new.log)
-    → ((known : Known) → Looks known known old.places s → Looks known known new.places (settle s)) → new.log.bytes ≡ [] → IsLogged told' new.log new.busy (settle s) → Fits told' new (settle s)
-settle_fits told told' old new s is still grew places empty log = record {
+    → ((known : Known) → Looks known known old.places s → Looks known known new.places (settle s)) → new.places.opened ≡ old.places.opened → new.log.bytes ≡ [] → IsLogged told' new.log new.busy (settle s) → Fits told' new (settle s)
+settle_fits told told' old new s is still grew places same empty log = record {
   settled = is.known;
   known = is.known;
   looks = places is.known (looks_grow is.settled is.known is.known old.places s (is.placed still).within (λ p event in_known. in_known) is.looks);
   placed = placed_grows told told' old.log new.log is.settled is.known empty grew (is.placed still);
+  owned = own_grows told told' old.log new.log new.places.opened grew (own_same told old.log old.places.opened new.places.opened same (is.owned still));
   logged = log;
 }
 
@@ -91,6 +97,7 @@ failed_state told told' old new s is images places = record {
   known = is.known;
   looks = places is.settled is.known is.looks;
   placed = λ still. differ still;
+  owned = λ still. differ still;
   whole = failed_whole told' new.log new.busy s (rests_over told told' s images) is.whole.sound is.whole.kind;
 }
 

@@ -2,7 +2,7 @@
 use Rattle.std.proofs.Common.{◌⊎◌, inl, inr, ◌≡◌, ◌≢◌, ◌<◌, ◌≤◌, ◌+◌, ◌-◌, ◌^◌, ◌∷◌, [], ℕ, List, length, drop, take, Option, Some, None, Err, false, true, refl, sym, ◌∙◌, ap, subst, arith}
 use Rattle.std.proofs.lemmas.List.{take_all}
 use Rattle.flume_host.specs.Causes.{Rose}
-use Rattle.flume_host.specs.Folder.{Files}
+use Rattle.flume_host.specs.Folder.{Files, settle_entry}
 use Rattle.flume_host.specs.Told.{Changes, DidPart, Leads, Settle, Tells, Told, WhereTold, done, moment_of}
 use Rattle.flume_host.specs.declared.names.Failed.{Failed}
 use Rattle.flume_host.specs.declared.names.FileName.TheVariants.{Log}
@@ -35,6 +35,7 @@ use Rattle.ring_replay.specs.declared.folder.Replayed.{Replayed}
 use Rattle.file_channel.specs.Opened.{AreSeen, AreShort, FailsToBegin, IsBegunAs, OpensWith, ReplaysTo, state_of}
 use Rattle.file_channel.specs.Placed.{ArePlaced, IsStateOf, bytes_of, settled_in}
 use Rattle.file_channel.specs.Stands.{FileState, StandsOver, items_at, opened_as}
+use Rattle.file_channel.proofs.Owning.{own_none}
 use Rattle.file_channel.proofs.Placing.{end_other, not_waiting}
 use Rattle.file_channel.proofs.Seen.{blanks, blanks_seen, blanks_sized, has_blanks, items_seen, placed_seen}
 use Rattle.file_channel.proofs.Replaying.{InFile, are_long, as_many, has_ring, items_look, ring_places, ring_stands, same_base}
@@ -174,6 +175,12 @@ placed_begun : (was mid now : Option Told) (w : Writer) (number : ℕ) (known : 
 placed_begun was mid now w number known settles next begins file kept long files = record {
   long = long;
   there = λ v is p event in_known. inl (at v is p event in_known);
+  still = λ v is p event in_known other.
+      let b = back mid now (BeginsFile number) begins v is in
+      let a = back was mid SettledAs settles b.0 b.1 in
+      let since : BeginsFile number (done Settle a.0) v = subst (λ (u : Told). BeginsFile number u v) a.2 b.2 in
+      let others = since.others (Log p.file) (other_log p.file number (λ same. other (same ∙ sym file))) in
+      others.0 ∙ ap settle_entry (sym others.1);
   piece = λ v is. nothing_is_there v w kept;
   within = λ p event in_known. in_known;
   written = λ v is p event in_known. not_waiting v w p event (at v is p event in_known);
@@ -273,8 +280,8 @@ begun_as was mid now r w number capacity most settles replays ready few low next
 
 -- the places and the log of a channel that is opened
 pub opens_with : (was now : Option Told) (limits : Limits) (r : Replayed) (held : Places) (w : Writer) → IsBegunAs was now limits.capacity limits.max_file r w
-    → ((settled known : Known) (o : Opening) → o.base.first ≡ r.next.number → o.txn ≡ r.next.txn → o.rules ≡ record { kind = File; limits = limits } → LookLeft settled [] r.ring.live o.base.items → IsBase o.base → Looks settled known held (opening o)) → OpensWith was now limits (record { places = held; log = w; busy = 0 })
-opens_with was now limits r held w begun looks =
+    → ((settled known : Known) (o : Opening) → o.base.first ≡ r.next.number → o.txn ≡ r.next.txn → o.rules ≡ record { kind = File; limits = limits } → LookLeft settled [] r.ring.live o.base.items → IsBase o.base → Looks settled known held (opening o)) → held.opened ≡ [] → OpensWith was now limits (record { places = held; log = w; busy = 0 })
+opens_with was now limits r held w begun looks none =
     let o : Opening = record { rules = record { kind = File; limits = limits }; base = begun.base; txn = r.next.txn; faults = 0; from = 0; tells = true } in
     let s : State = state_of limits begun.base r.next.txn in
     let look : Looks begun.known begun.known held (opening o) = looks begun.known begun.known o begun.first refl refl begun.left begun.rises in
@@ -290,6 +297,7 @@ opens_with was now limits r held w begun looks =
         known = begun.known;
         looks = look;
         placed = λ _. begun.placed;
+        owned = λ _. own_none now w held.opened none;
         whole = opened_whole now w 0 s o refl refl begun.rises (begun.logged s (opened_fresh s o refl) refl);
       };
       seen = λ i. record { items = items i; first = first i };

@@ -31,7 +31,7 @@ use Rattle.channel_writing.proofs.Freeing.{take_in, take_moves, take_still, take
 use Rattle.channel_writing.proofs.Putting.{put_fails, put_in, put_may, put_moves, put_whole}
 use Rattle.channel_writing.proofs.Whole.{sound_then, still_not}
 use Rattle.channel_writing.proofs.Writes.{disk_there}
-use Rattle.file_channel.specs.Placed.{ArePlaced, Fits, IsStateOf, Logged}
+use Rattle.file_channel.specs.Placed.{AreOwn, ArePlaced, Fits, IsStateOf, Logged}
 use Rattle.file_channel.specs.Stepped.{ReadsAs, Steps, as_take}
 
 differ : {A : Type 0} → true ≡ false → A
@@ -80,7 +80,7 @@ room_is told w b s n count held log same = ap (λ (x : ℕ). n + kept x (count =
 
 -- a state that places and log fit
 pub state_fits : (told : Option Told) (c : Logged) (s : State) (is : IsStateOf told c s) → s.broken ≡ false → Fits told c s
-state_fits told c s is still = record { settled = is.settled; known = is.known; looks = is.looks; placed = is.placed still; logged = is.whole.logged still }
+state_fits told c s is still = record { settled = is.settled; known = is.known; looks = is.looks; placed = is.placed still; owned = is.owned still; logged = is.whole.logged still }
 
 -- a put that was made
 pub put_steps : (told told' : Option Told) (old new : Logged) (token : Token) (event : Content) (events : List Content) (spilled : Bool) (s : State) → IsStateOf told old s → puts_of s token ≡ Some events → put_refusal s (Some events) event ≡ None → Fits told' new (put_in s spilled token.number events event)
@@ -89,7 +89,7 @@ put_steps told told' old new token event events spilled s is list may fits longe
     let s' : State = put_in s spilled token.number events event in
     let moves : Moves true s (Put token event (Ok (record { spilled = spilled }))) s' = put_moves s s' token events event spilled list may is.whole.kind refl in
     let whole : IsWhole told' new.log new.busy s' = put_whole told' new.log new.busy s s' token token.number events event spilled is.whole.sound list may is.whole.kind refl refl fits.logged in
-    let here : IsStateOf told' new s' = record { settled = fits.settled; known = fits.known; looks = fits.looks; placed = λ _. fits.placed; whole = whole } in
+    let here : IsStateOf told' new s' = record { settled = fits.settled; known = fits.known; looks = fits.looks; placed = λ _. fits.placed; owned = λ _. fits.owned; whole = whole } in
     record {
       admitted = moves.admitted;
       stands = subst (λ (v : State). IsStateOf told' new v) moves.state here;
@@ -178,7 +178,7 @@ take_steps told told' old new token numbers number kept given rest spilled s is 
     let s' : State = take_in s spilled token.number numbers number in
     let moves : Moves true s (Take token (Ok (record { event = Some kept; spilled = spilled }))) s' = take_moves s s' token numbers (number, kept) rest spilled list may is.whole.kind first refl in
     let whole : IsWhole told' new.log new.busy s' = take_whole told' new.log new.busy s s' token token.number numbers (number, kept) rest spilled is.whole.sound list may is.whole.kind first refl refl fits.logged in
-    let here : IsStateOf told' new s' = record { settled = fits.settled; known = fits.known; looks = fits.looks; placed = λ _. fits.placed; whole = whole } in
+    let here : IsStateOf told' new s' = record { settled = fits.settled; known = fits.known; looks = fits.looks; placed = λ _. fits.placed; owned = λ _. fits.owned; whole = whole } in
     let given_is : Gives (is_some_of told) (first_event (free s)) (Some given) = subst (λ (l : List (ℕ × Content)). Gives (is_some_of told) (first_event l) (Some given)) (sym first) gives in
     record {
       admitted = (moves.admitted.0, given_is, moves.admitted.2, tt);
@@ -282,6 +282,7 @@ flush_steps told told' old new s is still fits empty =
         known = fits.known;
         looks = fits.looks;
         placed = λ _. fits.placed;
+        owned = λ _. fits.owned;
         whole = record {
           logged = λ _. fits.logged;
           left = λ broken. absurd (still_not s (settle s) still refl broken);
@@ -321,12 +322,16 @@ kept_whole told w b s k whole = record { logged = λ still. kept_logged (whole.l
       };
     }
 
+own_kept : (told told' : Option Told) (c : Logged) (w : Writer) → told' ≡ told → w ≡ record c.log { kept = w.kept } → AreOwn told c.log c.places.opened → AreOwn told' w c.places.opened
+own_kept told told' c w same is own = rw same (subst (λ (v : Writer). AreOwn told v c.places.opened) (sym is) own)
+
 pub kept_state : (told told' : Option Told) (c : Logged) (w : Writer) (s : State) → told' ≡ told → w ≡ record c.log { kept = w.kept } → ((settled known : Known) → ArePlaced told c.log settled known → ArePlaced told' w settled known) → IsStateOf told c s → IsStateOf told' (record c { log = w }) s
 kept_state told told' c w s same is placed state = record {
   settled = state.settled;
   known = state.known;
   looks = state.looks;
   placed = λ still. placed state.settled state.known (state.placed still);
+  owned = λ still. own_kept told told' c w same is (state.owned still);
   whole = rw same (subst (λ (v : Writer). IsWhole told v c.busy s) (sym is) (kept_whole told c.log c.busy s w.kept state.whole));
 }
 

@@ -1,15 +1,18 @@
 -- Events stand at their pointers where the log goes on in a next file, and those that wait for a flush were moved there.
-use Rattle.std.proofs.Common.{◌⊎◌, inl, inr, ◌≡◌, ◌≢◌, ◌<◌, ◌≤◌, ◌+◌, ◌-◌, ◌^◌, ◌++◌, ◌∷◌, [], ℕ, List, length, length-append, append-nil, map, nat_le, take, Option, Some, Bool, true, false, ◌==◌, cond, refl, sym, ◌∙◌, ap, subst, arith}
+use Rattle.std.proofs.Common.{◌⊎◌, inl, inr, ◌≡◌, ◌≢◌, ◌<◌, ◌≤◌, ◌+◌, ◌-◌, ◌^◌, ◌++◌, ◌∷◌, [], ℕ, List, length, length-append, append-nil, map, nat_le, take, Option, Some, None, Bool, true, false, ◌==◌, cond, refl, sym, ◌∙◌, ap, subst, arith}
+use Rattle.std.specs.Prelude.{option_map}
 use Rattle.std.proofs.Math.Seq.{take-nil}
 use Rattle.std.proofs.lemmas.Bool.Decides.{eqb_tells, nat_tests}
 use Rattle.std.proofs.lemmas.List.{take_all}
+use Rattle.std.specs.List.{AllByRecursion}
+use Rattle.flume_host.specs.Folder.{settle_entry}
 use Rattle.flume_host.specs.Told.{Changes, Tells, Told}
 use Rattle.flume_host.specs.declared.names.FileName.TheVariants.{Log}
 use Rattle.flume_host.proofs.Telling.{back}
 use Rattle.event_core.specs.Content.{Content, size}
 use Rattle.record_form.specs.declared.record.Pointer.{Pointer}
 use Rattle.record_form.specs.declared.record.Rec.{Rec}
-use Rattle.open_table.specs.Tables.{is_behind, moved_pointer}
+use Rattle.open_table.specs.Tables.{Listed, Open, Puts, Table, Takes, is_behind, moved, moved_open, moved_pointer, open_at, puts_of}
 use Rattle.channel_log.specs.Frames.{header, opened}
 use Rattle.channel_log.specs.Pointers.{IsWaiting, PutAt, end_of, settled_part}
 use Rattle.channel_log.specs.Window.{IsPieceOf}
@@ -17,12 +20,13 @@ use Rattle.channel_log.specs.Writer.{IsBlank, Writer, file_of}
 use Rattle.channel_log.proofs.Keeping.{piece_grows}
 use Rattle.channel_log.proofs.Pointing.{put_grows}
 use Rattle.channel_face.specs.Machine.{State}
-use Rattle.channel_places.specs.Looks.{Known, Looks, Moves, StandsIn}
+use Rattle.channel_places.specs.Looks.{Known, Looks, Moves, StandsIn, pointers_of}
 use Rattle.channel_places.proofs.Moved.{all_moved, known_moved}
 use Rattle.channel_places.proofs.Opening.{grows_behind, grows_front}
 use Rattle.channel_writing.specs.Written.{IsLogged, OnDisk, Waits}
 use Rattle.checkpoint_opening.proofs.Growing.{other_log}
-use Rattle.file_channel.specs.Placed.{ArePlaced, IsStateOf, IsThere, Logged, bytes_of, settled_in}
+use Rattle.file_channel.specs.Placed.{ArePlaced, AreOwn, IsOwn, IsStateOf, IsStill, IsThere, Logged, PutBy, bytes_of, settled_in}
+use Rattle.file_channel.proofs.Owning.{by_grows}
 use Rattle.file_channel.proofs.Placing.{end_other, no_put, not_waiting, settled_own}
 use Rattle.file_channel.proofs.Replaying.{in_either}
 
@@ -128,6 +132,32 @@ module _ (t u : Told) (w : Writer) (s : State) (records : List Rec) (disk : OnDi
         record { txn = put.txn; before = put.before; behind = put.behind; split = put.split; place = omega (arith, put.place); long = put.long; fields = put.fields; limits = put.limits },
       ))
 
+  -- and one of its transaction's own
+  own_still : (txn : ℕ) (p : Pointer) → IsOwn t w txn p → IsOwn u (next_of w) txn (gone w p)
+  own_still txn p (event, inl at) =
+      subst (λ (q : Pointer). IsOwn u (next_of w) txn q) (sym (stays w p (not_waiting t w p event at.0)))
+      (event, inl (subst (λ (l : List ℕ). PutBy l txn p event) (sym (grown p.file).1) (by_grows (settled_in t w p.file) (grown p.file).0 txn p event at)))
+  own_still txn p (event, inr (waits, (put, of))) =
+      subst (λ (q : Pointer). IsOwn u (next_of w) txn q) (sym (goes w p waits)) (
+        event,
+        inr (
+          (refl, omega arith),
+          (record { txn = put.txn; before = put.before; behind = put.behind; split = put.split; place = omega (arith, put.place); long = put.long; fields = put.fields; limits = put.limits }, of),
+        ),
+      )
+
+  own_each : (txn : ℕ) (ps : List Pointer) → AllByRecursion (λ p. IsOwn t w txn p) ps → AllByRecursion (λ p. IsOwn u (next_of w) txn p) (map (gone w) ps)
+  own_each txn [] all = tt
+  own_each txn (p ∷ ps) all = (own_still txn p all.0, own_each txn ps all.1)
+
+  own_all : (txn : ℕ) (o : Option Open) → AllByRecursion (λ p. IsOwn t w txn p) (pointers_of o) → AllByRecursion (λ p. IsOwn u (next_of w) txn p) (pointers_of (option_map (moved_open w.file (w.gate + 1) (w.file + 1) 17) o))
+  own_all txn None all = tt
+  own_all txn (Some o) all = of_list o.listed all
+    where
+      of_list : (listed : Listed) → AllByRecursion (λ p. IsOwn t w txn p) (puts_of listed) → AllByRecursion (λ p. IsOwn u (next_of w) txn p) (puts_of (moved w.file (w.gate + 1) (w.file + 1) 17 listed))
+      of_list (Takes numbers) all = tt
+      of_list (Puts pointers) all = own_each txn pointers all
+
   -- what does not wait stays where it is
   sure_still : (p : Pointer) (event : Content) → (IsWaiting w p → ⊥) → IsThere t w p event → IsThere u (next_of w) p event
   sure_still p event isnt (inl at) = inl (settled_still p event at)
@@ -137,6 +167,21 @@ module _ (t u : Told) (w : Writer) (s : State) (records : List Rec) (disk : OnDi
   sure_written : (p : Pointer) (event : Content) → (IsWaiting w p → ⊥) → IsThere t w p event → IsWaiting (next_of w) p → ⊥
   sure_written p event isnt (inl at) waits = no_put p event (subst (λ (l : List ℕ). PutAt l p event) (none_there p.file waits.0) at)
   sure_written p event isnt (inr there) waits = absurd (isnt there.0)
+
+  -- another file than the next one is still
+  still_there : (n : ℕ) → n ≢ w.file + 1 → (n ≢ w.file → IsStill t n) → IsStill u n
+  still_there n other was = (changes.others (Log n) (other_log n (w.file + 1) other)).0 ∙ (before (eqb_tells n w.file) ∙ ap settle_entry (sym (same_file n other)))
+    where
+      before : ((n == w.file) ≡ true) × (n ≡ w.file) ⊎ ((n == w.file) ≡ false) × (n ≢ w.file) → IsStill t n
+      before (inl own) = subst (λ (m : ℕ). IsStill t m) (sym own.1) (disk.rest.durable ∙ ap settle_entry (sym disk.rest.reads))
+      before (inr isnt) = was isnt.1
+
+  -- and so is the file to which a pointer went
+  gone_still : (p : Pointer) (event : Content) → IsThere t w p event → (gone w p).file ≢ w.file + 1 → (p.file ≢ w.file → IsStill t p.file) → IsStill u (gone w p).file
+  gone_still p event (inl at) other was =
+      let same : gone w p ≡ p = stays w p (not_waiting t w p event at) in
+      subst (λ (q : Pointer). IsStill u q.file) (sym same) (still_there p.file (subst (λ (q : Pointer). q.file ≢ w.file + 1) same other) was)
+  gone_still p event (inr waits) other was = absurd (other (ap (λ (q : Pointer). q.file) (goes w p waits.0)))
 
   pub piece_still : IsPieceOf w.kept (settled_in t w) → IsPieceOf w.kept (settled_in u (next_of w))
   piece_still piece = piece_grows w.kept (settled_in t w) (settled_in u (next_of w)) grown piece
@@ -149,6 +194,7 @@ placed_next : (told told' : Option Told) (w : Writer) (s : State) (settled known
 placed_next told told' w s settled known low waits changes are = record {
   long = λ q event in_more. long q event (in_either moved settled q event in_more);
   there = λ u is q event in_more. there u is q event (in_either moved settled q event in_more);
+  still = λ u is q event in_more other. still u is q event other (in_either moved settled q event in_more);
   piece = λ u is. let b = was u is in piece_still b.0 u w s waits.records (waits.disk b.0 b.1) b.2 low (are.piece b.0 b.1);
   within = λ p event sure. grows_behind moved settled p event sure;
   written = λ u is p event sure in_next.
@@ -168,6 +214,16 @@ placed_next told told' w s settled known low waits changes are = record {
         are.long p.0 event p.1 ∙ (sym (gone_length w p.0) ∙ ap (λ (x : Pointer). x.length) (sym p.2))
     long q event (inr sure) = are.long q event (are.within q event sure)
 
+    still : (u : Told) → told' ≡ Some u → (q : Pointer) (event : Content) → q.file ≢ w.file + 1 → StandsIn moved q event ⊎ StandsIn settled q event → IsStill u q.file
+    still u is q event other (inl in_moved) =
+        let b = was u is in
+        let p = was_gone (gone w) known q event in_moved in
+        subst (λ (x : Pointer). IsStill u x.file) (sym p.2)
+        (gone_still b.0 u w s waits.records (waits.disk b.0 b.1) b.2 low p.0 event (are.there b.0 b.1 p.0 event p.1) (subst (λ (x : Pointer). x.file ≢ w.file + 1) p.2 other) (are.still b.0 b.1 p.0 event p.1))
+    still u is q event other (inr sure) =
+        let b = was u is in
+        still_there b.0 u w s waits.records (waits.disk b.0 b.1) b.2 low q.file other (are.still b.0 b.1 q event (are.within q event sure))
+
     there : (u : Told) → told' ≡ Some u → (q : Pointer) (event : Content) → StandsIn moved q event ⊎ StandsIn settled q event → IsThere u (next_of w) q event
     there u is q event (inl in_moved) =
         let b = was u is in
@@ -178,10 +234,19 @@ placed_next told told' w s settled known low waits changes are = record {
         let b = was u is in
         sure_still b.0 u w s waits.records (waits.disk b.0 b.1) b.2 low q event (are.written b.0 b.1 q event sure) (are.there b.0 b.1 q event (are.within q event sure))
 
+abbrev AreMoved : Writer → Table → Table → Type 0
+AreMoved w old new = (txn : ℕ) → open_at new txn ≡ option_map (moved_open w.file (w.gate + 1) (w.file + 1) 17) (open_at old txn)
+
+own_next : (told told' : Option Told) (w : Writer) (s : State) (old new : Table) → w.gate < 2 ^ 63 → Waits told w s → Tells told told' (Changes (Log (w.file + 1)) IsBlank 1) → AreMoved w old new → AreOwn told w old → AreOwn told' (next_of w) new
+own_next told told' w s old new low waits changes moved own u is txn =
+    let b = back told told' (Changes (Log (w.file + 1)) IsBlank 1) changes u is in
+    subst (λ (o : Option Open). AllByRecursion (λ p. IsOwn u (next_of w) txn p) (pointers_of o)) (sym (moved txn))
+    (own_all b.0 u w s waits.records (waits.disk b.0 b.1) b.2 low txn (open_at old txn) (own b.0 b.1 txn))
+
 -- the channel goes on
 pub goes_on_state : (told told' : Option Told) (old new : Logged) (s : State) → IsStateOf told old s → s.broken ≡ false → old.log.gate < 2 ^ 63 → Tells told told' (Changes (Log (old.log.file + 1)) IsBlank 1) → new.log ≡ record old.log { file = old.log.file + 1; gate = 16; started = false }
-    → ((settled known more : Known) → Looks settled known old.places s → Moves old.log.file (old.log.gate + 1) (old.log.file + 1) 17 known more → Looks settled more new.places s) → IsLogged told' new.log new.busy s → IsStateOf told' new s
-goes_on_state told told' old new s is still low changes log_is places log =
+    → ((settled known more : Known) → Looks settled known old.places s → Moves old.log.file (old.log.gate + 1) (old.log.file + 1) 17 known more → Looks settled more new.places s) → AreMoved old.log old.places.opened new.places.opened → IsLogged told' new.log new.busy s → IsStateOf told' new s
+goes_on_state told told' old new s is still low changes log_is places moved log =
     let more : Known = known_then old.log is.settled is.known in
     record {
       settled = is.settled;
@@ -189,6 +254,9 @@ goes_on_state told told' old new s is still low changes log_is places log =
       looks = places is.settled is.known more is.looks
           (λ p event stands. grows_front (known_moved old.log.file (old.log.gate + 1) (old.log.file + 1) 17 is.known) is.settled (gone old.log p) event (all_moved old.log.file (old.log.gate + 1) (old.log.file + 1) 17 is.known p event stands));
       placed = λ _. subst (λ (v : Writer). ArePlaced told' v is.settled more) (sym log_is) (placed_next told told' old.log s is.settled is.known low ((is.whole.logged still).waits still) changes (is.placed still));
+      owned = λ _.
+          subst (λ (v : Writer). AreOwn told' v new.places.opened) (sym log_is)
+          (own_next told told' old.log s old.places.opened new.places.opened low ((is.whole.logged still).waits still) changes moved (is.owned still));
       whole = record {
         logged = λ _. log;
         left = λ broken. differ (sym broken ∙ still);

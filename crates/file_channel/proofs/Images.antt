@@ -15,14 +15,13 @@ use Rattle.channel_log.proofs.Pointed.{within}
 use Rattle.channel_log.proofs.Pointing.{put_grows}
 use Rattle.channel_face.specs.Machine.{State}
 use Rattle.channel_writing.specs.Written.{OnDisk}
-use Rattle.checkpoint_opening.proofs.Growing.{other_log}
 use Rattle.channel_writing.proofs.Flushing.{as_read}
 use Rattle.file_channel.specs.Images.{StandsInImages}
-use Rattle.file_channel.specs.Placed.{IsThere, bytes_of}
+use Rattle.file_channel.specs.Placed.{IsStill, IsThere, bytes_of}
 
 -- between calls a crash leaves each log file as reads give it
-image_is : (t : Told) (w : Writer) (s : State) (records : List Rec) (image : Files) (n : ℕ) → OnDisk t w s records → IsImage t.now image → image (Log n) ≡ t.reads (Log n)
-image_is t w s records image n disk are = from (eqb_tells n w.file)
+image_is : (t : Told) (w : Writer) (s : State) (records : List Rec) (image : Files) (n : ℕ) → OnDisk t w s records → (n ≢ w.file → IsStill t n) → IsImage t.now image → image (Log n) ≡ t.reads (Log n)
+image_is t w s records image n disk still are = from (eqb_tells n w.file)
   where
     bytes : List ℕ
     bytes = file_of disk.birth w.file disk.frames
@@ -34,9 +33,9 @@ image_is t w s records image n disk are = from (eqb_tells n w.file)
 
     from : ((n == w.file) ≡ true) × (n ≡ w.file) ⊎ ((n == w.file) ≡ false) × (n ≢ w.file) → image (Log n) ≡ t.reads (Log n)
     from (inl same) = subst (λ (m : ℕ). image (Log m) ≡ t.reads (Log m)) (sym same.1) own
-    from (inr other) = as_read (t.reads (Log n)) (image (Log n)) (subst (λ (e : Entry). Allows e (image (Log n))) (disk.still (Log n) (other_log n w.file other.1)) (are (Log n)))
+    from (inr other) = as_read (t.reads (Log n)) (image (Log n)) (subst (λ (e : Entry). Allows e (image (Log n))) (still other.1) (are (Log n)))
 
-whole_file : (o : Option (List ℕ)) (n : ℕ) (p : Pointer) (event : Content) → PutAt (take n (bytes_of o)) p event → IsSomeAnd o (λ bytes. PutAt bytes p event)
+pub whole_file : (o : Option (List ℕ)) (n : ℕ) (p : Pointer) (event : Content) → PutAt (take n (bytes_of o)) p event → IsSomeAnd o (λ bytes. PutAt bytes p event)
 whole_file None n p event at = let none : List ℕ = [] in absurd (omega (arith, within (take n none) p event at, length-take n none))
 whole_file (Some bytes) n p event at = subst (λ (l : List ℕ). PutAt l p event) (take-append-drop n bytes) (put_grows (take n bytes) (drop n bytes) p event at)
 
@@ -47,4 +46,4 @@ stands_or_waits t w image p event same (inr waits) = inl waits.0
 pub in_each_image : StandsInImages
 in_each_image told c s is t image p event still told_is are in_known =
     let waits = (is.whole.logged still).waits still in
-    stands_or_waits t c.log image p event (image_is t c.log s waits.records image p.file (waits.disk t told_is) are) ((is.placed still).there t told_is p event in_known)
+    stands_or_waits t c.log image p event (image_is t c.log s waits.records image p.file (waits.disk t told_is) ((is.placed still).still t told_is p event in_known) are) ((is.placed still).there t told_is p event in_known)

@@ -1,4 +1,5 @@
 pub mod Placing
+pub mod Owning
 pub mod Stepping
 pub mod Adding
 pub mod Calls

@@ -3,6 +3,7 @@ use Rattle.std.proofs.Common.{◌⊎◌, inl, inr, ◌≡◌, ◌≢◌, ◌+◌
 use Rattle.std.specs.Prelude.{IsSome, IsErrOf}
 use Rattle.std.proofs.lemmas.Bool.Decides.{eqb_tells}
 use Rattle.std.proofs.lemmas.List.{append-nil, length-take, take_at}
+use Rattle.flume_host.specs.Folder.{settle_entry}
 use Rattle.flume_host.specs.Told.{Changes, Told, WhereTold}
 use Rattle.flume_host.specs.declared.names.FileName.TheVariants.{Log}
 use Rattle.event_core.specs.Content.{Content, size}
@@ -22,7 +23,7 @@ use Rattle.channel_log.proofs.Pointing.{one_event, part-append, put_grows}
 use Rattle.channel_face.specs.Machine.{is_some_of}
 use Rattle.channel_places.specs.Looks.{Known, StandsIn}
 use Rattle.checkpoint_opening.proofs.Growing.{other_log}
-use Rattle.file_channel.specs.Placed.{ArePlaced, IsThere, bytes_of, settled_in}
+use Rattle.file_channel.specs.Placed.{ArePlaced, IsStill, IsThere, PutBy, bytes_of, settled_in}
 use Rattle.file_channel.specs.Stepped.{ReadsAs}
 
 -- one record more waits
@@ -31,6 +32,7 @@ pub placed_appends : (told : Option Told) (w w' : Writer) (rec : Rec) (settled k
 placed_appends told w w' rec settled known adds are = subst (λ (v : Writer). ArePlaced told v settled known) (sym adds.is) (record {
   long = are.long;
   there = λ t is p event in_known. more t p event (are.there t is p event in_known);
+  still = are.still;
   piece = are.piece;
   within = are.within;
   written = are.written;
@@ -50,19 +52,30 @@ next_place w long = record { file = w.file; at = w.gate + 1 + length w.bytes; le
 pub place_is : (w : Writer) (file at long n : ℕ) → file ≡ w.file → at ≡ w.gate + 1 + length w.bytes → long ≡ n → ◌≡◌ {A = Pointer} (record { file = file; at = at; length = long }) (next_place w n)
 place_is w file at long n file_is at_is long_is = rw (file_is, at_is, long_is) refl
 
-waits_there : (t : Told) (w w' : Writer) (txn : ℕ) (event : Content) → Appends w w' (Put txn event) → IsThere t w' (next_place w (size event)) event
-waits_there t w w' txn event adds = subst (λ (v : Writer). IsThere t v (next_place w (size event)) event) (sym adds.is) (inr (
+-- a PUT of this transaction stands there, or waits
+abbrev pub IsThereBy : Told → Writer → ℕ → Pointer → Content → Type 0
+IsThereBy t w txn p event = PutBy (settled_in t w p.file) txn p event ⊎ (IsWaiting w p × PutBy w.bytes txn (in_frame w p) event)
+
+there_by : (t : Told) (w : Writer) (txn : ℕ) (p : Pointer) (event : Content) → IsThereBy t w txn p event → IsThere t w p event
+there_by t w txn p event (inl at) = inl at.0
+there_by t w txn p event (inr waits) = inr (waits.0, waits.1.0)
+
+pub waits_there : (t : Told) (w w' : Writer) (txn : ℕ) (event : Content) → Appends w w' (Put txn event) → IsThereBy t w' txn (next_place w (size event)) event
+waits_there t w w' txn event adds = subst (λ (v : Writer). IsThereBy t v txn (next_place w (size event)) event) (sym adds.is) (inr (
   (refl, omega arith),
-  record {
-    txn = txn;
-    before = w.bytes;
-    behind = [];
-    split = ap (λ (l : List ℕ). w.bytes ++ l) (sym (append-nil (spelling (Put txn event))));
-    place = omega arith;
-    long = refl;
-    fields = adds.framed.fields;
-    limits = adds.framed.limits;
-  },
+  (
+    record {
+      txn = txn;
+      before = w.bytes;
+      behind = [];
+      split = ap (λ (l : List ℕ). w.bytes ++ l) (sym (append-nil (spelling (Put txn event))));
+      place = omega arith;
+      long = refl;
+      fields = adds.framed.fields;
+      limits = adds.framed.limits;
+    },
+    refl,
+  ),
 ))
 
 -- the PUT of an event more
@@ -72,6 +85,7 @@ placed_put told w w' txn event p settled known adds is are =
     record {
       long = λ q e in_known. long q e in_known;
       there = λ t told_is q e in_known. there t told_is q e (before.there t told_is q e) in_known;
+      still = λ t told_is q e in_known other. still t told_is q e (before.still t told_is q e) in_known other;
       piece = before.piece;
       within = λ q e in_settled. inr (are.within q e in_settled);
       written = before.written;
@@ -83,20 +97,27 @@ placed_put told w w' txn event p settled known adds is are =
         subst (λ (k : Pointer × Content). size k.1 ≡ k.0.length) same here
     long q e (inr older) = are.long q e older
 
+    still : (t : Told) → told ≡ Some t → (q : Pointer) (e : Content) → (StandsIn known q e → q.file ≢ w'.file → IsStill t q.file) → StandsIn ((p, event) ∷ known) q e → q.file ≢ w'.file → IsStill t q.file
+    still t told_is q e before (inl same) other =
+        let own : q.file ≡ w'.file = sym (ap (λ (k : Pointer × Content). k.0.file) same) ∙ (ap (λ (r : Pointer). r.file) is ∙ sym (ap (λ (v : Writer). v.file) adds.is)) in
+        absurd (other own)
+    still t told_is q e before (inr older) other = before older other
+
     there : (t : Told) → told ≡ Some t → (q : Pointer) (e : Content) → (StandsIn known q e → IsThere t w' q e) → StandsIn ((p, event) ∷ known) q e → IsThere t w' q e
     there t told_is q e before (inl same) =
-        let here : IsThere t w' p event = subst (λ (r : Pointer). IsThere t w' r event) (sym is) (waits_there t w w' txn event adds) in
+        let here : IsThere t w' p event = subst (λ (r : Pointer). IsThere t w' r event) (sym is) (there_by t w' txn (next_place w (size event)) event (waits_there t w w' txn event adds)) in
         subst (λ (k : Pointer × Content). IsThere t w' k.0 k.1) same here
     there t told_is q e before (inr older) = before older
 
 -- from one moment to another, what log files have settled grew, and what waited is there
 pub record Grows (t u : Told) (w w' : Writer) : Type 0 where
   pub settled : (file : ℕ) → (more : List ℕ) × (settled_in u w' file ≡ settled_in t w file ++ more)
-  pub waited : (p : Pointer) (event : Content) → IsWaiting w p → PutAt w.bytes (in_frame w p) event → IsThere u w' p event
+  pub waited : (p : Pointer) (event : Content) (txn : ℕ) → IsWaiting w p → PutBy w.bytes txn (in_frame w p) event → IsThereBy u w' txn p event
+  pub still : (file : ℕ) → file ≢ w'.file → (file ≢ w.file → IsStill t file) → IsStill u file
   pub kept : w'.kept ≡ w.kept
 
 pub same_grows : (t : Told) (w : Writer) → Grows t t w w
-same_grows t w = record { settled = λ file. ([], sym (append-nil (settled_in t w file))); waited = λ p event waits at. inr (waits, at); kept = refl }
+same_grows t w = record { settled = λ file. ([], sym (append-nil (settled_in t w file))); waited = λ p event txn waits at. inr (waits, at); still = λ file other was. was other; kept = refl }
 
 -- a frame more
 
@@ -132,6 +153,7 @@ pub placed_grows : (told told' : Option Told) (w w' : Writer) (settled known : K
 placed_grows told told' w w' settled known empty grew are = record {
   long = are.long;
   there = λ u is p event in_known. let was = grew u is in more was.0 u was.2 p event (are.there was.0 was.1 p event in_known);
+  still = λ u is p event in_known other. let was = grew u is in was.2.still p.file other (are.still was.0 was.1 p event in_known);
   piece = λ u is. let was = grew u is in piece was.0 u was.2 (are.piece was.0 was.1);
   within = λ p event in_known. in_known;
   written = λ u is p event in_known. let was = grew u is in is_written u w' p event empty (more was.0 u was.2 p event (are.there was.0 was.1 p event in_known));
@@ -139,7 +161,7 @@ placed_grows told told' w w' settled known empty grew are = record {
   where
     more : (t u : Told) → Grows t u w w' → (p : Pointer) (event : Content) → IsThere t w p event → IsThere u w' p event
     more t u grows p event (inl at) = inl (subst (λ (l : List ℕ). PutAt l p event) (sym (grows.settled p.file).1) (put_grows (settled_in t w p.file) (grows.settled p.file).0 p event at))
-    more t u grows p event (inr waits) = grows.waited p event waits.0 waits.1
+    more t u grows p event (inr waits) = there_by u w' waits.1.txn p event (grows.waited p event waits.1.txn waits.0 (waits.1, refl))
 
     piece : (t u : Told) → Grows t u w w' → IsPieceOf w.kept (settled_in t w) → IsPieceOf w'.kept (settled_in u w')
     piece t u grows is = rw grows.kept (piece_grows w.kept (settled_in t w) (settled_in u w') grows.settled is)
@@ -153,20 +175,23 @@ settled_own t w birth file frames is rest =
     ∙ take_at (settled_part birth w.file frames) (0 ∷ []) w.gate (sym rest.offset)))
 
 -- what waits among the bytes of a frame stands in its file after the frames that were there
-shifted : (front bytes more : List ℕ) (p q : Pointer) (event : Content) → PutAt bytes q event → q.at + (length front + 1) ≡ p.at → q.length ≡ p.length → PutAt (front ++ (1 ∷ (bytes ++ more))) p event
-shifted front bytes more p q event at place long = record {
-  txn = at.txn;
-  before = front ++ (1 ∷ at.before);
-  behind = at.behind ++ more;
-  split =
-      ap (λ (l : List ℕ). front ++ (1 ∷ (l ++ more))) at.split
-      ∙ (ap (λ (l : List ℕ). front ++ (1 ∷ l)) (append_assoc at.before (spelling (Put at.txn event) ++ at.behind) more ∙ ap (λ (l : List ℕ). at.before ++ l) (append_assoc (spelling (Put at.txn event)) at.behind more))
-      ∙ sym (append_assoc front (1 ∷ at.before) (spelling (Put at.txn event) ++ (at.behind ++ more))));
-  place = omega (arith, length-append front (1 ∷ at.before), at.place, place);
-  long = at.long ∙ long;
-  fields = at.fields;
-  limits = at.limits;
-}
+shifted : (front bytes more : List ℕ) (txn : ℕ) (p q : Pointer) (event : Content) → PutBy bytes txn q event → q.at + (length front + 1) ≡ p.at → q.length ≡ p.length → PutBy (front ++ (1 ∷ (bytes ++ more))) txn p event
+shifted front bytes more txn p q event (at, of) place long = (
+  record {
+    txn = at.txn;
+    before = front ++ (1 ∷ at.before);
+    behind = at.behind ++ more;
+    split =
+        ap (λ (l : List ℕ). front ++ (1 ∷ (l ++ more))) at.split
+        ∙ (ap (λ (l : List ℕ). front ++ (1 ∷ l)) (append_assoc at.before (spelling (Put at.txn event) ++ at.behind) more ∙ ap (λ (l : List ℕ). at.before ++ l) (append_assoc (spelling (Put at.txn event)) at.behind more))
+        ∙ sym (append_assoc front (1 ∷ at.before) (spelling (Put at.txn event) ++ (at.behind ++ more))));
+    place = omega (arith, length-append front (1 ∷ at.before), at.place, place);
+    long = at.long ∙ long;
+    fields = at.fields;
+    limits = at.limits;
+  },
+  of,
+)
 
 opened_one : (records : List Rec) → opened (records ∷ []) ≡ 1 ∷ (record_bytes records ++ spelling (End (length records)))
 unfolding frame_bytes
@@ -176,7 +201,11 @@ pub frame_grows : (t u : Told) (w w' : Writer) (birth : ℕ) (frames : List (Lis
     → Changes (Log w.file) (LacksOrHas birth w.file frames records) 2 t u → w' ≡ record w { gate = w.gate + length w.bytes + 6; started = true; bytes = []; count = 0 } → Grows t u w w'
 frame_grows t u w w' birth frames records rest rest' pending changes is = record {
   settled = λ file. grown file (eqb_tells file w.file);
-  waited = λ p event waits at. inl (waited p event waits at);
+  waited = λ p event txn waits at. inl (waited p event txn waits at);
+  still = λ file other was.
+      let isnt : file ≢ w.file = λ same. other (same ∙ sym file_is) in
+      let others = changes.others (Log file) (other_log file w.file isnt) in
+      others.0 ∙ (was isnt ∙ ap settle_entry (sym others.1));
   kept = ap (λ (v : Writer). v.kept) is;
 }
   where
@@ -200,12 +229,12 @@ frame_grows t u w w' birth frames records rest rest' pending changes is = record
         let before : settled_in t w file ≡ take (2 ^ 64 - 1) (bytes_of (t.reads (Log file))) = ap (λ (n : ℕ). take n (bytes_of (t.reads (Log file)))) (end_other w file other.1) in
         ([], after ∙ (sym before ∙ sym (append-nil (settled_in t w file))))
 
-    waited : (p : Pointer) (event : Content) → IsWaiting w p → PutAt w.bytes (in_frame w p) event → PutAt (settled_in u w' p.file) p event
-    waited p event waits at =
+    waited : (p : Pointer) (event : Content) (txn : ℕ) → IsWaiting w p → PutBy w.bytes txn (in_frame w p) event → PutBy (settled_in u w' p.file) txn p event
+    waited p event txn waits at =
         let bytes : List ℕ = front ++ (1 ∷ (w.bytes ++ spelling (End (length records)))) in
         let there : settled_in u w' p.file ≡ bytes =
         own p.file waits.0 ∙ (ap (λ (l : List ℕ). front ++ l) (opened_one records) ∙ ap (λ (l : List ℕ). front ++ (1 ∷ (l ++ spelling (End (length records))))) (sym pending.spelled)) in
-        subst (λ (l : List ℕ). PutAt l p event) (sym there) (shifted front w.bytes (spelling (End (length records))) p (in_frame w p) event at (omega (arith, waits.1, rest.offset)) refl)
+        subst (λ (l : List ℕ). PutBy l txn p event) (sym there) (shifted front w.bytes (spelling (End (length records))) txn p (in_frame w p) event at (omega (arith, waits.1, rest.offset)) refl)
 
 -- what is read at a pointer
 
@@ -275,6 +304,7 @@ pub placed_reads : (told told' : Option Told) (w w' : Writer) (p : Pointer) (set
 placed_reads told told' w w' p settled known same is kept are = rw same (subst (λ (v : Writer). ArePlaced told v settled known) (sym is) (record {
   long = are.long;
   there = are.there;
+  still = are.still;
   piece = λ t told_is. kept t told_is (settled_in t w) (are.piece t told_is) (is_below t w p);
   within = are.within;
   written = are.written;

@@ -40,6 +40,7 @@ use Rattle.file_channel.specs.Opened.{IsBegunAs}
 use Rattle.file_channel.specs.Placed.{HasState, IsStateOf, Logged}
 use Rattle.file_channel.specs.Stands.{FileState, StandsOver}
 use Rattle.file_channel.specs.Stepped.{ShowsOf, Steps, StepsOn}
+use Rattle.file_channel.proofs.Owning.{own_none}
 
 -- whatever events look like a ring, they have its numbers
 same_numbers : (known other : Known) (held also : List ℕ) (live : List Left) (a b : Items) (n : ℕ) → LookLeft known held live a → LookLeft other also live b → number_of n a ≡ number_of n b
@@ -156,8 +157,8 @@ abbrev Renews : Logged → Places → Replayed → Type 0
 Renews old p r = (left before settled known : Known) (s : State) (k : Reopened) → Looks left before old.places s → k.txn ≡ r.next.txn → (kept_base s k.kept).first ≡ r.next.number → LookLeft settled [] r.ring.live (kept_base s k.kept).items → IsBase (kept_base s k.kept) → Looks settled known p (after_reopen s (Ok k))
 
 renews : (told told' : Option Told) (old : Logged) (p : Places) (w : Writer) (r : Replayed) (capacity most : ℕ) (kept : Kept) (s : State) → IsStateOf told old s → old.places.numbers.life < 2 ^ 64 - 1 → most ≡ old.places.numbers.rules.limits.max_file → (b : IsBegunAs told told' capacity most r w) → length w.bytes ≡ 0
-    → Renews old p r → MayKeep (is_some_of told) s kept → kept_base s kept ≡ b.base → Steps told told' old (record { places = p; log = w; busy = 0 }) (Reopen (Ok (record { kept = kept; txn = r.next.txn }))) s
-renews told told' old p w r capacity most kept s is life limit b empty renew may same =
+    → Renews old p r → p.opened ≡ [] → MayKeep (is_some_of told) s kept → kept_base s kept ≡ b.base → Steps told told' old (record { places = p; log = w; busy = 0 }) (Reopen (Ok (record { kept = kept; txn = r.next.txn }))) s
+renews told told' old p w r capacity most kept s is life limit b empty renew none may same =
     let k : Reopened = record { kept = kept; txn = r.next.txn } in
     let s' : State = after_reopen s (Ok k) in
     let as_read : s' ≡ after_reopen s (Ok (renewal b.base r.next.txn)) = ap (λ (x : Base). after_reopen s (Ok (renewal x r.next.txn))) same in
@@ -169,28 +170,29 @@ renews told told' old p w r capacity most kept s is life limit b empty renew may
         known = b.known;
         looks = renew is.settled is.known b.known b.known s k is.looks refl (ap (λ (x : Base). x.first) same ∙ b.first) (subst (λ (x : Base). LookLeft b.known [] r.ring.live x.items) (sym same) b.left) (subst IsBase (sym same) b.rises);
         placed = λ _. b.placed;
+        owned = λ _. own_none told' w p.opened none;
         whole = renewed_whole told' w 0 s s' b.base r.next.txn as_read is.whole.kind b.rises (b.logged s' (renewed_fresh s s' b.base r.next.txn as_read) (sym (limit ∙ ap (λ (n : Numbers). n.rules.limits.max_file) of_s)));
       };
       waits = empty;
     }
 
 -- What was kept, with the next transaction number of what was replayed: one and the same in each state that the channel stood for.
-pub reopened : (told told' : Option Told) (old : Logged) (p : Places) (w : Writer) (r : Replayed) (capacity most : ℕ) → HasState told old → ReadsAreLeft told → old.places.numbers.life < 2 ^ 64 - 1 → most ≡ old.places.numbers.rules.limits.max_file → IsBegunAs told told' capacity most r w → length w.bytes ≡ 0 → Renews old p r
+pub reopened : (told told' : Option Told) (old : Logged) (p : Places) (w : Writer) (r : Replayed) (capacity most : ℕ) → HasState told old → ReadsAreLeft told → old.places.numbers.life < 2 ^ 64 - 1 → most ≡ old.places.numbers.rules.limits.max_file → IsBegunAs told told' capacity most r w → length w.bytes ≡ 0 → Renews old p r → p.opened ≡ []
     → (kept : Kept) × StepsOn told told' old (record { places = p; log = w; busy = 0 }) (Reopen (Ok (record { kept = kept; txn = r.next.txn })))
-reopened told told' old p w r capacity most has reads life limit b empty renew = from told refl
+reopened told told' old p w r capacity most has reads life limit b empty renew none = from told refl
   where
     new : Logged
     new = record { places = p; log = w; busy = 0 }
 
     from : (o : Option Told) → told ≡ o → (kept : Kept) × StepsOn told told' old new (Reopen (Ok (record { kept = kept; txn = r.next.txn })))
-    from None is = (Read b.base, λ s state. renews told told' old p w r capacity most (Read b.base) s state life limit b empty renew (ap is_some_of is, b.rises) refl)
+    from None is = (Read b.base, λ s state. renews told told' old p w r capacity most (Read b.base) s state life limit b empty renew none (ap is_some_of is, b.rises) refl)
     from (Some t) is =
         let found : (v : State) → IsStateOf told old v → Either b.base v = λ v state. either_found told t v b.base r.next.txn capacity is (whole_may_rest told old.log old.busy v state.whole) reads (b.bounded t is) (b.opens t is) in
         let choice = chosen has.1.settled has.1.known old.places has.0 b.base has.1.looks (found has.0 has.1) in (
           Front choice.0,
           λ s state.
               let keeps = choice.1 state.settled state.known s state.looks (found s state) in
-              renews told told' old p w r capacity most (Front choice.0) s state life limit b empty renew keeps.0 keeps.1,
+              renews told told' old p w r capacity most (Front choice.0) s state life limit b empty renew none keeps.0 keeps.1,
         )
 
 -- a refusal
@@ -218,6 +220,7 @@ refused told told' old p e s is breaks rests may = record {
     known = is.known;
     looks = breaks is.settled is.known s is.looks;
     placed = λ still. absurd (cc);
+    owned = λ still. absurd (cc);
     whole = failed_whole told' old.log old.busy s rests is.whole.sound is.whole.kind;
   };
   waits = refl;

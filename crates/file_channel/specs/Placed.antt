@@ -1,14 +1,17 @@
 -- What stands at the pointers of a channel's events, and the state that its places and its log stand for.
-use Rattle.std.specs.Prelude.{◌≡◌, ◌⊎◌, ℕ, List, [], take, Option, None, Some, false}
+use Rattle.std.specs.Prelude.{◌≡◌, ◌≢◌, ◌⊎◌, ℕ, List, [], take, Option, None, Some, false}
+use Rattle.std.specs.List.{AllByRecursion}
+use Rattle.flume_host.specs.Folder.{settle_entry}
 use Rattle.flume_host.specs.Told.{Told, WhereTold}
 use Rattle.flume_host.specs.declared.names.FileName.TheVariants.{Log}
 use Rattle.event_core.specs.Content.{Content, size}
 use Rattle.record_form.specs.declared.record.Pointer.{Pointer}
+use Rattle.open_table.specs.Tables.{Table}
 use Rattle.channel_log.specs.Writer.{Writer}
 use Rattle.channel_log.specs.Window.{IsPieceOf}
 use Rattle.channel_log.specs.Pointers.{IsWaiting, PutAt, end_of, in_frame}
 use Rattle.channel_face.specs.Machine.{State}
-use Rattle.channel_places.specs.Looks.{Known, Looks, Places, StandsIn}
+use Rattle.channel_places.specs.Looks.{Known, Looks, Places, StandsIn, pointers_at}
 use Rattle.channel_writing.specs.Whole.{IsWhole}
 use Rattle.channel_writing.specs.Written.{IsLogged}
 
@@ -31,11 +34,29 @@ settled_in t w file = take (end_of w file) (bytes_of (t.reads (Log file)))
 abbrev pub IsThere : Told → Writer → Pointer → Content → Type 0
 IsThere t w p event = PutAt (settled_in t w p.file) p event ⊎ (IsWaiting w p × PutAt w.bytes (in_frame w p) event)
 
+-- a crash leaves this log file as reads give it
+abbrev pub IsStill : Told → ℕ → Type 0
+IsStill t file = t.now (Log file) ≡ settle_entry (t.reads (Log file))
+
+-- a PUT of this transaction stands at the pointer
+abbrev pub PutBy : List ℕ → ℕ → Pointer → Content → Type 0
+PutBy bytes txn p event = (at : PutAt bytes p event) × (at.txn ≡ txn)
+
+-- and so in its file, or it waits there for a flush
+abbrev pub IsOwn : Told → Writer → ℕ → Pointer → Type 0
+IsOwn t w txn p = (event : Content) × (PutBy (settled_in t w p.file) txn p event ⊎ (IsWaiting w p × PutBy w.bytes txn (in_frame w p) event))
+
+-- at each pointer of an open transaction there is a PUT of its own
+abbrev pub AreOwn : Option Told → Writer → Table → Type 0
+AreOwn told w table = WhereTold told (λ t. (txn : ℕ) → AllByRecursion (λ p. IsOwn t w txn p) (pointers_at table txn))
+
 -- Each pointer has its event's length. Where the disk shows its contents, the event's PUT stands at the pointer, what is kept of the last reading is what its file has,
 -- and nothing of what is known to be settled waits for a flush.
 pub record ArePlaced (told : Option Told) (w : Writer) (settled known : Known) : Type 0 where
   pub long : (p : Pointer) (event : Content) → StandsIn known p event → size event ≡ p.length
   pub there : WhereTold told (λ t. (p : Pointer) (event : Content) → StandsIn known p event → IsThere t w p event)
+  -- of another file than the writer's own a crash leaves just that
+  pub still : WhereTold told (λ t. (p : Pointer) (event : Content) → StandsIn known p event → p.file ≢ w.file → IsStill t p.file)
   pub piece : WhereTold told (λ t. IsPieceOf w.kept (settled_in t w))
   pub within : (p : Pointer) (event : Content) → StandsIn settled p event → StandsIn known p event
   pub written : WhereTold told (λ t. (p : Pointer) (event : Content) → StandsIn settled p event → IsWaiting w p → ⊥)
@@ -46,6 +67,7 @@ pub record Fits (told : Option Told) (c : Logged) (s : State) : Type 0 where
   pub known : Known
   pub looks : Looks settled known c.places s
   pub placed : ArePlaced told c.log settled known
+  pub owned : AreOwn told c.log c.places.opened
   pub logged : IsLogged told c.log c.busy s
 
 -- A channel's places and its log stand for this state. What a broken channel's log has of it is not known.
@@ -54,6 +76,7 @@ pub record IsStateOf (told : Option Told) (c : Logged) (s : State) : Type 0 wher
   pub known : Known
   pub looks : Looks settled known c.places s
   pub placed : s.broken ≡ false → ArePlaced told c.log settled known
+  pub owned : s.broken ≡ false → AreOwn told c.log c.places.opened
   pub whole : IsWhole told c.log c.busy s
 
 -- they stand for some state

@@ -117,11 +117,12 @@ fn read_folder<D: Disk, L: Ledger>(
 // What a channel keeps of the events that a replay left.
 fn held_of(alloc: Global, replayed: Replayed, limits: Limits) -> Result<Held, NoMemory>
     requires { IsReady limits.capacity replayed }
-    ensures { IfOk result (λ held. (settled known : Known) (o : Opening)
+    ensures looks { IfOk result (λ held. (settled known : Known) (o : Opening)
         → o.base.first ≡ replayed.next.number → o.txn ≡ replayed.next.txn
         → o.rules ≡ record { kind = File; limits = limits }
         → LookLeft settled [] replayed.ring.live o.base.items → IsBase o.base
         → Looks settled known held (opening o)) }
+    ensures opened { IfOk result (λ held. held.opened ≡ []) }
 {
     let Replayed { ring, next } = replayed;
     Held::open(alloc, ring, limits, next.number, next.txn)

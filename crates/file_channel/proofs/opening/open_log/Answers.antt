@@ -24,7 +24,7 @@ returns-in-Ok-begin_log-clause-opens g c =
     let found = c.in-Ok.found in
     let fits : found.0.next.txn ≤ 2 ^ 64 - 1 = search rules in
     let low : found.0.next.number < 2 ^ 64 = search rules in
-    opens_with was now c.args.limits found.0 c.in-Ok-held_of.held c.in-Ok-begin_log.log (begun_as was mid now found.0 c.in-Ok-begin_log.log found.1 c.args.limits.capacity c.args.limits.max_file c.in-Ok.ensures.settles c.in-Ok.ensures.replays c.in-Ok.ensures.ready fits low c.in-Ok.ensures.next c.in-Ok-begin_log.ensures.any_moment c.in-Ok-begin_log.ensures.begun c.in-Ok-begin_log.ensures.writer) c.in-Ok-held_of.ensures
+    opens_with was now c.args.limits found.0 c.in-Ok-held_of.held c.in-Ok-begin_log.log (begun_as was mid now found.0 c.in-Ok-begin_log.log found.1 c.args.limits.capacity c.args.limits.max_file c.in-Ok.ensures.settles c.in-Ok.ensures.replays c.in-Ok.ensures.ready fits low c.in-Ok.ensures.next c.in-Ok-begin_log.ensures.any_moment c.in-Ok-begin_log.ensures.begun c.in-Ok-begin_log.ensures.writer) c.in-Ok-held_of.ensures.looks c.in-Ok-held_of.ensures.opened
 
 pub returns-in-Ok-begin_log-clause-waits : goal.returns-in-Ok-begin_log-clause-waits
 returns-in-Ok-begin_log-clause-waits g c = ap (λ (w : Writer). length w.bytes) c.in-Ok-begin_log.ensures.writer

@@ -31,7 +31,7 @@ returns-clause-fits g c = λ s events fits list first_is.
     let place : Pointer = record { file = c.file.result; at = c.next_at.result; length = c.size.result } in
     let is : place ≡ next_place old.log (size event) = place_is old.log c.file.result c.next_at.result c.size.result (size event) c.file.ensures c.next_at.ensures c.size.ensures.size in
     subst (λ (v : Option Told). Fits v new (put_in s false token.number events event)) (sym same)
-    (put_fits told old new token place event s events fits list adds is (λ settled known looks. c.put.ensures settled known s event looks) (subst (λ (v : Option Told). IsLogged v new.log new.busy (put_in s false token.number events event)) same log))
+    (put_fits told old new token place event s events fits list adds is (λ settled known looks. c.put.ensures.looks settled known s event looks) c.put.ensures.added (subst (λ (v : Option Told). IsLogged v new.log new.busy (put_in s false token.number events event)) same log))
 
 pub put-requires : goal.put-requires
 put-requires g c = c.requires.may _

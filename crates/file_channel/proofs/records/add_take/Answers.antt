@@ -26,4 +26,4 @@ returns-clause-fits g c = λ s numbers event rest fits list first first_is.
     let log : IsLogged told' new.log new.busy (take_in s false token.number numbers taken) = subst (λ (n : ℕ). IsLogged told' new.log new.busy (record s { opened = with_entry n (Takes (numbers ++ taken ∷ [])) s.opened })) number log' in
     let adds : Appends old.log new.log (Take token.number taken) = subst (λ (n : ℕ). Appends old.log new.log (Take n taken)) number c.add_take.ensures.log in
     subst (λ (v : Option Told). Fits v new (take_in s false token.number numbers taken)) (sym same)
-    (take_fits told old new token taken event rest s numbers fits list first adds (λ settled known looks. c.take.ensures settled known s looks) (subst (λ (v : Option Told). IsLogged v new.log new.busy (take_in s false token.number numbers taken)) same log))
+    (take_fits told old new token taken event rest s numbers fits list first adds (λ settled known looks. c.take.ensures.looks settled known s looks) c.take.ensures.opened (subst (λ (v : Option Told). IsLogged v new.log new.busy (take_in s false token.number numbers taken)) same log))

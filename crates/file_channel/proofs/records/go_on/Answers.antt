@@ -1,4 +1,6 @@
 use Rattle.std.proofs.Common.{◌≡◌, ◌<◌, ◌+◌, ◌^◌, ℕ, arith, subst, sym}
+use Rattle.std.specs.Prelude.{option_map}
+use Rattle.open_table.specs.Tables.{moved_open, open_at}
 use Rattle.channel_places.specs.Looks.{Moves}
 use Rattle.file_channel.specs.Placed.{Logged}
 use Rattle.file_channel.proofs.Going.{goes_on_state}
@@ -18,6 +20,7 @@ returns-in-Ok-clause-state g c = λ s is still.
     let low : old.log.gate < 2 ^ 63 = omega (arith, gate, c.gate_at-gate.ensures.range.1) in
     goes_on_state told told' old new s is still low c.roll.ensures.begins c.in-Ok.ensures.moved
     (λ settled known more looks moves. c.moved.ensures.moved settled known more s looks (subst (λ (x : ℕ × ℕ). Moves x.0 (x.1 + 1) (x.0 + 1) 17 known more) (λ i. (sym file i, sym gate i)) moves))
+    (subst (λ (x : ℕ × ℕ). (txn : ℕ) → open_at c.moved.new.self.opened txn ≡ option_map (moved_open x.0 (x.1 + 1) (x.0 + 1) 17) (open_at old.places.opened txn)) (λ i. (file i, gate i)) c.moved.ensures.opened)
     (c.in-Ok.ensures.logged s (is.whole.logged still))
 
 pub returns-in-Ok-clause-any_moment : goal.returns-in-Ok-clause-any_moment

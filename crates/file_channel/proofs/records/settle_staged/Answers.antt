@@ -69,7 +69,7 @@ returns-in-Err-clause-failed g c = λ s is still.
     let old : Logged = record { places = c.args.held.now; log = c.args.writing.now.log; busy = c.args.writing.now.busy } in
     let new : Logged = record { places = c.set_broken.new.self; log = c.go_on.new.writing.log; busy = c.go_on.new.writing.busy } in
     failed_state told told' old new s is (goes_over told told' s (c.go_on.ensures.any_moment s is still))
-    (λ settled known looks. c.set_broken.ensures settled known s (subst (λ (p : Places). Looks settled known p s) (sym c.in-Err.ensures.refused.1) looks))
+    (λ settled known looks. c.set_broken.ensures.looks settled known s (subst (λ (p : Places). Looks settled known p s) (sym c.in-Err.ensures.refused.1) looks))
 
 pub returns-in-Err-clause-any_moment : goal.returns-in-Err-clause-any_moment
 returns-in-Err-clause-any_moment g c = λ s is still.

@@ -6,6 +6,7 @@ use Rattle.channel_places.specs.Ends.{one_if_staged}
 use Rattle.channel_places.specs.Looks.{Looks, Places, no_entry, puts_in}
 use Rattle.channel_places.specs.View.{places_of}
 use Rattle.channel_places.proofs.Looking.{begun_looks, begun_within, next_not_open, restaged, rooms_stay}
+use Rattle.channel_places.proofs.Keeping.{keeps_begun, keeps_same}
 use Rattle.channel_places.proofs.places.Held.add_open.Goals as goal
 
 pub begin-requires : goal.begin-requires
@@ -41,3 +42,6 @@ returns-in-Ok-clause-ok c = λ settled known s looks.
     let here : Looks settled known p s = subst (λ (q : Places). Looks settled known q s) (sym c.self.view_is) looks in
     let begun = begun_looks settled known p s c.begin.new.self c.args.puts c.self.inside.limits.txn_capacity here refl c.in-Ok.ensures.begun.0 c.in-Ok.ensures.begun.1 in
     restaged settled known _ _ (map listed_of c.reserve.new.self.items) (ap (λ (l : List Ended). map listed_of l) c.reserve.ensures.items) begun
+
+pub returns-in-Ok-clause-opened : goal.returns-in-Ok-clause-opened
+returns-in-Ok-clause-opened c = rw (← c.self.view_is) (keeps_begun c.self.inside.txn c.self.inside.limits.txn_capacity c.args.puts c.self.inside.table c.begin.new.self c.in-Ok.ensures.begun.0)

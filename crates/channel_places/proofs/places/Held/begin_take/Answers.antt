@@ -3,8 +3,8 @@ use Rattle.channel_places.specs.Looks.{Looks, Numbers, Places}
 use Rattle.channel_places.proofs.places.Held.begin_take.Goals.{in-Ok, in-Err}
 use Rattle.channel_places.proofs.places.Held.begin_take.Goals as goal
 
-pub returns : goal.returns
-returns c = λ settled known s looks.
+pub returns-clause-step : goal.returns-clause-step
+returns-clause-step c = λ settled known s looks.
     let allowed = sym (c.begin_refusal.ensures.refusal settled known s looks) ∙ c.in_default.is in
     elim c.match-add_open.branch [
       | in-Ok w ↦

@@ -5,6 +5,7 @@ use Rattle.channel_places.specs.Looks.{Looks, Places}
 use Rattle.channel_places.specs.View.{places_of}
 use Rattle.channel_places.proofs.Looking.{rooms_stay}
 use Rattle.channel_places.proofs.Ending.{both_of, drop_looks, open_fits, puts_of_one}
+use Rattle.channel_places.proofs.Keeping.{keeps_ended}
 use Rattle.channel_places.proofs.places.Held.drop_puts.Goals as goal
 
 pub overflow_sub-self-2 : goal.overflow_sub-self-2
@@ -42,8 +43,8 @@ invariant_of-self c =
       frames = omega (arith, i.frames, c.end-ended.ensures.count);
     })
 
-pub returns : goal.returns
-returns c = λ settled known s looks.
+pub returns-clause-looks : goal.returns-clause-looks
+returns-clause-looks c = λ settled known s looks.
     let p : Places = places_of c.self.inside in
     let here : Looks settled known p s = subst (λ (q : Places). Looks settled known q s) (sym c.self.view_is) looks in
     let n = c.args.number in
@@ -52,3 +53,6 @@ returns c = λ settled known s looks.
     let are = puts_of_one (open_at p.opened n) l (subst (λ (q : Places). is_open true (open_at q.opened n) ≡ true) (sym c.self.view_is) c.requires) c.end-ended.ensures.ended in
     rw c.hand_back.ensures (drop_looks settled known p s c.end-ended.new.self n l (c.self.inside.open_puts - c.put_count.result) here both are c.end-ended.ensures.rest c.end-ended.ensures.count
     (omega (arith, open_fits settled known p s n l here both, c.put_count.ensures)))
+
+pub returns-clause-opened : goal.returns-clause-opened
+returns-clause-opened c = rw (← c.self.view_is) (rw c.hand_back.ensures (keeps_ended c.args.number c.self.inside.table c.end-ended.new.self c.end-ended.ensures.rest))

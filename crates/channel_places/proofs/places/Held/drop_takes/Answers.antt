@@ -8,6 +8,7 @@ use Rattle.channel_places.proofs.Looking.{rooms_stay}
 use Rattle.channel_places.proofs.Taking.{relive}
 use Rattle.channel_places.proofs.Ending.{both_of}
 use Rattle.channel_places.proofs.Freeing.{drop_takes_looks, freed_length, taken_of, takes_live, takes_of_one}
+use Rattle.channel_places.proofs.Keeping.{keeps_ended}
 use Rattle.channel_places.proofs.places.Held.drop_takes.Goals as goal
 
 pub free_takes-requires : goal.free_takes-requires
@@ -48,8 +49,8 @@ invariant_of-self c =
       frames = omega (arith, i.frames, c.end-ended.ensures.count);
     })
 
-pub returns : goal.returns
-returns c = λ settled known s looks.
+pub returns-clause-looks : goal.returns-clause-looks
+returns-clause-looks c = λ settled known s looks.
     let p : Places = places_of c.self.inside in
     let here : Looks settled known p s = subst (λ (q : Places). Looks settled known q s) (sym c.self.view_is) looks in
     let n = c.args.number in
@@ -58,3 +59,6 @@ returns c = λ settled known s looks.
     let are = takes_of_one (open_at p.opened n) l (subst (λ (q : Places). is_open false (open_at q.opened n) ≡ true) (sym c.self.view_is) c.requires) c.end-ended.ensures.ended in
     rw c.hand_back.ensures (relive settled known p _ _ c.end-ended.new.self c.free_takes.new.ring.live (ap (λ (x : Index). x.live) c.free_takes.ensures)
     (drop_takes_looks settled known p s c.end-ended.new.self n l here (taken_of known l (entry_of n s.opened) both are) c.end-ended.ensures.rest c.end-ended.ensures.count))
+
+pub returns-clause-opened : goal.returns-clause-opened
+returns-clause-opened c = rw (← c.self.view_is) (rw c.hand_back.ensures (keeps_ended c.args.number c.self.inside.table c.end-ended.new.self c.end-ended.ensures.rest))

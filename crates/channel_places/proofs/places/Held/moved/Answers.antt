@@ -64,3 +64,6 @@ returns-clause-take c = λ token may.
     let p : Places = places_of c.self.inside in
     let old : MayTake p token = subst (λ (q : Places). MayTake q token) (sym c.self.view_is) may in
     record { life = old.life; room = subst (MayAdd (Take 0)) (sym (c.moved.ensures.moved token.number)) (may_moved c.args.file c.args.at c.args.to_file c.args.to_at (Take 0) (open_at p.opened token.number) old.room) }
+
+pub returns-clause-opened : goal.returns-clause-opened
+returns-clause-opened c = rw (← c.self.view_is) c.moved.ensures.moved

@@ -35,11 +35,16 @@ invariant_of-self c =
       frames = omega (arith, i.frames, c.add.ensures.count);
     }
 
-pub returns : goal.returns
-returns c = λ settled known s event looks.
+pub returns-clause-looks : goal.returns-clause-looks
+returns-clause-looks c = λ settled known s event looks.
     let p : Places = places_of c.self.inside in
     let token = c.args.txn.now in
     let here : Looks settled known p s = subst (λ (q : Places). Looks settled known q s) (sym c.self.view_is) looks in
     let may : MayPut p token c.args.pointer = subst (λ (q : Places). MayPut q token c.args.pointer) (sym c.self.view_is) c.requires in
     let has = subst (λ (n : ℕ). HasAt n (added (Put c.args.pointer) (open_at p.opened n)) p.opened c.add.new.self) c.number.ensures c.add.ensures.added in
     put_looks settled known p s c.add.new.self token c.args.pointer event here may.life may.room has c.add.ensures.count
+
+pub returns-clause-added : goal.returns-clause-added
+returns-clause-added c =
+    let p : Places = places_of c.self.inside in
+    rw (← c.self.view_is) (subst (λ (n : ℕ). HasAt n (added (Put c.args.pointer) (open_at p.opened n)) p.opened c.add.new.self) c.number.ensures c.add.ensures.added)

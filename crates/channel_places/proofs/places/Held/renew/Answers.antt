@@ -36,10 +36,13 @@ invariant_of-self c =
       frames = omega (arith, c.requires.txn, ap (λ (l : List Listed). one_if_staged l) cleared, ap (λ (t : Table). length t) c.end_all.ensures);
     }
 
-pub returns : goal.returns
-returns c = λ before old settled known s r looks txn first left base.
+pub returns-clause-looks : goal.returns-clause-looks
+returns-clause-looks c = λ before old settled known s r looks txn first left base.
     let p : Places = places_of c.self.inside in
     let here : Looks before old p s = subst (λ (q : Places). Looks before old q s) (sym c.self.view_is) looks in
     let cleared : map listed_of c.clear.new.self.items ≡ [] = ap (λ (l : List Ended). map listed_of l) c.clear.ensures.items in
     let ends = c.requires.ends ∙ sym (ap (λ (q : Places). q.numbers.ends ++ q.numbers.frame ∷ []) c.self.view_is) in
     renew_looks before old settled known p s r c.args.ring.live _ _ c.args.first c.args.txn c.args.ends.items here c.end_all.ensures cleared first txn ends left base
+
+pub returns-clause-opened : goal.returns-clause-opened
+returns-clause-opened c = c.end_all.ensures

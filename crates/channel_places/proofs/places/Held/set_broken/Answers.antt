@@ -26,6 +26,6 @@ invariant_of-self c =
       frames = i.frames;
     }
 
-pub returns : goal.returns
-returns c = λ settled known s looks.
+pub returns-clause-looks : goal.returns-clause-looks
+returns-clause-looks c = λ settled known s looks.
     broken_looks settled known (places_of c.self.inside) s (subst (λ (q : Places). Looks settled known q s) (sym c.self.view_is) looks)

@@ -119,3 +119,6 @@ pub returns-clause-take : goal.returns-clause-take
 returns-clause-take c = λ token may.
     let old : MayTake (places_of c.self.inside) token = subst (λ (q : Places). MayTake q token) (sym c.self.view_is) may in
     record { life = old.life; room = rw c.hand_back_all.ensures.same old.room }
+
+pub returns-clause-opened : goal.returns-clause-opened
+returns-clause-opened c = rw (← c.self.view_is) c.hand_back_all.ensures.same

@@ -6,6 +6,7 @@ use Rattle.channel_places.specs.Looks.{Looks, Places, puts_in, puts_of_open, sta
 use Rattle.channel_places.specs.View.{places_of}
 use Rattle.channel_places.proofs.Looking.{rooms_stay}
 use Rattle.channel_places.proofs.Ending.{both_of, one_more, one_staged, open_fits, open_size, puts_in-append, puts_in-staged, stage_looks}
+use Rattle.channel_places.proofs.Keeping.{keeps_ended}
 use Rattle.channel_places.proofs.places.Held.stage.Goals as goal
 
 pub overflow_sub-self-2 : goal.overflow_sub-self-2
@@ -47,8 +48,8 @@ invariant_of-self c =
       frames = omega (arith, i.frames, c.end-ended.ensures.count, ap (λ (x : List Listed). one_if_staged x) c.push_ended.ensures.items, one_more p.staged l);
     }
 
-pub returns : goal.returns
-returns c = λ settled known s looks.
+pub returns-clause-looks : goal.returns-clause-looks
+returns-clause-looks c = λ settled known s looks.
     let p : Places = places_of c.self.inside in
     let here : Looks settled known p s = subst (λ (q : Places). Looks settled known q s) (sym c.self.view_is) looks in
     let n = c.args.number in
@@ -56,3 +57,6 @@ returns c = λ settled known s looks.
     let both = both_of known s.rules.limits.txn_capacity (open_at p.opened n) (entry_of n s.opened) l (here.opened n) c.end-ended.ensures.ended in
     stage_looks settled known p s c.end-ended.new.self n l (map listed_of c.push_ended.new.staged.items) (c.self.inside.open_puts - c.put_count-puts.result) here both c.end-ended.ensures.rest c.end-ended.ensures.count c.push_ended.ensures.items
     (omega (arith, open_fits settled known p s n l here both, c.put_count-puts.ensures))
+
+pub returns-clause-opened : goal.returns-clause-opened
+returns-clause-opened c = rw (← c.self.view_is) (keeps_ended c.args.number c.self.inside.table c.end-ended.new.self c.end-ended.ensures.rest)

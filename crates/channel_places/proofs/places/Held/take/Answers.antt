@@ -1,4 +1,4 @@
-use Rattle.std.proofs.Common.{◌≡◌, ◌∙◌, ℕ, List, ap, arith, length, subst, sym, true}
+use Rattle.std.proofs.Common.{◌≡◌, ◌∙◌, ℕ, List, ap, arith, length, refl, subst, sym, true}
 use Rattle.open_table.specs.Tables.{HasAt, added, open_at}
 use Rattle.open_table.specs.declared.opened.Item.TheVariants.{Take}
 use Rattle.event_ring.specs.Slots.{Index, Left, marked}
@@ -7,6 +7,7 @@ use Rattle.channel_places.specs.Looks.{Looks, MayTake, Places, held_in}
 use Rattle.channel_places.specs.View.{places_of}
 use Rattle.channel_places.proofs.Looking.{rooms_stay}
 use Rattle.channel_places.proofs.Taking.{length-marked, none_number, relive, some_free, take_looks, take_none, take_within}
+use Rattle.channel_places.proofs.Keeping.{keeps_same, keeps_taken}
 use Rattle.channel_places.proofs.places.Held.take.Goals as goal
 
 pub mark-requires : goal.mark-requires
@@ -42,8 +43,8 @@ invariant_of-self c =
       frames = omega (arith, i.frames, c.add.ensures.count);
     }
 
-pub returns-in-Some : goal.returns-in-Some
-returns-in-Some c = λ settled known s looks.
+pub returns-in-Some-clause-looks : goal.returns-in-Some-clause-looks
+returns-in-Some-clause-looks c = λ settled known s looks.
     let p : Places = places_of c.self.inside in
     let token = c.args.txn.now in
     let number = c.in-Some.number in
@@ -54,11 +55,21 @@ returns-in-Some c = λ settled known s looks.
     let live : c.mark.new.self.live ≡ marked number true p.live = ap (λ (x : Index). x.live) c.mark.ensures in
     relive settled known p _ _ c.add.new.self c.mark.new.self.live live (take_looks settled known p s c.add.new.self token number here may.life may.room first has c.add.ensures.count)
 
-pub returns-in_default : goal.returns-in_default
-returns-in_default c = λ settled known s looks.
+pub returns-in_default-clause-looks : goal.returns-in_default-clause-looks
+returns-in_default-clause-looks c = λ settled known s looks.
     let p : Places = places_of c.self.inside in
     let token = c.args.txn.now in
     let here : Looks settled known p s = subst (λ (q : Places). Looks settled known q s) (sym c.self.view_is) looks in
     let may : MayTake p token = subst (λ (q : Places). MayTake q token) (sym c.self.view_is) c.requires in
     let none = sym c.first_free.ensures ∙ none_number c.first_free.result c.in_default.not-Some in
     subst (λ (u : State). Looks settled known c.args.self.now u) (sym (take_none settled known p s token here may.life may.room none)) looks
+
+pub returns-in-Some-clause-opened : goal.returns-in-Some-clause-opened
+returns-in-Some-clause-opened c =
+    let p : Places = places_of c.self.inside in
+    let number = c.in-Some.number in
+    let has = subst (λ (n : ℕ). HasAt n (added (Take number) (open_at p.opened n)) p.opened c.add.new.self) c.number.ensures c.add.ensures.added in
+    rw (← c.self.view_is) (keeps_taken c.args.txn.now.number number p.opened c.add.new.self has)
+
+pub returns-in_default-clause-opened : goal.returns-in_default-clause-opened
+returns-in_default-clause-opened c = keeps_same _ _ refl

@@ -7,11 +7,11 @@ pub returns-clause-step : goal.returns-clause-step
 returns-clause-step g c =
     let m = c.self.inside in
     let old : Logged = record { places = m.held; log = m.writing.log; busy = m.writing.busy } in
-    rw (← c.self.view_is) (λ s is. begun_take (g.D.Disk.told m.writing.disk) old c.begin_take.new.self c.begin_take.result s is c.begin_take.ensures)
+    rw (← c.self.view_is) (λ s is. begun_take (g.D.Disk.told m.writing.disk) old c.begin_take.new.self c.begin_take.result s is c.begin_take.ensures.step c.begin_take.ensures.opened)
 
 pub invariant_of-self : goal.invariant_of-self
 invariant_of-self g c =
     let m = c.self.inside in
     let i = c.self.invariant in
     let old : Logged = record { places = m.held; log = m.writing.log; busy = m.writing.busy } in
-    (after i.0 (BeginTake c.begin_take.result), (begun_take (g.D.Disk.told m.writing.disk) old c.begin_take.new.self c.begin_take.result i.0 i.1 c.begin_take.ensures).stands)
+    (after i.0 (BeginTake c.begin_take.result), (begun_take (g.D.Disk.told m.writing.disk) old c.begin_take.new.self c.begin_take.result i.0 i.1 c.begin_take.ensures.step c.begin_take.ensures.opened).stands)

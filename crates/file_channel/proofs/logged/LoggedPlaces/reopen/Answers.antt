@@ -19,13 +19,13 @@ invariant_of-self g c =
     let m = c.self.inside in
     let i = c.self.invariant in
     let old : Logged = record { places = m.held; log = m.writing.log; busy = m.writing.busy } in
-    (after i.0 (Reopen (Err (causes.Spent Life))), (spent_anew (g.D.Disk.told m.writing.disk) old c.set_broken.new.self (sym c.life.ensures ∙ c.if-life.true) c.set_broken.ensures i.0 i.1).stands)
+    (after i.0 (Reopen (Err (causes.Spent Life))), (spent_anew (g.D.Disk.told m.writing.disk) old c.set_broken.new.self (sym c.life.ensures ∙ c.if-life.true) c.set_broken.ensures.looks i.0 i.1).stands)
 
 pub returns-then-life-clause-step : goal.returns-then-life-clause-step
 returns-then-life-clause-step g c =
     let m = c.self.inside in
     let old : Logged = record { places = m.held; log = m.writing.log; busy = m.writing.busy } in
-    rw (← c.self.view_is) (none_kept, spent_anew (g.D.Disk.told m.writing.disk) old c.set_broken.new.self (sym c.life.ensures ∙ c.if-life.true) c.set_broken.ensures)
+    rw (← c.self.view_is) (none_kept, spent_anew (g.D.Disk.told m.writing.disk) old c.set_broken.new.self (sym c.life.ensures ∙ c.if-life.true) c.set_broken.ensures.looks)
 
 pub returns-then-life-clause-any_moment : goal.returns-then-life-clause-any_moment
 returns-then-life-clause-any_moment g c =
@@ -40,14 +40,14 @@ invariant_of-self-in_default g c =
     let i = c.self.invariant in
     let old : Logged = record { places = m.held; log = m.writing.log; busy = m.writing.busy } in
     let life : m.held.numbers.life < 2 ^ 64 - 1 = search rules in
-    (after i.0 (Reopen (Err causes.NoMemory)), (refused_early (g.D.Disk.told m.writing.disk) old c.set_broken-in_default.new.self life c.set_broken-in_default.ensures i.0 i.1).stands)
+    (after i.0 (Reopen (Err causes.NoMemory)), (refused_early (g.D.Disk.told m.writing.disk) old c.set_broken-in_default.new.self life c.set_broken-in_default.ensures.looks i.0 i.1).stands)
 
 pub returns-in_default-clause-step : goal.returns-in_default-clause-step
 returns-in_default-clause-step g c =
     let m = c.self.inside in
     let old : Logged = record { places = m.held; log = m.writing.log; busy = m.writing.busy } in
     let life : m.held.numbers.life < 2 ^ 64 - 1 = search rules in
-    rw (← c.self.view_is) (none_kept, refused_early (g.D.Disk.told m.writing.disk) old c.set_broken-in_default.new.self life c.set_broken-in_default.ensures)
+    rw (← c.self.view_is) (none_kept, refused_early (g.D.Disk.told m.writing.disk) old c.set_broken-in_default.new.self life c.set_broken-in_default.ensures.looks)
 
 pub returns-in_default-clause-any_moment : goal.returns-in_default-clause-any_moment
 returns-in_default-clause-any_moment g c =
@@ -90,7 +90,7 @@ invariant_of-self-in-Ok-reopen_log g c =
     let old : Logged = record { places = m.held; log = m.writing.log; busy = m.writing.busy } in
     let found = c.in-Ok-reopen_log in
     let life : m.held.numbers.life < 2 ^ 64 - 1 = search rules in
-    let did = reopened told told' old c.renew.new.self found.log found.replayed c.capacity-capacity.result c.max_file-max_file.result i (g.met.D.Disk.reads_are_left m.writing.disk) life c.max_file-max_file.ensures found.ensures.begun found.ensures.waits c.renew.ensures in
+    let did = reopened told told' old c.renew.new.self found.log found.replayed c.capacity-capacity.result c.max_file-max_file.result i (g.met.D.Disk.reads_are_left m.writing.disk) life c.max_file-max_file.ensures found.ensures.begun found.ensures.waits c.renew.ensures.looks c.renew.ensures.opened in
     (after i.0 (Reopen (Ok (record { kept = did.0; txn = found.replayed.next.txn }))), (did.1 i.0 i.1).stands)
 
 pub returns-in-Ok-reopen_log-clause-step : goal.returns-in-Ok-reopen_log-clause-step
@@ -101,7 +101,7 @@ returns-in-Ok-reopen_log-clause-step g c =
     let old : Logged = record { places = m.held; log = m.writing.log; busy = m.writing.busy } in
     let found = c.in-Ok-reopen_log in
     let life : m.held.numbers.life < 2 ^ 64 - 1 = search rules in
-    let did = reopened told told' old c.renew.new.self found.log found.replayed c.capacity-capacity.result c.max_file-max_file.result c.self.invariant (g.met.D.Disk.reads_are_left m.writing.disk) life c.max_file-max_file.ensures found.ensures.begun found.ensures.waits c.renew.ensures in
+    let did = reopened told told' old c.renew.new.self found.log found.replayed c.capacity-capacity.result c.max_file-max_file.result c.self.invariant (g.met.D.Disk.reads_are_left m.writing.disk) life c.max_file-max_file.ensures found.ensures.begun found.ensures.waits c.renew.ensures.looks c.renew.ensures.opened in
     let kept : Reopened = record { kept = did.0; txn = found.replayed.next.txn } in
     rw (← c.self.view_is) (kept, did.1)
 
@@ -115,7 +115,7 @@ returns-in-Ok-reopen_log-clause-opens g c =
     let found = c.in-Ok-reopen_log in
     let new : Logged = record { places = c.renew.new.self; log = found.log; busy = 0 } in
     let life : m.held.numbers.life < 2 ^ 64 - 1 = search rules in
-    let did = reopened told told' old c.renew.new.self found.log found.replayed c.capacity-capacity.result c.max_file-max_file.result i (g.met.D.Disk.reads_are_left m.writing.disk) life c.max_file-max_file.ensures found.ensures.begun found.ensures.waits c.renew.ensures in
+    let did = reopened told told' old c.renew.new.self found.log found.replayed c.capacity-capacity.result c.max_file-max_file.result i (g.met.D.Disk.reads_are_left m.writing.disk) life c.max_file-max_file.ensures found.ensures.begun found.ensures.waits c.renew.ensures.looks c.renew.ensures.opened in
     let was : State = after i.0 (Reopen (Ok (record { kept = did.0; txn = found.replayed.next.txn }))) in
     rw (← c.self.view_is) (opens_anew told told' new found.replayed c.capacity-capacity.result c.max_file-max_file.result found.ensures.begun (g.met.D.Disk.reads_are_left c.reopen_log.new.disk) found.ensures.stays was (did.1 i.0 i.1).stands refl refl (sym (limit_of told old i.0 i.1) ∙ sym c.capacity-capacity.ensures))
 
@@ -139,7 +139,7 @@ invariant_of-self-in-Err-reopen_log g c =
     let old : Logged = record { places = m.held; log = m.writing.log; busy = m.writing.busy } in
     let life : m.held.numbers.life < 2 ^ 64 - 1 = search rules in
     let e = c.in-Err.ensures.refused in
-    (after i.0 (Reopen (Err c.in-Err.cause)), (refused_anew (g.D.Disk.told m.writing.disk) (g.D.Disk.told c.reopen_log.new.disk) old c.set_broken-in-Err.new.self c.in-Err.cause (g.met.D.Disk.reads_are_left m.writing.disk) life e.counter e.images c.set_broken-in-Err.ensures i.0 i.1).stands)
+    (after i.0 (Reopen (Err c.in-Err.cause)), (refused_anew (g.D.Disk.told m.writing.disk) (g.D.Disk.told c.reopen_log.new.disk) old c.set_broken-in-Err.new.self c.in-Err.cause (g.met.D.Disk.reads_are_left m.writing.disk) life e.counter e.images c.set_broken-in-Err.ensures.looks i.0 i.1).stands)
 
 pub returns-in-Err-clause-step : goal.returns-in-Err-clause-step
 returns-in-Err-clause-step g c =
@@ -147,7 +147,7 @@ returns-in-Err-clause-step g c =
     let old : Logged = record { places = m.held; log = m.writing.log; busy = m.writing.busy } in
     let life : m.held.numbers.life < 2 ^ 64 - 1 = search rules in
     let e = c.in-Err.ensures.refused in
-    rw (← c.self.view_is) (none_kept, refused_anew (g.D.Disk.told m.writing.disk) (g.D.Disk.told c.reopen_log.new.disk) old c.set_broken-in-Err.new.self c.in-Err.cause (g.met.D.Disk.reads_are_left m.writing.disk) life e.counter e.images c.set_broken-in-Err.ensures)
+    rw (← c.self.view_is) (none_kept, refused_anew (g.D.Disk.told m.writing.disk) (g.D.Disk.told c.reopen_log.new.disk) old c.set_broken-in-Err.new.self c.in-Err.cause (g.met.D.Disk.reads_are_left m.writing.disk) life e.counter e.images c.set_broken-in-Err.ensures.looks)
 
 pub returns-in-Err-clause-any_moment : goal.returns-in-Err-clause-any_moment
 returns-in-Err-clause-any_moment g c =

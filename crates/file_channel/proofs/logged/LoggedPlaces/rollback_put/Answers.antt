@@ -23,7 +23,7 @@ add_rollback-requires g c =
     let ended : c.has_puts-ends.result ≡ true = (let not = c.if-not-ends.false in search rules) in
     let is_open : true ≡ is_some_of (puts_of s token) = sym ended ∙ c.has_puts-ends.ensures.tells is.settled is.known s is.looks in
     let count : c.size_of_puts-count.result ≡ size_of_list (puts_of s token) = c.size_of_puts-count.ensures.size is.settled is.known s is.looks in
-    let places : (settled known : Known) → Looks settled known old.places s → Looks settled known c.drop_puts.new.self (close token.number s) = λ settled known looks. subst (λ (n : ℕ). Looks settled known c.drop_puts.new.self (close n s)) number (c.drop_puts.ensures settled known s looks) in
+    let places : (settled known : Known) → Looks settled known old.places s → Looks settled known c.drop_puts.new.self (close token.number s) = λ settled known looks. subst (λ (n : ℕ). Looks settled known c.drop_puts.new.self (close n s)) number (c.drop_puts.ensures.looks settled known s looks) in
     let broken : c.drop_puts.new.self.numbers.broken ≡ s.broken = same_broken is.settled is.known c.drop_puts.new.self (close token.number s) (places is.settled is.known is.looks) in
     let both : (0 < c.size_of_puts-count.result) × (c.drop_puts.new.self.numbers.broken ≡ false) = (let wrote = c.is_recorded.ensures in search rules) in
     let held : 0 < size_of_list (puts_of s token) = subst (λ (n : ℕ). 0 < n) count both.0 in
@@ -44,7 +44,7 @@ invariant_of-self g c =
     let ended : c.has_puts-ends.result ≡ true = (let not = c.if-not-ends.false in search rules) in
     let is_open : true ≡ is_some_of (puts_of s token) = sym ended ∙ c.has_puts-ends.ensures.tells is.settled is.known s is.looks in
     let count : c.size_of_puts-count.result ≡ size_of_list (puts_of s token) = c.size_of_puts-count.ensures.size is.settled is.known s is.looks in
-    let places : (settled known : Known) → Looks settled known old.places s → Looks settled known c.drop_puts.new.self (close token.number s) = λ settled known looks. subst (λ (n : ℕ). Looks settled known c.drop_puts.new.self (close n s)) number (c.drop_puts.ensures settled known s looks) in
+    let places : (settled known : Known) → Looks settled known old.places s → Looks settled known c.drop_puts.new.self (close token.number s) = λ settled known looks. subst (λ (n : ℕ). Looks settled known c.drop_puts.new.self (close n s)) number (c.drop_puts.ensures.looks settled known s looks) in
     let broken : c.drop_puts.new.self.numbers.broken ≡ s.broken = same_broken is.settled is.known c.drop_puts.new.self (close token.number s) (places is.settled is.known is.looks) in
     let both : (0 < c.size_of_puts-count.result) × (c.drop_puts.new.self.numbers.broken ≡ false) = (let wrote = c.is_recorded.ensures in search rules) in
     let held : 0 < size_of_list (puts_of s token) = subst (λ (n : ℕ). 0 < n) count both.0 in
@@ -56,7 +56,7 @@ invariant_of-self g c =
     let new : Logged = record { places = c.drop_puts.new.self; log = c.add_rollback.new.self.log; busy = c.add_rollback.new.self.busy } in
     let log' : IsLogged told' new.log new.busy (close c.number-number.result s) = c.add_rollback.ensures.logged s (Puts did.events) (is.whole.logged still) entry (put_was_done did.events did.some) in
     let log : IsLogged told new.log new.busy (close token.number s) = subst (λ (v : Option Told). IsLogged v new.log new.busy (close token.number s)) same (subst (λ (n : ℕ). IsLogged told' new.log new.busy (close n s)) number log') in
-    (close token.number s, subst (λ (v : Option Told). IsStateOf v new (close token.number s)) (sym same) (recorded_put told old new token (Rollback c.number-number.result) s is is_open places held still log c.add_rollback.ensures.log c.add_rollback.ensures.waits).stands)
+    (close token.number s, subst (λ (v : Option Told). IsStateOf v new (close token.number s)) (sym same) (recorded_put told old new token (Rollback c.number-number.result) s is is_open places c.drop_puts.ensures.opened held still log c.add_rollback.ensures.log c.add_rollback.ensures.waits).stands)
 
 pub returns-then-is_recorded-clause-step : goal.returns-then-is_recorded-clause-step
 returns-then-is_recorded-clause-step g c = rw (← c.self.view_is) (λ s is.
@@ -68,7 +68,7 @@ returns-then-is_recorded-clause-step g c = rw (← c.self.view_is) (λ s is.
     let ended : c.has_puts-ends.result ≡ true = (let not = c.if-not-ends.false in search rules) in
     let is_open : true ≡ is_some_of (puts_of s token) = sym ended ∙ c.has_puts-ends.ensures.tells is.settled is.known s is.looks in
     let count : c.size_of_puts-count.result ≡ size_of_list (puts_of s token) = c.size_of_puts-count.ensures.size is.settled is.known s is.looks in
-    let places : (settled known : Known) → Looks settled known old.places s → Looks settled known c.drop_puts.new.self (close token.number s) = λ settled known looks. subst (λ (n : ℕ). Looks settled known c.drop_puts.new.self (close n s)) number (c.drop_puts.ensures settled known s looks) in
+    let places : (settled known : Known) → Looks settled known old.places s → Looks settled known c.drop_puts.new.self (close token.number s) = λ settled known looks. subst (λ (n : ℕ). Looks settled known c.drop_puts.new.self (close n s)) number (c.drop_puts.ensures.looks settled known s looks) in
     let broken : c.drop_puts.new.self.numbers.broken ≡ s.broken = same_broken is.settled is.known c.drop_puts.new.self (close token.number s) (places is.settled is.known is.looks) in
     let both : (0 < c.size_of_puts-count.result) × (c.drop_puts.new.self.numbers.broken ≡ false) = (let wrote = c.is_recorded.ensures in search rules) in
     let held : 0 < size_of_list (puts_of s token) = subst (λ (n : ℕ). 0 < n) count both.0 in
@@ -80,7 +80,7 @@ returns-then-is_recorded-clause-step g c = rw (← c.self.view_is) (λ s is.
     let new : Logged = record { places = c.drop_puts.new.self; log = c.add_rollback.new.self.log; busy = c.add_rollback.new.self.busy } in
     let log' : IsLogged told' new.log new.busy (close c.number-number.result s) = c.add_rollback.ensures.logged s (Puts did.events) (is.whole.logged still) entry (put_was_done did.events did.some) in
     let log : IsLogged told new.log new.busy (close token.number s) = subst (λ (v : Option Told). IsLogged v new.log new.busy (close token.number s)) same (subst (λ (n : ℕ). IsLogged told' new.log new.busy (close n s)) number log') in
-    subst (λ (v : Option Told). Steps told v old new (RollbackPut token true) s) (sym same) (recorded_put told old new token (Rollback c.number-number.result) s is is_open places held still log c.add_rollback.ensures.log c.add_rollback.ensures.waits))
+    subst (λ (v : Option Told). Steps told v old new (RollbackPut token true) s) (sym same) (recorded_put told old new token (Rollback c.number-number.result) s is is_open places c.drop_puts.ensures.opened held still log c.add_rollback.ensures.log c.add_rollback.ensures.waits))
 
 pub invariant_of-self-else-is_recorded : goal.invariant_of-self-else-is_recorded
 invariant_of-self-else-is_recorded g c =
@@ -94,11 +94,11 @@ invariant_of-self-else-is_recorded g c =
     let ended : c.has_puts-ends.result ≡ true = (let not = c.if-not-ends.false in search rules) in
     let is_open : true ≡ is_some_of (puts_of s token) = sym ended ∙ c.has_puts-ends.ensures.tells is.settled is.known s is.looks in
     let count : c.size_of_puts-count.result ≡ size_of_list (puts_of s token) = c.size_of_puts-count.ensures.size is.settled is.known s is.looks in
-    let places : (settled known : Known) → Looks settled known old.places s → Looks settled known c.drop_puts.new.self (close token.number s) = λ settled known looks. subst (λ (n : ℕ). Looks settled known c.drop_puts.new.self (close n s)) number (c.drop_puts.ensures settled known s looks) in
+    let places : (settled known : Known) → Looks settled known old.places s → Looks settled known c.drop_puts.new.self (close token.number s) = λ settled known looks. subst (λ (n : ℕ). Looks settled known c.drop_puts.new.self (close n s)) number (c.drop_puts.ensures.looks settled known s looks) in
     let broken : c.drop_puts.new.self.numbers.broken ≡ s.broken = same_broken is.settled is.known c.drop_puts.new.self (close token.number s) (places is.settled is.known is.looks) in
     let no : (0 < c.size_of_puts-count.result) × (c.drop_puts.new.self.numbers.broken ≡ false) → ⊥ = (let lacks = c.is_recorded.ensures in search rules) in
     let not : (0 < size_of_list (puts_of s token)) × (s.broken ≡ false) → ⊥ = λ both. no (subst (λ (n : ℕ). 0 < n) (sym count) both.0, broken ∙ both.1) in
-    (close token.number s, (unrecorded_put told old c.drop_puts.new.self token s is is_open places not).stands)
+    (close token.number s, (unrecorded_put told old c.drop_puts.new.self token s is is_open places c.drop_puts.ensures.opened not).stands)
 
 pub returns-else-is_recorded-clause-step : goal.returns-else-is_recorded-clause-step
 returns-else-is_recorded-clause-step g c = rw (← c.self.view_is) (λ s is.
@@ -110,11 +110,11 @@ returns-else-is_recorded-clause-step g c = rw (← c.self.view_is) (λ s is.
     let ended : c.has_puts-ends.result ≡ true = (let not = c.if-not-ends.false in search rules) in
     let is_open : true ≡ is_some_of (puts_of s token) = sym ended ∙ c.has_puts-ends.ensures.tells is.settled is.known s is.looks in
     let count : c.size_of_puts-count.result ≡ size_of_list (puts_of s token) = c.size_of_puts-count.ensures.size is.settled is.known s is.looks in
-    let places : (settled known : Known) → Looks settled known old.places s → Looks settled known c.drop_puts.new.self (close token.number s) = λ settled known looks. subst (λ (n : ℕ). Looks settled known c.drop_puts.new.self (close n s)) number (c.drop_puts.ensures settled known s looks) in
+    let places : (settled known : Known) → Looks settled known old.places s → Looks settled known c.drop_puts.new.self (close token.number s) = λ settled known looks. subst (λ (n : ℕ). Looks settled known c.drop_puts.new.self (close n s)) number (c.drop_puts.ensures.looks settled known s looks) in
     let broken : c.drop_puts.new.self.numbers.broken ≡ s.broken = same_broken is.settled is.known c.drop_puts.new.self (close token.number s) (places is.settled is.known is.looks) in
     let no : (0 < c.size_of_puts-count.result) × (c.drop_puts.new.self.numbers.broken ≡ false) → ⊥ = (let lacks = c.is_recorded.ensures in search rules) in
     let not : (0 < size_of_list (puts_of s token)) × (s.broken ≡ false) → ⊥ = λ both. no (subst (λ (n : ℕ). 0 < n) (sym count) both.0, broken ∙ both.1) in
-    unrecorded_put told old c.drop_puts.new.self token s is is_open places not)
+    unrecorded_put told old c.drop_puts.new.self token s is is_open places c.drop_puts.ensures.opened not)
 
 pub returns-then-not-ends-clause-step : goal.returns-then-not-ends-clause-step
 returns-then-not-ends-clause-step g c = rw (← c.self.view_is) (λ s is.

@@ -24,8 +24,8 @@ invariant_of-self g c =
     let is = c.self.invariant.1 in
     let number : c.number-number.result ≡ token.number = c.number-number.ensures in
     let moves : Moves true s (StagePut token (Ok given)) (after s (StagePut token (Ok given))) = stages_put s token given (sym (c.stage_put_refusal.ensures.refusal is.settled is.known s is.looks) ∙ c.in_default.is) (c.put_ticket-ticket.ensures is.settled is.known s is.looks) in
-    let places : (settled known : Known) → Looks settled known old.places s → Looks settled known c.stage.new.self (after s (StagePut token (Ok given))) = λ settled known looks. subst (λ (n : ℕ). Looks settled known c.stage.new.self (stage n (entry_of n s.opened) s)) number (c.stage.ensures settled known s looks) in
-    (after s (StagePut token (Ok given)), (idle_put told old c.stage.new.self token given s is moves places c.if-ticket-eq0.true).stands)
+    let places : (settled known : Known) → Looks settled known old.places s → Looks settled known c.stage.new.self (after s (StagePut token (Ok given))) = λ settled known looks. subst (λ (n : ℕ). Looks settled known c.stage.new.self (stage n (entry_of n s.opened) s)) number (c.stage.ensures.looks settled known s looks) in
+    (after s (StagePut token (Ok given)), (idle_put told old c.stage.new.self token given s is moves places c.stage.ensures.opened c.if-ticket-eq0.true).stands)
 
 pub returns-then-ticket-eq0-clause-step : goal.returns-then-ticket-eq0-clause-step
 returns-then-ticket-eq0-clause-step g c = rw (← c.self.view_is) (λ s is.
@@ -36,8 +36,8 @@ returns-then-ticket-eq0-clause-step g c = rw (← c.self.view_is) (λ s is.
     let old : Logged = record { places = m.held; log = m.writing.log; busy = m.writing.busy } in
     let number : c.number-number.result ≡ token.number = c.number-number.ensures in
     let moves : Moves true s (StagePut token (Ok given)) (after s (StagePut token (Ok given))) = stages_put s token given (sym (c.stage_put_refusal.ensures.refusal is.settled is.known s is.looks) ∙ c.in_default.is) (c.put_ticket-ticket.ensures is.settled is.known s is.looks) in
-    let places : (settled known : Known) → Looks settled known old.places s → Looks settled known c.stage.new.self (after s (StagePut token (Ok given))) = λ settled known looks. subst (λ (n : ℕ). Looks settled known c.stage.new.self (stage n (entry_of n s.opened) s)) number (c.stage.ensures settled known s looks) in
-    idle_put told old c.stage.new.self token given s is moves places c.if-ticket-eq0.true)
+    let places : (settled known : Known) → Looks settled known old.places s → Looks settled known c.stage.new.self (after s (StagePut token (Ok given))) = λ settled known looks. subst (λ (n : ℕ). Looks settled known c.stage.new.self (stage n (entry_of n s.opened) s)) number (c.stage.ensures.looks settled known s looks) in
+    idle_put told old c.stage.new.self token given s is moves places c.stage.ensures.opened c.if-ticket-eq0.true)
 
 pub invariant_of-self-2 : goal.invariant_of-self-2
 invariant_of-self-2 g c =
@@ -50,7 +50,7 @@ invariant_of-self-2 g c =
     let is = c.self.invariant.1 in
     let number : c.number-number.result ≡ token.number = c.number-number.ensures in
     let moves : Moves true s (StagePut token (Ok given)) (after s (StagePut token (Ok given))) = stages_put s token given (sym (c.stage_put_refusal.ensures.refusal is.settled is.known s is.looks) ∙ c.in_default.is) (c.put_ticket-ticket.ensures is.settled is.known s is.looks) in
-    let places : (settled known : Known) → Looks settled known old.places s → Looks settled known c.stage.new.self (after s (StagePut token (Ok given))) = λ settled known looks. subst (λ (n : ℕ). Looks settled known c.stage.new.self (stage n (entry_of n s.opened) s)) number (c.stage.ensures settled known s looks) in
+    let places : (settled known : Known) → Looks settled known old.places s → Looks settled known c.stage.new.self (after s (StagePut token (Ok given))) = λ settled known looks. subst (λ (n : ℕ). Looks settled known c.stage.new.self (stage n (entry_of n s.opened) s)) number (c.stage.ensures.looks settled known s looks) in
     let staged = staged_puts s (after s (StagePut token (Ok given))) token given moves in
     let told' = g.D.Disk.told c.add_commit_put.new.self.disk in
     let new : Logged = record { places = c.stage.new.self; log = c.add_commit_put.new.self.log; busy = c.add_commit_put.new.self.busy } in
@@ -58,7 +58,7 @@ invariant_of-self-2 g c =
     let same : told' ≡ told = ap g.D.Disk.told c.add_commit_put.ensures.disk in
     let log' : IsLogged told' new.log new.busy (stage c.number-number.result (Some (Puts staged.events)) s) = (c.add_commit_put.ensures.logged s staged.events (is.whole.logged staged.still) entry staged.count staged.first staged.fits) in
     let log : IsLogged told new.log new.busy (stage token.number (Some (Puts staged.events)) s) = subst (λ (v : Option Told). IsLogged v new.log new.busy (stage token.number (Some (Puts staged.events)) s)) same (subst (λ (n : ℕ). IsLogged told' new.log new.busy (stage n (Some (Puts staged.events)) s)) number log') in
-    (after s (StagePut token (Ok given)), subst (λ (v : Option Told). IsStateOf v new (after s (StagePut token (Ok given)))) (sym same) (staged_put told old new token given (CommitPut c.number-number.result given.first given.count) s is moves places c.if-ticket-eq0.false staged log c.add_commit_put.ensures.log c.add_commit_put.ensures.waits).stands)
+    (after s (StagePut token (Ok given)), subst (λ (v : Option Told). IsStateOf v new (after s (StagePut token (Ok given)))) (sym same) (staged_put told old new token given (CommitPut c.number-number.result given.first given.count) s is moves places c.stage.ensures.opened c.if-ticket-eq0.false staged log c.add_commit_put.ensures.log c.add_commit_put.ensures.waits).stands)
 
 pub returns-clause-step : goal.returns-clause-step
 returns-clause-step g c = rw (← c.self.view_is) (λ s is.
@@ -69,7 +69,7 @@ returns-clause-step g c = rw (← c.self.view_is) (λ s is.
     let old : Logged = record { places = m.held; log = m.writing.log; busy = m.writing.busy } in
     let number : c.number-number.result ≡ token.number = c.number-number.ensures in
     let moves : Moves true s (StagePut token (Ok given)) (after s (StagePut token (Ok given))) = stages_put s token given (sym (c.stage_put_refusal.ensures.refusal is.settled is.known s is.looks) ∙ c.in_default.is) (c.put_ticket-ticket.ensures is.settled is.known s is.looks) in
-    let places : (settled known : Known) → Looks settled known old.places s → Looks settled known c.stage.new.self (after s (StagePut token (Ok given))) = λ settled known looks. subst (λ (n : ℕ). Looks settled known c.stage.new.self (stage n (entry_of n s.opened) s)) number (c.stage.ensures settled known s looks) in
+    let places : (settled known : Known) → Looks settled known old.places s → Looks settled known c.stage.new.self (after s (StagePut token (Ok given))) = λ settled known looks. subst (λ (n : ℕ). Looks settled known c.stage.new.self (stage n (entry_of n s.opened) s)) number (c.stage.ensures.looks settled known s looks) in
     let staged = staged_puts s (after s (StagePut token (Ok given))) token given moves in
     let told' = g.D.Disk.told c.add_commit_put.new.self.disk in
     let new : Logged = record { places = c.stage.new.self; log = c.add_commit_put.new.self.log; busy = c.add_commit_put.new.self.busy } in
@@ -77,7 +77,7 @@ returns-clause-step g c = rw (← c.self.view_is) (λ s is.
     let same : told' ≡ told = ap g.D.Disk.told c.add_commit_put.ensures.disk in
     let log' : IsLogged told' new.log new.busy (stage c.number-number.result (Some (Puts staged.events)) s) = (c.add_commit_put.ensures.logged s staged.events (is.whole.logged staged.still) entry staged.count staged.first staged.fits) in
     let log : IsLogged told new.log new.busy (stage token.number (Some (Puts staged.events)) s) = subst (λ (v : Option Told). IsLogged v new.log new.busy (stage token.number (Some (Puts staged.events)) s)) same (subst (λ (n : ℕ). IsLogged told' new.log new.busy (stage n (Some (Puts staged.events)) s)) number log') in
-    subst (λ (v : Option Told). Steps told v old new (StagePut token (Ok given)) s) (sym same) (staged_put told old new token given (CommitPut c.number-number.result given.first given.count) s is moves places c.if-ticket-eq0.false staged log c.add_commit_put.ensures.log c.add_commit_put.ensures.waits))
+    subst (λ (v : Option Told). Steps told v old new (StagePut token (Ok given)) s) (sym same) (staged_put told old new token given (CommitPut c.number-number.result given.first given.count) s is moves places c.stage.ensures.opened c.if-ticket-eq0.false staged log c.add_commit_put.ensures.log c.add_commit_put.ensures.waits))
 
 pub add_commit_put-requires-clause-logged : goal.add_commit_put-requires-clause-logged
 add_commit_put-requires-clause-logged g c =
@@ -90,7 +90,7 @@ add_commit_put-requires-clause-logged g c =
     let is = c.self.invariant.1 in
     let number : c.number-number.result ≡ token.number = c.number-number.ensures in
     let moves : Moves true s (StagePut token (Ok given)) (after s (StagePut token (Ok given))) = stages_put s token given (sym (c.stage_put_refusal.ensures.refusal is.settled is.known s is.looks) ∙ c.in_default.is) (c.put_ticket-ticket.ensures is.settled is.known s is.looks) in
-    let places : (settled known : Known) → Looks settled known old.places s → Looks settled known c.stage.new.self (after s (StagePut token (Ok given))) = λ settled known looks. subst (λ (n : ℕ). Looks settled known c.stage.new.self (stage n (entry_of n s.opened) s)) number (c.stage.ensures settled known s looks) in
+    let places : (settled known : Known) → Looks settled known old.places s → Looks settled known c.stage.new.self (after s (StagePut token (Ok given))) = λ settled known looks. subst (λ (n : ℕ). Looks settled known c.stage.new.self (stage n (entry_of n s.opened) s)) number (c.stage.ensures.looks settled known s looks) in
     let staged = staged_puts s (after s (StagePut token (Ok given))) token given moves in
     let entry : entry_of c.number-number.result s.opened ≡ Some (Puts staged.events) = ap (λ (n : ℕ). entry_of n s.opened) number ∙ staged.entry in
     (s, staged.events, is.whole.logged staged.still, entry, staged.count)
