@@ -20,5 +20,5 @@ returns c =
     let limits : Limits = record { capacity = c.args.capacity; txn_capacity = 10; max_file = 1000 } in
     let o : Opening = record { rules = record { kind = File; limits = limits }; base = record { items = []; first = 0 }; txn = 1; faults = 0; from = 0; tells = true } in
     let left = subst (λ (l : List Left). LookLeft [] [] l []) (sym (ap (λ (r : Index). r.live) c.in_ok-ring.ensures)) tt in
-    let looks = c.in_ok-held.ensures [] [] o refl refl refl left (base_rising (record { items = []; first = 0 }) (omega arith)) in
+    let looks = c.in_ok-held.ensures.looks [] [] o refl refl refl left (base_rising (record { items = []; first = 0 }) (omega arith)) in
     (ap (λ (n : Numbers). n.rules.limits.capacity) looks.numbers, ap (λ (n : Numbers). n.life) looks.numbers)
