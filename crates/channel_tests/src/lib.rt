@@ -1,17 +1,23 @@
 //! Tests of channels, from their events up: events, records, frames and log files, what each kind of channel on them
-//! answers, and what cut and changed bytes, a crash and a failed disk leave.
+//! answers, and what cut and changed bytes, a crash and a failed disk leave. Most are scenarios, lines of a text.
 #![tactic(auto)]
 
+#[cfg(test)]
+mod calls;
 #[cfg(test)]
 mod cases;
 #[cfg(test)]
 mod checkpoints;
+#[cfg(test)]
+mod crashes;
 #[cfg(test)]
 mod events;
 #[cfg(test)]
 mod folders;
 #[cfg(test)]
 mod frames;
+#[cfg(test)]
+mod logs;
 #[cfg(test)]
 mod mending;
 #[cfg(test)]
@@ -25,13 +31,9 @@ mod records;
 #[cfg(test)]
 mod ring;
 #[cfg(test)]
-mod rolls;
+mod scene;
 #[cfg(test)]
 mod spelled;
-#[cfg(test)]
-mod steps;
-#[cfg(test)]
-mod takes;
 #[cfg(test)]
 mod torn;
 #[cfg(test)]

@@ -1,115 +1,117 @@
 // A channel that broke is opened anew on a disk that is full: no log file is left of an opening that could not begin one.
-use crate::rolls::{given, logs_of};
-use crate::steps::{Said, Step, Tried, Turn, answer};
-use channel_face::{Limits, OpenCause};
-use file_channel::FileChannel;
-use host_memory::{DiskFault, MemDisk, Part};
+use crate::crashes::logs_of;
+use crate::scene::{Channels, calls, fault, has, is_answered, is_closed};
+use host_memory::DiskFault;
+use scenarios::{Scene, three_numbers, word_and_rest};
 use std::alloc::Global;
-use std::test::Fail;
-use test_fixtures::{channel_on, disk_after_opening, reopen};
 
-const LIMITS: Limits = Limits {
-    capacity: 10,
-    txn_capacity: 10,
-    max_file: 1_000_000,
-};
+// One event is settled, and the write of the next one's frame fails, which is the fifth call after the opening.
+const BROKEN: &str = "limits 10 10 1000000
+fails 4
+on-disk
+begin-put > token 1
+put 1 a > done
+commit-put 1 > first 0
+begin-put > token 2
+put 2 b > done
+commit-put 2 > in-doubt";
 
-// One event is settled, and the write of the next one's frame fails.
-const BROKEN: [Turn; 6] = [
-    (Step::BeginPut, Said::Token(1)),
-    (Step::Put(1, b'a'), Said::Done),
-    (Step::CommitPut(1), Said::First(0)),
-    (Step::BeginPut, Said::Token(2)),
-    (Step::Put(2, b'b'), Said::Done),
-    (Step::CommitPut(2), Said::InDoubt),
-];
+// How many openings in a row cannot write the header of their log file, whether the file cannot be removed either (1), and how
+// many log files there are then.
+const REFUSED: &str = "1 0 1
+5 0 1
+1 1 2
+3 1 4";
 
-// How many openings in a row cannot write the header of their log file, whether that cannot be removed either, and how many log
-// files there are then.
-const REFUSED: [(u64, bool, usize); 4] = [(1, false, 1), (5, false, 1), (1, true, 2), (3, true, 4)];
-
-fn fault(call: u64) -> DiskFault {
-    DiskFault {
-        call,
-        part: Part::Nothing,
+// Breaks a channel, and opens it so many times in vain.
+fn is_broken(scene: &mut Channels, faults: &[DiskFault], refused: u64) -> bool {
+    if scene.faults.extend_from_slice(faults).is_err() {
+        return false;
     }
-}
-
-// Opens a channel anew so many times, each of which is refused as a fault of the disk.
-fn are_refused(channel: &mut FileChannel<MemDisk>, times: u64) -> bool {
-    for _ in 0..times {
-        if reopen(channel) != Err(OpenCause::DiskFault) {
+    for line in BROKEN.lines() {
+        let (word, rest) = word_and_rest(line);
+        if !scene.holds(word, rest) {
+            return false;
+        }
+    }
+    for _ in 0..refused {
+        if !is_answered(scene, "reopen", "> disk-fault") {
             return false;
         }
     }
     true
 }
 
-// A channel that broke, after so many openings that were refused, and one more that goes well where this is asked for.
-fn channel_after(
-    alloc: Global,
-    faults: &[DiskFault],
-    refused: u64,
-    goes_well: bool,
-) -> Result<FileChannel<MemDisk>, Fail> {
-    let disk = MemDisk::new(alloc).failing_at(faults.to_vec(alloc)?);
-    let mut tried = Tried::new(channel_on(alloc, disk, LIMITS)?);
-    answer(alloc, "a full disk", &mut tried, &BROKEN)?;
-    let Tried {
-        mut channel,
-        ticket: _,
-    } = tried;
-    if are_refused(&mut channel, refused) && (!goes_well || reopen(&mut channel).is_ok()) {
-        Ok(channel)
+// How many calls of the disk there are once one more opening went well.
+fn calls_of(scene: &mut Channels, faults: &[DiskFault], refused: u64) -> Option<u64> {
+    if is_broken(scene, faults, refused)
+        && is_answered(scene, "reopen", "> done")
+        && is_closed(scene)
+    {
+        Some(calls(scene))
     } else {
-        Err(Fail::from("an opening answers otherwise"))
+        None
     }
 }
 
-// The failing calls: the write of a frame, which is the fifth after the opening, and of each refused opening the write of the
-// header, which comes before the sync, the last call of an opening that goes well. Where the file cannot be removed, its removal
-// fails, before which its name is looked for.
-fn faults_of(alloc: Global, refused: u64, stays: bool) -> Result<Vec<DiskFault>, Fail> {
-    let opened = disk_after_opening(alloc, LIMITS)?.calls();
+fn calls_after(alloc: Global, faults: &[DiskFault], refused: u64) -> Option<u64> {
+    calls_of(&mut Channels::begin(alloc), faults, refused)
+}
+
+// The write of the header in each refused opening fails; it comes before the sync, the last call of an opening that goes well.
+// Where the file cannot be removed, its removal fails, before which its name is looked for.
+fn faults_of(alloc: Global, refused: u64, stays: bool) -> Option<Vec<DiskFault>> {
     let mut faults = Vec::new(alloc);
-    faults.push(fault(opened.saturating_add(4)))?;
     for row in 0..refused {
-        let calls = channel_after(alloc, &faults, row, true)?.close().calls();
-        faults.push(fault(calls.saturating_sub(2)))?;
+        let calls = calls_after(alloc, &faults, row)?;
+        faults.push(fault(calls.saturating_sub(2))).ok()?;
         if stays {
-            faults.push(fault(calls))?;
+            faults.push(fault(calls)).ok()?;
         }
     }
-    Ok(faults)
+    Some(faults)
 }
 
-// How many log files there are after the refused openings.
-fn files_after(alloc: Global, faults: &[DiskFault], refused: u64) -> Result<usize, Fail> {
-    let disk = channel_after(alloc, faults, refused, false)?.close();
-    Ok(logs_of(alloc, &disk)?.len())
+// Whether there are so many log files after some openings that are refused.
+fn leaves_files(scene: &mut Channels, faults: &[DiskFault], refused: u64, files: u64) -> bool {
+    is_broken(scene, faults, refused)
+        && is_closed(scene)
+        && match &scene.disk {
+            Some(disk) => {
+                logs_of(scene.alloc, disk).is_ok_and(|logs| logs.len() as u64 == files)
+            }
+            None => false,
+        }
 }
 
-// What the channel gives once one more goes well.
-fn given_after(alloc: Global, faults: &[DiskFault], refused: u64) -> Result<Option<Vec<u8>>, Fail> {
-    let mut channel = channel_after(alloc, faults, refused, true)?;
-    Ok(given(alloc, &mut channel))
+fn has_files(alloc: Global, faults: &[DiskFault], refused: u64, files: u64) -> bool {
+    leaves_files(&mut Channels::begin(alloc), faults, refused, files)
 }
 
-fn is_mended(alloc: Global, refused: u64, stays: bool, files: usize) -> Result<bool, Fail> {
-    let faults = faults_of(alloc, refused, stays)?;
-    let left = given_after(alloc, &faults, refused)?;
-    Ok(
-        files_after(alloc, &faults, refused)? == files
-            && left.is_some_and(|left| left.as_slice() == b"a".as_slice()),
-    )
+// Whether one more opening then goes well, and the channel gives all that was settled.
+fn mends(scene: &mut Channels, faults: &[DiskFault], refused: u64) -> bool {
+    is_broken(scene, faults, refused) && is_answered(scene, "reopen", "> done") && has(scene, "a")
+}
+
+fn is_mended(alloc: Global, faults: &[DiskFault], refused: u64) -> bool {
+    mends(&mut Channels::begin(alloc), faults, refused)
+}
+
+fn is_right(alloc: Global, row: &str) -> bool {
+    let Some((refused, stays, files)) = three_numbers(row) else {
+        return false;
+    };
+    match faults_of(alloc, refused, stays == 1) {
+        Some(faults) => {
+            has_files(alloc, &faults, refused, files) && is_mended(alloc, &faults, refused)
+        }
+        None => false,
+    }
 }
 
 #[test]
-fn no_file_is_left_of_an_opening_that_could_not_begin_one(rt: HostRuntime) -> Result<(), Fail> {
-    for row in &REFUSED {
-        let (refused, stays, files) = *row;
-        let is_so = is_mended(rt.alloc(), refused, stays, files)?;
-        assert!(rt; is_so, "{refused}, removal fails: {stays}");
+fn no_file_is_left_of_an_opening_that_could_not_begin_one(rt: HostRuntime) {
+    for row in REFUSED.lines() {
+        assert!(rt; is_right(rt.alloc(), row), "{row}");
     }
-    Ok(())
 }

@@ -2,6 +2,7 @@
 use open_table::{Ended, Item, OpenTable, TableRefused};
 use record_form::Pointer;
 use std::alloc::Global;
+use std::process::Abort;
 use std::test::Fail;
 
 const FIRST: Pointer = Pointer {
@@ -48,63 +49,79 @@ fn ends(table: &mut OpenTable, txn: u64, takes: &[u64]) -> bool {
     }
 }
 
-// A transaction, whether it is asked for as one of puts, and the answer.
-const KINDS: [(u64, bool, bool); 3] = [(7, true, true), (7, false, false), (8, true, false)];
+// A transaction is open as one of puts or of takes.
+fn look_at_kinds(rt: &impl Abort, table: &OpenTable) {
+    assert!(rt; table.has(7, true) && !table.has(7, false));
+    assert!(rt; !table.has(8, true));
+}
 
-// A number, and the least open transaction above it.
-const NEXT: [(Option<u64>, Option<u64>); 3] = [
-    (None, Some(3)),
-    (Some(3), Some(7)),
-    (Some(7), None),
-];
+// The least open transaction, and those above others.
+fn look_at_order(rt: &impl Abort, table: &OpenTable) {
+    assert!(rt; table.next_txn(None) == Some(3));
+    assert!(rt; table.next_txn(Some(3)) == Some(7));
+    assert!(rt; table.next_txn(Some(7)).is_none());
+}
+
+fn is_empty(alloc: Global) -> bool {
+    OpenTable::new(alloc).is_ok_and(|table| table.next_txn(None).is_none())
+}
 
 #[test]
 fn a_transaction_has_its_own_list(rt: HostRuntime) -> Result<(), Fail> {
-    assert!(rt; OpenTable::new(rt.alloc())?.next_txn(None).is_none());
+    assert!(rt; is_empty(rt.alloc()));
     let mut table = two_open(rt.alloc())?;
-    for case in &KINDS {
-        let (txn, puts, is_open) = *case;
-        assert!(rt; table.has(txn, puts) == is_open, "{txn}, puts: {puts}");
-    }
+    look_at_kinds(&rt, &table);
     assert!(rt; has(&table, 7, &[FIRST, SECOND], &[]));
     assert!(rt; has(&table, 3, &[], &[0]));
-    for case in &NEXT {
-        let (after, next) = *case;
-        assert!(rt; table.next_txn(after) == next, "after {after:?}");
-    }
+    look_at_order(&rt, &table);
     assert!(rt; ends(&mut table, 3, &[0]));
     assert!(rt; !table.has(3, false) && table.next_txn(None) == Some(7));
     Ok(())
 }
 
 // Of the puts of file 1, those from offset 31 on are moved.
-#[test]
-fn puts_from_an_offset_on_are_moved(rt: HostRuntime) -> Result<(), Fail> {
-    let mut table = OpenTable::new(rt.alloc())?;
-    table.begin(1, true, 2)?;
+fn are_moved(alloc: Global) -> Option<bool> {
+    let mut table = OpenTable::new(alloc).ok()?;
+    table.begin(1, true, 2).ok()?;
     table.add(1, Item::Put(FIRST));
     table.add(1, Item::Put(SECOND));
     table.moved(2, 0, 3, 0);
-    assert!(rt; has(&table, 1, &[FIRST, SECOND], &[]));
+    let stay = has(&table, 1, &[FIRST, SECOND], &[]);
     table.moved(1, 31, 2, 16);
     let moved = Pointer {
         file: 2,
         at: 65,
         length: 9,
     };
-    assert!(rt; has(&table, 1, &[FIRST, moved], &[]));
-    Ok(())
+    Some(stay && has(&table, 1, &[FIRST, moved], &[]))
 }
 
 #[test]
-fn so_many_are_open_at_most(rt: HostRuntime) -> Result<(), Fail> {
-    let mut table = OpenTable::new(rt.alloc())?;
-    for txn in 0..1024 {
+fn puts_from_an_offset_on_are_moved(rt: HostRuntime) {
+    assert!(rt; are_moved(rt.alloc()) == Some(true));
+}
+
+// A table with so many open transactions.
+fn many_open(alloc: Global, count: u64) -> Option<OpenTable> {
+    let mut table = OpenTable::new(alloc).ok()?;
+    for txn in 0..count {
         if !table.has(txn, true) && !table.has(txn, false) {
-            table.begin(txn, true, 0)?;
+            table.begin(txn, true, 0).ok()?;
         }
     }
-    assert!(rt; !table.has(1024, true) && !table.has(1024, false));
-    assert!(rt; table.begin(1024, true, 0) == Err(TableRefused::TooManyOpen));
-    Ok(())
+    Some(table)
+}
+
+// Whether no further transaction can be begun.
+fn is_full(alloc: Global) -> Option<bool> {
+    let mut table = many_open(alloc, 1024)?;
+    if table.has(1024, true) || table.has(1024, false) {
+        return None;
+    }
+    Some(table.begin(1024, true, 0) == Err(TableRefused::TooManyOpen))
+}
+
+#[test]
+fn so_many_are_open_at_most(rt: HostRuntime) {
+    assert!(rt; is_full(rt.alloc()) == Some(true));
 }

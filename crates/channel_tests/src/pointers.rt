@@ -10,6 +10,7 @@ use channel_log::{LogWriter, ReadRefused, read_put};
 use event_core::Event;
 use host_memory::MemDisk;
 use record_form::{Pointer, Rec};
+use scenarios::{Scene, number_of, pass, word_and_rest};
 use std::alloc::Global;
 use std::test::Fail;
 use test_fixtures::event;
@@ -75,122 +76,87 @@ fn settled(
     Some((kept, answer(read_put(alloc, disk, p))))
 }
 
-// A place, the length that its pointer has, and what is read there: an event's body of so many bytes, or the length of the
-// event that stands there.
-struct Row {
-    at: u64,
-    length: u32,
-    body: Option<usize>,
-    found: Option<u32>,
-}
+// A place, the length that its pointer has, and what is read there: an event's body of so many bytes, or the length of the event that
+// stands there, if one does. The commit byte stands at 16, the PUT of an event of 9 bytes at 17, its commit at 39, and END at 60.
+const ROWS: &str = "An event is read at its pointer.
+read 17 9 body 1
+read 17 8 found 9
+read 17 0 found 9
+read 17 10 found 9
+read 17 2000000 found 9
+read 0 9 found -
+read 16 9 found -
+read 18 9 found -
+read 39 9 found -
+read 60 9 found -
+read 65 9 found -
+read 1000000000000 9 found -";
 
-// The commit byte stands at 16, the PUT of an event of 9 bytes at 17, its commit at 39, and END at 60.
-const ROWS: &[Row] = &[
-    Row {
-        at: 17,
-        length: 9,
-        body: Some(1),
-        found: None,
-    },
-    Row {
-        at: 17,
-        length: 8,
-        body: None,
-        found: Some(9),
-    },
-    Row {
-        at: 17,
-        length: 0,
-        body: None,
-        found: Some(9),
-    },
-    Row {
-        at: 17,
-        length: 10,
-        body: None,
-        found: Some(9),
-    },
-    Row {
-        at: 17,
-        length: 2_000_000,
-        body: None,
-        found: Some(9),
-    },
-    Row {
-        at: 0,
-        length: 9,
-        body: None,
-        found: None,
-    },
-    Row {
-        at: 16,
-        length: 9,
-        body: None,
-        found: None,
-    },
-    Row {
-        at: 18,
-        length: 9,
-        body: None,
-        found: None,
-    },
-    Row {
-        at: 39,
-        length: 9,
-        body: None,
-        found: None,
-    },
-    Row {
-        at: 60,
-        length: 9,
-        body: None,
-        found: None,
-    },
-    Row {
-        at: 65,
-        length: 9,
-        body: None,
-        found: None,
-    },
-    Row {
-        at: 1_000_000_000_000,
-        length: 9,
-        body: None,
-        found: None,
-    },
-];
-
-fn wanted(row: &Row) -> Answer {
-    match row.body {
-        Some(length) => Ok(length),
-        None => Err(ReadRefused::Damaged {
-            kept: row.length,
-            found: row.found,
-        }),
+// What a row expects.
+fn wanted(length: u32, want: &str) -> Option<Answer> {
+    match word_and_rest(want) {
+        ("body", length) => Some(Ok(length.parse::<usize>().ok()?)),
+        ("found", found) => Some(Err(ReadRefused::Damaged {
+            kept: length,
+            found: found.parse::<u32>().ok(),
+        })),
+        _ => None,
     }
 }
 
-fn is_read(alloc: Global, event: &Event, row: &Row) -> bool
+fn is_read(alloc: Global, event: &Event, p: &Pointer, want: Answer) -> bool
     requires small { size event.now ≤ 1_048_576 }
+    requires file { p.now.file ≡ 1 }
 {
+    let (mut one, mut two) = (MemDisk::new(alloc), MemDisk::new(alloc));
+    waiting(alloc, &mut one, event, p) == Some(want)
+        && settled(alloc, &mut two, event, p) == Some((want, want))
+}
+
+// Whether the event of one byte is read so at a place, as `17 9 body 1`.
+fn is_read_so(alloc: Global, row: &str) -> bool {
+    let (at, rest) = word_and_rest(row);
+    let (length, want) = word_and_rest(rest);
+    let (Some(at), Ok(length)) = (number_of(at), length.parse::<u32>()) else {
+        return false;
+    };
+    let (Some(want), Ok(event)) = (wanted(length, want), event(alloc, b"a")) else {
+        return false;
+    };
     let p = Pointer {
         file: 1,
-        at: row.at,
-        length: row.length,
+        at,
+        length,
     };
-    let (mut one, mut two) = (MemDisk::new(alloc), MemDisk::new(alloc));
-    let want = wanted(row);
-    waiting(alloc, &mut one, event, &p) == Some(want)
-        && settled(alloc, &mut two, event, &p) == Some((want, want))
+    event.size() == 9 && is_read(alloc, &event, &p, want)
+}
+
+// Rows of pointers.
+#[derive(Drop)]
+struct Pointers {
+    alloc: Global,
+    has_tried: bool,
+}
+
+impl Scene for Pointers {
+    fn begin(alloc: Global) -> Pointers {
+        Pointers {
+            alloc,
+            has_tried: false,
+        }
+    }
+
+    fn holds(&mut self, word: &str, rest: &str) -> bool {
+        self.has_tried = true;
+        word == "read" && is_read_so(self.alloc, rest)
+    }
+
+    fn has_tried(&self) -> bool {
+        self.has_tried
+    }
 }
 
 #[test]
 fn an_event_is_read_at_its_pointer(rt: HostRuntime) -> Result<(), Fail> {
-    let alloc = rt.alloc();
-    let event = event(alloc, b"a")?;
-    assert!(rt; event.size() == 9);
-    for row in ROWS {
-        assert!(rt; is_read(alloc, &event, row), "{} at {}", row.length, row.at);
-    }
-    Ok(())
+    pass::<Pointers>(rt.alloc(), ROWS)
 }

@@ -1,6 +1,4 @@
-use Rattle.std.proofs.Common.{◌≡◌, None}
-use Rattle.host_memory.specs.Words.{told_in}
 use Rattle.channel_tests.proofs.reading.read_whole.Given as goal
 
-abbrev pub invariant-loop-given : goal.invariant-loop-given
-invariant-loop-given g l = told_in l.disk ≡ None
+abbrev pub ghosts-read_by : goal.ghosts-read_by
+ghosts-read_by a = record { name = a.blank.name; parts = a.blank.parts }

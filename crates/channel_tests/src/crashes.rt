@@ -1,0 +1,425 @@
+// What a crash leaves of a channel that goes on in further log files in the middle of open transactions: at each moment, and in
+// each image of it. A run is a scenario whose lines `left` tell what is settled by then: the bodies that are left, in order. Between
+// two of them a crash leaves the one list or the other.
+use crate::scene::{Channels, fault, has, is_closed, is_opened};
+use channel_replay::{WholeFile, recover};
+use flume_host::FileName;
+use host_memory::{MemDisk, Stood};
+use scenarios::{Scene, pass, word_and_rest};
+use std::alloc::{AllocError, Global};
+use std::test::Fail;
+
+const PUTS: &str = r#"Puts are open while the log goes on in two further files.
+limits 10 10 66
+on-disk
+left
+begin-put > token 1
+put 1 a > done
+commit-put 1 > first 0
+left a
+begin-put > token 2
+put 2 b > done
+begin-put > token 3
+put 3 c > done
+commit-put 2 > first 1
+left ab
+put 3 d > done
+commit-put 3 > first 2
+left abcd
+begin-take > token 4
+take 4 > event a
+take 4 > event b
+take 4 > event c
+take 4 > event d
+rollback-take 4 > ended
+left abcd
+close
+holds 3 0 FLUMELOG
+long 4 none"#;
+
+const TAKES: &str =
+    r#"One take is open while the log goes on in two further files and ends in a third, and one is staged as it goes on.
+limits 10 10 66
+on-disk
+left
+begin-put > token 1
+put 1 a > done
+put 1 b > done
+put 1 c > done
+commit-put 1 > first 0
+left abc
+begin-take > token 2
+take 2 > event a
+begin-take > token 3
+take 3 > event b
+stage-take 3 > first 0
+asked > not-settled
+begin-put > token 4
+put 4 d > done
+commit-put 4 > first 3
+left acd
+size > count 3
+begin-put > token 5
+put 5 e > done
+commit-put 5 > first 4
+left acde
+take 2 > event c
+commit-take 2 > first 0
+left de
+begin-take > token 6
+take 6 > event d
+take 6 > event e
+take 6 > no-event
+rollback-take 6 > ended
+begin-put > token 7
+put 7 f > done
+commit-put 7 > first 5
+left def
+close
+holds 5 0 FLUMELOG
+long 6 none"#;
+
+// A file has room for two frames of a put.
+const TWO_FRAMES: &str =
+    r#"Some files have two frames. A flush of two stages begins the second one, with a take that is still open.
+limits 10 10 115
+on-disk
+left
+begin-put > token 1
+put 1 a > done
+commit-put 1 > first 0
+left a
+begin-put > token 2
+begin-take > token 3
+take 3 > event a
+put 2 b > done
+stage-put 2 > first 1
+begin-put > token 4
+put 4 c > done
+stage-put 4 > first 2
+flush > done
+left abc
+asked > settled
+begin-put > token 5
+put 5 d > done
+commit-put 5 > first 3
+left abcd
+commit-take 3 > first 0
+left bcd
+begin-put > token 6
+put 6 e > done
+commit-put 6 > first 4
+left bcde
+begin-put > token 7
+put 7 f > done
+commit-put 7 > first 5
+left bcdef
+close
+holds 4 0 FLUMELOG
+long 5 none"#;
+
+const GIVEN_UP: &str = r#"A put and a take that began in earlier files are given up.
+limits 10 10 66
+on-disk
+left
+begin-put > token 1
+put 1 a > done
+begin-put > token 2
+put 2 b > done
+commit-put 2 > first 0
+left b
+begin-take > token 3
+take 3 > event b
+begin-put > token 4
+put 4 c > done
+commit-put 4 > first 1
+left bc
+rollback-put 1 > ended
+rollback-take 3 > ended
+begin-put > token 5
+put 5 d > done
+commit-put 5 > first 2
+left bcd
+begin-take > token 6
+take 6 > event b
+take 6 > event c
+commit-take 6 > first 0
+left d
+close
+holds 4 0 FLUMELOG
+long 5 none"#;
+
+// What may stand of a call that nothing made stable. A file is begun with three recorded calls, and each of its frames takes
+// four, so that of two choices that take turns each is of the writes of every other file, where each has one frame.
+const STOOD: [Stood; 4] = [Stood::Old, Stood::New, Stood::Garbage(1), Stood::Front(20)];
+
+// Two lists of bodies, one of which is found.
+#[derive(Clone, Copy)]
+struct Either<'a> {
+    before: &'a str,
+    after: &'a str,
+}
+
+/// The log files of a folder.
+pub fn logs_of(alloc: Global, disk: &MemDisk) -> Result<Vec<WholeFile>, AllocError> {
+    let mut files = Vec::new(alloc);
+    for number in 1..10 {
+        if let Some(bytes) = disk.file(FileName::Log(number)) {
+            let bytes = bytes.to_vec(alloc)?;
+            files.push(WholeFile { number, bytes })?;
+        }
+    }
+    Ok(files)
+}
+
+// The bodies that some files leave, in order.
+fn recovered(alloc: Global, files: &[WholeFile]) -> Option<Vec<u8>> {
+    let left = recover(alloc, files).ok()?;
+    let mut found = Vec::new(alloc);
+    for item in left.items.iter() {
+        found.extend_from_slice(item.1.body()).ok()?;
+    }
+    Some(found)
+}
+
+// Whether some files leave one of two lists.
+fn leave_either(alloc: Global, files: &[WholeFile], either: Either<'_>) -> bool {
+    match recovered(alloc, files) {
+        Some(found) => {
+            found.as_slice() == either.before.as_bytes()
+                || found.as_slice() == either.after.as_bytes()
+        }
+        None => false,
+    }
+}
+
+// Whether an image leaves one of two lists.
+fn is_left(
+    alloc: Global,
+    disk: &MemDisk,
+    moment: u64,
+    stood: [Stood; 2],
+    either: Either<'_>,
+) -> bool {
+    let Ok(image) = disk.stopped_at(moment, &stood) else {
+        return false;
+    };
+    match logs_of(alloc, &image) {
+        Ok(files) => leave_either(alloc, &files, either),
+        Err(_) => false,
+    }
+}
+
+// Opens an image, and tells whether the channel gives this list.
+fn opens_and_gives(scene: &mut Channels, disk: &MemDisk, moment: u64, bodies: &str) -> bool {
+    scene.disk = disk
+        .stopped_at(moment, &[Stood::New, Stood::Garbage(1)])
+        .ok();
+    scene.disk.is_some() && is_opened(scene) && has(scene, bodies)
+}
+
+// Whether a channel that opens an image gives this list.
+fn is_given(alloc: Global, disk: &MemDisk, moment: u64, bodies: &str) -> bool {
+    opens_and_gives(&mut Channels::begin(alloc), disk, moment, bodies)
+}
+
+// Whether each image of a moment leaves one of two lists.
+fn is_always_left(alloc: Global, disk: &MemDisk, moment: u64, either: Either<'_>) -> bool {
+    for one in &STOOD {
+        for other in &STOOD {
+            if !is_left(alloc, disk, moment, [*one, *other], either) {
+                return false;
+            }
+        }
+    }
+    is_given(alloc, disk, moment, either.before) || is_given(alloc, disk, moment, either.after)
+}
+
+// The lines of a run after its name.
+fn lines_of(run: &str) -> &str {
+    match run.split_once('\n') {
+        Some((_, lines)) => lines,
+        None => "",
+    }
+}
+
+// Makes so many lines of a run, up to the first that does not hold, and tells how many did.
+fn made(scene: &mut Channels, run: &str, most: usize) -> usize {
+    let mut count: usize = 0;
+    for line in lines_of(run).lines() {
+        let (word, rest) = word_and_rest(line);
+        if count >= most || !scene.holds(word, rest) {
+            return count;
+        }
+        count = count.saturating_add(1);
+    }
+    count
+}
+
+// Makes so many lines of a run, and hands the disk out.
+fn disk_of(scene: &mut Channels, run: &str, count: usize) -> Option<MemDisk> {
+    if made(scene, run, count) == count && is_closed(scene) {
+        scene.disk.take()
+    } else {
+        None
+    }
+}
+
+// A disk on which so many lines of a run were made.
+fn disk_after(alloc: Global, run: &str, count: usize) -> Option<MemDisk> {
+    disk_of(&mut Channels::begin(alloc), run, count)
+}
+
+// The first of some moments of which an image leaves what it must not, if there is one. At the last one, which stands between two
+// calls, a channel gives just what is settled.
+fn wrong_between(alloc: Global, disk: &MemDisk, from: u64, either: Either<'_>) -> Option<u64> {
+    let to = disk.moments();
+    for moment in from..to {
+        if !is_always_left(alloc, disk, moment, either) {
+            return Some(moment);
+        }
+    }
+    if is_given(alloc, disk, to, either.after) {
+        None
+    } else {
+        Some(to)
+    }
+}
+
+// What is left once so many lines were made, and what the next one may have settled.
+fn due(run: &str, made: usize) -> Either<'_> {
+    let mut before = "";
+    for (count, line) in lines_of(run).lines().enumerate() {
+        let (word, after) = word_and_rest(line);
+        if word == "left" {
+            if made < count {
+                return Either { before, after };
+            }
+            before = after;
+        }
+    }
+    Either {
+        before,
+        after: before,
+    }
+}
+
+// The number of the first line of a run before which an image leaves what it must not, if there is one.
+fn wrong_line(alloc: Global, run: &str) -> Option<usize> {
+    let mut from = 0;
+    for (count, line) in lines_of(run).lines().enumerate() {
+        if word_and_rest(line).0 == "left" {
+            let Some(disk) = disk_after(alloc, run, count) else {
+                return Some(count);
+            };
+            let either = due(run, count.saturating_sub(1));
+            if wrong_between(alloc, &disk, from, either).is_some() {
+                return Some(count);
+            }
+            from = disk.moments();
+        }
+    }
+    None
+}
+
+// Passes where each line of a run holds and each image of each moment leaves what it must, and names what does not.
+fn survive(alloc: Global, run: &str) -> Result<(), Fail> {
+    match wrong_line(alloc, run) {
+        Some(line) => Err(Fail::new(format_args!("before line {line}"))),
+        None => pass::<Channels>(alloc, run),
+    }
+}
+
+#[test]
+fn a_crash_leaves_puts_across_files(rt: HostRuntime) -> Result<(), Fail> {
+    survive(rt.alloc(), PUTS)
+}
+
+#[test]
+fn a_crash_leaves_takes_across_files(rt: HostRuntime) -> Result<(), Fail> {
+    survive(rt.alloc(), TAKES)
+}
+
+#[test]
+fn a_crash_leaves_what_is_settled_in_files_of_two_frames(rt: HostRuntime) -> Result<(), Fail> {
+    survive(rt.alloc(), TWO_FRAMES)
+}
+
+#[test]
+fn a_crash_leaves_what_was_given_up_across_files(rt: HostRuntime) -> Result<(), Fail> {
+    survive(rt.alloc(), GIVEN_UP)
+}
+
+// Whether each image of a disk's end, of which what may stand is one for all calls, leaves one of two lists.
+fn is_left_at_end(alloc: Global, disk: &MemDisk, either: Either<'_>) -> bool {
+    for stood in &STOOD {
+        if !is_left(alloc, disk, disk.moments(), [*stood, *stood], either) {
+            return false;
+        }
+    }
+    true
+}
+
+// Whether the failure of this call of the disk is told, and a crash then leaves all that was settled before. Where it is not told,
+// each line holds up to the one that closes the channel, so that no channel is open.
+fn fails_safely(scene: &mut Channels, run: &str, call: u64) -> bool {
+    let is_set = scene.faults.push(fault(call)).is_ok();
+    let count = made(scene, run, usize::MAX);
+    is_set
+        && is_closed(scene)
+        && match &scene.disk {
+            Some(disk) => is_left_at_end(scene.alloc, disk, due(run, count)),
+            None => false,
+        }
+}
+
+fn is_safe_failing(alloc: Global, run: &str, call: u64) -> bool {
+    fails_safely(&mut Channels::begin(alloc), run, call)
+}
+
+// How many calls of the disk there are once so many lines were made.
+fn calls_after(alloc: Global, run: &str, count: usize) -> Option<u64> {
+    match disk_after(alloc, run, count) {
+        Some(disk) => Some(disk.calls()),
+        None => None,
+    }
+}
+
+// How many lines of a run come before its end.
+fn count_of(run: &str) -> usize {
+    let mut count: usize = 0;
+    for line in lines_of(run).lines() {
+        if line == "close" {
+            return count;
+        }
+        count = count.saturating_add(1);
+    }
+    count
+}
+
+// The first call of the disk, after the opening's, whose failure is not told or loses something, if there is one.
+fn wrong_call(alloc: Global, run: &str) -> Option<u64> {
+    // the opening is the second line
+    let (Some(opened), Some(calls)) = (
+        calls_after(alloc, run, 2),
+        calls_after(alloc, run, count_of(run)),
+    ) else {
+        return Some(0);
+    };
+    for call in opened..calls {
+        if !is_safe_failing(alloc, run, call) {
+            return Some(call);
+        }
+    }
+    None
+}
+
+#[test]
+fn a_failing_call_loses_nothing_across_files(rt: HostRuntime) -> Result<(), Fail> {
+    for run in &[TAKES, TWO_FRAMES] {
+        if let Some(call) = wrong_call(rt.alloc(), run) {
+            return Err(Fail::new(format_args!("call {call}")));
+        }
+    }
+    Ok(())
+}

@@ -1,0 +1,281 @@
+// Log files, on which the lines of a scenario work, and what they leave. `left 2 3 0:a 1:b` says that 2 and 3 are the numbers of the
+// next event and transaction, and which events are left by their numbers; `bad 1 16` names the file and the offset of the first fault.
+use crate::reading::{Read, read_whole, replayed};
+use crate::spelled::{long_file, spelled};
+use crate::torn::{flushed, stood_of};
+use channel_replay::{RecoverRefused, ReplayRefused, Replayed, WholeFile, recover};
+use event_core::Event;
+use flume_host::FileName;
+use host_memory::MemDisk;
+use scenarios::{Scene, is_text, number_of, three_numbers, two_numbers, word_and_rest};
+use std::alloc::Global;
+
+/// Some log files.
+#[derive(Drop)]
+pub struct Logs {
+    alloc: Global,
+    files: Vec<WholeFile>,
+    // a disk on which a frame was flushed
+    disk: Option<MemDisk>,
+    // the least length or offset of the first file that was not tried yet
+    next: usize,
+    has_tried: bool,
+}
+
+// What is left, or the file and the offset of the first fault.
+type Found = Result<Replayed, (u32, u64)>;
+
+const OTHER: (u32, u64) = (u32::MAX, u64::MAX);
+
+fn of_recover(found: Result<Replayed, RecoverRefused>) -> Found {
+    match found {
+        Ok(left) => Ok(left),
+        Err(RecoverRefused::BadLog { file, at }) => Err((file, at)),
+        Err(_) => Err(OTHER),
+    }
+}
+
+fn of_replay(found: Result<Replayed, ReplayRefused>) -> Found {
+    match found {
+        Ok(left) => Ok(left),
+        Err(ReplayRefused::BadLog { file, at }) => Err((file, at)),
+        Err(_) => Err(OTHER),
+    }
+}
+
+// Whether an event has this number and body, as `0:a`.
+fn is_item(alloc: Global, item: &(u64, Event), want: &str) -> bool {
+    match want.split_once(':') {
+        Some((number, body)) => {
+            number_of(number) == Some(item.0) && is_text(alloc, item.1.body(), body)
+        }
+        None => false,
+    }
+}
+
+fn are_items(alloc: Global, items: &[(u64, Event)], want: &str) -> bool {
+    let mut rest = want;
+    for item in items {
+        let (first, others) = word_and_rest(rest);
+        if !is_item(alloc, item, first) {
+            return false;
+        }
+        rest = others;
+    }
+    rest.is_empty()
+}
+
+fn is_left(alloc: Global, left: &Replayed, want: &str) -> bool {
+    let (number, rest) = word_and_rest(want);
+    let (txn, items) = word_and_rest(rest);
+    number_of(number) == Some(left.next.number)
+        && number_of(txn) == Some(left.next.txn)
+        && are_items(alloc, &left.items, items)
+}
+
+fn is_found(alloc: Global, found: &Found, want: &str) -> bool {
+    match (found, word_and_rest(want)) {
+        (Ok(left), ("left", rest)) => is_left(alloc, left, rest),
+        (Err((file, at)), ("bad", rest)) => { two_numbers(rest) == Some((u64::from(*file), *at)) }
+        _ => false,
+    }
+}
+
+// Whether the plain program and the one that replays a folder find this in some files.
+fn leave(alloc: Global, files: &[WholeFile], want: &str) -> bool {
+    is_found(alloc, &of_recover(recover(alloc, files)), want)
+        && match replayed(alloc, files, 100) {
+            Some(found) => is_found(alloc, &of_replay(found), want),
+            None => false,
+        }
+}
+
+// Whether a log file 1 of these bytes leaves this.
+fn leaves(alloc: Global, bytes: Vec<u8>, want: &str) -> bool {
+    let mut files = Vec::new(alloc);
+    files.push(WholeFile { number: 1, bytes }).is_ok() && leave(alloc, &files, want)
+}
+
+// Adds a log file of some pieces, as `1 header 1 1 1, gate 0`.
+fn add_log(scene: &mut Logs, file: &str) -> bool {
+    let (number, pieces) = word_and_rest(file);
+    let Ok(number) = number.parse::<u32>() else {
+        return false;
+    };
+    match spelled(scene.alloc, pieces) {
+        Some(bytes) => scene.files.push(WholeFile { number, bytes }).is_ok(),
+        None => false,
+    }
+}
+
+// Whether the first file has so many bytes.
+fn is_whole(scene: &Logs, length: &str) -> bool {
+    match scene.files.first() {
+        Some(file) => number_of(length) == Some(file.bytes.len() as u64),
+        None => false,
+    }
+}
+
+// The first bytes of the first file, or all of them with the byte ff in a place.
+fn edited(scene: &Logs, place: usize, changes: bool) -> Option<Vec<u8>> {
+    let bytes = &scene.files.first()?.bytes;
+    if !changes {
+        return bytes.get(..place)?.to_vec(scene.alloc).ok();
+    }
+    let mut edited = bytes.to_vec(scene.alloc).ok()?;
+    *edited.as_mut_slice().get_mut(place)? = 255;
+    Some(edited)
+}
+
+fn is_edited_well(scene: &Logs, place: usize, changes: bool, want: &str) -> bool {
+    match edited(scene, place, changes) {
+        Some(bytes) => leaves(scene.alloc, bytes, want),
+        None => false,
+    }
+}
+
+// Whether the first file leaves this at each length, or with a change at each offset, from those that were tried up to this one.
+fn are_edited_well(scene: &mut Logs, row: &str, changes: bool) -> bool {
+    let (last, want) = word_and_rest(row);
+    let Ok(last) = last.parse::<usize>() else {
+        return false;
+    };
+    for place in scene.next..last.saturating_add(1) {
+        if !is_edited_well(scene, place, changes, want) {
+            return false;
+        }
+    }
+    scene.next = last.saturating_add(1);
+    true
+}
+
+// Flushes a frame, with so many recorded calls.
+fn flush(scene: &mut Logs, calls: &str) -> bool {
+    match flushed(scene.alloc) {
+        Some(disk) => {
+            let are_so_many = number_of(calls) == Some(disk.moments());
+            scene.disk = Some(disk);
+            are_so_many
+        }
+        None => false,
+    }
+}
+
+// Log file 1 as a crash leaves it, as `4 front:20`.
+fn image_of(scene: &Logs, moment: &str, stood: &str) -> Option<Vec<u8>> {
+    let moment = number_of(moment)?;
+    let stood = stood_of(stood)?;
+    let Some(disk) = &scene.disk else {
+        return None;
+    };
+    let image = disk.stopped_at(moment, &[stood]).ok()?;
+    image.file(FileName::Log(1))?.to_vec(scene.alloc).ok()
+}
+
+// Whether a crash leaves this, as `4 old left 0 1`.
+fn is_left_by_crash(scene: &Logs, row: &str) -> bool {
+    let (moment, rest) = word_and_rest(row);
+    let (stood, want) = word_and_rest(rest);
+    match image_of(scene, moment, stood) {
+        Some(bytes) => leaves(scene.alloc, bytes, want),
+        None => false,
+    }
+}
+
+// Whether these are the records, each as its kind, transaction and offset.
+fn are_records(records: &[(u64, u64, u64)], want: &str) -> bool {
+    let mut rest = want;
+    for record in records {
+        let (kind, others) = word_and_rest(rest);
+        let (txn, others) = word_and_rest(others);
+        let (at, others) = word_and_rest(others);
+        if number_of(kind) != Some(record.0)
+            || number_of(txn) != Some(record.1)
+            || number_of(at) != Some(record.2)
+        {
+            return false;
+        }
+        rest = others;
+    }
+    rest.is_empty()
+}
+
+// Whether a reader of the first file gives these records, and the file drops what is open.
+fn is_read(scene: &Logs, want: &str) -> bool {
+    match read_whole(scene.alloc, &scene.files) {
+        Some(read) => read.drops && are_records(&read.records, want),
+        None => false,
+    }
+}
+
+// What a reader gives of a log file of so many frames of so many PUTs.
+fn read_frames(alloc: Global, frames: u64, puts: u64) -> Option<Read> {
+    let bytes = long_file(alloc, frames, puts.min(10_000) as u32)?;
+    let mut files = Vec::new(alloc);
+    files.push(WholeFile { number: 1, bytes }).ok()?;
+    read_whole(alloc, &files)
+}
+
+// Whether each record of so many frames of so many PUTs is read with so many calls, as `100 1 3`.
+fn is_read_with(scene: &Logs, row: &str) -> bool {
+    let Some((frames, puts, calls)) = three_numbers(row) else {
+        return false;
+    };
+    match read_frames(scene.alloc, frames, puts) {
+        Some(read) => {
+            let records = frames.saturating_mul(puts.saturating_add(1));
+            read.calls == calls && read.records.len() as u64 == records
+        }
+        None => false,
+    }
+}
+
+// Whether replaying with a capacity answers so, as `1 over 2` or `2 within`.
+fn is_judged(scene: &Logs, row: &str) -> bool {
+    let (capacity, want) = word_and_rest(row);
+    let Ok(capacity) = capacity.parse::<u32>() else {
+        return false;
+    };
+    match replayed(scene.alloc, &scene.files, capacity) {
+        Some(Ok(_)) => want == "within",
+        Some(Err(ReplayRefused::OverCapacity { count })) => {
+            want.strip_prefix("over ").and_then(number_of) == Some(count)
+        }
+        _ => false,
+    }
+}
+
+impl Scene for Logs {
+    fn begin(alloc: Global) -> Logs {
+        Logs {
+            alloc,
+            files: Vec::new(alloc),
+            disk: None,
+            next: 0,
+            has_tried: false,
+        }
+    }
+
+    fn holds(&mut self, word: &str, rest: &str) -> bool {
+        if word == "log" {
+            return add_log(self, rest);
+        }
+        self.has_tried = true;
+        match word {
+            "leaves" => leave(self.alloc, &self.files, rest),
+            "whole" => is_whole(self, rest),
+            "cut-to" => are_edited_well(self, rest, false),
+            "changed-to" => are_edited_well(self, rest, true),
+            "flushed" => flush(self, rest),
+            "crash" => is_left_by_crash(self, rest),
+            "records" => is_read(self, rest),
+            "calls" => is_read_with(self, rest),
+            "capacity" => is_judged(self, rest),
+            _ => false,
+        }
+    }
+
+    fn has_tried(&self) -> bool {
+        self.has_tried
+    }
+}

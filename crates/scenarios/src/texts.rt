@@ -1,0 +1,97 @@
+// Parts of a line: its word, numbers, and bytes, of which some are written as escapes.
+use std::alloc::Global;
+
+/// The first word of a text, and what comes after it.
+pub fn word_and_rest(text: &str) -> (&str, &str) {
+    text.split_once(' ').unwrap_or((text, ""))
+}
+
+/// A number.
+pub fn number_of(text: &str) -> Option<u64> {
+    text.parse::<u64>().ok()
+}
+
+/// Two numbers.
+pub fn two_numbers(text: &str) -> Option<(u64, u64)> {
+    let (first, second) = word_and_rest(text);
+    Some((number_of(first)?, number_of(second)?))
+}
+
+/// Three numbers.
+pub fn three_numbers(text: &str) -> Option<(u64, u64, u64)> {
+    let (first, rest) = word_and_rest(text);
+    let (second, third) = two_numbers(rest)?;
+    Some((number_of(first)?, second, third))
+}
+
+// What the bytes of a text say so far.
+#[derive(Clone, Copy)]
+enum Ahead {
+    // A letter, or a backslash.
+    Letter,
+    // A letter that stands for a byte.
+    Escape,
+    // Two digits of a byte, or the last one.
+    High,
+    Low(u8),
+}
+
+fn digit_of(letter: u8) -> Option<u8> {
+    match letter {
+        b'0'..=b'9' => Some(letter - b'0'),
+        b'a'..=b'f' => Some(letter - b'a' + 10),
+        _ => None,
+    }
+}
+
+// The byte that a letter after a backslash stands for; any other one stands for itself.
+fn escaped(letter: u8) -> u8 {
+    match letter {
+        b'n' => b'\n',
+        b'r' => b'\r',
+        b's' => b' ',
+        b'0' => 0,
+        _ => letter,
+    }
+}
+
+// Adds a byte, after which a letter comes.
+fn add(bytes: &mut Vec<u8>, byte: u8) -> Option<Ahead> {
+    match bytes.push(byte) {
+        Ok(()) => Some(Ahead::Letter),
+        Err(_) => None,
+    }
+}
+
+// Takes a letter, and tells what comes next.
+fn after(bytes: &mut Vec<u8>, ahead: Ahead, letter: u8) -> Option<Ahead> {
+    match (ahead, letter) {
+        (Ahead::Letter, b'\\') => Some(Ahead::Escape),
+        (Ahead::Letter, _) => add(bytes, letter),
+        (Ahead::Escape, b'x') => Some(Ahead::High),
+        (Ahead::Escape, _) => add(bytes, escaped(letter)),
+        (Ahead::High, _) => Some(Ahead::Low(digit_of(letter)?)),
+        (Ahead::Low(high), _) => {
+            let low = digit_of(letter)?;
+            add(bytes, high.wrapping_mul(16).wrapping_add(low))
+        }
+    }
+}
+
+/// Adds the bytes of a text, in which `\n`, `\r`, `\s`, `\0`, `\\` and `\x1f` stand for one.
+pub fn add_text(bytes: &mut Vec<u8>, text: &str) -> bool {
+    let mut ahead = Ahead::Letter;
+    for letter in text.bytes() {
+        match after(bytes, ahead, letter) {
+            Some(next) => ahead = next,
+            None => return false,
+        }
+    }
+    matches!(ahead, Ahead::Letter)
+}
+
+/// Whether these bytes are a text.
+pub fn is_text(alloc: Global, bytes: &[u8], text: &str) -> bool {
+    let mut want = Vec::new(alloc);
+    add_text(&mut want, text) && want.as_slice() == bytes
+}
