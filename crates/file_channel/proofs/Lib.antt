@@ -1,5 +1,6 @@
 pub mod Placing
 pub mod Owning
+pub mod Bare
 pub mod Stepping
 pub mod Adding
 pub mod Calls

@@ -3,6 +3,7 @@
 
 mod channel;
 mod laws;
+mod laying;
 mod logged;
 mod mending;
 mod opening;
