@@ -29,7 +29,7 @@ pub enum ClaimRefused {
 }
 
 // The object that a sink of this kind asks for, if it asks for one that is left.
-fn claim<B: Drop>(kind: &SinkKind, handed: &mut HandedIn<B>) -> Option<B>
+fn claim<K: Drop, B: Drop>(kind: &SinkKind, handed: &mut HandedIn<K, B>) -> Option<B>
     ensures { IsTaken (asked kind.now) handed.old.sinks.items result handed.new.sinks.items }
 {
     match kind {
@@ -64,9 +64,9 @@ fn next_line<B: Drop>(first: Option<u32>, plan: &SinkPlan, object: &Option<B>) -
 
 // Claims the object of each sink, in order, and puts them into the list, the last first. It answers the nearest of a line and those of
 // the sinks that found none. The list has room for the objects.
-fn claim_each<B: Drop>(
+fn claim_each<K: Drop, B: Drop>(
     plans: &[SinkPlan],
-    handed: &mut HandedIn<B>,
+    handed: &mut HandedIn<K, B>,
     first: Option<u32>,
     objects: &mut Vec<Option<B>>,
 ) -> Option<u32>
@@ -89,10 +89,10 @@ fn claim_each<B: Drop>(
 
 /// Claims the objects that a plan asks for: each of its sinks in turn takes the first that is left of its name. An interceptor finds
 /// none. `Missing` comes exactly where something finds none.
-pub fn claim_objects<B: Drop>(
+pub fn claim_objects<K: Drop, B: Drop>(
     alloc: Global,
     plan: &Plan,
-    handed: &mut HandedIn<B>,
+    handed: &mut HandedIn<K, B>,
 ) -> Result<Objects<B>, ClaimRefused>
     ensures taken { IfOk result (λ objects. AreTaken plan.now.sinks.items handed.old.sinks.items
         (reverse objects.sinks.items) handed.new.sinks.items) }

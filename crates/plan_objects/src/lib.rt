@@ -1,4 +1,4 @@
-//! Sinks that are handed in, and those that a plan asks for.
+//! What is handed in to an agent, and what a plan asks for of it.
 #![tactic(auto)]
 
 mod claim;
@@ -7,4 +7,4 @@ mod lines;
 mod named;
 
 pub use claim::{ClaimRefused, Objects, claim_objects};
-pub use handed::HandedIn;
+pub use handed::{HandedIn, Plugins};
