@@ -1,5 +1,6 @@
 // The runs of a scenario.
 use crate::bytes::add_text;
+use crate::objects::objects_of;
 use crate::own_host::OwnHost;
 use crate::scene::{Given, Scene};
 use agent_run::{Outcome, run_agent};
@@ -7,7 +8,7 @@ use host_memory::{
     MemClock, MemDialer, MemDisk, MemHost, MemListener, MemRandom, MemRoll, MemSink, MemSource,
     Named, Offer, Placed, Stood,
 };
-use plug_in::Plugins;
+use plan_objects::Plugins;
 use std::alloc::Global;
 use std::mem;
 use std::sync::Wait;
@@ -173,8 +174,9 @@ fn outcome_of<R: Threads + Wait + Sync>(
     alloc: Global,
     words: &[String],
     host: &mut OwnHost,
+    plugins: Plugins,
 ) -> Outcome {
-    run_agent(rt, alloc, words, host, Plugins::new(alloc))
+    run_agent(rt, alloc, words, host, plugins)
 }
 
 // The run, on the host that is there.
@@ -182,7 +184,10 @@ fn is_run<R: Threads + Wait + Sync>(rt: &R, scene: &mut Scene, words: &[String])
     let Some(host) = &mut scene.host else {
         return false;
     };
-    let Outcome { status, channels } = outcome_of(rt, scene.alloc, words, host);
+    let Some(plugins) = objects_of(scene.alloc, &scene.notes) else {
+        return false;
+    };
+    let Outcome { status, channels } = outcome_of(rt, scene.alloc, words, host, plugins);
     scene.has_run = true;
     scene.status = status;
     scene.channels = channels;

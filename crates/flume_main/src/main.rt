@@ -4,7 +4,7 @@
 use agent_run::run_agent;
 use flume_host::Host;
 use host_real::RealHost;
-use plug_in::Plugins;
+use shipped_objects::shipped;
 use std::env;
 use std::fs::File;
 use std::io::ErrorKind;
@@ -29,11 +29,11 @@ fn main(rt: HostRuntime) -> ExitCode {
     // such numbers, so that no file of a folder is read or written as a stream.
     let streams = [nothing(&rt), nothing(&rt), nothing(&rt)];
     let mut host = RealHost::new(rt);
-    let Some(words) = words(rt) else {
+    let (Some(words), Ok(plugins)) = (words(rt), shipped(rt.alloc())) else {
         host.say("flume: no memory");
         return ExitCode::from(5);
     };
-    let outcome = run_agent(&rt, rt.alloc(), &words, &mut host, Plugins::new(rt.alloc()));
+    let outcome = run_agent(&rt, rt.alloc(), &words, &mut host, plugins);
     drop(streams);
     ExitCode::from(outcome.status)
 }

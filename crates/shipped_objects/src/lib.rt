@@ -2,7 +2,9 @@
 #![tactic(auto)]
 
 mod sample;
+mod shipped;
 mod tally;
 
 pub use sample::Sample;
+pub use shipped::shipped;
 pub use tally::Tally;
