@@ -121,6 +121,7 @@ impl Held {
         ensures opened { result.now ≡ self.now.opened }
         ensures few { (txn : ℕ) → IsFewOpen (open_at self.now.opened txn) }
     {
+        // Read for its bound, which the proof wants: that it fits 32 bits.
         let _most = self.limits.txn_capacity;
         &self.table
     }
@@ -391,6 +392,7 @@ impl Held {
             → result ≡ face.size_of_list (puts_of s txn.now) }
         ensures small { result < 2 ^ 32 }
     {
+        // Read for its bound, which the proof wants: that it fits 32 bits.
         let _most = self.limits.txn_capacity;
         match self.find_puts(txn) {
             Some(held) => held,
@@ -404,6 +406,7 @@ impl Held {
             → result ≡ face.size_of_list (takes_of s txn.now) }
         ensures small { result < 2 ^ 32 }
     {
+        // Read for its bound, which the proof wants: that it fits 32 bits.
         let _most = self.limits.txn_capacity;
         match self.find_takes(txn) {
             Some(held) => held,

@@ -26,7 +26,8 @@ fn least_of(puts: &[Pointer], most: u32) -> u32
     least
 }
 
-// The least of a number and the files of an open transaction's puts.
+// The least of a number and the files of an open transaction's puts. That the transaction's number fits 64 bits is said for the
+// proof of the walk.
 fn least_put(table: &OpenTable, txn: u64, most: u32) -> u32
     requires { IsSome (open_at table.now txn) }
     ensures below { result ≤ most }
@@ -37,7 +38,8 @@ fn least_put(table: &OpenTable, txn: u64, most: u32) -> u32
     least_of(table.puts(txn), most)
 }
 
-// The least of a number and the file of an event that is left.
+// The least of a number and the file of an event that is left. The event is handed on for the proof of the walk alone, which
+// learns that its number fits 64 bits.
 fn least_one(event: u64, pointer: Pointer, most: u32) -> u32
     ensures least { result ≡ min most pointer.file }
     ensures fits { event < 2 ^ 64 }

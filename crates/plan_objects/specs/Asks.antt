@@ -77,6 +77,11 @@ AreTaken [] old [] new = new ≡ old
 AreTaken {T} (s ∷ sinks) old (object ∷ objects) new = (between : List (Named T)) × IsTaken (asked s.kind) old object between × AreTaken sinks between objects new
 AreTaken sinks old objects new = ⊥
 
+-- What is left where the objects were not claimed: what the sinks did not take, or all of them where memory ran out.
+abbrev pub LeavesRest : {T : Type 0} → ClaimRefused → List SinkPlan → List (Named T) → List (Named T) → Type 0
+LeavesRest {T} (Missing line) sinks old new = (objects : List (Option T)) × AreTaken sinks old objects new
+LeavesRest NoMemory sinks old new = new ≡ old
+
 -- it has an object, if it asks for one
 abbrev pub HasObject : {T : Type 0} → SinkKind → Option T → Type 0
 HasObject Null object = Unit {0}

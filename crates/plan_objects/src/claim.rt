@@ -2,7 +2,7 @@
 ghost use Rattle.std.specs.Prelude.{◌≡◌, ◌≤◌, [], All, IfErr, IfOk, None, OnOk, fold, if◌then◌else◌, length, reverse};
 ghost use Rattle.std.specs.Vec.{vec_capacity};
 ghost use Rattle.plan_support.specs.Least.{HasOwnSteps, nearer};
-ghost use Rattle.plan_objects.specs.Asks.{AreTaken, HaveObjects, IsTaken, IsUnmet, asked, first_unmet, found, misses, names_of, unmet};
+ghost use Rattle.plan_objects.specs.Asks.{AreTaken, HaveObjects, IsTaken, IsUnmet, LeavesRest, asked, first_unmet, found, misses, names_of, unmet};
 
 use crate::handed::HandedIn;
 use crate::lines::{first_step, nearer};
@@ -30,7 +30,8 @@ pub enum ClaimRefused {
 
 // The object that a sink of this kind asks for, if it asks for one that is left.
 fn claim<K: Drop, B: Drop>(kind: &SinkKind, handed: &mut HandedIn<K, B>) -> Option<B>
-    ensures { IsTaken (asked kind.now) handed.old.sinks.items result handed.new.sinks.items }
+    ensures taken { IsTaken (asked kind.now) handed.old.sinks.items result handed.new.sinks.items }
+    ensures steps { handed.new.steps.items ≡ handed.old.steps.items }
 {
     match kind {
         SinkKind::Plugin { name } => handed.claim_sink(name.as_str()),
@@ -74,6 +75,7 @@ fn claim_each<K: Drop, B: Drop>(
     requires room { length plans.now ≤ vec_capacity objects.old }
     ensures taken { AreTaken plans.now handed.old.sinks.items (reverse objects.new.items) handed.new.sinks.items }
     ensures first { result ≡ fold nearer first (unmet (names_of handed.old.sinks.items) plans.now) }
+    ensures steps { handed.new.steps.items ≡ handed.old.steps.items }
     ensures many { length objects.new.items ≡ length plans.now }
     ensures room { vec_capacity objects.old ≤ vec_capacity objects.new }
 {
@@ -88,7 +90,7 @@ fn claim_each<K: Drop, B: Drop>(
 }
 
 /// Claims the objects that a plan asks for: each of its sinks in turn takes the first that is left of its name. An interceptor finds
-/// none. `Missing` comes exactly where something finds none.
+/// none. `Missing` comes exactly where something finds none; then the objects that sinks found are dropped. `NoMemory` leaves all.
 pub fn claim_objects<K: Drop, B: Drop>(
     alloc: Global,
     plan: &Plan,
@@ -100,6 +102,9 @@ pub fn claim_objects<K: Drop, B: Drop>(
     ensures own { OnOk result (All HasOwnSteps plan.now.sources.items) }
     ensures met { OnOk result (first_unmet (names_of handed.old.sinks.items) plan.now ≡ None) }
     ensures missing { IfErr result (λ refused. IsUnmet (names_of handed.old.sinks.items) plan.now refused) }
+    ensures left { IfErr result (λ refused. LeavesRest refused plan.now.sinks.items
+        handed.old.sinks.items handed.new.sinks.items) }
+    ensures steps { handed.new.steps.items ≡ handed.old.steps.items }
 {
     let Ok(mut objects) = Vec::with_capacity(alloc, plan.sinks.len()) else {
         return Err(ClaimRefused::NoMemory);

@@ -14,5 +14,5 @@ returns-clause-first g t c =
     let rest = c.claim-object.new.handed.sinks.items in
     c.claim_each-first.ensures.first
     ∙ ap (λ (o : Option ℕ). fold nearer o (unmet (names_of rest) others)) c.next_line-first.ensures
-    ∙ first_over c.args.first plan others held rest c.claim-object.result c.claim-object.ensures
+    ∙ first_over c.args.first plan others held rest c.claim-object.result c.claim-object.ensures.taken
     ∙ ap (λ (l : List SinkPlan). fold nearer c.args.first (unmet (names_of held) l)) (sym split)
