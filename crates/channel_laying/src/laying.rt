@@ -52,6 +52,7 @@ pub fn lay_checkpoint<D: Disk + Drop>(
     ensures busy { writing.new.busy ≡ writing.old.busy }
     ensures empty { buffer.new.items ≡ [] }
     ensures room { vec_capacity buffer.old ≤ vec_capacity buffer.new }
+    ensures later { D.faults writing.old.disk ≤ D.faults writing.new.disk }
     ensures fault { OnErr result (Rose (D.faults writing.old.disk) (D.faults writing.new.disk)) }
     ensures well { OnOk result (D.faults writing.new.disk ≡ D.faults writing.old.disk) }
 {

@@ -8,7 +8,7 @@ use Rattle.flume_host.specs.Causes.{Rose}
 use Rattle.flume_host.specs.Folder.{Files}
 use Rattle.flume_host.specs.Told.{EachMoment, LeavesOnly, Settle, Tells, Told, WhereTold, clock, done, moment_of, under_way}
 use Rattle.flume_host.proofs.Moments.{carried, clock_rises, only_now}
-use Rattle.flume_host.proofs.Telling.{back, some_same}
+use Rattle.flume_host.proofs.Telling.{back, some_same, tells_more}
 use Rattle.event_core.specs.Journal.{IsBase, after_journal}
 use Rattle.event_core.specs.declared.journal.Entry.{Entry}
 use Rattle.event_core.specs.declared.journal.Entry.TheVariants.{Puts, Takes}
@@ -289,8 +289,13 @@ still_broken s (Reopen (Err e)) may broken = none_staged s (Reopen (Err e)) refl
 
 -- what a call did to what the disk shows
 
+-- the channel was not broken, and a crash at any moment leaves what was settled, or that with what was staged
+pub record Spans (s : State) (t u : Told) : Type 0 where
+  pub whole : s.broken ≡ false
+  pub images : LeavesOnly t u (MayRecover s)
+
 abbrev pub Touched : Option Told → Option Told → State → Type 0
-Touched told told' s = (told' ≡ told) ⊎ Tells told told' (λ t u. Flushed s t u)
+Touched told told' s = (told' ≡ told) ⊎ Tells told told' (λ t u. Spans s t u)
 
 told_same : (told told' : Option Told) (s : State) → Touched told told' s → is_some_of told' ≡ is_some_of told
 told_same told told' s (inl same) = ap is_some_of same
@@ -306,9 +311,9 @@ moment_rises None (Some u) s (inr tells) = absurd tells
 moment_rises (Some t) None s (inr tells) = absurd tells
 moment_rises (Some t) (Some u) s (inr tells) = clock_rises t u (MayRecover s) tells.images
 
-told_before : (told told' : Option Told) (s : State) → Touched told told' s → (u : Told) → told' ≡ Some u → (t : Told) × (told ≡ Some t) × ((u ≡ t) ⊎ Flushed s t u)
+told_before : (told told' : Option Told) (s : State) → Touched told told' s → (u : Told) → told' ≡ Some u → (t : Told) × (told ≡ Some t) × ((u ≡ t) ⊎ Spans s t u)
 told_before told told' s (inl same) u is = (u, sym same ∙ is, inl refl)
-told_before told told' s (inr tells) u is = let old = back told told' (λ t v. Flushed s t v) tells u is in (old.0, old.1, inr old.2)
+told_before told told' s (inr tells) u is = let old = back told told' (λ t v. Spans s t v) tells u is in (old.0, old.1, inr old.2)
 
 run_of : (b : Bool) (c : Bool) (s : State) (h : List Step) → b ≡ c → IsRun c s h → IsRun b s h
 run_of b c s h is run = subst (λ (v : Bool). IsRun v s h) (sym is) run
@@ -439,13 +444,13 @@ adds_loosely told told' f f' old call new moves count waits up cause still touch
         rest : Rests (Some u) new.state
         rest = subst (λ (v : Option Told). Rests v new.state) is rests
 
-        from : (b : Told) × (told ≡ Some b) × ((u ≡ b) ⊎ Flushed old.state b u) → EachMoment start.from (λ m image. MayFind start (until m (h ++ step ∷ [])) image) u
+        from : (b : Told) × (told ≡ Some b) × ((u ≡ b) ⊎ Spans old.state b u) → EachMoment start.from (λ m image. MayFind start (until m (h ++ step ∷ [])) image) u
         from (b, old_is, inl same) =
             let whole : u ≡ t = same ∙ some_same b t (sym old_is ∙ was) in
             subst (λ (v : Told). EachMoment start.from (λ m image. MayFind start (until m (h ++ step ∷ [])) image) v) (sym whole)
             (images_untouched t start h step old.state new.state adds (at ∙ ap clock whole) (subst (λ (v : Told). Rests (Some v) new.state) whole rest))
         from (b, old_is, inr flushed) =
-            let here : Flushed old.state t u = subst (λ (v : Told). Flushed old.state v u) (some_same b t (sym old_is ∙ was)) flushed in
+            let here : Spans old.state t u = subst (λ (v : Told). Spans old.state v u) (some_same b t (sym old_is ∙ was)) flushed in
             images_run t u start h step old.state new.state adds here.images (λ image found. finds_either start h old.state image adds.base adds.run adds.state here.whole found) at rest
 
 -- a reopen
@@ -509,7 +514,7 @@ pub touched_by : (told told' : Option Told) (s : State) (call : Call) → (flush
 touched_by told told' s call quiet flushed = from (flushes call) refl
   where
     from : (b : Bool) → flushes call ≡ b → Touched told told' s
-    from true is = inr (flushed is)
+    from true is = inr (tells_more told told' (λ t u. Flushed s t u) (λ t u. Spans s t u) (λ t u old new did. record { whole = did.whole; images = did.images }) (flushed is))
     from false is = inl (quiet is)
 
 -- which of the replies are faults

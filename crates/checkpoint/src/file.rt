@@ -1,5 +1,5 @@
 // The file of a checkpoint.
-ghost use Rattle.std.specs.Prelude.{◌≡◌, ◌⊎◌, ◌<◌, ◌+◌, ◌^◌, [], ◌∷◌, ℕ, List, OnOk, OnErr, IsErr, IsSomeAnd};
+ghost use Rattle.std.specs.Prelude.{◌≡◌, ◌⊎◌, ◌<◌, ◌≤◌, ◌+◌, ◌^◌, [], ◌∷◌, ℕ, List, OnOk, OnErr, IsErr, IsSomeAnd};
 ghost use Rattle.flume_host.specs.Causes.{HasCause, Rose};
 ghost use Rattle.flume_host.specs.Told.{Changes, Tells, WhereTold};
 ghost use Rattle.flume_host.specs.declared.names.FileName.TheVariants.{Check};
@@ -69,6 +69,7 @@ pub fn open_gate<D: Disk>(disk: &mut D, number: u32) -> Result<(), LayRefused>
     ensures opened { OnOk result ((text : List ℕ)
         → WhereTold (D.told disk.old) (λ t. IsKept t number (0 ∷ text))
         → WhereTold (D.told disk.new) (λ t. IsKept t number (1 ∷ text))) }
+    ensures later { D.faults disk.old ≤ D.faults disk.new }
     ensures fault { OnErr result (Rose (D.faults disk.old) (D.faults disk.new)) }
     ensures well { OnOk result (D.faults disk.new ≡ D.faults disk.old) }
 {

@@ -359,6 +359,7 @@ pub fn lay<D: Disk>(
         → WhereTold (D.told disk.new) (λ t. IsKept t number (0 ∷ check_bytes c))) }
     ensures empty { buffer.new.items ≡ [] }
     ensures room { vec_capacity buffer.old ≤ vec_capacity buffer.new }
+    ensures later { D.faults disk.old ≤ D.faults disk.new }
     ensures fault { OnErr result (Rose (D.faults disk.old) (D.faults disk.new)) }
     ensures well { OnOk result (D.faults disk.new ≡ D.faults disk.old) }
 {
