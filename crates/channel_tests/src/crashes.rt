@@ -149,6 +149,38 @@ close
 holds 4 0 FLUMELOG
 long 5 none"#;
 
+const CHECKPOINTS: &str =
+    r#"Checkpoints are laid while a put and a take are open, and while something is staged.
+limits 10 10 66
+on-disk
+left
+begin-put > token 1
+put 1 a > done
+begin-put > token 2
+put 2 b > done
+commit-put 2 > first 0
+left b
+begin-take > token 3
+take 3 > event b
+checkpoint > done
+left b
+begin-put > token 4
+put 4 c > done
+stage-put 4 > first 1
+checkpoint > done
+left bc
+commit-put 1 > first 2
+left bca
+stage-take 3 > first 0
+checkpoint > done
+left ca
+begin-put > token 5
+put 5 d > done
+commit-put 5 > first 3
+left cad
+close
+long check-4 none"#;
+
 // What may stand of a call that nothing made stable. A file is begun with three recorded calls, and each of its frames takes
 // four, so that of two choices that take turns each is of the writes of every other file, where each has one frame.
 const STOOD: [Stood; 4] = [Stood::Old, Stood::New, Stood::Garbage(1), Stood::Front(20)];
@@ -350,6 +382,11 @@ fn a_crash_leaves_what_was_given_up_across_files(rt: HostRuntime) -> Result<(), 
     survive(rt.alloc(), GIVEN_UP)
 }
 
+#[test]
+fn a_crash_leaves_what_is_settled_among_checkpoints(rt: HostRuntime) -> Result<(), Fail> {
+    survive(rt.alloc(), CHECKPOINTS)
+}
+
 // Whether each image of a disk's end, of which what may stand is one for all calls, leaves one of two lists.
 fn is_left_at_end(alloc: Global, disk: &MemDisk, either: Either<'_>) -> bool {
     for stood in &STOOD {
@@ -416,7 +453,7 @@ fn wrong_call(alloc: Global, run: &str) -> Option<u64> {
 
 #[test]
 fn a_failing_call_loses_nothing_across_files(rt: HostRuntime) -> Result<(), Fail> {
-    for run in &[TAKES, TWO_FRAMES] {
+    for run in &[TAKES, TWO_FRAMES, CHECKPOINTS] {
         if let Some(call) = wrong_call(rt.alloc(), run) {
             return Err(Fail::new(format_args!("call {call}")));
         }

@@ -17,6 +17,8 @@ mod folders;
 #[cfg(test)]
 mod frames;
 #[cfg(test)]
+mod laying;
+#[cfg(test)]
 mod logs;
 #[cfg(test)]
 mod mending;

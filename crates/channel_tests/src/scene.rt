@@ -1,7 +1,7 @@
 // A channel and its folder, on which the lines of a scenario work.
 use crate::calls::{Call, OTHER, Said, gives, is_said, said, value_of};
 use crate::spelled::{long_file, spelled};
-use channel_face::{Channel, Counter, Kind, Limits, OpenCause, Ticket};
+use channel_face::{Channel, CheckRefused, Counter, Kind, Limits, OpenCause, Ticket};
 use event_core::Entry;
 use file_channel::FileChannel;
 use flume_host::FileName;
@@ -147,9 +147,15 @@ fn add_fault(scene: &mut Channels, place: &str) -> bool {
     }
 }
 
-// The first call after those that were noted fails.
-fn add_fault_after_noted(scene: &mut Channels) -> bool {
-    scene.faults.push(fault(scene.noted)).is_ok()
+// The call of this place after those that were noted fails.
+fn add_fault_after_noted(scene: &mut Channels, place: &str) -> bool {
+    match number_of(place) {
+        Some(place) => scene
+            .faults
+            .push(fault(scene.noted.saturating_add(place)))
+            .is_ok(),
+        None => false,
+    }
 }
 
 // The folder that is opened next.
@@ -233,6 +239,25 @@ fn reopened(scene: &mut Channels) -> Said {
     }
 }
 
+// The channel lays a checkpoint.
+fn laid(scene: &mut Channels) -> Said {
+    let Over::Disk(channel) = &mut scene.over else {
+        return OTHER;
+    };
+    match channel.checkpoint() {
+        Ok(()) => ("done", 0),
+        Err(CheckRefused::Broken) => ("broken", 0),
+        Err(
+            CheckRefused::Spent {
+                counter: Counter::Check,
+            },
+        ) => ("spent-check", 0),
+        Err(CheckRefused::DiskFault) => ("disk-fault", 0),
+        Err(CheckRefused::CheckFault) => ("check-fault", 0),
+        Err(_) => OTHER,
+    }
+}
+
 // Tokens are named of this life.
 fn set_life(scene: &mut Channels, life: &str) -> bool {
     scene.life = value_of(life);
@@ -267,10 +292,10 @@ pub fn is_answered(scene: &mut Channels, word: &str, rest: &str) -> bool {
         value: value_of(value),
     };
     scene.has_tried = true;
-    let said = if word == "reopen" {
-        reopened(scene)
-    } else {
-        said_by(scene, call)
+    let said = match word {
+        "reopen" => reopened(scene),
+        "checkpoint" => laid(scene),
+        _ => said_by(scene, call),
     };
     is_said(said, want)
 }
@@ -311,20 +336,23 @@ fn is_mended(scene: &Channels, most: &str) -> bool {
     }
 }
 
-// A log file of the folder that was closed.
-fn log_of<'a>(scene: &'a Channels, number: &str) -> Option<&'a [u8]> {
-    let number = number.parse::<u32>().ok()?;
+// A file of the folder that was closed: log file 1 is named `1`, and checkpoint 1 `check-1`.
+fn file_of<'a>(scene: &'a Channels, name: &str) -> Option<&'a [u8]> {
+    let name = match name.strip_prefix("check-") {
+        Some(number) => FileName::Check(number.parse::<u32>().ok()?),
+        None => FileName::Log(name.parse::<u32>().ok()?),
+    };
     match &scene.disk {
-        Some(disk) => disk.file(FileName::Log(number)),
+        Some(disk) => disk.file(name),
         None => None,
     }
 }
 
-// Whether a log file has these bytes from an offset on, as `1 0 FLUMELOG`.
+// Whether a file has these bytes from an offset on, as `1 0 FLUMELOG`.
 fn holds_bytes(scene: &Channels, file: &str) -> bool {
-    let (number, rest) = word_and_rest(file);
+    let (name, rest) = word_and_rest(file);
     let (offset, text) = word_and_rest(rest);
-    let Some(bytes) = log_of(scene, number) else {
+    let Some(bytes) = file_of(scene, name) else {
         return false;
     };
     let from = value_of(offset) as usize;
@@ -336,10 +364,10 @@ fn holds_bytes(scene: &Channels, file: &str) -> bool {
             .starts_with(want.as_slice())
 }
 
-// Whether a log file has so many bytes, as `1 115`, or is not there, as `1 none`.
+// Whether a file has so many bytes, as `1 115`, or is not there, as `1 none`.
 fn is_long(scene: &Channels, file: &str) -> bool {
-    let (number, length) = word_and_rest(file);
-    match log_of(scene, number) {
+    let (name, length) = word_and_rest(file);
+    match file_of(scene, name) {
         Some(bytes) => number_of(length) == Some(bytes.len() as u64),
         None => length == "none",
     }
@@ -376,7 +404,7 @@ fn is_made(scene: &mut Channels, word: &str, rest: &str) -> bool {
         "long-log" => add_long_log(scene, rest),
         "check" => add_check(scene, rest),
         "fails" => add_fault(scene, rest),
-        "fails-after-noted" => add_fault_after_noted(scene),
+        "fails-after-noted" => add_fault_after_noted(scene, rest),
         "on-disk" => is_opened(scene),
         "close" => is_closed(scene),
         "note" => note(scene),

@@ -122,7 +122,7 @@ on-disk
 close
 note
 log 1 header 1 1 1, gate 1, put 1 a, commit-put 1 0 1, end 2, gate 1, put 2 b, commit-put 2 1 1, end 2, gate 0
-fails-after-noted
+fails-after-noted 0
 on-disk
 begin-take > token 3
 take 3 > read-fault

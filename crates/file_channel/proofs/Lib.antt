@@ -1,11 +1,16 @@
 pub mod Placing
 pub mod Owning
+pub mod Bare
+pub mod Leaving
 pub mod Stepping
 pub mod Adding
 pub mod Calls
 pub mod Replaying
+pub mod Free
 pub mod Standing
+pub mod Checkpoints
 pub mod Measuring
+pub mod Numbering
 pub mod Images
 pub mod Going
 pub mod Seen

@@ -121,7 +121,7 @@ same_grows t w = record { settled = λ file. ([], sym (append-nil (settled_in t 
 
 -- a frame more
 
-end_own : (w : Writer) (file : ℕ) → file ≡ w.file → end_of w file ≡ w.gate
+pub end_own : (w : Writer) (file : ℕ) → file ≡ w.file → end_of w file ≡ w.gate
 end_own w file is = own (eqb_tells file w.file)
   where
     own : ((file == w.file) ≡ true) × (file ≡ w.file) ⊎ ((file == w.file) ≡ false) × (file ≢ w.file) → end_of w file ≡ w.gate

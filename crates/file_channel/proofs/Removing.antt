@@ -1,5 +1,5 @@
 -- A log file that could not be begun is removed again, or may be.
-use Rattle.std.proofs.Common.{◌≡◌, ◌⊎◌, inr, ⊎_elim, ℕ, List, Option, Some, None, Result, Bool, true, false, refl, sym, subst, arith}
+use Rattle.std.proofs.Common.{◌≡◌, inr, ⊎_elim, ℕ, List, Option, Some, None, Result, Bool, true, false, refl, sym, subst, arith}
 use Rattle.std.proofs.lemmas.List.{get_or_past}
 use Rattle.flume_host.specs.Folder.{Allows, Entry, Files, Folder, Gone, IsImage, There, Unsure, remove_entry, same_name, with_at}
 use Rattle.flume_host.specs.Told.{Changes, Does, Leads, On, Remove, Tells, Told, clock}

@@ -25,11 +25,13 @@ use Rattle.channel_face.proofs.Adding.{state-push}
 use Rattle.channel_writing.specs.Stands.{Seen, StandsIn, is_fault}
 use Rattle.channel_writing.specs.Touches.{Flushed, Rests, flushes}
 use Rattle.channel_writing.specs.Waiting.{waiting_after}
-use Rattle.channel_writing.proofs.Standing.{adds_loosely, stands_as, touched_by}
+use Rattle.channel_writing.proofs.Standing.{Touched, adds_loosely, stands_as, touched_by}
 use Rattle.channel_writing.proofs.Whole.{whole_rests}
+use Rattle.file_channel.specs.Laid.{KeepsFree}
 use Rattle.file_channel.specs.Placed.{IsStateOf}
 use Rattle.file_channel.specs.Stands.{FileState, IsStanding, StandsOver, flush_settles, put_spills, take_spills}
 use Rattle.file_channel.specs.Stepped.{Steps}
+use Rattle.file_channel.proofs.Free.{free_after}
 
 -- What a method of the channel did in a state, and what the disk told and counted.
 pub record Did (told told' : Option Told) (f f' : ℕ) (old new : FileState) (call : Call) (s : State) : Type 0 where
@@ -42,11 +44,21 @@ pub record Did (told told' : Option Told) (f f' : ℕ) (old new : FileState) (ca
   pub quiet : flushes call ≡ false → told' ≡ told
   pub flushed : flushes call ≡ true → Tells told told' (λ t u. Flushed s t u)
 
+-- the same of a call that may leave in a crash what a flush may
+pub record DidSo (told told' : Option Told) (f f' : ℕ) (old new : FileState) (call : Call) (s : State) : Type 0 where
+  pub steps : Steps told told' old.logged new.logged call s
+  pub tally : new.tally ≡ counted s call old.tally
+  pub waits : new.waiting ≡ waiting_after s call old.waiting
+  pub up : f ≤ f'
+  pub cause : is_fault call ≡ true → Rose f f'
+  pub still : is_fault call ≡ false → f' ≡ f
+  pub touched : Touched told told' s
+
 abbrev seen_in : FileState → State → Seen
 seen_in c s = record { state = s; tally = c.tally; waiting = c.waiting }
 
-pub adds_did : (told told' : Option Told) (f f' : ℕ) (old new : FileState) (call : Call) → ((s : State) → IsStateOf told old.logged s → Did told told' f f' old new call s) → AddsOne (StandsOver told f old) (StandsOver told' f' new) call (moment_of told')
-adds_did told told' f f' old new call each start h pass stands =
+pub adds_did_so : (told told' : Option Told) (f f' : ℕ) (old new : FileState) (call : Call) → ((s : State) → IsStateOf told old.logged s → DidSo told told' f f' old new call s) → AddsOne (StandsOver told f old) (StandsOver told' f' new) call (moment_of told')
+adds_did_so told told' f f' old new call each start h pass stands =
     let s : State = state_after (opening start) h in
     let did = each s stands.state in
     let step : Step = record { pass = pass; call = call; moment = moment_of told' } in
@@ -54,9 +66,25 @@ adds_did told told' f f' old new call each start h pass stands =
     let rests : Rests told' (after s call) = whole_rests told' new.logged.log new.logged.busy (after s call) did.steps.stands.whole in
     let before : StandsIn told f (seen_in old s) start h = stands_as (IsStateOf told old.logged) (λ v. v ≡ s) told f old.tally old.waiting start h refl stands in
     let longer : StandsIn told' f' (seen_in new (after s call)) start (h ++ step ∷ []) =
-    adds_loosely told told' f f' (seen_in old s) call (seen_in new (after s call)) moves did.tally did.waits did.up did.cause did.still (touched_by told told' s call did.quiet did.flushed) rests start h pass before in
+    adds_loosely told told' f f' (seen_in old s) call (seen_in new (after s call)) moves did.tally did.waits did.up did.cause did.still did.touched rests start h pass before in
     let same : after s call ≡ state_after (opening start) (h ++ step ∷ []) = sym (state-push (opening start) h step) in
     stands_as (λ v. v ≡ after s call) (IsStateOf told' new.logged) told' f' new.tally new.waiting start (h ++ step ∷ []) (subst (λ (v : State). IsStateOf told' new.logged v) same did.steps.stands) longer
+
+pub adds_did : (told told' : Option Told) (f f' : ℕ) (old new : FileState) (call : Call) → ((s : State) → IsStateOf told old.logged s → Did told told' f f' old new call s) → AddsOne (StandsOver told f old) (StandsOver told' f' new) call (moment_of told')
+adds_did told told' f f' old new call each =
+    adds_did_so told told' f f' old new call
+    (λ s is. let did = each s is in record { steps = did.steps; tally = did.tally; waits = did.waits; up = did.up; cause = did.cause; still = did.still; touched = touched_by told told' s call did.quiet did.flushed })
+
+-- what it stands for has a state
+state_there : (told : Option Told) (f : ℕ) (c : FileState) → IsStanding told f c → (s : State) × IsStateOf told c.logged s
+state_there told f c stands = (state_after (opening stands.0) stands.1, stands.2.state)
+
+-- a call that flushes or leaves the disk alone makes no checkpoint
+pub still_free : (told told' : Option Told) (f f' : ℕ) (old new : FileState) (call : Call) → IsStanding told f old → ((s : State) → IsStateOf told old.logged s → Did told told' f f' old new call s) → KeepsFree told told'
+still_free told told' f f' old new call stands did =
+    let there = state_there told f old stands in
+    let done = did there.0 there.1 in
+    free_after told told' there.0 call done.quiet done.flushed
 
 differ : {A : Type 0} → true ≡ false → A
 differ is = absurd (cc)
@@ -124,7 +152,7 @@ flush_settled : (s : State) (r : Result (Unit {0}) FlushRefused) → settled_by 
 flush_settled s (Ok done) = refl
 flush_settled s (Err e) = refl
 
-flushing_tally : (old new : Counts) (note : Noting) (reply : Reply) (b : Bool) (puts takes : ℕ) (s : State) (call : Call) → new ≡ noted old note reply → one_for_put note ≡ put_calls call → one_for_take note ≡ take_calls call → reply.settled_puts ≡ cond b puts 0 → reply.settled_takes ≡ cond b takes 0
+pub flushing_tally : (old new : Counts) (note : Noting) (reply : Reply) (b : Bool) (puts takes : ℕ) (s : State) (call : Call) → new ≡ noted old note reply → one_for_put note ≡ put_calls call → one_for_take note ≡ take_calls call → reply.settled_puts ≡ cond b puts 0 → reply.settled_takes ≡ cond b takes 0
     → puts ≡ length (put_events s.staged) → takes ≡ capped (length (taken_numbers s.staged)) → settled_by s call ≡ cond b s.staged [] → tally_of new ≡ counted s call (tally_of old)
 flushing_tally old new note reply b puts takes s call is ones one_takes reply_puts reply_takes puts_are takes_are settled =
     let both = settled_if b puts takes s puts_are takes_are in

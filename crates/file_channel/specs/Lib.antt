@@ -1,4 +1,5 @@
 pub mod Placed
+pub mod Laid
 pub mod Stepped
 pub mod Stands
 pub mod Opened

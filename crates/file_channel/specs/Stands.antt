@@ -20,11 +20,13 @@ use Rattle.channel_places.specs.Looks.{Places}
 use Rattle.channel_writing.specs.Stands.{StandsBy}
 use Rattle.file_channel.specs.Placed.{IsStateOf, Logged, bytes_of}
 
--- What a channel has beside its disk: its places and its log, what is counted, and how many bytes of records wait in its frame.
+-- What a channel has beside its disk: its places and its log, what is counted, how many bytes of records wait in its frame, and the number of its
+-- next checkpoint.
 pub record FileState : Type 0 where
   pub logged : Logged
   pub tally : Tally
   pub waiting : ℕ
+  pub next : ℕ
 
 -- The calls lead to a state for which the channel's places and its log stand.
 abbrev pub StandsOver : Option Told → ℕ → FileState → Opening → List Step → Type 0

@@ -18,9 +18,11 @@ ghost use Rattle.channel_writing.specs.Folders.{FailsToSettle, GainsLog, IsBegun
 ghost use Rattle.channel_writing.specs.Stands.{is_fault};
 ghost use Rattle.channel_writing.specs.Written.{MayRecover};
 ghost use Rattle.channel_writing.specs.Touches.{FillsFiles, Flushed, HadNoRoom, HasNoRoom, IsSpentLog, Rests, flushes, room_of};
+ghost use Rattle.file_channel.specs.Laid.{IsNextCheck};
 ghost use Rattle.file_channel.specs.Opened.{CountsSteps};
 ghost use Rattle.file_channel.specs.Stands.{IsStanding, StandsOver, flush_settles, opened_as, put_spills, take_spills};
 
+use crate::checks::Checks;
 use crate::logged::LoggedPlaces;
 use channel_face::{
     BeginRefused, Channel, Counts, FlushRefused, Limits, OpenCause, Put, PutRefused, PutTxn,
@@ -43,13 +45,15 @@ pub struct OpenRefused<D> {
 /// its record in a log file, an event is read there when it is taken, and what a flush settled a crash leaves there.
 #[derive(Drop)]
 pub struct FileChannel<D: Disk + Drop> {
-    logged: LoggedPlaces<D>,
-    counts: Counts,
+    pub(crate) logged: LoggedPlaces<D>,
+    pub(crate) counts: Counts,
+    pub(crate) checks: Checks,
 }
 
 impl<D: Disk + Drop> Model for FileChannel<D> {
     ghost use Rattle.std.specs.Prelude.{length};
     ghost use Rattle.txn_core.specs.Counted.{tally_of};
+    ghost use Rattle.file_channel.specs.Laid.{AreFree};
     ghost use Rattle.file_channel.specs.Stands.{FileState, IsStanding};
 
     // The disk, and what the channel has beside it.
@@ -61,19 +65,21 @@ impl<D: Disk + Drop> Model for FileChannel<D> {
         logged = c.logged.1;
         tally = tally_of c.counts;
         waiting = length c.logged.1.log.bytes;
+        next = c.checks;
       },
     ) };
 
-    // It stands for an opening and calls.
+    // It stands for an opening and calls, and the number of its next checkpoint is free.
     ghost invariant = { λ c. IsStanding (D.told c.logged.0) (D.faults c.logged.0) (record {
       logged = c.logged.1;
       tally = tally_of c.counts;
       waiting = length c.logged.1.log.bytes;
-    }) };
+      next = c.checks;
+    }) × AreFree (D.told c.logged.0) c.checks };
 }
 
 // What is counted of a call that settled so many events of puts and of takes, if it flushed.
-fn reply_of(done: bool, flushed: bool, staged: (u64, u64)) -> Reply
+pub(crate) fn reply_of(done: bool, flushed: bool, staged: (u64, u64)) -> Reply
     ensures puts { result.settled_puts ≡ (if flushed then staged.0 else 0) }
     ensures takes { result.settled_takes ≡ (if flushed then staged.1 else 0) }
 {
@@ -143,6 +149,9 @@ pub fn open_channel<D: Disk + Drop, L: Ledger>(
         (λ t. Opens t.reads limits.capacity
         (opened_as (D.told disk) (D.faults disk) (D.told c.0) c.1).base
         (opened_as (D.told disk) (D.faults disk) (D.told c.0) c.1).txn)) }
+    // Its next checkpoint has the number after those that are there.
+    ensures next { IfOk result
+        (λ c. WhereTold (D.told disk) (λ t. IsNextCheck t.reads c.1.next)) }
     ensures gains { IfOk result
         (λ c. Tells (D.told disk) (D.told c.0) (λ t u. GainsLog t.reads IsBegun u.reads)) }
     ensures refused { IfErr result
@@ -158,7 +167,7 @@ pub fn open_channel<D: Disk + Drop, L: Ledger>(
     ensures ticks { WhereTold (D.told disk) (λ t. CountsSteps t.reads steps.old steps.new) }
 {
     match LoggedPlaces::open(alloc, disk, limits, steps) {
-        Ok(logged) => Ok(FileChannel {
+        Ok((logged, checks)) => Ok(FileChannel {
             logged,
             counts: Counts {
                 put_attempts: 0,
@@ -168,6 +177,7 @@ pub fn open_channel<D: Disk + Drop, L: Ledger>(
                 size: 0,
                 capacity: 0,
             },
+            checks,
         }),
         Err(refused) => Err(refused),
     }
@@ -206,6 +216,7 @@ impl<D: Disk + Drop> FileChannel<D> {
             (D.faults self.new.0) s.rules.limits.capacity cause)) }
         ensures ticks { WhereTold (D.told self.old.0)
             (λ t. CountsSteps t.reads steps.old steps.new) }
+        ensures next { self.new.1.next ≡ self.old.1.next }
     {
         let result = self.logged.reopen(steps);
         let reply = Reply::quiet(result.is_ok());
@@ -235,7 +246,11 @@ impl<D: Disk + Drop> FileChannel<D> {
         ensures settled { Shows (StandsOver (D.told self.0) (D.faults self.0) self.1)
             (Rests (D.told result)) }
     {
-        let FileChannel { logged, counts: _ } = self;
+        let FileChannel {
+            logged,
+            counts: _,
+            checks: _,
+        } = self;
         logged.close()
     }
 }
@@ -260,6 +275,7 @@ impl<D: Disk + Drop> Channel for FileChannel<D> {
             (moment_of (D.told self.new.0)) }
         ensures told { D.told self.new.0 ≡ D.told self.old.0 }
         ensures faults { D.faults self.new.0 ≡ D.faults self.old.0 }
+        ensures next { self.new.1.next ≡ self.old.1.next }
     {
         let result = self.logged.begin_put();
         let reply = Reply::quiet(result.is_ok());
@@ -274,6 +290,7 @@ impl<D: Disk + Drop> Channel for FileChannel<D> {
             (moment_of (D.told self.new.0)) }
         ensures told { D.told self.new.0 ≡ D.told self.old.0 }
         ensures faults { D.faults self.new.0 ≡ D.faults self.old.0 }
+        ensures next { self.new.1.next ≡ self.old.1.next }
     {
         let result = self.logged.begin_take();
         let reply = Reply::quiet(result.is_ok());
@@ -319,6 +336,7 @@ impl<D: Disk + Drop> Channel for FileChannel<D> {
             (λ s. IsErrOf result PutRefused.DiskFault
             → HasNoRoom self.old.1.waiting
             (room_of s (size event.now + 13) (size_of_list (puts_of s txn.old)))) }
+        ensures next { self.new.1.next ≡ self.old.1.next }
     {
         let staged = self.logged.staged();
         let result = self.logged.put(txn, event);
@@ -363,6 +381,7 @@ impl<D: Disk + Drop> Channel for FileChannel<D> {
         ensures no_room { Shows (StandsOver (D.told self.old.0) (D.faults self.old.0) self.old.1)
             (λ s. IsErrOf result TakeRefused.DiskFault
             → HasNoRoom self.old.1.waiting (room_of s 17 (size_of_list (takes_of s txn.old)))) }
+        ensures next { self.new.1.next ≡ self.old.1.next }
     {
         let staged = self.logged.staged();
         let result = self.logged.take(txn);
@@ -379,6 +398,7 @@ impl<D: Disk + Drop> Channel for FileChannel<D> {
         ensures back { IfErr result (λ refused. refused.txn ≡ txn) }
         ensures told { D.told self.new.0 ≡ D.told self.old.0 }
         ensures faults { D.faults self.new.0 ≡ D.faults self.old.0 }
+        ensures next { self.new.1.next ≡ self.old.1.next }
     {
         let result = self.logged.stage_put(txn);
         let reply = Reply::quiet(result.is_ok());
@@ -394,6 +414,7 @@ impl<D: Disk + Drop> Channel for FileChannel<D> {
         ensures back { IfErr result (λ refused. refused.txn ≡ txn) }
         ensures told { D.told self.new.0 ≡ D.told self.old.0 }
         ensures faults { D.faults self.new.0 ≡ D.faults self.old.0 }
+        ensures next { self.new.1.next ≡ self.old.1.next }
     {
         let result = self.logged.stage_take(txn);
         let reply = Reply::quiet(result.is_ok());
@@ -422,6 +443,7 @@ impl<D: Disk + Drop> Channel for FileChannel<D> {
         ensures well { is_fault (Flush result) ≡ false → D.faults self.new.0 ≡ D.faults self.old.0 }
         ensures fault { IsErrOf result FlushRefused.DiskFault
             → Rose (D.faults self.old.0) (D.faults self.new.0) }
+        ensures next { self.new.1.next ≡ self.old.1.next }
     {
         let staged = self.logged.staged();
         let result = self.logged.flush();
@@ -437,6 +459,7 @@ impl<D: Disk + Drop> Channel for FileChannel<D> {
             (RollbackPut txn result) (moment_of (D.told self.new.0)) }
         ensures told { D.told self.new.0 ≡ D.told self.old.0 }
         ensures faults { D.faults self.new.0 ≡ D.faults self.old.0 }
+        ensures next { self.new.1.next ≡ self.old.1.next }
     {
         let ended = self.logged.rollback_put(txn);
         let reply = Reply::quiet(ended);
@@ -451,6 +474,7 @@ impl<D: Disk + Drop> Channel for FileChannel<D> {
             (RollbackTake txn result) (moment_of (D.told self.new.0)) }
         ensures told { D.told self.new.0 ≡ D.told self.old.0 }
         ensures faults { D.faults self.new.0 ≡ D.faults self.old.0 }
+        ensures next { self.new.1.next ≡ self.old.1.next }
     {
         let ended = self.logged.rollback_take(txn);
         let reply = Reply::quiet(ended);

@@ -2,7 +2,10 @@
 #![tactic(auto)]
 
 mod channel;
+mod checks;
+mod keeping;
 mod laws;
+mod laying;
 mod logged;
 mod mending;
 mod opening;

@@ -17,10 +17,12 @@ ghost use Rattle.channel_places.specs.Looks.{Known, LookLeft, Looks};
 ghost use Rattle.channel_writing.specs.Folders.{FailsToSettle, GainsLog, IsAsBefore, IsBegun, IsNextFile, IsOfFile, IsRefused, Opens, OpensFrom, OpensOver, Refuses, log_name};
 ghost use Rattle.channel_writing.specs.Written.{MayRecover};
 ghost use Rattle.ring_replay.specs.Folder.{IsReady};
+ghost use Rattle.file_channel.specs.Laid.{AreFree, IsNextCheck, KeepsFree};
 ghost use Rattle.file_channel.specs.Opened.{AreShort, CountsSteps, FailsToBegin, IsBegunAs, MayRemove, OpensWith, ReplaysTo};
 ghost use Rattle.file_channel.specs.Stepped.{ShowsOf, StepsOn};
 
 use crate::channel::OpenRefused;
+use crate::checks::{Checks, next_check};
 use crate::logged::LoggedPlaces;
 use channel_face::{Counter, Limits, OpenCause};
 use channel_log::{LogBeginRefused, LogWriter};
@@ -38,6 +40,14 @@ const LAST_FILE: u32 = u32::MAX;
 
 /// The birth of a log file that an opening begins.
 const BEGUN: u16 = 1;
+
+// What a folder leaves, and the numbers of the log file and of the checkpoint after those that are there.
+#[derive(Drop)]
+struct Found {
+    replayed: Replayed,
+    log: u32,
+    check: u64,
+}
 
 // The log file of this number.
 fn log_name(number: Option<u32>) -> Option<FileName>
@@ -69,18 +79,20 @@ fn measure_logs<D: Disk>(disk: &mut D) -> Result<(), Failed>
     }
 }
 
-// What a folder leaves, by the places of its events, and the number of the log file after those that are there.
+// What a folder leaves, by the places of its events, and the numbers of the next files.
 fn read_folder<D: Disk, L: Ledger>(
     alloc: Global,
     disk: &mut D,
     capacity: u32,
     steps: &mut Steps<L>,
-) -> Result<(Replayed, u32), OpenCause>
+) -> Result<Found, OpenCause>
     ensures replays { IfOk result
-        (λ found. WhereTold (D.told disk.old) (λ t. ReplaysTo t.reads found.0)) }
+        (λ found. WhereTold (D.told disk.old) (λ t. ReplaysTo t.reads found.replayed)) }
     ensures next { IfOk result
-        (λ found. WhereTold (D.told disk.old) (λ t. IsNextFile t.reads found.1)) }
-    ensures ready { IfOk result (λ found. IsReady capacity found.0) }
+        (λ found. WhereTold (D.told disk.old) (λ t. IsNextFile t.reads found.log)) }
+    ensures check { IfOk result
+        (λ found. WhereTold (D.told disk.old) (λ t. IsNextCheck t.reads found.check)) }
+    ensures ready { IfOk result (λ found. IsReady capacity found.replayed) }
     ensures refused { IfErr result
         (λ cause. WhereTold (D.told disk.old) (λ t. Refuses t.reads capacity cause)) }
     ensures counter { IfErr result IsOfFile }
@@ -100,15 +112,27 @@ fn read_folder<D: Disk, L: Ledger>(
         Ok(()) => {}
         Err(_) => return Err(OpenCause::DiskFault),
     }
+    let check = match next_check(disk) {
+        Ok(check) => check,
+        Err(_) => return Err(OpenCause::DiskFault),
+    };
     match last_log(disk) {
-        Ok(None) => Ok((replayed, 1)),
+        Ok(None) => Ok(Found {
+            replayed,
+            log: 1,
+            check,
+        }),
         Ok(Some(last)) => {
             if last == LAST_FILE {
                 return Err(OpenCause::Spent {
                     counter: Counter::File,
                 });
             }
-            Ok((replayed, last + 1))
+            Ok(Found {
+                replayed,
+                log: last + 1,
+                check,
+            })
         }
         Err(_) => Err(OpenCause::DiskFault),
     }
@@ -128,20 +152,23 @@ fn held_of(alloc: Global, replayed: Replayed, limits: Limits) -> Result<Held, No
     Held::open(alloc, ring, limits, next.number, next.txn)
 }
 
-// Settles a folder, and reads what it leaves, with the number of the log file after those that are there.
+// Settles a folder, and reads what it leaves.
 fn settle_folder<D: Disk, L: Ledger>(
     alloc: Global,
     disk: &mut D,
     capacity: u32,
     steps: &mut Steps<L>,
-) -> Result<(Replayed, u32), OpenCause>
+) -> Result<Found, OpenCause>
     ensures settles { OnOk result
         (Tells (D.told disk.old) (D.told disk.new) (λ t u. u ≡ done Settle t)) }
     ensures replays { IfOk result
-        (λ found. WhereTold (D.told disk.old) (λ t. ReplaysTo t.reads found.0)) }
+        (λ found. WhereTold (D.told disk.old) (λ t. ReplaysTo t.reads found.replayed)) }
     ensures next { IfOk result
-        (λ found. WhereTold (D.told disk.new) (λ t. IsNextFile t.reads found.1)) }
-    ensures ready { IfOk result (λ found. IsReady capacity found.0) }
+        (λ found. WhereTold (D.told disk.new) (λ t. IsNextFile t.reads found.log)) }
+    ensures check { IfOk result
+        (λ found. WhereTold (D.told disk.old) (λ t. IsNextCheck t.reads found.check)) }
+    ensures unused { IfOk result (λ found. AreFree (D.told disk.new) found.check) }
+    ensures ready { IfOk result (λ found. IsReady capacity found.replayed) }
     ensures refused { IfErr result
         (IsRefused (D.told disk.old) (D.told disk.new) (D.faults disk.old) (D.faults disk.new)
         capacity) }
@@ -149,6 +176,7 @@ fn settle_folder<D: Disk, L: Ledger>(
         (λ cause. ((cause ≡ OpenCause.DiskFault)
         × FailsToSettle (D.told disk.old) (D.told disk.new))
         ⊎ Tells (D.told disk.old) (D.told disk.new) OpensFrom) }
+    ensures keeps { KeepsFree (D.told disk.old) (D.told disk.new) }
     ensures ticks { WhereTold (D.told disk.old) (λ t. CountsSteps t.reads steps.old steps.new) }
     ensures well { OnOk result (D.faults disk.new ≡ D.faults disk.old) }
 {
@@ -214,17 +242,20 @@ fn begin_log<D: Disk>(
     }
 }
 
-// Settles a folder and reads it, makes what a channel keeps of its events, and begins a log file after those that are there. So a
-// out of memory for the places comes before that file is made.
+// Settles a folder and reads it, makes what a channel keeps, and begins a log file after those that are there. So out of memory for
+// what it keeps comes before that file is made.
 fn open_log<D: Disk, L: Ledger>(
     alloc: Global,
     disk: &mut D,
     limits: Limits,
     steps: &mut Steps<L>,
-) -> Result<(Held, LogWriter), OpenCause>
+) -> Result<(Held, LogWriter, Checks), OpenCause>
     ensures opens { IfOk result
         (λ found. OpensWith (D.told disk.old) (D.told disk.new) limits
         (record { places = found.0; log = found.1; busy = 0 })) }
+    ensures check { IfOk result
+        (λ found. WhereTold (D.told disk.old) (λ t. IsNextCheck t.reads found.2)) }
+    ensures unused { IfOk result (λ found. AreFree (D.told disk.new) found.2) }
     ensures waits { IfOk result (λ found. length found.1.bytes ≡ 0) }
     ensures gains { OnOk result
         (Tells (D.told disk.old) (D.told disk.new) (λ t u. GainsLog t.reads IsBegun u.reads)) }
@@ -240,7 +271,11 @@ fn open_log<D: Disk, L: Ledger>(
         ⊎ Tells (D.told disk.old) (D.told disk.new) OpensFrom) }
     ensures ticks { WhereTold (D.told disk.old) (λ t. CountsSteps t.reads steps.old steps.new) }
 {
-    let (replayed, number) = match settle_folder(alloc, disk, limits.capacity, steps) {
+    let Found {
+        replayed,
+        log,
+        check,
+    } = match settle_folder(alloc, disk, limits.capacity, steps) {
         Ok(found) => found,
         Err(cause) => return Err(cause),
     };
@@ -248,8 +283,12 @@ fn open_log<D: Disk, L: Ledger>(
         Ok(held) => held,
         Err(_) => return Err(OpenCause::NoMemory),
     };
-    match begin_log(alloc, disk, number, limits.max_file) {
-        Ok(log) => Ok((held, log)),
+    let checks = match Checks::from(alloc, check) {
+        Ok(checks) => checks,
+        Err(_) => return Err(OpenCause::NoMemory),
+    };
+    match begin_log(alloc, disk, log, limits.max_file) {
+        Ok(log) => Ok((held, log, checks)),
         Err(cause) => Err(cause),
     }
 }
@@ -275,33 +314,41 @@ fn reopen_log<D: Disk, L: Ledger>(
     ensures refused { IfErr result
         (IsRefused (D.told disk.old) (D.told disk.new) (D.faults disk.old) (D.faults disk.new)
         capacity) }
+    ensures keeps { KeepsFree (D.told disk.old) (D.told disk.new) }
     ensures ticks { WhereTold (D.told disk.old) (λ t. CountsSteps t.reads steps.old steps.new) }
 {
-    let (replayed, number) = match settle_folder(alloc, disk, capacity, steps) {
+    let Found {
+        replayed,
+        log,
+        check: _,
+    } = match settle_folder(alloc, disk, capacity, steps) {
         Ok(found) => found,
         Err(cause) => return Err(cause),
     };
-    match begin_log(alloc, disk, number, max_file) {
+    match begin_log(alloc, disk, log, max_file) {
         Ok(log) => Ok((replayed, log)),
         Err(cause) => Err(cause),
     }
 }
 
 impl<D: Disk + Drop> LoggedPlaces<D> {
-    /// Opens the folder of a disk: it is settled and replayed, and a log file is begun after those that are there.
+    /// Opens the folder of a disk: it is settled and replayed, and a log file is begun after those that are there. Its next checkpoint
+    /// comes after those that are there.
     pub(crate) fn open<L: Ledger>(
         alloc: Global,
         disk: D,
         limits: Limits,
         steps: &mut Steps<L>,
-    ) -> Result<LoggedPlaces<D>, OpenRefused<D>>
-        ensures opens { IfOk result (λ c. OpensWith (D.told disk) (D.told c.0) limits c.1) }
-        ensures waits { IfOk result (λ c. length c.1.log.bytes ≡ 0) }
+    ) -> Result<(LoggedPlaces<D>, Checks), OpenRefused<D>>
+        ensures opens { IfOk result (λ c. OpensWith (D.told disk) (D.told c.0.0) limits c.0.1) }
+        ensures check { IfOk result (λ c. WhereTold (D.told disk) (λ t. IsNextCheck t.reads c.1)) }
+        ensures unused { IfOk result (λ c. AreFree (D.told c.0.0) c.1) }
+        ensures waits { IfOk result (λ c. length c.0.1.log.bytes ≡ 0) }
         ensures gains { IfOk result
-            (λ c. Tells (D.told disk) (D.told c.0) (λ t u. GainsLog t.reads IsBegun u.reads)) }
-        ensures any_moment { IfOk result (λ c. Tells (D.told disk) (D.told c.0) OpensOver) }
-        ensures settled { IfOk result (λ c. Tells (D.told disk) (D.told c.0) OpensFrom) }
-        ensures well { IfOk result (λ c. D.faults c.0 ≡ D.faults disk) }
+            (λ c. Tells (D.told disk) (D.told c.0.0) (λ t u. GainsLog t.reads IsBegun u.reads)) }
+        ensures any_moment { IfOk result (λ c. Tells (D.told disk) (D.told c.0.0) OpensOver) }
+        ensures settled { IfOk result (λ c. Tells (D.told disk) (D.told c.0.0) OpensFrom) }
+        ensures well { IfOk result (λ c. D.faults c.0.0 ≡ D.faults disk) }
         ensures refused { IfErr result
             (λ refused. IsRefused (D.told disk) (D.told refused.disk) (D.faults disk)
             (D.faults refused.disk) limits.capacity refused.cause) }
@@ -313,15 +360,15 @@ impl<D: Disk + Drop> LoggedPlaces<D> {
     {
         let mut disk = disk;
         match open_log(alloc, &mut disk, limits, steps) {
-            Ok((held, log)) => Ok(LoggedPlaces {
-                held,
-                writing: Writing {
+            Ok((held, log, checks)) => {
+                let writing = Writing {
                     alloc,
                     disk,
                     log,
                     busy: 0,
-                },
-            }),
+                };
+                Ok((LoggedPlaces { held, writing }, checks))
+            }
             Err(cause) => Err(OpenRefused { disk, cause }),
         }
     }
@@ -352,6 +399,7 @@ impl<D: Disk + Drop> LoggedPlaces<D> {
             (λ cause. ((cause ≡ OpenCause.Spent Counter.Life) × (self.new.0 ≡ self.old.0))
             ⊎ IsRefused (D.told self.old.0) (D.told self.new.0) (D.faults self.old.0)
             (D.faults self.new.0) s.rules.limits.capacity cause)) }
+        ensures keeps { KeepsFree (D.told self.old.0) (D.told self.new.0) }
         ensures ticks { WhereTold (D.told self.old.0)
             (λ t. CountsSteps t.reads steps.old steps.new) }
     {

@@ -20,7 +20,8 @@ returns-then-last-clause-refused g c = λ t told.
     let read : g.D.Disk.told c.open_newest.new.disk ≡ Some t = c.in-Ok.ensures.same ∙ told in
     let measured : g.D.Disk.told c.measure_logs.new.disk ≡ Some t = c.in-Ok-measure_logs.ensures.same ∙ read in
     let r = c.in-Ok.opened.replayed in
-    let last : IsLastLog t.reads (Some c.in-Ok-Some.last) = rw c.in-Ok-Some.field-0-is at (c.in-Ok-Some.ensures.last t measured) in
+    let counted : g.D.Disk.told c.next_check.new.disk ≡ Some t = c.in-Ok-next_check.ensures.same ∙ measured in
+    let last : IsLastLog t.reads (Some c.in-Ok-Some.last) = rw c.in-Ok-Some.field-0-is at (c.in-Ok-Some.ensures.last t counted) in
     let items = opened.left.items in
     let few : length items ≤ c.args.capacity = omega (arith, c.in-Ok.ensures.ready.within, as_many (ring_places r.ring.live items) r.ring.live items (has_ring t.reads r.ring.live items opened.items) c.in-Ok.ensures.ready.free) in
     (refl, (opened.left, r.next.txn, opened.recovers, few), subst (λ (n : ℕ). IsSome (t.reads (Log n))) c.if-last.true last.0)
@@ -29,13 +30,25 @@ pub returns-in-Ok-None-clause-replays : goal.returns-in-Ok-None-clause-replays
 returns-in-Ok-None-clause-replays g c = λ t told.
     let read : g.D.Disk.told c.open_newest.new.disk ≡ Some t = c.in-Ok.ensures.same ∙ told in
     let measured : g.D.Disk.told c.measure_logs.new.disk ≡ Some t = c.in-Ok-measure_logs.ensures.same ∙ read in
-    let last : IsLastLog t.reads None = rw c.in-Ok-None.field-0-is at (c.in-Ok-None.ensures.last t measured) in
+    let counted : g.D.Disk.told c.next_check.new.disk ≡ Some t = c.in-Ok-next_check.ensures.same ∙ measured in
+    let last : IsLastLog t.reads None = rw c.in-Ok-None.field-0-is at (c.in-Ok-None.ensures.last t counted) in
     record { check = c.in-Ok.opened.check; opened = c.in-Ok.ensures.opened t told; last = last last_file; short = c.in-Ok-measure_logs.ensures.short t read }
 
 pub returns-else-last-clause-replays : goal.returns-else-last-clause-replays
 returns-else-last-clause-replays g c = λ t told.
     let read : g.D.Disk.told c.open_newest.new.disk ≡ Some t = c.in-Ok.ensures.same ∙ told in
     let measured : g.D.Disk.told c.measure_logs.new.disk ≡ Some t = c.in-Ok-measure_logs.ensures.same ∙ read in
-    let last : IsLastLog t.reads (Some c.in-Ok-Some.last) = rw c.in-Ok-Some.field-0-is at (c.in-Ok-Some.ensures.last t measured) in
+    let counted : g.D.Disk.told c.next_check.new.disk ≡ Some t = c.in-Ok-next_check.ensures.same ∙ measured in
+    let last : IsLastLog t.reads (Some c.in-Ok-Some.last) = rw c.in-Ok-Some.field-0-is at (c.in-Ok-Some.ensures.last t counted) in
     let less : c.in-Ok-Some.last < 2 ^ 32 - 1 = search rules in
     record { check = c.in-Ok.opened.check; opened = c.in-Ok.ensures.opened t told; last = last.1 last_file less; short = c.in-Ok-measure_logs.ensures.short t read }
+
+pub returns-in-Ok-None-clause-check : goal.returns-in-Ok-None-clause-check
+returns-in-Ok-None-clause-check g c = λ t told.
+    let read : g.D.Disk.told c.open_newest.new.disk ≡ Some t = c.in-Ok.ensures.same ∙ told in
+    c.in-Ok-next_check.ensures.next t (c.in-Ok-measure_logs.ensures.same ∙ read)
+
+pub returns-else-last-clause-check : goal.returns-else-last-clause-check
+returns-else-last-clause-check g c = λ t told.
+    let read : g.D.Disk.told c.open_newest.new.disk ≡ Some t = c.in-Ok.ensures.same ∙ told in
+    c.in-Ok-next_check.ensures.next t (c.in-Ok-measure_logs.ensures.same ∙ read)

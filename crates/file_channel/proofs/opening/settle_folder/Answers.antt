@@ -2,8 +2,10 @@ use Rattle.std.proofs.Common.{inl, inr, Option, refl, sym, subst}
 use Rattle.flume_host.specs.Told.{Told, WhereTold}
 use Rattle.channel_writing.specs.Folders.{IsNextFile}
 use Rattle.channel_writing.proofs.Opening.{as_settled, has_settled, refused_from, unsettled}
+use Rattle.file_channel.specs.Laid.{IsNextCheck}
 use Rattle.file_channel.specs.Opened.{ReplaysTo}
 use Rattle.file_channel.proofs.Begun.{refused_read, refused_settle}
+use Rattle.file_channel.proofs.Free.{free_same, free_settled, free_then, next_free}
 use Rattle.file_channel.proofs.opening.settle_folder.Goals as goal
 
 pub returns-in-Err-clause-refused : goal.returns-in-Err-clause-refused
@@ -32,7 +34,37 @@ pub returns-in-Ok-read_folder-clause-replays : goal.returns-in-Ok-read_folder-cl
 returns-in-Ok-read_folder-clause-replays g c =
     let was = g.D.Disk.told c.args.disk.now in
     let mid = g.D.Disk.told c.settle.new.self in
-    as_settled was mid (λ files. ReplaysTo files c.in-Ok-read_folder.found.0) (has_settled was mid mid c.in-Ok.ensures.done refl) c.in-Ok-read_folder.ensures.replays
+    as_settled was mid (λ files. ReplaysTo files c.in-Ok-read_folder.found.replayed) (has_settled was mid mid c.in-Ok.ensures.done refl) c.in-Ok-read_folder.ensures.replays
 
 pub returns-in-Ok-read_folder-clause-next : goal.returns-in-Ok-read_folder-clause-next
-returns-in-Ok-read_folder-clause-next g c = subst (λ (v : Option Told). WhereTold v (λ t. IsNextFile t.reads c.in-Ok-read_folder.found.1)) (sym c.in-Ok-read_folder.ensures.same) c.in-Ok-read_folder.ensures.next
+returns-in-Ok-read_folder-clause-next g c = subst (λ (v : Option Told). WhereTold v (λ t. IsNextFile t.reads c.in-Ok-read_folder.found.log)) (sym c.in-Ok-read_folder.ensures.same) c.in-Ok-read_folder.ensures.next
+
+pub returns-in-Ok-read_folder-clause-check : goal.returns-in-Ok-read_folder-clause-check
+returns-in-Ok-read_folder-clause-check g c =
+    let was = g.D.Disk.told c.args.disk.now in
+    let mid = g.D.Disk.told c.settle.new.self in
+    as_settled was mid (λ files. IsNextCheck files c.in-Ok-read_folder.found.check) (has_settled was mid mid c.in-Ok.ensures.done refl) c.in-Ok-read_folder.ensures.check
+
+pub returns-in-Ok-read_folder-clause-unused : goal.returns-in-Ok-read_folder-clause-unused
+returns-in-Ok-read_folder-clause-unused g c =
+    let was = g.D.Disk.told c.args.disk.now in
+    let mid = g.D.Disk.told c.settle.new.self in
+    next_free was (g.D.Disk.told c.read_folder.new.disk) c.in-Ok-read_folder.found.check (has_settled was mid (g.D.Disk.told c.read_folder.new.disk) c.in-Ok.ensures.done c.in-Ok-read_folder.ensures.same)
+    (as_settled was mid (λ files. IsNextCheck files c.in-Ok-read_folder.found.check) (has_settled was mid mid c.in-Ok.ensures.done refl) c.in-Ok-read_folder.ensures.check)
+
+pub returns-in-Err-clause-keeps : goal.returns-in-Err-clause-keeps
+returns-in-Err-clause-keeps g c = free_settled (g.D.Disk.told c.args.disk.now) (g.D.Disk.told c.settle.new.self) _ c.in-Err.ensures.done
+
+pub returns-in-Err-read_folder-clause-keeps : goal.returns-in-Err-read_folder-clause-keeps
+returns-in-Err-read_folder-clause-keeps g c =
+    let was = g.D.Disk.told c.args.disk.now in
+    let mid = g.D.Disk.told c.settle.new.self in
+    let now = g.D.Disk.told c.read_folder.new.disk in
+    free_then was mid now (free_settled was mid _ c.in-Ok.ensures.done) (free_same mid now c.in-Err-read_folder.ensures.same)
+
+pub returns-in-Ok-read_folder-clause-keeps : goal.returns-in-Ok-read_folder-clause-keeps
+returns-in-Ok-read_folder-clause-keeps g c =
+    let was = g.D.Disk.told c.args.disk.now in
+    let mid = g.D.Disk.told c.settle.new.self in
+    let now = g.D.Disk.told c.read_folder.new.disk in
+    free_then was mid now (free_settled was mid _ c.in-Ok.ensures.done) (free_same mid now c.in-Ok-read_folder.ensures.same)
