@@ -25,40 +25,20 @@ use Rattle.shared_channel.proofs.Turning.{answers, looks}
 -- the machine refuses none of them because no more calls are counted
 
 pub check_spares : (s : State) (reply : Result (Unit {0}) CheckRefused) → AdmitsCheckpoint s reply → is_spent_check reply ≡ false
-check_spares s (Ok done) may = refl
-check_spares s (Err CheckNo.Broken) may = refl
-check_spares s (Err CheckNo.DiskFault) may = refl
-check_spares s (Err CheckNo.CheckFault) may = refl
-check_spares s (Err (CheckNo.Spent Txn)) may = refl
-check_spares s (Err (CheckNo.Spent Number)) may = refl
-check_spares s (Err (CheckNo.Spent File)) may = refl
-check_spares s (Err (CheckNo.Spent Check)) may = refl
-check_spares s (Err (CheckNo.Spent Life)) may = refl
 check_spares s (Err (CheckNo.Spent Calls)) may = absurd (let is : Calls ≡ Check = may.1 in cc)
+check_spares s reply may = refl
 
 pub prune_spares : (s : State) (reply : Result ℕ PruneRefused) → AdmitsPrune s reply → is_spent_prune reply ≡ false
-prune_spares s (Ok count) may = refl
-prune_spares s (Err PruneNo.Broken) may = refl
-prune_spares s (Err PruneNo.DiskFault) may = refl
-prune_spares s (Err (PruneNo.Spent counter)) may = absurd may
+prune_spares s (Err (PruneNo.Spent Calls)) may = absurd may
+prune_spares s reply may = refl
 
 no_open : {A B : Type 0} → ((Calls ≡ Life) × A) ⊎ ((Calls ≡ File) × B) → ⊥
 no_open (inl h) = let is : Calls ≡ Life = h.0 in cc
 no_open (inr h) = let is : Calls ≡ File = h.0 in cc
 
 pub open_spares : (tells : Bool) (s : State) (kept : Reopened) (reply : Result (Unit {0}) OpenCause) → AdmitsReopen tells s (reopen_reply reply kept) → is_spent_open reply ≡ false
-open_spares tells s kept (Ok done) may = refl
-open_spares tells s kept (Err OpenNo.DiskFault) may = refl
-open_spares tells s kept (Err (OpenNo.BadCheck file at)) may = refl
-open_spares tells s kept (Err (OpenNo.BadLog file at)) may = refl
-open_spares tells s kept (Err (OpenNo.OverCapacity count)) may = refl
-open_spares tells s kept (Err OpenNo.NoMemory) may = refl
-open_spares tells s kept (Err (OpenNo.Spent Txn)) may = refl
-open_spares tells s kept (Err (OpenNo.Spent Number)) may = refl
-open_spares tells s kept (Err (OpenNo.Spent File)) may = refl
-open_spares tells s kept (Err (OpenNo.Spent Check)) may = refl
-open_spares tells s kept (Err (OpenNo.Spent Life)) may = refl
 open_spares tells s kept (Err (OpenNo.Spent Calls)) may = absurd (no_open may)
+open_spares tells s kept reply may = refl
 
 length_made : (spent : Bool) (s : Step) → length (made_if (not spent) s) ≡ calls_of spent
 length_made true s = refl

@@ -27,116 +27,47 @@ counted-one h x is = counted-append h (x ∷ []) ∙ ap (λ b. counted_calls h +
 counted-none : (h : List Step) (x : Step) → is_counted x.call ≡ false → counted_calls (h ++ x ∷ []) ≡ counted_calls h
 counted-none h x is = counted-append h (x ∷ []) ∙ ap (λ b. counted_calls h ++ keep b x []) is ∙ append-nil (counted_calls h)
 
--- A call that is not counted changes nothing.
-pub stays : (s : State) (call : Call) → is_counted call ≡ false → after s call ≡ s
-stays s (RollbackPut token true) is = absurd (cc)
-stays s (RollbackPut token false) is = refl
-stays s (RollbackTake token true) is = absurd (cc)
-stays s (RollbackTake token false) is = refl
-stays s call is = absurd (cc)
+-- What a rollback of a stale token does, each call does that is not counted.
+uncounted : {A : Type 0} (f : Call → A) (a : A) → ((token : Token) → f (RollbackPut token false) ≡ a) → ((token : Token) → f (RollbackTake token false) ≡ a) → (call : Call) → is_counted call ≡ false → f call ≡ a
+uncounted f a put take (RollbackPut token false) is = put token
+uncounted f a put take (RollbackTake token false) is = take token
+uncounted f a put take call is = absurd (cc)
 
-keep_state : (b : Bool) (s : State) (x : Step) (h : List Step) → (b ≡ false → after s x.call ≡ s) → ((t : State) → state_after t (counted_calls h) ≡ state_after t h) → state_after s (keep b x (counted_calls h)) ≡ state_after (after s x.call) h
-keep_state true s x h same more = more (after s x.call)
-keep_state false s x h same more = more s ∙ ap (λ (t : State). state_after t h) (sym (same refl))
+-- A fold over calls is the same over those that are counted, where no rollback of a stale token changes it.
+module _ {A : Type 0} (F : State → List Step → A) (op : State → Call → A → A) (by_step : (s : State) (x : Step) (h : List Step) → F s (x ∷ h) ≡ op s x.call (F (after s x.call) h))
+    (no_put : (s : State) (token : Token) (a : A) → op s (RollbackPut token false) a ≡ a) (no_take : (s : State) (token : Token) (a : A) → op s (RollbackTake token false) a ≡ a) where
+  same_fold : (s : State) (h : List Step) → F s (counted_calls h) ≡ F s h
+  same_fold s [] = refl
+  same_fold s (x ∷ h) = by_count (is_counted x.call) refl ∙ ap (op s x.call) (same_fold (after s x.call) h) ∙ sym (by_step s x h)
+    where
+      by_count : (b : Bool) → is_counted x.call ≡ b → F s (keep b x (counted_calls h)) ≡ op s x.call (F (after s x.call) (counted_calls h))
+      by_count true is = by_step s x (counted_calls h)
+      by_count false is = sym (uncounted (λ (call : Call). op s call (F (after s call) (counted_calls h))) (F s (counted_calls h)) (λ token. no_put s token (F s (counted_calls h))) (λ token. no_take s token (F s (counted_calls h))) x.call is)
 
 pub counted_state : (s : State) (h : List Step) → state_after s (counted_calls h) ≡ state_after s h
-counted_state s [] = refl
-counted_state s (x ∷ h) = keep_state (is_counted x.call) s x h (stays s x.call) (λ t. counted_state t h)
+counted_state = same_fold state_after (λ s call t. t) (λ s x h. refl) (λ s token t. refl) (λ s token t. refl)
 
-keep_run : (b : Bool) (tells : Bool) (s : State) (x : Step) (h : List Step) → (b ≡ false → after s x.call ≡ s) → Admits tells s x.call → IsRun tells (after s x.call) (counted_calls h) → IsRun tells s (keep b x (counted_calls h))
-keep_run true tells s x h same may run = (may, run)
-keep_run false tells s x h same may run = subst (λ (t : State). IsRun tells t (counted_calls h)) (same refl) run
+keep_run : (tells : Bool) (s : State) (x : Step) (h : List Step) → Admits tells s x.call → IsRun tells (after s x.call) (counted_calls h) → (b : Bool) → is_counted x.call ≡ b → IsRun tells s (keep b x (counted_calls h))
+keep_run tells s x h may run true is = (may, run)
+keep_run tells s x h may run false is = subst (λ (t : State). IsRun tells t (counted_calls h)) (uncounted (after s) s (λ token. refl) (λ token. refl) x.call is) run
 
 pub counted_run : (tells : Bool) (s : State) (h : List Step) → IsRun tells s h → IsRun tells s (counted_calls h)
 counted_run tells s [] run = tt
-counted_run tells s (x ∷ h) run = keep_run (is_counted x.call) tells s x h (stays s x.call) run.0 (counted_run tells (after s x.call) h run.1)
-
--- nor is anything counted of it
-
-no_puts : (call : Call) → is_counted call ≡ false → put_calls call ≡ 0
-no_puts (RollbackPut token true) is = absurd (cc)
-no_puts (RollbackPut token false) is = refl
-no_puts (RollbackTake token true) is = absurd (cc)
-no_puts (RollbackTake token false) is = refl
-no_puts call is = absurd (cc)
-
-no_takes : (call : Call) → is_counted call ≡ false → take_calls call ≡ 0
-no_takes (RollbackPut token true) is = absurd (cc)
-no_takes (RollbackPut token false) is = refl
-no_takes (RollbackTake token true) is = absurd (cc)
-no_takes (RollbackTake token false) is = refl
-no_takes call is = absurd (cc)
-
-settles_none : (s : State) (call : Call) → is_counted call ≡ false → settled_by s call ≡ []
-settles_none s (RollbackPut token true) is = absurd (cc)
-settles_none s (RollbackPut token false) is = refl
-settles_none s (RollbackTake token true) is = absurd (cc)
-settles_none s (RollbackTake token false) is = refl
-settles_none s call is = absurd (cc)
-
-same_puts : (h : List Step) → put_attempts (counted_calls h) ≡ put_attempts h
-same_puts [] = refl
-same_puts (x ∷ h) = by_count (is_counted x.call) refl (same_puts h)
-  where
-    by_count : (b : Bool) → is_counted x.call ≡ b → put_attempts (counted_calls h) ≡ put_attempts h → put_attempts (keep b x (counted_calls h)) ≡ put_calls x.call + put_attempts h
-    by_count true is more = omega (arith, more)
-    by_count false is more = omega (arith, more, no_puts x.call is)
-
-same_takes : (h : List Step) → take_attempts (counted_calls h) ≡ take_attempts h
-same_takes [] = refl
-same_takes (x ∷ h) = by_count (is_counted x.call) refl (same_takes h)
-  where
-    by_count : (b : Bool) → is_counted x.call ≡ b → take_attempts (counted_calls h) ≡ take_attempts h → take_attempts (keep b x (counted_calls h)) ≡ take_calls x.call + take_attempts h
-    by_count true is more = omega (arith, more)
-    by_count false is more = omega (arith, more, no_takes x.call is)
-
-same_put_successes : (s : State) (h : List Step) → put_successes s (counted_calls h) ≡ put_successes s h
-same_put_successes s [] = refl
-same_put_successes s (x ∷ h) = by_count (is_counted x.call) refl (same_put_successes (after s x.call) h)
-  where
-    by_count : (b : Bool) → is_counted x.call ≡ b → put_successes (after s x.call) (counted_calls h) ≡ put_successes (after s x.call) h → put_successes s (keep b x (counted_calls h)) ≡ length (put_events (settled_by s x.call)) + put_successes (after s x.call) h
-    by_count true is more = omega (arith, more)
-    by_count false is more =
-        let same = ap (λ (t : State). put_successes t (counted_calls h)) (stays s x.call is) in
-        let none : length (put_events (settled_by s x.call)) ≡ 0 = ap (λ (l : List _). length (put_events l)) (settles_none s x.call is) in
-        omega (arith, more, same, none)
-
-same_take_successes : (s : State) (h : List Step) → take_successes s (counted_calls h) ≡ take_successes s h
-same_take_successes s [] = refl
-same_take_successes s (x ∷ h) = by_count (is_counted x.call) refl (same_take_successes (after s x.call) h)
-  where
-    by_count : (b : Bool) → is_counted x.call ≡ b → take_successes (after s x.call) (counted_calls h) ≡ take_successes (after s x.call) h → take_successes s (keep b x (counted_calls h)) ≡ length (taken_numbers (settled_by s x.call)) + take_successes (after s x.call) h
-    by_count true is more = omega (arith, more)
-    by_count false is more =
-        let same = ap (λ (t : State). take_successes t (counted_calls h)) (stays s x.call is) in
-        let none : length (taken_numbers (settled_by s x.call)) ≡ 0 = ap (λ (l : List _). length (taken_numbers l)) (settles_none s x.call is) in
-        omega (arith, more, same, none)
+counted_run tells s (x ∷ h) run = keep_run tells s x h run.0 (counted_run tells (after s x.call) h run.1) (is_counted x.call) refl
 
 same_tally : (s : State) (h : List Step) → tally s (counted_calls h) ≡ tally s h
 same_tally s h = λ i. record {
-  put_attempts = capped (same_puts h i);
-  put_successes = capped (same_put_successes s h i);
-  take_attempts = capped (same_takes h i);
-  take_successes = capped (same_take_successes s h i);
+  put_attempts = capped (same_fold (λ s h. put_attempts h) (λ s call n. put_calls call + n) (λ s x h. refl) (λ s token n. omega arith) (λ s token n. omega arith) s h i);
+  put_successes = capped (same_fold put_successes (λ s call n. length (put_events (settled_by s call)) + n) (λ s x h. refl) (λ s token n. omega arith) (λ s token n. omega arith) s h i);
+  take_attempts = capped (same_fold (λ s h. take_attempts h) (λ s call n. take_calls call + n) (λ s x h. refl) (λ s token n. omega arith) (λ s token n. omega arith) s h i);
+  take_successes = capped (same_fold take_successes (λ s call n. length (taken_numbers (settled_by s call)) + n) (λ s x h. refl) (λ s token n. omega arith) (λ s token n. omega arith) s h i);
 }
 
 same_counts : (start : Opening) (h : List Step) → counts_of start (counted_calls h) ≡ counts_of start h
 same_counts start h = λ i. counts_with (same_tally (opening start) h i) (counted_state (opening start) h i)
 
-keeps_none : (s : State) (call : Call) → is_counted call ≡ false → kept_by s call ≡ []
-keeps_none s (RollbackPut token true) is = absurd (cc)
-keeps_none s (RollbackPut token false) is = refl
-keeps_none s (RollbackTake token true) is = absurd (cc)
-keeps_none s (RollbackTake token false) is = refl
-keeps_none s call is = absurd (cc)
-
 same_journal : (s : State) (h : List Step) → journal s (counted_calls h) ≡ journal s h
-same_journal s [] = refl
-same_journal s (x ∷ h) = by_count (is_counted x.call) refl (same_journal (after s x.call) h)
-  where
-    by_count : (b : Bool) → is_counted x.call ≡ b → journal (after s x.call) (counted_calls h) ≡ journal (after s x.call) h → journal s (keep b x (counted_calls h)) ≡ kept_by s x.call ++ journal (after s x.call) h
-    by_count true is more = ap (λ (l : List _). kept_by s x.call ++ l) more
-    by_count false is more = ap (λ (t : State). journal t (counted_calls h)) (sym (stays s x.call is)) ∙ more ∙ ap (λ (l : List _). l ++ journal (after s x.call) h) (sym (keeps_none s x.call is))
+same_journal = same_fold journal (λ s call l. kept_by s call ++ l) (λ s x h. refl) (λ s token l. refl) (λ s token l. refl)
 
 -- calls and those of them that are counted lead to one state, with one journal
 pub agrees : (start : Opening) (all h : List Step) → counted_calls all ≡ h → Agree start all h
@@ -206,25 +137,33 @@ module _ {C : Type 0} (stands : C → Opening → List Step → Type 0) (tells :
       few = subst (λ (s : State). length s.opened ≤ 1024) (sym (state-push (opening start) h (step by call moment)))
           (few_after (tells d) (state_after (opening start) h) call (answered law c d start h call moment adds k.calls) k.room.few)
 
-  -- a rollback that ended a transaction
-  pub rolled : Law → (rollback : Bool → Call) (IsStale : State → Type 0) → IsRollback rollback IsStale → (c d : C) (start : Opening) (h : List Step) (by moment : ℕ) → AddsOne (stands c) (stands d) (rollback true) moment → Keeps stands c start h → Keeps stands d start (h ++ step by (rollback true) moment ∷ [])
-  rolled law rollback IsStale is c d start h by moment adds k =
-      let call = rollback true in
-      let now : length (state_after (opening start) (h ++ step by call moment ∷ [])).opened ≡ length (after (state_after (opening start) h) call).opened = ap (λ (s : State). length s.opened) (state-push (opening start) h (step by call moment)) in
-      let ends = is.ends (tells d) (state_after (opening start) h) (answered law c d start h call moment adds k.calls) in
-      record {
-        calls = counts_more c d start h by call moment adds (is.counted true) k.calls;
-        room = record { few = omega (arith, now, ends, k.room.few); room = omega (arith, now, ends, k.room.room, length-append h (step by call moment ∷ [])) };
-      }
-
-  -- a rollback has room
-  pub room : Law → (rollback : Bool → Call) (IsStale : State → Type 0) → IsRollback rollback IsStale → (c d : C) (start : Opening) (h : List Step) (moment : ℕ) → AddsOne (stands c) (stands d) (rollback true) moment → Keeps stands c start h → length h + 1 < 2 ^ 64
-  room law rollback IsStale is c d start h moment adds k = let e = is.ends (tells d) (state_after (opening start) h) (answered law c d start h (rollback true) moment adds k.calls) in let r = k.room.room in omega arith
-
-  -- a rollback of a stale token
-  pub stale : Law → (rollback : Bool → Call) (IsStale : State → Type 0) → IsRollback rollback IsStale → (c d : C) (start : Opening) (h : List Step) (moment : ℕ) → AddsOne (stands c) (stands d) (rollback false) moment → Keeps stands c start h → Keeps stands d start h × IsStale (state_after (opening start) h)
-  stale law rollback IsStale is c d start h moment adds k =
-      (record { calls = counts_none c d start h (rollback false) moment adds (is.counted false) k.calls; room = k.room }, is.stale (tells d) (state_after (opening start) h) (answered law c d start h (rollback false) moment adds k.calls))
-
   pub answered_by : Law → (c d : C) (start : Opening) (h : List Step) (call : Call) (moment : ℕ) → AddsOne (stands c) (stands d) call moment → Keeps stands c start h → Admits (tells d) (state_after (opening start) h) call
   answered_by law c d start h call moment adds k = answered law c d start h call moment adds k.calls
+
+  -- A rollback that was made of a channel that was kept.
+  module _ (law : Law) {rollback : Bool → Call} {IsStale : State → Type 0} (is : IsRollback rollback IsStale) (c d : C) (start : Opening) (h : List Step) (moment : ℕ) (ended : Bool) (adds : AddsOne (stands c) (stands d) (rollback ended) moment) (k : Keeps stands c start h) where
+    adds_as : (b : Bool) → ended ≡ b → AddsOne (stands c) (stands d) (rollback b) moment
+    adds_as b so = subst (λ (e : Bool). AddsOne (stands c) (stands d) (rollback e) moment) so adds
+
+    ends : ended ≡ true → length (after (state_after (opening start) h) (rollback true)).opened + 1 ≡ length (state_after (opening start) h).opened
+    ends so = is.ends (tells d) (state_after (opening start) h) (answered law c d start h (rollback true) moment (adds_as true so) k.calls)
+
+    -- one that ended a transaction is counted, for which there is room
+    pub room : ended ≡ true → length h + 1 < 2 ^ 64
+    room so = let e = ends so in let r = k.room.room in omega arith
+
+    pub rolled : ended ≡ true → (by : ℕ) → Keeps stands d start (h ++ step by (rollback true) moment ∷ [])
+    rolled so by =
+        let last = step by (rollback true) moment in
+        let now : length (state_after (opening start) (h ++ last ∷ [])).opened ≡ length (after (state_after (opening start) h) (rollback true)).opened = ap (λ (s : State). length s.opened) (state-push (opening start) h last) in
+        record {
+          calls = counts_more c d start h by (rollback true) moment (adds_as true so) (is.counted true) k.calls;
+          room = record { few = omega (arith, now, ends so, k.room.few); room = omega (arith, now, ends so, k.room.room, length-append h (last ∷ [])) };
+        }
+
+    -- one of a stale token is not
+    pub stale : ended ≡ false → Keeps stands d start h × IsStale (state_after (opening start) h)
+    stale so = (
+      record { calls = counts_none c d start h (rollback false) moment (adds_as false so) (is.counted false) k.calls; room = k.room },
+      is.stale (tells d) (state_after (opening start) h) (answered law c d start h (rollback false) moment (adds_as false so) k.calls),
+    )

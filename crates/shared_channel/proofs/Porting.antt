@@ -29,7 +29,7 @@ use Rattle.channel_face.specs.History.{reopen_reply}
 use Rattle.channel_face.specs.Machine.{Reopen}
 use Rattle.channel_face.specs.Keeps.{is_spent_open}
 use Rattle.shared_channel.specs.Durables.{Mends}
-use Rattle.shared_channel.specs.Calls.{step, state_seen, made_if, Bounds, Answers, RolledBack}
+use Rattle.shared_channel.specs.Calls.{step, state_seen, made_if, Bounds, Looks, Called, Answers, RolledBack}
 use Rattle.shared_channel.specs.Holding.{Holds, IsReleased}
 use Rattle.shared_channel.specs.declared.shared.Holder.{Holder}
 use Rattle.atomic_table.specs.Seated.{TableId}
@@ -137,8 +137,18 @@ pub gains : (by : ℕ) (v w : View) (P : List Own → List Own → Type 0) → W
 gains by v w P f start earlier own is = (f.0, (is.0 ∙ sym f.1.base, is.1, ap (λ l. l ++ f.0) is.2 ∙ sym f.1.owned), subst (λ l. P l f.0) (sym is.2) f.2)
 
 -- a pass after such calls
+pub went_later : (p q : Known) (more : List Own) → (q.table_id ≡ p.table_id) × (q.number ≡ p.number) → Went p.number p.view q.view more → Later p q
+went_later p q more same f = record { table = same.0; number = same.1; base = f.base; passes = f.passes; numbers = f.numbers; begins = f.begins; under = f.under }
+
 pub later : (p q : Known) (P : List Own → List Own → Type 0) → (q.table_id ≡ p.table_id) × (q.number ≡ p.number) → WentBy p.number p.view q.view P → Later p q
-later p q P same f = record { table = same.0; number = same.1; base = f.1.base; passes = f.1.passes; numbers = f.1.numbers; begins = f.1.begins; under = f.1.under }
+later p q P same f = went_later p q f.0 same f.1
+
+-- what the clauses of a face say of a call that led from one pass to the other
+abbrev pub Told : Known → Known → (List Own → List Own → Type 0) → Type 0
+Told p q P = (length p.view.seen ≤ length q.view.seen) × Gains (AreOwned p.view) (AreOwned q.view) P × Later p q
+
+pub told : (p q : Known) (P : List Own → List Own → Type 0) → (q.table_id ≡ p.table_id) × (q.number ≡ p.number) → WentBy p.number p.view q.view P → Told p q P
+told p q P same f = (goes_grows p.number p.view q.view P f, gains p.number p.view q.view P f, later p q P same f)
 
 pub own_one : (ns : List ℕ) (x : Step) → calls_by ns (x ∷ []) ≡ x ∷ [] → has ns x.pass ≡ true
 own_one ns x is = by_own (has ns x.pass) is
@@ -172,15 +182,30 @@ abbrev pub IsOne : ℕ → Bool → Call → List Own → List Own → Type 0
 IsOne seen spent call earlier more = (s : State) × IsMade seen spent call s more
 
 module _ {C : Type 0} (stands : C → Opening → List Step → Type 0) (tells : C → Bool) (moment : C → ℕ) where
+  -- no call was made, and so the channel was left
+  pub none_made : (v w : View) (by : ℕ) → (l : Looks stands tells v w) → Went by v w [] × Saw stands w (owned v) (state_seen w)
+  none_made v w by l =
+      let went = went_made by v w [] l.1.made tt in
+      (went, record { channel = l.0; calls = l.1.seen.calls; own_all = went.owned ∙ append-nil (owned v); state = refl })
+
+  -- one call was made
+  pub one_made : (v w : View) (by : ℕ) (call : Call) → (c : Called stands tells moment v by call w) → Went by v w (one call (begun v c.1.made.0) (moment c.0))
+  one_made v w by call c =
+      let x : Step = step by call (moment c.0) in
+      let m = c.1.made in
+      subst (Went by v w) (ap (λ b. own_if b (record { call = call; before = begun v m.0; moment = moment c.0 }) []) (own_one v.numbers x m.5)) (went_made by v w (x ∷ []) m (refl, tt))
+
   -- a call that may have been spent
   pub one_call : (spent : Bool) (v w : View) (by : ℕ) (call : Call) → Answers stands tells moment spent v by call w → WentBy by v w (IsOne (length w.seen) spent call)
-  one_call true v w by call a = let m = a.0.1.made in ([], went_made by v w [] m tt, (begun v m.0, (refl, let b = a.1 in omega arith)))
-  one_call false v w by call a =
-      let c = a.0.0 in
-      let x : Step = step by call (moment c) in
-      let m = a.0.1.made in
-      let s = begun v m.0 in
-      (own_calls v.numbers s (x ∷ []), went_made by v w (x ∷ []) m (refl, tt), (s, (moment c, ap (λ b. own_if b (record { call = call; before = s; moment = moment c }) []) (own_one v.numbers x m.5))))
+  one_call true v w by call a = ([], (none_made v w by a.0).0, (begun v a.0.1.made.0, (refl, let b = a.1 in omega arith)))
+  one_call false v w by call a = (_, one_made v w by call a.0, (begun v a.0.1.made.0, (moment a.0.0, refl)))
+
+  -- such a call, and what follows it
+  call_then : (spent : Bool) (v w x : View) (by by' : ℕ) (call : Call) (Q R : List Own → List Own → Type 0) → Answers stands tells moment spent v by call w → by' ≡ by → WentBy by' w x Q
+      → ((s : State) (a b : List Own) → IsMade (length x.seen) spent call s a → Q (owned v ++ a) b → R (owned v) (a ++ b)) → WentBy by v x R
+  call_then spent v w x by by' call Q R a one goes join =
+      let next = subst (λ (n : ℕ). WentBy n w x Q) one goes in
+      goes_then by v w x (IsOne (length w.seen) spent call) Q R (one_call spent v w by call a) next (λ p q h e. join h.0 p q (made_up (length w.seen) (length x.seen) spent call h.0 p (goes_grows by w x Q next) h.1) e)
 
   -- what it has seen then, a channel stands for
   pub all_seen : (spent : Bool) (v w : View) (by : ℕ) (call : Call) → Answers stands tells moment spent v by call w → SawAll stands tells w
@@ -194,7 +219,7 @@ module _ {C : Type 0} (stands : C → Opening → List Step → Type 0) (tells :
   mended_seen v w by (Err cause) m = all_seen (is_spent_open m.0) v w by (Reopen (reopen_reply m.0 m.1.0)) m.1.1
 
   pub mended_goes : (v w : View) (by : ℕ) (result : Result Bool OpenCause) → Mends stands tells moment v by result w → WentBy by v w (λ earlier more. Unit {0})
-  mended_goes v w by (Ok false) m = ([], went_made by v w [] m.0.1.made tt, tt)
+  mended_goes v w by (Ok false) m = ([], (none_made v w by m.0).0, tt)
   mended_goes v w by (Ok true) m = let f = one_call (is_spent_open m.0) v w by (Reopen (reopen_reply m.0 m.1.0)) m.1.1 in (f.0, f.1, tt)
   mended_goes v w by (Err cause) m = let f = one_call (is_spent_open m.0) v w by (Reopen (reopen_reply m.0 m.1.0)) m.1.1 in (f.0, f.1, tt)
 
@@ -204,58 +229,36 @@ module _ {C : Type 0} (stands : C → Opening → List Step → Type 0) (tells :
 
   -- a rollback
   pub rolls : (ended : Bool) (v w : View) (by : ℕ) (rollback : Bool → Call) (IsStale : State → Type 0) → RolledBack stands tells moment ended v by (rollback true) IsStale w → WentBy by v w (IsRolledBack (Saw stands w) rollback IsStale)
-  rolls true v w by rollback IsStale r =
-      let c = r.0 in
-      let x : Step = step by (rollback true) (moment c) in
-      let m = r.1.made in
-      let s = begun v m.0 in
-      (own_calls v.numbers s (x ∷ []), went_made by v w (x ∷ []) m (refl, tt), inl (s, moment c, ap (λ b. own_if b (record { call = rollback true; before = s; moment = moment c }) []) (own_one v.numbers x m.5)))
-  rolls false v w by rollback IsStale r =
-      let went = went_made by v w [] r.0.1.made tt in
-      let here : Saw stands w (owned v) (state_seen w) = record { channel = r.0.0; calls = r.0.1.seen.calls; own_all = went.owned ∙ append-nil (owned v); state = refl } in
-      ([], went, inr (state_seen w, here, r.1, inl refl))
+  rolls true v w by rollback IsStale r = (_, one_made v w by (rollback true) r, inl (begun v r.1.made.0, moment r.0, refl))
+  rolls false v w by rollback IsStale r = let n = none_made v w by r.0 in ([], n.0, inr (state_seen w, n.1, r.1, inl refl))
 
   -- a stage and what follows
 
   pub staged_put : (v w x : View) (by by' : ℕ) (token : Token) (t : Ticket) (sure : Bool) (result : Result ℕ FaceRefused) → Answers stands tells moment false v by (StagePut token (Ok t)) w → by' ≡ by → Settles stands by' w x t sure → result ≡ in_doubt_unless sure t.first → WentBy by v x (IsPutStage (Saw stands x) (length x.seen) token result)
-  staged_put v w x by by' token t sure result a same ends is =
-      goes_then by v w x (IsOne (length w.seen) false (StagePut token (Ok t))) (λ earlier more. Ends (Saw stands x) (length x.seen) t earlier more sure) (IsPutStage (Saw stands x) (length x.seen) token result) (one_call false v w by (StagePut token (Ok t)) a) (subst (λ (n : ℕ). Settles stands n w x t sure) same ends)
-      (λ p q h e. (Ok t, h.0, p, q, refl, h.1, (sure, e, is)))
+  staged_put v w x by by' token t sure result a one ends is =
+      call_then false v w x by by' (StagePut token (Ok t)) (λ earlier more. Ends (Saw stands x) (length x.seen) t earlier more sure) (IsPutStage (Saw stands x) (length x.seen) token result) a one ends (λ s p q m e. (Ok t, s, p, q, refl, m, (sure, e, is)))
+
+  pub staged_take : (v w x : View) (by by' : ℕ) (token : Token) (t : Ticket) (sure : Bool) (result : Result (Unit {0}) FaceRefused) → Answers stands tells moment false v by (StageTake token (Ok t)) w → by' ≡ by → Settles stands by' w x t sure → result ≡ in_doubt_unless sure tt → WentBy by v x (IsTakeCommit (Saw stands x) (length x.seen) token result)
+  staged_take v w x by by' token t sure result a one ends is =
+      call_then false v w x by by' (StageTake token (Ok t)) (λ earlier more. Ends (Saw stands x) (length x.seen) t earlier more sure) (IsTakeCommit (Saw stands x) (length x.seen) token result) a one ends (λ s p q m e. (Ok t, s, p, q, refl, m, (sure, e, is)))
+
+  -- one that was refused, and the rollback of the token that came back
+  unstaged : (v w x : View) (by by' : ℕ) (token other : Token) (cause : StageCause) (ended : Bool) (stage : Token → Result Ticket StageCause → Call) (rollback : Token → Bool → Call) (IsStale : Token → State → Type 0) (R : List Own → List Own → Type 0)
+      → Answers stands tells moment (is_spent_stage (Err cause)) v by (stage token (Err cause)) w → by' ≡ by → other ≡ token → RolledBack stands tells moment ended w by' (rollback other true) (IsStale other) x
+      → ((s : State) (a b : List Own) → IsMade (length x.seen) (is_spent_stage (Err cause)) (stage token (Err cause)) s a → IsRolledBack (Saw stands x) (rollback token) (IsStale token) (owned v ++ a) b → R (owned v) (a ++ b)) → WentBy by v x R
+  unstaged v w x by by' token other cause ended stage rollback IsStale R a one same rolled join =
+      let back = subst (λ (k : Token). WentBy by' w x (IsRolledBack (Saw stands x) (rollback k) (IsStale k))) same (rolls ended w x by' (rollback other) (IsStale other) rolled) in
+      call_then (is_spent_stage (Err cause)) v w x by by' (stage token (Err cause)) (IsRolledBack (Saw stands x) (rollback token) (IsStale token)) R a one back join
 
   pub unstaged_put : (v w x : View) (by by' : ℕ) (token other : Token) (cause : StageCause) (ended : Bool) → Answers stands tells moment (is_spent_stage (Err cause)) v by (StagePut token (Err cause)) w → by' ≡ by → other ≡ token → RolledBack stands tells moment ended w by' (RollbackPut other true) (λ s. puts_of s other ≡ None) x
       → WentBy by v x (IsPutStage (Saw stands x) (length x.seen) token (Err (Face.Stage cause)))
   unstaged_put v w x by by' token other cause ended a one same rolled =
-      let back = subst (λ (n : ℕ). WentBy n w x (IsRolledBack (Saw stands x) (RollbackPut other) (λ s. puts_of s other ≡ None))) one (rolls ended w x by' (RollbackPut other) (λ s. puts_of s other ≡ None) rolled) in
-      goes_then by v w x (IsOne (length w.seen) (is_spent_stage (Err cause)) (StagePut token (Err cause))) (IsRolledBack (Saw stands x) (RollbackPut other) (λ s. puts_of s other ≡ None)) (IsPutStage (Saw stands x) (length x.seen) token (Err (Face.Stage cause))) (one_call (is_spent_stage (Err cause)) v w by (StagePut token (Err cause)) a) back
-      (λ p q h e. (
-        Err cause,
-        h.0,
-        p,
-        q,
-        refl,
-        made_up (length w.seen) (length x.seen) (is_spent_stage (Err cause)) (StagePut token (Err cause)) h.0 p (goes_grows by w x (IsRolledBack (Saw stands x) (RollbackPut other) (λ s. puts_of s other ≡ None)) back) h.1,
-        (subst (λ (k : Token). IsRolledBack (Saw stands x) (RollbackPut k) (λ s. puts_of s k ≡ None) (owned v ++ p) q) same e, refl),
-      ))
-
-  pub staged_take : (v w x : View) (by by' : ℕ) (token : Token) (t : Ticket) (sure : Bool) (result : Result (Unit {0}) FaceRefused) → Answers stands tells moment false v by (StageTake token (Ok t)) w → by' ≡ by → Settles stands by' w x t sure → result ≡ in_doubt_unless sure tt → WentBy by v x (IsTakeCommit (Saw stands x) (length x.seen) token result)
-  staged_take v w x by by' token t sure result a same ends is =
-      goes_then by v w x (IsOne (length w.seen) false (StageTake token (Ok t))) (λ earlier more. Ends (Saw stands x) (length x.seen) t earlier more sure) (IsTakeCommit (Saw stands x) (length x.seen) token result) (one_call false v w by (StageTake token (Ok t)) a) (subst (λ (n : ℕ). Settles stands n w x t sure) same ends)
-      (λ p q h e. (Ok t, h.0, p, q, refl, h.1, (sure, e, is)))
+      unstaged v w x by by' token other cause ended StagePut RollbackPut (λ k s. puts_of s k ≡ None) (IsPutStage (Saw stands x) (length x.seen) token (Err (Face.Stage cause))) a one same rolled (λ s p q m e. (Err cause, s, p, q, refl, m, (e, refl)))
 
   pub unstaged_take : (v w x : View) (by by' : ℕ) (token other : Token) (cause : StageCause) (ended : Bool) → Answers stands tells moment (is_spent_stage (Err cause)) v by (StageTake token (Err cause)) w → by' ≡ by → other ≡ token → RolledBack stands tells moment ended w by' (RollbackTake other true) (λ s. takes_of s other ≡ None) x
       → WentBy by v x (IsTakeCommit (Saw stands x) (length x.seen) token (Err (Face.Stage cause)))
   unstaged_take v w x by by' token other cause ended a one same rolled =
-      let back = subst (λ (n : ℕ). WentBy n w x (IsRolledBack (Saw stands x) (RollbackTake other) (λ s. takes_of s other ≡ None))) one (rolls ended w x by' (RollbackTake other) (λ s. takes_of s other ≡ None) rolled) in
-      goes_then by v w x (IsOne (length w.seen) (is_spent_stage (Err cause)) (StageTake token (Err cause))) (IsRolledBack (Saw stands x) (RollbackTake other) (λ s. takes_of s other ≡ None)) (IsTakeCommit (Saw stands x) (length x.seen) token (Err (Face.Stage cause))) (one_call (is_spent_stage (Err cause)) v w by (StageTake token (Err cause)) a) back
-      (λ p q h e. (
-        Err cause,
-        h.0,
-        p,
-        q,
-        refl,
-        made_up (length w.seen) (length x.seen) (is_spent_stage (Err cause)) (StageTake token (Err cause)) h.0 p (goes_grows by w x (IsRolledBack (Saw stands x) (RollbackTake other) (λ s. takes_of s other ≡ None)) back) h.1,
-        (subst (λ (k : Token). IsRolledBack (Saw stands x) (RollbackTake k) (λ s. takes_of s k ≡ None) (owned v ++ p) q) same e, refl),
-      ))
+      unstaged v w x by by' token other cause ended StageTake RollbackTake (λ k s. takes_of s k ≡ None) (IsTakeCommit (Saw stands x) (length x.seen) token (Err (Face.Stage cause))) a one same rolled (λ s p q m e. (Err cause, s, p, q, refl, m, (e, refl)))
 
   -- puts, one after another
 
@@ -282,20 +285,26 @@ module _ {C : Type 0} (stands : C → Opening → List Step → Type 0) (tells :
   pub batch_begun : (v w x y : View) (by by' by'' : ℕ) (events : List Content) (token other : Token) (reply : Result (Unit {0}) PutRefused) (result : Result ℕ FaceRefused) → Answers stands tells moment false v by (BeginPut (Ok token)) w → by' ≡ by → by'' ≡ by → other ≡ token → WentBy by' w x (λ earlier. ArePutUpTo (length x.seen) token events reply)
       → WentBy by'' x y (λ earlier more. EndsPuts (Saw stands y) (length y.seen) other reply earlier more result) → WentBy by v y (IsPutBatch (Saw stands y) (length y.seen) events result)
   batch_begun v w x y by by' by'' events token other reply result a one two same puts ends =
-      goes_then by v w y (IsOne (length w.seen) false (BeginPut (Ok token))) (λ earlier more. EndsBegin (Saw stands y) (length y.seen) events (Ok token) earlier more result) (IsPutBatch (Saw stands y) (length y.seen) events result) (one_call false v w by (BeginPut (Ok token)) a)
+      call_then false v w y by by (BeginPut (Ok token)) (λ earlier more. EndsBegin (Saw stands y) (length y.seen) events (Ok token) earlier more result) (IsPutBatch (Saw stands y) (length y.seen) events result) a refl
       (goes_then by w x y (λ earlier. ArePutUpTo (length x.seen) token events reply) (λ earlier more. EndsPuts (Saw stands y) (length y.seen) other reply earlier more result) (λ earlier more. EndsBegin (Saw stands y) (length y.seen) events (Ok token) earlier more result)
       (subst (λ (n : ℕ). WentBy n w x (λ earlier. ArePutUpTo (length x.seen) token events reply)) one puts)
       (subst (λ (n : ℕ). WentBy n x y (λ earlier more. EndsPuts (Saw stands y) (length y.seen) other reply earlier more result)) two ends)
       (λ p q all e. (reply, p, q, refl, puts_up (length x.seen) (length y.seen) token events reply p (goes_grows by'' x y (λ earlier more. EndsPuts (Saw stands y) (length y.seen) other reply earlier more result) ends) all, subst (λ (k : Token). EndsPuts (Saw stands y) (length y.seen) k reply (owned w ++ p) q result) same e)))
-      (λ p q h e. (Ok token, h.0, p, q, refl, h.1, e))
+      (λ s p q m e. (Ok token, s, p, q, refl, m, e))
 
   -- takes
 
-  pub take_begun : (v w : View) (by : ℕ) (reply : Result Token BeginRefused) (result : Result Token FaceRefused) → Answers stands tells moment (is_spent_begin reply) v by (BeginTake reply) w → result ≡ begun_as reply → WentBy by v w (λ earlier. IsTakeBegun (length w.seen) result)
-  take_begun v w by reply result a is = goes_as by v w (IsOne (length w.seen) (is_spent_begin reply) (BeginTake reply)) (λ earlier. IsTakeBegun (length w.seen) result) (one_call (is_spent_begin reply) v w by (BeginTake reply) a) (λ p h. (reply, h.0, h.1, is))
+  pub take_begun : (p q : Known) (reply : Result Token BeginRefused) (result : Result Token FaceRefused) → (q.table_id ≡ p.table_id) × (q.number ≡ p.number) → Answers stands tells moment (is_spent_begin reply) p.view p.number (BeginTake reply) q.view → result ≡ begun_as reply
+      → Told p q (λ earlier. IsTakeBegun (length q.view.seen) result)
+  take_begun p q reply result same a is =
+      let made = one_call (is_spent_begin reply) p.view q.view p.number (BeginTake reply) a in
+      told p q (λ earlier. IsTakeBegun (length q.view.seen) result) same (made.0, made.1, (reply, made.2.0, made.2.1, is))
 
-  pub taken : (v w : View) (by : ℕ) (token : Token) (reply : Result Taken TakeRefused) (result : Result (Option Content) FaceRefused) → Answers stands tells moment (is_spent_take reply) v by (Take token reply) w → result ≡ taken_event reply → WentBy by v w (λ earlier. IsTake (length w.seen) token result)
-  taken v w by token reply result a is = goes_as by v w (IsOne (length w.seen) (is_spent_take reply) (Take token reply)) (λ earlier. IsTake (length w.seen) token result) (one_call (is_spent_take reply) v w by (Take token reply) a) (λ p h. (reply, h.0, h.1, is))
+  pub taken : (p q : Known) (token : Token) (reply : Result Taken TakeRefused) (result : Result (Option Content) FaceRefused) → (q.table_id ≡ p.table_id) × (q.number ≡ p.number) → Answers stands tells moment (is_spent_take reply) p.view p.number (Take token reply) q.view → result ≡ taken_event reply
+      → Told p q (λ earlier. IsTake (length q.view.seen) token result)
+  taken p q token reply result same a is =
+      let made = one_call (is_spent_take reply) p.view q.view p.number (Take token reply) a in
+      told p q (λ earlier. IsTake (length q.view.seen) token result) same (made.0, made.1, (reply, made.2.0, made.2.1, is))
 
 pub puts_none : (by : ℕ) (v : View) (token : Token) → WentBy by v v (λ earlier. ArePut token [])
 puts_none by v token = ([], went_none by v, refl)
@@ -304,59 +313,32 @@ puts_none by v token = ([], went_none by v, refl)
 settled_in : {C : Type 0} (stands : C → Opening → List Step → Type 0) (v w : View) (by moment : ℕ) (ticket : Ticket) (sure : Bool) (k : View) (c : C) (es : List Step) → StandsCounting stands c k.base k.seen → Making v [] k → has v.numbers by ≡ true
     → SettledBy (settled (state_seen k) ticket) by moment k es sure → w ≡ saw v w.seen → w.seen ≡ k.seen ++ es → Settles stands by v w ticket sure
 settled_in stands v w by moment ticket sure k c es stood making own found_by is all =
-    (more, g, (s, found (settled s ticket) found_by, ends (settled s ticket) found_by))
+    let r = by_answer (settled (state_seen k) ticket) found_by in
+    (r.0, r.1, (state_seen k, r.2, r.3))
   where
-    s : State
-    s = state_seen k
+    Goes : (List Own → Type 0) → Type 0
+    Goes P = (more : List Own) × Went by v w more × IsFound (Saw stands w) (owned v) more (state_seen k) × P more
 
-    more : List Own
-    more = own_calls v.numbers s es
+    none : (P : List Own → Type 0) → es ≡ [] → P [] → Goes P
+    none P made shown =
+        let base : w.base ≡ k.base = ap (λ (x : View). x.base) is ∙ sym (ap (λ (x : View). x.base) making.1) in
+        let on : w.seen ≡ k.seen ++ [] = all ∙ ap (λ (l : List Step). k.seen ++ l) made in
+        let seen : w.seen ≡ k.seen = on ∙ append-nil k.seen in
+        let went : Went by v w [] = went_turn by v k w [] making is on tt in
+        let calls = subst (λ (x : Opening × List Step). StandsCounting stands c x.0 x.1) (λ i. (sym base i, sym seen i)) stood in
+        ([], went, record { channel = c; calls = calls; own_all = went.owned ∙ append-nil (owned v); state = λ i. state_after (opening (base i)) (seen i) }, shown)
 
-    under_flush : (spent : Bool) (reply : Result (Unit {0}) FlushRefused) → AreUnder by (made_if (not spent) (step by (Flush reply) moment))
-    under_flush true reply = tt
-    under_flush false reply = (refl, tt)
+    flushed : (spent : Bool) (reply : Result (Unit {0}) FlushRefused) → es ≡ made_if (not spent) (step by (Flush reply) moment) → Bounds spent (2 ^ 64 - 1025) (length k.seen) → Goes (IsMade (length w.seen) spent (Flush reply) (state_seen k))
+    flushed true reply made bound = none (IsMade (length w.seen) true (Flush reply) (state_seen k)) made (refl, let l = ap length all in omega (arith, length-append k.seen es))
+    flushed false reply made bound =
+        let x : Step = step by (Flush reply) moment in
+        let went = went_turn by v k w (x ∷ []) making is (all ∙ ap (λ (l : List Step). k.seen ++ l) made) (refl, tt) in
+        (one (Flush reply) (state_seen k) moment, subst (Went by v w) (ap (λ b. own_if b (record { call = Flush reply; before = state_seen k; moment = moment }) []) own) went, refl, (moment, refl))
 
-    under : (a : Settled) → SettledBy a by moment k es sure → AreUnder by es
-    under Yes h = subst (AreUnder by) (sym h.0) tt
-    under No h = subst (AreUnder by) (sym h.1) (under_flush (is_spent_flush h.0) h.0)
-    under InDoubt h = subst (AreUnder by) (sym h.0) tt
-
-    g : Went by v w more
-    g = went_turn by v k w es making is all (under (settled s ticket) found_by)
-
-    base : w.base ≡ k.base
-    base = ap (λ (x : View). x.base) is ∙ sym (ap (λ (x : View). x.base) making.1)
-
-    here : es ≡ [] → Saw stands w (owned v) s
-    here none =
-        let seen : w.seen ≡ k.seen = all ∙ ap (λ (l : List Step). k.seen ++ l) none ∙ append-nil k.seen in
-        record {
-          channel = c;
-          calls = subst (λ (o : Opening). StandsCounting stands c o w.seen) (sym base) (subst (λ (l : List Step). StandsCounting stands c k.base l) (sym seen) stood);
-          own_all = g.owned ∙ ap (λ (l : List Step). owned v ++ own_calls v.numbers s l) none ∙ append-nil (owned v);
-          state = λ i. state_after (opening (base i)) (seen i);
-        }
-
-    without : es ≡ [] → IsFound (Saw stands w) (owned v) more s
-    without none = subst (λ (l : List Step). IsFound (Saw stands w) (owned v) (own_calls v.numbers s l) s) (sym none) (here none)
-
-    with_flush : (spent : Bool) (reply : Result (Unit {0}) FlushRefused) → es ≡ made_if (not spent) (step by (Flush reply) moment) → IsFound (Saw stands w) (owned v) more s
-    with_flush true reply made = without made
-    with_flush false reply made = subst (λ (l : List Own). IsFound (Saw stands w) (owned v) l s) (sym (ap (own_calls v.numbers s) made ∙ ap (λ b. own_if b (record { call = Flush reply; before = s; moment = moment }) []) own)) refl
-
-    found : (a : Settled) → SettledBy a by moment k es sure → IsFound (Saw stands w) (owned v) more s
-    found Yes h = without h.0
-    found No h = with_flush (is_spent_flush h.0) h.0 h.1
-    found InDoubt h = without h.0
-
-    flushed : (spent : Bool) (reply : Result (Unit {0}) FlushRefused) → es ≡ made_if (not spent) (step by (Flush reply) moment) → Bounds spent (2 ^ 64 - 1025) (length k.seen) → IsMade (length w.seen) spent (Flush reply) s more
-    flushed true reply made bound = (ap (own_calls v.numbers s) made, let l = ap length all in omega (arith, length-append k.seen es))
-    flushed false reply made bound = (moment, ap (own_calls v.numbers s) made ∙ ap (λ b. own_if b (record { call = Flush reply; before = s; moment = moment }) []) own)
-
-    ends : (a : Settled) → SettledBy a by moment k es sure → EndsAs (length w.seen) s a more sure
-    ends Yes h = (ap (own_calls v.numbers s) h.0, h.1)
-    ends No h = (h.0, flushed (is_spent_flush h.0) h.0 h.1 h.2, h.3)
-    ends InDoubt h = (ap (own_calls v.numbers s) h.0, h.1)
+    by_answer : (a : Settled) → SettledBy a by moment k es sure → Goes (λ more. EndsAs (length w.seen) (state_seen k) a more sure)
+    by_answer Yes h = none (λ more. EndsAs (length w.seen) (state_seen k) Yes more sure) h.0 (refl, h.1)
+    by_answer No h = let f = flushed (is_spent_flush h.0) h.0 h.1 h.2 in (f.0, f.1, f.2, (h.0, f.3, h.3))
+    by_answer InDoubt h = none (λ more. EndsAs (length w.seen) (state_seen k) InDoubt more sure) h.0 (refl, h.1)
 
 -- what the one who holds the lock did to settle a ticket
 pub settles : {C : Type 0} (stands : C → Opening → List Step → Type 0) (tells : C → Bool) (table held : TableId) (number : ℕ) (before after : List View) (p : Known) → known table number before ≡ p → has (view_of before).numbers number ≡ true → (a b : Holder C) → a.by ≡ number → Making (view_of before) [] a.seat.me.0

@@ -43,10 +43,6 @@ without_one number (o ∷ opened) is = by_test (without_one number opened) (o.0 
     by_test more true h = omega arith
     by_test more false h = omega (arith, more h)
 
-settled_opened : (b : Bool) (s : State) → (settle_if b s).opened ≡ s.opened
-settled_opened true s = refl
-settled_opened false s = refl
-
 few_begun : (s : State) → begin_refusal s ≡ None → length s.opened < 1024
 few_begun s is = by_tests s.broken (nat_le 1024 (length s.opened)) refl (nat_le (2 ^ 64 - 1) s.txn) is
   where
@@ -76,24 +72,12 @@ spilled_few false s few = few
 after_put_few : (s : State) (token : Token) (puts : Option (List Content)) (event : Content) (reply : Result PutDone PutRefused) → length s.opened ≤ 1024 → length (after_put s token puts event reply).opened ≤ 1024
 after_put_few s token puts event (Ok done) few = put_few (settle_if done.spilled s) token.number puts event (spilled_few done.spilled s few)
 after_put_few s token puts event (Err PutNo.DiskFault) few = few
-after_put_few s token puts event (Err PutNo.Stale) few = few
-after_put_few s token puts event (Err PutNo.Broken) few = few
-after_put_few s token puts event (Err (PutNo.Spent counter)) few = few
-after_put_few s token puts event (Err (PutNo.TxnFull n)) few = few
-after_put_few s token puts event (Err (PutNo.TooLarge n)) few = few
-after_put_few s token puts event (Err (PutNo.Full n)) few = few
-after_put_few s token puts event (Err PutNo.NoMemory) few = few
+after_put_few s token puts event (Err refused) few = few
 
 after_take_few : (s : State) (token : Token) (takes : Option (List ℕ)) (items : List (ℕ × Content)) (reply : Result Taken TakeRefused) → length s.opened ≤ 1024 → length (after_take s token takes items reply).opened ≤ 1024
 after_take_few s token takes items (Ok taken) few = take_few (settle_if taken.spilled s) token.number takes items (spilled_few taken.spilled s few)
 after_take_few s token takes items (Err TakeNo.DiskFault) few = few
-after_take_few s token takes items (Err TakeNo.Stale) few = few
-after_take_few s token takes items (Err TakeNo.Broken) few = few
-after_take_few s token takes items (Err (TakeNo.Spent counter)) few = few
-after_take_few s token takes items (Err (TakeNo.TxnFull n)) few = few
-after_take_few s token takes items (Err TakeNo.ReadFault) few = few
-after_take_few s token takes items (Err (TakeNo.Damaged kept found)) few = few
-after_take_few s token takes items (Err TakeNo.NoMemory) few = few
+after_take_few s token takes items (Err refused) few = few
 
 close_few : (number : ℕ) (s : State) → length s.opened ≤ 1024 → length (close number s).opened ≤ 1024
 close_few number s few = omega (arith, without_length number s.opened)
@@ -112,46 +96,25 @@ few_after tells s (BeginTake reply) may few = begin_few (Takes []) s reply may f
 few_after tells s (Put token event reply) may few = after_put_few s token (puts_of s token) event reply few
 few_after tells s (Take token reply) may few = after_take_few s token (takes_of s token) (free s) reply few
 few_after tells s (StagePut token (Ok given)) may few = stage_few token.number (entry_of token.number s.opened) s few
-few_after tells s (StagePut token (Err cause)) may few = few
 few_after tells s (StageTake token (Ok given)) may few = stage_few token.number (entry_of token.number s.opened) s few
-few_after tells s (StageTake token (Err cause)) may few = few
-few_after tells s (Flush (Ok done)) may few = few
-few_after tells s (Flush (Err FlushNo.Broken)) may few = few
-few_after tells s (Flush (Err FlushNo.DiskFault)) may few = few
-few_after tells s (Flush (Err (FlushNo.Spent counter))) may few = few
 few_after tells s (RollbackPut token true) may few = close_few token.number s few
-few_after tells s (RollbackPut token false) may few = few
 few_after tells s (RollbackTake token true) may few = close_few token.number s few
-few_after tells s (RollbackTake token false) may few = few
-few_after tells s (Checkpoint (Ok done)) may few = few
-few_after tells s (Checkpoint (Err CheckNo.CheckFault)) may few = few
+few_after tells s (Flush (Err FlushNo.DiskFault)) may few = few
 few_after tells s (Checkpoint (Err CheckNo.DiskFault)) may few = few
-few_after tells s (Checkpoint (Err CheckNo.Broken)) may few = few
-few_after tells s (Checkpoint (Err (CheckNo.Spent counter))) may few = few
-few_after tells s (Prune reply) may few = few
 few_after tells s (Reopen (Ok r)) may few = omega arith
-few_after tells s (Reopen (Err e)) may few = few
+few_after tells s call may few = few
 
--- a rollback of a token that is not stale ends one
-
-puts_there : (o : Option Entry) → true ≡ is_some_of (as_puts o) → is_some_of o ≡ true
-puts_there None is = absurd (cc)
-puts_there (Some e) is = refl
-
-takes_there : (o : Option Entry) → true ≡ is_some_of (as_takes o) → is_some_of o ≡ true
-takes_there None is = absurd (cc)
-takes_there (Some e) is = refl
+-- a rollback of a token that is not stale ends one, of puts or of takes
+ends : {A : Type 0} (read : Option Entry → Option A) → is_some_of (read None) ≡ false → (s : State) (token : Token) (t : Bool) → true ≡ is_some_of (cond t (read (entry_of token.number s.opened)) None) → length (close token.number s).opened + 1 ≡ length s.opened
+ends read none s token false is = absurd (cc)
+ends read none s token true is = without_one token.number s.opened (there (entry_of token.number s.opened) is)
+  where
+    there : (o : Option Entry) → true ≡ is_some_of (read o) → is_some_of o ≡ true
+    there None e = absurd (cc)
+    there (Some entry) e = refl
 
 pub put_ends : (s : State) (token : Token) → true ≡ is_some_of (puts_of s token) → length (close token.number s).opened + 1 ≡ length s.opened
-put_ends s token is = by_test (token.life == s.life) is
-  where
-    by_test : (t : Bool) → true ≡ is_some_of (cond t (as_puts (entry_of token.number s.opened)) None) → length (without_entry token.number s.opened) + 1 ≡ length s.opened
-    by_test true h = without_one token.number s.opened (puts_there (entry_of token.number s.opened) h)
-    by_test false h = absurd (cc)
+put_ends s token is = ends as_puts refl s token (token.life == s.life) is
 
 pub take_ends : (s : State) (token : Token) → true ≡ is_some_of (takes_of s token) → length (close token.number s).opened + 1 ≡ length s.opened
-take_ends s token is = by_test (token.life == s.life) is
-  where
-    by_test : (t : Bool) → true ≡ is_some_of (cond t (as_takes (entry_of token.number s.opened)) None) → length (without_entry token.number s.opened) + 1 ≡ length s.opened
-    by_test true h = without_one token.number s.opened (takes_there (entry_of token.number s.opened) h)
-    by_test false h = absurd (cc)
+take_ends s token is = ends as_takes refl s token (token.life == s.life) is

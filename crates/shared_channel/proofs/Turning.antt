@@ -6,7 +6,7 @@ use Rattle.channel_face.specs.Token.{Token}
 use Rattle.channel_face.specs.Machine.{State, Call, Flush, Admits}
 use Rattle.channel_face.specs.Calls.{flushed}
 use Rattle.channel_face.specs.Faces.{is_spent_flush, is_spent_stage}
-use Rattle.channel_face.specs.History.{Opening, Step, Said, AddsOne, by_pass, opening, state_after}
+use Rattle.channel_face.specs.History.{Opening, Step, Said, AddsOne, Shows, by_pass, opening, state_after}
 use Rattle.channel_face.specs.declared.replies.FlushRefused.{FlushRefused}
 use Rattle.channel_face.specs.declared.replies.Ticket.{Ticket}
 use Rattle.channel_face.specs.declared.replies.StageCause.{StageCause}
@@ -24,7 +24,7 @@ use Rattle.shared_channel.specs.declared.shared.Holder.{Holder}
 use Rattle.std.specs.List.{All}
 use Rattle.std.proofs.lemmas.List.Elements.{All-push}
 use Rattle.shared_channel.specs.Passes.{Known, known, new_pass, new_passes, view_of, AreMarks, IsPass}
-use Rattle.shared_channel.proofs.Keeping.{IsRollback, Law, TellsAsOpened, answered_by, kept_run, keeps_more, rolled, room, stale}
+use Rattle.shared_channel.proofs.Keeping.{Law, TellsAsOpened, answered_by, kept_run, kept_shows, keeps_more}
 
 -- while fewer calls were counted, none is spent
 pub unspent : (spent : Bool) (most calls : ℕ) → Bounds spent most calls → calls < most → spent ≡ false
@@ -32,19 +32,31 @@ unspent true most calls bound below = absurd (omega arith)
 unspent false most calls bound below = refl
 
 module _ {C : Type 0} (stands : C → Opening → List Step → Type 0) (tells : C → Bool) (table : TableId) where
-  -- no call was made
-  pub makes_none : (h : Holder C) → Holds stands table h → Makes stands table [] h h
-  makes_none h holds = record {
-    holds = holds;
+  -- no call was made that is counted
+  pub makes_none_by : (h : Holder C) (d : C) → Holds stands table h → Keeps stands d h.seat.me.0.base h.seat.me.0.seen → Makes stands table [] h (record { seat = h.seat; home = record { channel = d }; by = h.by; calls = h.calls })
+  makes_none_by h d holds keeps = record {
+    holds = (holds.0, (holds.1.0, holds.1.1, holds.1.2, keeps), holds.2, holds.3);
     by = refl;
     seen = sym (append-nil h.seat.me.0.seen);
     goes_on = λ v es making own. subst (λ (l : List Step). Making v l h.seat.me.0) (sym (append-nil es)) making;
   }
 
+  -- no call was made
+  pub makes_none : (h : Holder C) → Holds stands table h → Makes stands table [] h h
+  makes_none h holds = makes_none_by h h.home.channel holds holds.1.3
+
+  -- what the channel shows of its state is so of what was seen
+  pub shows_seen : (h : Holder C) (P : State → Type 0) → Holds stands table h → Shows (stands h.home.channel) P → P (state_seen h.seat.me.0)
+  shows_seen h P holds shows = kept_shows stands tells h.home.channel h.seat.me.0.base h.seat.me.0.seen P shows holds.1.3.calls
+
+  -- what the lock says of a call that it counted
+  abbrev pub IsCounted : Step → Holder C → Holder C → Type 0
+  IsCounted s old new =
+      (new.seat.me ≡ (with_call s old.seat.me.0, old.seat.me.1)) × ((v : View) (es : List Step) → Making v es old.seat.me.0 → has v.numbers old.by ≡ true → Making v (es ++ s ∷ []) new.seat.me.0)
+
   -- a call was made and counted
-  pub makes_kept : (s : Step) (old new : Holder C) → Holds stands table old → Keeps stands new.home.channel old.seat.me.0.base (old.seat.me.0.seen ++ s ∷ []) → new.seat.table_id ≡ old.seat.table_id → new.by ≡ old.by → new.calls ≡ old.calls + 1
-      → new.seat.me ≡ (with_call s old.seat.me.0, old.seat.me.1) → ((v : View) (es : List Step) → Making v es old.seat.me.0 → has v.numbers old.by ≡ true → Making v (es ++ s ∷ []) new.seat.me.0) → Makes stands table (s ∷ []) old new
-  makes_kept s old new holds keeps same by more is goes = record {
+  pub makes_kept : (s told : Step) (old new : Holder C) → Holds stands table old → Keeps stands new.home.channel old.seat.me.0.base (old.seat.me.0.seen ++ s ∷ []) → new.seat.table_id ≡ old.seat.table_id → new.by ≡ old.by → new.calls ≡ old.calls + 1 → told ≡ s → IsCounted told old new → Makes stands table (s ∷ []) old new
+  makes_kept s told old new holds keeps same by more told_is counted = record {
     holds = (
       same ∙ holds.0,
       (ap (λ m. m.0.turn) is ∙ holds.1.0, ap (λ m. m.0.live) is ∙ holds.1.1, ap (λ m. m.1) is ∙ holds.1.2, subst (λ (x : Opening × List Step). Keeps stands new.home.channel x.0 x.1) (λ i. (sym (ap (λ m. m.0.base) is) i, sym (ap (λ m. m.0.seen) is) i)) keeps),
@@ -53,8 +65,14 @@ module _ {C : Type 0} (stands : C → Opening → List Step → Type 0) (tells :
     );
     by = by;
     seen = ap (λ m. m.0.seen) is;
-    goes_on = goes;
+    goes_on = counts.1;
   }
+    where
+      counts : IsCounted s old new
+      counts = subst (λ (x : Step). IsCounted x old new) told_is counted
+
+      is : new.seat.me ≡ (with_call s old.seat.me.0, old.seat.me.1)
+      is = counts.0
 
   -- calls after calls
   pub makes_then : (x y : List Step) (a b c : Holder C) → Makes stands table x a b → Makes stands table y b c → Makes stands table (x ++ y) a c
@@ -66,78 +84,41 @@ module _ {C : Type 0} (stands : C → Opening → List Step → Type 0) (tells :
   }
 
   module _ (moment : C → ℕ) where
-    -- no more calls are counted
-    pub tries_none : (h : Holder C) → Holds stands table h → 2 ^ 64 - 1025 ≤ h.calls → Makes stands table [] h h × Bounds true (2 ^ 64 - 1025) (length h.seat.me.0.seen)
-    tries_none h holds many = (makes_none h holds, let c = holds.3 in omega arith)
-
-    -- a call was made, of which it is known what the channel keeps
-    pub tries_kept : (call : Call) (spent : Bool) (old new : Holder C) → Holds stands table old → Keeps stands new.home.channel old.seat.me.0.base (old.seat.me.0.seen ++ made_by moment old call new ∷ []) → spent ≡ false → old.calls < 2 ^ 64 - 1025 → new.seat.table_id ≡ old.seat.table_id → new.by ≡ old.by → new.calls ≡ old.calls + 1
-        → new.seat.me ≡ (with_call (made_by moment old call new) old.seat.me.0, old.seat.me.1) → ((v : View) (es : List Step) → Making v es old.seat.me.0 → has v.numbers old.by ≡ true → Making v (es ++ made_by moment old call new ∷ []) new.seat.me.0)
-        → Tries stands table moment spent call old new
-    tries_kept call spent old new holds keeps sure below same by more is goes =
-        subst (λ (b : Bool). Tries stands table moment b call old new) (sym sure) (makes_kept (made_by moment old call new) old new holds keeps same by more is goes, (let c = holds.3 in omega arith))
-
     -- a call was made, and the machine refuses none because no more are counted
-    pub tries_one : Law stands tells → (call : Call) (spent : Bool) (old new : Holder C) → Holds stands table old → AddsOne (stands old.home.channel) (stands new.home.channel) call (moment new.home.channel) → is_counted call ≡ true
-        → (Admits (tells new.home.channel) (state_seen old.seat.me.0) call → spent ≡ false) → old.calls < 2 ^ 64 - 1025 → new.seat.table_id ≡ old.seat.table_id → new.by ≡ old.by → new.calls ≡ old.calls + 1
-        → new.seat.me ≡ (with_call (made_by moment old call new) old.seat.me.0, old.seat.me.1) → ((v : View) (es : List Step) → Making v es old.seat.me.0 → has v.numbers old.by ≡ true → Making v (es ++ made_by moment old call new ∷ []) new.seat.me.0)
-        → Tries stands table moment spent call old new
-    tries_one law call spent old new holds adds counted never below same by more is goes =
+    pub tries_made : (call : Call) (spent : Bool) (old new : Holder C) → Holds stands table old → Makes stands table (made_by moment old call new ∷ []) old new → spent ≡ false → old.calls < 2 ^ 64 - 1025 → Tries stands table moment spent call old new
+    tries_made call spent old new holds made sure below = subst (λ (b : Bool). Tries stands table moment b call old new) (sym sure) (made, (let c = holds.3 in omega arith))
+
+    -- the same of a call that may follow any other
+    pub tries_one : Law stands tells → (call : Call) (told : Step) (spent : Bool) (old new : Holder C) → Holds stands table old → AddsOne (stands old.home.channel) (stands new.home.channel) call (moment new.home.channel) → is_counted call ≡ true → (Admits (tells new.home.channel) (state_seen old.seat.me.0) call → spent ≡ false)
+        → old.calls < 2 ^ 64 - 1025 → new.seat.table_id ≡ old.seat.table_id → new.by ≡ old.by → new.calls ≡ old.calls + 1 → told ≡ made_by moment old call new → IsCounted told old new → Tries stands table moment spent call old new
+    tries_one law call told spent old new holds adds counted never below same by more told_is counts =
         let k = old.seat.me.0 in
-        tries_kept call spent old new holds
-        (keeps_more stands tells law old.home.channel new.home.channel k.base k.seen old.by call (moment new.home.channel) adds counted (let c = holds.3 in omega arith) holds.1.3)
-        (never (answered_by stands tells law old.home.channel new.home.channel k.base k.seen call (moment new.home.channel) adds holds.1.3)) below same by more is goes
-
-    module _ (law : Law stands tells) {rollback : Bool → Call} {IsStale : State → Type 0} (is : IsRollback rollback IsStale) (h : Holder C) (holds : Holds stands table h) (d : C) (ended : Bool) (adds : AddsOne (stands h.home.channel) (stands d) (rollback ended) (moment d)) where
-      -- a rollback has room
-      pub rolls_room : ended ≡ true → length h.seat.me.0.seen + 1 < 2 ^ 64
-      rolls_room so = room stands tells law rollback IsStale is h.home.channel d h.seat.me.0.base h.seat.me.0.seen (moment d) (subst (λ (b : Bool). AddsOne (stands h.home.channel) (stands d) (rollback b) (moment d)) so adds) holds.1.3
-
-      -- a rollback of a stale token is not counted
-      pub rolls_none : ended ≡ false → Makes stands table [] h (record { seat = h.seat; home = record { channel = d }; by = h.by; calls = h.calls }) × IsStale (state_seen h.seat.me.0)
-      rolls_none so =
-          let s = stale stands tells law rollback IsStale is h.home.channel d h.seat.me.0.base h.seat.me.0.seen (moment d) (subst (λ (b : Bool). AddsOne (stands h.home.channel) (stands d) (rollback b) (moment d)) so adds) holds.1.3 in (
-            record {
-              holds = (holds.0, (holds.1.0, holds.1.1, holds.1.2, s.0), holds.2, holds.3);
-              by = refl;
-              seen = sym (append-nil h.seat.me.0.seen);
-              goes_on = λ v es making own. subst (λ (l : List Step). Making v l h.seat.me.0) (sym (append-nil es)) making;
-            },
-            s.1,
-          )
-
-      -- each other one is
-      pub rolls_one : ended ≡ true → Keeps stands d h.seat.me.0.base (h.seat.me.0.seen ++ step h.by (rollback true) (moment d) ∷ [])
-      rolls_one so = rolled stands tells law rollback IsStale is h.home.channel d h.seat.me.0.base h.seat.me.0.seen h.by (moment d) (subst (λ (b : Bool). AddsOne (stands h.home.channel) (stands d) (rollback b) (moment d)) so adds) holds.1.3
+        let keeps = keeps_more stands tells law old.home.channel new.home.channel k.base k.seen old.by call (moment new.home.channel) adds counted (let c = holds.3 in omega arith) holds.1.3 in
+        tries_made call spent old new holds (makes_kept (made_by moment old call new) told old new holds keeps same by more told_is counts)
+        (never (answered_by stands tells law old.home.channel new.home.channel k.base k.seen call (moment new.home.channel) adds holds.1.3)) below
 
     module _ (stage : Result Ticket StageCause → Call) (token : Token) where
       -- a commit whose stage was refused
       pub commit_unstaged : (cause : StageCause) (other : Token) (a b : Holder C) → Holds stands table a → a.calls < 2 ^ 64 - 1026 → Tries stands table moment (is_spent_stage (Err cause)) (stage (Err cause)) a b → other ≡ token
           → MakesCommit stands table (is_spent_stage (Err cause)) stage token (Err (Stage (record { txn = other; cause = cause }))) a b
-      commit_unstaged cause other a b holds below staged same = by_spent (is_spent_stage (Err cause)) (unspent (is_spent_stage (Err cause)) (2 ^ 64 - 1025) (length a.seat.me.0.seen) staged.1 (omega (arith, few))) staged
-        where
-          few : length a.seat.me.0.seen < 2 ^ 64 - 1026
-          few = let c = holds.3 in omega arith
-
-          by_spent : (s : Bool) → s ≡ false → Tries stands table moment s (stage (Err cause)) a b → MakesCommit stands table s stage token (Err (Stage (record { txn = other; cause = cause }))) a b
-          by_spent true is t = absurd (cc)
-          by_spent false is t = (record { call = stage (Err cause); moment = moment b.home.channel } ∷ [], t.0, inl (cause, refl, ap (λ (k : Token). Err (Stage (record { txn = k; cause = cause }))) same), few)
+      commit_unstaged cause other a b holds below staged same =
+          let few : length a.seat.me.0.seen < 2 ^ 64 - 1026 = let c = holds.3 in omega arith in
+          let sure = unspent (is_spent_stage (Err cause)) (2 ^ 64 - 1025) (length a.seat.me.0.seen) staged.1 (omega (arith, few)) in
+          let made = subst (λ (s : Bool). Tries stands table moment s (stage (Err cause)) a b) sure staged in
+          subst (λ (s : Bool). MakesCommit stands table s stage token (Err (Stage (record { txn = other; cause = cause }))) a b) (sym sure)
+          (record { call = stage (Err cause); moment = moment b.home.channel } ∷ [], made.0, inl (cause, refl, ap (λ (k : Token). Err (Stage (record { txn = k; cause = cause }))) same), few)
 
       -- a commit whose flush was tried
       pub commit_flushed : (ticket : Ticket) (reply : Result (Unit {0}) FlushRefused) (a b c : Holder C) → Holds stands table a → a.calls < 2 ^ 64 - 1026 → Tries stands table moment false (stage (Ok ticket)) a b → Tries stands table moment (is_spent_flush reply) (Flush reply) b c
           → MakesCommit stands table false stage token (flushed reply ticket) a c
-      commit_flushed ticket reply a b c holds below staged tried = by_spent (is_spent_flush reply) (unspent (is_spent_flush reply) (2 ^ 64 - 1025) (length b.seat.me.0.seen) tried.1 (let l = ap length staged.0.seen in omega (arith, few, length-append a.seat.me.0.seen (made_by moment a (stage (Ok ticket)) b ∷ [])))) tried.0
-        where
-          few : length a.seat.me.0.seen < 2 ^ 64 - 1026
-          few = let c = holds.3 in omega arith
-
-          own : List Said
-          own = record { call = stage (Ok ticket); moment = moment b.home.channel } ∷ record { call = Flush reply; moment = moment c.home.channel } ∷ []
-
-          by_spent : (s : Bool) → s ≡ false → Makes stands table (made_if (not s) (made_by moment b (Flush reply) c)) b c → MakesCommit stands table false stage token (flushed reply ticket) a c
-          by_spent true is m = absurd (cc)
-          by_spent false is m =
-              (own, subst (λ (n : ℕ). Makes stands table (made_by moment a (stage (Ok ticket)) b ∷ step n (Flush reply) (moment c.home.channel) ∷ []) a c) staged.0.by (makes_then (made_by moment a (stage (Ok ticket)) b ∷ []) (made_by moment b (Flush reply) c ∷ []) a b c staged.0 m), inr (ticket, reply, refl, refl), few)
+      commit_flushed ticket reply a b c holds below staged tried =
+          let few : length a.seat.me.0.seen < 2 ^ 64 - 1026 = let c = holds.3 in omega arith in
+          let first = made_by moment a (stage (Ok ticket)) b in
+          let one : length b.seat.me.0.seen < 2 ^ 64 - 1025 = let l = ap length staged.0.seen in omega (arith, few, length-append a.seat.me.0.seen (first ∷ [])) in
+          let m = subst (λ (s : Bool). Tries stands table moment s (Flush reply) b c) (unspent (is_spent_flush reply) (2 ^ 64 - 1025) (length b.seat.me.0.seen) tried.1 one) tried in
+          let own : List Said = record { call = stage (Ok ticket); moment = moment b.home.channel } ∷ record { call = Flush reply; moment = moment c.home.channel } ∷ [] in
+          let both = makes_then (first ∷ []) (made_by moment b (Flush reply) c ∷ []) a b c staged.0 m.0 in
+          (own, subst (λ (n : ℕ). Makes stands table (first ∷ step n (Flush reply) (moment c.home.channel) ∷ []) a c) staged.0.by both, inr (ticket, reply, refl, refl), few)
 
       -- what calls a commit made
       pub commit_makes : (spent : Bool) (result : Result Ticket (CommitRefused Token)) (a b : Holder C) → MakesCommit stands table spent stage token result a b → (calls : List Step) × Makes stands table calls a b

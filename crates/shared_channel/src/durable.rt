@@ -6,7 +6,6 @@ ghost use Rattle.shared_channel.specs.Holding.{Holds, Tries};
 ghost use Rattle.channel_face.specs.Keeps.{is_spent_check, is_spent_prune};
 
 use crate::home::Home;
-use crate::making::MOST;
 use crate::pass::Pass;
 use crate::shared::{Holder, Shared};
 use channel_face::{CheckRefused, Counter, Durable, PruneRefused};
@@ -19,7 +18,7 @@ impl<C: Durable> Shared<C> {
         ensures { Tries C.stands self.now.turn.table.shared.table_id C.moment
             (is_spent_check result) (Checkpoint result) holder.old holder.new }
     {
-        if holder.calls >= MOST {
+        if self.is_spent(holder) {
             return Err(CheckRefused::Spent {
                 counter: Counter::Calls,
             });
@@ -40,7 +39,7 @@ impl<C: Durable> Shared<C> {
         ensures { Tries C.stands self.now.turn.table.shared.table_id C.moment
             (is_spent_prune result) (Prune result) holder.old holder.new }
     {
-        if holder.calls >= MOST {
+        if self.is_spent(holder) {
             return Err(PruneRefused::Spent {
                 counter: Counter::Calls,
             });

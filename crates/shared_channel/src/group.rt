@@ -1,7 +1,7 @@
 // Whole transactions through a pass. Staging and settling take the lock once each, so that one flush may settle what several
 // callers staged.
 ghost use Rattle.std.specs.Prelude.{◌≡◌, ◌<◌, All, length};
-ghost use Rattle.channel_face.specs.Faces.{picked_events, ArePutUpTo, IsPutStage, IsPutBatch, IsTakeCommit};
+ghost use Rattle.channel_face.specs.Faces.{in_doubt_unless, picked_events, ArePutUpTo, IsPutStage, IsPutBatch, IsTakeCommit};
 ghost use Rattle.shared_channel.specs.Ports.{WentBy, Saw, SawAll, Settles};
 
 use crate::pass::Pass;
@@ -16,6 +16,17 @@ fn mark_of(ticket: &Ticket) -> u64 {
         .life
         .saturating_mul(4_294_967_296)
         .saturating_add(ticket.frame)
+}
+
+// What a whole transaction answers that was staged.
+fn in_doubt_unless<T: Drop>(sure: bool, value: T) -> Result<T, FaceRefused>
+    ensures { result ≡ in_doubt_unless sure value }
+{
+    if sure {
+        Ok(value)
+    } else {
+        Err(FaceRefused::InDoubt)
+    }
 }
 
 impl<C: Channel> Shared<C> {
@@ -55,11 +66,8 @@ impl<C: Channel> Shared<C> {
     {
         match self.stage_put(rt, pass, txn) {
             Ok(ticket) => {
-                if self.settle(rt, pass, &ticket) {
-                    Ok(ticket.first)
-                } else {
-                    Err(FaceRefused::InDoubt)
-                }
+                let sure = self.settle(rt, pass, &ticket);
+                in_doubt_unless(sure, ticket.first)
             }
             Err(refused) => {
                 let StageRefused { txn, cause } = refused;
@@ -141,11 +149,8 @@ impl<C: Channel> Shared<C> {
     {
         match self.stage_take(rt, pass, txn) {
             Ok(ticket) => {
-                if self.settle(rt, pass, &ticket) {
-                    Ok(())
-                } else {
-                    Err(FaceRefused::InDoubt)
-                }
+                let sure = self.settle(rt, pass, &ticket);
+                in_doubt_unless(sure, ())
             }
             Err(refused) => {
                 let StageRefused { txn, cause } = refused;

@@ -40,10 +40,7 @@ impl<C: Channel> Shared<C> {
         ensures look { Looks C.stands C.tells pass.old.view pass.new.view }
         ensures answer { result ≡ length (state_seen pass.new.view).items }
     {
-        let holder = self.hold(rt, &mut pass.badge, pass.number);
-        let answer = holder.home.channel.size();
-        pass.calls = self.release(holder, &mut pass.badge);
-        answer
+        self.look(rt, pass).counts.size
     }
 
     /// The most events.
@@ -54,10 +51,7 @@ impl<C: Channel> Shared<C> {
         ensures look { Looks C.stands C.tells pass.old.view pass.new.view }
         ensures answer { result ≡ (state_seen pass.new.view).rules.limits.capacity }
     {
-        let holder = self.hold(rt, &mut pass.badge, pass.number);
-        let answer = holder.home.channel.capacity();
-        pass.calls = self.release(holder, &mut pass.badge);
-        answer
+        self.look(rt, pass).counts.capacity
     }
 
     /// Whether the channel is broken until it is reopened.
@@ -68,10 +62,7 @@ impl<C: Channel> Shared<C> {
         ensures look { Looks C.stands C.tells pass.old.view pass.new.view }
         ensures answer { result ≡ (state_seen pass.new.view).broken }
     {
-        let holder = self.hold(rt, &mut pass.badge, pass.number);
-        let answer = holder.home.channel.is_broken();
-        pass.calls = self.release(holder, &mut pass.badge);
-        answer
+        self.look(rt, pass).broken
     }
 
     /// What is counted since the channel was opened or made.
@@ -82,10 +73,7 @@ impl<C: Channel> Shared<C> {
         ensures look { Looks C.stands C.tells pass.old.view pass.new.view }
         ensures answer { result ≡ counts_of pass.new.view.base pass.new.view.seen }
     {
-        let holder = self.hold(rt, &mut pass.badge, pass.number);
-        let answer = holder.home.channel.counts();
-        pass.calls = self.release(holder, &mut pass.badge);
-        answer
+        self.look(rt, pass).counts
     }
 
     /// What is counted, and whether the channel is broken, of one state. A pass with each number sees no call that it had not

@@ -1,11 +1,11 @@
 // The calls of the one who holds the lock, each counted as it is made.
-ghost use Rattle.std.specs.Prelude.{◌≡◌, IfErr, None, true};
+ghost use Rattle.std.specs.Prelude.{◌≡◌, ◌<◌, ◌≤◌, ◌-◌, ◌^◌, IfErr, None, [], true, false, length};
 ghost use Rattle.channel_face.specs.Calls.{cause_of};
 ghost use Rattle.channel_face.specs.Faces.{is_spent_begin, is_spent_put, is_spent_take, is_spent_stage, is_spent_flush};
 ghost use Rattle.channel_face.specs.Machine.{BeginPut, BeginTake, Put, Take, StagePut, StageTake, Flush, RollbackPut, RollbackTake, puts_of, takes_of};
 ghost use Rattle.shared_channel.specs.Ports.{MakesSettled};
 ghost use Rattle.shared_channel.specs.Calls.{is_spent_commit};
-ghost use Rattle.shared_channel.specs.Holding.{Holds, MakesCommit, Rolls, Tries};
+ghost use Rattle.shared_channel.specs.Holding.{Holds, Makes, MakesCommit, Rolls, Tries};
 
 use crate::home::Home;
 use crate::shared::{Holder, Shared};
@@ -17,15 +17,26 @@ use event_core::Event;
 use std::marker::Brand;
 
 // A call that no rollback needs the count for is made where fewer were counted.
-pub(crate) const MOST: u64 = 18446744073709550591;
+const MOST: u64 = 18446744073709550591;
 
 impl<C: Channel> Shared<C> {
+    // Whether so many calls were counted that the rest of the count is for rollbacks.
+    pub(crate) fn is_spent(&self, holder: &Holder<C>) -> bool
+        requires { Holds C.stands self.now.turn.table.shared.table_id holder.now }
+        ensures none { result ≡ true → Makes C.stands self.now.turn.table.shared.table_id []
+            holder.now holder.now }
+        ensures many { result ≡ true → 2 ^ 64 - 1025 ≤ length holder.now.seat.me.0.seen }
+        ensures few { result ≡ false → holder.now.calls < 2 ^ 64 - 1025 }
+    {
+        holder.calls >= MOST
+    }
+
     pub(crate) fn make_begin_put(&self, holder: &mut Holder<C>) -> Result<PutTxn, BeginRefused>
         requires { Holds C.stands self.now.turn.table.shared.table_id holder.old }
         ensures { Tries C.stands self.now.turn.table.shared.table_id C.moment
             (is_spent_begin result) (BeginPut result) holder.old holder.new }
     {
-        if holder.calls >= MOST {
+        if self.is_spent(holder) {
             return Err(BeginRefused::Spent {
                 counter: Counter::Calls,
             });
@@ -46,7 +57,7 @@ impl<C: Channel> Shared<C> {
         ensures { Tries C.stands self.now.turn.table.shared.table_id C.moment
             (is_spent_begin result) (BeginTake result) holder.old holder.new }
     {
-        if holder.calls >= MOST {
+        if self.is_spent(holder) {
             return Err(BeginRefused::Spent {
                 counter: Counter::Calls,
             });
@@ -73,7 +84,7 @@ impl<C: Channel> Shared<C> {
             (is_spent_put result) (Put txn.old event.now result) holder.old holder.new }
         ensures token { txn.new ≡ txn.old }
     {
-        if holder.calls >= MOST {
+        if self.is_spent(holder) {
             return Err(PutRefused::Spent {
                 counter: Counter::Calls,
             });
@@ -107,7 +118,7 @@ impl<C: Channel> Shared<C> {
             (is_spent_take result) (Take txn.old result) holder.old holder.new }
         ensures token { txn.new ≡ txn.old }
     {
-        if holder.calls >= MOST {
+        if self.is_spent(holder) {
             return Err(TakeRefused::Spent {
                 counter: Counter::Calls,
             });
@@ -133,7 +144,7 @@ impl<C: Channel> Shared<C> {
             (is_spent_stage (cause_of result)) (StagePut txn (cause_of result)) holder.old holder.new }
         ensures back { IfErr result (λ refused. refused.txn ≡ txn) }
     {
-        if holder.calls >= MOST {
+        if self.is_spent(holder) {
             return Err(StageRefused {
                 txn,
                 cause: StageCause::Spent {
@@ -163,7 +174,7 @@ impl<C: Channel> Shared<C> {
             (is_spent_stage (cause_of result)) (StageTake txn (cause_of result)) holder.old holder.new }
         ensures back { IfErr result (λ refused. refused.txn ≡ txn) }
     {
-        if holder.calls >= MOST {
+        if self.is_spent(holder) {
             return Err(StageRefused {
                 txn,
                 cause: StageCause::Spent {
@@ -188,7 +199,7 @@ impl<C: Channel> Shared<C> {
         ensures { Tries C.stands self.now.turn.table.shared.table_id C.moment
             (is_spent_flush result) (Flush result) holder.old holder.new }
     {
-        if holder.calls >= MOST {
+        if self.is_spent(holder) {
             return Err(FlushRefused::Spent {
                 counter: Counter::Calls,
             });

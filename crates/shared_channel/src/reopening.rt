@@ -4,7 +4,6 @@ ghost use Rattle.shared_channel.specs.Durables.{MakesMended, Mends, Reopens, Tri
 ghost use Rattle.shared_channel.specs.Holding.{Holds};
 
 use crate::home::Home;
-use crate::making::MOST;
 use crate::pass::Pass;
 use crate::shared::{Holder, Shared};
 use channel_face::{Counter, OpenCause, Reopen};
@@ -24,7 +23,7 @@ impl<C: Reopen> Shared<C> {
         ensures { TriesReopen C.stands self.now.turn.table.shared.table_id C.moment result
             holder.old holder.new }
     {
-        if holder.calls >= MOST {
+        if self.is_spent(holder) {
             return Err(OpenCause::Spent {
                 counter: Counter::Calls,
             });

@@ -1,25 +1,16 @@
-use Rattle.std.proofs.Common.{rules, refl, subst, ◌≡◌, ◌∷◌, ◌++◌, [], List, true}
-use Rattle.channel_face.specs.History.{Step}
+use Rattle.std.proofs.Common.{rules, refl, ap}
 use Rattle.channel_face.specs.Token.{Token}
 use Rattle.channel_face.specs.Machine.{Put, puts_of}
 use Rattle.channel_face.proofs.Spent.{put_spares}
-use Rattle.channel_lock.specs.Calls.{has}
-use Rattle.channel_lock.specs.Turns.{Making}
-use Rattle.channel_lock.specs.Views.{View, with_call}
 use Rattle.shared_channel.specs.Calls.{state_seen, step}
-use Rattle.shared_channel.proofs.Turning.{tries_none, tries_one}
+use Rattle.shared_channel.proofs.Turning.{tries_one}
 use Rattle.shared_channel.proofs.shared.Shared.make_put.Goals as goal
-
-pub returns-then-holder-ge-MOST-clause-tries : goal.returns-then-holder-ge-MOST-clause-tries
-returns-then-holder-ge-MOST-clause-tries g c = tries_none g.C.Channel.stands g.C.Channel.tells _ g.C.Channel.moment c.args.holder.now c.requires (search rules)
 
 pub returns-clause-tries : goal.returns-clause-tries
 returns-clause-tries g c =
-    let old = c.args.holder.now in
-    let s = state_seen old.seat.me.0 in
-    let m = c.count.new.seat.me in
-    let reply = c.put-reply.result in
-    let made = λ (t : Token). step old.by (Put t c.args.event.now reply) (g.C.Channel.moment c.put-reply.new.self) in
-    tries_one g.C.Channel.stands g.C.Channel.tells _ g.C.Channel.moment g.met.C.Channel.is_run (Put c.args.txn.now c.args.event.now reply) _ old _ c.requires c.put-reply.ensures.step refl (λ may. put_spares s (puts_of s c.args.txn.now) c.args.event.now reply may) (search rules) c.count.ensures.same.0 refl refl
-    (subst (λ (t : Token). m ≡ (with_call (made t) old.seat.me.0, old.seat.me.1)) c.put-reply.ensures.same c.count.ensures.call)
-    (subst (λ (t : Token). (v : View) (es : List Step) → Making v es old.seat.me.0 → has v.numbers old.by ≡ true → Making v (es ++ made t ∷ []) m.0) c.put-reply.ensures.same c.count.ensures.making)
+    let h = c.args.holder.now in
+    let s = state_seen h.seat.me.0 in
+    let t = c.args.txn.now in
+    let r = c.put-reply.result in
+    tries_one g.C.Channel.stands g.C.Channel.tells _ g.C.Channel.moment g.met.C.Channel.is_run (Put t c.args.event.now r) _ _ h _ c.requires c.put-reply.ensures.step refl (λ may. put_spares s (puts_of s t) c.args.event.now r may) (search rules) c.count.ensures.same.0 refl refl
+    (ap (λ (u : Token). step h.by (Put u c.args.event.now r) (g.C.Channel.moment c.put-reply.new.self)) c.put-reply.ensures.same) (c.count.ensures.call, c.count.ensures.making)

@@ -1,28 +1,16 @@
-use Rattle.std.proofs.Common.{rules, refl, subst, ◌≡◌, ◌∷◌, ◌++◌, [], List, true}
+use Rattle.std.proofs.Common.{rules, refl}
 use Rattle.channel_face.specs.Calls.{cause_of}
-use Rattle.channel_face.specs.History.{Step}
-use Rattle.channel_face.specs.Token.{Token}
 use Rattle.channel_face.specs.Machine.{StageTake, takes_of, size_of_list, ticket}
 use Rattle.channel_face.proofs.Spent.{stage_take_spares}
-use Rattle.channel_lock.specs.Calls.{has}
-use Rattle.channel_lock.specs.Turns.{Making}
-use Rattle.channel_lock.specs.Views.{View, with_call}
 use Rattle.shared_channel.specs.Calls.{state_seen, step}
-use Rattle.shared_channel.proofs.Turning.{tries_none, tries_one}
+use Rattle.shared_channel.proofs.Turning.{tries_one}
 use Rattle.shared_channel.proofs.shared.Shared.make_stage_take.Goals as goal
-
-pub returns-then-holder-ge-MOST-clause-tries : goal.returns-then-holder-ge-MOST-clause-tries
-returns-then-holder-ge-MOST-clause-tries g c = tries_none g.C.Channel.stands g.C.Channel.tells _ g.C.Channel.moment c.args.holder.now c.requires (search rules)
 
 pub returns-clause-tries : goal.returns-clause-tries
 returns-clause-tries g c =
-    let old = c.args.holder.now in
-    let s = state_seen old.seat.me.0 in
-    let m = c.count.new.seat.me in
-    let reply = cause_of c.stage_take-reply.result in
-    let made = λ (t : Token). step old.by (StageTake t reply) (g.C.Channel.moment c.stage_take-reply.new.self) in
-    let is : record { life = c.life-life.result; number = c.number-number.result } ≡ c.args.txn = (λ i. record { life = c.life-life.ensures i; number = c.number-number.ensures i }) in
-    tries_one g.C.Channel.stands g.C.Channel.tells _ g.C.Channel.moment g.met.C.Channel.is_run (StageTake c.args.txn reply) _ old _ c.requires c.stage_take-reply.ensures.step refl
-    (λ may. stage_take_spares s (takes_of s c.args.txn) (ticket s 0 (size_of_list (takes_of s c.args.txn))) reply may) (search rules) c.count.ensures.same.0 refl refl
-    (subst (λ (t : Token). m ≡ (with_call (made t) old.seat.me.0, old.seat.me.1)) is c.count.ensures.call)
-    (subst (λ (t : Token). (v : View) (es : List Step) → Making v es old.seat.me.0 → has v.numbers old.by ≡ true → Making v (es ++ made t ∷ []) m.0) is c.count.ensures.making)
+    let h = c.args.holder.now in
+    let s = state_seen h.seat.me.0 in
+    let t = c.args.txn in
+    let r = cause_of c.stage_take-reply.result in
+    tries_one g.C.Channel.stands g.C.Channel.tells _ g.C.Channel.moment g.met.C.Channel.is_run (StageTake t r) _ _ h _ c.requires c.stage_take-reply.ensures.step refl (λ may. stage_take_spares s (takes_of s t) (ticket s 0 (size_of_list (takes_of s t))) r may) (search rules) c.count.ensures.same.0 refl refl
+    (λ i. step h.by (StageTake (record { life = c.life-life.ensures i; number = c.number-number.ensures i }) r) (g.C.Channel.moment c.stage_take-reply.new.self)) (c.count.ensures.call, c.count.ensures.making)

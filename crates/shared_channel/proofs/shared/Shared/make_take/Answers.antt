@@ -1,25 +1,16 @@
-use Rattle.std.proofs.Common.{rules, refl, subst, ◌≡◌, ◌∷◌, ◌++◌, [], List, true}
-use Rattle.channel_face.specs.History.{Step}
+use Rattle.std.proofs.Common.{rules, refl, ap}
 use Rattle.channel_face.specs.Token.{Token}
 use Rattle.channel_face.specs.Machine.{Take, takes_of}
 use Rattle.channel_face.proofs.Spent.{take_spares}
-use Rattle.channel_lock.specs.Calls.{has}
-use Rattle.channel_lock.specs.Turns.{Making}
-use Rattle.channel_lock.specs.Views.{View, with_call}
 use Rattle.shared_channel.specs.Calls.{state_seen, step}
-use Rattle.shared_channel.proofs.Turning.{tries_none, tries_one}
+use Rattle.shared_channel.proofs.Turning.{tries_one}
 use Rattle.shared_channel.proofs.shared.Shared.make_take.Goals as goal
-
-pub returns-then-holder-ge-MOST-clause-tries : goal.returns-then-holder-ge-MOST-clause-tries
-returns-then-holder-ge-MOST-clause-tries g c = tries_none g.C.Channel.stands g.C.Channel.tells _ g.C.Channel.moment c.args.holder.now c.requires (search rules)
 
 pub returns-clause-tries : goal.returns-clause-tries
 returns-clause-tries g c =
-    let old = c.args.holder.now in
-    let s = state_seen old.seat.me.0 in
-    let m = c.count.new.seat.me in
-    let reply = c.take-reply.result in
-    let made = λ (t : Token). step old.by (Take t reply) (g.C.Channel.moment c.take-reply.new.self) in
-    tries_one g.C.Channel.stands g.C.Channel.tells _ g.C.Channel.moment g.met.C.Channel.is_run (Take c.args.txn.now reply) _ old _ c.requires c.take-reply.ensures.step refl (λ may. take_spares _ s (takes_of s c.args.txn.now) reply may) (search rules) c.count.ensures.same.0 refl refl
-    (subst (λ (t : Token). m ≡ (with_call (made t) old.seat.me.0, old.seat.me.1)) c.take-reply.ensures.same c.count.ensures.call)
-    (subst (λ (t : Token). (v : View) (es : List Step) → Making v es old.seat.me.0 → has v.numbers old.by ≡ true → Making v (es ++ made t ∷ []) m.0) c.take-reply.ensures.same c.count.ensures.making)
+    let h = c.args.holder.now in
+    let s = state_seen h.seat.me.0 in
+    let t = c.args.txn.now in
+    let r = c.take-reply.result in
+    tries_one g.C.Channel.stands g.C.Channel.tells _ g.C.Channel.moment g.met.C.Channel.is_run (Take t r) _ _ h _ c.requires c.take-reply.ensures.step refl (λ may. take_spares _ s (takes_of s t) r may) (search rules) c.count.ensures.same.0 refl refl
+    (ap (λ (u : Token). step h.by (Take u r) (g.C.Channel.moment c.take-reply.new.self)) c.take-reply.ensures.same) (c.count.ensures.call, c.count.ensures.making)
