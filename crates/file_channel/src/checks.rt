@@ -4,15 +4,13 @@ ghost use Rattle.flume_host.specs.Causes.{HasCause};
 ghost use Rattle.flume_host.specs.Told.{WhereTold};
 ghost use Rattle.file_channel.specs.Laid.{IsNextCheck, check_name};
 
+use crate::logged::LAST_FILE;
 use flume_host::{Disk, Failed, FileName};
 use std::alloc::{AllocError, Global};
 use std::marker::Model;
 
 /// The length of the buffer in which a checkpoint is spelled.
 const BUFFER: usize = 65_536;
-
-/// The last number of a log file.
-const LAST_LOG: u32 = u32::MAX;
 
 /// The number of the next checkpoint, and the buffer in which it is spelled.
 #[derive(Drop)]
@@ -49,7 +47,7 @@ fn check_name(number: Option<u32>) -> FileName
 {
     match number {
         Some(number) => FileName::Check(number),
-        None => FileName::Log(LAST_LOG),
+        None => FileName::Log(LAST_FILE),
     }
 }
 

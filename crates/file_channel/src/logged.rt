@@ -32,7 +32,7 @@ use flume_host::Disk;
 use std::marker::Model;
 
 /// The last number of a log file.
-const LAST_FILE: u32 = u32::MAX;
+pub(crate) const LAST_FILE: u32 = u32::MAX;
 
 /// The places of a channel's events, and the log in which each of them has its record.
 #[derive(Drop)]

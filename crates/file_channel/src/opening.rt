@@ -23,7 +23,7 @@ ghost use Rattle.file_channel.specs.Stepped.{ShowsOf, StepsOn};
 
 use crate::channel::OpenRefused;
 use crate::checks::{Checks, next_check};
-use crate::logged::LoggedPlaces;
+use crate::logged::{LAST_FILE, LoggedPlaces};
 use channel_face::{Counter, Limits, OpenCause};
 use channel_log::{LogBeginRefused, LogWriter};
 use channel_places::Held;
@@ -34,9 +34,6 @@ use flume_host::{Disk, Failed, FileName, Steps};
 use ring_replay::Replayed;
 use std::alloc::Global;
 use std::sync::ledger::Ledger;
-
-/// The last number of a log file.
-const LAST_FILE: u32 = u32::MAX;
 
 /// The birth of a log file that an opening begins.
 const BEGUN: u16 = 1;
