@@ -28,6 +28,8 @@ returns g c =
     let same = one.1.1 in
     let made = c.reopen-reply.ensures.step in
     let call = Reopen (reopen_reply c.reopen-reply.result one.1.0) in
-    let keeps = subst (λ (e : Step). Keeps g.C.Channel.stands d h.seat.me.0.base (h.seat.me.0.seen ++ e ∷ [])) same one.1.2 in
-    (one.1.0, tries_made g.C.Channel.stands g.C.Channel.tells _ g.C.Channel.moment call _ h _ c.requires (makes_kept g.C.Channel.stands g.C.Channel.tells _ (step h.by call (g.C.Channel.moment d)) one.0 h _ c.requires keeps c.count_one.ensures.same.0 refl refl same (one.2, λ v es making own. one.3 v es making (ap (λ (e : Step). has v.numbers e.pass) same ∙ own)))
-    (open_spares (g.C.Channel.tells d) (state_seen h.seat.me.0) made.0 c.reopen-reply.result (answered_by g.C.Channel.stands g.C.Channel.tells g.met.C.Channel.is_run h.home.channel d h.seat.me.0.base h.seat.me.0.seen _ _ made.1 c.requires.1.3).0) (search rules))
+    let keeps = subst (λ (e : Step). Keeps g.C.Channel.stands d h.seat.me.0.base (h.seat.me.0.seen ++ e ∷ [])) same one.1.2 in (
+      one.1.0,
+      tries_made g.C.Channel.stands g.C.Channel.tells _ g.C.Channel.moment call _ h _ c.requires (makes_kept g.C.Channel.stands g.C.Channel.tells _ (step h.by call (g.C.Channel.moment d)) one.0 h _ c.requires keeps c.count_one.ensures.same.0 refl refl same (one.2, λ v es making own. one.3 v es making (ap (λ (e : Step). has v.numbers e.pass) same ∙ own)))
+          (open_spares (g.C.Channel.tells d) (state_seen h.seat.me.0) made.0 c.reopen-reply.result (answered_by g.C.Channel.stands g.C.Channel.tells g.met.C.Channel.is_run h.home.channel d h.seat.me.0.base h.seat.me.0.seen _ _ made.1 c.requires.1.3).0) (search rules),
+    )

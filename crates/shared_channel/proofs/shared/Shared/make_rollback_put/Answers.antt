@@ -17,6 +17,8 @@ returns-then-not-ended g c = let none = stale g.C.Channel.stands g.C.Channel.tel
 pub returns : goal.returns
 returns g c =
     let h = c.args.holder.now in
-    let m = g.C.Channel.moment c.rollback_put-ended.new.self in
-    (makes_kept g.C.Channel.stands g.C.Channel.tells _ (step h.by (RollbackPut c.args.txn true) m) _ h _ c.requires (rolled g.C.Channel.stands g.C.Channel.tells g.met.C.Channel.is_run (puts_back c.args.txn) _ _ _ _ _ _ c.rollback_put-ended.ensures c.requires.1.3 c.if-not-ended.false h.by) c.count.ensures.same.0 refl refl
-    (λ i. step h.by (RollbackPut (record { life = c.life-life.ensures i; number = c.number-number.ensures i }) true) m) (c.count.ensures.call, c.count.ensures.making), (λ is. absurd (cc)))
+    let m = g.C.Channel.moment c.rollback_put-ended.new.self in (
+      makes_kept g.C.Channel.stands g.C.Channel.tells _ (step h.by (RollbackPut c.args.txn true) m) _ h _ c.requires (rolled g.C.Channel.stands g.C.Channel.tells g.met.C.Channel.is_run (puts_back c.args.txn) _ _ _ _ _ _ c.rollback_put-ended.ensures c.requires.1.3 c.if-not-ended.false h.by) c.count.ensures.same.0 refl refl
+          (λ i. step h.by (RollbackPut (record { life = c.life-life.ensures i; number = c.number-number.ensures i }) true) m) (c.count.ensures.call, c.count.ensures.making),
+      (λ is. absurd (cc)),
+    )
