@@ -6,7 +6,7 @@ use Rattle.flume_host.specs.Causes.{Rose}
 use Rattle.flume_host.specs.Folder.{Files, IsImage, same_name}
 use Rattle.flume_host.specs.Told.{Changes, LeavesOnly, Tells, Told, WhereTold}
 use Rattle.flume_host.specs.declared.names.FileName.TheVariants.{Check}
-use Rattle.flume_host.proofs.Telling.{back, follows, tells_more}
+use Rattle.flume_host.proofs.Telling.{back, follows, some_same, tells_more}
 use Rattle.event_core.specs.Journal.{put_events, taken_numbers}
 use Rattle.channel_log.specs.Frames.{header, opened}
 use Rattle.channel_log.specs.Writer.{Writer}
@@ -69,9 +69,10 @@ flushed_then told mid told' s first second =
 pub flushed_only : (told told' : Option Told) (s : State) → Tells told told' (λ t u. Flushed s t u) → Tells told told' (λ t u. LeavesOnly t u (MayRecover s))
 flushed_only told told' s first = tells_more told told' (λ t u. Flushed s t u) (λ t u. LeavesOnly t u (MayRecover s)) (λ t u old new did. did.images) first
 
-pub lays_then : (told mid told' : Option Told) (number max_file waiting : ℕ) (c : CheckText) → Tells told mid (FillsFiles max_file waiting) → Tells mid told' (Changes (Check number) (IsLaying c) 3) → Tells told told' (Lays number max_file waiting c)
-lays_then told mid told' number max_file waiting c first second =
-    follows told mid told' (FillsFiles max_file waiting) (Changes (Check number) (IsLaying c) 3) (Lays number max_file waiting c) (λ t u v old between new a b. record { mid = u; fills = a; lays = b }) first second
+pub lays_then : (told mid told' : Option Told) (number max_file waiting : ℕ) (c : CheckText) → Tells told mid (FillsFiles max_file waiting) → (waiting ≡ 0 → mid ≡ told) → Tells mid told' (Changes (Check number) (IsLaying c) 3) → Tells told told' (Lays number max_file waiting c)
+lays_then told mid told' number max_file waiting c first nothing second =
+    follows told mid told' (FillsFiles max_file waiting) (Changes (Check number) (IsLaying c) 3) (Lays number max_file waiting c)
+    (λ t u v old between new a b. record { mid = u; fills = a; nothing = λ none. some_same u t (sym between ∙ (nothing none ∙ old)); lays = b }) first second
 
 -- the numbers that are free
 

@@ -96,9 +96,10 @@ is_made (Err refused) = false
 abbrev pub next_after : Result (Unit {0}) CheckRefused → ℕ → ℕ
 next_after reply number = if is_made reply then number + 1 else number
 
--- Log files were filled by a flush; and then the checkpoint of this number alone was written, with at most three syncs: at any moment a crash leaves
--- it passed over, or as this text says.
+-- Log files were filled by a flush, if something waited for one; and then the checkpoint of this number alone was written, with at most three syncs: at
+-- any moment a crash leaves it passed over, or as this text says.
 pub record Lays (number max_file waiting : ℕ) (c : CheckText) (t u : Told) : Type 0 where
   pub mid : Told
   pub fills : FillsFiles max_file waiting t mid
+  pub nothing : waiting ≡ 0 → mid ≡ t
   pub lays : Changes (Check number) (IsLaying c) 3 mid u

@@ -54,6 +54,8 @@ impl<D: Disk + Drop> FileChannel<D> {
             (λ s. IsErrOf result CheckRefused.DiskFault
             → Tells (D.told self.old.0) (D.told self.new.0)
             (FillsFiles s.rules.limits.max_file self.old.1.waiting)) }
+        ensures nothing { self.old.1.waiting ≡ 0
+            → IsErrOf result CheckRefused.DiskFault → ⊥ }
         ensures lays { Shows (StandsOver (D.told self.old.0) (D.faults self.old.0) self.old.1)
             (λ s. is_made result ≡ true
             → (c : CheckText) × Tells (D.told self.old.0) (D.told self.new.0)

@@ -96,6 +96,8 @@ impl<D: Disk + Drop> LoggedPlaces<D> {
             (λ s. IsErrOf result CheckRefused.DiskFault
             → Tells (D.told self.old.0) (D.told self.new.0)
             (FillsFiles s.rules.limits.max_file (length self.old.1.log.bytes))) }
+        ensures nothing { length self.old.1.log.bytes ≡ 0
+            → IsErrOf result CheckRefused.DiskFault → ⊥ }
         ensures lays { ShowsOf (D.told self.old.0) self.old.1 (λ s. is_made result ≡ true
             → (c : CheckText) × Tells (D.told self.old.0) (D.told self.new.0)
             (Lays checks.old s.rules.limits.max_file (length self.old.1.log.bytes) c)) }

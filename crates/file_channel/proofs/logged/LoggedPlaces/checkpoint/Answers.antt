@@ -152,7 +152,7 @@ returns-in-Err-laid-clause-lays g c = rw (← c.self.view_is) (λ s is made.
     let same : c.in-Ok.number ≡ c.args.checks.now = search rules in
     let changes = c.lay_places-laid.ensures.changes in
     subst (λ (n : ℕ). (text : CheckText) × Tells told now (Lays n s.rules.limits.max_file (length m.writing.log.bytes) text)) same
-    (changes.0, lays_then told mid now c.in-Ok.number s.rules.limits.max_file (length m.writing.log.bytes) changes.0 (c.in-Ok-settle_staged.ensures.fills s is still) changes.1))
+    (changes.0, lays_then told mid now c.in-Ok.number s.rules.limits.max_file (length m.writing.log.bytes) changes.0 (c.in-Ok-settle_staged.ensures.fills s is still) (λ none. (c.in-Ok-settle_staged.ensures.nothing none).1) changes.1))
 
 pub returns-in-Err-laid-clause-left : goal.returns-in-Err-laid-clause-left
 returns-in-Err-laid-clause-left g c = rw (← c.self.view_is) (λ s is made.
@@ -229,7 +229,7 @@ returns-clause-lays g c = rw (← c.self.view_is) (λ s is made.
     let same : c.in-Ok.number ≡ c.args.checks.now = search rules in
     let changes = c.lay_places-laid.ensures.changes in
     subst (λ (n : ℕ). (text : CheckText) × Tells told now (Lays n s.rules.limits.max_file (length m.writing.log.bytes) text)) same
-    (changes.0, lays_then told mid now c.in-Ok.number s.rules.limits.max_file (length m.writing.log.bytes) changes.0 (c.in-Ok-settle_staged.ensures.fills s is still) changes.1))
+    (changes.0, lays_then told mid now c.in-Ok.number s.rules.limits.max_file (length m.writing.log.bytes) changes.0 (c.in-Ok-settle_staged.ensures.fills s is still) (λ none. (c.in-Ok-settle_staged.ensures.nothing none).1) changes.1))
 
 pub returns-clause-left : goal.returns-clause-left
 returns-clause-left g c = rw (← c.self.view_is) (λ s is made.
