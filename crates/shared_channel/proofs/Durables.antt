@@ -4,7 +4,7 @@ use Rattle.std.proofs.lemmas.List.{append-nil}
 use Rattle.atomic_table.specs.Seated.{TableId}
 use Rattle.channel_face.specs.Machine.{State, Reopen, Reopened, AdmitsCheckpoint, AdmitsPrune, AdmitsReopen}
 use Rattle.channel_face.specs.History.{Opening, Step, opening, state_after, reopen_reply}
-use Rattle.channel_face.specs.declared.replies.Counter.TheVariants.{Txn, Number, File, Check, Life, Calls}
+use Rattle.channel_face.specs.declared.replies.Counter.TheVariants.{File, Check, Life, Calls}
 use Rattle.channel_face.specs.declared.replies.CheckRefused.{CheckRefused}
 use Rattle.channel_face.specs.declared.replies.CheckRefused.TheVariants as CheckNo
 use Rattle.channel_face.specs.declared.replies.PruneRefused.{PruneRefused}

@@ -137,6 +137,7 @@ module _ {C : Type 0} (stands : C → Opening → List Step → Type 0) (tells :
       few = subst (λ (s : State). length s.opened ≤ 1024) (sym (state-push (opening start) h (step by call moment)))
           (few_after (tells d) (state_after (opening start) h) call (answered law c d start h call moment adds k.calls) k.room.few)
 
+  -- of a channel that was kept the last call was answered as the machine answers it
   pub answered_by : Law → (c d : C) (start : Opening) (h : List Step) (call : Call) (moment : ℕ) → AddsOne (stands c) (stands d) call moment → Keeps stands c start h → Admits (tells d) (state_after (opening start) h) call
   answered_by law c d start h call moment adds k = answered law c d start h call moment adds k.calls
 

@@ -140,6 +140,7 @@ gains by v w P f start earlier own is = (f.0, (is.0 ∙ sym f.1.base, is.1, ap (
 pub went_later : (p q : Known) (more : List Own) → (q.table_id ≡ p.table_id) × (q.number ≡ p.number) → Went p.number p.view q.view more → Later p q
 went_later p q more same f = record { table = same.0; number = same.1; base = f.base; passes = f.passes; numbers = f.numbers; begins = f.begins; under = f.under }
 
+-- the same of calls of which P is true
 pub later : (p q : Known) (P : List Own → List Own → Type 0) → (q.table_id ≡ p.table_id) × (q.number ≡ p.number) → WentBy p.number p.view q.view P → Later p q
 later p q P same f = went_later p q f.0 same f.1
 
@@ -292,7 +293,7 @@ module _ {C : Type 0} (stands : C → Opening → List Step → Type 0) (tells :
       (λ p q all e. (reply, p, q, refl, puts_up (length x.seen) (length y.seen) token events reply p (goes_grows by'' x y (λ earlier more. EndsPuts (Saw stands y) (length y.seen) other reply earlier more result) ends) all, subst (λ (k : Token). EndsPuts (Saw stands y) (length y.seen) k reply (owned w ++ p) q result) same e)))
       (λ s p q m e. (Ok token, s, p, q, refl, m, e))
 
-  -- takes
+  -- what the clauses of a face of takes say of a begin, and of a take
 
   pub take_begun : (p q : Known) (reply : Result Token BeginRefused) (result : Result Token FaceRefused) → (q.table_id ≡ p.table_id) × (q.number ≡ p.number) → Answers stands tells moment (is_spent_begin reply) p.view p.number (BeginTake reply) q.view → result ≡ begun_as reply
       → Told p q (λ earlier. IsTakeBegun (length q.view.seen) result)

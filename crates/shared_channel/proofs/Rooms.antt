@@ -5,7 +5,7 @@ use Rattle.event_core.specs.Content.{Content}
 use Rattle.event_core.specs.declared.journal.Entry.{Entry}
 use Rattle.event_core.specs.declared.journal.Entry.TheVariants.{Puts, Takes}
 use Rattle.channel_face.specs.Token.{Token}
-use Rattle.channel_face.specs.Machine.{State, Call, BeginPut, BeginTake, Put, Take, StagePut, StageTake, Flush, RollbackPut, RollbackTake, Checkpoint, Prune, Reopen, Admits, AdmitsBegin, after, after_begin, add_put, add_take, after_put, after_take, settle_if, stage, close, begin_refusal, entry_of, with_entry, without_entry, as_puts, as_takes, puts_of, takes_of, is_some_of, free}
+use Rattle.channel_face.specs.Machine.{State, Call, BeginPut, BeginTake, Put, Take, StagePut, StageTake, Flush, RollbackPut, RollbackTake, Checkpoint, Reopen, Admits, AdmitsBegin, after, after_begin, add_put, add_take, after_put, after_take, settle_if, stage, close, begin_refusal, entry_of, with_entry, without_entry, as_puts, as_takes, puts_of, takes_of, is_some_of, free}
 use Rattle.channel_face.specs.declared.replies.Put.{Put as PutDone}
 use Rattle.channel_face.specs.declared.replies.Taken.{Taken}
 use Rattle.channel_face.specs.declared.replies.Counter.TheVariants.{Txn}

@@ -1,5 +1,5 @@
 -- What one lock tells, call by call.
-use Rattle.std.proofs.Common.{◌≡◌, ◌<◌, ◌≤◌, ◌-◌, ◌^◌, ◌||◌, ◌+◌, max, get_or, ℕ, zero, suc, Result, List, [], ◌∷◌, ◌++◌, length, length-append, append_assoc, Bool, true, false, not, ⊎_elim, refl, sym, ◌∙◌, ap, subst, inl, inr, Ok, Err, arith}
+use Rattle.std.proofs.Common.{◌≡◌, ◌<◌, ◌≤◌, ◌-◌, ◌^◌, ◌||◌, ◌+◌, max, get_or, ℕ, zero, suc, Result, List, [], ◌∷◌, ◌++◌, length, length-append, append_assoc, Bool, true, false, ⊎_elim, refl, sym, ◌∙◌, ap, subst, inl, inr, Ok, Err, arith}
 use Rattle.std.proofs.lemmas.List.{append-nil}
 use Rattle.atomic_table.specs.Seated.{TableId}
 use Rattle.channel_face.specs.Token.{Token}
@@ -18,7 +18,7 @@ use Rattle.channel_lock.proofs.Histories.{has_left, has-append, all_own, below_f
 use Rattle.std.proofs.lemmas.Bool.{cases_lt}
 use Rattle.channel_lock.specs.Turns.{Making, MadeInTurn, HasAll}
 use Rattle.shared_channel.specs.Counting.{StandsCounting, Keeps, is_counted}
-use Rattle.shared_channel.specs.Calls.{step, made_if, Bounds, Left, Answers, RolledBack, Looks, Commits, state_seen}
+use Rattle.shared_channel.specs.Calls.{step, Bounds, Left, Answers, RolledBack, Looks, Commits, state_seen}
 use Rattle.shared_channel.specs.Holding.{Holds, IsReleased, Makes, MakesCommit, Rolls, Tries, made_by}
 use Rattle.shared_channel.specs.declared.shared.Holder.{Holder}
 use Rattle.std.specs.List.{All}
