@@ -90,7 +90,8 @@ fn claim_each<K: Drop, B: Drop>(
 }
 
 /// Claims the objects that a plan asks for: each of its sinks in turn takes the first that is left of its name. An interceptor finds
-/// none. `Missing` comes exactly where something finds none; then the objects that sinks found are dropped. `NoMemory` leaves all.
+/// none. `Missing` names the least line that finds none, and the objects that sinks found are dropped; out of memory may come in its
+/// place, and leaves all.
 pub fn claim_objects<K: Drop, B: Drop>(
     alloc: Global,
     plan: &Plan,

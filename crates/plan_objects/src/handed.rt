@@ -41,7 +41,7 @@ impl<K: Drop, B: Drop> HandedIn<K, B> {
         }
     }
 
-    /// Adds an interceptor. `TooMany` comes exactly where 64 objects are held.
+    /// Adds an interceptor; where it is refused, it is dropped. `TooMany` comes exactly where 64 objects are held.
     pub fn add_step(&mut self, name: String, step: K) -> Result<(), PluginsRefused>
         ensures steps { Adds (record { name = name; object = step })
             (length self.old.steps.items + length self.old.sinks.items)
@@ -55,7 +55,7 @@ impl<K: Drop, B: Drop> HandedIn<K, B> {
         }
     }
 
-    /// Adds a sink. `TooMany` comes exactly where 64 objects are held.
+    /// Adds a sink; where it is refused, it is dropped. `TooMany` comes exactly where 64 objects are held.
     pub fn add_sink(&mut self, name: String, sink: B) -> Result<(), PluginsRefused>
         ensures sinks { Adds (record { name = name; object = sink })
             (length self.old.steps.items + length self.old.sinks.items)
