@@ -1,122 +1,128 @@
-// Intakes over channels in memory, and what these then hold.
-ghost use Rattle.std.specs.Prelude.{◌≡◌, ◌≤◌, IfOk};
-ghost use Rattle.netcat_source.specs.Lines.{IsLineLimit};
-
+// Intakes over channels, and what these then hold.
 use channel_face::{Channel, Limits, OwnFace, TakeFace};
 use event_core::Event;
+use file_channel::FileChannel;
+use host_memory::MemDisk;
 use memory_channel::MemoryChannel;
-use netcat_source::LineRules;
 use regex_steps::{RegexKeys, RegexStep};
 use selectors::Selector;
 use source_put::{Chain, ChainLink, HostNames, Intake};
 use std::alloc::Global;
-use std::test::Fail;
+use test_fixtures::{channel_on, disk_failing_in_flush};
 
-/// Channels in memory of these capacities.
-pub fn in_memory(alloc: Global, capacities: &[u32]) -> Result<Vec<MemoryChannel>, Fail> {
+// A channel in memory of this capacity.
+fn in_memory_of(alloc: Global, capacity: u32) -> Option<MemoryChannel> {
+    let limits = Limits {
+        capacity,
+        txn_capacity: capacity,
+        max_file: 0,
+    };
+    MemoryChannel::new(alloc, limits).ok()
+}
+
+/// Channels in memory of these capacities, as `2 1`.
+pub fn in_memory(alloc: Global, capacities: &str) -> Option<Vec<MemoryChannel>> {
     let mut channels = Vec::new(alloc);
-    for capacity in capacities {
-        let limits = Limits {
-            capacity: *capacity,
-            txn_capacity: *capacity,
-            max_file: 0,
-        };
-        channels.push(MemoryChannel::new(alloc, limits)?)?;
+    for word in capacities.split(' ') {
+        let channel = in_memory_of(alloc, word.parse::<u32>().ok()?)?;
+        channels.push(channel).ok()?;
     }
-    Ok(channels)
+    Some(channels)
 }
 
-// A chain that drops the events in which a pattern is found.
-fn chain_of(alloc: Global, drops: Option<&str>) -> Result<Chain, Fail> {
-    let mut links = Vec::new(alloc);
-    if let Some(pattern) = drops {
-        let keys = RegexKeys::Filter {
-            regex: String::from_str(alloc, pattern)?,
-            exclude: true,
-        };
-        match RegexStep::build(alloc, &keys) {
-            Ok(step) => links.push(ChainLink::Regex(step))?,
-            Err(_) => return Err(Fail::from("no pattern")),
-        }
-    }
-    Ok(Chain { links })
+/// A channel in a folder, of whose first commit the last sync fails. After it the channel refuses all.
+pub fn failing(alloc: Global) -> Option<Vec<FileChannel<MemDisk>>> {
+    let limits = Limits {
+        capacity: 10,
+        txn_capacity: 10,
+        max_file: 1_000_000,
+    };
+    let disk = disk_failing_in_flush(alloc, limits).ok()?;
+    let channel = channel_on(alloc, disk, limits).ok()?;
+    let mut channels = Vec::new(alloc);
+    channels.push(channel).ok()?;
+    Some(channels)
 }
 
-/// An intake whose events go to each of these channels, but for those in which a pattern is found.
+/// An interceptor that drops the events in which a pattern is found.
+pub fn filter(alloc: Global, pattern: &str) -> Option<ChainLink> {
+    let keys = RegexKeys::Filter {
+        regex: String::from_str(alloc, pattern).ok()?,
+        exclude: true,
+    };
+    match RegexStep::build(alloc, &keys) {
+        Ok(step) => Some(ChainLink::Regex(step)),
+        Err(_) => None,
+    }
+}
+
+fn names(alloc: Global) -> Option<HostNames> {
+    let name = String::from_str(alloc, "host").ok()?;
+    Some(HostNames {
+        name,
+        address: String::from_str(alloc, "10.0.0.1").ok()?,
+    })
+}
+
+fn faces_of<C: Channel + Drop>(alloc: Global, channels: Vec<C>) -> Option<Vec<OwnFace<C>>> {
+    let mut faces = Vec::new(alloc);
+    for channel in channels {
+        faces.push(OwnFace::new(channel)).ok()?;
+    }
+    Some(faces)
+}
+
+/// An intake whose events go to each of these channels.
 pub fn intake_over<C: Channel + Drop>(
     alloc: Global,
-    drops: Option<&str>,
+    links: Vec<ChainLink>,
     channels: Vec<C>,
-) -> Result<Intake<OwnFace<C>>, Fail> {
-    let mut ports = Vec::new(alloc);
-    for channel in channels {
-        ports.push(OwnFace::new(channel))?;
-    }
+) -> Option<Intake<OwnFace<C>>> {
+    let (host, ports) = (names(alloc)?, faces_of(alloc, channels)?);
     let count = ports.len();
     if count > 8 {
-        return Err(Fail::from("more than eight"));
+        return None;
     }
     let selector = Selector::Replicating {
         channels: count as u32,
         optional: Vec::new(alloc),
     };
-    let host = HostNames {
-        name: String::from_str(alloc, "host")?,
-        address: String::from_str(alloc, "10.0.0.1")?,
-    };
-    match Intake::new(alloc, chain_of(alloc, drops)?, selector, host, ports) {
-        Ok(intake) => Ok(intake),
-        Err(_) => Err(Fail::from("no intake")),
-    }
-}
-
-/// The rules of a session.
-pub fn rules_of(max: u32, ack: bool) -> Result<LineRules, Fail>
-    ensures { IfOk result (λ rules. IsLineLimit rules.max) }
-{
-    if max == 0 || max > 1_048_568 {
-        return Err(Fail::from("no limit of lines"));
-    }
-    Ok(LineRules { max, ack })
+    Intake::new(alloc, Chain { links }, selector, host, ports).ok()
 }
 
 // The next event of a channel, which it then has no more.
-fn next<C: Channel + Drop>(port: &mut OwnFace<C>) -> Result<Option<Event>, Fail> {
+fn next<C: Channel + Drop>(port: &mut OwnFace<C>) -> Option<Option<Event>> {
     let Ok(mut txn) = port.begin() else {
-        return Err(Fail::from("no transaction"));
+        return None;
     };
     let taken = port.take(&mut txn);
     if port.commit(txn).is_err() {
-        return Err(Fail::from("no commit"));
+        return None;
     }
-    match taken {
-        Ok(event) => Ok(event),
-        Err(_) => Err(Fail::from("no event")),
-    }
+    taken.ok()
 }
 
-// Adds the bodies of the events that a channel holds, each with a comma after it.
-fn add_bodies<C: Channel + Drop>(port: &mut OwnFace<C>, into: &mut Vec<u8>) -> Result<(), Fail> {
-    for _ in 0..10 {
-        let Some(event) = next(port)? else {
-            return Ok(());
-        };
-        into.extend_from_slice(event.body())?;
-        into.push(b',')?;
+// Adds the bodies of the events that a channel holds, of which it has ten at most, each with a comma after it.
+fn add_bodies<C: Channel + Drop>(port: &mut OwnFace<C>, into: &mut Vec<u8>) -> Option<()> {
+    for _ in 0..11 {
+        match next(port)? {
+            Some(event) => {
+                into.extend_from_slice(event.body()).ok()?;
+                into.push(b',').ok()?;
+            }
+            None => return Some(()),
+        }
     }
-    Err(Fail::from("more than ten"))
+    None
 }
 
 /// The bodies in each channel, each with a comma after it, and a semicolon after each channel.
-pub fn bodies<C: Channel + Drop>(
-    alloc: Global,
-    intake: Intake<OwnFace<C>>,
-) -> Result<Vec<u8>, Fail> {
+pub fn bodies<C: Channel + Drop>(alloc: Global, intake: Intake<OwnFace<C>>) -> Option<Vec<u8>> {
     let mut text = Vec::new(alloc);
     for port in intake.close() {
         let mut port = port;
         add_bodies(&mut port, &mut text)?;
-        text.push(b';')?;
+        text.push(b';').ok()?;
     }
-    Ok(text)
+    Some(text)
 }

@@ -1,281 +1,372 @@
 // Deliveries of an Avro sink over scripted links: what each answers, what it sent, and whether its link went back.
-use crate::packs::Part::{self, Breaks, Bytes, Text, Waits};
-use crate::packs::{bytes_of, link_giving};
+use crate::packs::add_packs;
+use crate::script::{Script, add_step, empty, link_of};
 use avro_ends::{AvroSink, DeliverRefused};
 use event_core::Batch;
 use host_memory::{MemDialer, MemLink};
 use plug_in::EventSink;
+use scenarios::{Scene, number_of, pass, word_and_rest};
 use std::alloc::Global;
+use std::mem;
 use std::test::Fail;
 use test_fixtures::batch;
 
-// The first request of a link: serial 1, a handshake with the text, and appendBatch of the bodies `x` and `y`.
-const FIRST: &[Part] = &[
-    Bytes(
-        b"\x00\x00\x00\x01\x00\x00\x00\x01\x00\x00\x02\x36\x30\xda\x54\x05\x9d\xf7\x2d\x95\x84\xb8\x67\xd5\x20\x2e\x20\x69\x02\xfa\x07",
-    ),
-    Text,
-    Bytes(
-        b"\x30\xda\x54\x05\x9d\xf7\x2d\x95\x84\xb8\x67\xd5\x20\x2e\x20\x69\x00\x00\x16appendBatch\x04\x00\x02x\x00\x02y\x00",
-    ),
-];
+// Each batch has the bodies `x` and `y`. Where a link stays open, a further delivery takes it, and finds its end; where it went back,
+// that dials anew, and there is no further link.
+const DELIVERIES: &str = r#"The reply is OK.
+reads-packs ok
+link
+dialer
+delivers ok
+faults 0
+delivers ended
+close
+sent first text first-end second
 
-// The second request: serial 2, and no handshake.
-const SECOND: Part = Bytes(
-    b"\x00\x00\x00\x02\x00\x00\x00\x01\x00\x00\x00\x15\x00\x16appendBatch\x04\x00\x02x\x00\x02y\x00",
-);
+OK comes in pieces, between reads that wait.
+waits 50
+reads \x00\x00\x00\x01\x00\x00\x00\x01\x00
+waits 49
+reads \x00\x00\x07\x00\x00\x00\x00\x00\x00\x00
+link
+dialer
+delivers ok
+faults 0
+delivers ended
+close
+sent first text first-end second
 
-// Serial 1: BOTH and OK.
-const OK: Part = Bytes(
-    b"\x00\x00\x00\x01\x00\x00\x00\x01\x00\x00\x00\x07\x00\x00\x00\x00\x00\x00\x00",
-);
+Bytes come after OK.
+reads \x00\x00\x00\x01\x00\x00\x00\x01\x00\x00\x00\x07\x00\x00\x00\x00\x00\x00\x00\x00
+link
+dialer
+delivers ok
+faults 0
+delivers link-fault
+close
+sent first text first-end
 
-// Serial 2: OK.
-const SECOND_OK: Part = Bytes(b"\x00\x00\x00\x02\x00\x00\x00\x01\x00\x00\x00\x03\x00\x00\x00");
+The reply is FAILED.
+reads \x00\x00\x00\x01\x00\x00\x00\x01\x00\x00\x00\x07\x00\x00\x00\x00\x00\x00\x02
+link
+dialer
+delivers refused 1
+faults 1
+delivers link-fault
+close
+sent first text first-end
 
-struct Case {
-    name: &'static str,
-    reads: &'static [Part],
-    // the writes that fail
-    fails: &'static [u64],
-    answer: Result<(), DeliverRefused>,
-    // the link went back after the delivery
-    back: bool,
+The reply is UNKNOWN.
+reads \x00\x00\x00\x01\x00\x00\x00\x01\x00\x00\x00\x07\x00\x00\x00\x00\x00\x00\x04
+link
+dialer
+delivers refused 2
+faults 1
+delivers link-fault
+close
+sent first text first-end
+
+OK comes under another serial.
+reads \x00\x00\x00\x02\x00\x00\x00\x01\x00\x00\x00\x07\x00\x00\x00\x00\x00\x00\x00
+link
+dialer
+delivers wrong-serial 2 1
+faults 1
+delivers link-fault
+close
+sent first text first-end
+
+The match is NONE.
+reads \x00\x00\x00\x01\x00\x00\x00\x01\x00\x00\x00\x07\x04\x00\x00\x00\x00\x00\x00
+link
+dialer
+delivers bad-reply 0
+faults 1
+delivers link-fault
+close
+sent first text first-end
+
+The error flag is true.
+reads \x00\x00\x00\x01\x00\x00\x00\x01\x00\x00\x00\x07\x00\x00\x00\x00\x00\x01\x00
+link
+dialer
+delivers bad-reply 5
+faults 1
+delivers link-fault
+close
+sent first text first-end
+
+A byte comes after the status.
+reads \x00\x00\x00\x01\x00\x00\x00\x01\x00\x00\x00\x08\x00\x00\x00\x00\x00\x00\x00\x00
+link
+dialer
+delivers bad-reply 7
+faults 1
+delivers link-fault
+close
+sent first text first-end
+
+There are 65,537 buffers.
+reads \x00\x00\x00\x01\x00\x01\x00\x01
+link
+dialer
+delivers bad-reply 0
+faults 1
+delivers link-fault
+close
+sent first text first-end
+
+There is no reply.
+link
+dialer
+delivers ended
+faults 1
+delivers link-fault
+close
+sent first text first-end
+
+A reply breaks off.
+reads \x00\x00\x00\x01\x00\x00\x00\x01\x00\x00\x00\x07\x00\x00\x00\x00\x00\x00
+link
+dialer
+delivers ended
+faults 1
+delivers link-fault
+close
+sent first text first-end
+
+A hundred reads wait in vain.
+waits 100
+reads-packs ok
+link
+dialer
+delivers silent
+faults 1
+delivers link-fault
+close
+sent first text first-end
+
+A read fails.
+breaks
+reads-packs ok
+link
+dialer
+delivers link-fault
+faults 1
+delivers link-fault
+close
+sent first text first-end
+
+A read fails within the reply.
+reads \x00\x00\x00\x01\x00
+breaks
+reads-packs ok
+link
+dialer
+delivers link-fault
+faults 1
+delivers link-fault
+close
+sent first text first-end
+
+A write fails.
+reads-packs ok
+writes-fail 0
+link
+dialer
+delivers link-fault
+faults 1
+delivers link-fault
+close
+sent
+
+The first dial fails: the batch is refused, which is counted, and the next delivery of it goes over a new link, as does the one after it.
+no-link
+reads-packs ok
+reads-packs second-ok
+link
+dialer
+delivers link-fault
+faults 1
+delivers ok
+delivers ok
+faults 1
+close
+sent first text first-end second
+
+So it is where the write of the first link fails.
+reads-packs ok
+writes-fail 0
+link
+reads-packs ok
+reads-packs second-ok
+link
+dialer
+delivers link-fault
+faults 1
+delivers ok
+delivers ok
+faults 1
+close
+sent first text first-end second
+
+So it is where its first read fails.
+breaks
+reads-packs ok
+link
+reads-packs ok
+reads-packs second-ok
+link
+dialer
+delivers link-fault
+faults 1
+delivers ok
+delivers ok
+faults 1
+close
+sent first text first-end second
+
+So it is where its second read fails.
+reads \x00\x00\x00\x01
+breaks
+link
+reads-packs ok
+reads-packs second-ok
+link
+dialer
+delivers link-fault
+faults 1
+delivers ok
+delivers ok
+faults 1
+close
+sent first text first-end second"#;
+
+// A sink, and the dialer that it gave back.
+#[derive(Drop)]
+struct Deliveries {
+    alloc: Global,
+    script: Script,
+    dials: Vec<Option<MemLink>>,
+    sink: Option<AvroSink<MemDialer>>,
+    dialer: Option<MemDialer>,
+    has_tried: bool,
 }
 
-const CASES: &[Case] = &[
-    Case {
-        name: "OK",
-        reads: &[OK],
-        fails: &[],
-        answer: Ok(()),
-        back: false,
-    },
-    Case {
-        name: "OK in pieces, between reads that wait",
-        reads: &[
-            Waits(50),
-            Bytes(b"\x00\x00\x00\x01\x00\x00\x00\x01\x00"),
-            Waits(49),
-            Bytes(b"\x00\x00\x07\x00\x00\x00\x00\x00\x00\x00"),
-        ],
-        fails: &[],
-        answer: Ok(()),
-        back: false,
-    },
-    Case {
-        name: "OK, and bytes behind it",
-        reads: &[Bytes(
-            b"\x00\x00\x00\x01\x00\x00\x00\x01\x00\x00\x00\x07\x00\x00\x00\x00\x00\x00\x00\x00",
-        )],
-        fails: &[],
-        answer: Ok(()),
-        back: true,
-    },
-    Case {
-        name: "FAILED",
-        reads: &[Bytes(
-            b"\x00\x00\x00\x01\x00\x00\x00\x01\x00\x00\x00\x07\x00\x00\x00\x00\x00\x00\x02",
-        )],
-        fails: &[],
-        answer: Err(DeliverRefused::Refused { status: 1 }),
-        back: true,
-    },
-    Case {
-        name: "UNKNOWN",
-        reads: &[Bytes(
-            b"\x00\x00\x00\x01\x00\x00\x00\x01\x00\x00\x00\x07\x00\x00\x00\x00\x00\x00\x04",
-        )],
-        fails: &[],
-        answer: Err(DeliverRefused::Refused { status: 2 }),
-        back: true,
-    },
-    Case {
-        name: "OK under another serial",
-        reads: &[Bytes(
-            b"\x00\x00\x00\x02\x00\x00\x00\x01\x00\x00\x00\x07\x00\x00\x00\x00\x00\x00\x00",
-        )],
-        fails: &[],
-        answer: Err(DeliverRefused::WrongSerial { got: 2, want: 1 }),
-        back: true,
-    },
-    Case {
-        name: "the match NONE",
-        reads: &[Bytes(
-            b"\x00\x00\x00\x01\x00\x00\x00\x01\x00\x00\x00\x07\x04\x00\x00\x00\x00\x00\x00",
-        )],
-        fails: &[],
-        answer: Err(DeliverRefused::BadReply { at: 0 }),
-        back: true,
-    },
-    Case {
-        name: "a true error flag",
-        reads: &[Bytes(
-            b"\x00\x00\x00\x01\x00\x00\x00\x01\x00\x00\x00\x07\x00\x00\x00\x00\x00\x01\x00",
-        )],
-        fails: &[],
-        answer: Err(DeliverRefused::BadReply { at: 5 }),
-        back: true,
-    },
-    Case {
-        name: "a byte behind the status",
-        reads: &[Bytes(
-            b"\x00\x00\x00\x01\x00\x00\x00\x01\x00\x00\x00\x08\x00\x00\x00\x00\x00\x00\x00\x00",
-        )],
-        fails: &[],
-        answer: Err(DeliverRefused::BadReply { at: 7 }),
-        back: true,
-    },
-    Case {
-        name: "65,537 buffers",
-        reads: &[Bytes(b"\x00\x00\x00\x01\x00\x01\x00\x01")],
-        fails: &[],
-        answer: Err(DeliverRefused::BadReply { at: 0 }),
-        back: true,
-    },
-    Case {
-        name: "no reply",
-        reads: &[],
-        fails: &[],
-        answer: Err(DeliverRefused::Ended),
-        back: true,
-    },
-    Case {
-        name: "a reply that breaks off",
-        reads: &[Bytes(
-            b"\x00\x00\x00\x01\x00\x00\x00\x01\x00\x00\x00\x07\x00\x00\x00\x00\x00\x00",
-        )],
-        fails: &[],
-        answer: Err(DeliverRefused::Ended),
-        back: true,
-    },
-    Case {
-        name: "silence",
-        reads: &[Waits(100), OK],
-        fails: &[],
-        answer: Err(DeliverRefused::Silent),
-        back: true,
-    },
-    Case {
-        name: "a read that fails",
-        reads: &[Breaks, OK],
-        fails: &[],
-        answer: Err(DeliverRefused::LinkFault),
-        back: true,
-    },
-    Case {
-        name: "a read that fails within the reply",
-        reads: &[Bytes(b"\x00\x00\x00\x01\x00"), Breaks, OK],
-        fails: &[],
-        answer: Err(DeliverRefused::LinkFault),
-        back: true,
-    },
-    Case {
-        name: "a write that fails",
-        reads: &[OK],
-        fails: &[0],
-        answer: Err(DeliverRefused::LinkFault),
-        back: true,
-    },
-];
-
-// The batch of the bodies `x` and `y`.
-fn two(alloc: Global) -> Result<Batch, Fail> {
-    Ok(batch(alloc, &[b"x", b"y"])?)
+fn add_link(scene: &mut Deliveries) -> bool {
+    let link = link_of(&mut scene.script);
+    scene.dials.push(Some(link)).is_ok()
 }
 
-// What was wrong of a delivery: nothing, its answer, the count of refusals, what it sent, or whether its link went back.
-fn wrong(alloc: Global, case: &Case) -> Result<&'static str, Fail> {
-    let mut links = Vec::new(alloc);
-    links.push(Some(link_giving(alloc, case.reads, case.fails)?))?;
-    let mut sink = AvroSink::new(alloc, MemDialer::new(alloc, links))?;
-    if sink.deliver(&two(alloc)?) != case.answer {
-        return Ok("answer");
+// Begins a sink over a dialer of these links.
+fn begin_sink(scene: &mut Deliveries) -> bool {
+    let dials = mem::replace(&mut scene.dials, Vec::new(scene.alloc));
+    scene.sink = AvroSink::new(scene.alloc, MemDialer::new(scene.alloc, dials)).ok();
+    scene.sink.is_some()
+}
+
+// An answer as a word and its numbers.
+fn said_of(answer: Result<(), DeliverRefused>) -> (&'static str, u64, u64) {
+    match answer {
+        Ok(()) => ("ok", 0, 0),
+        Err(DeliverRefused::LinkFault) => ("link-fault", 0, 0),
+        Err(DeliverRefused::Ended) => ("ended", 0, 0),
+        Err(DeliverRefused::Silent) => ("silent", 0, 0),
+        Err(DeliverRefused::Refused { status }) => ("refused", u64::from(status), 0),
+        Err(DeliverRefused::WrongSerial { got, want }) => {
+            ("wrong-serial", u64::from(got), u64::from(want))
+        }
+        Err(DeliverRefused::BadReply { at }) => ("bad-reply", at, 0),
+        Err(_) => ("other", 0, 0),
     }
-    if EventSink::faults(&sink) != u64::from(case.answer.is_err()) {
-        return Ok("count");
+}
+
+fn answer(sink: &mut AvroSink<MemDialer>, batch: &Batch) -> (&'static str, u64, u64) {
+    said_of(sink.deliver(batch))
+}
+
+// Whether a delivery is answered so, as `wrong-serial 2 1`.
+fn is_answered(scene: &mut Deliveries, want: &str) -> bool {
+    scene.has_tried = true;
+    let (word, rest) = word_and_rest(want);
+    let (first, second) = word_and_rest(rest);
+    let want = (
+        word,
+        number_of(first).unwrap_or(0),
+        number_of(second).unwrap_or(0),
+    );
+    match (&mut scene.sink, batch(scene.alloc, &[b"x", b"y"])) {
+        (Some(sink), Ok(batch)) => answer(sink, &batch) == want,
+        _ => false,
     }
-    // a further delivery dials anew exactly where the link went back, and there is no further link
-    let again = sink.deliver(&two(alloc)?);
-    let dialer = sink.close();
-    let request = bytes_of(alloc, FIRST)?;
-    let second = bytes_of(alloc, &[SECOND])?;
-    let Some(link) = dialer.back().first() else {
-        return Ok("link");
+}
+
+fn has_faults(scene: &Deliveries, count: &str) -> bool {
+    match &scene.sink {
+        Some(sink) => number_of(count) == Some(EventSink::faults(sink)),
+        None => false,
+    }
+}
+
+fn close(scene: &mut Deliveries) -> bool {
+    scene.dialer = match scene.sink.take() {
+        Some(sink) => Some(sink.close()),
+        None => None,
     };
-    if !case.fails.is_empty() {
-        return Ok(if link.took().is_empty() {
-            ""
-        } else {
-            "request"
-        });
+    scene.dialer.is_some()
+}
+
+// The last link that came back.
+fn last_link(dialer: &Option<MemDialer>) -> Option<&MemLink> {
+    match dialer {
+        Some(dialer) => dialer.back().last(),
+        None => None,
     }
-    let (front, behind) = link.took().split_at(request.len().min(link.took().len()));
-    if front != request.as_slice() {
-        return Ok("request");
+}
+
+// Whether it took just these packs.
+fn is_sent(scene: &Deliveries, names: &str) -> bool {
+    let mut want = Vec::new(scene.alloc);
+    if !add_packs(&mut want, names) {
+        return false;
     }
-    if case.back && (!behind.is_empty() || again != Err(DeliverRefused::LinkFault)) {
-        return Ok("link used again");
+    match last_link(&scene.dialer) {
+        Some(link) => link.took() == want.as_slice(),
+        None => false,
     }
-    if !case.back && behind != second.as_slice() {
-        return Ok("link not used again");
+}
+
+impl Scene for Deliveries {
+    fn begin(alloc: Global) -> Deliveries {
+        Deliveries {
+            alloc,
+            script: empty(alloc),
+            dials: Vec::new(alloc),
+            sink: None,
+            dialer: None,
+            has_tried: false,
+        }
     }
-    Ok("")
+
+    fn holds(&mut self, word: &str, rest: &str) -> bool {
+        match word {
+            "link" => add_link(self),
+            "no-link" => self.dials.push(None).is_ok(),
+            "dialer" => begin_sink(self),
+            "delivers" => is_answered(self, rest),
+            "faults" => has_faults(self, rest),
+            "close" => close(self),
+            "sent" => is_sent(self, rest),
+            _ => add_step(&mut self.script, word, rest),
+        }
+    }
+
+    fn has_tried(&self) -> bool {
+        self.has_tried
+    }
 }
 
 #[test]
-fn deliveries(rt: HostRuntime) -> Result<(), Fail> {
-    for case in CASES {
-        let wrong = wrong(rt.alloc(), case)?;
-        assert!(rt; wrong.is_empty(), "{}: {wrong}", case.name);
-    }
-    Ok(())
-}
-
-// Dialers whose first link, or whose first dial, fails at one call after another.
-fn failing_dialer(alloc: Global, call: u64) -> Result<MemDialer, Fail> {
-    let first: Option<MemLink> = match call {
-        0 => None,
-        1 => Some(link_giving(alloc, &[OK], &[0])?),
-        2 => Some(link_giving(alloc, &[Breaks, OK], &[])?),
-        _ => Some(link_giving(alloc, &[Bytes(b"\x00\x00\x00\x01"), Breaks], &[])?),
-    };
-    let mut links = Vec::new(alloc);
-    links.push(first)?;
-    links.push(Some(link_giving(alloc, &[OK, SECOND_OK], &[])?))?;
-    Ok(MemDialer::new(alloc, links))
-}
-
-// What was wrong of three deliveries of one batch of which the first is lost: nothing, that one, those after it, or what
-// the new link took.
-fn wrong_when_lost(alloc: Global, call: u64) -> Result<&'static str, Fail> {
-    let batch = two(alloc)?;
-    let mut sent = bytes_of(alloc, FIRST)?;
-    sent.extend_from_slice(&bytes_of(alloc, &[SECOND])?)?;
-    let mut sink = AvroSink::new(alloc, failing_dialer(alloc, call)?)?;
-    let lost = (sink.deliver(&batch), EventSink::faults(&sink));
-    let again = (sink.deliver(&batch), sink.deliver(&batch));
-    let faults = EventSink::faults(&sink);
-    let dialer = sink.close();
-    if lost != (Err(DeliverRefused::LinkFault), 1) {
-        return Ok("lost");
-    }
-    if again != (Ok(()), Ok(())) || faults != 1 {
-        return Ok("again");
-    }
-    match dialer.back().last() {
-        Some(link) if link.took() == sent.as_slice() => Ok(""),
-        _ => Ok("request"),
-    }
-}
-
-// Each call of a link and of the dialer fails in turn. The batch is refused, which is counted, and the next delivery of it
-// goes over a new link, as does the one after it.
-#[test]
-fn a_lost_reply(rt: HostRuntime) -> Result<(), Fail> {
-    for call in 0..4 {
-        let wrong = wrong_when_lost(rt.alloc(), call)?;
-        assert!(rt; wrong.is_empty(), "{call}: {wrong}");
-    }
-    Ok(())
+fn deliveries_are_answered(rt: HostRuntime) -> Result<(), Fail> {
+    pass::<Deliveries>(rt.alloc(), DELIVERIES)
 }
