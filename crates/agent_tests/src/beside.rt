@@ -3,7 +3,7 @@ use crate::scenarios::pass;
 use std::test::Fail;
 
 const BESIDE: &str =
-    r#"Lines of the input go into a channel in one folder, and those of links into a channel in another. The first sync of the line in `d` waits until the line of a link is answered, which is only given once that sync waits. An opening of an empty folder makes eight calls.
+    r#"Lines of the input go into a channel in one folder, and those of links into a channel in another. The first sync of the line in `d` waits until the line of a link is answered, which is only given once that sync waits. An opening of an empty folder makes nine calls.
 a.sources = r n
 a.sources.r.type = stdin
 a.sources.r.channels = c1
@@ -21,7 +21,7 @@ a.channels.c3.type = memory
 a.sinks = k
 a.sinks.k.type = null
 a.sinks.k.channel = c3
-gate 8
+gate 9
 listen 44444
 hold 0
 link x\n sets 1

@@ -132,7 +132,7 @@ fn other_words_are_no_command(rt: HostRuntime) -> Result<(), Fail> {
 
 // Of the call that fails nothing is done, or the first byte is written.
 const DISKS: &str =
-    r#"Opening takes eight calls, of which four look for files, for fails 0, fails-with-1 0, fails 1, fails-with-1 1, fails 2, fails-with-1 2, fails 3, fails-with-1 3, fails 4, fails-with-1 4, fails 5, fails-with-1 5, fails 6, fails-with-1 6, fails 7, fails-with-1 7
+    r#"Opening takes nine calls, of which five look for files, for fails 0, fails-with-1 0, fails 1, fails-with-1 1, fails 2, fails-with-1 2, fails 3, fails-with-1 3, fails 4, fails-with-1 4, fails 5, fails-with-1 5, fails 6, fails-with-1 6, fails 7, fails-with-1 7, fails 8, fails-with-1 8
 input a\nb\n
 $
 run pipe d
@@ -141,7 +141,7 @@ calls 0
 writes
 said flume: fault outside
 
-The first line takes four, for fails 8, fails-with-1 8, fails 9, fails-with-1 9, fails 10, fails-with-1 10, fails 11, fails-with-1 11
+The first line takes four, for fails 9, fails-with-1 9, fails 10, fails-with-1 10, fails 11, fails-with-1 11, fails 12, fails-with-1 12
 input a\nb\n
 $
 run pipe d
@@ -150,7 +150,7 @@ calls 4
 writes FAILED: channel in doubt\n
 said flume: fault outside
 
-The second line takes four, for fails 12, fails-with-1 12, fails 13, fails-with-1 13, fails 14, fails-with-1 14, fails 15, fails-with-1 15
+The second line takes four, for fails 13, fails-with-1 13, fails 14, fails-with-1 14, fails 15, fails-with-1 15, fails 16, fails-with-1 16
 input a\nb\n
 $
 run pipe d
@@ -159,7 +159,7 @@ calls 8
 writes OK\nFAILED: channel in doubt\n
 said flume: fault outside
 
-There is no further call, for fails 16, fails-with-1 16
+There is no further call, for fails 17, fails-with-1 17
 input a\nb\n
 $
 run pipe d

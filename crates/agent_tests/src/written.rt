@@ -77,7 +77,7 @@ fn a_crash_leaves_a_line_or_not(rt: HostRuntime) -> Result<(), Fail> {
 // Each call of the disk fails in turn: what a crash then leaves has each line that was answered `OK`, and at most the one that was in
 // doubt besides.
 const AFTER_FAULTS: &str =
-    r#"Nothing stands of what was not stable, and the first line is in doubt, for 8, 9, 10, 11
+    r#"Nothing stands of what was not stable, and the first line is in doubt, for 9, 10, 11, 12
 fails-with-1 $
 input a\nb\n
 run pipe d
@@ -85,7 +85,7 @@ status 3
 crash end:old
 left - a\n
 
-Nothing stands of what was not stable, and the second line is in doubt, for 12, 13, 14, 15
+Nothing stands of what was not stable, and the second line is in doubt, for 13, 14, 15, 16
 fails-with-1 $
 input a\nb\n
 run pipe d
@@ -93,7 +93,7 @@ status 3
 crash end:old
 left a\n a\nb\n
 
-All of it stands, and the first line is in doubt, for 8, 9, 10, 11
+All of it stands, and the first line is in doubt, for 9, 10, 11, 12
 fails-with-1 $
 input a\nb\n
 run pipe d
@@ -101,7 +101,7 @@ status 3
 crash end:new
 left - a\n
 
-All of it stands, and the second line is in doubt, for 12, 13, 14, 15
+All of it stands, and the second line is in doubt, for 13, 14, 15, 16
 fails-with-1 $
 input a\nb\n
 run pipe d
@@ -109,7 +109,7 @@ status 3
 crash end:new
 left a\n a\nb\n
 
-Garbage stands in its place, and the first line is in doubt, for 8, 9, 10, 11
+Garbage stands in its place, and the first line is in doubt, for 9, 10, 11, 12
 fails-with-1 $
 input a\nb\n
 run pipe d
@@ -117,7 +117,7 @@ status 3
 crash end:garbage:1
 left - a\n
 
-Garbage stands in its place, and the second line is in doubt, for 12, 13, 14, 15
+Garbage stands in its place, and the second line is in doubt, for 13, 14, 15, 16
 fails-with-1 $
 input a\nb\n
 run pipe d

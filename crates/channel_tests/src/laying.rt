@@ -67,8 +67,8 @@ take 3 > event b
 checkpoint > done
 close
 on-disk
-gives b
-begin-put > token 4"#;
+begin-put > token 4
+gives b"#;
 
 const CALLED: &str = r#"What is staged is settled first.
 limits 10 10 1000
