@@ -131,7 +131,6 @@ on-disk
 begin-put > token 1
 put 1 a > done
 stage-put 1 > first 0
-flush > done
 checkpoint > check-fault
 asked > settled
 size > count 1
