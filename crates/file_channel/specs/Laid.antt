@@ -61,7 +61,7 @@ IsLaid number s t = (place : Place) × IsEnd t place × IsLaidOf t number place 
 abbrev pub MayBeLaid : ℕ → State → Told → Type 0
 MayBeLaid number s t = (place : Place) × IsEnd t place × ((image : Files) → IsImage t.now image → MayStand number place s image)
 
--- the name before that of the first checkpoint, or that of this one
+-- the name after which the next checkpoint stands: that of this one, or of the last log file
 abbrev pub check_name : Option ℕ → FileName
 check_name None = Log 4_294_967_295
 check_name (Some number) = Check number
@@ -80,13 +80,13 @@ AreFree told number = WhereTold told (λ t. AreUnused t number)
 abbrev pub KeepsFree : Option Told → Option Told → Type 0
 KeepsFree told told' = (number : ℕ) → AreFree told number → AreFree told' number
 
--- a checkpoint was asked of a channel that could lay one: it was flushed, and perhaps a file was made
+-- a checkpoint was asked of a channel that could lay one: a flush was tried, and then perhaps a checkpoint
 abbrev pub is_tried : Result (Unit {0}) CheckRefused → Bool
 is_tried (Err CheckNo.Broken) = false
 is_tried (Err (CheckNo.Spent counter)) = false
 is_tried reply = true
 
--- a file was made
+-- the making of a file was called, and its number is used up, even where the call failed
 abbrev pub is_made : Result (Unit {0}) CheckRefused → Bool
 is_made (Ok done) = true
 is_made (Err CheckNo.CheckFault) = true

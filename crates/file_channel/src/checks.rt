@@ -41,7 +41,7 @@ impl Checks {
     }
 }
 
-// The name before that of the first checkpoint, or that of this one.
+// The name after which the next checkpoint is looked for: that of this one, or of the last log file, which stands before all of them.
 fn check_name(number: Option<u32>) -> FileName
     ensures { result ≡ check_name number }
 {
@@ -72,6 +72,7 @@ pub(crate) fn next_check<D: Disk>(disk: &mut D) -> Result<u64, Failed>
     loop {
         match disk.next_name(Some(check_name(last))) {
             Ok(Some(FileName::Check(number))) => last = Some(number),
+            // No log file stands after the last one.
             Ok(Some(FileName::Log(_))) => return Ok(number_after(last)),
             Ok(None) => return Ok(number_after(last)),
             Err(failed) => return Err(failed),
