@@ -1,15 +1,19 @@
 -- A checkpoint that was read is one from which a replay may start.
-use Rattle.std.specs.Prelude.{IfSome, Option, None, Some}
+use Rattle.std.specs.Prelude.{IfSome, IsSomeAnd, Option, None, Some, if◌then◌else◌}
 use Rattle.std.specs.List.{AllByRecursion}
-use Rattle.std.proofs.Common.{◌⊎◌, inl, inr, ◌≡◌, ◌≤◌, ◌+◌, ◌++◌, ◌∷◌, [], ℕ, List, refl, sym, ap, subst, ◌∙◌}
+use Rattle.std.proofs.Common.{◌⊎◌, inl, inr, ◌≡◌, ◌≤◌, ◌+◌, ◌++◌, ◌∷◌, [], ℕ, List, map, nat_le, Bool, true, false, cond, refl, sym, ap, subst, ◌∙◌, arith}
+use Rattle.std.proofs.lemmas.Bool.Decides.{nat_tests}
 use Rattle.flume_host.specs.Folder.{Files}
 use Rattle.flume_host.specs.Told.{Told, WhereTold}
+use Rattle.flume_host.specs.declared.names.FileName.TheVariants as names
 use Rattle.event_core.specs.Content.{Content}
 use Rattle.event_core.specs.declared.journal.Entry.{Entry}
 use Rattle.event_core.specs.declared.journal.Entry.TheVariants.{Puts, Takes}
+use Rattle.event_ring.specs.Slots.{Left}
 use Rattle.record_form.specs.declared.record.Pointer.{Pointer}
+use Rattle.channel_log.specs.Pointers.{PutAt}
 use Rattle.channel_replay.specs.declared.line.Line.{Line}
-use Rattle.channel_replay.specs.Recover.{IsBadFrom, empty_start, lines}
+use Rattle.channel_replay.specs.Recover.{IsBadFrom, empty_start, lines, replayed}
 use Rattle.channel_replay.specs.Replay.{record_count}
 use Rattle.channel_replay.specs.Replay as replaying
 use Rattle.channel_replay.specs.declared.refused.ReplayRefused.{ReplayRefused}
@@ -20,20 +24,26 @@ use Rattle.checkpoint.specs.declared.check.Check.{Check}
 use Rattle.checkpoint.specs.declared.place.Next.{Next}
 use Rattle.checkpoint.specs.declared.place.Place.{Place}
 use Rattle.checkpoint.specs.Newest.{IsNewest}
+use Rattle.checkpoint.specs.Right.{LiveAre, PutIn}
+use Rattle.checkpoint.specs.Says.{live_at}
 use Rattle.checkpoint_reading.specs.Logs.{IsSized}
 use Rattle.checkpoint_reading.specs.Newest.{IsNewestOf, IsOfFolder, IsRead}
 use Rattle.checkpoint_reading.specs.Reader.{WhereBad}
 use Rattle.checkpoint_reading.specs.declared.refused.CheckReadRefused.{CheckReadRefused}
 use Rattle.checkpoint_reading.specs.declared.refused.CheckReadRefused.TheVariants as checks
 use Rattle.checkpoint_recovery.specs.Reading.{AllLines, IsInLog, LinesFrom}
-use Rattle.checkpoint_recovery.specs.Recovers.{BeginsAt, From, Front, IsBadLogFrom}
+use Rattle.checkpoint_recovery.specs.Laws.{NamesFrom, SameFrom}
+use Rattle.checkpoint_recovery.specs.Recovers.{BeginsAt, From, Front, IsBadLogFrom, IsCheck}
+use Rattle.checkpoint_recovery.proofs.Elsewhere.{check_elsewhere, lines_elsewhere}
 use Rattle.checkpoint_recovery.proofs.SomeReading.{some_reading}
 use Rattle.checkpoint_replay.specs.Checked.{LivePlaced, OpenPlaced}
-use Rattle.checkpoint_replay.specs.Replayed.{HasEvents, IsReplayedFrom, IsRightFor, IsStartOf, LeavesFrom, StartsAt, WhereStarts}
+use Rattle.checkpoint_replay.specs.Replayed.{HasEvents, IsReplayedFrom, IsRightFor, IsStartOf, LeavesFrom, StandElsewhere, StartsAt, WhereStarts}
+use Rattle.checkpoint_replay.proofs.CheckPlaces.{right_ordered}
 use Rattle.ring_replay.specs.declared.folder.Replayed.{Replayed}
 use Rattle.ring_replay.specs.Indexing.{ArePlaced, AreSized, IsPlaced, Places}
+use Rattle.checkpoint_opening.specs.declared.opening.NewestCheck.{NewestCheck}
 use Rattle.checkpoint_opening.specs.declared.refused.OpeningRefused.{OpeningRefused}
-use Rattle.checkpoint_opening.specs.Opening.{HasSteps, IsOpened, Leaves, WhereBadCheck, WhereBadLog, WhereOver, number_in, of_check, of_replay}
+use Rattle.checkpoint_opening.specs.Opening.{AreFrom, HasSteps, IsNamed, IsNamedBy, IsOpened, Leaves, WhereBadCheck, WhereBadLog, WhereOver, number_in, of_check, of_replay}
 
 -- each place of some is among others
 abbrev Within : Places → Places → Type 0
@@ -196,18 +206,92 @@ begun files (Some check) newest =
           (subst (λ (p : Place). LinesFrom files p some.0) (sym says.place_is) some.1);
     }
 
-newest_number : (files : Files) (check : Option Check) → IsNewestOf files check → IsNewest files (number_in check)
-newest_number files None newest = newest
-newest_number files (Some check) newest = newest.0
+-- what is told of it
+
+newest_named : (files : Files) (check : Option Check) (named : Option NewestCheck) → IsNamedBy check named → IsNewestOf files check → IsNewest files (number_in named)
+newest_named files None None told newest = newest
+newest_named files None (Some named) told newest = absurd told
+newest_named files (Some check) None told newest = absurd told
+newest_named files (Some check) (Some named) told newest = subst (λ (n : ℕ). IsNewest files (Some n)) (sym told.0) newest.0
+
+is_named : (files : Files) (check : Option Check) (named : Option NewestCheck) → IsNamedBy check named → IsNewestOf files check → IfSome named (λ n. IsNamed files n)
+is_named files None None told newest = tt
+is_named files None (Some named) told newest = absurd told
+is_named files (Some check) None told newest = absurd told
+is_named files (Some check) (Some named) told newest =
+    let of = newest.1 in
+    let says = of.stands.keeps.says in
+    let c = of.stands.c in
+    record {
+      text = c;
+      start = record { base = record { items = of.left; first = check.next.number }; opened = of.opened; txn = check.next.txn };
+      is = record {
+        spelled = ap (λ (n : ℕ). files (names.Check n)) told.0 ∙ of.stands.spelled;
+        means = record { right = of.stands.right; number = ap (λ (n : Next). n.number) (sym says.next_is); txn = ap (λ (n : Next). n.txn) (sym says.next_is) };
+      };
+      least = told.1 c of.stands.keeps (right_ordered files c of.left of.opened of.stands.right);
+    }
+
+-- the log files from a number on, and all checkpoints
+abbrev kept_from : ℕ → Files → Files
+kept_from least files (names.Log n) = if nat_le least n then files (names.Log n) else None
+kept_from least files (names.Check n) = files (names.Check n)
+
+kept_same : (least : ℕ) (files : Files) → SameFrom least files (kept_from least files)
+kept_same least files n low = ap (λ (is : Bool). cond is (files (names.Log n)) None) (let is : nat_le least n ≡ true = grind (arith, low, nat_tests) in is)
+
+-- what stands in these stands in a file from that number on
+stands_from : (least : ℕ) (files : Files) (p : Pointer) (event : Content) → PutIn (kept_from least files) p event → least ≤ p.file
+stands_from least files p event = from (nat_le least p.file) refl
+  where
+    from : (b : Bool) → nat_le least p.file ≡ b → IsSomeAnd (cond b (files (names.Log p.file)) None) (λ bytes. PutAt bytes p event) → least ≤ p.file
+    from true is at = grind (arith, is, nat_tests)
+    from false is at = absurd at
+
+live_from : (least : ℕ) (files : Files) (live : List Left) (items : List (ℕ × Content)) → LiveAre (kept_from least files) (map live_at live) items → AllByRecursion (λ (l : Left). least ≤ l.pointer.file) live
+live_from least files [] items are = tt
+live_from least files (l ∷ live) [] are = absurd are
+live_from least files (l ∷ live) (item ∷ items) are = (stands_from least files l.pointer item.1 are.1, live_from least files live items are.2)
+
+-- a replay from a checkpoint begins so in a folder without the files below those that it names
+starts_from : (files : Files) (check : Check) (least : ℕ) (start : Start) (found : List Line) (starts : StartsAt files (Some check) start found) → NamesFrom least starts.0.stands.c → StartsAt (kept_from least files) (Some check) start found
+starts_from files check least start found (is, lines) named =
+    let later = kept_from least files in
+    let c = is.stands.c in
+    let says = is.stands.keeps.says in
+    let next : c.next ≡ check.next = says.next_is in
+    let was : IsCheck files check.number c start = record {
+      spelled = is.stands.spelled;
+      means = record { right = is.stands.right; number = is.number ∙ ap (λ (n : Next). n.number) (sym next); txn = is.txn ∙ ap (λ (n : Next). n.txn) (sym next) };
+    } in
+    let same = kept_same least files in
+    let now : IsCheck later check.number c start = check_elsewhere files later least check.number c start same named refl was in
+    (
+      record { stands = record { c = c; keeps = is.stands.keeps; spelled = now.spelled; right = now.means.right }; number = is.number; txn = is.txn },
+      lines_elsewhere files later least check.place found same (omega (arith, named.place, ap (λ (p : Place). p.file) says.place_is)) lines,
+    )
+
+-- no pointer is into a file below those
+are_from : (files : Files) (check : Option Check) (named : Option NewestCheck) (start : Start) (found : List Line) (r : Replayed) → IsNamedBy check named → StartsAt files check start found → StandElsewhere check start found r → IfSome named (λ n. AreFrom n r.ring.live)
+are_from files None None start found r told starts elsewhere = tt
+are_from files None (Some named) start found r told starts elsewhere = absurd told
+are_from files (Some check) None start found r told starts elsewhere = absurd told
+are_from files (Some check) (Some named) start found r told starts elsewhere =
+    let is = starts.0 in
+    let c = is.stands.c in
+    let least = told.1 c is.stands.keeps (right_ordered files c start.base.items start.opened is.stands.right) in
+    live_from named.least files r.ring.live (replayed start found).items (elsewhere (kept_from named.least files) (starts_from files check named.least start found starts least.names))
 
 -- what is replayed is what the folder recovers to
-pub opens : (was later : Option Told) (check : Option Check) (number : Option ℕ) (r : Replayed) → later ≡ was → number ≡ number_in check → WhereTold was (λ t. IsNewestOf t.reads check)
-    → WhereStarts later check (λ files start found. IsReplayedFrom files start found r) → WhereTold was (λ t. IsOpened t.reads (record { check = number; replayed = r }))
-opens was later check number r same is newest replayed = λ t told.
+pub opens : (was later : Option Told) (check : Option Check) (named : Option NewestCheck) (r : Replayed) → later ≡ was → IsNamedBy check named → WhereTold was (λ t. IsNewestOf t.reads check)
+    → WhereStarts later check (λ files start found. IsReplayedFrom files start found r) → WhereStarts later check (λ files start found. StandElsewhere check start found r) → WhereTold was (λ t. IsOpened t.reads (record { check = named; replayed = r }))
+opens was later check named r same told_of newest all elsewhere = λ t told.
     let b = begun t.reads check (newest t told) in
-    let found = replayed t (same ∙ told) b.start b.found b.starts in
+    let found = all t (same ∙ told) b.start b.found b.starts in
     record {
-      newest = subst (λ (n : Option ℕ). IsNewest t.reads n) (sym is) (newest_number t.reads check (newest t told));
+      newest = newest_named t.reads check named told_of (newest t told);
+      named = is_named t.reads check named told_of (newest t told);
+      from = are_from t.reads check named b.start b.found r told_of b.starts (elsewhere t (same ∙ told) b.start b.found b.starts);
       left = found.left;
       recovers = record { start = b.start; found = b.found; begins = b.begins; stands = found.stands };
       items = found.items;

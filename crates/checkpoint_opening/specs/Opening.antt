@@ -1,7 +1,9 @@
 -- What opening a folder from its newest checkpoint answers.
-use Rattle.std.specs.Prelude.{◌≡◌, ◌≤◌, ◌+◌, ℕ, List, length, map, Option, Some, None}
+use Rattle.std.specs.Prelude.{◌≡◌, ◌≤◌, ◌+◌, ℕ, List, length, map, Option, Some, None, IfSome}
+use Rattle.std.specs.List.{AllByRecursion}
 use Rattle.flume_host.specs.Folder.{Files}
 use Rattle.event_core.specs.Journal.{Base}
+use Rattle.event_ring.specs.Slots.{Left}
 use Rattle.channel_replay.specs.declared.refused.ReplayRefused.{ReplayRefused}
 use Rattle.channel_replay.specs.declared.refused.ReplayRefused.TheVariants as replays
 use Rattle.channel_replay.specs.declared.line.Line.{Line}
@@ -11,9 +13,13 @@ use Rattle.checkpoint.specs.declared.check.Check.{Check}
 use Rattle.checkpoint.specs.Newest.{IsNewest}
 use Rattle.checkpoint.specs.Right.{LiveAre}
 use Rattle.checkpoint.specs.Says.{live_at}
+use Rattle.checkpoint.specs.Stands.{IsOrdered, Keeps}
+use Rattle.checkpoint.specs.Text.{CheckText}
+use Rattle.checkpoint_places.specs.Named.{IsLeastNamed}
 use Rattle.checkpoint_reading.specs.declared.refused.CheckReadRefused.{CheckReadRefused}
 use Rattle.checkpoint_reading.specs.declared.refused.CheckReadRefused.TheVariants as reads
-use Rattle.checkpoint_recovery.specs.Recovers.{BeginsAt, RecoversTo}
+use Rattle.checkpoint_recovery.specs.Recovers.{BeginsAt, IsCheck, RecoversTo}
+use Rattle.checkpoint_opening.specs.declared.opening.NewestCheck.{NewestCheck}
 use Rattle.checkpoint_opening.specs.declared.opening.Opened.{Opened}
 use Rattle.checkpoint_opening.specs.declared.refused.OpeningRefused.{OpeningRefused}
 use Rattle.checkpoint_opening.specs.declared.refused.OpeningRefused.TheVariants as refusals
@@ -54,13 +60,34 @@ WhereOver (refusals.OverCapacity count) P = P count
 WhereOver refusals.NoMemory P = Unit {0}
 
 -- the number of a checkpoint, if there is one
-abbrev pub number_in : Option Check → Option ℕ
+abbrev pub number_in : Option NewestCheck → Option ℕ
 number_in None = None
-number_in (Some check) = Some check.number
+number_in (Some named) = Some named.number
 
--- The ring has what the folder recovers to, each event with a pointer at which its PUT stands, and these numbers come next; its newest checkpoint is told.
+-- what is told of a checkpoint that was read: its number, and the least log file that it names
+abbrev pub IsNamedBy : Option Check → Option NewestCheck → Type 0
+IsNamedBy None None = Unit {0}
+IsNamedBy None (Some named) = ⊥
+IsNamedBy (Some check) None = ⊥
+IsNamedBy (Some check) (Some named) = (named.number ≡ check.number) × ((c : CheckText) → Keeps check c → IsOrdered c → IsLeastNamed named.least c)
+
+-- The checkpoint of this number is right for a folder, and this is the least log file that it names.
+pub record IsNamed (files : Files) (named : NewestCheck) : Type 0 where
+  pub text : CheckText
+  pub start : Start
+  pub is : IsCheck files named.number text start
+  pub least : IsLeastNamed named.least text
+
+-- each of these stands in a log file from the least one on that the checkpoint names
+abbrev pub AreFrom : NewestCheck → List Left → Type 0
+AreFrom named live = AllByRecursion (λ l. named.least ≤ l.pointer.file) live
+
+-- The ring has what the folder recovers to, each event with a pointer at which its PUT stands, and these numbers come next. Its newest checkpoint is told, and
+-- no pointer is into a file below those that this one names.
 pub record IsOpened (files : Files) (o : Opened) : Type 0 where
-  pub newest : IsNewest files o.check
+  pub newest : IsNewest files (number_in o.check)
+  pub named : IfSome o.check (λ named. IsNamed files named)
+  pub from : IfSome o.check (λ named. AreFrom named o.replayed.ring.live)
   pub left : Base
   pub recovers : RecoversTo files left o.replayed.next.txn
   pub items : LiveAre files (map live_at o.replayed.ring.live) left.items

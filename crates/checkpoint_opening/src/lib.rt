@@ -6,5 +6,5 @@ mod opening;
 mod refused;
 
 pub use laws::{a_grown_folder_begins, begins_are_starts, recovers_to_once};
-pub use opening::{Opened, open_newest};
+pub use opening::{NewestCheck, Opened, open_newest};
 pub use refused::OpeningRefused;

@@ -6,11 +6,12 @@ ghost use Rattle.checkpoint.specs.Newest.{IsNewest};
 ghost use Rattle.checkpoint_reading.specs.Fields.{IsFault};
 ghost use Rattle.checkpoint_recovery.specs.Recovers.{IsBadLogFrom};
 ghost use Rattle.ring_replay.specs.Folder.{IsReady};
-ghost use Rattle.checkpoint_opening.specs.Opening.{HasSteps, IsOpened, Leaves, WhereBadCheck, WhereBadLog, WhereOver, number_in, of_check, of_replay};
+ghost use Rattle.checkpoint_opening.specs.Opening.{HasSteps, IsNamedBy, IsOpened, Leaves, WhereBadCheck, WhereBadLog, WhereOver, of_check, of_replay};
 
 use crate::refused::OpeningRefused;
 use channel_replay::ReplayRefused;
 use checkpoint::Check;
+use checkpoint_places::least_named;
 use checkpoint_reading::{CheckReadRefused, newest};
 use checkpoint_replay::replay;
 use flume_host::{Disk, Steps};
@@ -18,10 +19,17 @@ use ring_replay::Replayed;
 use std::alloc::Global;
 use std::sync::ledger::Ledger;
 
-/// A folder that was opened: the number of its newest checkpoint, if it has one, and what is left.
+/// The newest checkpoint of a folder: its number, and the least log file that its place or its pointers name.
+#[derive(Clone, Copy)]
+pub struct NewestCheck {
+    pub number: u32,
+    pub least: u32,
+}
+
+/// A folder that was opened: its newest checkpoint, if it has one, and what is left.
 #[derive(Drop)]
 pub struct Opened {
-    pub check: Option<u32>,
+    pub check: Option<NewestCheck>,
     pub replayed: Replayed,
 }
 
@@ -46,12 +54,15 @@ fn not_replayed(refused: ReplayRefused) -> OpeningRefused
     }
 }
 
-// The number of a checkpoint, if there is one.
-fn number_of(check: &Option<Check>) -> Option<u32>
-    ensures { result ≡ number_in check.now }
+// What is kept of a checkpoint, if there is one.
+fn named(check: &Option<Check>) -> Option<NewestCheck>
+    ensures { IsNamedBy check.now result }
 {
     match check {
-        Some(check) => Some(check.number),
+        Some(check) => Some(NewestCheck {
+            number: check.number,
+            least: least_named(check.place, &check.ring, &check.table),
+        }),
         None => None,
     }
 }
@@ -59,7 +70,8 @@ fn number_of(check: &Option<Check>) -> Option<u32>
 /// Opens a folder from its newest checkpoint, or from the front of its log where it has none: the events that are left, in
 /// order, with pointers at which their PUTs stand, and the numbers that come next. The checkpoint's first fault comes before
 /// the log's, and the capacity is judged at the end alone. Each record after the checkpoint's place is read once, for which
-/// a step is counted, and none before it. The disk stays as it is.
+/// a step is counted, and none before it. No pointer is into a log file below those that the checkpoint names. The disk stays
+/// as it is.
 pub fn open_newest<D: Disk, L: Ledger>(
     alloc: Global,
     disk: &mut D,
@@ -82,10 +94,10 @@ pub fn open_newest<D: Disk, L: Ledger>(
         Ok(check) => check,
         Err(refused) => return Err(not_read(refused)),
     };
-    let number = number_of(&check);
+    let newest = named(&check);
     match replay(alloc, disk, check, capacity, steps) {
         Ok(replayed) => Ok(Opened {
-            check: number,
+            check: newest,
             replayed,
         }),
         Err(refused) => Err(not_replayed(refused)),

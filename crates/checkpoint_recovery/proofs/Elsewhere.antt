@@ -11,13 +11,16 @@ use Rattle.event_core.specs.declared.journal.Entry.TheVariants.{Puts, Takes}
 use Rattle.record_form.specs.declared.record.Pointer.{Pointer}
 use Rattle.channel_log.specs.Frames.{Holds}
 use Rattle.channel_log.specs.Pointers.{PutAt}
+use Rattle.channel_replay.specs.declared.line.Line.{Line}
 use Rattle.channel_replay.specs.Recover.{AreLogs, LogFile}
+use Rattle.channel_replay.specs.Start.{Start}
 use Rattle.checkpoint.specs.Newest.{IsNewest, IsPassed, IsPassedFile}
 use Rattle.checkpoint.specs.Right.{EventsAre, LiveAre, OpenAre}
 use Rattle.checkpoint.specs.Text.{CheckText, check_bytes}
-use Rattle.checkpoint_recovery.specs.Reading.{HasFrom}
-use Rattle.checkpoint_recovery.specs.Recovers.{Front, From}
-use Rattle.checkpoint_recovery.specs.Laws.{FrontElsewhere, HasOneNewest, OpenIsNewest, PassedIsNotNewest, SameFrom, ServesElsewhere}
+use Rattle.checkpoint.specs.declared.place.Place.{Place}
+use Rattle.checkpoint_recovery.specs.Reading.{HasFrom, LinesFrom}
+use Rattle.checkpoint_recovery.specs.Recovers.{Front, From, IsCheck}
+use Rattle.checkpoint_recovery.specs.Laws.{FrontElsewhere, HasOneNewest, NamesFrom, OpenIsNewest, PassedIsNotNewest, SameFrom, ServesElsewhere}
 
 module _ (files later : Files) (least : ℕ) (same : SameFrom least files later) where
   there : (P : List ℕ → Type 0) (n : ℕ) → least ≤ n → IsSomeAnd (files (Log n)) P → IsSomeAnd (later (Log n)) P
@@ -56,10 +59,10 @@ module _ (files later : Files) (least : ℕ) (same : SameFrom least files later)
   open_there [] [] ((txn, Puts events) ∷ opened) low are = are
   open_there [] [] ((txn, Takes numbers) ∷ opened) low are = are
 
-pub serves_elsewhere : ServesElsewhere
-serves_elsewhere files later least number c start found same names newest file check lines =
+-- a checkpoint stands for the same there
+pub check_elsewhere : (files later : Files) (least number : ℕ) (c : CheckText) (start : Start) → SameFrom least files later → NamesFrom least c → later (Check number) ≡ files (Check number) → IsCheck files number c start → IsCheck later number c start
+check_elsewhere files later least number c start same names file check =
     let r = check.means.right in
-    From number c newest (
     record {
       spelled = file ∙ check.spelled;
       means = record {
@@ -83,14 +86,21 @@ serves_elsewhere files later least number c start found same names newest file c
         number = check.means.number;
         txn = check.means.txn;
       };
-    }) (
-    record {
-      own = lines.own;
-      logs = lines.logs;
-      there = there files later least same (λ bytes. HasFrom c.place.file bytes c.place.at lines.own) c.place.file names.place lines.there;
-      behind = logs_there files later least same (c.place.file + 1) (2 ^ 32) lines.logs (omega (arith, names.place)) lines.behind;
-      lines_are = lines.lines_are;
-    })
+    }
+
+-- and the lines after its place are the same
+pub lines_elsewhere : (files later : Files) (least : ℕ) (place : Place) (found : List Line) → SameFrom least files later → least ≤ place.file → LinesFrom files place found → LinesFrom later place found
+lines_elsewhere files later least place found same low lines = record {
+  own = lines.own;
+  logs = lines.logs;
+  there = there files later least same (λ bytes. HasFrom place.file bytes place.at lines.own) place.file low lines.there;
+  behind = logs_there files later least same (place.file + 1) (2 ^ 32) lines.logs (omega (arith, low)) lines.behind;
+  lines_are = lines.lines_are;
+}
+
+pub serves_elsewhere : ServesElsewhere
+serves_elsewhere files later least number c start found same names newest file check lines =
+    From number c newest (check_elsewhere files later least number c start same names file check) (lines_elsewhere files later least c.place found same names.place lines)
 
 pub front_elsewhere : FrontElsewhere
 front_elsewhere files later found same newest all = Front newest refl (record { logs = all.logs; are = logs_there files later 0 same 0 (2 ^ 32) all.logs (omega arith) all.are; lines_are = all.lines_are })

@@ -3,6 +3,7 @@ use Rattle.std.proofs.Common.{◌≡◌, ◌≤◌, ◌+◌, ◌++◌, ◌∷◌
 use Rattle.flume_host.specs.Folder.{Files}
 use Rattle.flume_host.specs.Told.{Told, WhereTold}
 use Rattle.event_core.specs.Content.{Content}
+use Rattle.event_core.specs.Journal.{Base}
 use Rattle.record_form.specs.declared.record.Pointer.{Pointer}
 use Rattle.event_ring.specs.Slots.{Index, Left}
 use Rattle.channel_replay.specs.declared.recovery.Next.{Next}
@@ -16,7 +17,7 @@ use Rattle.channel_replay.proofs.Replaying.{log_maps}
 use Rattle.checkpoint.specs.declared.check.Check.{Check}
 use Rattle.checkpoint.specs.Right.{LiveAre, PutIn}
 use Rattle.checkpoint.specs.Says.{live_at}
-use Rattle.checkpoint_recovery.specs.Reading.{IsInLog, LinesFrom}
+use Rattle.checkpoint_recovery.specs.Reading.{AllLines, IsInLog, LinesFrom}
 use Rattle.ring_replay.specs.declared.folder.Replayed.{Replayed}
 use Rattle.ring_replay.specs.declared.indexing.Indexing.{Indexing}
 use Rattle.ring_replay.specs.Indexing.{GoesThrough, HasItems, IsKept, IsPlaced, Keeps, Places}
@@ -24,7 +25,7 @@ use Rattle.ring_replay.specs.Folder.{AreReplayed, StopsIn, puts_of}
 use Rattle.ring_replay.proofs.Ends.{Drops}
 use Rattle.checkpoint_replay.specs.Checked.{IsOfCheck}
 use Rattle.checkpoint_replay.specs.Reading.{WhereLines}
-use Rattle.checkpoint_replay.specs.Replayed.{HasEvents, IsReplayedFrom, IsStartOf, LeavesFrom, WhereStarts}
+use Rattle.checkpoint_replay.specs.Replayed.{HasEvents, IsReplayedFrom, IsStartOf, LeavesFrom, StandElsewhere, WhereStarts}
 use Rattle.checkpoint_replay.proofs.CheckPlaces.{either_in, in_first, live_within, open_within, places_of, right_ordered, ring_in, stand_behind}
 use Rattle.checkpoint_replay.proofs.Checked.{checks_are_kept}
 use Rattle.checkpoint_replay.proofs.PutsStand.{from_front, from_place}
@@ -74,6 +75,16 @@ items_length places (l ∷ live) [] has = absurd has
 items_length places (l ∷ live) (item ∷ items) has = omega (arith, items_length places live items has.2)
 
 module _ (told : Option Told) (check : Check) (index now dropped : Indexing) (of : IsOfCheck check index) (goes : WhereLines told check.place (λ found. GoesThrough found index now)) (drops : Drops now dropped) where
+  -- The events stand at the pointers in each folder that is replayed so.
+  pub elsewhere_from : (capacity : ℕ) (r : Replayed) → r.ring ≡ record dropped.ring { slots = capacity } → WhereStarts told (Some check) (λ files start found. StandElsewhere (Some check) start found r)
+  elsewhere_from capacity r ring t is start found from folder there =
+      let b = begun folder check start found index there.0 there.1 of in
+      let all : Places = b.places ++ puts_of found in
+      let past : Past = start_past start in
+      let went = goes t is found from.1 all start past (stand_behind b.places found) b.keeps in
+      let keeps : Keeps all start (Dropped ∷ past_lines past found) dropped = drops all start (past_lines past found) went.1 in
+      subst (λ (live : List Left). LiveAre folder (map live_at live) (replayed start found).items) (sym (ap (λ (i : Index). i.live) ring)) (ring_in folder all dropped.ring.live (replayed start found).items b.within keeps.items)
+
   -- The ring has what the lines leave.
   pub replayed_from : (capacity : ℕ) (r : Replayed) → r.ring ≡ record dropped.ring { slots = capacity } → r.next ≡ dropped.next → WhereStarts told (Some check) (λ files start found. IsReplayedFrom files start found r)
   replayed_from capacity r ring next_is t is start found from =
@@ -85,7 +96,7 @@ module _ (told : Option Told) (check : Check) (index now dropped : Indexing) (of
       record {
         left = replayed start found;
         stands = stands_for start found all dropped r.next.txn went.0 keeps (ap (λ (n : Next). n.txn) next_is);
-        items = subst (λ (live : List Left). LiveAre t.reads (map live_at live) (replayed start found).items) (sym (ap (λ (i : Index). i.live) ring)) (ring_in t.reads all dropped.ring.live (replayed start found).items b.within keeps.items);
+        items = elsewhere_from capacity r ring t is start found from t.reads from;
         number = ap (λ (n : Next). n.number) next_is ∙ keeps.number;
       }
 
@@ -131,6 +142,16 @@ module _ (told : Option Told) where
         number = one.number;
       } in
       subst (λ (s : Start). IsReplayedFrom t.reads s found r) (sym from.0) (subst (λ (l : List Line). IsReplayedFrom t.reads empty_start l r) (sym all.lines_are) it)
+
+  pub front_elsewhere : (r : Replayed) → WhereTold told (λ t. WhereLogs t.reads (λ logs. AreReplayed logs r)) → WhereStarts told None (λ files start found. StandElsewhere None start found r)
+  front_elsewhere r holds t is start found from folder there =
+      let all = from.1 in
+      let one = holds t is all.logs all.are in
+      let here : AllLines folder (lines all.logs) = subst (AllLines folder) all.lines_are there.1 in
+      let items : LiveAre folder (map live_at r.ring.live) one.left.items =
+      ring_in folder (puts_of (lines all.logs)) r.ring.live one.left.items (λ p event placed. from_front folder (lines all.logs) p event here placed) one.items in
+      let left : one.left ≡ replayed start found = one.stands.left_is ∙ (λ k. replayed (sym from.0 k) (sym all.lines_are k)) in
+      subst (λ (base : Base). LiveAre folder (map live_at r.ring.live) base.items) left items
 
   pub front_bad : (file at : ℕ) → WhereTold told (λ t. WhereLogs t.reads (λ logs. IsBadFrom empty_start (lines logs) file at)) → WhereStarts told None (λ files start found. IsBadFrom start found file at)
   front_bad file at = from_logs (λ start found. IsBadFrom start found file at)

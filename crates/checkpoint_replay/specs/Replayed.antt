@@ -5,7 +5,7 @@ use Rattle.flume_host.specs.Folder.{Files}
 use Rattle.flume_host.specs.Told.{Told, WhereTold}
 use Rattle.event_core.specs.Journal.{Base}
 use Rattle.channel_replay.specs.declared.line.Line.{Line}
-use Rattle.channel_replay.specs.Recover.{StandsFrom, empty_start}
+use Rattle.channel_replay.specs.Recover.{StandsFrom, empty_start, replayed}
 use Rattle.channel_replay.specs.Start.{Start}
 use Rattle.checkpoint.specs.declared.check.Check.{Check}
 use Rattle.checkpoint.specs.Right.{LiveAre, PutIn}
@@ -39,6 +39,10 @@ pub record IsReplayedFrom (files : Files) (start : Start) (found : List Line) (r
   pub stands : StandsFrom start found left r.next.txn
   pub items : LiveAre files (map live_at r.ring.live) left.items
   pub number : r.next.number ≡ left.first
+
+-- In each folder that is replayed from the same start with the same lines the events stand at the pointers of the ring.
+abbrev pub StandElsewhere : Option Check → Start → List Line → Replayed → Type 0
+StandElsewhere check start found r = (folder : Files) → StartsAt folder check start found → LiveAre folder (map live_at r.ring.live) (replayed start found).items
 
 -- so many events are left
 abbrev pub LeavesFrom : Start → List Line → ℕ → Type 0

@@ -7,7 +7,7 @@ ghost use Rattle.channel_replay.specs.Replay.{WhereBadLog, WhereOver, record_cou
 ghost use Rattle.channel_replay.specs.Start.{Start};
 ghost use Rattle.ring_replay.specs.Folder.{IsReady};
 ghost use Rattle.checkpoint_replay.specs.Checked.{IsOfCheck};
-ghost use Rattle.checkpoint_replay.specs.Replayed.{HasEvents, IsReplayedFrom, IsRightFor, IsStartOf, LeavesFrom, WhereStarts};
+ghost use Rattle.checkpoint_replay.specs.Replayed.{HasEvents, IsReplayedFrom, IsRightFor, IsStartOf, LeavesFrom, StandElsewhere, WhereStarts};
 
 use crate::reading::apply_log;
 use channel_replay::{Next, ReplayRefused};
@@ -48,6 +48,7 @@ fn replay_from<D: Disk, L: Ledger>(
     requires kept { HasEvents check }
     requires right { WhereTold (D.told disk.old) (λ t. (start : Start) × IsStartOf t.reads check start) }
     ensures ok { IfOk result (λ r. WhereStarts (D.told disk.old) (Some check) (λ files start found. IsReplayedFrom files start found r)) }
+    ensures elsewhere { IfOk result (λ r. WhereStarts (D.told disk.old) (Some check) (λ files start found. StandElsewhere (Some check) start found r)) }
     ensures ready { IfOk result (λ r. IsReady capacity r) }
     ensures bad { IfErr result (λ e. WhereBadLog e (λ file at. WhereStarts (D.told disk.old) (Some check) (λ files start found. IsBadFrom start found file at))) }
     ensures over { IfErr result (λ e. WhereOver e (λ count. (capacity < count) × WhereStarts (D.told disk.old) (Some check) (λ files start found. LeavesFrom start found count))) }
@@ -85,7 +86,8 @@ pub fn replay<D: Disk, L: Ledger>(
     // The checkpoint is right for the folder.
     requires right { WhereTold (D.told disk.old) (λ t. IsRightFor t.reads check) }
     ensures ok { IfOk result (λ r. WhereStarts (D.told disk.old) check (λ files start found. IsReplayedFrom files start found r)) }
-
+    // No other record is pointed to: the same pointers are right for a folder that has the checkpoint and these lines alone.
+    ensures elsewhere { IfOk result (λ r. WhereStarts (D.told disk.old) check (λ files start found. StandElsewhere check start found r)) }
     // Also where the disk shows nothing.
     ensures ready { IfOk result (λ r. IsReady capacity r) }
     ensures bad { IfErr result (λ e. WhereBadLog e (λ file at. WhereStarts (D.told disk.old) check (λ files start found. IsBadFrom start found file at))) }

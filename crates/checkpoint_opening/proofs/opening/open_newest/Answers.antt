@@ -17,7 +17,7 @@ replay-requires-clause-right g c =
 
 pub returns-in-Ok-replay-clause-opened : goal.returns-in-Ok-replay-clause-opened
 returns-in-Ok-replay-clause-opened g c =
-    opens (g.D.Disk.told c.args.disk.now) (g.D.Disk.told c.newest.new.disk) c.in-Ok.check c.number_of-number.result c.in-Ok-replay.replayed c.in-Ok.ensures.same c.number_of-number.ensures c.in-Ok.ensures.newest c.in-Ok-replay.ensures.ok
+    opens (g.D.Disk.told c.args.disk.now) (g.D.Disk.told c.newest.new.disk) c.in-Ok.check c.named-newest.result c.in-Ok-replay.replayed c.in-Ok.ensures.same c.named-newest.ensures c.in-Ok.ensures.newest c.in-Ok-replay.ensures.ok c.in-Ok-replay.ensures.elsewhere
 
 pub returns-in-Ok-replay-clause-ticks : goal.returns-in-Ok-replay-clause-ticks
 returns-in-Ok-replay-clause-ticks g c =

@@ -2,8 +2,8 @@ use Rattle.std.proofs.Common.{◌<◌, ℕ, Some}
 use Rattle.ring_replay.specs.declared.folder.Replayed.{Replayed}
 use Rattle.ring_replay.specs.Folder.{IsReady}
 use Rattle.ring_replay.proofs.Ends.{replayed_ready, within_ok, within_over}
-use Rattle.checkpoint_replay.specs.Replayed.{IsReplayedFrom, LeavesFrom, WhereStarts}
-use Rattle.checkpoint_replay.proofs.Ends.{bad_from, begun_kept, count_from, few_from, replayed_from}
+use Rattle.checkpoint_replay.specs.Replayed.{IsReplayedFrom, LeavesFrom, StandElsewhere, WhereStarts}
+use Rattle.checkpoint_replay.proofs.Ends.{bad_from, begun_kept, count_from, elsewhere_from, few_from, replayed_from}
 use Rattle.checkpoint_replay.proofs.folder.replay_from.Goals as goal
 
 pub apply_log-requires-clause-kept : goal.apply_log-requires-clause-kept
@@ -13,6 +13,11 @@ pub returns-in-Ok-clause-ok : goal.returns-in-Ok-clause-ok
 returns-in-Ok-clause-ok g c =
     within_ok c.within.result c.drop_open.new.self c.args.capacity (λ (r : Replayed). WhereStarts (g.D.Disk.told c.args.disk.now) (Some c.args.check) (λ files start found. IsReplayedFrom files start found r))
     (λ x ring next few. replayed_from _ c.args.check c.in_ok-index.index c.apply_log.new.index c.drop_open.new.self c.in_ok-index.ensures.ok c.in-Ok.ensures.ok c.drop_open.ensures.dropped c.args.capacity x ring next) c.within.ensures.ok
+
+pub returns-in-Ok-clause-elsewhere : goal.returns-in-Ok-clause-elsewhere
+returns-in-Ok-clause-elsewhere g c =
+    within_ok c.within.result c.drop_open.new.self c.args.capacity (λ (r : Replayed). WhereStarts (g.D.Disk.told c.args.disk.now) (Some c.args.check) (λ files start found. StandElsewhere (Some c.args.check) start found r))
+    (λ x ring next few. elsewhere_from _ c.args.check c.in_ok-index.index c.apply_log.new.index c.drop_open.new.self c.in_ok-index.ensures.ok c.in-Ok.ensures.ok c.drop_open.ensures.dropped c.args.capacity x ring) c.within.ensures.ok
 
 pub returns-in-Ok-clause-ready : goal.returns-in-Ok-clause-ready
 returns-in-Ok-clause-ready g c =
