@@ -1,2 +1,4 @@
 pub mod Laid
 pub mod Pruned
+pub mod Naming
+pub mod Needed

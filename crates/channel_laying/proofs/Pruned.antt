@@ -102,7 +102,7 @@ module _ (t u : Told) (w : Writer) (s : State) (records : List Rec) (disk : OnDi
 
 -- over what a disk shows, if it shows it
 
-pub pruned_logged : (told told' : Option Told) (w : Writer) (busy : ℕ) (s : State) (least laid : ℕ) → WhereTold told (λ t. IsImage t.now t.reads) → Tells told told' (KeepsFrom least laid) → least ≤ w.file → WhereTold told (λ t. AreNeeded t least laid) → IsLogged told w busy s → IsLogged told' w busy s
+pub pruned_logged : (told told' : Option Told) (w : Writer) (busy : ℕ) (s : State) (least laid : ℕ) → WhereTold told (λ t. IsImage t.now t.reads) → Tells told told' (KeepsFrom least laid) → WhereTold told (λ t. least ≤ w.file) → WhereTold told (λ t. AreNeeded t least laid) → IsLogged told w busy s → IsLogged told' w busy s
 pruned_logged told told' w busy s least laid reads keeps low needs log = record {
   busy_is = log.busy_is;
   few = log.few;
@@ -115,13 +115,13 @@ pruned_logged told told' w busy s least laid reads keeps low needs log = record 
         pending = waits.pending;
         disk = λ u new.
             let b = back told told' (KeepsFrom least laid) keeps u new in
-            disk_pruned b.0 u w s waits.records (waits.disk b.0 b.1) least laid (reads b.0 b.1) b.2 low (needs b.0 b.1);
+            disk_pruned b.0 u w s waits.records (waits.disk b.0 b.1) least laid (reads b.0 b.1) b.2 (low b.0 b.1) (needs b.0 b.1);
       };
 }
 
-pub pruned_moments : (told told' : Option Told) (w : Writer) (busy : ℕ) (s : State) (least laid : ℕ) → WhereTold told (λ t. IsImage t.now t.reads) → Tells told told' (KeepsFrom least laid) → least ≤ w.file → WhereTold told (λ t. AreNeeded t least laid) → IsLogged told w busy s → s.broken ≡ false
+pub pruned_moments : (told told' : Option Told) (w : Writer) (busy : ℕ) (s : State) (least laid : ℕ) → WhereTold told (λ t. IsImage t.now t.reads) → Tells told told' (KeepsFrom least laid) → WhereTold told (λ t. least ≤ w.file) → WhereTold told (λ t. AreNeeded t least laid) → IsLogged told w busy s → s.broken ≡ false
     → Tells told told' (λ t u. LeavesOnly t u (RecoversSettled s))
 pruned_moments told told' w busy s least laid reads keeps low needs log still =
     let waits = log.waits still in
     tells_more told told' (KeepsFrom least laid) (λ t u. LeavesOnly t u (RecoversSettled s))
-    (λ t u old new one. moments_pruned t u w s waits.records (waits.disk t old) least laid (reads t old) one low (needs t old)) keeps
+    (λ t u old new one. moments_pruned t u w s waits.records (waits.disk t old) least laid (reads t old) one (low t old) (needs t old)) keeps

@@ -20,7 +20,7 @@ pub fn prune_log<D: Disk + Drop>(
     laid: u32,
     least: u32,
 ) -> Result<u64, Failed>
-    requires low { least ≤ writing.old.log.file }
+    requires low { WhereTold (D.told writing.old.disk) (λ t. least ≤ writing.old.log.file) }
     requires needs { WhereTold (D.told writing.old.disk) (λ t. AreNeeded t least laid) }
     ensures any_moment { (s : State) → IsLogged (D.told writing.old.disk) writing.old.log writing.old.busy s
         → s.broken ≡ false → Tells (D.told writing.old.disk) (D.told writing.new.disk)

@@ -19,7 +19,7 @@ recovers_there : (files later : Files) (left : Base) (txn : ℕ) (r : RecoversTo
 recovers_there files later left txn r begins = record { start = r.start; found = r.found; begins = begins; stands = r.stands }
 
 -- all files are from the first one on
-names_all : (c : CheckText) → NamesFrom 0 c
+pub names_all : (c : CheckText) → NamesFrom 0 c
 names_all c = record { place = omega arith; live = live c.live; puts = puts c.puts }
   where
     live : (l : List (ℕ × Pointer)) → AllByRecursion (λ x. 0 ≤ x.1.file) l
