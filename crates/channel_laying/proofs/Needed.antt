@@ -4,7 +4,7 @@ use Rattle.std.specs.Prelude.{IsSomeAnd, if◌then◌else◌}
 use Rattle.std.proofs.lemmas.Bool.{cases_lt}
 use Rattle.std.proofs.lemmas.Bool.Decides.{eqb_tells, nat_tests}
 use Rattle.std.proofs.lemmas.List.{get_or_past}
-use Rattle.flume_host.specs.Folder.{Allows, Entry, Files, Folder, Gone, IsImage, same_name, with_at}
+use Rattle.flume_host.specs.Folder.{Allows, Entry, Files, Folder, Gone, IsImage, same_name, settle_entry, with_at}
 use Rattle.flume_host.specs.Told.{Changes, OneFile, Tells, Told, WhereTold, clock}
 use Rattle.flume_host.specs.declared.names.FileName.TheVariants.{Check, Log}
 use Rattle.flume_host.proofs.Moments.{clock_rises}
@@ -129,6 +129,11 @@ module _ (t u : Told) (number : ℕ) (c : CheckText) (unused : AreUnused t numbe
       let newest : IsNewest folder (Some needs.number) = passed_is_not_newest files folder number (Some needs.number) before after same needs.newest in
       let other : needs.number ≢ number = λ is. not_both (files (Check number)) before (subst (λ (m : ℕ). IsSomeAnd (files (Check m)) (λ bytes. IsPassed bytes → ⊥)) is needs.newest.0) in
       record { number = needs.number; newest = newest; late = needs.late; names = λ d start check. needs.names d start (checks d start needs.number other check) }
+
+  -- Once its text alone may be left, it is needed, with the files that it names.
+  pub needed_laid : (least : ℕ) → IsNaming least c → u.now (Check number) ≡ settle_entry (Some (1 ∷ check_bytes c)) → AreNeeded u least number
+  needed_laid least naming is folder left =
+      needs_text folder least number number c naming (omega arith) (as_read (Some (1 ∷ check_bytes c)) (folder (Check number)) (subst (λ (e : Entry). Allows e (folder (Check number))) is (left number))) (passed_above folder left)
 
   -- What was needed is needed still, if the text names no other files.
   pub needed_laying : (least laid : ℕ) → IsImage t.now t.reads → AreNeeded t least laid → IsNaming least c → AreNeeded u least laid

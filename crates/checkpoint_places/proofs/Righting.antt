@@ -42,7 +42,7 @@ live_are files known held [] (item ∷ items) stands look = look
 live_are files known held (l ∷ live) [] stands look = look
 live_are files known held (l ∷ live) (item ∷ items) stands look = (look.0.0, stands l.pointer item.1 look.0.2, live_are files known held live items stands look.1)
 
-live_rise : (known : Known) (held : List ℕ) (live : List Left) (items : Items) (low first : ℕ) → LookLeft known held live items → Rising low items first → Rise low first (map live_at live)
+pub live_rise : (known : Known) (held : List ℕ) (live : List Left) (items : Items) (low first : ℕ) → LookLeft known held live items → Rising low items first → Rise low first (map live_at live)
 live_rise known held [] [] low first look rising = tt
 live_rise known held [] (item ∷ items) low first look rising = absurd look
 live_rise known held (l ∷ live) [] low first look rising = absurd look

@@ -1,9 +1,9 @@
 -- What is put, taken and settled fits places and log to the state after it.
-use Rattle.std.proofs.Common.{◌⊎◌, inl, inr, ◌≡◌, ◌≤◌, ◌+◌, ◌++◌, ◌∷◌, [], ℕ, List, length, Option, Some, None, Result, Ok, Err, true, false, sym, ◌∙◌, subst, arith}
+use Rattle.std.proofs.Common.{◌⊎◌, inl, inr, ◌≡◌, ◌≤◌, ◌+◌, ◌++◌, ◌∷◌, [], ℕ, List, length, Option, Some, None, Result, Ok, Err, true, false, refl, sym, ◌∙◌, ap, subst, arith}
 use Rattle.std.specs.Prelude.{OnOk}
 use Rattle.flume_host.specs.Folder.{Files}
 use Rattle.flume_host.specs.Told.{Changes, LeavesOnly, Tells, Told}
-use Rattle.flume_host.specs.declared.names.FileName.TheVariants.{Log}
+use Rattle.flume_host.specs.declared.names.FileName.TheVariants.{Check, Log}
 use Rattle.flume_host.proofs.Telling.{back, follows, tells_more}
 use Rattle.event_core.specs.Content.{Content, size}
 use Rattle.record_form.specs.declared.record.Pointer.{Pointer}
@@ -25,7 +25,7 @@ use Rattle.channel_writing.proofs.Whole.{failed_whole, rests_over}
 use Rattle.channel_places.proofs.Opening.{looks_grow}
 use Rattle.file_channel.specs.Placed.{Fits, IsStateOf, Logged}
 use Rattle.file_channel.proofs.Owning.{own_appends, own_grows, own_less, own_put, own_same}
-use Rattle.file_channel.proofs.Placing.{Grows, frame_grows, next_place, placed_appends, placed_grows, placed_put, same_grows}
+use Rattle.file_channel.proofs.Placing.{Grows, frame_grows, needing_still, next_place, placed_appends, placed_grows, placed_put, same_grows}
 
 -- a put
 pub put_fits : (told : Option Told) (old new : Logged) (token : Token) (p : Pointer) (event : Content) (s : State) (events : List Content) → Fits told old s → puts_of s token ≡ Some events → Appends old.log new.log (Put token.number event) → p ≡ next_place old.log (size event)
@@ -58,32 +58,50 @@ take_fits told old new token number event rest s numbers fits list first adds pl
 some_or_none : (n : ℕ) → (n ≡ 0) ⊎ (1 ≤ n)
 some_or_none n = grind arith
 
+-- a crash leaves of each checkpoint what it might have left
+abbrev pub SameChecks : Told → Told → Type 0
+SameChecks t u = (n : ℕ) → u.now (Check n) ≡ t.now (Check n)
+
+-- of the two that a flush does the first
+abbrev grows_alone : (told told' : Option Told) (w w' : Writer) → ((u : Told) → told' ≡ Some u → (t : Told) × (told ≡ Some t) × (Grows t u w w' × SameChecks t u)) → (u : Told) → told' ≡ Some u → (t : Told) × (told ≡ Some t) × Grows t u w w'
+grows_alone told told' w w' grew u is = let was = grew u is in (was.0, was.1, was.2.0)
+
 pub flush_grows : (told told' : Option Told) (w w' : Writer) (s : State) → Waits told w s
     → ((birth : ℕ) (frames : List (List Rec)) (records : List Rec) → IsReady told birth w.file w.gate frames → IsPending w records → 1 ≤ length records → Tells told told' (Changes (Log w.file) (LacksOrHas birth w.file frames records) 2))
     → ((birth : ℕ) (frames : List (List Rec)) (records : List Rec) → IsReady told birth w.file w.gate frames → IsPending w records → 1 ≤ length records → IsReady told' birth w.file w'.gate (frames ++ records ∷ []))
     → (1 ≤ w.count → w' ≡ record w { gate = w.gate + length w.bytes + 6; started = true; bytes = []; count = 0 }) → (w.count ≡ 0 → (w' ≡ w) × (told' ≡ told))
-    → (u : Told) → told' ≡ Some u → (t : Told) × (told ≡ Some t) × Grows t u w w'
+    → (u : Told) → told' ≡ Some u → (t : Told) × (told ≡ Some t) × (Grows t u w w' × SameChecks t u)
 flush_grows told told' w w' s waits changes flushed moved same u is = from (some_or_none w.count)
   where
-    from : (w.count ≡ 0) ⊎ (1 ≤ w.count) → (t : Told) × (told ≡ Some t) × Grows t u w w'
+    from : (w.count ≡ 0) ⊎ (1 ≤ w.count) → (t : Told) × (told ≡ Some t) × (Grows t u w w' × SameChecks t u)
     from (inl nothing) =
         let both = same nothing in
-        (u, sym both.1 ∙ is, subst (λ (v : Writer). Grows u u w v) (sym both.0) (same_grows u w))
+        (u, sym both.1 ∙ is, (subst (λ (v : Writer). Grows u u w v) (sym both.0) (same_grows u w), λ n. refl))
     from (inr some) =
         let ready = ready_frames told w s waits in
         let many : 1 ≤ length waits.records = omega (arith, some, waits.pending.counted) in
         let was = back told told' (Changes (Log w.file) (LacksOrHas ready.0 w.file ready.1 waits.records) 2) (changes ready.0 ready.1 waits.records ready.2 waits.pending many) u is in
         let rest = flushed ready.0 ready.1 waits.records ready.2 waits.pending many u is in
-        (was.0, was.1, frame_grows was.0 u w w' ready.0 ready.1 waits.records (ready.2 was.0 was.1) rest waits.pending was.2 (moved some))
+        (was.0, was.1, (frame_grows was.0 u w w' ready.0 ready.1 waits.records (ready.2 was.0 was.1) rest waits.pending was.2 (moved some), λ n. (was.2.others (Check n) refl).0))
 
-pub settle_fits : (told told' : Option Told) (old new : Logged) (s : State) (is : IsStateOf told old s) (still : s.broken ≡ false) → ((u : Told) → told' ≡ Some u → (t : Told) × (told ≡ Some t) × Grows t u old.log new.log)
+-- the log's own file is no earlier one
+pub flush_file : (told told' : Option Told) (w w' : Writer) → (1 ≤ w.count → w' ≡ record w { gate = w.gate + length w.bytes + 6; started = true; bytes = []; count = 0 }) → (w.count ≡ 0 → (w' ≡ w) × (told' ≡ told)) → w.file ≤ w'.file
+flush_file told told' w w' moved same = from (some_or_none w.count)
+  where
+    from : (w.count ≡ 0) ⊎ (1 ≤ w.count) → w.file ≤ w'.file
+    from (inl nothing) = omega (arith, ap (λ (v : Writer). v.file) (same nothing).0)
+    from (inr some) = omega (arith, ap (λ (v : Writer). v.file) (moved some))
+
+pub settle_fits : (told told' : Option Told) (old new : Logged) (s : State) (is : IsStateOf told old s) (still : s.broken ≡ false) → ((u : Told) → told' ≡ Some u → (t : Told) × (told ≡ Some t) × (Grows t u old.log new.log × SameChecks t u)) → old.log.file ≤ new.log.file
     → ((known : Known) → Looks known known old.places s → Looks known known new.places (settle s)) → new.places.opened ≡ old.places.opened → new.log.bytes ≡ [] → IsLogged told' new.log new.busy (settle s) → Fits told' new (settle s)
-settle_fits told told' old new s is still grew places same empty log = record {
+settle_fits told told' old new s is still grew more places same empty log = record {
   settled = is.known;
   known = is.known;
   looks = places is.known (looks_grow is.settled is.known is.known old.places s (is.placed still).within (λ p event in_known. in_known) is.looks);
-  placed = placed_grows told told' old.log new.log is.settled is.known empty grew (is.placed still);
-  owned = own_grows told told' old.log new.log new.places.opened grew (own_same told old.log old.places.opened new.places.opened same (is.owned still));
+  placed =
+      placed_grows told told' old.log new.log is.settled is.known empty (grows_alone told told' old.log new.log grew)
+      (needing_still told told' old.log.file new.log.file is.known more (λ u now. let was = grew u now in (was.0, was.1, was.2.1)) (is.placed still).needing) (is.placed still);
+  owned = own_grows told told' old.log new.log new.places.opened (grows_alone told told' old.log new.log grew) (own_same told old.log old.places.opened new.places.opened same (is.owned still));
   logged = log;
 }
 

@@ -1,5 +1,5 @@
 -- A checkpoint may be laid of a channel of which nothing waits for a flush.
-use Rattle.std.proofs.Common.{◌⊎◌, inl, inr, ◌≡◌, ◌≢◌, ◌<◌, ◌≤◌, ◌^◌, ◌++◌, ◌∷◌, [], ◌==◌, ℕ, List, drop, length, length-append, take, Option, Some, None, Bool, true, false, refl, sym, ◌∙◌, ap, subst, arith}
+use Rattle.std.proofs.Common.{◌⊎◌, inl, inr, ◌≡◌, ◌≢◌, ◌<◌, ◌≤◌, ◌^◌, ◌++◌, ◌∷◌, [], ◌==◌, ℕ, List, drop, length, length-append, map, take, Option, Some, None, Bool, true, false, refl, sym, ◌∙◌, ap, subst, arith}
 use Rattle.std.specs.Prelude.{IsSomeAnd}
 use Rattle.std.specs.List.{AllByRecursion}
 use Rattle.std.proofs.Math.Seq.{take-nil}
@@ -13,14 +13,15 @@ use Rattle.event_core.specs.Content.{Content}
 use Rattle.event_core.specs.declared.journal.Entry.{Entry as JournalEntry}
 use Rattle.event_core.specs.declared.journal.Entry.TheVariants as entry
 use Rattle.record_form.specs.declared.record.Pointer.{Pointer}
-use Rattle.event_ring.specs.Slots.{Index}
+use Rattle.event_ring.specs.Slots.{Index, Left}
 use Rattle.open_table.specs.Tables.{Listed, Open, Puts, Table, Takes, open_at, puts_of, takes_of}
 use Rattle.channel_log.specs.Frames.{header, opened}
 use Rattle.channel_log.specs.Pointers.{PutAt, end_of, in_frame}
 use Rattle.channel_log.specs.Writer.{Writer}
 use Rattle.channel_log.proofs.Pointing.{put_grows}
-use Rattle.channel_face.specs.Machine.{State, entry_of}
-use Rattle.channel_places.specs.Looks.{IsFewOpen, Known, LookPuts, Looks, LooksListed, LooksOpen, Numbers, StandsIn, pointers_of}
+use Rattle.channel_face.specs.Machine.{State, base_of, entry_of}
+use Rattle.channel_face.proofs.Numbers.{rising_base}
+use Rattle.channel_places.specs.Looks.{IsFewOpen, Known, LookPuts, Looks, LooksListed, LooksOpen, Numbers, StandsIn, held_in, pointers_at, pointers_of}
 use Rattle.channel_places.proofs.Opening.{looks_grow}
 use Rattle.channel_writing.specs.Mirrors.{IsStartOf}
 use Rattle.channel_writing.specs.Written.{IsLogged}
@@ -30,14 +31,20 @@ use Rattle.channel_writing.proofs.Recovering.{length-header}
 use Rattle.checkpoint.specs.declared.place.Next.{Next}
 use Rattle.checkpoint.specs.declared.place.Place.{Place}
 use Rattle.checkpoint.specs.Right.{PutIn}
-use Rattle.checkpoint.specs.Says.{puts_at, puts_in, takes_in}
+use Rattle.checkpoint.specs.Says.{Says, live_at, puts_at, puts_in, takes_in}
 use Rattle.checkpoint_places.specs.Laws.{AreFew, HasPlaces, IsPutOf}
 use Rattle.checkpoint_places.specs.Texts.{started, text_of}
-use Rattle.checkpoint_places.proofs.Righting.{places_are_right}
+use Rattle.checkpoint_places.proofs.Righting.{live_rise, places_are_right}
 use Rattle.checkpoint_places.proofs.Saying.{places_are_said}
 use Rattle.checkpoint_places.proofs.Starting.{state_has_start}
-use Rattle.channel_laying.specs.Laying.{AreUnused, HasLog, MayLay}
-use Rattle.file_channel.specs.Placed.{IsOwn, IsStateOf, IsStill, IsThere, Logged, PutBy, bytes_of, settled_in}
+use Rattle.channel_replay.specs.Start.{Start}
+use Rattle.checkpoint.specs.Text.{CheckText, Rise}
+use Rattle.checkpoint_opening.specs.declared.opening.NewestCheck.{NewestCheck}
+use Rattle.checkpoint_places.specs.Named.{IsLeastNamed}
+use Rattle.channel_laying.specs.Laying.{AreUnused, HasLog, IsLaying, MayLay}
+use Rattle.file_channel.specs.Placed.{AreNeeding, IsOwn, IsStateOf, IsStill, IsThere, Logged, PutBy, bytes_of, settled_in}
+use Rattle.file_channel.specs.Laid.{IsNeeded}
+use Rattle.file_channel.proofs.Needing.{Finds, cut, least_of, left_named, looks_cut, needed_kept, needing_laid, placed_cut, puts_named}
 use Rattle.file_channel.proofs.Owning.{by_grows, own_grows}
 use Rattle.file_channel.proofs.Placing.{Grows, end_own, no_put, placed_grows}
 
@@ -93,7 +100,7 @@ puts_known known [] (event ∷ events) look = tt
 puts_known known (p ∷ pointers) [] look = absurd look
 puts_known known (p ∷ pointers) (event ∷ events) look = ((event, look.0), puts_known known pointers events look.1)
 
-open_known : (known : Known) (room : ℕ) (o : Option Open) (e : Option JournalEntry) → LooksOpen known room o e → AllByRecursion (λ q. (event : Content) × StandsIn known q event) (puts_in o)
+pub open_known : (known : Known) (room : ℕ) (o : Option Open) (e : Option JournalEntry) → LooksOpen known room o e → AllByRecursion (λ q. (event : Content) × StandsIn known q event) (puts_in o)
 open_known known room None e look = tt
 open_known known room (Some o) None look = absurd look
 open_known known room (Some o) (Some e) look = of_list o.listed e look.0
@@ -103,7 +110,7 @@ open_known known room (Some o) (Some e) look = of_list o.listed e look.0
     of_list (Puts pointers) (entry.Takes taken) look = absurd look
     of_list (Takes numbers) e look = tt
 
-both_maps : {A : Type 0} (P Q R : A → Type 0) (xs : List A) → ((x : A) → P x → Q x → R x) → AllByRecursion P xs → AllByRecursion Q xs → AllByRecursion R xs
+pub both_maps : {A : Type 0} (P Q R : A → Type 0) (xs : List A) → ((x : A) → P x → Q x → R x) → AllByRecursion P xs → AllByRecursion Q xs → AllByRecursion R xs
 both_maps P Q R [] maps first second = tt
 both_maps P Q R (x ∷ xs) maps first second = (maps x first.0 second.0, both_maps P Q R xs maps first.1 second.1)
 
@@ -204,16 +211,45 @@ spares_grows t u w same = record {
   settled = λ file. ([], ap (λ (o : Option (List ℕ)). take (end_of w file) (bytes_of o)) (same file).1 ∙ sym (append-nil (settled_in t w file)));
   waited = λ p event txn waits at. inr (waits, at);
   still = λ file other was. (same file).0 ∙ (was other ∙ ap settle_entry (sym (same file).1));
+  file = omega arith;
   kept = refl;
 }
 
+-- all that its places point to is in files from a number on, and no other files are needed
+pub record ArePast (told' : Option Told) (c : Logged) (m : ℕ) (known : Known) : Type 0 where
+  pub live : AllByRecursion (λ (l : Left). m ≤ l.pointer.file) c.places.live
+  pub puts : (txn : ℕ) → AllByRecursion (λ (p : Pointer). m ≤ p.file) (pointers_at c.places.opened txn)
+  pub needing : AreNeeding told' c.log.file (cut m known)
+
+pub are_past : (told told' : Option Told) (c : Logged) (s : State) (is : IsStateOf told c s) (still : s.broken ≡ false) (number : ℕ) (next : Next) (ring : Index) (table : Table) (text : CheckText) (start : Start) (may : MayLay told c.log c.busy number next ring table s text start) → Tells told told' (Changes (Check number) (IsLaying text) 3) → WhereTold told' (λ t. IsImage t.now t.reads)
+    → (m : ℕ) → IsLeastNamed m text → ring.live ≡ c.places.live → table ≡ c.places.opened → ArePast told' c m is.known
+are_past told told' c s is still number next ring table text start may changes reads m named live opened = record {
+  live = subst (λ (l : List Left). AllByRecursion (λ (k : Left). m ≤ k.pointer.file) l) live (left_named _ next ring table text may.says m named.names);
+  puts = subst (λ (t : Table). (txn : ℕ) → AllByRecursion (λ (p : Pointer). m ≤ p.file) (pointers_at t txn)) opened (puts_named _ next ring table text may.says m named.names);
+  needing = needing_laid told told' c.log c.busy number next ring table s text start may changes reads m is.known named (is.placed still).needing;
+}
+
+-- what was needed is needed still
+pub kept_needed : (told told' : Option Told) (c : Logged) (s : State) (is : IsStateOf told c s) (still : s.broken ≡ false) (number : ℕ) (next : Next) (ring : Index) (table : Table) (text : CheckText) (start : Start) (may : MayLay told c.log c.busy number next ring table s text start) → Tells told told' (Changes (Check number) (IsLaying text) 3) → WhereTold told' (λ t. IsImage t.now t.reads)
+    → WhereTold told (λ t. IsImage t.now t.reads) → ring.live ≡ c.places.live → table ≡ c.places.opened → (laid : NewestCheck) → IsNeeded told laid → IsNeeded told' laid
+kept_needed told told' c s is still number next ring table text start may changes reads before live opened laid needed =
+    needed_kept told told' c.log c.busy number next ring table s text start may changes reads is.known c.places before
+    (looks_grow is.settled is.known is.known c.places s (is.placed still).within (λ p event in_known. in_known) is.looks) live opened (is.placed still).needing laid needed
+
+-- the least file that the text of places names is the one that was found for ring and table
+pub text_least : (told : Option Told) (c : Logged) (s : State) (is : IsStateOf told c s) (at : Place) (next : Next) (ring : Index) (table : Table) (m : ℕ) → Says at next ring table (text_of at c.places s) → Finds at ring table m → IsLeastNamed m (text_of at c.places s)
+text_least told c s is at next ring table m says finds =
+    let first : s.first ≡ next.number = sym (ap (λ (n : Numbers). n.first) is.looks.numbers) ∙ ap (λ (n : Next). n.number) says.next_is in
+    least_of at next ring table (text_of at c.places s) m says
+    (subst (λ (n : ℕ). Rise 0 n (map live_at c.places.live)) first (live_rise is.settled (held_in s) c.places.live s.items 0 s.first is.looks.left (rising_base (base_of s) is.looks.sound.base))) finds
+
 -- the channel stands for its state after that
-pub laid_state : (told told' : Option Told) (c : Logged) (s : State) → IsStateOf told c s → s.broken ≡ false → c.log.bytes ≡ [] → Tells told told' (λ t u. SparesLogs t u) → IsLogged told' c.log c.busy s → IsStateOf told' c s
-laid_state told told' c s is still empty spares logged = record {
-  settled = is.known;
-  known = is.known;
-  looks = looks_grow is.settled is.known is.known c.places s (is.placed still).within (λ p event in_known. in_known) is.looks;
-  placed = λ _. placed_grows told told' c.log c.log is.settled is.known empty grew (is.placed still);
+pub laid_state : (told told' : Option Told) (c : Logged) (s : State) (is : IsStateOf told c s) → s.broken ≡ false → s.staged ≡ [] → c.log.bytes ≡ [] → (m : ℕ) → ArePast told' c m is.known → Tells told told' (λ t u. SparesLogs t u) → IsLogged told' c.log c.busy s → IsStateOf told' c s
+laid_state told told' c s is still staged empty m past spares logged = record {
+  settled = cut m is.known;
+  known = cut m is.known;
+  looks = looks_cut m is.known c.places s (looks_grow is.settled is.known is.known c.places s (is.placed still).within (λ p event in_known. in_known) is.looks) staged past.live past.puts;
+  placed = λ _. placed_grows told told' c.log c.log (cut m is.settled) (cut m is.known) empty grew past.needing (placed_cut told c.log m is.settled is.known (is.placed still));
   owned = λ _. own_grows told told' c.log c.log c.places.opened grew (is.owned still);
   whole = record { logged = λ _. logged; left = λ broken. absurd (true_not_false s.broken broken still); sound = is.whole.sound; kind = is.whole.kind };
 }
@@ -227,10 +263,10 @@ laid_state told told' c s is still empty spares logged = record {
     true_not_false b is isnt = cc
 
 -- and so where a checkpoint alone was changed
-pub laid_as : (told told' : Option Told) (c : Logged) (s : State) (number most : ℕ) (P : Option (List ℕ) → Type 0) (w : Writer) (busy_ones : ℕ) → IsStateOf told c s → s.broken ≡ false → c.log.bytes ≡ [] → Tells told told' (Changes (Check number) P most) → w ≡ c.log → busy_ones ≡ c.busy → IsLogged told' w busy_ones s
+pub laid_as : (told told' : Option Told) (c : Logged) (s : State) (number most : ℕ) (P : Option (List ℕ) → Type 0) (w : Writer) (busy_ones : ℕ) (is : IsStateOf told c s) → s.broken ≡ false → s.staged ≡ [] → c.log.bytes ≡ [] → (m : ℕ) → ArePast told' c m is.known → Tells told told' (Changes (Check number) P most) → w ≡ c.log → busy_ones ≡ c.busy → IsLogged told' w busy_ones s
     → IsStateOf told' (record { places = c.places; log = w; busy = busy_ones }) s
-laid_as told told' c s number most P w busy_ones is still empty changes same busy_is logged =
+laid_as told told' c s number most P w busy_ones is still staged empty m past changes same busy_is logged =
     let spares : Tells told told' (λ t u. SparesLogs t u) = tells_more told told' (Changes (Check number) P most) (λ t u. SparesLogs t u) (λ t u old new changed n. changed.others (Log n) refl) changes in
     let as_before : IsLogged told' c.log c.busy s = subst (λ (v : Writer). IsLogged told' v c.busy s) same (subst (λ (n : ℕ). IsLogged told' w n s) busy_is logged) in
     subst (λ (v : Writer). IsStateOf told' (record { places = c.places; log = v; busy = busy_ones }) s) (sym same)
-    (subst (λ (n : ℕ). IsStateOf told' (record { places = c.places; log = c.log; busy = n }) s) (sym busy_is) (laid_state told told' c s is still empty spares as_before))
+    (subst (λ (n : ℕ). IsStateOf told' (record { places = c.places; log = c.log; busy = n }) s) (sym busy_is) (laid_state told told' c s is still staged empty m past spares as_before))

@@ -23,6 +23,7 @@ use Rattle.channel_face.specs.declared.replies.OpenCause.{OpenCause}
 use Rattle.channel_face.specs.declared.replies.OpenCause.TheVariants as causes
 use Rattle.channel_places.specs.Looks.{Known, LookLeft, Looks, Numbers, Places, StandsIn, held_in}
 use Rattle.checkpoint_opening.specs.Laws.{AreBounded}
+use Rattle.checkpoint_opening.specs.declared.opening.NewestCheck.{NewestCheck}
 use Rattle.checkpoint_opening.proofs.Growing.{other_log}
 use Rattle.channel_writing.specs.Folders.{AreSame, GainsLog, IsBegun, IsNextFile, IsOfFile, IsRefused, Opens, OpensFrom, OpensOver, OpensTo, Refuses, StaysAs}
 use Rattle.channel_writing.specs.Written.{IsFresh, IsLogged}
@@ -33,12 +34,13 @@ use Rattle.ring_replay.specs.Folder.{IsReady}
 use Rattle.ring_replay.specs.Indexing.{HasItems}
 use Rattle.ring_replay.specs.declared.folder.Replayed.{Replayed}
 use Rattle.file_channel.specs.Opened.{AreSeen, AreShort, FailsToBegin, IsBegunAs, OpensWith, ReplaysTo, state_of}
-use Rattle.file_channel.specs.Placed.{ArePlaced, IsStateOf, bytes_of, settled_in}
+use Rattle.file_channel.specs.Placed.{AreNeeding, ArePlaced, IsStateOf, bytes_of, settled_in}
 use Rattle.file_channel.specs.Stands.{FileState, StandsOver, items_at, opened_as}
+use Rattle.file_channel.proofs.Newest.{needing_begun, needing_silent}
 use Rattle.file_channel.proofs.Owning.{own_none}
 use Rattle.file_channel.proofs.Placing.{end_other, not_waiting}
 use Rattle.file_channel.proofs.Seen.{blanks, blanks_seen, blanks_sized, has_blanks, items_seen, placed_seen}
-use Rattle.file_channel.proofs.Replaying.{InFile, are_long, as_many, has_ring, items_look, ring_places, ring_stands, same_base}
+use Rattle.file_channel.proofs.Replaying.{InFile, are_long, as_many, has_ring, items_look, ring_from, ring_places, ring_stands, same_base}
 
 -- a refusal
 
@@ -171,8 +173,8 @@ nothing_is_there : (t : Told) (w : Writer) → w.kept ≡ nothing_kept → IsPie
 nothing_is_there t w is = subst (λ (k : Kept). IsPieceOf k (settled_in t w)) (sym is) (none_taken (drop 0 (settled_in t w 0)))
 
 placed_begun : (was mid now : Option Told) (w : Writer) (number : ℕ) (known : Known) → Tells was mid SettledAs → WhereTold mid (λ t. IsNextFile t.reads number) → Tells mid now (BeginsFile number) → w.file ≡ number → w.kept ≡ nothing_kept → ((p : Pointer) (event : Content) → StandsIn known p event → size event ≡ p.length)
-    → WhereTold was (λ t. AreInFiles t.reads known) → ArePlaced now w known known
-placed_begun was mid now w number known settles next begins file kept long files = record {
+    → WhereTold was (λ t. AreInFiles t.reads known) → AreNeeding now number known → ArePlaced now w known known
+placed_begun was mid now w number known settles next begins file kept long files needing = record {
   long = long;
   there = λ v is p event in_known. inl (at v is p event in_known);
   still = λ v is p event in_known other.
@@ -181,9 +183,10 @@ placed_begun was mid now w number known settles next begins file kept long files
       let since : BeginsFile number (done Settle a.0) v = subst (λ (u : Told). BeginsFile number u v) a.2 b.2 in
       let others = since.others (Log p.file) (other_log p.file number (λ same. other (same ∙ sym file))) in
       others.0 ∙ ap settle_entry (sym others.1);
-  piece = λ v is. nothing_is_there v w kept;
+  piece = λ v is. inr (nothing_is_there v w kept);
   within = λ p event in_known. in_known;
   written = λ v is p event in_known. not_waiting v w p event (at v is p event in_known);
+  needing = subst (λ (n : ℕ). AreNeeding now n known) (sym file) needing;
 }
   where
     at : (v : Told) → now ≡ Some v → (p : Pointer) (event : Content) → StandsIn known p event → PutAt (settled_in v w p.file) p event
@@ -214,10 +217,13 @@ none_then None None P tells is = refl
 none_then None (Some u) P tells is = absurd tells
 none_then (Some t) new P tells is = absurd (cc)
 
-pub begun_as : (was mid now : Option Told) (r : Replayed) (w : Writer) (number capacity most : ℕ) → Tells was mid SettledAs → WhereTold was (λ t. ReplaysTo t.reads r) → IsReady capacity r → r.next.txn ≤ 2 ^ 64 - 1 → r.next.number < 2 ^ 64 → WhereTold mid (λ t. IsNextFile t.reads number) → Tells mid now (BeginsFile number)
+pub begun_as : (was mid now : Option Told) (check : Option NewestCheck) (r : Replayed) (w : Writer) (number capacity most : ℕ) → Tells was mid SettledAs → WhereTold was (λ t. ReplaysTo t.reads check r) → IsReady capacity r → r.next.txn ≤ 2 ^ 64 - 1 → r.next.number < 2 ^ 64 → WhereTold mid (λ t. IsNextFile t.reads number) → Tells mid now (BeginsFile number)
     → writers.IsReady now 1 number 16 [] → w ≡ fresh_writer number most → IsBegunAs was now capacity most r w
-begun_as was mid now r w number capacity most settles replays ready few low next begins begun writer = from was refl
+begun_as was mid now check r w number capacity most settles replays ready few low next begins begun writer = from was refl
   where
+    next_was : WhereTold was (λ t. IsNextFile t.reads number)
+    next_was = as_settled was mid (λ files. IsNextFile files number) settles next
+
     file : w.file ≡ number
     file = ap (λ (v : Writer). v.file) writer
 
@@ -243,7 +249,8 @@ begun_as was mid now r w number capacity most settles replays ready few low next
           first = refl;
           opens = λ t told. absurd (none t told);
           bounded = λ t told. absurd (none t told);
-          placed = placed_begun was mid now w number known settles next begins file kept (are_long known (blanks_sized places r.ring.live found.items ready.base.3 ready.base.5)) (λ t told. absurd (none t told));
+          placed = placed_begun was mid now w number known settles next begins file kept (are_long known (blanks_sized places r.ring.live found.items ready.base.3 ready.base.5)) (λ t told. absurd (none t told))
+              (needing_silent was mid now number settles begins known none);
           seen = subst (λ (v : Option Told). AreSeen v known) (sym (none_then mid now (BeginsFile number) begins (none_then was mid SettledAs settles is))) (blanks_seen r.ring.live);
           logged = logged base (λ t told. absurd (none t told));
         }
@@ -264,7 +271,8 @@ begun_as was mid now r w number capacity most settles replays ready few low next
         let stand : AreInFiles t.reads known = λ p event in_known. let f = ring_stands t.reads r.ring.live base.items p event o.items in_known in (f, found.short p.file f.bytes f.reads) in
         let between = forth was mid SettledAs settles t is in
         let after = forth mid now (BeginsFile number) begins between.0 between.1 in
-        let placed : ArePlaced now w known known = placed_begun was mid now w number known settles next begins file kept (λ p event in_known. (stand p event in_known).0.stands.long) (λ u told. subst (λ (v : Told). AreInFiles v.reads known) (some_same t u (sym is ∙ told)) stand) in
+        let placed : ArePlaced now w known known = placed_begun was mid now w number known settles next begins file kept (λ p event in_known. (stand p event in_known).0.stands.long) (λ u told. subst (λ (v : Told). AreInFiles v.reads known) (some_same t u (sym is ∙ told)) stand)
+        (needing_begun was mid now number settles begins check r next_was (λ u told. (replays u told).opened) known (λ least low p event in_known. ring_from least r.ring.live base.items p event low in_known)) in
         record {
           base = base;
           known = known;

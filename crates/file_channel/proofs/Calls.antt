@@ -325,12 +325,12 @@ kept_whole told w b s k whole = record { logged = λ still. kept_logged (whole.l
 own_kept : (told told' : Option Told) (c : Logged) (w : Writer) → told' ≡ told → w ≡ record c.log { kept = w.kept } → AreOwn told c.log c.places.opened → AreOwn told' w c.places.opened
 own_kept told told' c w same is own = rw same (subst (λ (v : Writer). AreOwn told v c.places.opened) (sym is) own)
 
-pub kept_state : (told told' : Option Told) (c : Logged) (w : Writer) (s : State) → told' ≡ told → w ≡ record c.log { kept = w.kept } → ((settled known : Known) → ArePlaced told c.log settled known → ArePlaced told' w settled known) → IsStateOf told c s → IsStateOf told' (record c { log = w }) s
-kept_state told told' c w s same is placed state = record {
+pub kept_state : (told told' : Option Told) (c : Logged) (w : Writer) (s : State) → told' ≡ told → w ≡ record c.log { kept = w.kept } → (state : IsStateOf told c s) → (s.broken ≡ false → ArePlaced told' w state.settled state.known) → IsStateOf told' (record c { log = w }) s
+kept_state told told' c w s same is state placed = record {
   settled = state.settled;
   known = state.known;
   looks = state.looks;
-  placed = λ still. placed state.settled state.known (state.placed still);
+  placed = placed;
   owned = λ still. own_kept told told' c w same is (state.owned still);
   whole = rw same (subst (λ (v : Writer). IsWhole told v c.busy s) (sym is) (kept_whole told c.log c.busy s w.kept state.whole));
 }

@@ -38,6 +38,10 @@ use Rattle.file_channel.proofs.Standing.{flushing_tally}
 pub flushed_bare : (told told' : Option Told) (old new : Logged) (s : State) → IsStateOf told old s → s.broken ≡ false → Fits told' new (settle s) → new.log.bytes ≡ [] → IsBare told' new (settle s)
 flushed_bare told told' old new s is still fits empty = record { is = (flush_steps told told' old new s is still fits empty).stands; whole = still; staged = refl; empty = empty }
 
+-- what is said of an answer that is Ok
+pub ok_given : {E : Type 0} (r : Result (Unit {0}) E) (A : Type 0) → r ≡ Ok tt → OnOk r A → A
+ok_given {E} r A is given = subst (λ (x : Result (Unit {0}) E). OnOk x A) is given
+
 -- the machine's steps
 
 pub check_steps : (told told' : Option Told) (old new : Logged) (s : State) → IsStateOf told old s → s.broken ≡ false → IsStateOf told' new (settle s) → new.log.bytes ≡ [] → Steps told told' old new (Checkpoint (Ok tt)) s

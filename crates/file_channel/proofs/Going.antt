@@ -5,9 +5,9 @@ use Rattle.std.proofs.Math.Seq.{take-nil}
 use Rattle.std.proofs.lemmas.Bool.Decides.{eqb_tells, nat_tests}
 use Rattle.std.proofs.lemmas.List.{take_all}
 use Rattle.std.specs.List.{AllByRecursion}
-use Rattle.flume_host.specs.Folder.{settle_entry}
+use Rattle.flume_host.specs.Folder.{Allows, Entry, settle_entry}
 use Rattle.flume_host.specs.Told.{Changes, Tells, Told}
-use Rattle.flume_host.specs.declared.names.FileName.TheVariants.{Log}
+use Rattle.flume_host.specs.declared.names.FileName.TheVariants.{Check, Log}
 use Rattle.flume_host.proofs.Telling.{back}
 use Rattle.event_core.specs.Content.{Content, size}
 use Rattle.record_form.specs.declared.record.Pointer.{Pointer}
@@ -25,7 +25,9 @@ use Rattle.channel_places.proofs.Moved.{all_moved, known_moved}
 use Rattle.channel_places.proofs.Opening.{grows_behind, grows_front}
 use Rattle.channel_writing.specs.Written.{IsLogged, OnDisk, Waits}
 use Rattle.checkpoint_opening.proofs.Growing.{other_log}
-use Rattle.file_channel.specs.Placed.{ArePlaced, AreOwn, IsOwn, IsStateOf, IsStill, IsThere, Logged, PutBy, bytes_of, settled_in}
+use Rattle.channel_laying.specs.Laying.{AreNeeded}
+use Rattle.channel_laying.proofs.Needed.{needed_less}
+use Rattle.file_channel.specs.Placed.{AreNotBelow, ArePlaced, AreOwn, IsForgotten, IsOwn, IsStateOf, IsStill, IsThere, Logged, PutBy, bytes_of, settled_in}
 use Rattle.file_channel.proofs.Owning.{by_grows}
 use Rattle.file_channel.proofs.Placing.{end_other, no_put, not_waiting, settled_own}
 use Rattle.file_channel.proofs.Replaying.{in_either}
@@ -76,6 +78,20 @@ gone_length w p = from (is_behind w.file (w.gate + 1) p)
     from : (b : Bool) → (cond b (record p { file = w.file + 1; at = 17 + (p.at - (w.gate + 1)) }) p).length ≡ p.length
     from true = refl
     from false = refl
+
+gone_file : (w : Writer) (p : Pointer) → ((gone w p).file ≡ p.file) ⊎ ((gone w p).file ≡ w.file + 1)
+gone_file w p = from (is_behind w.file (w.gate + 1) p)
+  where
+    from : (b : Bool) → let q = cond b (record p { file = w.file + 1; at = 17 + (p.at - (w.gate + 1)) }) p in (q.file ≡ p.file) ⊎ (q.file ≡ w.file + 1)
+    from true = inr refl
+    from false = inl refl
+
+gone_low : (w : Writer) (p : Pointer) (least : ℕ) → least ≤ p.file → least ≤ w.file + 1 → least ≤ (gone w p).file
+gone_low w p least low later = from (is_behind w.file (w.gate + 1) p)
+  where
+    from : (b : Bool) → least ≤ (cond b (record p { file = w.file + 1; at = 17 + (p.at - (w.gate + 1)) }) p).file
+    from true = later
+    from false = low
 
 -- the pointer that went there
 was_gone : (f : Pointer → Pointer) (known : Known) (q : Pointer) (event : Content) → StandsIn (map (λ (k : Pointer × Content). (f k.0, k.1)) known) q event → (p : Pointer) × StandsIn known p event × (q ≡ f p)
@@ -195,11 +211,15 @@ placed_next told told' w s settled known low waits changes are = record {
   long = λ q event in_more. long q event (in_either moved settled q event in_more);
   there = λ u is q event in_more. there u is q event (in_either moved settled q event in_more);
   still = λ u is q event in_more other. still u is q event other (in_either moved settled q event in_more);
-  piece = λ u is. let b = was u is in piece_still b.0 u w s waits.records (waits.disk b.0 b.1) b.2 low (are.piece b.0 b.1);
+  piece = λ u is. let b = was u is in piece b.0 u b.1 b.2 (are.piece b.0 b.1);
   within = λ p event sure. grows_behind moved settled p event sure;
   written = λ u is p event sure in_next.
       let b = was u is in
       sure_written b.0 u w s waits.records (waits.disk b.0 b.1) b.2 low p event (are.written b.0 b.1 p event sure) (are.there b.0 b.1 p event (are.within p event sure)) in_next;
+  needing = λ u is least laid needs.
+      let b = was u is in
+      let before : AreNeeded b.0 least laid = needed_less u b.0 least laid (λ folder left n. subst (λ (e : Entry). Allows e (folder (Check n))) (sym (b.2.others (Check n) refl).0) (left n)) needs in
+      not_below least (are.needing b.0 b.1 least laid before);
 }
   where
     moved : Known
@@ -207,6 +227,29 @@ placed_next told told' w s settled known low waits changes are = record {
 
     was : (u : Told) → told' ≡ Some u → (t : Told) × (told ≡ Some t) × Changes (Log (w.file + 1)) IsBlank 1 t u
     was u is = back told told' (Changes (Log (w.file + 1)) IsBlank 1) changes u is
+
+    piece : (t u : Told) → told ≡ Some t → Changes (Log (w.file + 1)) IsBlank 1 t u → IsForgotten w known ⊎ IsPieceOf w.kept (settled_in t w) → IsForgotten (next_of w) (known_then w settled known) ⊎ IsPieceOf w.kept (settled_in u (next_of w))
+    piece t u told_is blank (inl (before, none)) = inl (omega (arith, before), λ q event in_more same. other q event (in_either moved settled q event in_more) same)
+      where
+        other : (q : Pointer) (event : Content) → StandsIn moved q event ⊎ StandsIn settled q event → q.file ≢ w.kept.file
+        other q event (inl there) same =
+            let p = was_gone (gone w) known q event there in
+            by (gone_file w p.0) (sym (ap (λ (x : Pointer). x.file) p.2) ∙ same) (none p.0 event p.1)
+          where
+            by : {n m : ℕ} → (n ≡ m) ⊎ (n ≡ w.file + 1) → n ≡ w.kept.file → (m ≢ w.kept.file) → ⊥
+            by (inl is) at isnt = isnt (sym is ∙ at)
+            by (inr is) at isnt = absurd (omega (arith, before, is, at))
+        other q event (inr sure) same = none q event (are.within q event sure) same
+    piece t u told_is blank (inr is) = inr (piece_still t u w s waits.records (waits.disk t told_is) blank low is)
+
+    not_below : (least : ℕ) → AreNotBelow least w.file known → AreNotBelow least (w.file + 1) (known_then w settled known)
+    not_below least below = record { own = omega (arith, below.own); each = λ q event in_more. each q event (in_either moved settled q event in_more) }
+      where
+        each : (q : Pointer) (event : Content) → StandsIn moved q event ⊎ StandsIn settled q event → least ≤ q.file
+        each q event (inl there) =
+            let p = was_gone (gone w) known q event there in
+            subst (λ (x : Pointer). least ≤ x.file) (sym p.2) (gone_low w p.0 least (below.each p.0 event p.1) (omega (arith, below.own)))
+        each q event (inr sure) = below.each q event (are.within q event sure)
 
     long : (q : Pointer) (event : Content) → StandsIn moved q event ⊎ StandsIn settled q event → size event ≡ q.length
     long q event (inl there) =

@@ -1,5 +1,7 @@
 -- What a crash leaves of a checkpoint, also where its own file failed.
-use Rattle.std.proofs.Common.{◌⊎◌, inl, inr, ◌≡◌, ◌≢◌, ◌<◌, ◌++◌, ◌∷◌, [], ℕ, List, Option, Some, None, false, refl, sym, ◌∙◌, subst, arith}
+use Rattle.std.proofs.Common.{◌⊎◌, inl, inr, ◌≡◌, ◌≢◌, ◌<◌, ◌≤◌, ◌^◌, ◌++◌, ◌∷◌, [], ℕ, List, Option, Some, None, false, refl, sym, ◌∙◌, subst, arith}
+use Rattle.std.specs.Prelude.{IsSome}
+use Rattle.std.proofs.lemmas.Bool.{cases_lt}
 use Rattle.std.proofs.lemmas.Bool.Decides.{nat_tests}
 use Rattle.std.proofs.lemmas.List.{get_or_past}
 use Rattle.flume_host.specs.Folder.{Allows, Entry, Files, Folder, IsImage, same_name}
@@ -17,9 +19,12 @@ use Rattle.channel_writing.specs.Written.{OnDisk, Waits}
 use Rattle.channel_writing.proofs.Flushing.{as_read}
 use Rattle.checkpoint.specs.declared.place.Next.{Next}
 use Rattle.checkpoint.specs.Newest.{IsPassedFile}
-use Rattle.checkpoint.specs.Text.{CheckText}
+use Rattle.checkpoint.specs.Right.{IsRight}
+use Rattle.checkpoint.specs.Text.{CheckText, check_bytes}
+use Rattle.checkpoint_recovery.specs.Recovers.{IsCheck}
 use Rattle.checkpoint_recovery.proofs.Elsewhere.{open_is_newest}
 use Rattle.channel_laying.specs.Laying.{HasLog, IsLaying, MayLay}
+use Rattle.channel_laying.proofs.Naming.{AreNumbered}
 use Rattle.file_channel.specs.Laid.{IsNewestOf, MayStand, end_of_log}
 
 -- two names of files
@@ -64,20 +69,40 @@ module _ (t u : Told) (w : Writer) (busy number : ℕ) (next : Next) (ring : Ind
       (changes.images.each (clock u) image (clock_rises t u (OneFile t.now (Check number) (IsLaying c)) changes.images)
       (subst (λ (f : Folder). IsImage f image) (sym (get_or_past u.past (clock u) u.now (omega arith))) left)).file
 
+  -- the text is right for it, and stands there if it has those bytes
+  pub text_right : IsRight image c start.base.items start.opened
+  text_right = (may.text t refl).right image has_log
+
+  pub text_stands : image (Check number) ≡ Some (1 ∷ check_bytes c) → IsCheck image number c start
+  text_stands spelled = record { spelled = spelled; means = record { right = text_right; number = (may.text t refl).number; txn = (may.text t refl).txn } }
+
+  -- its log files have numbers of 32 bits
+  pub image_numbered : AreNumbered image
+  image_numbered n there = from (image (Log n)) refl there (cases_lt w.file n)
+    where
+      gone : w.file < n → image (Log n) ≡ None
+      gone high = as_read None (image (Log n)) (subst (λ (e : Entry). Allows e (image (Log n))) ((changes.others (Log n) refl).0 ∙ disk.gone n high) (left (Log n)))
+
+      none_some : (o : Option (List ℕ)) → o ≡ None → IsSome o → ⊥
+      none_some o none some = cc
+
+      from : (o : Option (List ℕ)) → image (Log n) ≡ o → IsSome (image (Log n)) → ((w.file < n) ⊎ (n ≤ w.file)) → n < 2 ^ 32
+      from o is some (inl high) = absurd (none_some (image (Log n)) (gone high) some)
+      from o is some (inr low) = omega (arith, low, disk.small)
+
   pub may_stand : MayStand number (end_of_log w) s image
   may_stand = from file_is
     where
       from : IsLaying c (image (Check number)) → IsPassedFile (image (Check number)) ⊎ IsNewestOf image number (end_of_log w) s
       from (inl passed) = inl passed
       from (inr spelled) =
-          let text = may.text t refl in
           inr (record {
             text = c;
             start = start;
             newest = open_is_newest image number c spelled (λ n high. subst IsPassedFile (sym (none_above n high)) tt);
-            is = record { spelled = spelled; means = record { right = text.right image has_log; number = text.number; txn = text.txn } };
+            is = text_stands spelled;
             place_is = may.says.place_is;
-            of = text.start_of;
+            of = (may.text t refl).start_of;
           })
 
 -- over what a disk shows

@@ -1,18 +1,18 @@
 -- Events stand at their pointers, whatever is appended, flushed or read.
-use Rattle.std.proofs.Common.{◌⊎◌, inl, inr, ◌≡◌, ◌≢◌, ◌+◌, ◌-◌, ◌^◌, ◌++◌, ◌∷◌, [], ℕ, List, length, length-append, take, Option, Some, None, Result, Ok, Err, true, false, ◌==◌, refl, sym, ◌∙◌, ap, subst, append_assoc, arith}
-use Rattle.std.specs.Prelude.{IsSome, IsErrOf}
+use Rattle.std.proofs.Common.{◌⊎◌, inl, inr, ◌≡◌, ◌≢◌, ◌≤◌, ◌+◌, ◌-◌, ◌^◌, ◌++◌, ◌∷◌, [], ℕ, List, Bool, cond, drop, length, length-append, replicate, take, Option, Some, None, Result, Ok, Err, true, false, ◌==◌, refl, sym, ◌∙◌, ap, subst, append_assoc, arith}
+use Rattle.std.specs.Prelude.{IsSome, IsErrOf, if◌then◌else◌}
 use Rattle.std.proofs.lemmas.Bool.Decides.{eqb_tells}
-use Rattle.std.proofs.lemmas.List.{append-nil, length-take, take_at}
-use Rattle.flume_host.specs.Folder.{settle_entry}
+use Rattle.std.proofs.lemmas.List.{append-nil, drop_at, length-replicate, length-take, take_all, take_at}
+use Rattle.flume_host.specs.Folder.{Allows, Entry, settle_entry}
 use Rattle.flume_host.specs.Told.{Changes, Told, WhereTold}
-use Rattle.flume_host.specs.declared.names.FileName.TheVariants.{Log}
+use Rattle.flume_host.specs.declared.names.FileName.TheVariants.{Check, Log}
 use Rattle.event_core.specs.Content.{Content, size}
 use Rattle.record_form.specs.declared.record.Pointer.{Pointer}
 use Rattle.record_form.specs.declared.record.Rec.{Rec}
 use Rattle.record_form.specs.declared.record.Rec.TheVariants.{End, Put}
 use Rattle.record_form.specs.Record.{spelling}
 use Rattle.channel_log.specs.Frames.{frame_bytes, opened, record_bytes}
-use Rattle.channel_log.specs.Window.{IsBelow, IsPieceOf}
+use Rattle.channel_log.specs.Window.{IsBelow, IsPieceOf, Kept}
 use Rattle.channel_log.specs.Writer.{Appends, IsAtRest, IsPending, LacksOrHas, Writer}
 use Rattle.channel_log.specs.Pointers.{FoundAt, IsOfLength, IsWaiting, PutAt, end_of, in_frame, settled_part}
 use Rattle.channel_log.specs.declared.pointers.ReadRefused.{ReadRefused}
@@ -23,7 +23,9 @@ use Rattle.channel_log.proofs.Pointing.{one_event, part-append, put_grows}
 use Rattle.channel_face.specs.Machine.{is_some_of}
 use Rattle.channel_places.specs.Looks.{Known, StandsIn}
 use Rattle.checkpoint_opening.proofs.Growing.{other_log}
-use Rattle.file_channel.specs.Placed.{ArePlaced, IsStill, IsThere, PutBy, bytes_of, settled_in}
+use Rattle.channel_laying.specs.Laying.{AreNeeded}
+use Rattle.channel_laying.proofs.Needed.{needed_less}
+use Rattle.file_channel.specs.Placed.{AreNeeding, AreNotBelow, ArePlaced, IsForgotten, IsStill, IsThere, PutBy, bytes_of, settled_in}
 use Rattle.file_channel.specs.Stepped.{ReadsAs}
 
 -- one record more waits
@@ -36,6 +38,7 @@ placed_appends told w w' rec settled known adds are = subst (λ (v : Writer). Ar
   piece = are.piece;
   within = are.within;
   written = are.written;
+  needing = are.needing;
 })
   where
     grown : Writer
@@ -86,11 +89,30 @@ placed_put told w w' txn event p settled known adds is are =
       long = λ q e in_known. long q e in_known;
       there = λ t told_is q e in_known. there t told_is q e (before.there t told_is q e) in_known;
       still = λ t told_is q e in_known other. still t told_is q e (before.still t told_is q e) in_known other;
-      piece = before.piece;
+      piece = λ t told_is. piece t (before.piece t told_is);
       within = λ q e in_settled. inr (are.within q e in_settled);
       written = before.written;
+      needing = λ t told_is least laid needs. not_below least (before.needing t told_is least laid needs);
     }
   where
+    own_file : p.file ≡ w'.file
+    own_file = ap (λ (r : Pointer). r.file) is ∙ sym (ap (λ (v : Writer). v.file) adds.is)
+
+    piece : (t : Told) → IsForgotten w' known ⊎ IsPieceOf w'.kept (settled_in t w') → IsForgotten w' ((p, event) ∷ known) ⊎ IsPieceOf w'.kept (settled_in t w')
+    piece t (inr is) = inr is
+    piece t (inl (before, none)) = inl (before, other)
+      where
+        other : (q : Pointer) (e : Content) → StandsIn ((p, event) ∷ known) q e → q.file ≢ w'.kept.file
+        other q e (inl same) kept = absurd (omega (arith, before, own_file, ap (λ (k : Pointer × Content). k.0.file) same, kept))
+        other q e (inr older) kept = none q e older kept
+
+    not_below : (least : ℕ) → AreNotBelow least w'.file known → AreNotBelow least w'.file ((p, event) ∷ known)
+    not_below least was = record { own = was.own; each = each }
+      where
+        each : (q : Pointer) (e : Content) → StandsIn ((p, event) ∷ known) q e → least ≤ q.file
+        each q e (inl same) = subst (λ (k : Pointer × Content). least ≤ k.0.file) same (omega (arith, was.own, own_file))
+        each q e (inr older) = was.each q e older
+
     long : (q : Pointer) (e : Content) → StandsIn ((p, event) ∷ known) q e → size e ≡ q.length
     long q e (inl same) =
         let here : size event ≡ p.length = ap (λ (r : Pointer). r.length) (sym is) in
@@ -114,10 +136,11 @@ pub record Grows (t u : Told) (w w' : Writer) : Type 0 where
   pub settled : (file : ℕ) → (more : List ℕ) × (settled_in u w' file ≡ settled_in t w file ++ more)
   pub waited : (p : Pointer) (event : Content) (txn : ℕ) → IsWaiting w p → PutBy w.bytes txn (in_frame w p) event → IsThereBy u w' txn p event
   pub still : (file : ℕ) → file ≢ w'.file → (file ≢ w.file → IsStill t file) → IsStill u file
+  pub file : w.file ≤ w'.file
   pub kept : w'.kept ≡ w.kept
 
 pub same_grows : (t : Told) (w : Writer) → Grows t t w w
-same_grows t w = record { settled = λ file. ([], sym (append-nil (settled_in t w file))); waited = λ p event txn waits at. inr (waits, at); still = λ file other was. was other; kept = refl }
+same_grows t w = record { settled = λ file. ([], sym (append-nil (settled_in t w file))); waited = λ p event txn waits at. inr (waits, at); still = λ file other was. was other; file = omega arith; kept = refl }
 
 -- a frame more
 
@@ -149,22 +172,34 @@ is_written t w p event empty (inl at) waits = not_waiting t w p event at waits
 is_written t w p event empty (inr there) waits = no_put (in_frame w p) event (subst (λ (l : List ℕ). PutAt l (in_frame w p) event) empty there.1)
 
 -- what was known is settled once nothing waits
-pub placed_grows : (told told' : Option Told) (w w' : Writer) (settled known : Known) → w'.bytes ≡ [] → ((u : Told) → told' ≡ Some u → (t : Told) × (told ≡ Some t) × Grows t u w w') → ArePlaced told w settled known → ArePlaced told' w' known known
-placed_grows told told' w w' settled known empty grew are = record {
+pub placed_grows : (told told' : Option Told) (w w' : Writer) (settled known : Known) → w'.bytes ≡ [] → ((u : Told) → told' ≡ Some u → (t : Told) × (told ≡ Some t) × Grows t u w w') → AreNeeding told' w'.file known → ArePlaced told w settled known → ArePlaced told' w' known known
+placed_grows told told' w w' settled known empty grew needing are = record {
   long = are.long;
   there = λ u is p event in_known. let was = grew u is in more was.0 u was.2 p event (are.there was.0 was.1 p event in_known);
   still = λ u is p event in_known other. let was = grew u is in was.2.still p.file other (are.still was.0 was.1 p event in_known);
   piece = λ u is. let was = grew u is in piece was.0 u was.2 (are.piece was.0 was.1);
   within = λ p event in_known. in_known;
   written = λ u is p event in_known. let was = grew u is in is_written u w' p event empty (more was.0 u was.2 p event (are.there was.0 was.1 p event in_known));
+  needing = needing;
 }
   where
     more : (t u : Told) → Grows t u w w' → (p : Pointer) (event : Content) → IsThere t w p event → IsThere u w' p event
     more t u grows p event (inl at) = inl (subst (λ (l : List ℕ). PutAt l p event) (sym (grows.settled p.file).1) (put_grows (settled_in t w p.file) (grows.settled p.file).0 p event at))
     more t u grows p event (inr waits) = there_by u w' waits.1.txn p event (grows.waited p event waits.1.txn waits.0 (waits.1, refl))
 
-    piece : (t u : Told) → Grows t u w w' → IsPieceOf w.kept (settled_in t w) → IsPieceOf w'.kept (settled_in u w')
-    piece t u grows is = rw grows.kept (piece_grows w.kept (settled_in t w) (settled_in u w') grows.settled is)
+    piece : (t u : Told) → Grows t u w w' → IsForgotten w known ⊎ IsPieceOf w.kept (settled_in t w) → IsForgotten w' known ⊎ IsPieceOf w'.kept (settled_in u w')
+    piece t u grows (inl (before, none)) =
+        let file : w'.kept.file ≡ w.kept.file = ap (λ (k : Kept). k.file) grows.kept in
+        inl (omega (arith, before, file, grows.file), λ p event in_known same. none p event in_known (same ∙ file))
+    piece t u grows (inr is) = inr (rw grows.kept (piece_grows w.kept (settled_in t w) (settled_in u w') grows.settled is))
+
+-- where checkpoints stay as they were, no other file is needed
+pub needing_still : (told told' : Option Told) (file file' : ℕ) (known : Known) → file ≤ file' → ((u : Told) → told' ≡ Some u → (t : Told) × (told ≡ Some t) × ((n : ℕ) → u.now (Check n) ≡ t.now (Check n))) → AreNeeding told file known → AreNeeding told' file' known
+needing_still told told' file file' known more same are u now least laid needs =
+    let was = same u now in
+    let before : AreNeeded was.0 least laid = needed_less u was.0 least laid (λ folder left n. subst (λ (e : Entry). Allows e (folder (Check n))) (sym (was.2 n)) (left n)) needs in
+    let is = are was.0 was.1 least laid before in
+    record { own = omega (arith, more, is.own); each = is.each }
 
 -- what the writer's own file has settled are its header and its frames
 pub settled_own : (t : Told) (w : Writer) (birth file : ℕ) (frames : List (List Rec)) → file ≡ w.file → IsAtRest t birth w.file w.gate frames → settled_in t w file ≡ settled_part birth w.file frames
@@ -206,6 +241,7 @@ frame_grows t u w w' birth frames records rest rest' pending changes is = record
       let isnt : file ≢ w.file = λ same. other (same ∙ sym file_is) in
       let others = changes.others (Log file) (other_log file w.file isnt) in
       others.0 ∙ (was isnt ∙ ap settle_entry (sym others.1));
+  file = omega (arith, file_is);
   kept = ap (λ (v : Writer). v.kept) is;
 }
   where
@@ -271,9 +307,45 @@ gives p event (Err ReadFault) f = tt
 gives p event (Err (Damaged kept found)) f = f.found.0 event f.stands
 gives p event (Err NoMemory) f = tt
 
-pub reads_event : (t : Told) (w : Writer) (p : Pointer) (event : Content) (r : Result Content ReadRefused) → IsPieceOf w.kept (settled_in t w) → IsThere t w p event → (IsWaiting w p → FoundAt w.bytes (in_frame w p) r × (IsErrOf r ReadFault → ⊥))
+-- what files have, but that the file of which something is kept has just that
+
+abbrev part_of : Kept → (ℕ → List ℕ) → ℕ → List ℕ
+part_of k part n = if n == k.file then replicate k.from 0 ++ k.bytes else part n
+
+part_other : (k : Kept) (part : ℕ → List ℕ) (n : ℕ) → n ≢ k.file → part_of k part n ≡ part n
+part_other k part n other = from (eqb_tells n k.file)
+  where
+    from : ((n == k.file) ≡ true) × (n ≡ k.file) ⊎ ((n == k.file) ≡ false) × (n ≢ k.file) → part_of k part n ≡ part n
+    from (inl same) = absurd (other same.1)
+    from (inr isnt) = ap (λ (b : Bool). cond b (replicate k.from 0 ++ k.bytes) (part n)) isnt.0
+
+part_own : (k : Kept) (part : ℕ → List ℕ) → part_of k part k.file ≡ replicate k.from 0 ++ k.bytes
+part_own k part = from (eqb_tells k.file k.file)
+  where
+    from : ((k.file == k.file) ≡ true) × (k.file ≡ k.file) ⊎ ((k.file == k.file) ≡ false) × (k.file ≢ k.file) → part_of k part k.file ≡ replicate k.from 0 ++ k.bytes
+    from (inl same) = ap (λ (b : Bool). cond b (replicate k.from 0 ++ k.bytes) (part k.file)) same.0
+    from (inr isnt) = absurd (isnt.1 refl)
+
+part_piece : (k : Kept) (part : ℕ → List ℕ) → IsPieceOf k (part_of k part)
+part_piece k part =
+    let there : drop k.from (part_of k part k.file) ≡ k.bytes = ap (λ (l : List ℕ). drop k.from l) (part_own k part) ∙ drop_at (replicate k.from 0) k.bytes k.from (length-replicate k.from 0) in
+    sym (ap (λ (l : List ℕ). take (length k.bytes) l) there ∙ take_all (length k.bytes) k.bytes (omega arith))
+
+pub reads_event : (t : Told) (w : Writer) (p : Pointer) (event : Content) (known : Known) (r : Result Content ReadRefused) → StandsIn known p event → IsForgotten w known ⊎ IsPieceOf w.kept (settled_in t w) → IsThere t w p event → (IsWaiting w p → FoundAt w.bytes (in_frame w p) r × (IsErrOf r ReadFault → ⊥))
     → ((part : ℕ → List ℕ) → IsPieceOf w.kept part → IsBelow t p.file (end_of w p.file) (part p.file) → (IsWaiting w p → ⊥) → FoundAt (part p.file) p r) → GivesEvent event r
-reads_event t w p event r piece there waiting settled = gives p event r (found_there t w p event r there (λ waits. (waiting waits).0) (λ elsewhere. settled (settled_in t w) piece (is_below t w p) elsewhere))
+reads_event t w p event known r in_known piece there waiting settled = gives p event r (found there)
+  where
+    elsewhere : IsForgotten w known ⊎ IsPieceOf w.kept (settled_in t w) → (IsWaiting w p → ⊥) → FoundAt (settled_in t w p.file) p r
+    elsewhere (inr is) isnt = settled (settled_in t w) is (is_below t w p) isnt
+    elsewhere (inl forgotten) isnt =
+        let part = part_of w.kept (settled_in t w) in
+        let same : part p.file ≡ settled_in t w p.file = part_other w.kept (settled_in t w) p.file (forgotten.1 p event in_known) in
+        subst (λ (l : List ℕ). FoundAt l p r) same
+        (settled part (part_piece w.kept (settled_in t w)) (subst (λ (l : List ℕ). IsBelow t p.file (end_of w p.file) l) (sym same) (is_below t w p)) isnt)
+
+    found : IsThere t w p event → Found p event r
+    found (inl at) = found_there t w p event r (inl at) (λ waits. (waiting waits).0) (elsewhere piece)
+    found (inr waits) = found_there t w p event r (inr waits) (λ waits'. (waiting waits').0) (λ isnt. absurd (isnt waits.0))
 
 -- where the disk doesn't show its contents, an event of the pointer's length is read, or damage
 pub reads_as : (told : Option Told) (w : Writer) (p : Pointer) (event : Content) (settled known : Known) (r : Result Content ReadRefused) → ArePlaced told w settled known → StandsIn known p event → IsOfLength p.length r → (IsWaiting w p → FoundAt w.bytes (in_frame w p) r × (IsErrOf r ReadFault → ⊥))
@@ -296,19 +368,37 @@ reads_as told w p event settled known r are in_known long waiting there = from t
     from None is = subst (λ (v : Option Told). ReadsAs (is_some_of v) event r) (sym is) (silent r long)
     from (Some t) is =
         subst (λ (v : Option Told). ReadsAs (is_some_of v) event r) (sym is)
-        (exact r (reads_event t w p event r (are.piece t is) (are.there t is p event in_known) waiting (there t is)))
+        (exact r (reads_event t w p event known r in_known (are.piece t is) (are.there t is p event in_known) waiting (there t is)))
 
 -- reading leaves events where they stand
-pub placed_reads : (told told' : Option Told) (w w' : Writer) (p : Pointer) (settled known : Known) → told' ≡ told → w' ≡ record w { kept = w'.kept }
+pub placed_reads : (told told' : Option Told) (w w' : Writer) (p : Pointer) (event : Content) (settled known : Known) → StandsIn known p event → told' ≡ told → w' ≡ record w { kept = w'.kept }
     → WhereTold told (λ t. (part : ℕ → List ℕ) → IsPieceOf w.kept part → IsBelow t p.file (end_of w p.file) (part p.file) → IsPieceOf w'.kept part) → ArePlaced told w settled known → ArePlaced told' w' settled known
-placed_reads told told' w w' p settled known same is kept are = rw same (subst (λ (v : Writer). ArePlaced told v settled known) (sym is) (record {
+placed_reads told told' w w' p event settled known in_known same is kept are = rw same (subst (λ (v : Writer). ArePlaced told v settled known) (sym is) (record {
   long = are.long;
   there = are.there;
   still = are.still;
-  piece = λ t told_is. kept t told_is (settled_in t w) (are.piece t told_is) (is_below t w p);
+  piece = λ t told_is. piece t told_is (are.piece t told_is);
   within = are.within;
   written = are.written;
+  needing = are.needing;
 }))
+  where
+    piece : (t : Told) → told ≡ Some t → IsForgotten w known ⊎ IsPieceOf w.kept (settled_in t w) → IsForgotten (record w { kept = w'.kept }) known ⊎ IsPieceOf w'.kept (settled_in t w)
+    piece t told_is (inr whole) = inr (kept t told_is (settled_in t w) whole (is_below t w p))
+    piece t told_is (inl (before, none)) = from (eqb_tells w'.kept.file w.kept.file)
+      where
+        part : ℕ → List ℕ
+        part = part_of w.kept (settled_in t w)
+
+        there : part p.file ≡ settled_in t w p.file
+        there = part_other w.kept (settled_in t w) p.file (none p event in_known)
+
+        now : IsPieceOf w'.kept part
+        now = kept t told_is part (part_piece w.kept (settled_in t w)) (subst (λ (l : List ℕ). IsBelow t p.file (end_of w p.file) l) (sym there) (is_below t w p))
+
+        from : ((w'.kept.file == w.kept.file) ≡ true) × (w'.kept.file ≡ w.kept.file) ⊎ ((w'.kept.file == w.kept.file) ≡ false) × (w'.kept.file ≢ w.kept.file) → IsForgotten (record w { kept = w'.kept }) known ⊎ IsPieceOf w'.kept (settled_in t w)
+        from (inl same_one) = inl (omega (arith, before, same_one.1), λ q e stands is_it. none q e stands (is_it ∙ same_one.1))
+        from (inr other) = inr (subst (λ (l : List ℕ). w'.kept.bytes ≡ take (length w'.kept.bytes) (drop w'.kept.from l)) (part_other w.kept (settled_in t w) w'.kept.file other.1) now)
 
 -- the file of a pointer is there
 

@@ -1,5 +1,5 @@
 -- What an opening left stands at the pointers of its ring.
-use Rattle.std.proofs.Common.{◌⊎◌, inl, inr, ◌≡◌, ◌+◌, ◌++◌, ◌∷◌, [], ℕ, List, length, map, Option, Some, None, Result, Ok, Err, false, refl, sym, ◌∙◌, ap, subst, arith}
+use Rattle.std.proofs.Common.{◌⊎◌, inl, inr, ◌≡◌, ◌≤◌, ◌+◌, ◌++◌, ◌∷◌, [], ℕ, List, length, map, Option, Some, None, Result, Ok, Err, false, refl, sym, ◌∙◌, ap, subst, arith}
 use Rattle.std.specs.Prelude.{IfOk, IsSomeAnd}
 use Rattle.std.specs.List.{AllByRecursion}
 use Rattle.flume_host.specs.Folder.{Files}
@@ -88,6 +88,13 @@ ring_stands files [] items p event are is = absurd is
 ring_stands files (l ∷ live) [] p event are is = absurd is
 ring_stands files (l ∷ live) (item ∷ items) p event are (inl same) = subst (λ (k : Pointer × Content). InFile files k.0 k.1) same (in_file files (files (Log l.pointer.file)) l.pointer item.1 refl are.1)
 ring_stands files (l ∷ live) (item ∷ items) p event are (inr older) = ring_stands files live items p event are.2 older
+
+-- where the ring's pointers are into files from a number on, so is each that is known
+pub ring_from : (least : ℕ) (live : List Left) (items : List (ℕ × Content)) (p : Pointer) (event : Content) → AllByRecursion (λ (l : Left). least ≤ l.pointer.file) live → StandsIn (ring_places live items) p event → least ≤ p.file
+ring_from least [] items p event low is = absurd is
+ring_from least (l ∷ live) [] p event low is = absurd is
+ring_from least (l ∷ live) (item ∷ items) p event low (inl same) = subst (λ (k : Pointer × Content). least ≤ k.0.file) same low.0
+ring_from least (l ∷ live) (item ∷ items) p event low (inr older) = ring_from least live items p event low.1 older
 
 pub ok_maps : {T E : Type 0} (r : Result T E) (P Q : T → Type 0) → ((x : T) → P x → Q x) → IfOk r P → IfOk r Q
 ok_maps (Ok x) P Q maps is = maps x is

@@ -1,7 +1,8 @@
 -- Each call adds itself to what a channel stands for.
 use Rattle.std.proofs.Common.{◌⊎◌, inl, inr, ◌≡◌, ◌≤◌, ◌+◌, ◌++◌, ◌∷◌, [], ℕ, List, length, Option, Result, Ok, Err, Bool, true, false, cond, refl, sym, ◌∙◌, ap, subst, arith}
 use Rattle.flume_host.specs.Causes.{Rose}
-use Rattle.flume_host.specs.Told.{Tells, Told, moment_of}
+use Rattle.flume_host.specs.Folder.{IsImage}
+use Rattle.flume_host.specs.Told.{Tells, Told, WhereTold, moment_of}
 use Rattle.event_core.specs.Content.{Content}
 use Rattle.event_core.specs.Journal.{put_events, taken_numbers}
 use Rattle.event_core.specs.declared.journal.Entry.{Entry}
@@ -27,11 +28,11 @@ use Rattle.channel_writing.specs.Touches.{Flushed, Rests, flushes}
 use Rattle.channel_writing.specs.Waiting.{waiting_after}
 use Rattle.channel_writing.proofs.Standing.{Touched, adds_loosely, stands_as, touched_by}
 use Rattle.channel_writing.proofs.Whole.{whole_rests}
-use Rattle.file_channel.specs.Laid.{KeepsFree}
+use Rattle.file_channel.specs.Laid.{AreChecks, CheckState}
 use Rattle.file_channel.specs.Placed.{IsStateOf}
 use Rattle.file_channel.specs.Stands.{FileState, IsStanding, StandsOver, flush_settles, put_spills, take_spills}
 use Rattle.file_channel.specs.Stepped.{Steps}
-use Rattle.file_channel.proofs.Free.{free_after}
+use Rattle.file_channel.proofs.Free.{checks_spared, keeps_after}
 
 -- What a method of the channel did in a state, and what the disk told and counted.
 pub record Did (told told' : Option Told) (f f' : ℕ) (old new : FileState) (call : Call) (s : State) : Type 0 where
@@ -80,11 +81,11 @@ state_there : (told : Option Told) (f : ℕ) (c : FileState) → IsStanding told
 state_there told f c stands = (state_after (opening stands.0) stands.1, stands.2.state)
 
 -- a call that flushes or leaves the disk alone makes no checkpoint
-pub still_free : (told told' : Option Told) (f f' : ℕ) (old new : FileState) (call : Call) → IsStanding told f old → ((s : State) → IsStateOf told old.logged s → Did told told' f f' old new call s) → KeepsFree told told'
-still_free told told' f f' old new call stands did =
+pub still_checks : (told told' : Option Told) (f f' : ℕ) (old new : FileState) (call : Call) (c : CheckState) → WhereTold told (λ t. IsImage t.now t.reads) → IsStanding told f old → ((s : State) → IsStateOf told old.logged s → Did told told' f f' old new call s) → AreChecks told c → AreChecks told' c
+still_checks told told' f f' old new call c reads stands did are =
     let there = state_there told f old stands in
     let done = did there.0 there.1 in
-    free_after told told' there.0 call done.quiet done.flushed
+    checks_spared told told' c reads (keeps_after told told' there.0 call done.quiet done.flushed) are
 
 differ : {A : Type 0} → true ≡ false → A
 differ is = absurd (cc)

@@ -1,7 +1,7 @@
 -- A channel of which a checkpoint may be laid, and one that was.
-use Rattle.std.specs.Prelude.{◌≡◌, ◌⊎◌, ◌<◌, ◌≤◌, ◌+◌, ◌-◌, ℕ, List, [], length, IsSome, Ok, Err, Option, None, Some, Result, Bool, false, true, if◌then◌else◌}
-use Rattle.flume_host.specs.Folder.{Files, IsImage}
-use Rattle.flume_host.specs.Told.{Changes, Told, WhereTold}
+use Rattle.std.specs.Prelude.{◌≡◌, ◌⊎◌, ◌<◌, ◌≤◌, ◌+◌, ◌-◌, ℕ, List, [], length, IsSome, Ok, Err, Option, None, Some, IfSome, IsSomeAnd, Result, Bool, false, true, if◌then◌else◌}
+use Rattle.flume_host.specs.Folder.{Files, IsImage, settle_entry}
+use Rattle.flume_host.specs.Told.{Changes, Tells, Told, WhereTold}
 use Rattle.flume_host.specs.declared.names.FileName.{FileName}
 use Rattle.flume_host.specs.declared.names.FileName.TheVariants.{Check, Log}
 use Rattle.channel_log.specs.Writer.{Writer}
@@ -15,7 +15,9 @@ use Rattle.checkpoint.specs.declared.place.Place.{Place}
 use Rattle.checkpoint.specs.Newest.{IsNewest, IsPassedFile}
 use Rattle.checkpoint.specs.Text.{CheckText}
 use Rattle.checkpoint_recovery.specs.Recovers.{IsCheck}
-use Rattle.channel_laying.specs.Laying.{AreUnused, IsLaying}
+use Rattle.checkpoint_opening.specs.Opening.{IsNamed, number_in}
+use Rattle.checkpoint_opening.specs.declared.opening.NewestCheck.{NewestCheck}
+use Rattle.channel_laying.specs.Laying.{AreNeeded, AreUnused, IsLaying}
 use Rattle.file_channel.specs.Placed.{IsStateOf, Logged}
 
 -- A channel that is not broken stands for this state, of which nothing is staged, and no bytes wait for a flush.
@@ -76,9 +78,35 @@ pub record IsNextCheck (files : Files) (number : ℕ) : Type 0 where
 abbrev pub AreFree : Option Told → ℕ → Type 0
 AreFree told number = WhereTold told (λ t. AreUnused t number)
 
--- whatever numbers of checkpoints were free are free
-abbrev pub KeepsFree : Option Told → Option Told → Type 0
-KeepsFree told told' = (number : ℕ) → AreFree told number → AreFree told' number
+-- What a channel knows of its checkpoints: the number of the next one, and the newest of them that it laid or was opened from.
+pub record CheckState : Type 0 where
+  pub next : ℕ
+  pub laid : Option NewestCheck
+
+-- whatever a crash leaves has a newest checkpoint of this number or a greater one, which names log files from the least one on
+abbrev pub IsNeeded : Option Told → NewestCheck → Type 0
+IsNeeded told laid = WhereTold told (λ t. AreNeeded t laid.least laid.number)
+
+-- Where the disk shows its contents, the next number is free, and the newest checkpoint is needed.
+pub record AreChecks (told : Option Told) (c : CheckState) : Type 0 where
+  pub free : AreFree told c.next
+  pub needed : IfSome c.laid (IsNeeded told)
+
+-- this is the newest checkpoint of a folder, right for it, and the least log file that it names
+abbrev pub IsNewestNamed : Files → Option NewestCheck → Type 0
+IsNewestNamed files laid = IsNewest files (number_in laid) × IfSome laid (λ named. IsNamed files named)
+
+-- it has this number
+abbrev pub IsNamedAs : ℕ → Files → Option NewestCheck → Type 0
+IsNamedAs number files laid = IsSomeAnd laid (λ named. (named.number ≡ number) × IsNamed files named)
+
+-- reads give the same checkpoints, and of each a crash leaves what it might have left, or just that
+abbrev pub SparesChecks : Told → Told → Type 0
+SparesChecks t u = (n : ℕ) → (u.reads (Check n) ≡ t.reads (Check n)) × ((u.now (Check n) ≡ t.now (Check n)) ⊎ (u.now (Check n) ≡ settle_entry (t.reads (Check n))))
+
+-- no checkpoint was made or removed
+abbrev pub KeepsChecks : Option Told → Option Told → Type 0
+KeepsChecks told told' = Tells told told' SparesChecks
 
 -- a checkpoint was asked of a channel that could lay one: a flush was tried, and then perhaps a checkpoint
 abbrev pub is_tried : Result (Unit {0}) CheckRefused → Bool

@@ -4,3 +4,4 @@ pub mod Stepped
 pub mod Stands
 pub mod Opened
 pub mod Images
+pub mod Pruned

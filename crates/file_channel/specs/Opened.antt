@@ -17,6 +17,7 @@ use Rattle.channel_face.specs.declared.replies.OpenCause.TheVariants as causes
 use Rattle.channel_places.specs.Looks.{Known, LookLeft, StandsIn}
 use Rattle.checkpoint_opening.specs.Laws.{AreBounded}
 use Rattle.checkpoint_opening.specs.Opening.{HasSteps, IsOpened}
+use Rattle.checkpoint_opening.specs.declared.opening.NewestCheck.{NewestCheck}
 use Rattle.channel_writing.specs.Folders.{Opens, last_file}
 use Rattle.channel_writing.specs.Written.{IsFresh, IsLogged}
 use Rattle.ring_replay.specs.declared.folder.Replayed.{Replayed}
@@ -28,8 +29,7 @@ abbrev pub AreShort : Files → Type 0
 AreShort files = (n : ℕ) (bytes : List ℕ) → files (Log n) ≡ Some bytes → length bytes < 2 ^ 63
 
 -- A folder, whose log files are not the last that there can be, was replayed to this from its newest checkpoint on.
-pub record ReplaysTo (files : Files) (r : Replayed) : Type 0 where
-  pub check : Option ℕ
+pub record ReplaysTo (files : Files) (check : Option NewestCheck) (r : Replayed) : Type 0 where
   pub opened : IsOpened files (record { check = check; replayed = r })
   pub last : files (Log last_file) ≡ None
   pub short : AreShort files

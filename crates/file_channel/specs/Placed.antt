@@ -1,5 +1,5 @@
 -- What stands at the pointers of a channel's events, and the state that its places and its log stand for.
-use Rattle.std.specs.Prelude.{◌≡◌, ◌≢◌, ◌⊎◌, ℕ, List, [], take, Option, None, Some, false}
+use Rattle.std.specs.Prelude.{◌≡◌, ◌≢◌, ◌⊎◌, ◌<◌, ◌≤◌, ℕ, List, [], take, Option, None, Some, false}
 use Rattle.std.specs.List.{AllByRecursion}
 use Rattle.flume_host.specs.Folder.{settle_entry}
 use Rattle.flume_host.specs.Told.{Told, WhereTold}
@@ -12,6 +12,7 @@ use Rattle.channel_log.specs.Window.{IsPieceOf}
 use Rattle.channel_log.specs.Pointers.{IsWaiting, PutAt, end_of, in_frame}
 use Rattle.channel_face.specs.Machine.{State}
 use Rattle.channel_places.specs.Looks.{Known, Looks, Places, StandsIn, pointers_at}
+use Rattle.channel_laying.specs.Laying.{AreNeeded}
 use Rattle.channel_writing.specs.Whole.{IsWhole}
 use Rattle.channel_writing.specs.Written.{IsLogged}
 
@@ -50,16 +51,30 @@ IsOwn t w txn p = (event : Content) × (PutBy (settled_in t w p.file) txn p even
 abbrev pub AreOwn : Option Told → Writer → Table → Type 0
 AreOwn told w table = WhereTold told (λ t. (txn : ℕ) → AllByRecursion (λ p. IsOwn t w txn p) (pointers_at table txn))
 
--- Each pointer has its event's length. Where the disk shows its contents, the event's PUT stands at the pointer, what is kept of the last reading is what its file has,
--- and nothing of what is known to be settled waits for a flush.
+-- the file of which something is kept was before the writer's own, and no pointer is into it
+abbrev pub IsForgotten : Writer → Known → Type 0
+IsForgotten w known = (w.kept.file < w.file) × ((p : Pointer) (event : Content) → StandsIn known p event → p.file ≢ w.kept.file)
+
+-- A log file, and those of some pointers, have this number or a greater one.
+pub record AreNotBelow (least file : ℕ) (known : Known) : Type 0 where
+  pub own : least ≤ file
+  pub each : (p : Pointer) (event : Content) → StandsIn known p event → least ≤ p.file
+
+-- the writer's own file, and those of the pointers, are none that a prune removes
+abbrev pub AreNeeding : Option Told → ℕ → Known → Type 0
+AreNeeding told file known = WhereTold told (λ t. (least laid : ℕ) → AreNeeded t least laid → AreNotBelow least file known)
+
+-- Each pointer has its event's length. Where the disk shows its contents, the event's PUT stands at the pointer, what is kept of the last reading is what its file has
+-- if a pointer is into that, nothing of what is known to be settled waits for a flush, and no prune removes a file with one of the events.
 pub record ArePlaced (told : Option Told) (w : Writer) (settled known : Known) : Type 0 where
   pub long : (p : Pointer) (event : Content) → StandsIn known p event → size event ≡ p.length
   pub there : WhereTold told (λ t. (p : Pointer) (event : Content) → StandsIn known p event → IsThere t w p event)
   -- of another file than the writer's own a crash leaves just that
   pub still : WhereTold told (λ t. (p : Pointer) (event : Content) → StandsIn known p event → p.file ≢ w.file → IsStill t p.file)
-  pub piece : WhereTold told (λ t. IsPieceOf w.kept (settled_in t w))
+  pub piece : WhereTold told (λ t. IsForgotten w known ⊎ IsPieceOf w.kept (settled_in t w))
   pub within : (p : Pointer) (event : Content) → StandsIn settled p event → StandsIn known p event
   pub written : WhereTold told (λ t. (p : Pointer) (event : Content) → StandsIn settled p event → IsWaiting w p → ⊥)
+  pub needing : AreNeeding told w.file known
 
 -- A channel's places look like this state, its log has the state's changes, and each event stands at its pointer.
 pub record Fits (told : Option Told) (c : Logged) (s : State) : Type 0 where

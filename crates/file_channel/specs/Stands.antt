@@ -18,15 +18,16 @@ use Rattle.channel_face.specs.declared.replies.TakeRefused.{TakeRefused}
 use Rattle.channel_face.specs.declared.replies.Taken.{Taken}
 use Rattle.channel_places.specs.Looks.{Places}
 use Rattle.channel_writing.specs.Stands.{StandsBy}
+use Rattle.file_channel.specs.Laid.{CheckState}
 use Rattle.file_channel.specs.Placed.{IsStateOf, Logged, bytes_of}
 
--- What a channel has beside its disk: its places and its log, what is counted, how many bytes of records wait in its frame, and the number of its
--- next checkpoint.
+-- What a channel has beside its disk: its places and its log, what is counted, how many bytes of records wait in its frame, and what it knows of its
+-- checkpoints.
 pub record FileState : Type 0 where
   pub logged : Logged
   pub tally : Tally
   pub waiting : ℕ
-  pub next : ℕ
+  pub checks : CheckState
 
 -- The calls lead to a state for which the channel's places and its log stand.
 abbrev pub StandsOver : Option Told → ℕ → FileState → Opening → List Step → Type 0

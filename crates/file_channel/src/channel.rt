@@ -1,5 +1,5 @@
 // A channel on a disk. In memory it keeps pointers to its events.
-ghost use Rattle.std.specs.Prelude.{[], ◌⊎◌, ◌↔◌, ◌≡◌, ◌≤◌, ◌+◌, ◌-◌, ◌^◌, Bool, Err, IsSome, OnOk, IfOk, IfErr, IsErrOf, false, true, if◌then◌else◌};
+ghost use Rattle.std.specs.Prelude.{[], ◌⊎◌, ◌↔◌, ◌≡◌, ◌≤◌, ◌+◌, ◌-◌, ◌^◌, Bool, Err, IsSome, OnErr, OnOk, IfOk, IfErr, IsErrOf, false, true, if◌then◌else◌};
 ghost use Rattle.flume_host.specs.Causes.{Rose};
 ghost use Rattle.flume_host.specs.Told.{LeavesOnly, Tells, WhereTold, moment_of};
 ghost use Rattle.event_core.specs.Content.{size};
@@ -18,7 +18,7 @@ ghost use Rattle.channel_writing.specs.Folders.{FailsToSettle, GainsLog, IsBegun
 ghost use Rattle.channel_writing.specs.Stands.{is_fault};
 ghost use Rattle.channel_writing.specs.Written.{MayRecover};
 ghost use Rattle.channel_writing.specs.Touches.{FillsFiles, Flushed, HadNoRoom, HasNoRoom, IsSpentLog, Rests, flushes, room_of};
-ghost use Rattle.file_channel.specs.Laid.{IsNextCheck};
+ghost use Rattle.file_channel.specs.Laid.{IsNewestNamed, IsNextCheck};
 ghost use Rattle.file_channel.specs.Opened.{CountsSteps};
 ghost use Rattle.file_channel.specs.Stands.{IsStanding, StandsOver, flush_settles, opened_as, put_spills, take_spills};
 
@@ -53,7 +53,7 @@ pub struct FileChannel<D: Disk + Drop> {
 impl<D: Disk + Drop> Model for FileChannel<D> {
     ghost use Rattle.std.specs.Prelude.{length};
     ghost use Rattle.txn_core.specs.Counted.{tally_of};
-    ghost use Rattle.file_channel.specs.Laid.{AreFree};
+    ghost use Rattle.file_channel.specs.Laid.{AreChecks};
     ghost use Rattle.file_channel.specs.Stands.{FileState, IsStanding};
 
     // The disk, and what the channel has beside it.
@@ -65,17 +65,17 @@ impl<D: Disk + Drop> Model for FileChannel<D> {
         logged = c.logged.1;
         tally = tally_of c.counts;
         waiting = length c.logged.1.log.bytes;
-        next = c.checks;
+        checks = c.checks;
       },
     ) };
 
-    // It stands for an opening and calls, and the number of its next checkpoint is free.
+    // It stands for an opening and calls, the number of its next checkpoint is free, and the newest is needed.
     ghost invariant = { λ c. IsStanding (D.told c.logged.0) (D.faults c.logged.0) (record {
       logged = c.logged.1;
       tally = tally_of c.counts;
       waiting = length c.logged.1.log.bytes;
-      next = c.checks;
-    }) × AreFree (D.told c.logged.0) c.checks };
+      checks = c.checks;
+    }) × AreChecks (D.told c.logged.0) c.checks };
 }
 
 // What is counted of a call that settled so many events of puts and of takes, if it flushed.
@@ -151,7 +151,10 @@ pub fn open_channel<D: Disk + Drop, L: Ledger>(
         (opened_as (D.told disk) (D.faults disk) (D.told c.0) c.1).txn)) }
     // Its next checkpoint has the number after those that are there.
     ensures next { IfOk result
-        (λ c. WhereTold (D.told disk) (λ t. IsNextCheck t.reads c.1.next)) }
+        (λ c. WhereTold (D.told disk) (λ t. IsNextCheck t.reads c.1.checks.next)) }
+    // It knows the newest of those, and the least log file that this one names.
+    ensures laid { IfOk result
+        (λ c. WhereTold (D.told disk) (λ t. IsNewestNamed t.reads c.1.checks.laid)) }
     ensures gains { IfOk result
         (λ c. Tells (D.told disk) (D.told c.0) (λ t u. GainsLog t.reads IsBegun u.reads)) }
     ensures refused { IfErr result
@@ -216,9 +219,12 @@ impl<D: Disk + Drop> FileChannel<D> {
             (D.faults self.new.0) s.rules.limits.capacity cause)) }
         ensures ticks { WhereTold (D.told self.old.0)
             (λ t. CountsSteps t.reads steps.old steps.new) }
-        ensures next { self.new.1.next ≡ self.old.1.next }
+        ensures next { self.new.1.checks.next ≡ self.old.1.checks.next }
+        ensures laid { OnOk result (WhereTold (D.told self.old.0)
+            (λ t. IsNewestNamed t.reads self.new.1.checks.laid)) }
+        ensures refused_laid { OnErr result (self.new.1.checks.laid ≡ self.old.1.checks.laid) }
     {
-        let result = self.logged.reopen(steps);
+        let result = self.logged.reopen(&mut self.checks, steps);
         let reply = Reply::quiet(result.is_ok());
         note(&mut self.counts, Call::Reopen, reply);
         result
@@ -275,7 +281,7 @@ impl<D: Disk + Drop> Channel for FileChannel<D> {
             (moment_of (D.told self.new.0)) }
         ensures told { D.told self.new.0 ≡ D.told self.old.0 }
         ensures faults { D.faults self.new.0 ≡ D.faults self.old.0 }
-        ensures next { self.new.1.next ≡ self.old.1.next }
+        ensures checks { self.new.1.checks ≡ self.old.1.checks }
     {
         let result = self.logged.begin_put();
         let reply = Reply::quiet(result.is_ok());
@@ -290,7 +296,7 @@ impl<D: Disk + Drop> Channel for FileChannel<D> {
             (moment_of (D.told self.new.0)) }
         ensures told { D.told self.new.0 ≡ D.told self.old.0 }
         ensures faults { D.faults self.new.0 ≡ D.faults self.old.0 }
-        ensures next { self.new.1.next ≡ self.old.1.next }
+        ensures checks { self.new.1.checks ≡ self.old.1.checks }
     {
         let result = self.logged.begin_take();
         let reply = Reply::quiet(result.is_ok());
@@ -336,7 +342,7 @@ impl<D: Disk + Drop> Channel for FileChannel<D> {
             (λ s. IsErrOf result PutRefused.DiskFault
             → HasNoRoom self.old.1.waiting
             (room_of s (size event.now + 13) (size_of_list (puts_of s txn.old)))) }
-        ensures next { self.new.1.next ≡ self.old.1.next }
+        ensures checks { self.new.1.checks ≡ self.old.1.checks }
     {
         let staged = self.logged.staged();
         let result = self.logged.put(txn, event);
@@ -381,7 +387,7 @@ impl<D: Disk + Drop> Channel for FileChannel<D> {
         ensures no_room { Shows (StandsOver (D.told self.old.0) (D.faults self.old.0) self.old.1)
             (λ s. IsErrOf result TakeRefused.DiskFault
             → HasNoRoom self.old.1.waiting (room_of s 17 (size_of_list (takes_of s txn.old)))) }
-        ensures next { self.new.1.next ≡ self.old.1.next }
+        ensures checks { self.new.1.checks ≡ self.old.1.checks }
     {
         let staged = self.logged.staged();
         let result = self.logged.take(txn);
@@ -398,7 +404,7 @@ impl<D: Disk + Drop> Channel for FileChannel<D> {
         ensures back { IfErr result (λ refused. refused.txn ≡ txn) }
         ensures told { D.told self.new.0 ≡ D.told self.old.0 }
         ensures faults { D.faults self.new.0 ≡ D.faults self.old.0 }
-        ensures next { self.new.1.next ≡ self.old.1.next }
+        ensures checks { self.new.1.checks ≡ self.old.1.checks }
     {
         let result = self.logged.stage_put(txn);
         let reply = Reply::quiet(result.is_ok());
@@ -414,7 +420,7 @@ impl<D: Disk + Drop> Channel for FileChannel<D> {
         ensures back { IfErr result (λ refused. refused.txn ≡ txn) }
         ensures told { D.told self.new.0 ≡ D.told self.old.0 }
         ensures faults { D.faults self.new.0 ≡ D.faults self.old.0 }
-        ensures next { self.new.1.next ≡ self.old.1.next }
+        ensures checks { self.new.1.checks ≡ self.old.1.checks }
     {
         let result = self.logged.stage_take(txn);
         let reply = Reply::quiet(result.is_ok());
@@ -443,7 +449,7 @@ impl<D: Disk + Drop> Channel for FileChannel<D> {
         ensures well { is_fault (Flush result) ≡ false → D.faults self.new.0 ≡ D.faults self.old.0 }
         ensures fault { IsErrOf result FlushRefused.DiskFault
             → Rose (D.faults self.old.0) (D.faults self.new.0) }
-        ensures next { self.new.1.next ≡ self.old.1.next }
+        ensures checks { self.new.1.checks ≡ self.old.1.checks }
     {
         let staged = self.logged.staged();
         let result = self.logged.flush();
@@ -459,7 +465,7 @@ impl<D: Disk + Drop> Channel for FileChannel<D> {
             (RollbackPut txn result) (moment_of (D.told self.new.0)) }
         ensures told { D.told self.new.0 ≡ D.told self.old.0 }
         ensures faults { D.faults self.new.0 ≡ D.faults self.old.0 }
-        ensures next { self.new.1.next ≡ self.old.1.next }
+        ensures checks { self.new.1.checks ≡ self.old.1.checks }
     {
         let ended = self.logged.rollback_put(txn);
         let reply = Reply::quiet(ended);
@@ -474,7 +480,7 @@ impl<D: Disk + Drop> Channel for FileChannel<D> {
             (RollbackTake txn result) (moment_of (D.told self.new.0)) }
         ensures told { D.told self.new.0 ≡ D.told self.old.0 }
         ensures faults { D.faults self.new.0 ≡ D.faults self.old.0 }
-        ensures next { self.new.1.next ≡ self.old.1.next }
+        ensures checks { self.new.1.checks ≡ self.old.1.checks }
     {
         let ended = self.logged.rollback_take(txn);
         let reply = Reply::quiet(ended);

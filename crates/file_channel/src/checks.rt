@@ -1,10 +1,11 @@
-// The next checkpoint of a channel, and the buffer in which one is spelled.
+// What a channel knows of its checkpoints, and the buffer in which one is spelled.
 ghost use Rattle.std.specs.Prelude.{◌≡◌, ◌≤◌, ◌+◌, IfOk, IfSome};
 ghost use Rattle.flume_host.specs.Causes.{HasCause};
 ghost use Rattle.flume_host.specs.Told.{WhereTold};
 ghost use Rattle.file_channel.specs.Laid.{IsNextCheck, check_name};
 
 use crate::logged::LAST_FILE;
+use checkpoint_opening::NewestCheck;
 use flume_host::{Disk, Failed, FileName};
 use std::alloc::{AllocError, Global};
 use std::marker::Model;
@@ -12,32 +13,38 @@ use std::marker::Model;
 /// The length of the buffer in which a checkpoint is spelled.
 const BUFFER: usize = 65_536;
 
-/// The number of the next checkpoint, and the buffer in which it is spelled.
+/// The number of the next checkpoint, the newest that was laid or read at the opening, and the buffer in which one is spelled.
 #[derive(Drop)]
 pub(crate) struct Checks {
     pub(crate) next: u64,
+    pub(crate) laid: Option<NewestCheck>,
     pub(crate) buffer: Vec<u8>,
 }
 
 impl Model for Checks {
     ghost use Rattle.std.specs.Prelude.{◌≡◌, ◌≤◌, [], ℕ, vec_capacity};
+    ghost use Rattle.file_channel.specs.Laid.{CheckState};
 
-    // The number.
-    ghost Value = { ℕ };
+    // The number, and the newest checkpoint.
+    ghost Value = { CheckState };
 
-    ghost view = { λ c. c.next };
+    ghost view = { λ c. record { next = c.next; laid = c.laid } };
 
     // The buffer is empty, and has its room.
     ghost invariant = { λ c. (c.buffer.items ≡ []) × (65_536 ≤ vec_capacity c.buffer) };
 }
 
 impl Checks {
-    /// The next checkpoint has this number.
-    pub(crate) fn from(alloc: Global, next: u64) -> Result<Checks, AllocError>
-        ensures { IfOk result (λ c. c ≡ next) }
+    /// The next checkpoint has this number, and the newest is this one.
+    pub(crate) fn from(
+        alloc: Global,
+        next: u64,
+        laid: Option<NewestCheck>,
+    ) -> Result<Checks, AllocError>
+        ensures { IfOk result (λ c. c ≡ record { next = next; laid = laid }) }
     {
         let buffer = Vec::with_capacity(alloc, BUFFER)?;
-        Ok(Checks { next, buffer })
+        Ok(Checks { next, laid, buffer })
     }
 }
 

@@ -9,6 +9,7 @@ mod laying;
 mod logged;
 mod mending;
 mod opening;
+mod pruning;
 mod reading;
 mod records;
 

@@ -1,5 +1,5 @@
 // A folder is opened: it is settled and replayed from its newest checkpoint on, and a log file is begun after those that are there.
-ghost use Rattle.std.specs.Prelude.{[], ◌⊎◌, ◌≡◌, ◌<◌, ◌≤◌, ◌+◌, ◌-◌, ◌^◌, Err, IfErr, IfOk, IsErrOf, OnOk, false, length};
+ghost use Rattle.std.specs.Prelude.{[], ◌⊎◌, ◌≡◌, ◌<◌, ◌≤◌, ◌+◌, ◌-◌, ◌^◌, Err, IfErr, IfOk, IfSome, IsErrOf, OnErr, OnOk, false, length};
 ghost use Rattle.flume_host.specs.Causes.{HasCause, Rose};
 ghost use Rattle.flume_host.specs.Told.{Changes, LeavesOnly, Settle, Tells, WhereTold, done};
 ghost use Rattle.flume_host.specs.declared.names.FileName.TheVariants.{Log};
@@ -17,7 +17,7 @@ ghost use Rattle.channel_places.specs.Looks.{Known, LookLeft, Looks};
 ghost use Rattle.channel_writing.specs.Folders.{FailsToSettle, GainsLog, IsAsBefore, IsBegun, IsNextFile, IsOfFile, IsRefused, Opens, OpensFrom, OpensOver, Refuses, log_name};
 ghost use Rattle.channel_writing.specs.Written.{MayRecover};
 ghost use Rattle.ring_replay.specs.Folder.{IsReady};
-ghost use Rattle.file_channel.specs.Laid.{AreFree, IsNextCheck, KeepsFree};
+ghost use Rattle.file_channel.specs.Laid.{AreChecks, IsNeeded, IsNewestNamed, IsNextCheck, KeepsChecks};
 ghost use Rattle.file_channel.specs.Opened.{AreShort, CountsSteps, FailsToBegin, IsBegunAs, MayRemove, OpensWith, ReplaysTo};
 ghost use Rattle.file_channel.specs.Stepped.{ShowsOf, StepsOn};
 
@@ -28,7 +28,7 @@ use channel_face::{Counter, Limits, OpenCause};
 use channel_log::{LogBeginRefused, LogWriter};
 use channel_places::Held;
 use channel_writing::{Writing, last_log, of_opening};
-use checkpoint_opening::{Opened, open_newest};
+use checkpoint_opening::{NewestCheck, Opened, open_newest};
 use event_core::NoMemory;
 use flume_host::{Disk, Failed, FileName, Steps};
 use ring_replay::Replayed;
@@ -38,9 +38,10 @@ use std::sync::ledger::Ledger;
 /// The birth of a log file that an opening begins.
 const BEGUN: u16 = 1;
 
-// What a folder leaves, and the numbers of the log file and of the checkpoint after those that are there.
+// What a folder leaves, its newest checkpoint, and the numbers of the log file and of the checkpoint after those that are there.
 #[derive(Drop)]
 struct Found {
+    newest: Option<NewestCheck>,
     replayed: Replayed,
     log: u32,
     check: u64,
@@ -84,7 +85,8 @@ fn read_folder<D: Disk, L: Ledger>(
     steps: &mut Steps<L>,
 ) -> Result<Found, OpenCause>
     ensures replays { IfOk result
-        (λ found. WhereTold (D.told disk.old) (λ t. ReplaysTo t.reads found.replayed)) }
+        (λ found. WhereTold (D.told disk.old)
+        (λ t. ReplaysTo t.reads found.newest found.replayed)) }
     ensures next { IfOk result
         (λ found. WhereTold (D.told disk.old) (λ t. IsNextFile t.reads found.log)) }
     ensures check { IfOk result
@@ -101,7 +103,10 @@ fn read_folder<D: Disk, L: Ledger>(
     ensures well { (IsErrOf result OpenCause.DiskFault → ⊥)
         → D.faults disk.new ≡ D.faults disk.old }
 {
-    let Opened { check: _, replayed } = match open_newest(alloc, disk, capacity, steps) {
+    let Opened {
+        check: newest,
+        replayed,
+    } = match open_newest(alloc, disk, capacity, steps) {
         Ok(opened) => opened,
         Err(refused) => return Err(of_opening(refused)),
     };
@@ -115,6 +120,7 @@ fn read_folder<D: Disk, L: Ledger>(
     };
     match last_log(disk) {
         Ok(None) => Ok(Found {
+            newest,
             replayed,
             log: 1,
             check,
@@ -126,6 +132,7 @@ fn read_folder<D: Disk, L: Ledger>(
                 });
             }
             Ok(Found {
+                newest,
                 replayed,
                 log: last + 1,
                 check,
@@ -159,12 +166,14 @@ fn settle_folder<D: Disk, L: Ledger>(
     ensures settles { OnOk result
         (Tells (D.told disk.old) (D.told disk.new) (λ t u. u ≡ done Settle t)) }
     ensures replays { IfOk result
-        (λ found. WhereTold (D.told disk.old) (λ t. ReplaysTo t.reads found.replayed)) }
+        (λ found. WhereTold (D.told disk.old)
+        (λ t. ReplaysTo t.reads found.newest found.replayed)) }
     ensures next { IfOk result
         (λ found. WhereTold (D.told disk.new) (λ t. IsNextFile t.reads found.log)) }
     ensures check { IfOk result
         (λ found. WhereTold (D.told disk.old) (λ t. IsNextCheck t.reads found.check)) }
-    ensures unused { IfOk result (λ found. AreFree (D.told disk.new) found.check) }
+    ensures unused { IfOk result (λ found. AreChecks (D.told disk.new)
+        (record { next = found.check; laid = found.newest })) }
     ensures ready { IfOk result (λ found. IsReady capacity found.replayed) }
     ensures refused { IfErr result
         (IsRefused (D.told disk.old) (D.told disk.new) (D.faults disk.old) (D.faults disk.new)
@@ -173,7 +182,7 @@ fn settle_folder<D: Disk, L: Ledger>(
         (λ cause. ((cause ≡ OpenCause.DiskFault)
         × FailsToSettle (D.told disk.old) (D.told disk.new))
         ⊎ Tells (D.told disk.old) (D.told disk.new) OpensFrom) }
-    ensures keeps { KeepsFree (D.told disk.old) (D.told disk.new) }
+    ensures keeps { KeepsChecks (D.told disk.old) (D.told disk.new) }
     ensures ticks { WhereTold (D.told disk.old) (λ t. CountsSteps t.reads steps.old steps.new) }
     ensures well { OnOk result (D.faults disk.new ≡ D.faults disk.old) }
 {
@@ -251,8 +260,10 @@ fn open_log<D: Disk, L: Ledger>(
         (λ found. OpensWith (D.told disk.old) (D.told disk.new) limits
         (record { places = found.0; log = found.1; busy = 0 })) }
     ensures check { IfOk result
-        (λ found. WhereTold (D.told disk.old) (λ t. IsNextCheck t.reads found.2)) }
-    ensures unused { IfOk result (λ found. AreFree (D.told disk.new) found.2) }
+        (λ found. WhereTold (D.told disk.old) (λ t. IsNextCheck t.reads found.2.next)) }
+    ensures newest { IfOk result
+        (λ found. WhereTold (D.told disk.old) (λ t. IsNewestNamed t.reads found.2.laid)) }
+    ensures unused { IfOk result (λ found. AreChecks (D.told disk.new) found.2) }
     ensures waits { IfOk result (λ found. length found.1.bytes ≡ 0) }
     ensures gains { OnOk result
         (Tells (D.told disk.old) (D.told disk.new) (λ t u. GainsLog t.reads IsBegun u.reads)) }
@@ -269,6 +280,7 @@ fn open_log<D: Disk, L: Ledger>(
     ensures ticks { WhereTold (D.told disk.old) (λ t. CountsSteps t.reads steps.old steps.new) }
 {
     let Found {
+        newest,
         replayed,
         log,
         check,
@@ -280,7 +292,7 @@ fn open_log<D: Disk, L: Ledger>(
         Ok(held) => held,
         Err(_) => return Err(OpenCause::NoMemory),
     };
-    let checks = match Checks::from(alloc, check) {
+    let checks = match Checks::from(alloc, check, newest) {
         Ok(checks) => checks,
         Err(_) => return Err(OpenCause::NoMemory),
     };
@@ -297,11 +309,14 @@ fn reopen_log<D: Disk, L: Ledger>(
     capacity: u32,
     max_file: u64,
     steps: &mut Steps<L>,
-) -> Result<(Replayed, LogWriter), OpenCause>
+) -> Result<(Replayed, LogWriter, Option<NewestCheck>), OpenCause>
     ensures begun { IfOk result
         (λ found. IsBegunAs (D.told disk.old) (D.told disk.new) capacity max_file found.0 found.1) }
     ensures ready { IfOk result (λ found. IsReady capacity found.0) }
     ensures waits { IfOk result (λ found. length found.1.bytes ≡ 0) }
+    ensures newest { IfOk result
+        (λ found. WhereTold (D.told disk.old) (λ t. IsNewestNamed t.reads found.2)) }
+    ensures needed { IfOk result (λ found. IfSome found.2 (IsNeeded (D.told disk.new))) }
     ensures gains { OnOk result
         (Tells (D.told disk.old) (D.told disk.new) (λ t u. GainsLog t.reads IsBegun u.reads)) }
     ensures stays { OnOk result
@@ -311,10 +326,11 @@ fn reopen_log<D: Disk, L: Ledger>(
     ensures refused { IfErr result
         (IsRefused (D.told disk.old) (D.told disk.new) (D.faults disk.old) (D.faults disk.new)
         capacity) }
-    ensures keeps { KeepsFree (D.told disk.old) (D.told disk.new) }
+    ensures keeps { KeepsChecks (D.told disk.old) (D.told disk.new) }
     ensures ticks { WhereTold (D.told disk.old) (λ t. CountsSteps t.reads steps.old steps.new) }
 {
     let Found {
+        newest,
         replayed,
         log,
         check: _,
@@ -323,7 +339,7 @@ fn reopen_log<D: Disk, L: Ledger>(
         Err(cause) => return Err(cause),
     };
     match begin_log(alloc, disk, log, max_file) {
-        Ok(log) => Ok((replayed, log)),
+        Ok(log) => Ok((replayed, log, newest)),
         Err(cause) => Err(cause),
     }
 }
@@ -338,8 +354,11 @@ impl<D: Disk + Drop> LoggedPlaces<D> {
         steps: &mut Steps<L>,
     ) -> Result<(LoggedPlaces<D>, Checks), OpenRefused<D>>
         ensures opens { IfOk result (λ c. OpensWith (D.told disk) (D.told c.0.0) limits c.0.1) }
-        ensures check { IfOk result (λ c. WhereTold (D.told disk) (λ t. IsNextCheck t.reads c.1)) }
-        ensures unused { IfOk result (λ c. AreFree (D.told c.0.0) c.1) }
+        ensures check { IfOk result
+            (λ c. WhereTold (D.told disk) (λ t. IsNextCheck t.reads c.1.next)) }
+        ensures newest { IfOk result
+            (λ c. WhereTold (D.told disk) (λ t. IsNewestNamed t.reads c.1.laid)) }
+        ensures unused { IfOk result (λ c. AreChecks (D.told c.0.0) c.1) }
         ensures waits { IfOk result (λ c. length c.0.1.log.bytes ≡ 0) }
         ensures gains { IfOk result
             (λ c. Tells (D.told disk) (D.told c.0.0) (λ t u. GainsLog t.reads IsBegun u.reads)) }
@@ -372,7 +391,12 @@ impl<D: Disk + Drop> LoggedPlaces<D> {
 
     /// Opens the folder anew, as [`LoggedPlaces::open`] does. What was settled is left, and with it what was staged or nothing of
     /// that. After a refusal the channel is broken and has what it had.
-    pub(crate) fn reopen<L: Ledger>(&mut self, steps: &mut Steps<L>) -> Result<(), OpenCause>
+    pub(crate) fn reopen<L: Ledger>(
+        &mut self,
+        checks: &mut Checks,
+        steps: &mut Steps<L>,
+    ) -> Result<(), OpenCause>
+        requires { AreChecks (D.told self.old.0) checks.old }
         ensures step { (kept : Reopened)
             × StepsOn (D.told self.old.0) (D.told self.new.0) self.old.1 self.new.1
             (Reopen (reopen_reply result kept)) }
@@ -396,7 +420,11 @@ impl<D: Disk + Drop> LoggedPlaces<D> {
             (λ cause. ((cause ≡ OpenCause.Spent Counter.Life) × (self.new.0 ≡ self.old.0))
             ⊎ IsRefused (D.told self.old.0) (D.told self.new.0) (D.faults self.old.0)
             (D.faults self.new.0) s.rules.limits.capacity cause)) }
-        ensures keeps { KeepsFree (D.told self.old.0) (D.told self.new.0) }
+        ensures checks { AreChecks (D.told self.new.0) checks.new }
+        ensures next { checks.new.next ≡ checks.old.next }
+        ensures newest { OnOk result (WhereTold (D.told self.old.0)
+            (λ t. IsNewestNamed t.reads checks.new.laid)) }
+        ensures kept { OnErr result (checks.new.laid ≡ checks.old.laid) }
         ensures ticks { WhereTold (D.told self.old.0)
             (λ t. CountsSteps t.reads steps.old steps.new) }
     {
@@ -419,8 +447,9 @@ impl<D: Disk + Drop> LoggedPlaces<D> {
             max_file,
             steps,
         ) {
-            Ok((replayed, log)) => {
+            Ok((replayed, log, newest)) => {
                 let Replayed { ring, next } = replayed;
+                checks.laid = newest;
                 self.writing.log = log;
                 self.writing.busy = 0;
                 self.held.renew(ends, ring, next.number, next.txn);

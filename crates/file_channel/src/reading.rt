@@ -29,7 +29,9 @@ pub(crate) fn read_event<D: Disk + Drop>(
         → ArePlaced (D.told writing.old.disk) writing.old.log settled known
         → StandsIn known pointer.now event
         → ReadsAs (is_some_of (D.told writing.old.disk)) event result }
-    ensures placed { (settled known : Known) → ArePlaced (D.told writing.old.disk) writing.old.log settled known
+    ensures placed { (settled known : Known) (event : Content)
+        → ArePlaced (D.told writing.old.disk) writing.old.log settled known
+        → StandsIn known pointer.now event
         → ArePlaced (D.told writing.new.disk) writing.new.log settled known }
     ensures log { writing.new.log ≡ record writing.old.log { kept = writing.new.log.kept } }
     ensures busy { writing.new.busy ≡ writing.old.busy }

@@ -32,7 +32,7 @@ returns-in-Ok-None-clause-replays g c = λ t told.
     let measured : g.D.Disk.told c.measure_logs.new.disk ≡ Some t = c.in-Ok-measure_logs.ensures.same ∙ read in
     let counted : g.D.Disk.told c.next_check.new.disk ≡ Some t = c.in-Ok-next_check.ensures.same ∙ measured in
     let last : IsLastLog t.reads None = rw c.in-Ok-None.field-0-is at (c.in-Ok-None.ensures.last t counted) in
-    record { check = c.in-Ok.opened.check; opened = c.in-Ok.ensures.opened t told; last = last last_file; short = c.in-Ok-measure_logs.ensures.short t read }
+    record { opened = c.in-Ok.ensures.opened t told; last = last last_file; short = c.in-Ok-measure_logs.ensures.short t read }
 
 pub returns-else-last-clause-replays : goal.returns-else-last-clause-replays
 returns-else-last-clause-replays g c = λ t told.
@@ -41,7 +41,7 @@ returns-else-last-clause-replays g c = λ t told.
     let counted : g.D.Disk.told c.next_check.new.disk ≡ Some t = c.in-Ok-next_check.ensures.same ∙ measured in
     let last : IsLastLog t.reads (Some c.in-Ok-Some.last) = rw c.in-Ok-Some.field-0-is at (c.in-Ok-Some.ensures.last t counted) in
     let less : c.in-Ok-Some.last < 2 ^ 32 - 1 = search rules in
-    record { check = c.in-Ok.opened.check; opened = c.in-Ok.ensures.opened t told; last = last.1 last_file less; short = c.in-Ok-measure_logs.ensures.short t read }
+    record { opened = c.in-Ok.ensures.opened t told; last = last.1 last_file less; short = c.in-Ok-measure_logs.ensures.short t read }
 
 pub returns-in-Ok-None-clause-check : goal.returns-in-Ok-None-clause-check
 returns-in-Ok-None-clause-check g c = λ t told.

@@ -5,7 +5,8 @@ use Rattle.channel_writing.proofs.Opening.{as_settled, has_settled, refused_from
 use Rattle.file_channel.specs.Laid.{IsNextCheck}
 use Rattle.file_channel.specs.Opened.{ReplaysTo}
 use Rattle.file_channel.proofs.Begun.{refused_read, refused_settle}
-use Rattle.file_channel.proofs.Free.{free_same, free_settled, free_then, next_free}
+use Rattle.file_channel.proofs.Free.{keeps_same, keeps_settled, keeps_then, next_free}
+use Rattle.file_channel.proofs.Newest.{found_named, settled_needed}
 use Rattle.file_channel.proofs.opening.settle_folder.Goals as goal
 
 pub returns-in-Err-clause-refused : goal.returns-in-Err-clause-refused
@@ -34,7 +35,7 @@ pub returns-in-Ok-read_folder-clause-replays : goal.returns-in-Ok-read_folder-cl
 returns-in-Ok-read_folder-clause-replays g c =
     let was = g.D.Disk.told c.args.disk.now in
     let mid = g.D.Disk.told c.settle.new.self in
-    as_settled was mid (λ files. ReplaysTo files c.in-Ok-read_folder.found.replayed) (has_settled was mid mid c.in-Ok.ensures.done refl) c.in-Ok-read_folder.ensures.replays
+    as_settled was mid (λ files. ReplaysTo files c.in-Ok-read_folder.found.newest c.in-Ok-read_folder.found.replayed) (has_settled was mid mid c.in-Ok.ensures.done refl) c.in-Ok-read_folder.ensures.replays
 
 pub returns-in-Ok-read_folder-clause-next : goal.returns-in-Ok-read_folder-clause-next
 returns-in-Ok-read_folder-clause-next g c = subst (λ (v : Option Told). WhereTold v (λ t. IsNextFile t.reads c.in-Ok-read_folder.found.log)) (sym c.in-Ok-read_folder.ensures.same) c.in-Ok-read_folder.ensures.next
@@ -49,22 +50,30 @@ pub returns-in-Ok-read_folder-clause-unused : goal.returns-in-Ok-read_folder-cla
 returns-in-Ok-read_folder-clause-unused g c =
     let was = g.D.Disk.told c.args.disk.now in
     let mid = g.D.Disk.told c.settle.new.self in
-    next_free was (g.D.Disk.told c.read_folder.new.disk) c.in-Ok-read_folder.found.check (has_settled was mid (g.D.Disk.told c.read_folder.new.disk) c.in-Ok.ensures.done c.in-Ok-read_folder.ensures.same)
-    (as_settled was mid (λ files. IsNextCheck files c.in-Ok-read_folder.found.check) (has_settled was mid mid c.in-Ok.ensures.done refl) c.in-Ok-read_folder.ensures.check)
+    let now = g.D.Disk.told c.read_folder.new.disk in
+    let found = c.in-Ok-read_folder.found in
+    let settles = has_settled was mid now c.in-Ok.ensures.done c.in-Ok-read_folder.ensures.same in
+    let before = has_settled was mid mid c.in-Ok.ensures.done refl in
+    record {
+      free = next_free was now found.check settles (as_settled was mid (λ files. IsNextCheck files found.check) before c.in-Ok-read_folder.ensures.check);
+      needed = settled_needed was now found.newest found.log settles
+          (as_settled was mid (λ files. IsNextFile files found.log) before c.in-Ok-read_folder.ensures.next)
+          (λ t told. found_named t.reads found.newest found.replayed (as_settled was mid (λ files. ReplaysTo files found.newest found.replayed) before c.in-Ok-read_folder.ensures.replays t told).opened);
+    }
 
 pub returns-in-Err-clause-keeps : goal.returns-in-Err-clause-keeps
-returns-in-Err-clause-keeps g c = free_settled (g.D.Disk.told c.args.disk.now) (g.D.Disk.told c.settle.new.self) _ c.in-Err.ensures.done
+returns-in-Err-clause-keeps g c = keeps_settled (g.D.Disk.told c.args.disk.now) (g.D.Disk.told c.settle.new.self) _ c.in-Err.ensures.done
 
 pub returns-in-Err-read_folder-clause-keeps : goal.returns-in-Err-read_folder-clause-keeps
 returns-in-Err-read_folder-clause-keeps g c =
     let was = g.D.Disk.told c.args.disk.now in
     let mid = g.D.Disk.told c.settle.new.self in
     let now = g.D.Disk.told c.read_folder.new.disk in
-    free_then was mid now (free_settled was mid _ c.in-Ok.ensures.done) (free_same mid now c.in-Err-read_folder.ensures.same)
+    keeps_then was mid now (keeps_settled was mid _ c.in-Ok.ensures.done) (keeps_same mid now c.in-Err-read_folder.ensures.same)
 
 pub returns-in-Ok-read_folder-clause-keeps : goal.returns-in-Ok-read_folder-clause-keeps
 returns-in-Ok-read_folder-clause-keeps g c =
     let was = g.D.Disk.told c.args.disk.now in
     let mid = g.D.Disk.told c.settle.new.self in
     let now = g.D.Disk.told c.read_folder.new.disk in
-    free_then was mid now (free_settled was mid _ c.in-Ok.ensures.done) (free_same mid now c.in-Ok-read_folder.ensures.same)
+    keeps_then was mid now (keeps_settled was mid _ c.in-Ok.ensures.done) (keeps_same mid now c.in-Ok-read_folder.ensures.same)

@@ -9,5 +9,5 @@ returns-clause-gives g c = λ settled known event are in_known.
     reads_as (g.D.Disk.told c.args.writing.now.disk) c.args.writing.now.log c.args.pointer.now event settled known c.read_at.result are in_known c.read_at.ensures.length c.read_at.ensures.waiting c.read_at.ensures.found
 
 pub returns-clause-placed : goal.returns-clause-placed
-returns-clause-placed g c = λ settled known are.
-    placed_reads (g.D.Disk.told c.args.writing.now.disk) (g.D.Disk.told c.read_at.new.disk) c.args.writing.now.log c.read_at.new.self c.args.pointer.now settled known c.read_at.ensures.same c.read_at.ensures.writer c.read_at.ensures.kept are
+returns-clause-placed g c = λ settled known event are in_known.
+    placed_reads (g.D.Disk.told c.args.writing.now.disk) (g.D.Disk.told c.read_at.new.disk) c.args.writing.now.log c.read_at.new.self c.args.pointer.now event settled known in_known c.read_at.ensures.same c.read_at.ensures.writer c.read_at.ensures.kept are

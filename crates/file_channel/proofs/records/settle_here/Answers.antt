@@ -1,6 +1,6 @@
 use Rattle.channel_writing.proofs.Whole.{staged_below}
 use Rattle.file_channel.specs.Placed.{Logged}
-use Rattle.file_channel.proofs.Adding.{failed_state, flush_grows, settle_fits}
+use Rattle.file_channel.proofs.Adding.{failed_state, flush_file, flush_grows, settle_fits}
 use Rattle.file_channel.proofs.records.settle_here.Goals as goal
 
 pub flush-requires : goal.flush-requires
@@ -14,7 +14,7 @@ returns-in-Ok-clause-fits g c = λ s is still.
     let new : Logged = record { places = c.settle.new.self; log = c.flush.new.self.log; busy = c.flush.new.self.busy } in
     let log = is.whole.logged still in
     settle_fits told told' old new s is still
-    (flush_grows told told' old.log new.log s (log.waits still) (λ birth frames waits. c.flush.ensures.changes birth frames waits) (λ birth frames waits. c.in-Ok.ensures.flushed birth frames waits) c.in-Ok.ensures.moved c.in-Ok.ensures.same)
+    (flush_grows told told' old.log new.log s (log.waits still) (λ birth frames waits. c.flush.ensures.changes birth frames waits) (λ birth frames waits. c.in-Ok.ensures.flushed birth frames waits) c.in-Ok.ensures.moved c.in-Ok.ensures.same) (flush_file told told' old.log new.log c.in-Ok.ensures.moved c.in-Ok.ensures.same)
     (λ known looks. c.settle.ensures.step known s looks) c.settle.ensures.opened c.in-Ok.ensures.empty (c.in-Ok.ensures.logged s log still (staged_below s is.whole.sound))
 
 pub returns-in-Err-clause-failed : goal.returns-in-Err-clause-failed

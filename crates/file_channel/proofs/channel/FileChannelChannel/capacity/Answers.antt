@@ -7,5 +7,5 @@ use Rattle.file_channel.proofs.channel.FileChannelChannel.capacity.Goals as goal
 pub returns : goal.returns
 returns g c =
     let m = c.self.inside in
-    let old : FileState = record { logged = m.logged.1; tally = tally_of m.counts; waiting = length m.logged.1.log.bytes; next = m.checks } in
+    let old : FileState = record { logged = m.logged.1; tally = tally_of m.counts; waiting = length m.logged.1.log.bytes; checks = m.checks } in
     rw (← c.self.view_is) (shows_each (g.D.Disk.told m.logged.0) (g.D.Disk.faults m.logged.0) old (λ s. c.capacity.result ≡ s.rules.limits.capacity) c.capacity.ensures)

@@ -4,7 +4,7 @@ use Rattle.txn_core.specs.declared.calls.Call.TheVariants as notes
 use Rattle.file_channel.specs.Placed.{IsStateOf}
 use Rattle.file_channel.specs.Stands.{FileState}
 use Rattle.txn_core.specs.Counted.{tally_of}
-use Rattle.file_channel.proofs.Standing.{Did, adds_did, did_quietly, quiet_tally, standing_on, still_free}
+use Rattle.file_channel.proofs.Standing.{Did, adds_did, did_quietly, quiet_tally, standing_on, still_checks}
 use Rattle.file_channel.proofs.channel.FileChannelChannel.rollback_put.Goals as goal
 
 pub returns-clause-step : goal.returns-clause-step
@@ -14,8 +14,8 @@ returns-clause-step g c =
     let told' = g.D.Disk.told c.rollback_put-ended.new.self.0 in
     let f = g.D.Disk.faults m.logged.0 in
     let f' = g.D.Disk.faults c.rollback_put-ended.new.self.0 in
-    let old : FileState = record { logged = m.logged.1; tally = tally_of m.counts; waiting = length m.logged.1.log.bytes; next = m.checks } in
-    let new : FileState = record { logged = c.rollback_put-ended.new.self.1; tally = tally_of c.note.new.counts; waiting = length c.rollback_put-ended.new.self.1.log.bytes; next = m.checks } in
+    let old : FileState = record { logged = m.logged.1; tally = tally_of m.counts; waiting = length m.logged.1.log.bytes; checks = m.checks } in
+    let new : FileState = record { logged = c.rollback_put-ended.new.self.1; tally = tally_of c.note.new.counts; waiting = length c.rollback_put-ended.new.self.1.log.bytes; checks = m.checks } in
     let did : (s : State) → IsStateOf told old.logged s → Did told told' f f' old new (RollbackPut c.args.txn c.rollback_put-ended.result) s = λ s is. did_quietly told told' f f' old new (RollbackPut c.args.txn c.rollback_put-ended.result) s (c.rollback_put-ended.ensures.step s is) (quiet_tally m.counts c.note.new.counts notes.RollbackPut c.quiet-reply.result _ s (RollbackPut c.args.txn c.rollback_put-ended.result) c.note.ensures.noted c.quiet-reply.ensures refl refl refl) refl refl (ap g.D.Disk.told c.rollback_put-ended.ensures.disk) (ap g.D.Disk.faults c.rollback_put-ended.ensures.disk) refl refl in
     rw (← c.self.view_is) (adds_did told told' f f' old new (RollbackPut c.args.txn c.rollback_put-ended.result) did)
 
@@ -26,7 +26,7 @@ invariant_of-self g c =
     let told' = g.D.Disk.told c.rollback_put-ended.new.self.0 in
     let f = g.D.Disk.faults m.logged.0 in
     let f' = g.D.Disk.faults c.rollback_put-ended.new.self.0 in
-    let old : FileState = record { logged = m.logged.1; tally = tally_of m.counts; waiting = length m.logged.1.log.bytes; next = m.checks } in
-    let new : FileState = record { logged = c.rollback_put-ended.new.self.1; tally = tally_of c.note.new.counts; waiting = length c.rollback_put-ended.new.self.1.log.bytes; next = m.checks } in
+    let old : FileState = record { logged = m.logged.1; tally = tally_of m.counts; waiting = length m.logged.1.log.bytes; checks = m.checks } in
+    let new : FileState = record { logged = c.rollback_put-ended.new.self.1; tally = tally_of c.note.new.counts; waiting = length c.rollback_put-ended.new.self.1.log.bytes; checks = m.checks } in
     let did : (s : State) → IsStateOf told old.logged s → Did told told' f f' old new (RollbackPut c.args.txn c.rollback_put-ended.result) s = λ s is. did_quietly told told' f f' old new (RollbackPut c.args.txn c.rollback_put-ended.result) s (c.rollback_put-ended.ensures.step s is) (quiet_tally m.counts c.note.new.counts notes.RollbackPut c.quiet-reply.result _ s (RollbackPut c.args.txn c.rollback_put-ended.result) c.note.ensures.noted c.quiet-reply.ensures refl refl refl) refl refl (ap g.D.Disk.told c.rollback_put-ended.ensures.disk) (ap g.D.Disk.faults c.rollback_put-ended.ensures.disk) refl refl in
-    (standing_on told told' f f' old new (RollbackPut c.args.txn c.rollback_put-ended.result) _ c.self.invariant.0 (adds_did told told' f f' old new (RollbackPut c.args.txn c.rollback_put-ended.result) did), still_free told told' f f' old new (RollbackPut c.args.txn c.rollback_put-ended.result) c.self.invariant.0 did m.checks c.self.invariant.1)
+    (standing_on told told' f f' old new (RollbackPut c.args.txn c.rollback_put-ended.result) _ c.self.invariant.0 (adds_did told told' f f' old new (RollbackPut c.args.txn c.rollback_put-ended.result) did), still_checks told told' f f' old new (RollbackPut c.args.txn c.rollback_put-ended.result) m.checks (g.met.D.Disk.reads_are_left m.logged.0) c.self.invariant.0 did c.self.invariant.1)

@@ -9,7 +9,7 @@ use Rattle.channel_writing.specs.Touches.{FillsFiles, Flushed, HadNoRoom, HasNoR
 use Rattle.file_channel.specs.Placed.{IsStateOf}
 use Rattle.file_channel.specs.Stands.{FileState}
 use Rattle.txn_core.specs.Counted.{tally_of}
-use Rattle.file_channel.proofs.Standing.{Did, adds_did, shows_each, standing_on, still_free, take_is_fault, take_tally}
+use Rattle.file_channel.proofs.Standing.{Did, adds_did, shows_each, standing_on, still_checks, take_is_fault, take_tally}
 use Rattle.file_channel.proofs.channel.FileChannelChannel.take.Goals as goal
 
 pub returns-clause-step : goal.returns-clause-step
@@ -19,8 +19,8 @@ returns-clause-step g c =
     let told' = g.D.Disk.told c.take-result.new.self.0 in
     let f = g.D.Disk.faults m.logged.0 in
     let f' = g.D.Disk.faults c.take-result.new.self.0 in
-    let old : FileState = record { logged = m.logged.1; tally = tally_of m.counts; waiting = length m.logged.1.log.bytes; next = m.checks } in
-    let new : FileState = record { logged = c.take-result.new.self.1; tally = tally_of c.note.new.counts; waiting = length c.take-result.new.self.1.log.bytes; next = m.checks } in
+    let old : FileState = record { logged = m.logged.1; tally = tally_of m.counts; waiting = length m.logged.1.log.bytes; checks = m.checks } in
+    let new : FileState = record { logged = c.take-result.new.self.1; tally = tally_of c.note.new.counts; waiting = length c.take-result.new.self.1.log.bytes; checks = m.checks } in
     let did : (s : State) → IsStateOf told old.logged s → Did told told' f f' old new (Take c.args.txn.now c.take-result.result) s = λ s is. record {
       steps = c.take-result.ensures.step s is;
       tally = take_tally m.counts c.note.new.counts c.take_reply-reply.result c.staged-staged.result.0 c.staged-staged.result.1 s c.args.txn.now c.take-result.result c.note.ensures.noted c.take_reply-reply.ensures.puts c.take_reply-reply.ensures.takes (c.staged-staged.ensures.puts s is) (c.staged-staged.ensures.takes s is);
@@ -40,8 +40,8 @@ invariant_of-self g c =
     let told' = g.D.Disk.told c.take-result.new.self.0 in
     let f = g.D.Disk.faults m.logged.0 in
     let f' = g.D.Disk.faults c.take-result.new.self.0 in
-    let old : FileState = record { logged = m.logged.1; tally = tally_of m.counts; waiting = length m.logged.1.log.bytes; next = m.checks } in
-    let new : FileState = record { logged = c.take-result.new.self.1; tally = tally_of c.note.new.counts; waiting = length c.take-result.new.self.1.log.bytes; next = m.checks } in
+    let old : FileState = record { logged = m.logged.1; tally = tally_of m.counts; waiting = length m.logged.1.log.bytes; checks = m.checks } in
+    let new : FileState = record { logged = c.take-result.new.self.1; tally = tally_of c.note.new.counts; waiting = length c.take-result.new.self.1.log.bytes; checks = m.checks } in
     let did : (s : State) → IsStateOf told old.logged s → Did told told' f f' old new (Take c.args.txn.now c.take-result.result) s = λ s is. record {
       steps = c.take-result.ensures.step s is;
       tally = take_tally m.counts c.note.new.counts c.take_reply-reply.result c.staged-staged.result.0 c.staged-staged.result.1 s c.args.txn.now c.take-result.result c.note.ensures.noted c.take_reply-reply.ensures.puts c.take_reply-reply.ensures.takes (c.staged-staged.ensures.puts s is) (c.staged-staged.ensures.takes s is);
@@ -52,7 +52,7 @@ invariant_of-self g c =
       quiet = λ none. c.take-result.ensures.quiet none;
       flushed = c.take-result.ensures.any_moment s is;
     } in
-    (standing_on told told' f f' old new (Take c.args.txn.now c.take-result.result) _ c.self.invariant.0 (adds_did told told' f f' old new (Take c.args.txn.now c.take-result.result) did), still_free told told' f f' old new (Take c.args.txn.now c.take-result.result) c.self.invariant.0 did m.checks c.self.invariant.1)
+    (standing_on told told' f f' old new (Take c.args.txn.now c.take-result.result) _ c.self.invariant.0 (adds_did told told' f f' old new (Take c.args.txn.now c.take-result.result) did), still_checks told told' f f' old new (Take c.args.txn.now c.take-result.result) m.checks (g.met.D.Disk.reads_are_left m.logged.0) c.self.invariant.0 did c.self.invariant.1)
 
 pub returns-clause-spent : goal.returns-clause-spent
 returns-clause-spent g c =
@@ -61,8 +61,8 @@ returns-clause-spent g c =
     let told' = g.D.Disk.told c.take-result.new.self.0 in
     let f = g.D.Disk.faults m.logged.0 in
     let f' = g.D.Disk.faults c.take-result.new.self.0 in
-    let old : FileState = record { logged = m.logged.1; tally = tally_of m.counts; waiting = length m.logged.1.log.bytes; next = m.checks } in
-    let new : FileState = record { logged = c.take-result.new.self.1; tally = tally_of c.note.new.counts; waiting = length c.take-result.new.self.1.log.bytes; next = m.checks } in
+    let old : FileState = record { logged = m.logged.1; tally = tally_of m.counts; waiting = length m.logged.1.log.bytes; checks = m.checks } in
+    let new : FileState = record { logged = c.take-result.new.self.1; tally = tally_of c.note.new.counts; waiting = length c.take-result.new.self.1.log.bytes; checks = m.checks } in
     rw (← c.self.view_is) (shows_each told f old (λ s. s.broken ≡ false → IsSome (takes_of s c.args.txn.now) → WhereTold told (λ t. (c.take-result.result ≡ Err (TakeNo.Spent File)) ↔ IsSpentLog t s.rules.limits.max_file)) c.take-result.ensures.spent)
 
 pub returns-clause-any_moment : goal.returns-clause-any_moment
@@ -72,8 +72,8 @@ returns-clause-any_moment g c =
     let told' = g.D.Disk.told c.take-result.new.self.0 in
     let f = g.D.Disk.faults m.logged.0 in
     let f' = g.D.Disk.faults c.take-result.new.self.0 in
-    let old : FileState = record { logged = m.logged.1; tally = tally_of m.counts; waiting = length m.logged.1.log.bytes; next = m.checks } in
-    let new : FileState = record { logged = c.take-result.new.self.1; tally = tally_of c.note.new.counts; waiting = length c.take-result.new.self.1.log.bytes; next = m.checks } in
+    let old : FileState = record { logged = m.logged.1; tally = tally_of m.counts; waiting = length m.logged.1.log.bytes; checks = m.checks } in
+    let new : FileState = record { logged = c.take-result.new.self.1; tally = tally_of c.note.new.counts; waiting = length c.take-result.new.self.1.log.bytes; checks = m.checks } in
     rw (← c.self.view_is) (shows_each told f old (λ s. flushes (Take c.args.txn.now c.take-result.result) ≡ true → Tells told told' (Flushed s)) c.take-result.ensures.any_moment)
 
 pub returns-clause-room : goal.returns-clause-room
@@ -83,8 +83,8 @@ returns-clause-room g c =
     let told' = g.D.Disk.told c.take-result.new.self.0 in
     let f = g.D.Disk.faults m.logged.0 in
     let f' = g.D.Disk.faults c.take-result.new.self.0 in
-    let old : FileState = record { logged = m.logged.1; tally = tally_of m.counts; waiting = length m.logged.1.log.bytes; next = m.checks } in
-    let new : FileState = record { logged = c.take-result.new.self.1; tally = tally_of c.note.new.counts; waiting = length c.take-result.new.self.1.log.bytes; next = m.checks } in
+    let old : FileState = record { logged = m.logged.1; tally = tally_of m.counts; waiting = length m.logged.1.log.bytes; checks = m.checks } in
+    let new : FileState = record { logged = c.take-result.new.self.1; tally = tally_of c.note.new.counts; waiting = length c.take-result.new.self.1.log.bytes; checks = m.checks } in
     rw (← c.self.view_is) (shows_each told f old (λ s. IfOk c.take-result.result (λ done. (done.spilled ≡ true) ↔ IsSome done.event × HasNoRoom old.waiting (room_of s 17 (size_of_list (takes_of s c.args.txn.now))))) c.take-result.ensures.room)
 
 pub returns-clause-full : goal.returns-clause-full
@@ -94,8 +94,8 @@ returns-clause-full g c =
     let told' = g.D.Disk.told c.take-result.new.self.0 in
     let f = g.D.Disk.faults m.logged.0 in
     let f' = g.D.Disk.faults c.take-result.new.self.0 in
-    let old : FileState = record { logged = m.logged.1; tally = tally_of m.counts; waiting = length m.logged.1.log.bytes; next = m.checks } in
-    let new : FileState = record { logged = c.take-result.new.self.1; tally = tally_of c.note.new.counts; waiting = length c.take-result.new.self.1.log.bytes; next = m.checks } in
+    let old : FileState = record { logged = m.logged.1; tally = tally_of m.counts; waiting = length m.logged.1.log.bytes; checks = m.checks } in
+    let new : FileState = record { logged = c.take-result.new.self.1; tally = tally_of c.note.new.counts; waiting = length c.take-result.new.self.1.log.bytes; checks = m.checks } in
     rw (← c.self.view_is) (shows_each told f old (λ s. IfOk c.take-result.result (λ done. done.spilled ≡ true → Tells told told' (HadNoRoom (room_of s 17 (size_of_list (takes_of s c.args.txn.now)))))) c.take-result.ensures.full)
 
 pub returns-clause-no_room : goal.returns-clause-no_room
@@ -105,8 +105,8 @@ returns-clause-no_room g c =
     let told' = g.D.Disk.told c.take-result.new.self.0 in
     let f = g.D.Disk.faults m.logged.0 in
     let f' = g.D.Disk.faults c.take-result.new.self.0 in
-    let old : FileState = record { logged = m.logged.1; tally = tally_of m.counts; waiting = length m.logged.1.log.bytes; next = m.checks } in
-    let new : FileState = record { logged = c.take-result.new.self.1; tally = tally_of c.note.new.counts; waiting = length c.take-result.new.self.1.log.bytes; next = m.checks } in
+    let old : FileState = record { logged = m.logged.1; tally = tally_of m.counts; waiting = length m.logged.1.log.bytes; checks = m.checks } in
+    let new : FileState = record { logged = c.take-result.new.self.1; tally = tally_of c.note.new.counts; waiting = length c.take-result.new.self.1.log.bytes; checks = m.checks } in
     rw (← c.self.view_is) (shows_each told f old (λ s. IsErrOf c.take-result.result TakeNo.DiskFault → HasNoRoom old.waiting (room_of s 17 (size_of_list (takes_of s c.args.txn.now)))) c.take-result.ensures.no_room)
 
 pub returns-clause-fills : goal.returns-clause-fills
@@ -116,6 +116,6 @@ returns-clause-fills g c =
     let told' = g.D.Disk.told c.take-result.new.self.0 in
     let f = g.D.Disk.faults m.logged.0 in
     let f' = g.D.Disk.faults c.take-result.new.self.0 in
-    let old : FileState = record { logged = m.logged.1; tally = tally_of m.counts; waiting = length m.logged.1.log.bytes; next = m.checks } in
-    let new : FileState = record { logged = c.take-result.new.self.1; tally = tally_of c.note.new.counts; waiting = length c.take-result.new.self.1.log.bytes; next = m.checks } in
+    let old : FileState = record { logged = m.logged.1; tally = tally_of m.counts; waiting = length m.logged.1.log.bytes; checks = m.checks } in
+    let new : FileState = record { logged = c.take-result.new.self.1; tally = tally_of c.note.new.counts; waiting = length c.take-result.new.self.1.log.bytes; checks = m.checks } in
     rw (← c.self.view_is) (shows_each told f old (λ s. flushes (Take c.args.txn.now c.take-result.result) ≡ true → Tells told told' (FillsFiles s.rules.limits.max_file old.waiting)) c.take-result.ensures.fills)

@@ -4,8 +4,10 @@ use Rattle.channel_face.specs.Machine.{Front, Reopen, Reopened, State, after}
 use Rattle.channel_face.specs.declared.replies.Counter.TheVariants.{Life}
 use Rattle.channel_face.specs.declared.replies.OpenCause.TheVariants as causes
 use Rattle.channel_writing.specs.Folders.{IsRefused}
+use Rattle.file_channel.specs.Laid.{AreChecks}
 use Rattle.file_channel.specs.Placed.{Logged}
 use Rattle.file_channel.proofs.Begun as openings
+use Rattle.file_channel.proofs.Free.{checks_spared}
 use Rattle.file_channel.proofs.Reopening.{leaves_over, leaves_still, limit_of, not_spent, opens_anew, refused_anew, refused_early, reopened, spent_anew}
 use Rattle.file_channel.proofs.logged.LoggedPlaces.reopen.Goals as goal
 
@@ -166,3 +168,15 @@ returns-in-Err-clause-refused g c =
     let told = g.D.Disk.told m.writing.disk in
     let old : Logged = record { places = m.held; log = m.writing.log; busy = m.writing.busy } in
     rw (← c.self.view_is) (λ s is. inr (subst (λ (n : ℕ). IsRefused told (g.D.Disk.told c.reopen_log.new.disk) (g.D.Disk.faults m.writing.disk) (g.D.Disk.faults c.reopen_log.new.disk) n c.in-Err.cause) (c.capacity-capacity.ensures ∙ limit_of told old s is) c.in-Err.ensures.refused))
+
+-- what is known of checkpoints
+
+pub returns-in-Ok-reopen_log-clause-newest : goal.returns-in-Ok-reopen_log-clause-newest
+returns-in-Ok-reopen_log-clause-newest g c = rw (← c.self.view_is) c.in-Ok-reopen_log.ensures.newest
+
+pub returns-in-Err-clause-checks : goal.returns-in-Err-clause-checks
+returns-in-Err-clause-checks g c =
+    let m = c.self.inside in
+    let told = g.D.Disk.told m.writing.disk in
+    let checks : AreChecks told c.args.checks.now = subst (λ v. AreChecks (g.D.Disk.told v.0) c.args.checks.now) (sym c.self.view_is) c.requires in
+    checks_spared told (g.D.Disk.told c.reopen_log.new.disk) c.args.checks.now (g.met.D.Disk.reads_are_left m.writing.disk) c.in-Err.ensures.keeps checks

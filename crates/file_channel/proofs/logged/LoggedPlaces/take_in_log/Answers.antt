@@ -57,7 +57,7 @@ take_read-requires-clause-state g c =
     let mid : Logged = record { places = m.held; log = c.read_event.new.writing.log; busy = c.read_event.new.writing.busy } in
     let same : between ≡ told = c.read_event.ensures.same in
     let bytes : mid.log.bytes ≡ old.log.bytes = ap (λ (w : Writer). w.bytes) c.read_event.ensures.log in
-    let state : IsStateOf between mid s = subst (λ (n : ℕ). IsStateOf between (record old { log = mid.log; busy = n }) s) (sym c.read_event.ensures.busy) (kept_state told between old mid.log s same c.read_event.ensures.log c.read_event.ensures.placed is) in
+    let state : IsStateOf between mid s = subst (λ (n : ℕ). IsStateOf between (record old { log = mid.log; busy = n }) s) (sym c.read_event.ensures.busy) (kept_state told between old mid.log s same c.read_event.ensures.log is (λ still. c.read_event.ensures.placed is.settled is.known free_is.0 (is.placed still) ((is.placed still).within c.in-Some-first_free.pointer free_is.0 free_is.3))) in
     (s, free_is.0, free_is.1, state, allowed, free_is.2)
 
 pub invariant_of-self : goal.invariant_of-self
@@ -76,7 +76,7 @@ invariant_of-self g c =
     let mid : Logged = record { places = m.held; log = c.read_event.new.writing.log; busy = c.read_event.new.writing.busy } in
     let same : between ≡ told = c.read_event.ensures.same in
     let bytes : mid.log.bytes ≡ old.log.bytes = ap (λ (w : Writer). w.bytes) c.read_event.ensures.log in
-    let state : IsStateOf between mid s = subst (λ (n : ℕ). IsStateOf between (record old { log = mid.log; busy = n }) s) (sym c.read_event.ensures.busy) (kept_state told between old mid.log s same c.read_event.ensures.log c.read_event.ensures.placed is) in
+    let state : IsStateOf between mid s = subst (λ (n : ℕ). IsStateOf between (record old { log = mid.log; busy = n }) s) (sym c.read_event.ensures.busy) (kept_state told between old mid.log s same c.read_event.ensures.log is (λ still. c.read_event.ensures.placed is.settled is.known free_is.0 (is.placed still) ((is.placed still).within c.in-Some-first_free.pointer free_is.0 free_is.3))) in
     let told' = g.D.Disk.told c.take_read.new.writing.disk in
     let new : Logged = record { places = c.take_read.new.held; log = c.take_read.new.writing.log; busy = c.take_read.new.writing.busy } in
     let gives : Gives (is_some_of between) (Some free_is.0) (Some c.in-Ok.event) = subst (λ (v : Option Told). Gives (is_some_of v) (Some free_is.0) (Some c.in-Ok.event)) (sym same) (c.in-Ok.ensures.gives is.settled is.known free_is.0 (is.placed may.still) ((is.placed may.still).within c.in-Some-first_free.pointer free_is.0 free_is.3)) in
@@ -97,7 +97,7 @@ returns-in-Ok-clause-step g c = rw (← c.self.view_is) (λ s is.
     let mid : Logged = record { places = m.held; log = c.read_event.new.writing.log; busy = c.read_event.new.writing.busy } in
     let same : between ≡ told = c.read_event.ensures.same in
     let bytes : mid.log.bytes ≡ old.log.bytes = ap (λ (w : Writer). w.bytes) c.read_event.ensures.log in
-    let state : IsStateOf between mid s = subst (λ (n : ℕ). IsStateOf between (record old { log = mid.log; busy = n }) s) (sym c.read_event.ensures.busy) (kept_state told between old mid.log s same c.read_event.ensures.log c.read_event.ensures.placed is) in
+    let state : IsStateOf between mid s = subst (λ (n : ℕ). IsStateOf between (record old { log = mid.log; busy = n }) s) (sym c.read_event.ensures.busy) (kept_state told between old mid.log s same c.read_event.ensures.log is (λ still. c.read_event.ensures.placed is.settled is.known free_is.0 (is.placed still) ((is.placed still).within c.in-Some-first_free.pointer free_is.0 free_is.3))) in
     let told' = g.D.Disk.told c.take_read.new.writing.disk in
     let new : Logged = record { places = c.take_read.new.held; log = c.take_read.new.writing.log; busy = c.take_read.new.writing.busy } in
     let gives : Gives (is_some_of between) (Some free_is.0) (Some c.in-Ok.event) = subst (λ (v : Option Told). Gives (is_some_of v) (Some free_is.0) (Some c.in-Ok.event)) (sym same) (c.in-Ok.ensures.gives is.settled is.known free_is.0 (is.placed may.still) ((is.placed may.still).within c.in-Some-first_free.pointer free_is.0 free_is.3)) in
@@ -118,7 +118,7 @@ returns-in-Ok-clause-any_moment g c = rw (← c.self.view_is) (λ s is flushed.
     let mid : Logged = record { places = m.held; log = c.read_event.new.writing.log; busy = c.read_event.new.writing.busy } in
     let same : between ≡ told = c.read_event.ensures.same in
     let bytes : mid.log.bytes ≡ old.log.bytes = ap (λ (w : Writer). w.bytes) c.read_event.ensures.log in
-    let state : IsStateOf between mid s = subst (λ (n : ℕ). IsStateOf between (record old { log = mid.log; busy = n }) s) (sym c.read_event.ensures.busy) (kept_state told between old mid.log s same c.read_event.ensures.log c.read_event.ensures.placed is) in
+    let state : IsStateOf between mid s = subst (λ (n : ℕ). IsStateOf between (record old { log = mid.log; busy = n }) s) (sym c.read_event.ensures.busy) (kept_state told between old mid.log s same c.read_event.ensures.log is (λ still. c.read_event.ensures.placed is.settled is.known free_is.0 (is.placed still) ((is.placed still).within c.in-Some-first_free.pointer free_is.0 free_is.3))) in
     let told' = g.D.Disk.told c.take_read.new.writing.disk in
     let new : Logged = record { places = c.take_read.new.held; log = c.take_read.new.writing.log; busy = c.take_read.new.writing.busy } in
     subst (λ (v : Option Told). Tells v told' (λ t u. Flushed s t u)) same (c.take_read.ensures.any_moment s state may.still flushed))
@@ -137,7 +137,7 @@ returns-in-Ok-clause-room g c = rw (← c.self.view_is) (λ s is.
     let mid : Logged = record { places = m.held; log = c.read_event.new.writing.log; busy = c.read_event.new.writing.busy } in
     let same : between ≡ told = c.read_event.ensures.same in
     let bytes : mid.log.bytes ≡ old.log.bytes = ap (λ (w : Writer). w.bytes) c.read_event.ensures.log in
-    let state : IsStateOf between mid s = subst (λ (n : ℕ). IsStateOf between (record old { log = mid.log; busy = n }) s) (sym c.read_event.ensures.busy) (kept_state told between old mid.log s same c.read_event.ensures.log c.read_event.ensures.placed is) in
+    let state : IsStateOf between mid s = subst (λ (n : ℕ). IsStateOf between (record old { log = mid.log; busy = n }) s) (sym c.read_event.ensures.busy) (kept_state told between old mid.log s same c.read_event.ensures.log is (λ still. c.read_event.ensures.placed is.settled is.known free_is.0 (is.placed still) ((is.placed still).within c.in-Some-first_free.pointer free_is.0 free_is.3))) in
     subst (λ (l : List ℕ). IfOk c.take_read.result (λ taken. (taken.spilled ≡ true) ↔ IsSome taken.event × HasNoRoom (length l) (room_of s 17 (size_of_list (takes_of s token))))) bytes (c.take_read.ensures.room s state may.still))
 
 pub returns-in-Ok-clause-full : goal.returns-in-Ok-clause-full
@@ -154,7 +154,7 @@ returns-in-Ok-clause-full g c = rw (← c.self.view_is) (λ s is.
     let mid : Logged = record { places = m.held; log = c.read_event.new.writing.log; busy = c.read_event.new.writing.busy } in
     let same : between ≡ told = c.read_event.ensures.same in
     let bytes : mid.log.bytes ≡ old.log.bytes = ap (λ (w : Writer). w.bytes) c.read_event.ensures.log in
-    let state : IsStateOf between mid s = subst (λ (n : ℕ). IsStateOf between (record old { log = mid.log; busy = n }) s) (sym c.read_event.ensures.busy) (kept_state told between old mid.log s same c.read_event.ensures.log c.read_event.ensures.placed is) in
+    let state : IsStateOf between mid s = subst (λ (n : ℕ). IsStateOf between (record old { log = mid.log; busy = n }) s) (sym c.read_event.ensures.busy) (kept_state told between old mid.log s same c.read_event.ensures.log is (λ still. c.read_event.ensures.placed is.settled is.known free_is.0 (is.placed still) ((is.placed still).within c.in-Some-first_free.pointer free_is.0 free_is.3))) in
     let told' = g.D.Disk.told c.take_read.new.writing.disk in
     let new : Logged = record { places = c.take_read.new.held; log = c.take_read.new.writing.log; busy = c.take_read.new.writing.busy } in
     subst (λ (v : Option Told). IfOk c.take_read.result (λ taken. taken.spilled ≡ true → Tells v told' (HadNoRoom (room_of s 17 (size_of_list (takes_of s token)))))) same (c.take_read.ensures.full s state may.still))
@@ -173,7 +173,7 @@ returns-in-Ok-clause-no_room g c = rw (← c.self.view_is) (λ s is.
     let mid : Logged = record { places = m.held; log = c.read_event.new.writing.log; busy = c.read_event.new.writing.busy } in
     let same : between ≡ told = c.read_event.ensures.same in
     let bytes : mid.log.bytes ≡ old.log.bytes = ap (λ (w : Writer). w.bytes) c.read_event.ensures.log in
-    let state : IsStateOf between mid s = subst (λ (n : ℕ). IsStateOf between (record old { log = mid.log; busy = n }) s) (sym c.read_event.ensures.busy) (kept_state told between old mid.log s same c.read_event.ensures.log c.read_event.ensures.placed is) in
+    let state : IsStateOf between mid s = subst (λ (n : ℕ). IsStateOf between (record old { log = mid.log; busy = n }) s) (sym c.read_event.ensures.busy) (kept_state told between old mid.log s same c.read_event.ensures.log is (λ still. c.read_event.ensures.placed is.settled is.known free_is.0 (is.placed still) ((is.placed still).within c.in-Some-first_free.pointer free_is.0 free_is.3))) in
     subst (λ (l : List ℕ). IsErrOf c.take_read.result TakeNo.DiskFault → HasNoRoom (length l) (room_of s 17 (size_of_list (takes_of s token)))) bytes (c.take_read.ensures.no_room s state may.still))
 
 pub invariant_of-self-in-Err : goal.invariant_of-self-in-Err
@@ -192,7 +192,7 @@ invariant_of-self-in-Err g c =
     let mid : Logged = record { places = m.held; log = c.read_event.new.writing.log; busy = c.read_event.new.writing.busy } in
     let same : between ≡ told = c.read_event.ensures.same in
     let bytes : mid.log.bytes ≡ old.log.bytes = ap (λ (w : Writer). w.bytes) c.read_event.ensures.log in
-    let state : IsStateOf between mid s = subst (λ (n : ℕ). IsStateOf between (record old { log = mid.log; busy = n }) s) (sym c.read_event.ensures.busy) (kept_state told between old mid.log s same c.read_event.ensures.log c.read_event.ensures.placed is) in
+    let state : IsStateOf between mid s = subst (λ (n : ℕ). IsStateOf between (record old { log = mid.log; busy = n }) s) (sym c.read_event.ensures.busy) (kept_state told between old mid.log s same c.read_event.ensures.log is (λ still. c.read_event.ensures.placed is.settled is.known free_is.0 (is.placed still) ((is.placed still).within c.in-Some-first_free.pointer free_is.0 free_is.3))) in
     let steps : Steps told between old mid (Take token (Err c.of_read.result)) s = subst (λ (e : TakeRefused). Steps told between old mid (Take token (Err e)) s) (sym c.of_read.ensures)
     (unread_steps told between old mid token c.in-Err.refused c.in-Some-first_free.number free_is.0 free_is.1 s is allowed free_is.2 (c.in-Err.ensures.gives is.settled is.known free_is.0 (is.placed may.still) ((is.placed may.still).within c.in-Some-first_free.pointer free_is.0 free_is.3)) state bytes) in
     (after s (Take token (Err c.of_read.result)), steps.stands)
@@ -211,7 +211,7 @@ returns-in-Err-clause-step g c = rw (← c.self.view_is) (λ s is.
     let mid : Logged = record { places = m.held; log = c.read_event.new.writing.log; busy = c.read_event.new.writing.busy } in
     let same : between ≡ told = c.read_event.ensures.same in
     let bytes : mid.log.bytes ≡ old.log.bytes = ap (λ (w : Writer). w.bytes) c.read_event.ensures.log in
-    let state : IsStateOf between mid s = subst (λ (n : ℕ). IsStateOf between (record old { log = mid.log; busy = n }) s) (sym c.read_event.ensures.busy) (kept_state told between old mid.log s same c.read_event.ensures.log c.read_event.ensures.placed is) in
+    let state : IsStateOf between mid s = subst (λ (n : ℕ). IsStateOf between (record old { log = mid.log; busy = n }) s) (sym c.read_event.ensures.busy) (kept_state told between old mid.log s same c.read_event.ensures.log is (λ still. c.read_event.ensures.placed is.settled is.known free_is.0 (is.placed still) ((is.placed still).within c.in-Some-first_free.pointer free_is.0 free_is.3))) in
     let steps : Steps told between old mid (Take token (Err c.of_read.result)) s = subst (λ (e : TakeRefused). Steps told between old mid (Take token (Err e)) s) (sym c.of_read.ensures)
     (unread_steps told between old mid token c.in-Err.refused c.in-Some-first_free.number free_is.0 free_is.1 s is allowed free_is.2 (c.in-Err.ensures.gives is.settled is.known free_is.0 (is.placed may.still) ((is.placed may.still).within c.in-Some-first_free.pointer free_is.0 free_is.3)) state bytes) in
     steps)
@@ -280,7 +280,7 @@ returns-in-Ok-clause-fills g c = rw (← c.self.view_is) (λ s is flushed.
     let mid : Logged = record { places = m.held; log = c.read_event.new.writing.log; busy = c.read_event.new.writing.busy } in
     let same : between ≡ told = c.read_event.ensures.same in
     let bytes : mid.log.bytes ≡ old.log.bytes = ap (λ (w : Writer). w.bytes) c.read_event.ensures.log in
-    let state : IsStateOf between mid s = subst (λ (n : ℕ). IsStateOf between (record old { log = mid.log; busy = n }) s) (sym c.read_event.ensures.busy) (kept_state told between old mid.log s same c.read_event.ensures.log c.read_event.ensures.placed is) in
+    let state : IsStateOf between mid s = subst (λ (n : ℕ). IsStateOf between (record old { log = mid.log; busy = n }) s) (sym c.read_event.ensures.busy) (kept_state told between old mid.log s same c.read_event.ensures.log is (λ still. c.read_event.ensures.placed is.settled is.known free_is.0 (is.placed still) ((is.placed still).within c.in-Some-first_free.pointer free_is.0 free_is.3))) in
     let told' = g.D.Disk.told c.take_read.new.writing.disk in
     let new : Logged = record { places = c.take_read.new.held; log = c.take_read.new.writing.log; busy = c.take_read.new.writing.busy } in
     subst (λ (v : Option Told). Tells v told' (FillsFiles s.rules.limits.max_file (length old.log.bytes))) same
