@@ -181,6 +181,48 @@ left cad
 close
 long check-4 none"#;
 
+const PRUNES: &str =
+    r#"Old files are removed while a put is open whose record is in a file that the newest checkpoint needs.
+limits 10 10 66
+on-disk
+left
+begin-put > token 1
+put 1 a > done
+commit-put 1 > first 0
+left a
+begin-put > token 2
+put 2 b > done
+commit-put 2 > first 1
+left ab
+begin-take > token 3
+take 3 > event a
+commit-take 3 > first 0
+left b
+checkpoint > done
+left b
+prune > count 1
+left b
+begin-put > token 4
+put 4 c > done
+begin-put > token 5
+put 5 d > done
+commit-put 5 > first 2
+left bd
+begin-take > token 6
+take 6 > event b
+commit-take 6 > first 0
+left d
+checkpoint > done
+left d
+prune > count 3
+left d
+commit-put 4 > first 3
+left dc
+close
+long check-1 none
+long 3 none
+holds 4 0 FLUMELOG"#;
+
 // What may stand of a call that nothing made stable. A file is begun with three recorded calls, and each of its frames takes
 // four, so that of two choices that take turns each is of the writes of every other file, where each has one frame.
 const STOOD: [Stood; 4] = [Stood::Old, Stood::New, Stood::Garbage(1), Stood::Front(20)];
@@ -225,7 +267,18 @@ fn leave_either(alloc: Global, files: &[WholeFile], either: Either<'_>) -> bool 
     }
 }
 
-// Whether an image leaves one of two lists.
+// Whether a channel that opens these files gives one of two lists.
+fn gives_either(scene: &mut Channels, image: MemDisk, either: Either<'_>) -> bool {
+    scene.disk = Some(image);
+    is_opened(scene) && (has(scene, either.before) || has(scene, either.after))
+}
+
+// Whether log files alone tell what is left: none of them was removed.
+fn is_whole(disk: &MemDisk) -> bool {
+    disk.file(FileName::Log(1)).is_some()
+}
+
+// Whether an image leaves one of two lists: by a slow reading of its log files, or where some were removed by opening it.
 fn is_left(
     alloc: Global,
     disk: &MemDisk,
@@ -236,6 +289,9 @@ fn is_left(
     let Ok(image) = disk.stopped_at(moment, &stood) else {
         return false;
     };
+    if !is_whole(disk) || !is_whole(&image) {
+        return gives_either(&mut Channels::begin(alloc), image, either);
+    }
     match logs_of(alloc, &image) {
         Ok(files) => leave_either(alloc, &files, either),
         Err(_) => false,
@@ -387,6 +443,11 @@ fn a_crash_leaves_what_is_settled_among_checkpoints(rt: HostRuntime) -> Result<(
     survive(rt.alloc(), CHECKPOINTS)
 }
 
+#[test]
+fn a_crash_leaves_what_is_settled_while_files_are_removed(rt: HostRuntime) -> Result<(), Fail> {
+    survive(rt.alloc(), PRUNES)
+}
+
 // Whether each image of a disk's end, of which what may stand is one for all calls, leaves one of two lists.
 fn is_left_at_end(alloc: Global, disk: &MemDisk, either: Either<'_>) -> bool {
     for stood in &STOOD {
@@ -453,7 +514,7 @@ fn wrong_call(alloc: Global, run: &str) -> Option<u64> {
 
 #[test]
 fn a_failing_call_loses_nothing_across_files(rt: HostRuntime) -> Result<(), Fail> {
-    for run in &[TAKES, TWO_FRAMES, CHECKPOINTS] {
+    for run in &[TAKES, TWO_FRAMES, CHECKPOINTS, PRUNES] {
         if let Some(call) = wrong_call(rt.alloc(), run) {
             return Err(Fail::new(format_args!("call {call}")));
         }

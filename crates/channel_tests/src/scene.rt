@@ -1,7 +1,7 @@
 // A channel and its folder, on which the lines of a scenario work.
 use crate::calls::{Call, OTHER, Said, gives, is_said, said, value_of};
 use crate::spelled::{long_file, spelled};
-use channel_face::{Channel, CheckRefused, Counter, Kind, Limits, OpenCause, Ticket};
+use channel_face::{Channel, CheckRefused, Counter, Kind, Limits, OpenCause, PruneRefused, Ticket};
 use event_core::Entry;
 use file_channel::FileChannel;
 use flume_host::FileName;
@@ -258,6 +258,31 @@ fn laid(scene: &mut Channels) -> Said {
     }
 }
 
+fn said_of_prune(reply: Result<u64, PruneRefused>) -> Said {
+    match reply {
+        Ok(count) => ("count", count),
+        Err(PruneRefused::Broken) => ("broken", 0),
+        Err(PruneRefused::DiskFault) => ("disk-fault", 0),
+        Err(_) => OTHER,
+    }
+}
+
+// The channel removes the files that its newest checkpoint does not need.
+fn pruned(scene: &mut Channels) -> Said {
+    match &mut scene.over {
+        Over::Disk(channel) => said_of_prune(channel.prune()),
+        _ => OTHER,
+    }
+}
+
+// The same, however many files are left to be removed.
+fn pruned_rest(scene: &mut Channels) -> Said {
+    match pruned(scene).0 {
+        "count" => ("done", 0),
+        _ => OTHER,
+    }
+}
+
 // Tokens are named of this life.
 fn set_life(scene: &mut Channels, life: &str) -> bool {
     scene.life = value_of(life);
@@ -295,6 +320,8 @@ pub fn is_answered(scene: &mut Channels, word: &str, rest: &str) -> bool {
     let said = match word {
         "reopen" => reopened(scene),
         "checkpoint" => laid(scene),
+        "prune" => pruned(scene),
+        "prune-rest" => pruned_rest(scene),
         _ => said_by(scene, call),
     };
     is_said(said, want)
