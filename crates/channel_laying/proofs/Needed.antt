@@ -1,11 +1,11 @@
 -- Which log files a crash may leave to be needed, from one moment to another.
-use Rattle.std.proofs.Common.{◌⊎◌, inl, inr, ◌≡◌, ◌≢◌, ◌<◌, ◌≤◌, ◌++◌, ◌∷◌, [], ℕ, List, nat_le, Option, Some, None, Bool, true, false, cond, refl, sym, ◌∙◌, ap, subst, arith}
+use Rattle.std.proofs.Common.{◌⊎◌, inl, inr, ◌≡◌, ◌≢◌, ◌≤◌, ◌∷◌, ℕ, List, nat_le, Option, Some, None, Bool, true, false, cond, refl, sym, ◌∙◌, ap, subst, arith}
 use Rattle.std.specs.Prelude.{IsSomeAnd, if◌then◌else◌}
 use Rattle.std.proofs.lemmas.Bool.{cases_lt}
 use Rattle.std.proofs.lemmas.Bool.Decides.{eqb_tells, nat_tests}
 use Rattle.std.proofs.lemmas.List.{get_or_past}
-use Rattle.flume_host.specs.Folder.{Allows, Entry, Files, Folder, Gone, IsImage, same_name, settle_entry, with_at}
-use Rattle.flume_host.specs.Told.{Changes, OneFile, Tells, Told, WhereTold, clock}
+use Rattle.flume_host.specs.Folder.{Allows, Entry, Files, Folder, IsImage, same_name, settle_entry, with_at}
+use Rattle.flume_host.specs.Told.{Changes, OneFile, Told, clock}
 use Rattle.flume_host.specs.declared.names.FileName.TheVariants.{Check, Log}
 use Rattle.flume_host.proofs.Moments.{clock_rises}
 use Rattle.flume_host.proofs.OneFile.{with_at_other, with_at_self}

@@ -265,8 +265,7 @@ starts_from files check least start found (is, lines) named =
       means = record { right = is.stands.right; number = is.number ∙ ap (λ (n : Next). n.number) (sym next); txn = is.txn ∙ ap (λ (n : Next). n.txn) (sym next) };
     } in
     let same = kept_same least files in
-    let now : IsCheck later check.number c start = check_elsewhere files later least check.number c start same named refl was in
-    (
+    let now : IsCheck later check.number c start = check_elsewhere files later least check.number c start same named refl was in (
       record { stands = record { c = c; keeps = is.stands.keeps; spelled = now.spelled; right = now.means.right }; number = is.number; txn = is.txn },
       lines_elsewhere files later least check.place found same (omega (arith, named.place, ap (λ (p : Place). p.file) says.place_is)) lines,
     )

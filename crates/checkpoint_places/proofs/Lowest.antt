@@ -1,5 +1,5 @@
 -- The least file of pointers, as they are gone through.
-use Rattle.std.proofs.Common.{◌⊎◌, inl, inr, ◌≡◌, ◌≢◌, ◌<◌, ◌≤◌, ◌+◌, ◌++◌, ◌∷◌, [], ◌==◌, ℕ, List, get_or, length, map, min, take, Option, Some, None, Bool, true, false, leb, cond, refl, sym, ◌∙◌, ap, subst, arith}
+use Rattle.std.proofs.Common.{◌⊎◌, inl, inr, ◌≡◌, ◌≢◌, ◌<◌, ◌≤◌, ◌+◌, ◌++◌, ◌∷◌, [], ◌==◌, ℕ, List, get_or, length, map, min, take, Option, Some, None, Bool, true, false, leb, refl, sym, ◌∙◌, ap, subst, arith}
 use Rattle.std.specs.Prelude.{if◌then◌else◌, option_map}
 use Rattle.std.specs.List.{AllByRecursion}
 use Rattle.std.proofs.lemmas.Bool.Decides.{eqb_tells, leb_tells}
@@ -7,7 +7,7 @@ use Rattle.std.proofs.lemmas.List.{take_all, take_more}
 use Rattle.record_form.specs.declared.record.Pointer.{Pointer}
 use Rattle.event_ring.specs.Slots.{Left, least_above, next_from}
 use Rattle.open_table.specs.Tables.{IsNext, Open, Table, open_at, puts_of}
-use Rattle.checkpoint.specs.Says.{AreListed, listed_at, live_at, puts_at, puts_in}
+use Rattle.checkpoint.specs.Says.{listed_at, live_at, puts_at, puts_in}
 use Rattle.checkpoint.specs.Text.{Rise}
 use Rattle.checkpoint.proofs.Listing.{from, from_all, live_end, live_next, none_opened, unopened}
 

@@ -1,9 +1,8 @@
 -- It is right for a folder in which the events stand at their pointers.
-use Rattle.std.proofs.Common.{◌⊎◌, inl, inr, ◌≡◌, ◌≢◌, ◌<◌, ◌≤◌, ◌+◌, ◌^◌, ◌++◌, ◌∷◌, [], ◌==◌, ◌||◌, ℕ, List, length, map, Option, Some, None, Bool, true, false, refl, sym, ◌∙◌, ap, subst, arith}
+use Rattle.std.proofs.Common.{◌⊎◌, inl, inr, ◌≡◌, ◌≢◌, ◌≤◌, ◌+◌, ◌^◌, ◌++◌, ◌∷◌, [], ◌==◌, ℕ, List, length, map, Option, Some, None, Bool, true, false, refl, sym, ◌∙◌, ap, subst, arith}
 use Rattle.std.specs.Prelude.{IsSomeAnd, if◌then◌else◌}
 use Rattle.std.specs.List.{AllByRecursion}
 use Rattle.std.proofs.lemmas.Bool.Decides.{eqb_tells}
-use Rattle.std.proofs.lemmas.List.{append-nil}
 use Rattle.flume_host.specs.Folder.{Files}
 use Rattle.flume_host.specs.declared.names.FileName.TheVariants.{Log}
 use Rattle.event_core.specs.Content.{Content}
@@ -15,14 +14,14 @@ use Rattle.event_ring.specs.Slots.{Left}
 use Rattle.open_table.specs.Tables.{Listed, Open, Puts, Takes, open_at, puts_of, takes_of}
 use Rattle.channel_log.specs.Pointers.{PutAt}
 use Rattle.channel_log.proofs.Pointing.{one_event}
-use Rattle.channel_face.specs.Machine.{State, base_of, entries, entry_of}
+use Rattle.channel_face.specs.Machine.{base_of, entries, entry_of}
 use Rattle.channel_face.proofs.Numbers.{Items, Rising, among_times, distinct_times, number_of as count_of, number_once, one_if, rising_base, rising_within, same_number, times, times-append}
-use Rattle.channel_places.specs.Looks.{Known, LookLeft, LookPuts, Looks, LooksListed, LooksOpen, OpenRise, Places, StandsIn, held_in}
-use Rattle.checkpoint.specs.Right.{AreApartFrom, AreOnceAmong, EventsAre, LiveAre, OpenAre, PutIn, PutOf, all_of, number_of}
+use Rattle.channel_places.specs.Looks.{Known, LookLeft, LookPuts, LooksListed, LooksOpen, OpenRise, StandsIn, held_in}
+use Rattle.checkpoint.specs.Right.{AreOnceAmong, EventsAre, LiveAre, OpenAre, PutIn, PutOf, all_of, number_of}
 use Rattle.checkpoint.specs.Says.{entry_of as listed, live_at, puts_at, puts_in, takes_at, takes_in}
 use Rattle.checkpoint.specs.Text.{Rise}
-use Rattle.checkpoint_places.specs.Laws.{AreFew, HasPlaces, IsPutOf, PlacesAreRight}
-use Rattle.checkpoint_places.specs.Texts.{listed_by, puts_done, takes_done, text_of}
+use Rattle.checkpoint_places.specs.Laws.{IsPutOf, PlacesAreRight}
+use Rattle.checkpoint_places.specs.Texts.{listed_by, puts_done, takes_done}
 use Rattle.checkpoint_places.proofs.Listing.{all_listed, listed_among, listed_few, listed_fit, listed_rise, listed_some, open_from_one}
 
 -- no transaction has both puts and takes

@@ -1,10 +1,10 @@
 -- A checkpoint of places says what the state has.
-use Rattle.std.proofs.Common.{◌≡◌, ◌<◌, ◌≤◌, ◌^◌, [], ◌∷◌, ℕ, List, length, map, Option, Some, None, refl, sym, ◌∙◌, ap, arith}
+use Rattle.std.proofs.Common.{◌≡◌, ◌≤◌, ◌^◌, [], ℕ, List, map, None, refl, sym, ap, arith}
 use Rattle.event_core.specs.declared.journal.Entry.{Entry}
-use Rattle.event_ring.specs.Slots.{Index, Left}
-use Rattle.open_table.specs.Tables.{Open, open_at}
-use Rattle.channel_face.specs.Machine.{State, entry_of}
-use Rattle.channel_places.specs.Looks.{Known, Looks, LooksOpen, OpenRise, Places}
+use Rattle.event_ring.specs.Slots.{Left}
+use Rattle.open_table.specs.Tables.{open_at}
+use Rattle.channel_face.specs.Machine.{entry_of}
+use Rattle.channel_places.specs.Looks.{OpenRise}
 use Rattle.channel_places.proofs.Looking.{none_open}
 use Rattle.checkpoint.specs.Says.{AreListed, live_at, puts_at, puts_in, takes_at, takes_in}
 use Rattle.checkpoint_places.specs.Laws.{PlacesAreSaid}

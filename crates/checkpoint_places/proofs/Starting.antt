@@ -1,5 +1,5 @@
 -- The start for which a checkpoint of places stands.
-use Rattle.std.proofs.Common.{◌⊎◌, inl, inr, ◌≡◌, ◌≢◌, ◌<◌, ◌≤◌, ◌+◌, ◌++◌, ◌∷◌, [], ◌==◌, ℕ, List, length, length-append, Option, Some, None, Bool, true, false, refl, sym, ◌∙◌, ap, subst, arith}
+use Rattle.std.proofs.Common.{◌⊎◌, inl, inr, ◌≡◌, ◌≢◌, ◌<◌, ◌≤◌, ◌+◌, ◌++◌, ◌∷◌, [], ◌==◌, ℕ, List, length, length-append, Option, Some, None, Bool, true, false, refl, sym, ◌∙◌, ap, arith}
 use Rattle.std.specs.Prelude.{if◌then◌else◌}
 use Rattle.std.specs.List.{AllByRecursion}
 use Rattle.std.proofs.lemmas.Bool.Decides.{eqb_tells}
@@ -7,7 +7,7 @@ use Rattle.event_core.specs.Journal.{IsNotEmpty, is_among}
 use Rattle.event_core.specs.declared.journal.Entry.{Entry}
 use Rattle.event_core.specs.declared.journal.Entry.TheVariants.{Puts, Takes}
 use Rattle.channel_face.specs.Machine.{entry_of}
-use Rattle.channel_face.proofs.Numbers.{among_times, one_if, other_number, same_number, times, times-append}
+use Rattle.channel_face.proofs.Numbers.{among_times, other_number, same_number, times, times-append}
 use Rattle.channel_places.specs.Looks.{OpenRise}
 use Rattle.channel_replay.specs.Open.{keys}
 use Rattle.channel_replay.specs.Start.{AreApart}

@@ -1,11 +1,10 @@
 -- Laws of the checkpoint of a channel's places.
-use Rattle.std.specs.Prelude.{◌≡◌, ◌<◌, ◌≤◌, ◌^◌, ℕ, List, [], ◌++◌, length, IsSomeAnd}
+use Rattle.std.specs.Prelude.{◌≡◌, ◌<◌, ◌≤◌, ◌^◌, ℕ, [], ◌++◌, length, IsSomeAnd}
 use Rattle.std.specs.List.{AllByRecursion}
 use Rattle.flume_host.specs.Folder.{Files}
 use Rattle.flume_host.specs.declared.names.FileName.TheVariants.{Log}
 use Rattle.event_core.specs.Content.{Content}
 use Rattle.event_core.specs.Journal.{IsNotEmpty}
-use Rattle.event_core.specs.declared.journal.Entry.{Entry}
 use Rattle.record_form.specs.declared.record.Pointer.{Pointer}
 use Rattle.event_ring.specs.Slots.{Index}
 use Rattle.channel_face.specs.Machine.{State, entry_of}

@@ -1,5 +1,5 @@
 -- A channel stands for the same after a prune.
-use Rattle.std.proofs.Common.{◌⊎◌, inl, inr, ◌≡◌, ◌≢◌, ◌<◌, ◌≤◌, ◌++◌, ◌∷◌, [], ℕ, List, drop, length, take, Option, Some, None, Result, Ok, Err, Bool, true, false, refl, sym, ◌∙◌, ap, subst, arith}
+use Rattle.std.proofs.Common.{◌⊎◌, inl, inr, ◌≡◌, ◌<◌, ◌≤◌, ℕ, List, drop, length, take, Option, Some, Result, Ok, Err, Bool, true, false, refl, sym, ◌∙◌, ap, subst, arith}
 use Rattle.std.specs.Prelude.{IfSome, IsSomeAnd}
 use Rattle.std.specs.List.{AllByRecursion}
 use Rattle.std.proofs.lemmas.Bool.{cases_lt}
@@ -10,26 +10,25 @@ use Rattle.flume_host.proofs.Moments.{started}
 use Rattle.flume_host.proofs.Telling.{back, tells_more, tells_same}
 use Rattle.event_core.specs.Content.{Content}
 use Rattle.record_form.specs.declared.record.Pointer.{Pointer}
-use Rattle.open_table.specs.Tables.{Table, open_at}
+use Rattle.open_table.specs.Tables.{open_at}
 use Rattle.channel_log.specs.Pointers.{PutAt, end_of}
 use Rattle.channel_log.specs.Window.{IsPieceOf}
 use Rattle.channel_log.specs.Writer.{Writer}
 use Rattle.channel_face.specs.Machine.{AdmitsPrune, Prune, State, entry_of}
 use Rattle.channel_face.specs.declared.replies.PruneRefused.{PruneRefused}
 use Rattle.channel_face.specs.declared.replies.PruneRefused.TheVariants as PruneNo
-use Rattle.channel_places.specs.Looks.{Known, StandsIn, pointers_at, pointers_of}
+use Rattle.channel_places.specs.Looks.{Known, StandsIn, pointers_at}
 use Rattle.channel_writing.specs.Stands.{is_fault}
-use Rattle.channel_writing.specs.Touches.{Rests}
 use Rattle.channel_writing.specs.Written.{IsLogged, MayRecover, RecoversSettled}
 use Rattle.channel_writing.proofs.Standing.{Spans, Touched}
 use Rattle.channel_writing.proofs.Whole.{whole_rests}
 use Rattle.checkpoint.specs.Newest.{IsPassed}
 use Rattle.checkpoint_opening.specs.declared.opening.NewestCheck.{NewestCheck}
 use Rattle.checkpoint_pruning.specs.Pruning.{KeepsFrom}
-use Rattle.channel_laying.specs.Laying.{AreNeeded, AreUnused}
+use Rattle.channel_laying.specs.Laying.{AreUnused}
 use Rattle.channel_laying.proofs.Needed.{needed_pruned, needed_unpruned}
-use Rattle.file_channel.specs.Laid.{AreChecks, AreFree, CheckState, IsNeeded}
-use Rattle.file_channel.specs.Placed.{AreNotBelow, ArePlaced, IsForgotten, IsOwn, IsStateOf, IsStill, IsThere, Logged, PutBy, bytes_of, settled_in}
+use Rattle.file_channel.specs.Laid.{AreChecks, CheckState, IsNeeded}
+use Rattle.file_channel.specs.Placed.{AreNotBelow, ArePlaced, IsForgotten, IsOwn, IsStateOf, IsThere, Logged, PutBy, bytes_of, settled_in}
 use Rattle.file_channel.specs.Stepped.{Steps}
 use Rattle.file_channel.proofs.Adding.{goes_over}
 use Rattle.file_channel.proofs.Bare.{both_maps, open_known}

@@ -10,7 +10,7 @@ use Rattle.channel_face.specs.Machine.{Call, State}
 use Rattle.channel_writing.specs.Touches.{ChangesAlone, Flushed, flushes}
 use Rattle.channel_writing.proofs.Flushing.{as_read}
 use Rattle.checkpoint_opening.specs.declared.opening.NewestCheck.{NewestCheck}
-use Rattle.channel_laying.specs.Laying.{AreNeeded, AreUnused}
+use Rattle.channel_laying.specs.Laying.{AreUnused}
 use Rattle.channel_laying.proofs.Needed.{AreLeft, needed_less}
 use Rattle.file_channel.specs.Laid.{AreChecks, AreFree, CheckState, IsNeeded, IsNextCheck, KeepsChecks, SparesChecks}
 

@@ -1,5 +1,5 @@
 -- No pointer of a channel is into a log file that its newest checkpoint does not need.
-use Rattle.std.proofs.Common.{◌⊎◌, inl, inr, ◌≡◌, ◌≢◌, ◌<◌, ◌≤◌, ◌^◌, ◌++◌, ◌∷◌, [], ℕ, List, map, nat_le, Option, Some, None, Bool, true, false, cond, refl, sym, ◌∙◌, ap, subst, arith}
+use Rattle.std.proofs.Common.{◌⊎◌, inl, inr, ◌≡◌, ◌≤◌, ◌^◌, ◌∷◌, [], ℕ, List, map, nat_le, Option, Some, None, Bool, true, false, cond, refl, sym, ◌∙◌, ap, subst, arith}
 use Rattle.std.specs.Prelude.{if◌then◌else◌}
 use Rattle.std.specs.List.{AllByRecursion}
 use Rattle.std.proofs.lemmas.Bool.Decides.{nat_tests}
@@ -27,7 +27,7 @@ use Rattle.checkpoint_places.proofs.Lowest.{all_entries, all_listed}
 use Rattle.checkpoint_recovery.specs.Laws.{NamesFrom}
 use Rattle.checkpoint_recovery.specs.Recovers.{IsCheck}
 use Rattle.checkpoint_opening.specs.declared.opening.NewestCheck.{NewestCheck}
-use Rattle.channel_laying.specs.Laying.{AreNeeded, AreUnused, IsLaying, MayLay}
+use Rattle.channel_laying.specs.Laying.{AreNeeded, IsLaying, MayLay}
 use Rattle.channel_laying.proofs.Needed.{IsNaming, needed_before, needed_laid, needed_laying}
 use Rattle.file_channel.specs.Laid.{IsNeeded}
 use Rattle.file_channel.specs.Placed.{AreNeeding, AreNotBelow, ArePlaced, IsForgotten, settled_in}

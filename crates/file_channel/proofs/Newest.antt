@@ -1,12 +1,12 @@
 -- The newest checkpoint of a folder that was opened is needed, and no pointer is into a file before those that it names.
-use Rattle.std.proofs.Common.{◌⊎◌, inl, inr, ◌≡◌, ◌<◌, ◌≤◌, ◌^◌, ◌∷◌, ℕ, List, length, Option, Some, None, refl, sym, ◌∙◌, ap, subst, arith}
+use Rattle.std.proofs.Common.{◌⊎◌, inl, inr, ◌≡◌, ◌<◌, ◌≤◌, ◌^◌, ℕ, List, Option, Some, None, refl, sym, ◌∙◌, subst, arith}
 use Rattle.std.specs.Prelude.{IfSome, IsSome, IsSomeAnd}
 use Rattle.std.specs.List.{AllByRecursion}
 use Rattle.std.proofs.lemmas.Bool.{cases_lt}
-use Rattle.flume_host.specs.Folder.{Allows, Entry, Files, IsImage, settle_entry}
+use Rattle.flume_host.specs.Folder.{Allows, Entry, Files, settle_entry}
 use Rattle.flume_host.specs.Told.{Settle, Tells, Told, WhereTold, done}
 use Rattle.flume_host.specs.declared.names.FileName.TheVariants.{Check, Log}
-use Rattle.flume_host.proofs.Telling.{back, silent}
+use Rattle.flume_host.proofs.Telling.{back}
 use Rattle.event_core.specs.Content.{Content}
 use Rattle.event_ring.specs.Slots.{Left}
 use Rattle.record_form.specs.declared.record.Pointer.{Pointer}
@@ -15,11 +15,10 @@ use Rattle.channel_writing.specs.Folders.{IsNextFile}
 use Rattle.channel_writing.proofs.Flushing.{as_read}
 use Rattle.channel_writing.proofs.Opening.{BeginsFile, SettledAs}
 use Rattle.checkpoint.specs.Newest.{IsNewest, IsPassedFile}
-use Rattle.checkpoint.specs.Text.{CheckText, check_bytes}
-use Rattle.checkpoint_recovery.specs.Laws.{NamesFrom, NeedsFrom}
+use Rattle.checkpoint_recovery.specs.Laws.{NamesFrom}
 use Rattle.checkpoint_recovery.specs.Recovers.{IsCheck}
 use Rattle.checkpoint_recovery.proofs.Elsewhere.{one_newest}
-use Rattle.checkpoint_opening.specs.Opening.{AreFrom, IsNamed, IsOpened, number_in}
+use Rattle.checkpoint_opening.specs.Opening.{IsNamed, IsOpened}
 use Rattle.checkpoint_opening.specs.declared.opening.NewestCheck.{NewestCheck}
 use Rattle.ring_replay.specs.declared.folder.Replayed.{Replayed}
 use Rattle.channel_laying.specs.Laying.{AreNeeded}

@@ -153,8 +153,7 @@ impl<D: Disk + Drop> LoggedPlaces<D> {
             Ok(()) => {}
             Err(_) => return Err(CheckRefused::DiskFault),
         }
-        let (least, laid) =
-            lay_places(&self.held, &mut self.writing, number, &mut checks.buffer);
+        let (least, laid) = lay_places(&self.held, &mut self.writing, number, &mut checks.buffer);
         checks.next += 1;
         match laid {
             Ok(()) => checks.laid = Some(NewestCheck { number, least }),

@@ -1,4 +1,4 @@
-use Rattle.std.proofs.Common.{◌≤◌, ◌^◌, ℕ, List, map, ap, arith, subst, sym}
+use Rattle.std.proofs.Common.{◌^◌, ℕ, List, map, ap, arith, subst, sym}
 use Rattle.std.specs.List.{AllByRecursion}
 use Rattle.record_form.specs.declared.record.Pointer.{Pointer}
 use Rattle.checkpoint.specs.Says.{live_at}

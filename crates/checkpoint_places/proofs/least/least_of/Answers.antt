@@ -1,4 +1,4 @@
-use Rattle.std.proofs.Common.{◌≤◌, ◌+◌, ℕ, arith, subst, sym, take}
+use Rattle.std.proofs.Common.{◌+◌, ℕ, arith, subst, sym, take}
 use Rattle.checkpoint_places.proofs.Lowest.{PutsSoFar, puts_begun, puts_done, puts_index}
 use Rattle.checkpoint_places.proofs.least.least_of.Goals as goal
 

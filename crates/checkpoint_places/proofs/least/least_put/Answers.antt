@@ -1,4 +1,4 @@
-use Rattle.std.proofs.Common.{◌≡◌, ◌≤◌, List, subst, sym}
+use Rattle.std.proofs.Common.{◌≡◌, List, subst, sym}
 use Rattle.std.specs.List.{AllByRecursion}
 use Rattle.record_form.specs.declared.record.Pointer.{Pointer}
 use Rattle.open_table.specs.Tables.{open_at}

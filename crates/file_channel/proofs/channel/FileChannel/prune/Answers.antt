@@ -1,7 +1,5 @@
-use Rattle.std.proofs.Common.{◌≡◌, length, refl, ap}
-use Rattle.flume_host.specs.Told.{LeavesOnly, Tells}
+use Rattle.std.proofs.Common.{length, refl, ap}
 use Rattle.channel_face.specs.Machine.{State, Prune}
-use Rattle.channel_writing.specs.Written.{RecoversSettled}
 use Rattle.txn_core.specs.Counted.{tally_of}
 use Rattle.txn_core.specs.declared.calls.Call.TheVariants as notes
 use Rattle.file_channel.specs.Placed.{IsStateOf}

@@ -1,8 +1,7 @@
-use Rattle.std.proofs.Common.{◌≡◌, ◌⊎◌, ◌∙◌, inl, inr, ℕ, List, Ok, Err, Option, Some, false, refl, sym, ap, subst}
+use Rattle.std.proofs.Common.{◌≡◌, ◌∙◌, inl, inr, Option, Some, false, sym, ap, subst}
 use Rattle.std.specs.Prelude.{IfSome}
 use Rattle.channel_log.specs.Writer.{Writer}
 use Rattle.channel_face.specs.Machine.{State}
-use Rattle.channel_face.specs.declared.replies.PruneRefused.TheVariants as PruneNo
 use Rattle.checkpoint_opening.specs.declared.opening.NewestCheck.{NewestCheck}
 use Rattle.file_channel.specs.Laid.{AreChecks, CheckState, IsNeeded}
 use Rattle.file_channel.specs.Placed.{Logged}
