@@ -26,6 +26,7 @@ mod mending;
 mod open_transactions;
 #[cfg(test)]
 mod pointers;
+#[cfg(test)]
 mod pruning;
 #[cfg(test)]
 mod reading;
