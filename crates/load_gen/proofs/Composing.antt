@@ -13,11 +13,12 @@ use Rattle.channel_face.specs.declared.replies.TakeRefused.{TakeRefused}
 use Rattle.channel_face.specs.declared.replies.TakeRefused.TheVariants as TakeNo
 use Rattle.channel_face.specs.declared.replies.Taken.{Taken}
 use Rattle.channel_face.specs.declared.replies.Ticket.{Ticket}
-use Rattle.load_gen.specs.Calls.{Begins, IsBack, IsCalled}
+use Rattle.load_gen.specs.Calls.{Begins, IsBack, IsCalled, IsCutOff}
 use Rattle.load_gen.specs.Parts.{Does, HaveGiven, IsBackCall, IsCommit, IsSomeTaken, PutFails}
 use Rattle.load_gen.specs.Runs.{ArePut, AreTaken, EndsTakes, IsPut, IsTaken, goes_back}
 use Rattle.load_gen.specs.declared.refused.LoadRefused.{LoadRefused}
-use Rattle.load_gen.specs.declared.refused.LoadRefused.TheVariants.{Face, NoMemory}
+use Rattle.load_gen.specs.declared.refused.LoadRefused.TheVariants.{Check, Face, NoMemory}
+use Rattle.load_gen.specs.declared.refused.LoadRefused.TheVariants as load
 
 -- a front of one part, after what came before it, is a front of the whole
 begins_within : (P R : List Call → Type 0) (a front : List Call) (next : Call) → ((b : List Call) → P b → (rest : List Call) × R (a ++ (b ++ rest))) → Begins P (front ++ next ∷ []) → Begins R ((a ++ front) ++ next ∷ [])
@@ -29,9 +30,9 @@ begins_within P R a front next more goes =
     ∙ ap (λ (l : List Call). l ++ (goes.0 ++ m.0)) (sym (append_assoc a front (next ∷ []))) in
     (goes.0 ++ m.0, subst R same m.1)
 
--- A part that was cut off cuts the whole off: each whole part, after what came before it, can be gone on with to a whole.
-pub within : (P R : List Call → Type 0) (seen : ℕ) (s : State) (why : LoadRefused) (a : List Call) → ((b : List Call) → P b → (rest : List Call) × R (a ++ (b ++ rest))) → (b : List Call) → Does P seen s (Err why) b → Does R seen s (Err why) (a ++ b)
-within P R seen s (Face cause) a more b is = record {
+-- a part that was cut off by a refusal
+cut_within : (P R : List Call → Type 0) (seen : ℕ) (s : State) (why : LoadRefused) (a : List Call) → ((b : List Call) → P b → (rest : List Call) × R (a ++ (b ++ rest))) → (b : List Call) → IsCutOff P seen s why b → IsCutOff R seen s why (a ++ b)
+cut_within P R seen s why a more b is = record {
   front = a ++ is.front;
   next = is.next;
   refused = is.refused;
@@ -41,6 +42,12 @@ within P R seen s (Face cause) a more b is = record {
   rolls = is.rolls;
   whole = ap (λ (l : List Call). a ++ l) is.whole ∙ sym (append_assoc a is.front (is.refused ++ is.back));
 }
+
+-- A part that was cut off cuts the whole off: each whole part, after what came before it, can be gone on with to a whole.
+pub within : (P R : List Call → Type 0) (seen : ℕ) (s : State) (why : LoadRefused) (a : List Call) → ((b : List Call) → P b → (rest : List Call) × R (a ++ (b ++ rest))) → (b : List Call) → Does P seen s (Err why) b → Does R seen s (Err why) (a ++ b)
+within P R seen s (Face cause) a more b is = cut_within P R seen s (Face cause) a more b is
+within P R seen s (Check cause) a more b is = cut_within P R seen s (Check cause) a more b is
+within P R seen s (load.Prune cause) a more b is = cut_within P R seen s (load.Prune cause) a more b is
 within P R seen s NoMemory a more b is = record {
   front = a ++ is.front;
   next = is.next;
@@ -122,6 +129,8 @@ module _ (events front back : List Content) (event : Content) (seen : ℕ) (s : 
   put_failed (Face (FaceNo.Take cause)) failed made split fails rolled back_is = absurd fails
   put_failed (Face (FaceNo.Stage cause)) failed made split fails rolled back_is = absurd fails
   put_failed (Face FaceNo.InDoubt) failed made split fails rolled back_is = absurd fails
+  put_failed (Check cause) failed made split fails rolled back_is = absurd fails
+  put_failed (load.Prune cause) failed made split fails rolled back_is = absurd fails
   put_failed NoMemory failed made split fails rolled back_is = record {
     front = BeginPut (Ok token) ∷ puts;
     next = next_put;

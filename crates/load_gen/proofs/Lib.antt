@@ -1,5 +1,6 @@
 pub mod Making
 pub mod Composing
+pub mod Upkeep
 pub mod Rounds
 pub mod Parting
 pub mod Taking

@@ -19,7 +19,8 @@ use Rattle.load_gen.specs.Events.{event, events_from}
 use Rattle.load_gen.specs.Parts.{ArePutUpTo, Does, IsCommit, PutFails}
 use Rattle.load_gen.specs.Runs.{ArePut, IsPut}
 use Rattle.load_gen.specs.declared.refused.LoadRefused.{LoadRefused}
-use Rattle.load_gen.specs.declared.refused.LoadRefused.TheVariants.{Face, NoMemory}
+use Rattle.load_gen.specs.declared.refused.LoadRefused.TheVariants.{Check, Face, NoMemory}
+use Rattle.load_gen.specs.declared.refused.LoadRefused.TheVariants as load
 use Rattle.load_gen.proofs.Composing.{put_committed, put_failed, put_unbegun, put_uncommitted, puts_append}
 use Rattle.load_gen.proofs.Making.{back_behind, called_up, makes_as, makes_one, makes_then}
 
@@ -77,6 +78,8 @@ fails_up seen seen' token e (Face (FaceNo.Put cause)) made le fails = called_up 
 fails_up seen seen' token e (Face (FaceNo.Take cause)) made le fails = absurd fails
 fails_up seen seen' token e (Face (FaceNo.Stage cause)) made le fails = absurd fails
 fails_up seen seen' token e (Face FaceNo.InDoubt) made le fails = absurd fails
+fails_up seen seen' token e (Check cause) made le fails = absurd fails
+fails_up seen seen' token e (load.Prune cause) made le fails = absurd fails
 fails_up seen seen' token e NoMemory made le fails = fails
 
 -- a batch

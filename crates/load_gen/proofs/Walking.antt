@@ -8,7 +8,7 @@ use Rattle.event_core.specs.Journal.{put_events, left}
 use Rattle.event_core.specs.declared.journal.Entry.{Entry}
 use Rattle.event_core.specs.declared.journal.Entry.TheVariants.{Puts, Takes}
 use Rattle.channel_face.specs.Token.{Token}
-use Rattle.channel_face.specs.Machine.{State, Call, Admits, AdmitsBegin, BeginPut, BeginTake, Flush, Put, StagePut, StageTake, Take, RollbackTake, add_put, add_take, after, after_begin, after_stage, after_take, base_of, close, count, entries, entry_of, free, put_refusal, puts_of, settle, settle_if, stage, take_refusal, takes_of, with_entry, without_entry}
+use Rattle.channel_face.specs.Machine.{State, Call, Admits, AdmitsBegin, BeginPut, BeginTake, Checkpoint, Flush, Prune, Put, StagePut, StageTake, Take, RollbackTake, add_put, add_take, after, after_begin, after_stage, after_take, base_of, close, count, entries, entry_of, free, put_refusal, puts_of, settle, settle_if, stage, take_refusal, takes_of, with_entry, without_entry}
 use Rattle.channel_face.specs.declared.replies.Kind.TheVariants.{File as OnFile}
 use Rattle.channel_face.specs.declared.replies.Put.{Put as PutDone}
 use Rattle.channel_face.specs.declared.replies.Taken.{Taken}
@@ -21,7 +21,7 @@ use Rattle.std.proofs.lemmas.List.FromFn.{length-map-range_with_len}
 use Rattle.event_core.proofs.Sizes.{size-sum}
 use Rattle.hex.specs.Hex.{encode_with, lower_digits}
 use Rattle.load_gen.specs.Events.{batch, event, events_from, hex, seed}
-use Rattle.load_gen.specs.Runs.{ArePut, AreRounds, AreTaken, EndsTakes, IsLoad, IsPut, IsTaken, goes_back}
+use Rattle.load_gen.specs.Runs.{ArePut, AreRounds, AreTaken, EndsTakes, IsLoad, IsPut, IsTaken, IsUpkeep, goes_back, is_fiftieth}
 
 -- in this state a call of the run is refused for no cause of the state, but a number at its end
 abbrev pub IsReady : State → Call → Type 0
@@ -32,6 +32,8 @@ IsReady s (Take token reply) = (numbers : List ℕ) × (takes_of s token ≡ Som
 IsReady s (StagePut token reply) = (events : List Content) × (puts_of s token ≡ Some events) × (s.broken ≡ false) × (s.rules.kind ≡ OnFile)
 IsReady s (StageTake token reply) = (numbers : List ℕ) × (takes_of s token ≡ Some numbers) × (s.broken ≡ false)
 IsReady s (Flush reply) = s.broken ≡ false
+IsReady s (Checkpoint reply) = s.broken ≡ false
+IsReady s (Prune reply) = s.broken ≡ false
 IsReady s (RollbackTake token ended) = (numbers : List ℕ) × (takes_of s token ≡ Some numbers)
 IsReady s call = ⊥
 
@@ -263,17 +265,28 @@ module _ (tells : Bool) (capacity : ℕ) where
           walks_append tells (after_begin (Takes []) s (Ok is.0)) is.1 is.2 (λ t. (all : List ℕ) × HasTakes held is.0 all t) (IsAt capacity held [] [])
           (walks_takes held is.0 [] 50 events (after_begin (Takes []) s (Ok is.0)) is.1 (begun capacity held (Takes []) is.0 s at admits) is.3 (omega arith)) (λ u has. walks_ending (goes_back (k + 1)) held is.0 has.0 u is.2 has.1 is.4)
 
+  -- a checkpoint, and a removal of old files
+  pub walks_upkeep : (held : ℕ) (fiftieth : Bool) (s : State) (made : List Call) → IsAt capacity held [] [] s → IsUpkeep fiftieth made → Walks tells s made (IsAt capacity held [] [])
+  walks_upkeep held true s made at is =
+      let laid : IsAt capacity held [] [] (settle s) = at_more capacity (held + 0) held [] [] (settle s) (omega arith) (flushed capacity held [] [] s at) in
+      subst (λ (l : List Call). Walks tells s l (IsAt capacity held [] [])) (sym is.1) (at.whole, λ admits. (laid.whole, λ prunes. laid))
+  walks_upkeep held false s made at is = subst (λ (l : List Call). Walks tells s l (IsAt capacity held [] [])) (sym is) at
+
   -- rounds
   walks_rounds : (n k held : ℕ) (takes : List (List Content)) (s : State) (made : List Call) → ((j : ℕ) → All (λ e. size e ≤ 1048576) (batch n j)) → IsAt capacity held [] [] s → AreRounds n k takes made → held + (n - 100 * k) ≤ capacity → Walks tells s made (IsAt capacity capacity [] [])
   walks_rounds n k held [] s made small at is room = subst (λ (l : List Call). Walks tells s l (IsAt capacity capacity [] [])) (sym is) (at_more capacity held capacity [] [] s (omega (arith, room)) at)
   walks_rounds n k held (taken ∷ takes) s made small at is room =
       let m : ℕ = min 100 (n - 100 * k) in
       let count : length (batch n k) ≡ m = length-map-range_with_len (event n) (100 * k) m in
-      let put = walks_put held (batch n k) s is.0 at is.4 (small k) (omega (arith, count)) (omega (arith, count, room)) in
-      subst (λ (l : List Call). Walks tells s l (IsAt capacity capacity [] [])) (sym is.3)
-      (walks_append tells s is.0 (is.1 ++ is.2) (IsAt capacity (held + length (batch n k)) [] []) (IsAt capacity capacity [] []) put
-      (λ t at'. walks_append tells t is.1 is.2 (IsAt capacity (held + length (batch n k)) [] []) (IsAt capacity capacity [] []) (walks_took (held + length (batch n k)) k taken t is.1 at' is.5)
-      (λ u at''. walks_rounds n (suc k) (held + length (batch n k)) takes u is.2 small at'' is.6 (omega (arith, count, room)))))
+      let more : ℕ = held + length (batch n k) in
+      let here : State → Type 0 = IsAt capacity more [] [] in
+      let end : State → Type 0 = IsAt capacity capacity [] [] in
+      let put = walks_put held (batch n k) s is.0 at is.5 (small k) (omega (arith, count)) (omega (arith, count, room)) in
+      subst (λ (l : List Call). Walks tells s l end) (sym is.4)
+      (walks_append tells s is.0 (is.1 ++ (is.2 ++ is.3)) here end put
+      (λ t at1. walks_append tells t is.1 (is.2 ++ is.3) here end (walks_took more k taken t is.1 at1 is.6)
+      (λ u at2. walks_append tells u is.2 is.3 here end (walks_upkeep more (is_fiftieth (k + 1)) u is.2 at2 is.7)
+      (λ w at3. walks_rounds n (suc k) more takes w is.3 small at3 is.8 (omega (arith, count, room))))))
 
 -- the size of each event
 length_encode : (t bytes : List ℕ) → length (encode_with t bytes) ≡ 2 * length bytes

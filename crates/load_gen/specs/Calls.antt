@@ -1,13 +1,15 @@
 -- What a pass calls, and how one of its calls is refused.
 use Rattle.std.specs.Prelude.{◌≡◌, ◌⊎◌, ◌≤◌, ◌-◌, ◌^◌, ℕ, List, [], ◌∷◌, ◌++◌, map, None, Ok, Err, Bool, true, false}
 use Rattle.channel_face.specs.Faces.{Own, is_spent_begin, is_spent_put, is_spent_stage, is_spent_take}
-use Rattle.channel_face.specs.Machine.{State, Call, BeginPut, BeginTake, Put, Take, StagePut, StageTake, Flush, RollbackPut, RollbackTake, puts_of, takes_of}
-use Rattle.channel_face.specs.declared.replies.FaceRefused.{FaceRefused}
+use Rattle.channel_face.specs.Keeps.{is_spent_check, is_spent_prune}
+use Rattle.channel_face.specs.Machine.{State, Call, BeginPut, BeginTake, Put, Take, StagePut, StageTake, Flush, Checkpoint, Prune, RollbackPut, RollbackTake, puts_of, takes_of}
 use Rattle.channel_face.specs.declared.replies.FaceRefused.TheVariants as Face
 use Rattle.channel_face.specs.declared.replies.FlushRefused.{FlushRefused}
 use Rattle.channel_face.specs.declared.replies.TakeRefused.TheVariants as TakeNo
 use Rattle.channel_lock.specs.Views.{View}
 use Rattle.shared_channel.specs.Ports.{WentBy}
+use Rattle.load_gen.specs.declared.refused.LoadRefused.{LoadRefused}
+use Rattle.load_gen.specs.declared.refused.LoadRefused.TheVariants as Load
 
 -- the calls, without the states and the moments
 abbrev pub calls_of : List Own → List Call
@@ -24,15 +26,17 @@ IsCalled seen true call calls = (calls ≡ []) × (2 ^ 64 - 1026 ≤ seen)
 
 -- In place of this call, which is answered Ok, it was refused with this cause, when so many calls had been counted and the state was this. A
 -- rollback is not refused: where its token is stale it changes nothing, and is not counted.
-abbrev pub IsRefused : ℕ → State → Call → FaceRefused → List Call → Type 0
-IsRefused seen s (BeginPut (Ok token)) (Face.Begin cause) calls = IsCalled seen (is_spent_begin (Err cause)) (BeginPut (Err cause)) calls
-IsRefused seen s (BeginTake (Ok token)) (Face.Begin cause) calls = IsCalled seen (is_spent_begin (Err cause)) (BeginTake (Err cause)) calls
-IsRefused seen s (Put token event (Ok done)) (Face.Put cause) calls = IsCalled seen (is_spent_put (Err cause)) (Put token event (Err cause)) calls
-IsRefused seen s (Take token (Ok taken)) (Face.Take cause) calls = IsCalled seen (is_spent_take (Err cause)) (Take token (Err cause)) calls
-IsRefused seen s (StagePut token (Ok ticket)) (Face.Stage cause) calls = IsCalled seen (is_spent_stage (Err cause)) (StagePut token (Err cause)) calls
-IsRefused seen s (StageTake token (Ok ticket)) (Face.Stage cause) calls = IsCalled seen (is_spent_stage (Err cause)) (StageTake token (Err cause)) calls
-IsRefused seen s (Flush (Ok done)) Face.InDoubt calls = (cause : FlushRefused) × (calls ≡ Flush (Err cause) ∷ [])
-IsRefused seen s (RollbackTake token true) (Face.Take TakeNo.Stale) calls = (calls ≡ []) × (takes_of s token ≡ None)
+abbrev pub IsRefused : ℕ → State → Call → LoadRefused → List Call → Type 0
+IsRefused seen s (BeginPut (Ok token)) (Load.Face (Face.Begin cause)) calls = IsCalled seen (is_spent_begin (Err cause)) (BeginPut (Err cause)) calls
+IsRefused seen s (BeginTake (Ok token)) (Load.Face (Face.Begin cause)) calls = IsCalled seen (is_spent_begin (Err cause)) (BeginTake (Err cause)) calls
+IsRefused seen s (Put token event (Ok done)) (Load.Face (Face.Put cause)) calls = IsCalled seen (is_spent_put (Err cause)) (Put token event (Err cause)) calls
+IsRefused seen s (Take token (Ok taken)) (Load.Face (Face.Take cause)) calls = IsCalled seen (is_spent_take (Err cause)) (Take token (Err cause)) calls
+IsRefused seen s (StagePut token (Ok ticket)) (Load.Face (Face.Stage cause)) calls = IsCalled seen (is_spent_stage (Err cause)) (StagePut token (Err cause)) calls
+IsRefused seen s (StageTake token (Ok ticket)) (Load.Face (Face.Stage cause)) calls = IsCalled seen (is_spent_stage (Err cause)) (StageTake token (Err cause)) calls
+IsRefused seen s (Flush (Ok done)) (Load.Face Face.InDoubt) calls = (cause : FlushRefused) × (calls ≡ Flush (Err cause) ∷ [])
+IsRefused seen s (RollbackTake token true) (Load.Face (Face.Take TakeNo.Stale)) calls = (calls ≡ []) × (takes_of s token ≡ None)
+IsRefused seen s (Checkpoint (Ok done)) (Load.Check cause) calls = IsCalled seen (is_spent_check (Err cause)) (Checkpoint (Err cause)) calls
+IsRefused seen s (Prune (Ok count)) (Load.Prune cause) calls = IsCalled seen (is_spent_prune (Err cause)) (Prune (Err cause)) calls
 IsRefused seen s call cause calls = ⊥
 
 -- this rollback was made, unless its token was stale
@@ -51,8 +55,8 @@ RollsBack call s calls = calls ≡ []
 abbrev pub Begins : (List Call → Type 0) → List Call → Type 0
 Begins P calls = (rest : List Call) × P (calls ++ rest)
 
--- The first calls of some of which P is true, and the next of them was refused with this cause; then its transaction was rolled back.
-pub record IsCutOff (P : List Call → Type 0) (seen : ℕ) (s : State) (cause : FaceRefused) (calls : List Call) : Type 0 where
+-- The first calls of some of which P is true, and the next of them was refused with this cause; then its transaction, if it has one, was rolled back.
+pub record IsCutOff (P : List Call → Type 0) (seen : ℕ) (s : State) (cause : LoadRefused) (calls : List Call) : Type 0 where
   pub front : List Call
   pub next : Call
   pub refused : List Call

@@ -16,8 +16,8 @@ use Rattle.load_gen.specs.declared.refused.LoadRefused.TheVariants.{Face, NoMemo
 -- The calls of which P is true were made, or they were cut off.
 abbrev pub Does : (List Call → Type 0) → ℕ → State → Result (Unit {0}) LoadRefused → List Call → Type 0
 Does P seen s (Ok done) calls = P calls
-Does P seen s (Err (Face cause)) calls = IsCutOff P seen s cause calls
 Does P seen s (Err NoMemory) calls = IsStopped P s calls
+Does P seen s (Err cause) calls = IsCutOff P seen s cause calls
 
 -- a commit of a transaction: its stage, and a flush
 abbrev pub IsCommit : (Result Ticket StageCause → Call) → List Call → Type 0

@@ -4,7 +4,7 @@ use Rattle.std.specs.List.{sum_by}
 use Rattle.std.specs.Global.{Global}
 use Rattle.event_core.specs.Content.{Content}
 use Rattle.channel_face.specs.Token.{Token}
-use Rattle.channel_face.specs.Machine.{State, Call, BeginPut, BeginTake, Put, Take, StagePut, StageTake, Flush, RollbackTake}
+use Rattle.channel_face.specs.Machine.{State, Call, BeginPut, BeginTake, Put, Take, StagePut, StageTake, Flush, Checkpoint, Prune, RollbackTake}
 use Rattle.channel_face.specs.declared.replies.Put.{Put as PutDone}
 use Rattle.channel_face.specs.declared.replies.Taken.{Taken}
 use Rattle.channel_face.specs.declared.replies.Ticket.{Ticket}
@@ -13,7 +13,7 @@ use Rattle.md5.specs.Md5.{md5}
 use Rattle.load_gen.specs.Events.{batch, batches}
 use Rattle.load_gen.specs.Calls.{IsCutOff, IsStopped}
 use Rattle.load_gen.specs.declared.refused.LoadRefused.{LoadRefused}
-use Rattle.load_gen.specs.declared.refused.LoadRefused.TheVariants.{Face, NoMemory}
+use Rattle.load_gen.specs.declared.refused.LoadRefused.TheVariants.{NoMemory}
 
 -- a put of each event, in order
 abbrev pub ArePut : Token → List Content → List Call → Type 0
@@ -49,11 +49,21 @@ IsTaken k events calls =
     (token : Token) × (takes ending : List Call) × AreTaken token 50 events takes × EndsTakes (goes_back (k + 1)) token ending
     × (calls ≡ BeginTake (Ok token) ∷ takes ++ ending)
 
--- From batch k on each batch is put, and then these events are taken.
+-- whether the batch of this number, counted from 1, is one after which the channel is kept
+abbrev pub is_fiftieth : ℕ → Bool
+is_fiftieth number = (number % 50) == 0
+
+-- what keeps the channel after a fiftieth batch: a checkpoint, and then a removal of old files; after any other batch nothing
+abbrev pub IsUpkeep : Bool → List Call → Type 0
+IsUpkeep true calls = (count : ℕ) × (calls ≡ Checkpoint (Ok tt) ∷ Prune (Ok count) ∷ [])
+IsUpkeep false calls = calls ≡ []
+
+-- From batch k on each batch is put, then these events are taken, and then the channel is kept.
 abbrev pub AreRounds : ℕ → ℕ → List (List Content) → List Call → Type 0
 AreRounds n k [] calls = calls ≡ []
 AreRounds n k (taken ∷ takes) calls =
-    (puts took rest : List Call) × (calls ≡ puts ++ (took ++ rest)) × IsPut (batch n k) puts × IsTaken k taken took × AreRounds n (suc k) takes rest
+    (puts took upkeep rest : List Call) × (calls ≡ puts ++ (took ++ (upkeep ++ rest))) × IsPut (batch n k) puts × IsTaken k taken took
+    × IsUpkeep (is_fiftieth (k + 1)) upkeep × AreRounds n (suc k) takes rest
 
 -- the run of n events that takes these after its batches
 abbrev pub IsRunOf : ℕ → List (List Content) → List Call → Type 0
@@ -88,5 +98,5 @@ summary n takes left =
 -- refused; or there was no memory, for an event or for what is said.
 abbrev pub Generates : ℕ → ℕ → State → Result (String Global) LoadRefused → List Call → Type 0
 Generates n seen s (Ok text) calls = (takes : List (List Content)) × IsRunOf n takes calls × (string_bytes text ≡ summary n takes (length s.items))
-Generates n seen s (Err (Face cause)) calls = IsCutOff (IsLoad n) seen s cause calls
 Generates n seen s (Err NoMemory) calls = IsLoad n calls ⊎ IsStopped (IsLoad n) s calls
+Generates n seen s (Err cause) calls = IsCutOff (IsLoad n) seen s cause calls

@@ -3,6 +3,7 @@
 
 mod counting;
 mod events;
+mod keeping;
 mod puts;
 mod refused;
 mod running;
