@@ -1,11 +1,11 @@
 -- Why a file channel that has room for a run's events, and that nobody else calls, refuses one of its calls.
-use Rattle.std.proofs.Common.{◌≡◌, ◌≤◌, ◌+◌, ◌-◌, ◌^◌, ◌++◌, ◌∷◌, [], ℕ, List, length, Option, Some, None, Result, Ok, Err, Bool, true, false, nat_le, nat_lt, if◌then◌else◌, refl, sym, ◌∙◌, ap, subst, arith}
+use Rattle.std.proofs.Common.{◌≡◌, ◌+◌, ◌-◌, ◌^◌, ◌++◌, ◌∷◌, [], ℕ, List, length, Option, Some, None, Ok, Err, Bool, true, false, nat_lt, if◌then◌else◌, refl, sym, ◌∙◌, ap, subst, arith}
 use Rattle.std.proofs.lemmas.Bool.Decides.{nat_tests}
 use Rattle.event_core.specs.Content.{Content}
 use Rattle.channel_face.specs.Token.{Token}
 use Rattle.channel_face.specs.Faces.{is_spent_begin, is_spent_put, is_spent_stage, is_spent_take}
 use Rattle.channel_face.specs.Keeps.{is_spent_check, is_spent_prune}
-use Rattle.channel_face.specs.Machine.{State, Call, Admits, AdmitsBegin, AdmitsPut, AdmitsStage, AdmitsTake, BeginPut, BeginTake, Checkpoint, Flush, Prune, Put, Reopen, RollbackPut, RollbackTake, StagePut, StageTake, Take, put_refusal, puts_of, room_refusal, stage_put_refusal, stage_take_refusal, take_refusal, takes_of, ticket, next_number, size_of_list}
+use Rattle.channel_face.specs.Machine.{State, Call, Admits, BeginPut, BeginTake, Checkpoint, Flush, Prune, Put, Reopen, RollbackPut, RollbackTake, StagePut, StageTake, Take, put_refusal, puts_of, stage_put_refusal, stage_take_refusal, take_refusal, takes_of, ticket, next_number}
 use Rattle.channel_face.specs.declared.replies.BeginRefused.{BeginRefused}
 use Rattle.channel_face.specs.declared.replies.BeginRefused.TheVariants as BeginNo
 use Rattle.channel_face.specs.declared.replies.CheckRefused.{CheckRefused}
@@ -15,8 +15,7 @@ use Rattle.channel_face.specs.declared.replies.FaceRefused.{FaceRefused}
 use Rattle.channel_face.specs.declared.replies.FaceRefused.TheVariants as Face
 use Rattle.channel_face.specs.declared.replies.FlushRefused.{FlushRefused}
 use Rattle.channel_face.specs.declared.replies.FlushRefused.TheVariants as FlushNo
-use Rattle.channel_face.specs.declared.replies.Kind.{Kind}
-use Rattle.channel_face.specs.declared.replies.Kind.TheVariants.{File as OnFile, Memory as InMemory}
+use Rattle.channel_face.specs.declared.replies.Kind.TheVariants.{File as OnFile}
 use Rattle.channel_face.specs.declared.replies.PruneRefused.{PruneRefused}
 use Rattle.channel_face.specs.declared.replies.PruneRefused.TheVariants as PruneNo
 use Rattle.channel_face.specs.declared.replies.PutRefused.{PutRefused}

@@ -1,5 +1,5 @@
 -- What keeps the channel after a fiftieth batch.
-use Rattle.std.proofs.Common.{◌≡◌, ◌++◌, ◌∷◌, [], ℕ, List, length, Result, Ok, Err, Bool, true, false, refl, sym, ap, subst, ◌∙◌}
+use Rattle.std.proofs.Common.{◌≡◌, ◌++◌, ◌∷◌, [], ℕ, List, length, Ok, Err, Bool, true, false, refl, sym, ap, subst, ◌∙◌}
 use Rattle.std.proofs.lemmas.List.{append-nil}
 use Rattle.channel_face.specs.History.{Opening, Step}
 use Rattle.channel_face.specs.Keeps.{is_spent_check, is_spent_prune}

@@ -1,14 +1,14 @@
 -- The states that a run of the generator leads through, on a file channel that has room for its events and that nobody else calls.
-use Rattle.std.proofs.Common.{◌≡◌, ◌⊎◌, inl, inr, ◌<◌, ◌≤◌, ◌+◌, ◌-◌, ◌*◌, ◌^◌, ◌++◌, ◌∷◌, [], ℕ, zero, suc, List, length, length-append, append_assoc, All, min, Option, Some, None, Result, Ok, Err, Bool, true, false, cond, ◌==◌, nat_le, nat_lt, if◌then◌else◌, refl, sym, ◌∙◌, ap, subst, arith}
+use Rattle.std.proofs.Common.{◌≡◌, ◌<◌, ◌≤◌, ◌+◌, ◌-◌, ◌*◌, ◌^◌, ◌++◌, ◌∷◌, [], ℕ, zero, suc, List, length, length-append, append_assoc, All, min, Option, Some, None, Ok, Bool, true, false, ◌==◌, nat_le, refl, sym, ◌∙◌, ap, subst, arith}
 use Rattle.std.proofs.lemmas.List.{append-nil}
 use Rattle.std.proofs.lemmas.Bool.Decides.{nat_tests}
 use Rattle.std.proofs.lemmas.List.Elements.{All-cons, All-head, All-nil, All-tail}
 use Rattle.event_core.specs.Content.{Content, size}
-use Rattle.event_core.specs.Journal.{put_events, left}
+use Rattle.event_core.specs.Journal.{put_events}
 use Rattle.event_core.specs.declared.journal.Entry.{Entry}
 use Rattle.event_core.specs.declared.journal.Entry.TheVariants.{Puts, Takes}
 use Rattle.channel_face.specs.Token.{Token}
-use Rattle.channel_face.specs.Machine.{State, Call, Admits, AdmitsBegin, BeginPut, BeginTake, Checkpoint, Flush, Prune, Put, StagePut, StageTake, Take, RollbackTake, add_put, add_take, after, after_begin, after_stage, after_take, base_of, close, count, entries, entry_of, free, put_refusal, puts_of, settle, settle_if, stage, take_refusal, takes_of, with_entry, without_entry}
+use Rattle.channel_face.specs.Machine.{State, Call, Admits, AdmitsBegin, BeginPut, BeginTake, Checkpoint, Flush, Prune, Put, StagePut, StageTake, Take, RollbackTake, add_put, add_take, after, after_begin, after_take, base_of, close, count, entries, entry_of, free, put_refusal, puts_of, settle, settle_if, stage, take_refusal, takes_of, with_entry}
 use Rattle.channel_face.specs.declared.replies.Kind.TheVariants.{File as OnFile}
 use Rattle.channel_face.specs.declared.replies.Put.{Put as PutDone}
 use Rattle.channel_face.specs.declared.replies.Taken.{Taken}

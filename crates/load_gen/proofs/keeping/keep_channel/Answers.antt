@@ -1,4 +1,4 @@
-use Rattle.std.proofs.Common.{◌≡◌, Bool, true, false, Ok, Err, arith, length, refl, sym, subst, [], ◌∷◌}
+use Rattle.std.proofs.Common.{◌≡◌, Bool, true, false, Err, arith, length, refl, sym, subst, []}
 use Rattle.std.proofs.lemmas.Bool.Decides.{nat_tests}
 use Rattle.shared_channel.specs.Calls.{state_seen}
 use Rattle.load_gen.specs.Calls.{Makes}
