@@ -8,10 +8,14 @@ use Rattle.flume_host.specs.Told.{Tells, Told}
 use Rattle.channel_face.specs.History.{IsRun, Opening, Step, opening}
 use Rattle.channel_face.specs.Machine.{Call}
 use Rattle.channel_face.specs.declared.replies.BeginRefused.TheVariants as BeginNo
+use Rattle.channel_face.specs.declared.replies.CheckRefused.{CheckRefused}
+use Rattle.channel_face.specs.declared.replies.CheckRefused.TheVariants as CheckNo
 use Rattle.channel_face.specs.declared.replies.FaceRefused.{FaceRefused}
 use Rattle.channel_face.specs.declared.replies.FaceRefused.TheVariants as face
 use Rattle.channel_face.specs.declared.replies.OpenCause.{OpenCause}
 use Rattle.channel_face.specs.declared.replies.OpenCause.TheVariants as causes
+use Rattle.channel_face.specs.declared.replies.PruneRefused.{PruneRefused}
+use Rattle.channel_face.specs.declared.replies.PruneRefused.TheVariants as PruneNo
 use Rattle.channel_face.specs.declared.replies.PutRefused.TheVariants as PutNo
 use Rattle.channel_face.specs.declared.replies.StageCause.TheVariants as StageNo
 use Rattle.channel_face.specs.declared.replies.TakeRefused.TheVariants as TakeNo
@@ -71,7 +75,7 @@ RanOn n before after pass (Err (TooMany count)) =
 RanOn n before after pass (Err (Unopened cause)) =
     (pass ≡ None) × (IsLeftClosed before after cause ⊎ ((cause ≡ causes.NoMemory) × IsClosedAtOnce before after (λ start. Unit {0})))
 
--- the status of a run whose generator was refused so
+-- the status of a run whose generator was refused so in a transaction
 abbrev pub face_status : FaceRefused → ℕ
 face_status (face.Begin (BeginNo.Spent counter)) = 4
 face_status (face.Begin BeginNo.NoMemory) = 5
@@ -83,12 +87,28 @@ face_status (face.Take TakeNo.NoMemory) = 5
 face_status (face.Stage (StageNo.Spent counter)) = 4
 face_status why = 3
 
+-- at a checkpoint
+abbrev pub check_status : CheckRefused → ℕ
+check_status (CheckNo.Spent counter) = 4
+check_status why = 3
+
+-- at a removal of old files
+abbrev pub prune_status : PruneRefused → ℕ
+prune_status (PruneNo.Spent counter) = 4
+prune_status why = 3
+
+-- the status of a run whose generator was refused so
+abbrev pub refused_status : LoadRefused → ℕ
+refused_status (load.Face why) = face_status why
+refused_status (load.Check why) = check_status why
+refused_status (load.Prune why) = prune_status why
+refused_status load.NoMemory = 5
+
 -- the status of a run that has no summary for this cause
 abbrev pub unloaded_status : LoadCause → ℕ
 unloaded_status (Unopened cause) = cause_status cause
 unloaded_status (TooMany count) = 4
-unloaded_status (Refused (load.Face why)) = face_status why
-unloaded_status (Refused load.NoMemory) = 5
+unloaded_status (Refused why) = refused_status why
 
 -- the status of a run that came to this, where its summary could be written
 abbrev pub load_status : Result (String Global) LoadCause → ℕ

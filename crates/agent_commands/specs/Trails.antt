@@ -1,8 +1,8 @@
 -- What the calls of a file channel did to its disk, one after another.
-use Rattle.std.specs.Prelude.{◌≡◌, ◌↔◌, ◌≤◌, ℕ, List, [], ◌∷◌, Option, IsSome, Err, false, true}
+use Rattle.std.specs.Prelude.{◌≡◌, ◌↔◌, ◌≤◌, ℕ, List, [], ◌∷◌, Option, IsSome, Err, Bool, false, true}
 use Rattle.flume_host.specs.Told.{Tells, Told, WhereTold, clock}
 use Rattle.channel_face.specs.History.{Opening, Step, opening}
-use Rattle.channel_face.specs.Machine.{State, Call, Put, after, puts_of}
+use Rattle.channel_face.specs.Machine.{State, Call, Checkpoint, Prune, Put, Reopen, after, puts_of}
 use Rattle.channel_face.specs.declared.replies.Counter.TheVariants.{File}
 use Rattle.channel_face.specs.declared.replies.PutRefused.TheVariants as PutNo
 use Rattle.file_channel.specs.Stands.{FileState, StandsOver}
@@ -15,10 +15,17 @@ FindsLog s (Put token event result) told =
     s.broken ≡ false → IsSome (puts_of s token) → WhereTold told (λ t. (result ≡ Err (PutNo.Spent File)) ↔ IsSpentLog t s.rules.limits.max_file)
 FindsLog s call told = Unit {0}
 
--- What a call in this state did to the disk. Unless it came to a flush it left it alone; and whatever a crash then leaves opens to just
--- what is settled, unless the channel is broken.
+-- the call may change the disk: it came to a flush, or it lays a checkpoint, removes old files or opens the folder anew
+abbrev pub may_change : Call → Bool
+may_change (Checkpoint reply) = true
+may_change (Prune reply) = true
+may_change (Reopen reply) = true
+may_change call = flushes call
+
+-- What a call in this state did to the disk. One that may not change it left it alone; and whatever a crash then leaves opens to just what
+-- is settled, unless the channel is broken.
 pub record Touches (s : State) (call : Call) (told told' : Option Told) : Type 0 where
-  pub quiet : flushes call ≡ false → told' ≡ told
+  pub quiet : may_change call ≡ false → told' ≡ told
   pub flushed : flushes call ≡ true → Tells told told' (λ t u. Flushed s t u)
   pub log : FindsLog s call told
   pub rests : Rests told' (after s call)

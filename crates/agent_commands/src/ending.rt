@@ -151,7 +151,7 @@ pub struct LoadEnded {
     pub pass: Option<Pass>,
 }
 
-// What is said of a generator that the channel of this folder refused. A channel that has room and that nobody else calls refuses
+// What is said of a generator that the channel of this folder refused in a transaction. A channel that has room and that nobody else calls refuses
 // it for no other cause than a fault, a number at its end, a damaged event or out of memory.
 fn refused_by(dir: String, refused: FaceRefused) -> RunError
     ensures { status_of result ≡ face_status refused }
@@ -169,6 +169,19 @@ fn refused_by(dir: String, refused: FaceRefused) -> RunError
     }
 }
 
+// What is said of a generator that was refused so on the channel of this folder.
+fn load_refused(dir: String, refused: LoadRefused) -> RunError
+    ensures { status_of result ≡ refused_status refused }
+{
+    match refused {
+        LoadRefused::Face(refused) => refused_by(dir, refused),
+        LoadRefused::Check(CheckRefused::Spent { .. })
+        | LoadRefused::Prune(PruneRefused::Spent { .. }) => RunError::Spent { dir },
+        LoadRefused::Check(_) | LoadRefused::Prune(_) => RunError::Fault,
+        LoadRefused::NoMemory => RunError::NoMemory,
+    }
+}
+
 // Why a run of `load` has no summary.
 fn load_error(alloc: Global, dir: &str, cause: LoadCause) -> Result<RunError, AllocError>
     ensures { IfOk result (λ error. status_of error ≡ unloaded_status cause) }
@@ -182,12 +195,11 @@ fn load_error(alloc: Global, dir: &str, cause: LoadCause) -> Result<RunError, Al
             count,
             capacity,
         },
-        LoadCause::Refused(LoadRefused::Face(refused)) => refused_by(dir, refused),
-        LoadCause::Refused(LoadRefused::NoMemory) => RunError::NoMemory,
+        LoadCause::Refused(refused) => load_refused(dir, refused),
     })
 }
 
-// The exit status of a run of `load` whose generator was refused so.
+// The exit status of a run of `load` whose generator was refused so in a transaction.
 fn face_status(refused: FaceRefused) -> u8
     ensures { result ≡ face_status refused }
 {
@@ -203,6 +215,19 @@ fn face_status(refused: FaceRefused) -> u8
     }
 }
 
+// The exit status of a run of `load` whose generator was refused so.
+fn refused_status(refused: LoadRefused) -> u8
+    ensures { result ≡ refused_status refused }
+{
+    match refused {
+        LoadRefused::Face(refused) => face_status(refused),
+        LoadRefused::Check(CheckRefused::Spent { .. })
+        | LoadRefused::Prune(PruneRefused::Spent { .. }) => 4,
+        LoadRefused::Check(_) | LoadRefused::Prune(_) => 3,
+        LoadRefused::NoMemory => 5,
+    }
+}
+
 // The exit status of a run of `load` without a summary.
 fn unloaded_status(cause: LoadCause) -> u8
     ensures { result ≡ unloaded_status cause }
@@ -211,8 +236,7 @@ fn unloaded_status(cause: LoadCause) -> u8
         LoadCause::Unopened(OpenCause::DiskFault) => 3,
         LoadCause::Unopened(OpenCause::NoMemory) => 5,
         LoadCause::Unopened(_) | LoadCause::TooMany { .. } => 4,
-        LoadCause::Refused(LoadRefused::Face(refused)) => face_status(refused),
-        LoadCause::Refused(LoadRefused::NoMemory) => 5,
+        LoadCause::Refused(refused) => refused_status(refused),
     }
 }
 

@@ -9,8 +9,9 @@ ghost use Rattle.agent_commands.specs.Stored.{default_limits};
 ghost use Rattle.agent_commands.specs.Trails.{StandsTraced};
 
 use channel_face::{
-    BeginRefused, Channel, Counts, FlushRefused, Limits, Put, PutRefused, PutTxn, Settled,
-    StageRefused, TakeRefused, TakeTxn, Taken, Ticket,
+    BeginRefused, Channel, CheckRefused, Counts, Durable, FlushRefused, Limits, OpenCause,
+    PruneRefused, Put, PutRefused, PutTxn, Reopen, Settled, StageRefused, TakeRefused, TakeTxn,
+    Taken, Ticket,
 };
 use event_core::Event;
 use file_channel::{FileChannel, OpenRefused, open_channel};
@@ -188,4 +189,26 @@ impl<D: Disk + Drop> Channel for TracedChannel<D> {
     ghost is_run = { λ c start h stands. stands.stands.run };
 
     ghost tells_as_opened = { λ c start h stands. stands.stands.tells };
+}
+
+impl<D: Disk + Drop> Reopen for TracedChannel<D> {
+    fn reopen<L: Ledger>(&mut self, steps: &mut Steps<L>) -> Result<(), OpenCause> {
+        let reply = self.channel.reopen(steps);
+        self.channel.rests();
+        reply
+    }
+}
+
+impl<D: Disk + Drop> Durable for TracedChannel<D> {
+    fn checkpoint(&mut self) -> Result<(), CheckRefused> {
+        let reply = self.channel.checkpoint();
+        self.channel.rests();
+        reply
+    }
+
+    fn prune(&mut self) -> Result<u64, PruneRefused> {
+        let reply = self.channel.prune();
+        self.channel.rests();
+        reply
+    }
 }
