@@ -13,16 +13,15 @@ use Rattle.channel_writing.specs.Folders.{IsRefused, OpensFrom, OpensOver, Stays
 use Rattle.file_channel.specs.Stands.{FileState}
 use Rattle.channel_laws.proofs.Until.{counted_calls_leave}
 use Rattle.load_gen.specs.declared.refused.LoadRefused.{LoadRefused}
-use Rattle.load_gen.specs.declared.refused.LoadRefused.TheVariants as load
 use Rattle.shared_channel.specs.Passes.{Known}
-use Rattle.agent_commands.specs.Loads.{IsClosedAtOnce, IsLeftClosed, Ran, RanOn, as_cause, load_status}
+use Rattle.agent_commands.specs.Loads.{IsClosedAtOnce, IsLeftClosed, Ran, RanOn, as_cause, load_status, refused_status}
 use Rattle.agent_commands.specs.Piped.{cause_status}
 use Rattle.agent_commands.specs.Puts.{BeginsOver}
 use Rattle.agent_commands.specs.Stored.{IsOfFolder, IsRefusedFolder, IsUnopened, default_limits}
 use Rattle.agent_commands.specs.Trails.{StandsTraced}
 use Rattle.agent_commands.specs.declared.load.LoadCause.{LoadCause}
 use Rattle.agent_commands.specs.declared.load.LoadCause.TheVariants.{Unopened}
-use Rattle.agent_commands.proofs.Loading.{Closing, cause_three, load_three, trail_rests}
+use Rattle.agent_commands.proofs.Loading.{Closing, cause_three, faulty_cause, trail_rests}
 use Rattle.agent_commands.proofs.Outcomes.{same_files, stays, tells_both, untouched}
 
 -- the folder's part, by the generator's answer
@@ -38,10 +37,9 @@ by_three b status before now (inr both) later rose same = record { later = later
 -- the disk's faults, by the generator's answer
 pub ran_faults : (n : ℕ) (before told : Option Told) (faults : ℕ) (start : Opening) (w : Known) (answer : Result (String Global) LoadRefused) → Closing n before told faults start w answer → RisesWhere (load_status (as_cause answer) ≡ 3) start.faults faults
 ran_faults n before told faults start w (Ok text) c = by_three false 0 start.faults faults (inr (refl, λ is. omega (arith, is))) c.later c.rose c.same
-ran_faults n before told faults start w (Err load.NoMemory) c = by_three false 5 start.faults faults (inr (refl, λ is. omega (arith, is))) c.later c.rose c.same
-ran_faults n before told faults start w (Err (load.Face why)) c = by_three (load_three (Err (load.Face why))) (load_status (as_cause (Err (load.Face why)))) start.faults faults which c.later c.rose c.same
+ran_faults n before told faults start w (Err why) c = by_three (faulty_cause why) (refused_status why) start.faults faults which c.later c.rose c.same
   where
-    which : ((load_three (Err (load.Face why)) ≡ true) × (load_status (as_cause (Err (load.Face why))) ≡ 3)) ⊎ ((load_three (Err (load.Face why)) ≡ false) × (load_status (as_cause (Err (load.Face why))) ≢ 3))
+    which : ((faulty_cause why ≡ true) × (refused_status why ≡ 3)) ⊎ ((faulty_cause why ≡ false) × (refused_status why ≢ 3))
     which = elim (cause_three why c.own) [
       | inl both ↦ inl both
       | inr both ↦ inr (both.0, λ is. elim both.1 [ inl four ↦ omega (arith, is, four) | inr five ↦ omega (arith, is, five) ])

@@ -7,14 +7,19 @@ use Rattle.flume_host.specs.Told.{Told}
 use Rattle.atomic_table.specs.Seated.{TableId}
 use Rattle.event_core.specs.Content.{Content}
 use Rattle.channel_face.specs.Faces.{Own, is_spent_begin, is_spent_put, is_spent_stage, is_spent_take}
+use Rattle.channel_face.specs.Keeps.{is_spent_check, is_spent_prune}
 use Rattle.channel_face.specs.History.{IsRun, Opening, Step, opening, state_after}
 use Rattle.channel_face.specs.Machine.{BeginPut, BeginTake, Call, Checkpoint, Flush, Prune, Put, Reopen, Rules, RollbackPut, RollbackTake, StagePut, StageTake, State, Take, after, is_some_of}
 use Rattle.channel_face.specs.Token.{Token}
 use Rattle.channel_face.specs.declared.replies.BeginRefused.TheVariants as BeginNo
+use Rattle.channel_face.specs.declared.replies.CheckRefused.{CheckRefused}
+use Rattle.channel_face.specs.declared.replies.CheckRefused.TheVariants as CheckNo
 use Rattle.channel_face.specs.declared.replies.FaceRefused.{FaceRefused}
 use Rattle.channel_face.specs.declared.replies.FaceRefused.TheVariants as face
 use Rattle.channel_face.specs.declared.replies.FlushRefused.{FlushRefused}
 use Rattle.channel_face.specs.declared.replies.FlushRefused.TheVariants as FlushNo
+use Rattle.channel_face.specs.declared.replies.PruneRefused.{PruneRefused}
+use Rattle.channel_face.specs.declared.replies.PruneRefused.TheVariants as PruneNo
 use Rattle.channel_face.specs.declared.replies.PutRefused.TheVariants as PutNo
 use Rattle.channel_face.specs.declared.replies.StageCause.TheVariants as StageNo
 use Rattle.channel_face.specs.declared.replies.TakeRefused.TheVariants as TakeNo
@@ -22,8 +27,8 @@ use Rattle.channel_writing.specs.Stands.{has_fault, is_fault}
 use Rattle.file_channel.specs.Stands.{FileState}
 use Rattle.channel_writing.specs.Touches.{Rests}
 use Rattle.channel_laws.proofs.Until.{counted_calls_leave}
-use Rattle.load_gen.specs.Calls.{IsBack, IsCalled, IsRefused, Makes, RollsBack, calls_of}
-use Rattle.load_gen.specs.Runs.{ArePut, AreRounds, AreTaken, EndsTakes, Generates, IsLoad, IsPut, IsTaken, goes_back}
+use Rattle.load_gen.specs.Calls.{IsBack, IsCalled, IsCutOff, IsRefused, Makes, RollsBack, calls_of}
+use Rattle.load_gen.specs.Runs.{ArePut, AreRounds, AreTaken, EndsTakes, Generates, IsLoad, IsPut, IsTaken, IsUpkeep, goes_back, is_fiftieth}
 use Rattle.load_gen.specs.States.{IsOwnCause}
 use Rattle.load_gen.specs.declared.refused.LoadRefused.{LoadRefused}
 use Rattle.load_gen.specs.declared.refused.LoadRefused.TheVariants as load
@@ -36,7 +41,7 @@ use Rattle.shared_channel.specs.Calls.{Left, state_seen}
 use Rattle.shared_channel.specs.Counting.{StandsAgreeing}
 use Rattle.shared_channel.specs.Passes.{Known, new_pass}
 use Rattle.shared_channel.specs.Ports.{AreUnder, own_calls, own_if}
-use Rattle.agent_commands.specs.Loads.{Loads, calls_in, face_status}
+use Rattle.agent_commands.specs.Loads.{Loads, calls_in, face_status, refused_status}
 use Rattle.agent_commands.specs.Puts.{BeginsOver}
 use Rattle.agent_commands.specs.Trails.{Trail}
 use Rattle.agent_commands.proofs.Passing.{traced}
@@ -95,10 +100,15 @@ clean_ending false token made is = ap failed is.1
 clean_taken : (k : ℕ) (events : List Content) (made : List Call) → IsTaken k events made → failed made ≡ false
 clean_taken k events made is = ap failed is.5 ∙ failed_append is.1 is.2 (clean_takes is.0 50 events is.1 is.3) ∙ clean_ending (goes_back (k + 1)) is.0 is.2 is.4
 
+clean_upkeep : (fiftieth : Bool) (made : List Call) → IsUpkeep fiftieth made → failed made ≡ false
+clean_upkeep true made is = ap failed is.1
+clean_upkeep false made is = ap failed is
+
 clean_rounds : (n k : ℕ) (takes : List (List Content)) (made : List Call) → AreRounds n k takes made → failed made ≡ false
 clean_rounds n k [] made is = ap failed is
 clean_rounds n k (taken ∷ takes) made is =
-    ap failed is.3 ∙ failed_append is.0 (is.1 ++ is.2) (clean_put _ is.0 is.4) ∙ failed_append is.1 is.2 (clean_taken k taken is.1 is.5) ∙ clean_rounds n (suc k) takes is.2 is.6
+    ap failed is.4 ∙ failed_append is.0 (is.1 ++ (is.2 ++ is.3)) (clean_put _ is.0 is.5) ∙ failed_append is.1 (is.2 ++ is.3) (clean_taken k taken is.1 is.6)
+    ∙ failed_append is.2 is.3 (clean_upkeep (is_fiftieth (k + 1)) is.2 is.7) ∙ clean_rounds n (suc k) takes is.3 is.8
 
 clean_load : (n : ℕ) (made : List Call) → IsLoad n made → failed made ≡ false
 clean_load n made is = clean_rounds n 0 is.0 made is.1.1
@@ -127,131 +137,249 @@ clean_called seen true call made none is = ap failed is.0
 clean_called seen false call made none is = ap failed is ∙ ap (λ b. b || false) none
 
 -- whether a refusal with this cause is a fault of the disk, or of a read
-abbrev pub faulty_cause : FaceRefused → Bool
-faulty_cause (face.Put PutNo.DiskFault) = true
-faulty_cause (face.Take TakeNo.ReadFault) = true
-faulty_cause (face.Take TakeNo.DiskFault) = true
-faulty_cause face.InDoubt = true
+abbrev pub faulty_cause : LoadRefused → Bool
+faulty_cause (load.Face (face.Put PutNo.DiskFault)) = true
+faulty_cause (load.Face (face.Take TakeNo.ReadFault)) = true
+faulty_cause (load.Face (face.Take TakeNo.DiskFault)) = true
+faulty_cause (load.Face face.InDoubt) = true
+faulty_cause (load.Check CheckNo.DiskFault) = true
+faulty_cause (load.Check CheckNo.CheckFault) = true
+faulty_cause (load.Prune PruneNo.DiskFault) = true
 faulty_cause why = false
 
 doubt_fault : (made : List Call) (cause : FlushRefused) → cause ≡ FlushNo.DiskFault → made ≡ Flush (Err cause) ∷ [] → failed made ≡ true
 doubt_fault made cause is e = ap failed e ∙ ap (λ (c : FlushRefused). failed (Flush (Err c) ∷ [])) is
 
--- the refused call failed just where its cause says so
-refused_fault : (tells : Bool) (seen : ℕ) (s end : State) (next : Call) (why : FaceRefused) (made back : List Call) → IsReady s next → AdmitsAll tells s (made ++ back) → IsRefused seen end next why made → IsOwnCause why → failed made ≡ faulty_cause why
-refused_fault tells seen s end (BeginPut (Ok token)) (face.Begin (BeginNo.Spent counter)) made back ready admits refuses own = clean_called seen (is_spent_begin (Err (BeginNo.Spent counter))) (BeginPut (Err (BeginNo.Spent counter))) made refl refuses
-refused_fault tells seen s end (BeginPut (Ok token)) (face.Begin BeginNo.NoMemory) made back ready admits refuses own = ap failed refuses
-refused_fault tells seen s end (BeginPut (Ok token)) (face.Begin BeginNo.Broken) made back ready admits refuses own = absurd own
-refused_fault tells seen s end (BeginPut (Ok token)) (face.Begin (BeginNo.TooManyOpen n)) made back ready admits refuses own = absurd own
-refused_fault tells seen s end (BeginPut (Ok token)) (face.Put why) made back ready admits refuses own = absurd refuses
-refused_fault tells seen s end (BeginPut (Ok token)) (face.Take why) made back ready admits refuses own = absurd refuses
-refused_fault tells seen s end (BeginPut (Ok token)) (face.Stage why) made back ready admits refuses own = absurd refuses
-refused_fault tells seen s end (BeginPut (Ok token)) face.InDoubt made back ready admits refuses own = absurd refuses
-refused_fault tells seen s end (BeginPut (Err other)) why made back ready admits refuses own = absurd refuses
-refused_fault tells seen s end (BeginTake (Ok token)) (face.Begin (BeginNo.Spent counter)) made back ready admits refuses own = clean_called seen (is_spent_begin (Err (BeginNo.Spent counter))) (BeginTake (Err (BeginNo.Spent counter))) made refl refuses
-refused_fault tells seen s end (BeginTake (Ok token)) (face.Begin BeginNo.NoMemory) made back ready admits refuses own = ap failed refuses
-refused_fault tells seen s end (BeginTake (Ok token)) (face.Begin BeginNo.Broken) made back ready admits refuses own = absurd own
-refused_fault tells seen s end (BeginTake (Ok token)) (face.Begin (BeginNo.TooManyOpen n)) made back ready admits refuses own = absurd own
-refused_fault tells seen s end (BeginTake (Ok token)) (face.Put why) made back ready admits refuses own = absurd refuses
-refused_fault tells seen s end (BeginTake (Ok token)) (face.Take why) made back ready admits refuses own = absurd refuses
-refused_fault tells seen s end (BeginTake (Ok token)) (face.Stage why) made back ready admits refuses own = absurd refuses
-refused_fault tells seen s end (BeginTake (Ok token)) face.InDoubt made back ready admits refuses own = absurd refuses
-refused_fault tells seen s end (BeginTake (Err other)) why made back ready admits refuses own = absurd refuses
-refused_fault tells seen s end (Put token e (Ok done)) (face.Begin why) made back ready admits refuses own = absurd refuses
-refused_fault tells seen s end (Put token e (Ok done)) (face.Put (PutNo.Spent counter)) made back ready admits refuses own = clean_called seen (is_spent_put (Err (PutNo.Spent counter))) (Put token e (Err (PutNo.Spent counter))) made refl refuses
-refused_fault tells seen s end (Put token e (Ok done)) (face.Put PutNo.DiskFault) made back ready admits refuses own = ap failed refuses
-refused_fault tells seen s end (Put token e (Ok done)) (face.Put PutNo.NoMemory) made back ready admits refuses own = ap failed refuses
-refused_fault tells seen s end (Put token e (Ok done)) (face.Put PutNo.Stale) made back ready admits refuses own = absurd own
-refused_fault tells seen s end (Put token e (Ok done)) (face.Put PutNo.Broken) made back ready admits refuses own = absurd own
-refused_fault tells seen s end (Put token e (Ok done)) (face.Put (PutNo.TxnFull n)) made back ready admits refuses own = absurd own
-refused_fault tells seen s end (Put token e (Ok done)) (face.Put (PutNo.TooLarge n)) made back ready admits refuses own = absurd own
-refused_fault tells seen s end (Put token e (Ok done)) (face.Put (PutNo.Full n)) made back ready admits refuses own = absurd own
-refused_fault tells seen s end (Put token e (Ok done)) (face.Take why) made back ready admits refuses own = absurd refuses
-refused_fault tells seen s end (Put token e (Ok done)) (face.Stage why) made back ready admits refuses own = absurd refuses
-refused_fault tells seen s end (Put token e (Ok done)) face.InDoubt made back ready admits refuses own = absurd refuses
-refused_fault tells seen s end (Put token e (Err other)) why made back ready admits refuses own = absurd refuses
-refused_fault tells seen s end (Take token (Ok taken)) (face.Begin why) made back ready admits refuses own = absurd refuses
-refused_fault tells seen s end (Take token (Ok taken)) (face.Put why) made back ready admits refuses own = absurd refuses
-refused_fault tells seen s end (Take token (Ok taken)) (face.Take (TakeNo.Spent counter)) made back ready admits refuses own = clean_called seen (is_spent_take (Err (TakeNo.Spent counter))) (Take token (Err (TakeNo.Spent counter))) made refl refuses
-refused_fault tells seen s end (Take token (Ok taken)) (face.Take TakeNo.ReadFault) made back ready admits refuses own = ap failed refuses
-refused_fault tells seen s end (Take token (Ok taken)) (face.Take (TakeNo.Damaged kept found)) made back ready admits refuses own = ap failed refuses
-refused_fault tells seen s end (Take token (Ok taken)) (face.Take TakeNo.DiskFault) made back ready admits refuses own = ap failed refuses
-refused_fault tells seen s end (Take token (Ok taken)) (face.Take TakeNo.NoMemory) made back ready admits refuses own = ap failed refuses
-refused_fault tells seen s end (Take token (Ok taken)) (face.Take TakeNo.Stale) made back ready admits refuses own = absurd own
-refused_fault tells seen s end (Take token (Ok taken)) (face.Take TakeNo.Broken) made back ready admits refuses own = absurd own
-refused_fault tells seen s end (Take token (Ok taken)) (face.Take (TakeNo.TxnFull n)) made back ready admits refuses own = absurd own
-refused_fault tells seen s end (Take token (Ok taken)) (face.Stage why) made back ready admits refuses own = absurd refuses
-refused_fault tells seen s end (Take token (Ok taken)) face.InDoubt made back ready admits refuses own = absurd refuses
-refused_fault tells seen s end (Take token (Err other)) why made back ready admits refuses own = absurd refuses
-refused_fault tells seen s end (StagePut token (Ok ticket)) (face.Begin why) made back ready admits refuses own = absurd refuses
-refused_fault tells seen s end (StagePut token (Ok ticket)) (face.Put why) made back ready admits refuses own = absurd refuses
-refused_fault tells seen s end (StagePut token (Ok ticket)) (face.Take why) made back ready admits refuses own = absurd refuses
-refused_fault tells seen s end (StagePut token (Ok ticket)) (face.Stage (StageNo.Spent counter)) made back ready admits refuses own = clean_called seen (is_spent_stage (Err (StageNo.Spent counter))) (StagePut token (Err (StageNo.Spent counter))) made refl refuses
-refused_fault tells seen s end (StagePut token (Ok ticket)) (face.Stage StageNo.Stale) made back ready admits refuses own = absurd own
-refused_fault tells seen s end (StagePut token (Ok ticket)) (face.Stage StageNo.Broken) made back ready admits refuses own = absurd own
-refused_fault tells seen s end (StagePut token (Ok ticket)) (face.Stage (StageNo.Full n)) made back ready admits refuses own = absurd own
-refused_fault tells seen s end (StagePut token (Ok ticket)) face.InDoubt made back ready admits refuses own = absurd refuses
-refused_fault tells seen s end (StagePut token (Err other)) why made back ready admits refuses own = absurd refuses
-refused_fault tells seen s end (StageTake token (Ok ticket)) (face.Begin why) made back ready admits refuses own = absurd refuses
-refused_fault tells seen s end (StageTake token (Ok ticket)) (face.Put why) made back ready admits refuses own = absurd refuses
-refused_fault tells seen s end (StageTake token (Ok ticket)) (face.Take why) made back ready admits refuses own = absurd refuses
-refused_fault tells seen s end (StageTake token (Ok ticket)) (face.Stage (StageNo.Spent counter)) made back ready admits refuses own = clean_called seen (is_spent_stage (Err (StageNo.Spent counter))) (StageTake token (Err (StageNo.Spent counter))) made refl refuses
-refused_fault tells seen s end (StageTake token (Ok ticket)) (face.Stage StageNo.Stale) made back ready admits refuses own = absurd own
-refused_fault tells seen s end (StageTake token (Ok ticket)) (face.Stage StageNo.Broken) made back ready admits refuses own = absurd own
-refused_fault tells seen s end (StageTake token (Ok ticket)) (face.Stage (StageNo.Full n)) made back ready admits refuses own = absurd own
-refused_fault tells seen s end (StageTake token (Ok ticket)) face.InDoubt made back ready admits refuses own = absurd refuses
-refused_fault tells seen s end (StageTake token (Err other)) why made back ready admits refuses own = absurd refuses
-refused_fault tells seen s end (Flush (Ok done)) (face.Begin why) made back ready admits refuses own = absurd refuses
-refused_fault tells seen s end (Flush (Ok done)) (face.Put why) made back ready admits refuses own = absurd refuses
-refused_fault tells seen s end (Flush (Ok done)) (face.Take why) made back ready admits refuses own = absurd refuses
-refused_fault tells seen s end (Flush (Ok done)) (face.Stage why) made back ready admits refuses own = absurd refuses
-refused_fault tells seen s end (Flush (Ok done)) face.InDoubt made back ready admits refuses own = doubt_fault made refuses.0 (flush_fault tells s refuses.0 made back ready refuses.1 admits) refuses.1
-refused_fault tells seen s end (Flush (Err other)) why made back ready admits refuses own = absurd refuses
-refused_fault tells seen s end (RollbackTake token true) (face.Begin why) made back ready admits refuses own = absurd refuses
-refused_fault tells seen s end (RollbackTake token true) (face.Put why) made back ready admits refuses own = absurd refuses
-refused_fault tells seen s end (RollbackTake token true) (face.Take (TakeNo.Spent counter)) made back ready admits refuses own = absurd refuses
-refused_fault tells seen s end (RollbackTake token true) (face.Take TakeNo.ReadFault) made back ready admits refuses own = absurd refuses
-refused_fault tells seen s end (RollbackTake token true) (face.Take (TakeNo.Damaged kept found)) made back ready admits refuses own = absurd refuses
-refused_fault tells seen s end (RollbackTake token true) (face.Take TakeNo.DiskFault) made back ready admits refuses own = absurd refuses
-refused_fault tells seen s end (RollbackTake token true) (face.Take TakeNo.NoMemory) made back ready admits refuses own = absurd refuses
-refused_fault tells seen s end (RollbackTake token true) (face.Take TakeNo.Broken) made back ready admits refuses own = absurd refuses
-refused_fault tells seen s end (RollbackTake token true) (face.Take (TakeNo.TxnFull n)) made back ready admits refuses own = absurd refuses
-refused_fault tells seen s end (RollbackTake token true) (face.Take TakeNo.Stale) made back ready admits refuses own = absurd own
-refused_fault tells seen s end (RollbackTake token true) (face.Stage why) made back ready admits refuses own = absurd refuses
-refused_fault tells seen s end (RollbackTake token true) face.InDoubt made back ready admits refuses own = absurd refuses
-refused_fault tells seen s end (RollbackTake token false) why made back ready admits refuses own = absurd refuses
-refused_fault tells seen s end (RollbackPut token ended) why made back ready admits refuses own = absurd ready
-refused_fault tells seen s end (Checkpoint reply) why made back ready admits refuses own = absurd ready
-refused_fault tells seen s end (Prune reply) why made back ready admits refuses own = absurd ready
-refused_fault tells seen s end (Reopen reply) why made back ready admits refuses own = absurd ready
+-- the refused call failed just where its cause says so: a call of a transaction
+face_fault : (tells : Bool) (seen : ℕ) (s end : State) (next : Call) (why : FaceRefused) (made back : List Call) → IsReady s next → AdmitsAll tells s (made ++ back) → IsRefused seen end next (load.Face why) made → IsOwnCause (load.Face why) → failed made ≡ faulty_cause (load.Face why)
+face_fault tells seen s end (BeginPut (Ok token)) (face.Begin (BeginNo.Spent counter)) made back ready admits refuses own = clean_called seen (is_spent_begin (Err (BeginNo.Spent counter))) (BeginPut (Err (BeginNo.Spent counter))) made refl refuses
+face_fault tells seen s end (BeginPut (Ok token)) (face.Begin BeginNo.NoMemory) made back ready admits refuses own = ap failed refuses
+face_fault tells seen s end (BeginPut (Ok token)) (face.Begin BeginNo.Broken) made back ready admits refuses own = absurd own
+face_fault tells seen s end (BeginPut (Ok token)) (face.Begin (BeginNo.TooManyOpen n)) made back ready admits refuses own = absurd own
+face_fault tells seen s end (BeginPut (Ok token)) (face.Put why) made back ready admits refuses own = absurd refuses
+face_fault tells seen s end (BeginPut (Ok token)) (face.Take why) made back ready admits refuses own = absurd refuses
+face_fault tells seen s end (BeginPut (Ok token)) (face.Stage why) made back ready admits refuses own = absurd refuses
+face_fault tells seen s end (BeginPut (Ok token)) face.InDoubt made back ready admits refuses own = absurd refuses
+face_fault tells seen s end (BeginPut (Err other)) why made back ready admits refuses own = absurd refuses
+face_fault tells seen s end (BeginTake (Ok token)) (face.Begin (BeginNo.Spent counter)) made back ready admits refuses own = clean_called seen (is_spent_begin (Err (BeginNo.Spent counter))) (BeginTake (Err (BeginNo.Spent counter))) made refl refuses
+face_fault tells seen s end (BeginTake (Ok token)) (face.Begin BeginNo.NoMemory) made back ready admits refuses own = ap failed refuses
+face_fault tells seen s end (BeginTake (Ok token)) (face.Begin BeginNo.Broken) made back ready admits refuses own = absurd own
+face_fault tells seen s end (BeginTake (Ok token)) (face.Begin (BeginNo.TooManyOpen n)) made back ready admits refuses own = absurd own
+face_fault tells seen s end (BeginTake (Ok token)) (face.Put why) made back ready admits refuses own = absurd refuses
+face_fault tells seen s end (BeginTake (Ok token)) (face.Take why) made back ready admits refuses own = absurd refuses
+face_fault tells seen s end (BeginTake (Ok token)) (face.Stage why) made back ready admits refuses own = absurd refuses
+face_fault tells seen s end (BeginTake (Ok token)) face.InDoubt made back ready admits refuses own = absurd refuses
+face_fault tells seen s end (BeginTake (Err other)) why made back ready admits refuses own = absurd refuses
+face_fault tells seen s end (Put token e (Ok done)) (face.Begin why) made back ready admits refuses own = absurd refuses
+face_fault tells seen s end (Put token e (Ok done)) (face.Put (PutNo.Spent counter)) made back ready admits refuses own = clean_called seen (is_spent_put (Err (PutNo.Spent counter))) (Put token e (Err (PutNo.Spent counter))) made refl refuses
+face_fault tells seen s end (Put token e (Ok done)) (face.Put PutNo.DiskFault) made back ready admits refuses own = ap failed refuses
+face_fault tells seen s end (Put token e (Ok done)) (face.Put PutNo.NoMemory) made back ready admits refuses own = ap failed refuses
+face_fault tells seen s end (Put token e (Ok done)) (face.Put PutNo.Stale) made back ready admits refuses own = absurd own
+face_fault tells seen s end (Put token e (Ok done)) (face.Put PutNo.Broken) made back ready admits refuses own = absurd own
+face_fault tells seen s end (Put token e (Ok done)) (face.Put (PutNo.TxnFull n)) made back ready admits refuses own = absurd own
+face_fault tells seen s end (Put token e (Ok done)) (face.Put (PutNo.TooLarge n)) made back ready admits refuses own = absurd own
+face_fault tells seen s end (Put token e (Ok done)) (face.Put (PutNo.Full n)) made back ready admits refuses own = absurd own
+face_fault tells seen s end (Put token e (Ok done)) (face.Take why) made back ready admits refuses own = absurd refuses
+face_fault tells seen s end (Put token e (Ok done)) (face.Stage why) made back ready admits refuses own = absurd refuses
+face_fault tells seen s end (Put token e (Ok done)) face.InDoubt made back ready admits refuses own = absurd refuses
+face_fault tells seen s end (Put token e (Err other)) why made back ready admits refuses own = absurd refuses
+face_fault tells seen s end (Take token (Ok taken)) (face.Begin why) made back ready admits refuses own = absurd refuses
+face_fault tells seen s end (Take token (Ok taken)) (face.Put why) made back ready admits refuses own = absurd refuses
+face_fault tells seen s end (Take token (Ok taken)) (face.Take (TakeNo.Spent counter)) made back ready admits refuses own = clean_called seen (is_spent_take (Err (TakeNo.Spent counter))) (Take token (Err (TakeNo.Spent counter))) made refl refuses
+face_fault tells seen s end (Take token (Ok taken)) (face.Take TakeNo.ReadFault) made back ready admits refuses own = ap failed refuses
+face_fault tells seen s end (Take token (Ok taken)) (face.Take (TakeNo.Damaged kept found)) made back ready admits refuses own = ap failed refuses
+face_fault tells seen s end (Take token (Ok taken)) (face.Take TakeNo.DiskFault) made back ready admits refuses own = ap failed refuses
+face_fault tells seen s end (Take token (Ok taken)) (face.Take TakeNo.NoMemory) made back ready admits refuses own = ap failed refuses
+face_fault tells seen s end (Take token (Ok taken)) (face.Take TakeNo.Stale) made back ready admits refuses own = absurd own
+face_fault tells seen s end (Take token (Ok taken)) (face.Take TakeNo.Broken) made back ready admits refuses own = absurd own
+face_fault tells seen s end (Take token (Ok taken)) (face.Take (TakeNo.TxnFull n)) made back ready admits refuses own = absurd own
+face_fault tells seen s end (Take token (Ok taken)) (face.Stage why) made back ready admits refuses own = absurd refuses
+face_fault tells seen s end (Take token (Ok taken)) face.InDoubt made back ready admits refuses own = absurd refuses
+face_fault tells seen s end (Take token (Err other)) why made back ready admits refuses own = absurd refuses
+face_fault tells seen s end (StagePut token (Ok ticket)) (face.Begin why) made back ready admits refuses own = absurd refuses
+face_fault tells seen s end (StagePut token (Ok ticket)) (face.Put why) made back ready admits refuses own = absurd refuses
+face_fault tells seen s end (StagePut token (Ok ticket)) (face.Take why) made back ready admits refuses own = absurd refuses
+face_fault tells seen s end (StagePut token (Ok ticket)) (face.Stage (StageNo.Spent counter)) made back ready admits refuses own = clean_called seen (is_spent_stage (Err (StageNo.Spent counter))) (StagePut token (Err (StageNo.Spent counter))) made refl refuses
+face_fault tells seen s end (StagePut token (Ok ticket)) (face.Stage StageNo.Stale) made back ready admits refuses own = absurd own
+face_fault tells seen s end (StagePut token (Ok ticket)) (face.Stage StageNo.Broken) made back ready admits refuses own = absurd own
+face_fault tells seen s end (StagePut token (Ok ticket)) (face.Stage (StageNo.Full n)) made back ready admits refuses own = absurd own
+face_fault tells seen s end (StagePut token (Ok ticket)) face.InDoubt made back ready admits refuses own = absurd refuses
+face_fault tells seen s end (StagePut token (Err other)) why made back ready admits refuses own = absurd refuses
+face_fault tells seen s end (StageTake token (Ok ticket)) (face.Begin why) made back ready admits refuses own = absurd refuses
+face_fault tells seen s end (StageTake token (Ok ticket)) (face.Put why) made back ready admits refuses own = absurd refuses
+face_fault tells seen s end (StageTake token (Ok ticket)) (face.Take why) made back ready admits refuses own = absurd refuses
+face_fault tells seen s end (StageTake token (Ok ticket)) (face.Stage (StageNo.Spent counter)) made back ready admits refuses own = clean_called seen (is_spent_stage (Err (StageNo.Spent counter))) (StageTake token (Err (StageNo.Spent counter))) made refl refuses
+face_fault tells seen s end (StageTake token (Ok ticket)) (face.Stage StageNo.Stale) made back ready admits refuses own = absurd own
+face_fault tells seen s end (StageTake token (Ok ticket)) (face.Stage StageNo.Broken) made back ready admits refuses own = absurd own
+face_fault tells seen s end (StageTake token (Ok ticket)) (face.Stage (StageNo.Full n)) made back ready admits refuses own = absurd own
+face_fault tells seen s end (StageTake token (Ok ticket)) face.InDoubt made back ready admits refuses own = absurd refuses
+face_fault tells seen s end (StageTake token (Err other)) why made back ready admits refuses own = absurd refuses
+face_fault tells seen s end (Flush (Ok done)) (face.Begin why) made back ready admits refuses own = absurd refuses
+face_fault tells seen s end (Flush (Ok done)) (face.Put why) made back ready admits refuses own = absurd refuses
+face_fault tells seen s end (Flush (Ok done)) (face.Take why) made back ready admits refuses own = absurd refuses
+face_fault tells seen s end (Flush (Ok done)) (face.Stage why) made back ready admits refuses own = absurd refuses
+face_fault tells seen s end (Flush (Ok done)) face.InDoubt made back ready admits refuses own = doubt_fault made refuses.0 (flush_fault tells s refuses.0 made back ready refuses.1 admits) refuses.1
+face_fault tells seen s end (Flush (Err other)) why made back ready admits refuses own = absurd refuses
+face_fault tells seen s end (RollbackTake token true) (face.Begin why) made back ready admits refuses own = absurd refuses
+face_fault tells seen s end (RollbackTake token true) (face.Put why) made back ready admits refuses own = absurd refuses
+face_fault tells seen s end (RollbackTake token true) (face.Take (TakeNo.Spent counter)) made back ready admits refuses own = absurd refuses
+face_fault tells seen s end (RollbackTake token true) (face.Take TakeNo.ReadFault) made back ready admits refuses own = absurd refuses
+face_fault tells seen s end (RollbackTake token true) (face.Take (TakeNo.Damaged kept found)) made back ready admits refuses own = absurd refuses
+face_fault tells seen s end (RollbackTake token true) (face.Take TakeNo.DiskFault) made back ready admits refuses own = absurd refuses
+face_fault tells seen s end (RollbackTake token true) (face.Take TakeNo.NoMemory) made back ready admits refuses own = absurd refuses
+face_fault tells seen s end (RollbackTake token true) (face.Take TakeNo.Broken) made back ready admits refuses own = absurd refuses
+face_fault tells seen s end (RollbackTake token true) (face.Take (TakeNo.TxnFull n)) made back ready admits refuses own = absurd refuses
+face_fault tells seen s end (RollbackTake token true) (face.Take TakeNo.Stale) made back ready admits refuses own = absurd own
+face_fault tells seen s end (RollbackTake token true) (face.Stage why) made back ready admits refuses own = absurd refuses
+face_fault tells seen s end (RollbackTake token true) face.InDoubt made back ready admits refuses own = absurd refuses
+face_fault tells seen s end (RollbackTake token false) why made back ready admits refuses own = absurd refuses
+face_fault tells seen s end (RollbackPut token ended) why made back ready admits refuses own = absurd ready
+face_fault tells seen s end (Checkpoint (Ok done)) (face.Begin why) made back ready admits refuses own = absurd refuses
+face_fault tells seen s end (Checkpoint (Ok done)) (face.Put why) made back ready admits refuses own = absurd refuses
+face_fault tells seen s end (Checkpoint (Ok done)) (face.Take why) made back ready admits refuses own = absurd refuses
+face_fault tells seen s end (Checkpoint (Ok done)) (face.Stage why) made back ready admits refuses own = absurd refuses
+face_fault tells seen s end (Checkpoint (Ok done)) face.InDoubt made back ready admits refuses own = absurd refuses
+face_fault tells seen s end (Checkpoint (Err other)) why made back ready admits refuses own = absurd refuses
+face_fault tells seen s end (Prune (Ok count)) (face.Begin why) made back ready admits refuses own = absurd refuses
+face_fault tells seen s end (Prune (Ok count)) (face.Put why) made back ready admits refuses own = absurd refuses
+face_fault tells seen s end (Prune (Ok count)) (face.Take why) made back ready admits refuses own = absurd refuses
+face_fault tells seen s end (Prune (Ok count)) (face.Stage why) made back ready admits refuses own = absurd refuses
+face_fault tells seen s end (Prune (Ok count)) face.InDoubt made back ready admits refuses own = absurd refuses
+face_fault tells seen s end (Prune (Err other)) why made back ready admits refuses own = absurd refuses
+face_fault tells seen s end (Reopen reply) why made back ready admits refuses own = absurd ready
+
+-- a checkpoint
+laid_fault : (seen : ℕ) (why : CheckRefused) (made : List Call) → IsCalled seen (is_spent_check (Err why)) (Checkpoint (Err why)) made → IsOwnCause (load.Check why) → failed made ≡ faulty_cause (load.Check why)
+laid_fault seen (CheckNo.Spent counter) made refuses own = clean_called seen (is_spent_check (Err (CheckNo.Spent counter))) (Checkpoint (Err (CheckNo.Spent counter))) made refl refuses
+laid_fault seen CheckNo.DiskFault made refuses own = ap failed refuses
+laid_fault seen CheckNo.CheckFault made refuses own = ap failed refuses
+laid_fault seen CheckNo.Broken made refuses own = absurd own
+
+check_fault : (seen : ℕ) (s end : State) (next : Call) (why : CheckRefused) (made : List Call) → IsReady s next → IsRefused seen end next (load.Check why) made → IsOwnCause (load.Check why) → failed made ≡ faulty_cause (load.Check why)
+check_fault seen s end (BeginPut (Ok done)) why made ready refuses own = absurd refuses
+check_fault seen s end (BeginPut (Err other)) why made ready refuses own = absurd refuses
+check_fault seen s end (BeginTake (Ok done)) why made ready refuses own = absurd refuses
+check_fault seen s end (BeginTake (Err other)) why made ready refuses own = absurd refuses
+check_fault seen s end (Put token e (Ok done)) why made ready refuses own = absurd refuses
+check_fault seen s end (Put token e (Err other)) why made ready refuses own = absurd refuses
+check_fault seen s end (Take token (Ok done)) why made ready refuses own = absurd refuses
+check_fault seen s end (Take token (Err other)) why made ready refuses own = absurd refuses
+check_fault seen s end (StagePut token (Ok done)) why made ready refuses own = absurd refuses
+check_fault seen s end (StagePut token (Err other)) why made ready refuses own = absurd refuses
+check_fault seen s end (StageTake token (Ok done)) why made ready refuses own = absurd refuses
+check_fault seen s end (StageTake token (Err other)) why made ready refuses own = absurd refuses
+check_fault seen s end (Flush (Ok done)) why made ready refuses own = absurd refuses
+check_fault seen s end (Flush (Err other)) why made ready refuses own = absurd refuses
+check_fault seen s end (RollbackTake token true) why made ready refuses own = absurd refuses
+check_fault seen s end (RollbackTake token false) why made ready refuses own = absurd refuses
+check_fault seen s end (Checkpoint (Ok done)) why made ready refuses own = laid_fault seen why made refuses own
+check_fault seen s end (Checkpoint (Err other)) why made ready refuses own = absurd refuses
+check_fault seen s end (Prune (Ok done)) why made ready refuses own = absurd refuses
+check_fault seen s end (Prune (Err other)) why made ready refuses own = absurd refuses
+check_fault seen s end (RollbackPut token ended) why made ready refuses own = absurd ready
+check_fault seen s end (Reopen reply) why made ready refuses own = absurd ready
+
+-- a removal of old files
+pruned_fault : (seen : ℕ) (why : PruneRefused) (made : List Call) → IsCalled seen (is_spent_prune (Err why)) (Prune (Err why)) made → IsOwnCause (load.Prune why) → failed made ≡ faulty_cause (load.Prune why)
+pruned_fault seen (PruneNo.Spent counter) made refuses own = clean_called seen (is_spent_prune (Err (PruneNo.Spent counter))) (Prune (Err (PruneNo.Spent counter))) made refl refuses
+pruned_fault seen PruneNo.DiskFault made refuses own = ap failed refuses
+pruned_fault seen PruneNo.Broken made refuses own = absurd own
+
+prune_fault : (seen : ℕ) (s end : State) (next : Call) (why : PruneRefused) (made : List Call) → IsReady s next → IsRefused seen end next (load.Prune why) made → IsOwnCause (load.Prune why) → failed made ≡ faulty_cause (load.Prune why)
+prune_fault seen s end (BeginPut (Ok done)) why made ready refuses own = absurd refuses
+prune_fault seen s end (BeginPut (Err other)) why made ready refuses own = absurd refuses
+prune_fault seen s end (BeginTake (Ok done)) why made ready refuses own = absurd refuses
+prune_fault seen s end (BeginTake (Err other)) why made ready refuses own = absurd refuses
+prune_fault seen s end (Put token e (Ok done)) why made ready refuses own = absurd refuses
+prune_fault seen s end (Put token e (Err other)) why made ready refuses own = absurd refuses
+prune_fault seen s end (Take token (Ok done)) why made ready refuses own = absurd refuses
+prune_fault seen s end (Take token (Err other)) why made ready refuses own = absurd refuses
+prune_fault seen s end (StagePut token (Ok done)) why made ready refuses own = absurd refuses
+prune_fault seen s end (StagePut token (Err other)) why made ready refuses own = absurd refuses
+prune_fault seen s end (StageTake token (Ok done)) why made ready refuses own = absurd refuses
+prune_fault seen s end (StageTake token (Err other)) why made ready refuses own = absurd refuses
+prune_fault seen s end (Flush (Ok done)) why made ready refuses own = absurd refuses
+prune_fault seen s end (Flush (Err other)) why made ready refuses own = absurd refuses
+prune_fault seen s end (RollbackTake token true) why made ready refuses own = absurd refuses
+prune_fault seen s end (RollbackTake token false) why made ready refuses own = absurd refuses
+prune_fault seen s end (Checkpoint (Ok done)) why made ready refuses own = absurd refuses
+prune_fault seen s end (Checkpoint (Err other)) why made ready refuses own = absurd refuses
+prune_fault seen s end (Prune (Ok done)) why made ready refuses own = pruned_fault seen why made refuses own
+prune_fault seen s end (Prune (Err other)) why made ready refuses own = absurd refuses
+prune_fault seen s end (RollbackPut token ended) why made ready refuses own = absurd ready
+prune_fault seen s end (Reopen reply) why made ready refuses own = absurd ready
+
+no_memory_fault : (seen : ℕ) (end : State) (next : Call) (made : List Call) → IsRefused seen end next load.NoMemory made → ⊥
+no_memory_fault seen end (BeginPut (Ok done)) made refuses = refuses
+no_memory_fault seen end (BeginPut (Err other)) made refuses = refuses
+no_memory_fault seen end (BeginTake (Ok done)) made refuses = refuses
+no_memory_fault seen end (BeginTake (Err other)) made refuses = refuses
+no_memory_fault seen end (Put token e (Ok done)) made refuses = refuses
+no_memory_fault seen end (Put token e (Err other)) made refuses = refuses
+no_memory_fault seen end (Take token (Ok done)) made refuses = refuses
+no_memory_fault seen end (Take token (Err other)) made refuses = refuses
+no_memory_fault seen end (StagePut token (Ok done)) made refuses = refuses
+no_memory_fault seen end (StagePut token (Err other)) made refuses = refuses
+no_memory_fault seen end (StageTake token (Ok done)) made refuses = refuses
+no_memory_fault seen end (StageTake token (Err other)) made refuses = refuses
+no_memory_fault seen end (Flush (Ok done)) made refuses = refuses
+no_memory_fault seen end (Flush (Err other)) made refuses = refuses
+no_memory_fault seen end (RollbackTake token true) made refuses = refuses
+no_memory_fault seen end (RollbackTake token false) made refuses = refuses
+no_memory_fault seen end (Checkpoint (Ok done)) made refuses = refuses
+no_memory_fault seen end (Checkpoint (Err other)) made refuses = refuses
+no_memory_fault seen end (Prune (Ok done)) made refuses = refuses
+no_memory_fault seen end (Prune (Err other)) made refuses = refuses
+no_memory_fault seen end (RollbackPut token ended) made refuses = refuses
+no_memory_fault seen end (Reopen reply) made refuses = refuses
+
+refused_fault : (tells : Bool) (seen : ℕ) (s end : State) (next : Call) (why : LoadRefused) (made back : List Call) → IsReady s next → AdmitsAll tells s (made ++ back) → IsRefused seen end next why made → IsOwnCause why → failed made ≡ faulty_cause why
+refused_fault tells seen s end next (load.Face why) made back ready admits refuses own = face_fault tells seen s end next why made back ready admits refuses own
+refused_fault tells seen s end next (load.Check why) made back ready admits refuses own = check_fault seen s end next why made ready refuses own
+refused_fault tells seen s end next (load.Prune why) made back ready admits refuses own = prune_fault seen s end next why made ready refuses own
+refused_fault tells seen s end next load.NoMemory made back ready admits refuses own = absurd (no_memory_fault seen end next made refuses)
 
 -- its status is 3 where it is a fault, and else 4 or 5
-pub cause_three : (why : FaceRefused) → IsOwnCause why → ((faulty_cause why ≡ true) × (face_status why ≡ 3)) ⊎ ((faulty_cause why ≡ false) × ((face_status why ≡ 4) ⊎ (face_status why ≡ 5)))
-cause_three (face.Begin (BeginNo.Spent counter)) own = inr (refl, inl refl)
-cause_three (face.Begin BeginNo.NoMemory) own = inr (refl, inr refl)
-cause_three (face.Begin BeginNo.Broken) own = absurd own
-cause_three (face.Begin (BeginNo.TooManyOpen n)) own = absurd own
-cause_three (face.Put (PutNo.Spent counter)) own = inr (refl, inl refl)
-cause_three (face.Put PutNo.DiskFault) own = inl (refl, refl)
-cause_three (face.Put PutNo.NoMemory) own = inr (refl, inr refl)
-cause_three (face.Put PutNo.Stale) own = absurd own
-cause_three (face.Put PutNo.Broken) own = absurd own
-cause_three (face.Put (PutNo.TxnFull n)) own = absurd own
-cause_three (face.Put (PutNo.TooLarge n)) own = absurd own
-cause_three (face.Put (PutNo.Full n)) own = absurd own
-cause_three (face.Take (TakeNo.Spent counter)) own = inr (refl, inl refl)
-cause_three (face.Take TakeNo.ReadFault) own = inl (refl, refl)
-cause_three (face.Take (TakeNo.Damaged kept found)) own = inr (refl, inl refl)
-cause_three (face.Take TakeNo.DiskFault) own = inl (refl, refl)
-cause_three (face.Take TakeNo.NoMemory) own = inr (refl, inr refl)
-cause_three (face.Take TakeNo.Stale) own = absurd own
-cause_three (face.Take TakeNo.Broken) own = absurd own
-cause_three (face.Take (TakeNo.TxnFull n)) own = absurd own
-cause_three (face.Stage (StageNo.Spent counter)) own = inr (refl, inl refl)
-cause_three (face.Stage StageNo.Stale) own = absurd own
-cause_three (face.Stage StageNo.Broken) own = absurd own
-cause_three (face.Stage (StageNo.Full n)) own = absurd own
-cause_three face.InDoubt own = inl (refl, refl)
+abbrev IsThree : Bool → ℕ → Type 0
+IsThree faulty status = ((faulty ≡ true) × (status ≡ 3)) ⊎ ((faulty ≡ false) × ((status ≡ 4) ⊎ (status ≡ 5)))
+
+face_three : (why : FaceRefused) → IsOwnCause (load.Face why) → IsThree (faulty_cause (load.Face why)) (face_status why)
+face_three (face.Begin (BeginNo.Spent counter)) own = inr (refl, inl refl)
+face_three (face.Begin BeginNo.NoMemory) own = inr (refl, inr refl)
+face_three (face.Begin BeginNo.Broken) own = absurd own
+face_three (face.Begin (BeginNo.TooManyOpen n)) own = absurd own
+face_three (face.Put (PutNo.Spent counter)) own = inr (refl, inl refl)
+face_three (face.Put PutNo.DiskFault) own = inl (refl, refl)
+face_three (face.Put PutNo.NoMemory) own = inr (refl, inr refl)
+face_three (face.Put PutNo.Stale) own = absurd own
+face_three (face.Put PutNo.Broken) own = absurd own
+face_three (face.Put (PutNo.TxnFull n)) own = absurd own
+face_three (face.Put (PutNo.TooLarge n)) own = absurd own
+face_three (face.Put (PutNo.Full n)) own = absurd own
+face_three (face.Take (TakeNo.Spent counter)) own = inr (refl, inl refl)
+face_three (face.Take TakeNo.ReadFault) own = inl (refl, refl)
+face_three (face.Take (TakeNo.Damaged kept found)) own = inr (refl, inl refl)
+face_three (face.Take TakeNo.DiskFault) own = inl (refl, refl)
+face_three (face.Take TakeNo.NoMemory) own = inr (refl, inr refl)
+face_three (face.Take TakeNo.Stale) own = absurd own
+face_three (face.Take TakeNo.Broken) own = absurd own
+face_three (face.Take (TakeNo.TxnFull n)) own = absurd own
+face_three (face.Stage (StageNo.Spent counter)) own = inr (refl, inl refl)
+face_three (face.Stage StageNo.Stale) own = absurd own
+face_three (face.Stage StageNo.Broken) own = absurd own
+face_three (face.Stage (StageNo.Full n)) own = absurd own
+face_three face.InDoubt own = inl (refl, refl)
+
+pub cause_three : (why : LoadRefused) → IsOwnCause why → IsThree (faulty_cause why) (refused_status why)
+cause_three (load.Face why) own = face_three why own
+cause_three (load.Check (CheckNo.Spent counter)) own = inr (refl, inl refl)
+cause_three (load.Check CheckNo.DiskFault) own = inl (refl, refl)
+cause_three (load.Check CheckNo.CheckFault) own = inl (refl, refl)
+cause_three (load.Check CheckNo.Broken) own = absurd own
+cause_three (load.Prune (PruneNo.Spent counter)) own = inr (refl, inl refl)
+cause_three (load.Prune PruneNo.DiskFault) own = inl (refl, refl)
+cause_three (load.Prune PruneNo.Broken) own = absurd own
+cause_three load.NoMemory own = inr (refl, inr refl)
 
 -- ---- histories
 
@@ -301,17 +429,28 @@ starts_at before start begins = record {
 -- what a run's answer says of faults
 abbrev pub load_three : Result (String Global) LoadRefused → Bool
 load_three (Ok text) = false
-load_three (Err load.NoMemory) = false
-load_three (Err (load.Face why)) = faulty_cause why
+load_three (Err why) = faulty_cause why
 
 -- the generator's cause, where it was refused, is of its own
 abbrev pub IsOwnAnswer : Result (String Global) LoadRefused → Type 0
-IsOwnAnswer (Err (load.Face why)) = IsOwnCause why
-IsOwnAnswer answer = Unit {0}
+IsOwnAnswer (Ok text) = Unit {0}
+IsOwnAnswer (Err why) = IsOwnCause why
 
 abbrev pub EndsWell : Result (String Global) LoadRefused → State → Type 0
 EndsWell (Ok text) s = (s.staged ≡ []) × (s.broken ≡ false)
 EndsWell (Err why) s = Unit {0}
+
+-- What a run that was cut off says of the calls of a whole history, from a channel with room on.
+judged_cut : (tells : Bool) (n held seen : ℕ) (s : State) (why : LoadRefused) (made : List Call) → n < 2 ^ 32 → IsAt 1000000 held [] [] s → held + n ≤ 1000000 → AdmitsAll tells s made → IsCutOff (IsLoad n) seen (after_all s made) why made → IsOwnCause why × (failed made ≡ faulty_cause why) × Unit {0}
+judged_cut tells n held seen s why made fits at room admits is =
+    let split = admits_split tells s is.front (is.refused ++ is.back) (subst (AdmitsAll tells s) is.whole admits) in
+    let t = after_all s is.front in
+    let ready : IsReady t is.next = walk_to tells s is.front is.goes.0 is.next (IsAt 1000000 1000000 [] []) (walks_load tells 1000000 n held s ((is.front ++ is.next ∷ []) ++ is.goes.0) fits at room is.goes.1) split.0 in
+    let ends : after_all t (is.refused ++ is.back) ≡ after_all s made = sym (ap (after_all s) is.whole ∙ after_append s is.front (is.refused ++ is.back)) in
+    let own = own_cause tells seen t (after_all s made) is.next why is.refused is.back ready split.1 ends is.refuses is.rolls in
+    let clean = clean_front is.front (is.next ∷ []) (clean_front (is.front ++ is.next ∷ []) is.goes.0 (clean_load n _ is.goes.1)) in
+    let its = refused_fault tells seen t (after_all s made) is.next why is.refused is.back ready split.1 is.refuses own in
+    (own, ap failed is.whole ∙ failed_append is.front (is.refused ++ is.back) clean ∙ failed_then is.refused is.back (clean_rolled is.next (after_all s made) is.back is.rolls) ∙ its, tt)
 
 -- What an answer says of the calls of a whole history, from a channel with room on.
 judged : (tells : Bool) (n held seen : ℕ) (s : State) (answer : Result (String Global) LoadRefused) (made : List Call) → n < 2 ^ 32 → IsAt 1000000 held [] [] s → held + n ≤ 1000000 → AdmitsAll tells s made → Generates n seen (after_all s made) answer made
@@ -323,15 +462,9 @@ judged tells n held seen s (Err load.NoMemory) made fits at room admits (inl is)
 judged tells n held seen s (Err load.NoMemory) made fits at room admits (inr is) =
     let clean = clean_front is.front (is.next ∷ []) (clean_front (is.front ++ is.next ∷ []) is.goes.0 (clean_load n _ is.goes.1)) in
     (tt, ap failed is.whole ∙ failed_append is.front is.back clean ∙ clean_rolled is.next (after_all s made) is.back is.rolls, tt)
-judged tells n held seen s (Err (load.Face why)) made fits at room admits is =
-    let split = admits_split tells s is.front (is.refused ++ is.back) (subst (AdmitsAll tells s) is.whole admits) in
-    let t = after_all s is.front in
-    let ready : IsReady t is.next = walk_to tells s is.front is.goes.0 is.next (IsAt 1000000 1000000 [] []) (walks_load tells 1000000 n held s ((is.front ++ is.next ∷ []) ++ is.goes.0) fits at room is.goes.1) split.0 in
-    let ends : after_all t (is.refused ++ is.back) ≡ after_all s made = sym (ap (after_all s) is.whole ∙ after_append s is.front (is.refused ++ is.back)) in
-    let own = own_cause tells seen t (after_all s made) is.next why is.refused is.back ready split.1 ends is.refuses is.rolls in
-    let clean = clean_front is.front (is.next ∷ []) (clean_front (is.front ++ is.next ∷ []) is.goes.0 (clean_load n _ is.goes.1)) in
-    let its = refused_fault tells seen t (after_all s made) is.next why is.refused is.back ready split.1 is.refuses own in
-    (own, ap failed is.whole ∙ failed_append is.front (is.refused ++ is.back) clean ∙ failed_then is.refused is.back (clean_rolled is.next (after_all s made) is.back is.rolls) ∙ its, tt)
+judged tells n held seen s (Err (load.Face why)) made fits at room admits is = judged_cut tells n held seen s (load.Face why) made fits at room admits is
+judged tells n held seen s (Err (load.Check why)) made fits at room admits is = judged_cut tells n held seen s (load.Check why) made fits at room admits is
+judged tells n held seen s (Err (load.Prune why)) made fits at room admits is = judged_cut tells n held seen s (load.Prune why) made fits at room admits is
 
 -- what the history of a closed channel says of its folder and of the disk's faults
 pub record Closing (n : ℕ) (before told : Option Told) (faults : ℕ) (start : Opening) (w : Known) (answer : Result (String Global) LoadRefused) : Type 0 where

@@ -10,7 +10,7 @@ use Rattle.channel_writing.specs.Stands.{has_fault, is_fault}
 use Rattle.file_channel.specs.Stands.{FileState, StandsOver}
 use Rattle.channel_writing.specs.Touches.{Flushed, Rests, flushes}
 use Rattle.shared_channel.specs.Counting.{counted_calls, is_counted}
-use Rattle.agent_commands.specs.Trails.{Began, FindsLog, StandsTraced, Touches, Trail}
+use Rattle.agent_commands.specs.Trails.{Began, FindsLog, StandsTraced, Touches, Trail, may_change}
 
 trail_push : (s : State) (told mid told' : Option Told) (h : List Step) (step : Step) → Trail s told h mid → Touches (state_after s h) step.call mid told' → Trail s told (h ++ step ∷ []) told'
 trail_push s told mid told' [] step trail touch = (told', subst (λ (o : Option Told). Touches s step.call o told') trail touch, refl)
@@ -18,7 +18,7 @@ trail_push s told mid told' (x ∷ h) step trail touch = (trail.0, trail.1, trai
 
 -- the channel's next call
 module _ (told told' : Option Told) (faults faults' : ℕ) (c c' : FileState) (call : Call) (moment : ℕ) (step : AddsOne (StandsOver told faults c) (StandsOver told' faults' c') call moment) (rests : Shows (StandsOver told' faults' c') (Rests told')) where
-  pub adds : (flushes call ≡ false → told' ≡ told) → Shows (StandsOver told faults c) (λ s. flushes call ≡ true → Tells told told' (Flushed s)) → Shows (StandsOver told faults c) (λ s. FindsLog s call told)
+  pub adds : (may_change call ≡ false → told' ≡ told) → Shows (StandsOver told faults c) (λ s. flushes call ≡ true → Tells told told' (Flushed s)) → Shows (StandsOver told faults c) (λ s. FindsLog s call told)
       → AddsOne (StandsTraced told faults c) (StandsTraced told' faults' c') call moment
   adds quiet flushed log start h pass st =
       let e : Step = record { pass = pass; call = call; moment = moment } in
@@ -31,12 +31,16 @@ module _ (told told' : Option Told) (faults faults' : ℕ) (c c' : FileState) (c
             (record { quiet = quiet; flushed = flushed start h st.stands; log = log start h st.stands; rests = subst (Rests told') (state-push (opening start) h e) (rests start (h ++ e ∷ []) next) });
       }
 
+  -- which lays a checkpoint, removes old files or opens the folder anew
+  pub adds_keeping : may_change call ≡ true → flushes call ≡ false → ((s : State) → FindsLog s call told) → AddsOne (StandsTraced told faults c) (StandsTraced told' faults' c') call moment
+  adds_keeping may none log = adds (λ no. absurd (true≢false (sym may ∙ no))) (λ start h st yes. absurd (true≢false (sym yes ∙ none))) (λ start h st. log (state_after (opening start) h))
+
   -- which came to no flush
   pub adds_quietly : told' ≡ told → flushes call ≡ false → ((s : State) → FindsLog s call told) → AddsOne (StandsTraced told faults c) (StandsTraced told' faults' c') call moment
   adds_quietly same none log = adds (λ _. same) (λ start h st yes. absurd (true≢false (sym yes ∙ none))) (λ start h st. log (state_after (opening start) h))
 
 -- a call that is not counted changed nothing
-uncounted : (s : State) (call : Call) → is_counted call ≡ false → (after s call ≡ s) × (flushes call ≡ false) × (is_fault call ≡ false)
+uncounted : (s : State) (call : Call) → is_counted call ≡ false → (after s call ≡ s) × (may_change call ≡ false) × (is_fault call ≡ false)
 uncounted s (BeginPut r) not = absurd (true≢false not)
 uncounted s (BeginTake r) not = absurd (true≢false not)
 uncounted s (Put t e r) not = absurd (true≢false not)

@@ -3,7 +3,7 @@ ghost use Rattle.std.specs.Prelude.{◌≡◌, ◌⊎◌, List, ℕ, IfOk, Match
 ghost use Rattle.flume_host.specs.HostState.{ButDisk};
 ghost use Rattle.agent_words.specs.Statuses.{status_of};
 ghost use Rattle.agent_commands.specs.Checked.{Checked, IsCheckStatus};
-ghost use Rattle.agent_commands.specs.Loads.{IsLoadStatus, Loaded, face_status, unloaded_status};
+ghost use Rattle.agent_commands.specs.Loads.{IsLoadStatus, Loaded, face_status, refused_status, unloaded_status};
 ghost use Rattle.agent_commands.specs.Piped.{Piped, IsPipeStatus, cause_status, pipe_status};
 
 use crate::check::{check, print};
@@ -11,7 +11,10 @@ use crate::load::{LoadCause, LoadRun, load};
 use crate::pipe::{PipeEnd, PipeRun, pipe};
 use crate::traced::default_limits;
 use agent_words::RunError;
-use channel_face::{BeginRefused, FaceRefused, OpenCause, PutRefused, StageCause, TakeRefused};
+use channel_face::{
+    BeginRefused, CheckRefused, FaceRefused, OpenCause, PruneRefused, PutRefused, StageCause,
+    TakeRefused,
+};
 use flume_host::Host;
 use line_session::SessionEnd;
 use load_gen::LoadRefused;
@@ -151,8 +154,8 @@ pub struct LoadEnded {
     pub pass: Option<Pass>,
 }
 
-// What is said of a generator that the channel of this folder refused in a transaction. A channel that has room and that nobody else calls refuses
-// it for no other cause than a fault, a number at its end, a damaged event or out of memory.
+// What is said of a generator that the channel of this folder refused in a transaction. A channel that has room and that nobody
+// else calls refuses it for no other cause than a fault, a number at its end, a damaged event or out of memory.
 fn refused_by(dir: String, refused: FaceRefused) -> RunError
     ensures { status_of result ≡ face_status refused }
 {
@@ -169,7 +172,7 @@ fn refused_by(dir: String, refused: FaceRefused) -> RunError
     }
 }
 
-// What is said of a generator that was refused so on the channel of this folder.
+// What is said of a generator that the channel of this folder refused. A channel that was not broken does not break but by a fault.
 fn load_refused(dir: String, refused: LoadRefused) -> RunError
     ensures { status_of result ≡ refused_status refused }
 {
