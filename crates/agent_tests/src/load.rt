@@ -48,7 +48,7 @@ writes events 701\nbatches 8\ncommitted takes 7\ntaken 350\nleft 351\ndigest b23
 input a\n
 run load 10000 d
 status 0
-calls 15586
+calls 15590
 said
 writes events 10000\nbatches 100\ncommitted takes 86\ntaken 4300\nleft 5700\ndigest 102b2759972f32c2342768a2a29c6643\n"#;
 
@@ -91,6 +91,47 @@ said flume: d: holds 1000001, more than 1000000"#;
 #[test]
 fn a_run_goes_on_behind_another_up_to_the_capacity(rt: HostRuntime) -> Result<(), Fail> {
     pass(&rt, rt.alloc(), BEHIND)
+}
+
+const KEPT: &str = r#"No checkpoint before the fiftieth batch.
+input a\n
+run load 4900 d
+status 0
+said
+file check 1 = none
+
+One after it.
+input a\n
+run load 5000 d
+status 0
+calls 7795
+said
+writes events 5000\nbatches 50\ncommitted takes 43\ntaken 2150\nleft 2850\ndigest b0c4196c3d30b713b025efcd669302c9\n
+file check 1 = some
+file check 2 = none
+
+Four checkpoints, of which the newest is left.
+input a\n
+run load 20000 d
+status 0
+calls 31180
+said
+writes events 20000\nbatches 200\ncommitted takes 172\ntaken 8600\nleft 11400\ndigest d5cb3e6212e10f376bef295df4cdd8ec\n
+file log 1 = some
+file log 2 = none
+file check 1 = none
+file check 2 = none
+file check 3 = none
+file check 4 = some
+file check 5 = none
+run load 990000 d
+status 4
+calls 0
+said flume: d: holds 1001400, more than 1000000"#;
+
+#[test]
+fn after_each_fiftieth_batch_the_channel_is_kept(rt: HostRuntime) -> Result<(), Fail> {
+    pass(&rt, rt.alloc(), KEPT)
 }
 
 const STOPPED: &str =

@@ -36,7 +36,7 @@ fn file_of(scene: &Scene, name: FileName) -> Option<&[u8]> {
     scene.host()?.disk("d")?.file(name)
 }
 
-// Whether a file of `d` is so, as `log 1 = BYTES`, or is not there, as `log 1 = none`.
+// Whether a file of `d` is so, as `log 1 = BYTES`, is there, as `log 1 = some`, or is not, as `log 1 = none`.
 fn is_file(scene: &Scene, file: &str) -> bool {
     let Some((name, bytes)) = file.split_once(" = ") else {
         return false;
@@ -45,7 +45,7 @@ fn is_file(scene: &Scene, file: &str) -> bool {
         return false;
     };
     match file_of(scene, name) {
-        Some(found) => are_parts(scene.alloc, found, bytes),
+        Some(found) => bytes == "some" || are_parts(scene.alloc, found, bytes),
         None => bytes == "none",
     }
 }
