@@ -1,8 +1,8 @@
 -- What a run of `check` amounts to over a host.
-use Rattle.std.proofs.Common.{◌≡◌, ◌⊎◌, inl, inr, ℕ, ◌≤◌, length, List, Option, Some, Result, Ok, Err, IsErr, IsErrAnd, refl, ap, subst, ◌∙◌, arith}
+use Rattle.std.proofs.Common.{◌≡◌, ◌⊎◌, inl, inr, ℕ, List, Option, Some, Result, Ok, Err, IsErr, IsErrAnd, refl, ap, subst, ◌∙◌, arith}
 use Rattle.std.specs.Io.KnownBytes.{Appends}
 use Rattle.flume_host.specs.Causes.{Rose}
-use Rattle.flume_host.specs.HostState.{HostState, WasRead, file_limit}
+use Rattle.flume_host.specs.HostState.{HostState, WasRead}
 use Rattle.prop_text.specs.declared.fault.PropRefused.TheVariants as text
 use Rattle.flume_config.specs.declared.plan.Plan.{Plan}
 use Rattle.plan_refused.specs.declared.refused.PlanRefused.TheVariants as plan
@@ -10,7 +10,7 @@ use Rattle.agent_words.specs.Statuses.{status_of}
 use Rattle.agent_words.specs.declared.error.RunError.{RunError}
 use Rattle.agent_words.specs.declared.error.RunError.TheVariants.{Usage, FileTooLarge, Text, NoAgent, Plan as Plan', Fault, BadCheckpoint, BadLog, OverCapacity, Spent, Damaged, NoMemory, InputTooLong, LineTooLong}
 use Rattle.agent_end.specs.Writes.{Fronts}
-use Rattle.agent_commands.specs.Checked.{IsConfigFault, IsPlanIn, IsPlanOf, IsAtFault, IsBeside, Checked, Judges, PlansAgent, Unplanned, end_of, plan_line}
+use Rattle.agent_commands.specs.Checked.{IsConfigFault, IsPlanOf, IsAtFault, IsBeside, Checked, Judges, PlansAgent, Unplanned, end_of, plan_line}
 
 -- a fault of the bytes has the status 2, and out of memory 5
 pub fault_status : (bytes agent : List ℕ) (e : RunError) → IsConfigFault bytes agent e → (status_of e ≡ 2) ⊎ (status_of e ≡ 5)

@@ -1,5 +1,5 @@
 -- What the put transaction of a line did to an idle channel and to its disk.
-use Rattle.std.proofs.Common.{◌≡◌, ◌≢◌, ◌⊎◌, inl, inr, ◌<◌, ◌≤◌, ◌+◌, ◌-◌, ◌^◌, ℕ, List, [], ◌∷◌, ◌++◌, length, Option, Some, None, Result, Ok, Err, Bool, true, false, cond, ◌==◌, refl, sym, ◌∙◌, ap, subst, arith}
+use Rattle.std.proofs.Common.{◌≡◌, inl, inr, ◌<◌, ◌≤◌, ◌+◌, ◌-◌, ◌^◌, ℕ, List, [], ◌∷◌, ◌++◌, length, Option, Some, None, Result, Ok, Err, Bool, true, false, cond, ◌==◌, refl, sym, ◌∙◌, ap, subst, arith}
 use Rattle.std.specs.Prelude.{◌||◌, is_ok}
 use Rattle.std.proofs.lemmas.List.{append-nil}
 use Rattle.std.proofs.lemmas.Bool.Decides.{nat_tests}
@@ -14,7 +14,6 @@ use Rattle.channel_face.specs.Machine.{State, Admits, BeginPut, Call, Flush, Put
 use Rattle.channel_face.specs.declared.replies.BeginRefused.{BeginRefused}
 use Rattle.channel_face.specs.declared.replies.BeginRefused.TheVariants as BeginNo
 use Rattle.channel_face.specs.declared.replies.FaceRefused.{FaceRefused}
-use Rattle.channel_face.specs.declared.replies.FaceRefused.TheVariants as face
 use Rattle.channel_face.specs.declared.replies.FlushRefused.{FlushRefused}
 use Rattle.channel_face.specs.declared.replies.FlushRefused.TheVariants as FlushNo
 use Rattle.channel_face.specs.declared.replies.Put.{Put as PutDone}

@@ -1,12 +1,12 @@
 -- What the lines of a session came to, one after another.
-use Rattle.std.proofs.Common.{◌≡◌, ◌⊎◌, inl, inr, ◌<◌, ◌≤◌, ◌+◌, ◌*◌, ◌-◌, ◌^◌, ℕ, List, [], ◌∷◌, ◌++◌, length, All, Option, Result, Ok, Err, Bool, true, false, refl, sym, ◌∙◌, ap, subst, arith, append_assoc, length-append, append-nil}
+use Rattle.std.proofs.Common.{◌≡◌, inl, inr, ◌<◌, ◌≤◌, ◌*◌, ◌-◌, ◌^◌, ℕ, List, [], ◌∷◌, ◌++◌, length, All, Option, Result, Ok, Err, Bool, true, false, refl, sym, ◌∙◌, ap, subst, arith, append_assoc, length-append, append-nil}
 use Rattle.std.specs.Prelude.{◌||◌}
 use Rattle.std.proofs.lemmas.List.Elements.{All-head, All-tail, All-push}
 use Rattle.flume_host.specs.Told.{Told}
 use Rattle.event_core.specs.Content.{Content}
 use Rattle.event_core.specs.declared.journal.Entry.{Entry}
 use Rattle.channel_face.specs.Token.{Token}
-use Rattle.channel_face.specs.Faces.{ArePut, ArePutUpTo, EndsAs, EndsBegin, EndsPuts, EndsStage, IsMade, IsPutBatch, IsPutRolledBack, IsPutStage, Own, one}
+use Rattle.channel_face.specs.Faces.{ArePut, ArePutUpTo, EndsAs, EndsBegin, EndsPuts, EndsStage, IsMade, IsPutBatch, IsPutRolledBack, IsPutStage, Own}
 use Rattle.channel_face.specs.History.{IsRun, Opening, Step, opening}
 use Rattle.channel_face.specs.Machine.{Call, State, settled}
 use Rattle.channel_face.specs.declared.replies.BeginRefused.{BeginRefused}

@@ -1,4 +1,4 @@
-use Rattle.std.proofs.Common.{List, ℕ, Result, subst}
+use Rattle.std.proofs.Common.{List, ℕ, subst}
 use Rattle.agent_commands.specs.Checked.{Judges}
 use Rattle.agent_commands.proofs.Checks.{judged}
 use Rattle.agent_commands.proofs.check.plan_agent.Goals as goal

@@ -1,4 +1,4 @@
-use Rattle.std.proofs.Common.{◌≡◌, [], refl}
+use Rattle.std.proofs.Common.{refl}
 use Rattle.channel_face.specs.History.{Opening}
 use Rattle.file_channel.specs.Stands.{opened_as}
 use Rattle.agent_commands.proofs.Beginning.{began, tells_as}
