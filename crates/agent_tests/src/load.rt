@@ -113,6 +113,38 @@ fn after_the_fiftieth_batch_the_channel_is_kept(rt: HostRuntime) -> Result<(), F
     pass(&rt, rt.alloc(), KEPT)
 }
 
+const UNLAID: &str =
+    r#"A call of the disk fails while the checkpoint is laid: its file is made, its text is written, its commit byte is opened, for 386, 389, 393
+input a\n
+fails $
+run load 5000 d
+status 3
+calls 7794
+writes
+said flume: fault outside
+file log 1 = some"#;
+
+#[test]
+fn a_failing_checkpoint_stops_a_run(rt: HostRuntime) -> Result<(), Fail> {
+    pass(&rt, rt.alloc(), UNLAID)
+}
+
+const UNPRUNED: &str =
+    r#"A call of the disk fails while old files are looked for: checkpoints, log files, for 394, 395
+input a\n
+fails $
+run load 5000 d
+status 3
+calls 7795
+writes
+said flume: fault outside
+file check 1 = some"#;
+
+#[test]
+fn a_failing_removal_stops_a_run(rt: HostRuntime) -> Result<(), Fail> {
+    pass(&rt, rt.alloc(), UNPRUNED)
+}
+
 const STOPPED: &str =
     r#"Calls of the disk fail: in the opening, in the flush of each batch, and of the takes behind each, for 0, 6, 7, 11, 15, 19
 input a\n
