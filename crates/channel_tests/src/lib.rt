@@ -11,6 +11,8 @@ mod checkpoints;
 #[cfg(test)]
 mod crashes;
 #[cfg(test)]
+mod damaged;
+#[cfg(test)]
 mod events;
 #[cfg(test)]
 mod folders;
