@@ -1,6 +1,6 @@
 -- When an object is added to those that are handed in.
 use Rattle.std.specs.Prelude.{◌≡◌, ◌<◌, ◌≤◌, ◌++◌, ◌∷◌, [], ℕ, List, Result, Ok, Err}
-use Rattle.plan_objects.specs.Named.{Named}
+use Rattle.plan_objects.specs.declared.named.Named.{Named}
 use Rattle.plug_in.specs.declared.plugins.PluginsRefused.{PluginsRefused}
 use Rattle.plug_in.specs.declared.plugins.PluginsRefused.TheVariants.{TooMany, NoMemory}
 

@@ -8,3 +8,4 @@ mod named;
 
 pub use claim::{ClaimRefused, Objects, claim_objects};
 pub use handed::{HandedIn, Plugins};
+pub use named::Named;

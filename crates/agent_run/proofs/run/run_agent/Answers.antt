@@ -2,6 +2,7 @@ use Rattle.std.proofs.Common.{◌≡◌, List, ℕ, codes, sym, subst, ◌∙◌
 use Rattle.flume_host.proofs.Folders.{but_same}
 use Rattle.agent_words.specs.Words.{texts}
 use Rattle.agent_words.proofs.Unique.{one_asked}
+use Rattle.plan_objects.specs.Asks.{first_unmet, names_of}
 use Rattle.agent_commands.specs.Checked.{Checked}
 use Rattle.agent_run.specs.Named.{AgentEnds}
 use Rattle.agent_run.proofs.Answering.{agent_named, never_one}
@@ -24,9 +25,9 @@ returns-in-Ok-Some-Check-clause-checked g c = λ agent file is.
     let same = one_asked (texts c.args.words.now) (codes "check") _ _ agent file (read_some _ _ _ _ c.in-Ok-Some-Check.ensures c.in-Ok-Some-Check.field-0-is c.in-Ok-Some-Check.field-0-0-is) is in
     let n : c.as_str.result.now ≡ agent = c.as_str.ensures.value ∙ same.0 in
     let f : c.as_str-in-Ok-Some-Check.result.now ≡ file = c.as_str-in-Ok-Some-Check.ensures.value ∙ same.1 in
-    let status : c.run_check.result ≡ c.ended.result.status = sym c.ended.ensures.status in
-    let C : List ℕ × (List ℕ × ℕ) → Type 0 = λ x. Checked ((g.H.Host.state c.args.host.now).files x.1.0) x.0 (g.H.Host.state c.args.host.now) (g.H.Host.state c.run_check.new.host) x.1.1 in
-    subst C (λ i. (n i, (f i, status i))) c.run_check.ensures.checked
+    let status : c.run_check-status.result ≡ c.ended.result.status = sym c.ended.ensures.status in
+    let C : List ℕ × (List ℕ × ℕ) → Type 0 = λ x. Checked (first_unmet (names_of c.args.plugins.sinks.items)) ((g.H.Host.state c.args.host.now).files x.1.0) x.0 (g.H.Host.state c.args.host.now) (g.H.Host.state c.run_check-status.new.host) x.1.1 in
+    subst C (λ i. (n i, (f i, status i))) c.run_check-status.ensures.checked
 
 pub returns-in-Ok-None-clause-usage : goal.returns-in-Ok-None-clause-usage
 returns-in-Ok-None-clause-usage g c = λ one. none_runs _ (read_none _ _ c.in-Ok-None.ensures c.in-Ok-None.field-0-is)
@@ -49,7 +50,7 @@ pub returns-in-Ok-Some-Pipe-clause-channels : goal.returns-in-Ok-Some-Pipe-claus
 returns-in-Ok-Some-Pipe-clause-channels g c = λ none load agent. absurd (none _ (read_some _ _ _ _ c.in-Ok-Some-Pipe.ensures c.in-Ok-Some-Pipe.field-0-is c.in-Ok-Some-Pipe.field-0-0-is))
 
 pub returns-in-Ok-Some-Check-clause-others : goal.returns-in-Ok-Some-Check-clause-others
-returns-in-Ok-Some-Check-clause-others g c = λ dir is. but_same _ _ _ c.run_check.ensures.folders
+returns-in-Ok-Some-Check-clause-others g c = λ dir is. but_same _ _ _ c.run_check-status.ensures.folders
 
 pub returns-in-Ok-None-clause-others : goal.returns-in-Ok-None-clause-others
 returns-in-Ok-None-clause-others g c = λ dir is. but_same _ _ _ c.refuse.ensures.folders
@@ -92,7 +93,7 @@ returns-in-Ok-Some-Agent-clause-agent g c = λ name file is.
     let same = one_asked (texts c.args.words.now) (codes "agent") _ _ name file (read_some _ _ _ _ c.in-Ok-Some-Agent.ensures c.in-Ok-Some-Agent.field-0-is c.in-Ok-Some-Agent.field-0-0-is) is in
     let n : c.as_str-in-Ok-Some-Agent.result.now ≡ name = c.as_str-in-Ok-Some-Agent.ensures.value ∙ same.0 in
     let f : c.as_str-in-Ok-Some-Agent-2.result.now ≡ file = c.as_str-in-Ok-Some-Agent-2.ensures.value ∙ same.1 in
-    let C : List ℕ × List ℕ → Type 0 = λ x. AgentEnds ((g.H.Host.state c.args.host.now).files x.1) x.0 c.run_configured.result.status in
+    let C : List ℕ × List ℕ → Type 0 = λ x. AgentEnds (first_unmet (names_of c.args.plugins.sinks.items)) ((g.H.Host.state c.args.host.now).files x.1) x.0 c.run_configured.result.status in
     subst C (λ i. (n i, f i)) c.run_configured.ensures.ends
 
 pub returns-in-Ok-Some-Agent-clause-rolls : goal.returns-in-Ok-Some-Agent-clause-rolls
@@ -132,7 +133,7 @@ pub returns-in-Err-clause-load_others : goal.returns-in-Err-clause-load_others
 returns-in-Err-clause-load_others g c = λ n dir is. but_same _ _ _ c.refuse-in-Err.ensures.folders
 
 pub returns-in-Ok-Some-Check-clause-load_others : goal.returns-in-Ok-Some-Check-clause-load_others
-returns-in-Ok-Some-Check-clause-load_others g c = λ n dir is. but_same _ _ _ c.run_check.ensures.folders
+returns-in-Ok-Some-Check-clause-load_others g c = λ n dir is. but_same _ _ _ c.run_check-status.ensures.folders
 
 pub returns-in-Ok-None-clause-load_others : goal.returns-in-Ok-None-clause-load_others
 returns-in-Ok-None-clause-load_others g c = λ n dir is. but_same _ _ _ c.refuse.ensures.folders
