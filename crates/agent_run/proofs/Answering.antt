@@ -1,5 +1,5 @@
 -- The statuses of a run of `agent`.
-use Rattle.std.proofs.Common.{◌≡◌, ◌⊎◌, inl, inr, ℕ, List, [], Bool, true, false, cond, Option, IfOk, Result, Ok, Err, refl, sym, subst, arith}
+use Rattle.std.proofs.Common.{◌≡◌, ◌⊎◌, inl, inr, ℕ, List, [], Bool, true, false, cond, Option, IfOk, Result, Ok, Err, refl, sym, ap, subst, arith}
 use Rattle.std.specs.declared.alloc.Global.{Global}
 use Rattle.std.specs.declared.vec.Vec.{Vec}
 use Rattle.prop_text.specs.declared.fault.PropRefused.TheVariants as text
@@ -139,6 +139,19 @@ pub not_planned : {channels : List ChannelEnd} (lacks : Lacking) (file : Option 
 not_planned {channels = channels} lacks file agent status n a b same none why folders =
     let no : NoPlan lacks file agent n a b = record { why = why; folders = folders } in
     subst (λ (m : ℕ). DidNotBegin lacks file agent m channels a b) (sym same) (record { none = none; host = plan_host lacks file agent n a b no; why = inl no })
+
+-- there was no memory for the words, and nothing was touched
+pub not_read : {channels : List ChannelEnd} (lacks : Lacking) (file : Option (List ℕ)) (agent : List ℕ) (status : ℕ) (a b : HostTold) → channels ≡ [] → status ≡ 5 → b.state ≡ a.state → b.folders ≡ a.folders
+    → DidNotBegin lacks file agent status channels a b
+not_read lacks file agent status a b none five same folders =
+    let none_planned : Unplanned lacks file agent a.state b.state 5 = record {
+      which = inr (inr refl);
+      fault = λ two. absurd (omega (arith, two));
+      stopped = λ three. absurd (omega (arith, three));
+      well = λ _. ap (λ (s : HostState). s.faults) same;
+      state = (a.state.faults, same);
+    } in
+    not_planned lacks file agent status 5 a b five none none_planned folders
 
 -- a run that began came to the channels that are handed on
 pub came_with : {Ran : Plan → RunEnds → List ChannelEnd → HostTold → HostTold → Type 0} {p : Plan} {status : ℕ} {a b : HostTold} (ends : RunEnds) (before after : Vec ChannelEnd Global)

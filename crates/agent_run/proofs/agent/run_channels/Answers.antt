@@ -87,12 +87,12 @@ run_opened-requires-clause-disks g c κs within =
 
 pub give_all_unused-requires-clause-opened : goal.give_all_unused-requires-clause-opened
 give_all_unused-requires-clause-opened g c κs within =
-    subst (λ (wishes : List ChannelWish). WereOpened wishes c.args.opened.items) (sym c.as_slice-in-Err.ensures.value) c.requires.opened
+    subst (λ (wishes : List ChannelWish). WereOpened wishes c.args.opened.items) (sym c.as_slice.ensures.value) c.requires.opened
 
 pub give_all_unused-requires-clause-out : goal.give_all_unused-requires-clause-out
 give_all_unused-requires-clause-out g c κs within =
     let folders = g.H.Host.folders c.open_outside.new.host in
-    subst (λ (wishes : List ChannelWish). AreOut folders wishes) (sym c.as_slice-in-Err.ensures.value)
+    subst (λ (wishes : List ChannelWish). AreOut folders wishes) (sym c.as_slice.ensures.value)
     (still_out (g.H.Host.folders c.args.host.now) folders c.args.prepared.wishes.items c.open_outside.ensures.disks c.requires.out)
 
 pub returns-in-Err-clause-refused : goal.returns-in-Err-clause-refused
@@ -105,7 +105,7 @@ returns-in-Err-clause-refused g c =
       said = c.name_error.ensures;
       left = left;
       refused = subst (λ (l : List ℕ). OutsideRefused c.args.plan.now l c.in-Err.refused old left) c.as_slice-places.ensures.value c.in-Err.ensures.refused;
-      back = subst (λ (l : List ChannelWish). AreUnused l c.args.opened.items left new) c.as_slice-in-Err.ensures.value c.give_all_unused.ensures;
+      back = subst (λ (l : List ChannelWish). AreUnused l c.args.opened.items left new) c.as_slice.ensures.value c.give_all_unused.ensures;
     }
 
 pub returns-in-Ok-clause-ran : goal.returns-in-Ok-clause-ran

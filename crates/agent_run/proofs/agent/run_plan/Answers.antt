@@ -76,8 +76,8 @@ returns-in-Ok-clause-refused g c =
     (λ error refused. inr (inr (outside_refused plan p.places.items p.wishes.items c.in-Ok.opened.items error old open_then new (_, c.in_ok-prepared.ensures.prepared.wishes) c.in_ok-prepared.ensures.prepared.places opened refused)))
     c.run_channels.ensures.refused
 
-pub returns-clause-refused : goal.returns-clause-refused
-returns-clause-refused g c =
+pub returns-in-Err-clause-refused : goal.returns-in-Err-clause-refused
+returns-in-Err-clause-refused g c =
     let plan = c.args.plan.now in
     let p = c.in_ok-prepared.prepared in
     let state = c.in_ok-prepared.ensures.same ∙ c.frames_of.ensures.state in
