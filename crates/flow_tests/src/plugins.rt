@@ -1,8 +1,8 @@
 // Objects that are handed in.
 use crate::fixtures::{roll_sink, text};
 use event_core::Event;
-use plan_objects::Plugins;
-use plug_in::{EventSink, Intercepted, Interceptor, PluginsRefused, SinkRefused};
+use plan_objects::{Plugins, PluginsRefused};
+use plug_in::{EventSink, Intercepted, Interceptor, SinkRefused};
 use sink_runner::NullSink;
 use std::alloc::Global;
 use std::test::Fail;
