@@ -2,10 +2,10 @@
 ghost use Rattle.std.specs.Prelude.{IfOk};
 ghost use Rattle.line_worker.specs.Workers.{CanServe};
 
+use crate::clock::PausingClock;
 use crate::ports::ScriptPort;
 use crew::{Stop, Work};
 use event_core::Event;
-use flume_host::Clock;
 use host_memory::{MemSink, MemSource};
 use line_session::SessionEnd;
 use line_worker::LineWorker;
@@ -27,26 +27,6 @@ impl Interceptor for Through {
 
     fn intercept(&mut self, event: Event, _moment: u64) -> Intercepted {
         Intercepted::Keep(event)
-    }
-}
-
-// A clock that counts the milliseconds of its pauses.
-#[derive(Drop)]
-struct PausingClock {
-    paused: u64,
-}
-
-impl Clock for PausingClock {
-    ghost use Rattle.std.specs.Prelude.{None};
-
-    ghost moments = { λ c. None };
-
-    fn now(&mut self) -> u64 {
-        0
-    }
-
-    fn pause(&mut self, ms: u32) {
-        self.paused = self.paused.saturating_add(u64::from(ms));
     }
 }
 
