@@ -1,7 +1,8 @@
 // Objects that are handed in.
 use crate::fixtures::{roll_sink, text};
 use event_core::Event;
-use plug_in::{EventSink, Intercepted, Interceptor, Plugins, PluginsRefused, SinkRefused};
+use plan_objects::{Plugins, PluginsRefused};
+use plug_in::{EventSink, Intercepted, Interceptor, SinkRefused};
 use sink_runner::NullSink;
 use std::alloc::Global;
 use std::test::Fail;
