@@ -46,13 +46,13 @@ length_made true s = refl
 length_made false s = refl
 
 -- what a checkpoint that was laid under the lock has is the state that is seen after it
-pub laid_seen : {C : Type 0} (stands : C → Opening → List Step → Type 0) (tells : C → Bool) (table : TableId) (P : State → Type 0) (reply : Result (Unit {0}) CheckRefused) (told : Step) (old new : Holder C) → Holds stands table old → new.seat.me.0 ≡ with_call told old.seat.me.0
-    → told.call ≡ Checkpoint reply → Shows (stands old.home.channel) (λ s. OnOk reply (P (settle s))) → OnOk reply (P (state_seen new.seat.me.0))
-laid_seen stands tells table P (Ok done) told old new holds counted call shows =
+pub laid_seen : {C : Type 0} (stands : C → Opening → List Step → Type 0) (tells : C → Bool) (table : TableId) (P : State → Type 0) (reply : Result (Unit {0}) CheckRefused) (told : Step) (old : Holder C) (v : View) → Holds stands table old → v ≡ with_call told old.seat.me.0
+    → told.call ≡ Checkpoint reply → Shows (stands old.home.channel) (λ s. OnOk reply (P (settle s))) → OnOk reply (P (state_seen v))
+laid_seen stands tells table P (Ok done) told old v holds counted call shows =
     let k = old.seat.me.0 in
-    let settles : state_seen new.seat.me.0 ≡ settle (state_seen k) = ap state_seen counted ∙ (state-push (opening k.base) k.seen told ∙ ap (after (state_seen k)) call) in
+    let settles : state_seen v ≡ settle (state_seen k) = ap state_seen counted ∙ (state-push (opening k.base) k.seen told ∙ ap (after (state_seen k)) call) in
     subst P (sym settles) (shows_seen stands tells table old (λ s. P (settle s)) holds shows)
-laid_seen stands tells table P (Err refused) told old new holds counted call shows = tt
+laid_seen stands tells table P (Err refused) told old v holds counted call shows = tt
 
 -- From the pass before a lock to its views after it, with a reopening or a mend under the lock.
 module _ {C : Type 0} (stands : C → Opening → List Step → Type 0) (tells : C → Bool) (table held : TableId) (number : ℕ) (before after : List View) (p : Known) (is : known table number before ≡ p) (own : has (view_of before).numbers number ≡ true)

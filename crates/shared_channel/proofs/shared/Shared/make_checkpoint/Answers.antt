@@ -15,4 +15,4 @@ pub returns-clause-laid : goal.returns-clause-laid
 returns-clause-laid g c =
     let h = c.args.holder.now in
     let r = c.checkpoint-reply.result in
-    laid_seen g.C.Channel.stands g.C.Channel.tells _ (g.C.is_laid c.checkpoint-reply.new.self) r _ h _ c.requires (ap (λ m. m.0) c.count.ensures.call) refl c.checkpoint-reply.ensures.laid
+    laid_seen g.C.Channel.stands g.C.Channel.tells _ (g.C.Durable.is_laid c.checkpoint-reply.new.self) r _ h _ c.requires (ap (λ m. m.0) c.count.ensures.call) refl c.checkpoint-reply.ensures.laid
