@@ -7,7 +7,7 @@ use Rattle.channel_face.specs.Machine.{State}
 use Rattle.channel_face.specs.declared.replies.CheckRefused.{CheckRefused}
 use Rattle.channel_face.specs.declared.replies.OpenCause.{OpenCause}
 use Rattle.channel_face.specs.declared.replies.PruneRefused.{PruneRefused}
-use Rattle.keep_worker.specs.declared.keep.Upkeep.{Upkeep}
+use Rattle.keep_worker.specs.declared.keeping.Upkeep.{Upkeep}
 use Rattle.keep_worker.specs.Answers.{needs_mend}
 
 -- What a face says of itself: its own calls, what it saw of its channel, how many of the channel's calls it has seen, and which

@@ -1,6 +1,6 @@
 -- What the worker of a channel on a disk needs, and what it did.
 use Rattle.std.specs.Prelude.{◌≡◌, List}
-use Rattle.keep_worker.specs.declared.keep.Upkeep.{Upkeep}
+use Rattle.keep_worker.specs.declared.keeping.Upkeep.{Upkeep}
 use Rattle.keep_worker.specs.declared.worker.KeepWorker.{KeepWorker}
 use Rattle.keep_worker.specs.Rounds.{Face, Rounds}
 

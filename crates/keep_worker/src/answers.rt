@@ -2,7 +2,7 @@
 ghost use Rattle.std.specs.Prelude.{◌≡◌};
 ghost use Rattle.keep_worker.specs.Answers.{needs_mend};
 
-use crate::keep::Upkeep;
+use crate::keeping::Upkeep;
 use channel_face::{CheckRefused, PruneRefused};
 
 /// Whether a call met a broken channel, or broke it.

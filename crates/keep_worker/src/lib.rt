@@ -3,9 +3,10 @@
 #![tactic(auto)]
 
 mod answers;
-mod keep;
+mod keeping;
+mod round;
 mod worker;
 mod working;
 
-pub use keep::{Upkeep, keep};
+pub use keeping::{Upkeep, keep};
 pub use worker::KeepWorker;

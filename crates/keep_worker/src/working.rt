@@ -1,34 +1,15 @@
 // What the worker of a channel on a disk does.
-ghost use Rattle.std.specs.Prelude.{◌≡◌};
 ghost use Rattle.flume_host.specs.Causes.{Rose};
-ghost use Rattle.keep_worker.specs.Rounds.{Round, face};
+ghost use Rattle.keep_worker.specs.Rounds.{face};
 ghost use Rattle.keep_worker.specs.Workers.{CanKeep, KeepRan};
 
-use crate::answers::needs_mend;
-use crate::keep::{Upkeep, keep};
 use crate::worker::KeepWorker;
-use channel_face::{KeepFace, mend};
+use channel_face::KeepFace;
 use crew::{Stop, Watch, Work, rest};
 use flume_host::{Clock, Halt};
 use std::sync::Wait;
 
 impl<F: KeepFace, C: Clock> KeepWorker<F, C> {
-    /// A checkpoint, the removal of old files, and a mend of the channel where one of them met a broken channel or broke it.
-    pub(crate) fn round(&mut self) -> Upkeep
-        requires { CanKeep F.on_disk F.kept self.old }
-        ensures round { Round (face F.own F.saw F.seen F.kept F.on_disk F.saw_laid F.saw_pruned)
-            self.old.port result self.new.port }
-        ensures can { CanKeep F.on_disk F.kept self.new }
-        ensures same { (self.new.channel ≡ self.old.channel)
-            × (self.new.interval ≡ self.old.interval) }
-    {
-        let upkeep = keep(&mut self.port);
-        if needs_mend(&upkeep) {
-            let _mended = mend(&mut self.port);
-        }
-        upkeep
-    }
-
     /// Makes one round after the other until it is told to stop: it pauses for the interval before each, asks between the
     /// pieces of each pause, and ends for nothing else.
     pub fn work_until<R: Wait, H: Halt>(&mut self, rt: &R, halt: &mut H)

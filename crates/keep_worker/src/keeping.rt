@@ -14,13 +14,13 @@ pub struct Upkeep {
 
 /// Lays a checkpoint, and then removes the files that the newest one does not need, whatever the first was answered: files
 /// that an earlier removal left may be there. The channel is on a disk, and no call takes it from there.
-pub fn keep<F: KeepFace>(face: &mut F) -> Upkeep
-    requires here { F.on_disk face.old }
+pub fn keep<F: KeepFace>(port: &mut F) -> Upkeep
+    requires here { F.on_disk port.old }
     requires stays { (first second : F) → F.kept first second → F.on_disk first → F.on_disk second }
     ensures { Keeps (face F.own F.saw F.seen F.kept F.on_disk F.saw_laid F.saw_pruned)
-        face.old result face.new }
+        port.old result port.new }
 {
-    let checked = face.checkpoint();
-    let pruned = face.prune();
+    let checked = port.checkpoint();
+    let pruned = port.prune();
     Upkeep { checked, pruned }
 }
