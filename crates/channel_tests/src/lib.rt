@@ -39,6 +39,8 @@ mod ring;
 #[cfg(test)]
 mod scene;
 #[cfg(test)]
+mod slow;
+#[cfg(test)]
 mod spelled;
 #[cfg(test)]
 mod torn;
