@@ -15,6 +15,8 @@ mod damaged;
 #[cfg(test)]
 mod events;
 #[cfg(test)]
+mod faults;
+#[cfg(test)]
 mod folders;
 #[cfg(test)]
 mod frames;
