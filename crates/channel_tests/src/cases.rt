@@ -77,48 +77,6 @@ fn log_files_leave_what_their_commits_say(rt: HostRuntime) -> Result<(), Fail> {
     pass::<Logs>(rt.alloc(), CASES)
 }
 
-// Up to each length, what is left of two lines.
-const CUTS: &str = r#"A file is cut at each length.
-log 1 header 1 1 1, gate 1, put 1 a, commit-put 1 0 1, end 2, gate 1, put 2 b, commit-put 2 1 1, end 2, gate 0
-whole 115
-cut-to 17 left 0 1
-cut-to 65 bad 1 16
-cut-to 114 bad 1 65
-cut-to 115 left 2 3 0:a 1:b"#;
-
-#[test]
-fn a_file_is_cut_at_each_length(rt: HostRuntime) -> Result<(), Fail> {
-    pass::<Logs>(rt.alloc(), CUTS)
-}
-
-// Up to each offset, what is left where the byte is ff.
-const CHANGES: &str = r#"Each byte of a file is changed.
-log 1 header 1 1 1, gate 1, put 1 a, commit-put 1 0 1, end 2, gate 1, put 2 b, commit-put 2 1 1, end 2, gate 0
-whole 115
-changed-to 15 bad 1 0
-changed-to 16 left 0 1
-changed-to 17 bad 1 16
-changed-to 25 bad 1 39
-changed-to 37 bad 1 16
-changed-to 38 left 2 3 0:\xff 1:b
-changed-to 39 bad 1 16
-changed-to 59 bad 1 39
-changed-to 64 bad 1 16
-changed-to 65 left 1 2 0:a
-changed-to 66 bad 1 65
-changed-to 74 bad 1 88
-changed-to 86 bad 1 65
-changed-to 87 left 2 3 0:a 1:\xff
-changed-to 88 bad 1 65
-changed-to 108 bad 1 88
-changed-to 113 bad 1 65
-changed-to 114 left 2 3 0:a 1:b"#;
-
-#[test]
-fn each_byte_of_a_file_is_changed(rt: HostRuntime) -> Result<(), Fail> {
-    pass::<Logs>(rt.alloc(), CHANGES)
-}
-
 // The file's make, write and sync are recorded calls 0 to 2. The flush's are 3 to 6: it writes the frame, syncs, opens the
 // commit byte and syncs.
 const CRASHES: &str = r#"A crash leaves the frame of a flush or not.

@@ -1,13 +1,54 @@
 // What a crash leaves of a channel that goes on in further log files in the middle of open transactions: at each moment, and in
 // each image of it. A run is a scenario whose lines `left` tell what is settled by then: the bodies that are left, in order. Between
 // two of them a crash leaves the one list or the other.
-use crate::scene::{Channels, fault, has, is_closed, is_opened};
+use crate::scene::{Channels, has, is_closed, is_opened};
 use channel_replay::{WholeFile, recover};
 use flume_host::FileName;
 use host_memory::{MemDisk, Stood};
 use scenarios::{Scene, pass, word_and_rest};
 use std::alloc::{AllocError, Global};
 use std::test::Fail;
+
+/// An opening, two transactions that interleave, a further file, takes, a checkpoint with something staged, a removal, a spill and an
+/// opening anew.
+pub const ALL: &str = r#"Each call that a channel makes of its disk comes.
+limits 10 10 66
+on-disk
+left
+begin-put > token 1
+begin-put > token 2
+put 1 a > done
+put 2 b > done
+commit-put 2 > first 0
+left b
+put 1 c > done
+commit-put 1 > first 1
+left bac
+begin-take > token 3
+take 3 > event b
+take 3 > event a
+stage-take 3 > first 0
+begin-put > token 4
+put 4 d > done
+checkpoint > done
+asked > settled
+left c
+prune > count 1
+left c
+put-bytes 4 1048568 > done
+begin-put > token 5
+put 5 e > done
+stage-put 5 > first 3
+put-bytes 4 1048568 > done
+asked > settled
+left ce
+reopen > done
+left ce
+close
+long 1 none
+holds 2 0 FLUMELOG
+on-disk
+gives ce"#;
 
 const PUTS: &str = r#"Puts are open while the log goes on in two further files.
 limits 10 10 66
@@ -37,7 +78,7 @@ close
 holds 3 0 FLUMELOG
 long 4 none"#;
 
-const TAKES: &str =
+pub const TAKES: &str =
     r#"One take is open while the log goes on in two further files and ends in a third, and one is staged as it goes on.
 limits 10 10 66
 on-disk
@@ -80,7 +121,7 @@ holds 5 0 FLUMELOG
 long 6 none"#;
 
 // A file has room for two frames of a put.
-const TWO_FRAMES: &str =
+pub const TWO_FRAMES: &str =
     r#"Some files have two frames. A flush of two stages begins the second one, with a take that is still open.
 limits 10 10 115
 on-disk
@@ -149,7 +190,7 @@ close
 holds 4 0 FLUMELOG
 long 5 none"#;
 
-const CHECKPOINTS: &str =
+pub const CHECKPOINTS: &str =
     r#"Checkpoints are laid while a put and a take are open, and while something is staged.
 limits 10 10 66
 on-disk
@@ -179,9 +220,10 @@ put 5 d > done
 commit-put 5 > first 3
 left cad
 close
-long check-4 none"#;
+on-disk
+gives cad"#;
 
-const PRUNES: &str =
+pub const PRUNES: &str =
     r#"Old files are removed while a put is open whose record is in a file that the newest checkpoint needs.
 limits 10 10 66
 on-disk
@@ -227,11 +269,11 @@ holds 4 0 FLUMELOG"#;
 // four, so that of two choices that take turns each is of the writes of every other file, where each has one frame.
 const STOOD: [Stood; 4] = [Stood::Old, Stood::New, Stood::Garbage(1), Stood::Front(20)];
 
-// Two lists of bodies, one of which is found.
+/// Two lists of bodies, one of which is found.
 #[derive(Clone, Copy)]
-struct Either<'a> {
-    before: &'a str,
-    after: &'a str,
+pub struct Either<'a> {
+    pub before: &'a str,
+    pub after: &'a str,
 }
 
 /// The log files of a folder.
@@ -267,10 +309,15 @@ fn leave_either(alloc: Global, files: &[WholeFile], either: Either<'_>) -> bool 
     }
 }
 
+/// Whether the channel gives one of two lists. It keeps them.
+pub fn has_either(scene: &mut Channels, either: Either<'_>) -> bool {
+    has(scene, either.before) || has(scene, either.after)
+}
+
 // Whether a channel that opens these files gives one of two lists.
 fn gives_either(scene: &mut Channels, image: MemDisk, either: Either<'_>) -> bool {
     scene.disk = Some(image);
-    is_opened(scene) && (has(scene, either.before) || has(scene, either.after))
+    is_opened(scene) && has_either(scene, either)
 }
 
 // Whether log files alone tell what is left: none of them was removed.
@@ -298,17 +345,17 @@ fn is_left(
     }
 }
 
-// Opens an image, and tells whether the channel gives this list.
-fn opens_and_gives(scene: &mut Channels, disk: &MemDisk, moment: u64, bodies: &str) -> bool {
+// Opens an image, and tells whether the channel gives one of two lists.
+fn opens_and_gives(scene: &mut Channels, disk: &MemDisk, moment: u64, either: Either<'_>) -> bool {
     scene.disk = disk
         .stopped_at(moment, &[Stood::New, Stood::Garbage(1)])
         .ok();
-    scene.disk.is_some() && is_opened(scene) && has(scene, bodies)
+    scene.disk.is_some() && is_opened(scene) && has_either(scene, either)
 }
 
-// Whether a channel that opens an image gives this list.
-fn is_given(alloc: Global, disk: &MemDisk, moment: u64, bodies: &str) -> bool {
-    opens_and_gives(&mut Channels::begin(alloc), disk, moment, bodies)
+// Whether a channel that opens an image gives one of two lists.
+fn is_given(alloc: Global, disk: &MemDisk, moment: u64, either: Either<'_>) -> bool {
+    opens_and_gives(&mut Channels::begin(alloc), disk, moment, either)
 }
 
 // Whether each image of a moment leaves one of two lists. Those that are opened are fewer, since that takes long: of each, what may
@@ -322,19 +369,29 @@ fn is_always_left(alloc: Global, disk: &MemDisk, moment: u64, either: Either<'_>
             }
         }
     }
-    is_given(alloc, disk, moment, either.before) || is_given(alloc, disk, moment, either.after)
+    is_given(alloc, disk, moment, either)
 }
 
-// The lines of a run after its name.
-fn lines_of(run: &str) -> &str {
+/// Whether each image of a moment, of which what may stand is one for all calls, leaves one of two lists.
+pub fn is_left_at(alloc: Global, disk: &MemDisk, moment: u64, either: Either<'_>) -> bool {
+    for stood in &STOOD {
+        if !is_left(alloc, disk, moment, [*stood, *stood], either) {
+            return false;
+        }
+    }
+    true
+}
+
+/// The lines of a run after its name.
+pub fn lines_of(run: &str) -> &str {
     match run.split_once('\n') {
         Some((_, lines)) => lines,
         None => "",
     }
 }
 
-// Makes so many lines of a run, up to the first that does not hold, and tells how many did.
-fn made(scene: &mut Channels, run: &str, most: usize) -> usize {
+/// Makes so many lines of a run, up to the first that does not hold, and tells how many did.
+pub fn made(scene: &mut Channels, run: &str, most: usize) -> usize {
     let mut count: usize = 0;
     for line in lines_of(run).lines() {
         let (word, rest) = word_and_rest(line);
@@ -355,8 +412,8 @@ fn disk_of(scene: &mut Channels, run: &str, count: usize) -> Option<MemDisk> {
     }
 }
 
-// A disk on which so many lines of a run were made.
-fn disk_after(alloc: Global, run: &str, count: usize) -> Option<MemDisk> {
+/// A disk on which so many lines of a run were made.
+pub fn disk_after(alloc: Global, run: &str, count: usize) -> Option<MemDisk> {
     disk_of(&mut Channels::begin(alloc), run, count)
 }
 
@@ -369,15 +426,19 @@ fn wrong_between(alloc: Global, disk: &MemDisk, from: u64, either: Either<'_>) -
             return Some(moment);
         }
     }
-    if is_given(alloc, disk, to, either.after) {
+    let settled = Either {
+        before: either.after,
+        after: either.after,
+    };
+    if is_given(alloc, disk, to, settled) {
         None
     } else {
         Some(to)
     }
 }
 
-// What is left once so many lines were made, and what the next one may have settled.
-fn due(run: &str, made: usize) -> Either<'_> {
+/// What is left once so many lines were made, and what the next one may have settled.
+pub fn due(run: &str, made: usize) -> Either<'_> {
     let mut before = "";
     for (count, line) in lines_of(run).lines().enumerate() {
         let (word, after) = word_and_rest(line);
@@ -421,6 +482,11 @@ fn survive(alloc: Global, run: &str) -> Result<(), Fail> {
 }
 
 #[test]
+fn a_crash_leaves_what_is_settled_in_each_call(rt: HostRuntime) -> Result<(), Fail> {
+    survive(rt.alloc(), ALL)
+}
+
+#[test]
 fn a_crash_leaves_puts_across_files(rt: HostRuntime) -> Result<(), Fail> {
     survive(rt.alloc(), PUTS)
 }
@@ -448,78 +514,4 @@ fn a_crash_leaves_what_is_settled_among_checkpoints(rt: HostRuntime) -> Result<(
 #[test]
 fn a_crash_leaves_what_is_settled_while_files_are_removed(rt: HostRuntime) -> Result<(), Fail> {
     survive(rt.alloc(), PRUNES)
-}
-
-// Whether each image of a disk's end, of which what may stand is one for all calls, leaves one of two lists.
-fn is_left_at_end(alloc: Global, disk: &MemDisk, either: Either<'_>) -> bool {
-    for stood in &STOOD {
-        if !is_left(alloc, disk, disk.moments(), [*stood, *stood], either) {
-            return false;
-        }
-    }
-    true
-}
-
-// Whether the failure of this call of the disk is told, and a crash then leaves all that was settled before. Where it is not told,
-// each line holds up to the one that closes the channel, so that no channel is open.
-fn fails_safely(scene: &mut Channels, run: &str, call: u64) -> bool {
-    let is_set = scene.faults.push(fault(call)).is_ok();
-    let count = made(scene, run, usize::MAX);
-    is_set
-        && is_closed(scene)
-        && match &scene.disk {
-            Some(disk) => is_left_at_end(scene.alloc, disk, due(run, count)),
-            None => false,
-        }
-}
-
-fn is_safe_failing(alloc: Global, run: &str, call: u64) -> bool {
-    fails_safely(&mut Channels::begin(alloc), run, call)
-}
-
-// How many calls of the disk there are once so many lines were made.
-fn calls_after(alloc: Global, run: &str, count: usize) -> Option<u64> {
-    match disk_after(alloc, run, count) {
-        Some(disk) => Some(disk.calls()),
-        None => None,
-    }
-}
-
-// How many lines of a run come before its end.
-fn count_of(run: &str) -> usize {
-    let mut count: usize = 0;
-    for line in lines_of(run).lines() {
-        if line == "close" {
-            return count;
-        }
-        count = count.saturating_add(1);
-    }
-    count
-}
-
-// The first call of the disk, after the opening's, whose failure is not told or loses something, if there is one.
-fn wrong_call(alloc: Global, run: &str) -> Option<u64> {
-    // the opening is the second line
-    let (Some(opened), Some(calls)) = (
-        calls_after(alloc, run, 2),
-        calls_after(alloc, run, count_of(run)),
-    ) else {
-        return Some(0);
-    };
-    for call in opened..calls {
-        if !is_safe_failing(alloc, run, call) {
-            return Some(call);
-        }
-    }
-    None
-}
-
-#[test]
-fn a_failing_call_loses_nothing_across_files(rt: HostRuntime) -> Result<(), Fail> {
-    for run in &[TAKES, TWO_FRAMES, CHECKPOINTS, PRUNES] {
-        if let Some(call) = wrong_call(rt.alloc(), run) {
-            return Err(Fail::new(format_args!("call {call}")));
-        }
-    }
-    Ok(())
 }

@@ -1,4 +1,7 @@
-// A checkpoint that is cut at each length, or of which each byte is changed, beside the log file that it is of.
+// A log file and a checkpoint of it: each is cut at each length, and has each byte set to ff. What is read of them is given by rows,
+// each up to a length or an offset, and by a slow reading.
+use crate::logs::leaves;
+use crate::slow::said_by;
 use crate::spelled::spelled;
 use checkpoint_reading::{CheckReadRefused, newest};
 use flume_host::FileName;
@@ -7,8 +10,37 @@ use scenarios::{Scene, add_text, number_of, pass, word_and_rest};
 use std::alloc::Global;
 use std::test::Fail;
 
-// Up to each length, what is read. A cut field is at fault where it begins.
-const CUTS: &str = r#"A checkpoint is cut at each length.
+// What is left of two lines.
+const LOG: &str = r#"A log file is cut at each length, and each byte of it is changed.
+log header 1 1 1, gate 1, put 1 a, commit-put 1 0 1, end 2, gate 1, put 2 b, commit-put 2 1 1, end 2, gate 0
+whole 115
+cut-to 17 left 0 1
+cut-to 65 bad 1 16
+cut-to 114 bad 1 65
+cut-to 115 left 2 3 0:a 1:b
+whole 115
+changed-to 15 bad 1 0
+changed-to 16 left 0 1
+changed-to 17 bad 1 16
+changed-to 25 bad 1 39
+changed-to 37 bad 1 16
+changed-to 38 left 2 3 0:\xff 1:b
+changed-to 39 bad 1 16
+changed-to 59 bad 1 39
+changed-to 64 bad 1 16
+changed-to 65 left 1 2 0:a
+changed-to 66 bad 1 65
+changed-to 74 bad 1 88
+changed-to 86 bad 1 65
+changed-to 87 left 2 3 0:a 1:\xff
+changed-to 88 bad 1 65
+changed-to 108 bad 1 88
+changed-to 113 bad 1 65
+changed-to 114 left 2 3 0:a 1:b"#;
+
+// A cut field is at fault where it begins. A greater next number is right, and so is a greater next transaction; a greater count of
+// events has a third one begin where those end.
+const CHECK: &str = r#"A checkpoint is cut at each length, and each byte of it is changed.
 log header 1 1 1, gate 1, put 1 a, commit-put 1 0 1, end 2, gate 1, put 2 b, commit-put 2 1 1, end 2, gate 0
 check \x01\x46\x4c\x55\x4d\x45\x43\x48\x4b\x00\x00\x00\x01\x00\x00\x00
 check \x01\x00\x00\x00\x00\x00\x00\x00\x72\x00\x00\x00\x00\x00\x00\x00
@@ -17,6 +49,7 @@ check \x00\x00\x00\x00\x00\x00\x00\x00\x01\x00\x00\x00\x00\x00\x00\x00
 check \x11\x00\x00\x00\x09\x00\x00\x00\x00\x00\x00\x00\x01\x00\x00\x00
 check \x01\x00\x00\x00\x00\x00\x00\x00\x42\x00\x00\x00\x09\x00\x00\x00
 check \x00\x00\x00\x00\x00
+whole 101
 cut-to 1 none
 cut-to 8 bad 1
 cut-to 12 bad 9
@@ -29,24 +62,8 @@ cut-to 68 bad 45
 cut-to 92 bad 69
 cut-to 96 bad 93
 cut-to 100 bad 97
-cut-to 101 right 2 3"#;
-
-#[test]
-fn a_checkpoint_is_cut_at_each_length(rt: HostRuntime) -> Result<(), Fail> {
-    pass::<Damaged>(rt.alloc(), CUTS)
-}
-
-// Up to each offset, what is read where the byte is ff. A greater next number is right, and so is a greater next transaction; a
-// greater count of events has a third one begin where those end.
-const CHANGES: &str = r#"Each byte of a checkpoint is changed.
-log header 1 1 1, gate 1, put 1 a, commit-put 1 0 1, end 2, gate 1, put 2 b, commit-put 2 1 1, end 2, gate 0
-check \x01\x46\x4c\x55\x4d\x45\x43\x48\x4b\x00\x00\x00\x01\x00\x00\x00
-check \x01\x00\x00\x00\x00\x00\x00\x00\x72\x00\x00\x00\x00\x00\x00\x00
-check \x02\x00\x00\x00\x00\x00\x00\x00\x03\x00\x00\x00\x02\x00\x00\x00
-check \x00\x00\x00\x00\x00\x00\x00\x00\x01\x00\x00\x00\x00\x00\x00\x00
-check \x11\x00\x00\x00\x09\x00\x00\x00\x00\x00\x00\x00\x01\x00\x00\x00
-check \x01\x00\x00\x00\x00\x00\x00\x00\x42\x00\x00\x00\x09\x00\x00\x00
-check \x00\x00\x00\x00\x00
+cut-to 101 right 2 3
+whole 101
 changed-to 0 none
 changed-to 8 bad 1
 changed-to 12 bad 9
@@ -75,11 +92,16 @@ changed-to 96 bad 97
 changed-to 100 bad 101"#;
 
 #[test]
-fn each_byte_of_a_checkpoint_is_changed(rt: HostRuntime) -> Result<(), Fail> {
-    pass::<Damaged>(rt.alloc(), CHANGES)
+fn a_log_file_is_damaged(rt: HostRuntime) -> Result<(), Fail> {
+    pass::<Damaged>(rt.alloc(), LOG)
 }
 
-// Log file 1 and checkpoint 1 of a folder.
+#[test]
+fn a_checkpoint_is_damaged(rt: HostRuntime) -> Result<(), Fail> {
+    pass::<Damaged>(rt.alloc(), CHECK)
+}
+
+// Log file 1 and checkpoint 1 of a folder, of which the checkpoint is edited, and where there is none the log file.
 #[derive(Drop)]
 struct Damaged {
     alloc: Global,
@@ -120,32 +142,46 @@ fn read(scene: &Damaged, check: Vec<u8>) -> (&'static str, u64, u64) {
     }
 }
 
-// Whether this is read of a folder whose checkpoint has these bytes.
+// Whether this is read of a folder whose checkpoint has these bytes, and a slow reading gives the same.
 fn reads(scene: &Damaged, check: Vec<u8>, want: &str) -> bool {
     let (word, numbers) = word_and_rest(want);
     let (first, second) = word_and_rest(numbers);
-    let found = read(scene, check);
-    found
-        == (
-            word,
-            number_of(first).unwrap_or(0),
-            number_of(second).unwrap_or(0),
-        )
+    let want = (
+        word,
+        number_of(first).unwrap_or(0),
+        number_of(second).unwrap_or(0),
+    );
+    said_by(&check, &scene.log) == want && read(scene, check) == want
 }
 
-// The first bytes of the checkpoint, or all of them with the byte ff in a place.
+// What is edited.
+fn edits(scene: &Damaged) -> &[u8] {
+    if scene.check.is_empty() {
+        &scene.log
+    } else {
+        &scene.check
+    }
+}
+
+// Its first bytes, or all of them with the byte ff in a place.
 fn edited(scene: &Damaged, place: usize, changes: bool) -> Option<Vec<u8>> {
     if !changes {
-        return scene.check.get(..place)?.to_vec(scene.alloc).ok();
+        return edits(scene).get(..place)?.to_vec(scene.alloc).ok();
     }
-    let mut bytes = scene.check.to_vec(scene.alloc).ok()?;
+    let mut bytes = edits(scene).to_vec(scene.alloc).ok()?;
     *bytes.as_mut_slice().get_mut(place)? = 255;
     Some(bytes)
 }
 
 fn is_read_so(scene: &Damaged, place: usize, changes: bool, want: &str) -> bool {
     match edited(scene, place, changes) {
-        Some(bytes) => reads(scene, bytes, want),
+        Some(bytes) => {
+            if scene.check.is_empty() {
+                leaves(scene.alloc, bytes, want)
+            } else {
+                reads(scene, bytes, want)
+            }
+        }
         None => false,
     }
 }
@@ -162,7 +198,16 @@ fn are_read_so(scene: &mut Damaged, row: &str, changes: bool) -> bool {
         }
     }
     scene.next = last.saturating_add(1);
+    // the last length is that of all bytes, and the last offset is below it
+    scene.has_tried = scene.next == edits(scene).len().saturating_add(usize::from(!changes));
     true
+}
+
+// Begins anew with the least length or offset, once all were tried. Whether what is edited has so many bytes.
+fn is_whole(scene: &mut Damaged, length: &str) -> bool {
+    let are_done = scene.next == 0 || scene.has_tried;
+    scene.next = 0;
+    are_done && number_of(length) == Some(edits(scene).len() as u64)
 }
 
 fn set_log(scene: &mut Damaged, pieces: &str) -> bool {
@@ -186,21 +231,13 @@ impl Scene for Damaged {
         }
     }
 
-    // Each length or offset was tried once the last one was.
     fn holds(&mut self, word: &str, rest: &str) -> bool {
         match word {
             "log" => set_log(self, rest),
             "check" => add_text(&mut self.check, rest),
-            "cut-to" => {
-                let are_so = are_read_so(self, rest, false);
-                self.has_tried = self.next == self.check.len().saturating_add(1);
-                are_so
-            }
-            "changed-to" => {
-                let are_so = are_read_so(self, rest, true);
-                self.has_tried = self.next == self.check.len();
-                are_so
-            }
+            "whole" => is_whole(self, rest),
+            "cut-to" => are_read_so(self, rest, false),
+            "changed-to" => are_read_so(self, rest, true),
             _ => false,
         }
     }

@@ -15,6 +15,8 @@ mod damaged;
 #[cfg(test)]
 mod events;
 #[cfg(test)]
+mod faults;
+#[cfg(test)]
 mod folders;
 #[cfg(test)]
 mod frames;
@@ -38,6 +40,8 @@ mod records;
 mod ring;
 #[cfg(test)]
 mod scene;
+#[cfg(test)]
+mod slow;
 #[cfg(test)]
 mod spelled;
 #[cfg(test)]

@@ -1,6 +1,7 @@
 // Log files, on which the lines of a scenario work, and what they leave. `left 2 3 0:a 1:b` says that 2 and 3 are the numbers of the
 // next event and transaction, and which events are left by their numbers; `bad 1 16` names the file and the offset of the first fault.
 use crate::reading::{Read, read_whole, replayed};
+use crate::slow::left_by;
 use crate::spelled::{long_file, spelled};
 use crate::torn::{flushed, stood_of};
 use channel_replay::{RecoverRefused, ReplayRefused, Replayed, WholeFile, recover};
@@ -17,8 +18,6 @@ pub struct Logs {
     files: Vec<WholeFile>,
     // a disk on which a frame was flushed
     disk: Option<MemDisk>,
-    // the least length or offset of the first file that was not tried yet
-    next: usize,
     has_tried: bool,
 }
 
@@ -81,17 +80,47 @@ fn is_found(alloc: Global, found: &Found, want: &str) -> bool {
     }
 }
 
-// Whether the plain program and the one that replays a folder find this in some files.
+// Whether these are the events that a slow reading gives.
+fn are_events(items: &[(u64, Event)], events: &[(u64, u64)]) -> bool {
+    for (item, event) in items.iter().zip(events.iter()) {
+        match item.1.body() {
+            [byte] if (item.0, u64::from(*byte)) == *event => {}
+            _ => return false,
+        }
+    }
+    items.len() == events.len()
+}
+
+// Whether a slow reading of some files finds the same.
+fn is_slowly_found(alloc: Global, found: &Found, files: &[WholeFile]) -> bool {
+    match (found, left_by(alloc, files)) {
+        (Ok(left), Ok(slow)) => {
+            left.next.number == slow.number
+                && left.next.txn == slow.txn
+                && are_events(&left.items, &slow.events)
+        }
+        (Err(fault), Err(slow)) => *fault == slow,
+        _ => false,
+    }
+}
+
+// Whether the plain program finds this in some files, and a slow reading the same.
+fn is_recovered(alloc: Global, files: &[WholeFile], want: &str) -> bool {
+    let found = of_recover(recover(alloc, files));
+    is_found(alloc, &found, want) && is_slowly_found(alloc, &found, files)
+}
+
+// Whether so do they all, and the program that replays a folder.
 fn leave(alloc: Global, files: &[WholeFile], want: &str) -> bool {
-    is_found(alloc, &of_recover(recover(alloc, files)), want)
+    is_recovered(alloc, files, want)
         && match replayed(alloc, files, 100) {
             Some(found) => is_found(alloc, &of_replay(found), want),
             None => false,
         }
 }
 
-// Whether a log file 1 of these bytes leaves this.
-fn leaves(alloc: Global, bytes: Vec<u8>, want: &str) -> bool {
+/// Whether a log file 1 of these bytes leaves this.
+pub fn leaves(alloc: Global, bytes: Vec<u8>, want: &str) -> bool {
     let mut files = Vec::new(alloc);
     files.push(WholeFile { number: 1, bytes }).is_ok() && leave(alloc, &files, want)
 }
@@ -106,47 +135,6 @@ fn add_log(scene: &mut Logs, file: &str) -> bool {
         Some(bytes) => scene.files.push(WholeFile { number, bytes }).is_ok(),
         None => false,
     }
-}
-
-// Whether the first file has so many bytes.
-fn is_whole(scene: &Logs, length: &str) -> bool {
-    match scene.files.first() {
-        Some(file) => number_of(length) == Some(file.bytes.len() as u64),
-        None => false,
-    }
-}
-
-// The first bytes of the first file, or all of them with the byte ff in a place.
-fn edited(scene: &Logs, place: usize, changes: bool) -> Option<Vec<u8>> {
-    let bytes = &scene.files.first()?.bytes;
-    if !changes {
-        return bytes.get(..place)?.to_vec(scene.alloc).ok();
-    }
-    let mut edited = bytes.to_vec(scene.alloc).ok()?;
-    *edited.as_mut_slice().get_mut(place)? = 255;
-    Some(edited)
-}
-
-fn is_edited_well(scene: &Logs, place: usize, changes: bool, want: &str) -> bool {
-    match edited(scene, place, changes) {
-        Some(bytes) => leaves(scene.alloc, bytes, want),
-        None => false,
-    }
-}
-
-// Whether the first file leaves this at each length, or with a change at each offset, from those that were tried up to this one.
-fn are_edited_well(scene: &mut Logs, row: &str, changes: bool) -> bool {
-    let (last, want) = word_and_rest(row);
-    let Ok(last) = last.parse::<usize>() else {
-        return false;
-    };
-    for place in scene.next..last.saturating_add(1) {
-        if !is_edited_well(scene, place, changes, want) {
-            return false;
-        }
-    }
-    scene.next = last.saturating_add(1);
-    true
 }
 
 // Flushes a frame, with so many recorded calls.
@@ -251,7 +239,6 @@ impl Scene for Logs {
             alloc,
             files: Vec::new(alloc),
             disk: None,
-            next: 0,
             has_tried: false,
         }
     }
@@ -263,9 +250,6 @@ impl Scene for Logs {
         self.has_tried = true;
         match word {
             "leaves" => leave(self.alloc, &self.files, rest),
-            "whole" => is_whole(self, rest),
-            "cut-to" => are_edited_well(self, rest, false),
-            "changed-to" => are_edited_well(self, rest, true),
             "flushed" => flush(self, rest),
             "crash" => is_left_by_crash(self, rest),
             "records" => is_read(self, rest),

@@ -132,67 +132,6 @@ holds 1 0 FLUMELOG
 on-disk
 gives b"#;
 
-const FAILING: &str =
-    r#"Where it fails, the channel is not broken and loses nothing, and the next one removes the rest, for 0, 1, 2, 3, 4, 5, 6, 7
-limits 10 10 66
-on-disk
-begin-put > token 1
-put 1 a > done
-commit-put 1 > first 0
-checkpoint > done
-begin-put > token 2
-put 2 b > done
-commit-put 2 > first 1
-begin-take > token 3
-take 3 > event a
-take 3 > event b
-commit-take 3 > first 0
-begin-put > token 4
-put 4 c > done
-commit-put 4 > first 2
-checkpoint > done
-close
-note
-fails-after-noted $
-on-disk
-begin-put > token 1
-put 1 a > done
-commit-put 1 > first 0
-checkpoint > done
-begin-put > token 2
-put 2 b > done
-commit-put 2 > first 1
-begin-take > token 3
-take 3 > event a
-take 3 > event b
-commit-take 3 > first 0
-begin-put > token 4
-put 4 c > done
-commit-put 4 > first 2
-checkpoint > done
-prune > disk-fault
-begin-put > token 5
-put 5 d > done
-commit-put 5 > first 3
-prune-rest > done
-prune > count 0
-close
-long check-1 none
-long 1 none
-long 2 none
-long 3 none
-holds 4 0 FLUMELOG
-on-disk
-gives cd
-
-A broken channel removes nothing.
-fails 1
-on-disk
-begin-put > token 1
-put 1 a > done
-commit-put 1 > in-doubt
-prune > broken"#;
-
 #[test]
 fn files_that_no_checkpoint_needs_are_removed(rt: HostRuntime) -> Result<(), Fail> {
     pass::<Channels>(rt.alloc(), REMOVED)
@@ -201,9 +140,4 @@ fn files_that_no_checkpoint_needs_are_removed(rt: HostRuntime) -> Result<(), Fai
 #[test]
 fn the_newest_whole_checkpoint_counts(rt: HostRuntime) -> Result<(), Fail> {
     pass::<Channels>(rt.alloc(), KNOWN)
-}
-
-#[test]
-fn a_prune_fails(rt: HostRuntime) -> Result<(), Fail> {
-    pass::<Channels>(rt.alloc(), FAILING)
 }

@@ -41,6 +41,8 @@ pub struct Channels {
     pub life: u64,
     /// How many calls of a disk were noted.
     pub noted: u64,
+    /// What the last call or opening answered.
+    pub said: Said,
     pub has_tried: bool,
 }
 
@@ -169,21 +171,6 @@ fn folder(scene: &mut Channels) -> Option<MemDisk> {
     Some(disk.failing_at(faults))
 }
 
-/// Opens the folder.
-pub fn is_opened(scene: &mut Channels) -> bool {
-    let Some(disk) = folder(scene) else {
-        return false;
-    };
-    scene.life = 1;
-    match open(scene.alloc, disk, scene.limits) {
-        Ok(channel) => {
-            scene.over = Over::Disk(channel);
-            true
-        }
-        Err(_) => false,
-    }
-}
-
 // A cause as a word, and its numbers.
 fn cause_of(cause: OpenCause) -> (&'static str, u64, u64) {
     match cause {
@@ -196,6 +183,30 @@ fn cause_of(cause: OpenCause) -> (&'static str, u64, u64) {
         OpenCause::DiskFault => ("disk-fault", 0, 0),
         _ => ("other", 0, 0),
     }
+}
+
+// Opens the folder, which is kept where no channel is made.
+fn opened(scene: &mut Channels) -> Said {
+    let Some(disk) = folder(scene) else {
+        return OTHER;
+    };
+    scene.life = 1;
+    match open(scene.alloc, disk, scene.limits) {
+        Ok(channel) => {
+            scene.over = Over::Disk(channel);
+            ("done", 0)
+        }
+        Err((disk, cause)) => {
+            scene.disk = Some(disk);
+            (cause_of(cause).0, 0)
+        }
+    }
+}
+
+/// Opens the folder.
+pub fn is_opened(scene: &mut Channels) -> bool {
+    scene.said = opened(scene);
+    scene.said.0 == "done"
 }
 
 fn is_cause(cause: OpenCause, want: &str) -> bool {
@@ -317,14 +328,14 @@ pub fn is_answered(scene: &mut Channels, word: &str, rest: &str) -> bool {
         value: value_of(value),
     };
     scene.has_tried = true;
-    let said = match word {
+    scene.said = match word {
         "reopen" => reopened(scene),
         "checkpoint" => laid(scene),
         "prune" => pruned(scene),
         "prune-rest" => pruned_rest(scene),
         _ => said_by(scene, call),
     };
-    is_said(said, want)
+    is_said(scene.said, want)
 }
 
 /// Whether the channel gives these events, and no more. It keeps them.
@@ -458,6 +469,7 @@ impl Scene for Channels {
             },
             life: 1,
             noted: 0,
+            said: OTHER,
             has_tried: false,
         }
     }
