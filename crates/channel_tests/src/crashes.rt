@@ -9,8 +9,8 @@ use scenarios::{Scene, pass, word_and_rest};
 use std::alloc::{AllocError, Global};
 use std::test::Fail;
 
-/// An opening, two transactions that interleave, a further file, takes, a checkpoint with something staged, a removal, a spill and an
-/// opening anew.
+/// An opening, two transactions that interleave, a further file, takes, a checkpoint with something staged, a removal, an opening anew,
+/// and last of all, as it writes a mebibyte, a spill.
 pub const ALL: &str = r#"Each call that a channel makes of its disk comes.
 limits 10 10 66
 on-disk
@@ -35,14 +35,20 @@ asked > settled
 left c
 prune > count 1
 left c
-put-bytes 4 1048568 > done
-begin-put > token 5
-put 5 e > done
-stage-put 5 > first 3
-put-bytes 4 1048568 > done
-asked > settled
-left ce
 reopen > done
+life 2
+left c
+begin-take > token 5
+take 5 > event c
+take 5 > no-event
+rollback-take 5 > ended
+begin-put > token 6
+put-bytes 6 1048568 > done
+begin-put > token 7
+put 7 e > done
+stage-put 7 > first 3
+put-bytes 6 1048568 > done
+asked > settled
 left ce
 close
 long 1 none
