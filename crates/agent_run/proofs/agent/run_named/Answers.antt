@@ -11,7 +11,7 @@ returns-in-Ok-clause-ends g c = named (first_unmet (names_of c.args.handed.now.s
 pub returns-in-Ok-clause-ran : goal.returns-in-Ok-clause-ran
 returns-in-Ok-clause-ran g c =
     let held = c.args.handed.now.sinks.items in
-    of_plan _ (first_unmet (names_of held)) held c.plan_agent.new.handed.sinks.items (reverse c.in-Ok.objects.sinks.items) (λ i. record { state = c.in-Ok.ensures.planned.1 i; folders = c.plan_agent.ensures.folders i }) c.in-Ok.ensures.planned.0
+    of_plan _ (first_unmet (names_of held)) held c.plan_agent.new.handed.sinks.items (reverse c.in-Ok.field-0.objects.sinks.items) (λ i. record { state = c.in-Ok.ensures.planned.1 i; folders = c.plan_agent.ensures.folders i }) c.in-Ok.ensures.planned.0
     c.in-Ok.ensures.objects.taken c.end_plan.ensures.ran
 
 pub returns-in-Err-clause-ran : goal.returns-in-Err-clause-ran
