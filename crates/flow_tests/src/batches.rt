@@ -155,7 +155,18 @@ event US 2
 event CZ 3
 put taken
 sizes 2 3 1
-// its own ones, in order
+
+Each channel gives its own events in order, for plain, on-disk
+by-state
+mapped CZ 0
+default 2
+may-get CZ 1
+may-get US 1
+$ 10 10 10
+event CZ 1
+event US 2
+event CZ 3
+put taken
 gives 0 [state=CZ]1
 gives 0 [state=CZ]3
 empty 0

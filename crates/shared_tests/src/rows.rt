@@ -239,7 +239,26 @@ fn made<C: Channel, R: Wait>(
     }
 }
 
-// Makes a call through the pass of the one who makes it, and tells whether it answers as its line has it, as `a put 1 x > done`.
+// Makes a call through the pass of the one who makes it.
+fn made_by<C: Channel, R: Wait>(
+    rt: &R,
+    alloc: Global,
+    shared: &Shared<C>,
+    a: &mut Pass,
+    b: &mut Pass,
+    by: &str,
+    call: Call<'_>,
+) -> Said
+    requires { (a.old.table_id ≡ shared.now.turn.table.shared.table_id) × (b.old.table_id ≡ shared.now.turn.table.shared.table_id) }
+    ensures { (a.new.table_id ≡ a.old.table_id) × (b.new.table_id ≡ b.old.table_id) }
+{
+    match by {
+        "a" => made(rt, alloc, shared, a, call),
+        _ => made(rt, alloc, shared, b, call),
+    }
+}
+
+// Whether a call answers as its line has it, as `a put 1 x > done`.
 fn holds<C: Channel, R: Wait>(
     rt: &R,
     alloc: Global,
@@ -253,11 +272,7 @@ fn holds<C: Channel, R: Wait>(
 {
     let (by, rest) = word_and_rest(line);
     let (call, want) = rest.split_once(" > ").unwrap_or((rest, ""));
-    let said = match by {
-        "a" => made(rt, alloc, shared, a, call_of(call)),
-        _ => made(rt, alloc, shared, b, call_of(call)),
-    };
-    is_said(said, want)
+    is_said(made_by(rt, alloc, shared, a, b, by, call_of(call)), want)
 }
 
 // The first line that does not hold, if there is one.
