@@ -107,6 +107,11 @@ fn large(scene: &Passing, letter: &str, count: &str) -> Option<Event> {
     Event::new(headers, vec![in scene.alloc; byte; count].ok()?).ok()
 }
 
+// The size for which an event is too large, as `too-large 33554433`.
+fn size_of(want: &str) -> Option<u64> {
+    number_of(want.strip_prefix("too-large ")?)
+}
+
 // Whether such an event passes, or would grow to a size that is too large, as `a 33554424 too-large 33554433`.
 fn is_large(scene: &mut Passing, row: &str) -> bool {
     let (letter, rest) = word_and_rest(row);
@@ -114,8 +119,7 @@ fn is_large(scene: &mut Passing, row: &str) -> bool {
     let event = large(scene, letter, count);
     match passed(scene, event) {
         Ok(Some(_)) => want == "passes",
-        Err(EventRefused::TooLarge { size }) => want.strip_prefix("too-large ").and_then(number_of)
-            == Some(size),
+        Err(EventRefused::TooLarge { size }) => size_of(want) == Some(size),
         _ => false,
     }
 }

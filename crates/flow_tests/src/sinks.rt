@@ -357,10 +357,9 @@ fn is_put_large(scene: &mut Sinks, count: &str) -> bool {
 
 // A channel that was put two events.
 fn two_on_disk(alloc: Global, disk: MemDisk) -> Option<FileChannel<MemDisk>> {
+    let (a, b) = (event(alloc, b"a").ok()?, event(alloc, b"b").ok()?);
     let mut channel = channel_on(alloc, disk, limits(10, 1_000_000)).ok()?;
-    if put(&mut channel, &event(alloc, b"a").ok()?)
-        && put(&mut channel, &event(alloc, b"b").ok()?)
-    {
+    if put(&mut channel, &a) && put(&mut channel, &b) {
         Some(channel)
     } else {
         None

@@ -86,26 +86,36 @@ fn held_disk(alloc: Global, gate: &Gate) -> Result<HeldDisk, Fail> {
     Ok(HeldDisk::new(MemDisk::new(alloc), DiskCall::Sync, begun, until))
 }
 
+// The same in two channels that were just shared with one pass each.
+fn puts_in<A: Channel + Drop + Send, B: Channel + Drop + Send, R: Threads + Wait + Sync>(
+    rt: &R,
+    alloc: Global,
+    gate: &Gate,
+    one: Opened<A>,
+    other: Opened<B>,
+) -> (Answer, Answer)
+    requires one { IfSome one (λ r. All (λ p. p.table_id ≡ r.0.turn.table.shared.table_id) r.1.items) }
+    requires other { IfSome other (λ r. All (λ p. p.table_id ≡ r.0.turn.table.shared.table_id) r.1.items) }
+{
+    let (Some((one, mut ones)), Some((other, mut others))) = (one, other) else {
+        return (None, None);
+    };
+    match (last(&one, &mut ones), last(&other, &mut others)) {
+        (Some(a), Some(b)) => puts_beside_a_sync(rt, alloc, gate, &one, a, &other, b),
+        _ => (None, None),
+    }
+}
+
 #[test]
 fn gate_sync(rt: HostRuntime) -> Result<(), Fail> {
     let alloc = rt.alloc();
     let gate = new_gate(alloc)?;
     // no sync of the opening waits
     gate.answered.set();
-    let Some((held, mut passes)) = opened(alloc, held_disk(alloc, &gate)?) else {
-        return Err(Fail::from("no channel"));
-    };
+    let held = opened(alloc, held_disk(alloc, &gate)?);
     gate.answered.clear();
-    let Some((other, mut others)) = on_disk(alloc, MemDisk::new(alloc), 1) else {
-        return Err(Fail::from("no channel"));
-    };
-    let Some(a) = last(&held, &mut passes) else {
-        return Err(Fail::from("no pass"));
-    };
-    let Some(b) = last(&other, &mut others) else {
-        return Err(Fail::from("no pass"));
-    };
-    let (one, two) = puts_beside_a_sync(&rt, alloc, &gate, &held, a, &other, b);
+    let other = on_disk(alloc, MemDisk::new(alloc), 1);
+    let (one, two) = puts_in(&rt, alloc, &gate, held, other);
     assert!(rt; one == Some(Ok(0)) && two == Some(Ok(0)));
     Ok(())
 }
