@@ -3,24 +3,45 @@ ghost use Rattle.std.specs.Prelude.{◌≡◌, IfOk, OnOk, string_bytes};
 ghost use Rattle.std.specs.Io.KnownBytes.{Appends};
 ghost use Rattle.flume_host.specs.Causes.{HasCause};
 ghost use Rattle.agent_end.specs.Writes.{Fronts};
-ghost use Rattle.agent_commands.specs.Checked.{Checked, IsBeside, IsCheckStatus, Judges, PlansAgent, PlansWhole, end_of, plan_line};
+ghost use Rattle.plan_objects.specs.Asks.{first_unmet, names_of};
+ghost use Rattle.agent_commands.specs.Checked.{Checked, HasItsObjects, IsBeside, IsCheckStatus};
+ghost use Rattle.agent_commands.specs.Checked.{Judges, PlansAgent, PlansWhole, end_of, plan_line};
 
 use agent_end::write_all;
 use agent_words::RunError;
 use flume_config::{Plan, PlanRefused, plan_of};
 use flume_host::{Failed, FileRefused, Host, Sink};
-use plan_support::first_plugin;
+use plan_objects::{ClaimRefused, HandedIn, Objects, claim_objects};
 use prop_text::{Properties, read_properties};
 use std::alloc::{AllocError, Global};
 
-// The agent's plan, by the pairs of a configuration file.
-fn planned(alloc: Global, properties: &Properties, agent: &str) -> Result<Plan, RunError>
-    ensures { PlansWhole properties.now agent.now result }
+/// A plan, and the objects that it asks for.
+#[derive(Drop)]
+pub struct Planned<B> {
+    /// The plan.
+    pub plan: Plan,
+    /// The objects that its sinks took.
+    pub objects: Objects<B>,
+}
+
+// The agent's plan, by the pairs of a configuration file, with what it asks for of what is handed in.
+fn plan_of_pairs<K: Drop, B: Drop>(
+    alloc: Global,
+    properties: &Properties,
+    agent: &str,
+    handed: &mut HandedIn<K, B>,
+) -> Result<Planned<B>, RunError>
+    ensures whole { PlansWhole (first_unmet (names_of handed.old.sinks.items))
+        properties.now agent.now result }
+    ensures objects { IfOk result (HasItsObjects handed.old.sinks.items handed.new.sinks.items) }
 {
     match plan_of(alloc, properties, agent) {
-        Ok(plan) => match first_plugin(&plan) {
-            None => Ok(plan),
-            Some(line) => Err(RunError::Plan(PlanRefused::UnknownType { line })),
+        Ok(plan) => match claim_objects(alloc, &plan, handed) {
+            Ok(objects) => Ok(Planned { plan, objects }),
+            Err(ClaimRefused::Missing { line }) => {
+                Err(RunError::Plan(PlanRefused::UnknownType { line }))
+            }
+            Err(ClaimRefused::NoMemory) => Err(RunError::NoMemory),
         },
         Err(PlanRefused::NoAgent) => Err(RunError::NoAgent {
             name: String::from_str(alloc, agent)?,
@@ -29,12 +50,19 @@ fn planned(alloc: Global, properties: &Properties, agent: &str) -> Result<Plan, 
     }
 }
 
-// The agent's plan, by the bytes of a configuration file.
-fn plan_in(alloc: Global, bytes: &[u8], agent: &str) -> Result<Plan, RunError>
-    ensures { Judges bytes.now agent.now result }
+// The agent's plan, by the bytes of a configuration file, with what it asks for of what is handed in.
+fn plan_in<K: Drop, B: Drop>(
+    alloc: Global,
+    bytes: &[u8],
+    agent: &str,
+    handed: &mut HandedIn<K, B>,
+) -> Result<Planned<B>, RunError>
+    ensures judged { Judges (first_unmet (names_of handed.old.sinks.items))
+        bytes.now agent.now result }
+    ensures objects { IfOk result (HasItsObjects handed.old.sinks.items handed.new.sinks.items) }
 {
     match read_properties(alloc, bytes) {
-        Ok(properties) => planned(alloc, &properties, agent),
+        Ok(properties) => plan_of_pairs(alloc, &properties, agent, handed),
         Err(refused) => Err(RunError::Text(refused)),
     }
 }
@@ -71,34 +99,47 @@ pub(crate) fn print<H: Host>(host: &mut H, text: &str) -> Result<(), Failed>
     done
 }
 
-/// Reads a configuration file, and plans the agent of this name in it. A fault of the file or of the plan is named with its line
-/// where it has one; `Fault` comes only where the host has counted one.
-pub fn plan_agent<H: Host>(
+/// Reads a configuration file, and plans the agent of this name in it, whose sinks take the objects that they ask for out of what is handed
+/// in. A fault of the file or of the plan is named with its line where it has one; what was not handed in is of unknown type. `Fault` comes
+/// only where the host has counted one.
+pub fn plan_agent<H: Host, K: Drop, B: Drop>(
     alloc: Global,
     agent: &str,
     file: &str,
+    handed: &mut HandedIn<K, B>,
     host: &mut H,
-) -> Result<Plan, RunError>
-    ensures planned { PlansAgent ((H.state host.old).files file.now) agent.now
+) -> Result<Planned<B>, RunError>
+    ensures planned { PlansAgent (first_unmet (names_of handed.old.sinks.items))
+        ((H.state host.old).files file.now) agent.now
         (H.state host.old) (H.state host.new) result }
+    ensures objects { IfOk result (HasItsObjects handed.old.sinks.items handed.new.sinks.items) }
     ensures folders { H.folders host.new ≡ H.folders host.old }
 {
     match host.read_file(file) {
-        Ok(bytes) => plan_in(alloc, bytes.as_slice(), agent),
+        Ok(bytes) => plan_in(alloc, bytes.as_slice(), agent, handed),
         Err(FileRefused::Failed) => Err(RunError::Fault),
         Err(FileRefused::TooLarge { .. }) => Err(RunError::FileTooLarge),
         Err(FileRefused::NoMemory) => Err(RunError::NoMemory),
     }
 }
 
-/// `check -n NAME -f FILE`: plans the agent `NAME` of the configuration file `FILE`, and prints how many components it has.
-pub fn check<H: Host>(alloc: Global, agent: &str, file: &str, host: &mut H) -> Result<(), RunError>
-    ensures checked { Checked ((H.state host.old).files file.now) agent.now (H.state host.old) (H.state host.new) (end_of result) }
+/// `check -n NAME -f FILE`: plans the agent `NAME` of the configuration file `FILE`, and prints how many components it has. The objects
+/// that it asks for of what is handed in are dropped.
+pub fn check<H: Host, K: Drop, B: Drop>(
+    alloc: Global,
+    agent: &str,
+    file: &str,
+    handed: &mut HandedIn<K, B>,
+    host: &mut H,
+) -> Result<(), RunError>
+    ensures checked { Checked (first_unmet (names_of handed.old.sinks.items))
+        ((H.state host.old).files file.now) agent.now
+        (H.state host.old) (H.state host.new) (end_of result) }
     ensures status { IsCheckStatus (end_of result) }
     ensures folders { H.folders host.new ≡ H.folders host.old }
 {
-    let plan = plan_agent(alloc, agent, file, host)?;
-    let text = summary(alloc, agent, &plan)?;
+    let planned = plan_agent(alloc, agent, file, handed, host)?;
+    let text = summary(alloc, agent, &planned.plan)?;
     match print(host, text.as_str()) {
         Ok(()) => Ok(()),
         Err(_) => Err(RunError::Fault),

@@ -2,6 +2,7 @@
 ghost use Rattle.std.specs.Prelude.{◌≡◌, ◌⊎◌, List, ℕ, IfOk, MatchOption};
 ghost use Rattle.flume_host.specs.HostState.{ButDisk};
 ghost use Rattle.agent_words.specs.Statuses.{status_of};
+ghost use Rattle.plan_objects.specs.Asks.{first_unmet, names_of};
 ghost use Rattle.agent_commands.specs.Checked.{Checked, IsCheckStatus};
 ghost use Rattle.agent_commands.specs.Loads.{IsLoadStatus, Loaded, face_status, refused_status, unloaded_status};
 ghost use Rattle.agent_commands.specs.Piped.{Piped, IsPipeStatus, cause_status, pipe_status};
@@ -19,6 +20,7 @@ use flume_host::Host;
 use line_session::SessionEnd;
 use load_gen::LoadRefused;
 use netcat_source::LineVerdict;
+use plan_objects::HandedIn;
 use shared_channel::Pass;
 use std::alloc::{AllocError, Global};
 use std::sync::Wait;
@@ -131,12 +133,19 @@ pub fn run_pipe<R: Wait, H: Host>(rt: &R, alloc: Global, dir: &str, host: &mut H
 
 /// `check -n NAME -f FILE`, and the line on standard error that tells why it ended, unless all went well. It answers the exit
 /// status.
-pub fn run_check<H: Host>(alloc: Global, agent: &str, file: &str, host: &mut H) -> u8
-    ensures checked { Checked ((H.state host.old).files file.now) agent.now (H.state host.old) (H.state host.new) result }
+pub fn run_check<H: Host, K: Drop, B: Drop>(
+    alloc: Global,
+    agent: &str,
+    file: &str,
+    handed: &mut HandedIn<K, B>,
+    host: &mut H,
+) -> u8
+    ensures checked { Checked (first_unmet (names_of handed.old.sinks.items))
+        ((H.state host.old).files file.now) agent.now (H.state host.old) (H.state host.new) result }
     ensures status { IsCheckStatus result }
     ensures folders { H.folders host.new ≡ H.folders host.old }
 {
-    match check(alloc, agent, file, host) {
+    match check(alloc, agent, file, handed, host) {
         Ok(()) => 0,
         Err(error) => {
             say_error(alloc, host, &error);

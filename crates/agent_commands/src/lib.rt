@@ -8,7 +8,7 @@ mod pass_lines;
 mod pipe;
 mod traced;
 
-pub use check::plan_agent;
+pub use check::{Planned, plan_agent};
 pub use ending::{LoadEnded, PipeEnded, run_check, run_load, run_pipe, say_error, unopened};
 pub use load::LoadCause;
 pub use pass_lines::PassLines;

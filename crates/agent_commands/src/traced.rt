@@ -200,6 +200,16 @@ impl<D: Disk + Drop> Reopen for TracedChannel<D> {
 }
 
 impl<D: Disk + Drop> Durable for TracedChannel<D> {
+    ghost use Rattle.flume_host.specs.Told.{WhereTold};
+    ghost use Rattle.file_channel.specs.Laid.{HasLaid};
+    ghost use Rattle.file_channel.specs.Pruned.{HasOld, IsPrunedBy};
+
+    ghost is_laid = { λ c s. WhereTold (D.told c.channel.0) (HasLaid s) };
+
+    ghost is_pruned = { λ c. WhereTold (D.told c.channel.0) (IsPrunedBy c.channel.1.checks.laid) };
+
+    ghost has_old = { λ c n. WhereTold (D.told c.channel.0) (HasOld c.channel.1.checks.laid n) };
+
     fn checkpoint(&mut self) -> Result<(), CheckRefused> {
         let reply = self.channel.checkpoint();
         self.channel.rests();

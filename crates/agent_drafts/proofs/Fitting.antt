@@ -1,5 +1,5 @@
 -- A draft has what its worker asks for.
-use Rattle.std.proofs.Common.{◌≡◌, ◌<◌, ◌≤◌, ℕ, List, [], ◌∷◌, All, length, get_or, map, sym, ap, subst, arith, false, true≢false}
+use Rattle.std.proofs.Common.{◌≡◌, ◌<◌, ◌≤◌, ℕ, List, [], ◌∷◌, All, length, get_or, map, sym, ap, subst, arith}
 use Rattle.std.proofs.lemmas.List.Elements.{All-cons, All-head, All-map, All-nil, All-tail}
 use Rattle.source_worker.specs.Workers.{HasLimit}
 use Rattle.source_worker.specs.declared.ends.SessionRules.{SessionRules}
@@ -11,16 +11,12 @@ use Rattle.flume_config.specs.Values.{seen_pair}
 use Rattle.flume_config.specs.declared.plan.SourcePlan.{SourcePlan}
 use Rattle.flume_config.specs.declared.plan.SourceKind.{SourceKind}
 use Rattle.flume_config.specs.declared.plan.SourceKind.TheVariants.{Netcat, Avro, Stdin}
-use Rattle.flume_config.specs.declared.plan.SinkKind.{SinkKind}
-use Rattle.flume_config.specs.declared.plan.SinkKind.TheVariants.{Null, Roll, Avro as Avro', Plugin}
-use Rattle.agent_outside.specs.Sinks.{IsPlain}
 use Rattle.plan_laws.specs.Limits.{IsSourceLimited}
 use Rattle.plan_laws.specs.Names.{IsWithin}
 use Rattle.agent_drafts.specs.declared.draft.SourceDraft.{SourceDraft}
 use Rattle.agent_drafts.specs.Copies.{IsSameSelector}
 use Rattle.agent_drafts.specs.Drafts.{AreRules, IsDraft, IsDraftAt}
 use Rattle.agent_drafts.specs.Fits.{IsFit}
-use Rattle.plan_support.specs.Least.{is_plugin}
 
 -- ---- what is true of what is seen of each item
 
@@ -68,11 +64,3 @@ module _ {B : Type 0} (count : ℕ) (draft : SourceDraft B) where
   fits_at [] names is within limits = absurd (omega (arith, is.there))
   fits_at (s ∷ sources) names is within limits =
       fits (get_or (s ∷ sources) draft.source s) (get_or names draft.source draft.host) (is.is s draft.host) (within draft.source s is.there) (limits draft.source s is.there)
-
--- ---- sinks
-
-pub plain : (kind : SinkKind) → is_plugin kind ≡ false → IsPlain kind
-plain Null own = tt
-plain (Roll folder interval) own = tt
-plain (Avro' host port) own = tt
-plain (Plugin name) own = absurd (true≢false own)

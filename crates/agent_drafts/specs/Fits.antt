@@ -7,9 +7,7 @@ use Rattle.source_put.specs.Accepts.{NamesBelow}
 use Rattle.source_put.specs.declared.chain.HostNames.{HostNames}
 use Rattle.source_worker.specs.Workers.{HasLimit}
 use Rattle.agent_drafts.specs.declared.draft.SourceDraft.{SourceDraft}
-use Rattle.agent_outside.specs.Sinks.{IsPlain}
 use Rattle.agent_drafts.specs.Drafts.{IsDraftAt}
-use Rattle.plan_support.specs.Least.{HasNoPlugin}
 
 -- Its limit of lines, if any, is an allowed one, its channels are some of so many, and its selector names its channels.
 pub record IsFit {B : Type 0} (count : ℕ) (draft : SourceDraft B) : Type 0 where
@@ -24,7 +22,3 @@ DraftsFit B =
     (pairs : List Pair) (agent : List ℕ) (plan : Plan) → Plans pairs agent (Ok plan)
     → (names : List HostNames) (draft : SourceDraft B) → IsDraftAt plan.sources.items names draft
     → IsFit (length plan.channels.items) draft
-
--- the sinks of a plan are those that a run opens
-abbrev pub SinksArePlain : Type 0
-SinksArePlain = (plan : Plan) → HasNoPlugin plan → All (λ sink. IsPlain sink.kind) plan.sinks.items

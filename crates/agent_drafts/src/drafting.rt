@@ -2,7 +2,7 @@
 ghost use Rattle.std.specs.Prelude.{◌≡◌, ◌++◌, ◌<◌, All, IfOk, OnOk, length, map, replicate};
 ghost use Rattle.selectors.specs.Choices.{places_below};
 ghost use Rattle.agent_outside.specs.Ends.{listeners_of};
-ghost use Rattle.plan_support.specs.Least.{HasOwnSteps};
+ghost use Rattle.plan_objects.specs.Least.{HasOwnSteps};
 ghost use Rattle.agent_drafts.specs.Drafts.{AreDrafts, AreRules, IsDraft, IsDraftAt, TakesLines, inputs_of, sessions_of};
 
 use crate::copies::{copied_channels, copied_names, copied_selector};

@@ -1,5 +1,5 @@
 // Laws of drafts.
-ghost use Rattle.agent_drafts.specs.Fits.{DraftsFit, SinksArePlain};
+ghost use Rattle.agent_drafts.specs.Fits.{DraftsFit};
 ghost use Rattle.agent_drafts.specs.Means.{ChainsAreAsPlanned, CopiesDoTheSame};
 
 use plan_laws::{numbers_are_limited, sources_name_what_is_there};
@@ -12,12 +12,6 @@ pub fn drafts_can_serve<B: Drop>()
     sources_name_what_is_there();
     numbers_are_limited();
 }
-
-/// Where nothing in a plan is handed in, each of its sinks may be opened: it drops what it is handed, writes rolled files, or makes
-/// Avro calls.
-pub fn sinks_are_plain()
-    ensures { SinksArePlain }
-{}
 
 /// A copy of a step makes the same of each event, and is told the same of the host by a copy of its names. What is built of a
 /// copy of keys is what they say. A copy of a selector chooses the same channels for each event.

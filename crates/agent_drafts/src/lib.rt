@@ -10,4 +10,4 @@ mod links;
 
 pub use draft::SourceDraft;
 pub use drafting::{draft_lines, draft_listeners};
-pub use laws::{chains_are_as_planned, copies_do_the_same, drafts_can_serve, sinks_are_plain};
+pub use laws::{chains_are_as_planned, copies_do_the_same, drafts_can_serve};

@@ -1,7 +1,7 @@
 // The interceptors of a source, as what they are built of.
 ghost use Rattle.std.specs.Prelude.{All, IfOk};
 ghost use Rattle.std.specs.List.{AllZip};
-ghost use Rattle.plan_support.specs.Least.{IsOwn};
+ghost use Rattle.plan_objects.specs.Least.{IsOwn};
 ghost use Rattle.agent_drafts.specs.Drafts.{IsLink};
 
 use crate::copies::{copied_keys, copied_step};

@@ -1,6 +1,7 @@
 mod Backing
 pub mod Ordering
 mod Opening
+mod Boxing
 mod Ending
 mod Listening
 pub mod Dialing

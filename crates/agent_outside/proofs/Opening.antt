@@ -22,9 +22,9 @@ module _ {R A B : Type 0} (rolled : R → Option Rolled) (faults : R → ℕ) (d
   none_opened f = record { are = tt; made = tt; out = out_none f }
 
   -- one more
-  pub opened_more : (all : Option HandedOut) (f g h : Folders) (sinks after : List (AgentSink R A B)) (d : SinkPlan) → length sinks < length plans → SinksOpened rolled faults plans f g sinks
-      → SinkAdded rolled faults dial (get_or plans (length sinks) d) all g h sinks after → SinksOpened rolled faults plans f h after
-  opened_more all f g h sinks after d below opened added =
+  pub opened_more : (object : Option B) (all : Option HandedOut) (f g h : Folders) (sinks after : List (AgentSink R A B)) (d : SinkPlan) → length sinks < length plans → SinksOpened rolled faults plans f g sinks
+      → SinkAdded rolled faults dial (get_or plans (length sinks) d) object all g h sinks after → SinksOpened rolled faults plans f h after
+  opened_more object all f g h sinks after d below opened added =
       let kind = (get_or plans (length sinks) d).kind in
       let later = are_later g h (out_marks (back_of rolled kind added.sink) g h added.out) plans sinks opened.are in
       let out = subst (λ (l : List RollBack). RollsOut l f h) (sym (backs_more rolled plans sinks added.sink d below)) (out_then (backs_of rolled plans sinks) (back_of rolled kind added.sink) f g h opened.out added.out) in

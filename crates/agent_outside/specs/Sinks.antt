@@ -1,5 +1,5 @@
 -- The sinks of an agent, by their plans.
-use Rattle.std.specs.Prelude.{◌≡◌, ◌⊎◌, ℕ, zero, suc, List, [], ◌∷◌, ◌++◌, flat_map, take, Option, None, IsTrue, string_bytes}
+use Rattle.std.specs.Prelude.{◌≡◌, ◌⊎◌, ℕ, zero, suc, List, [], ◌∷◌, ◌++◌, flat_map, take, Option, None, Some, IsTrue, string_bytes}
 use Rattle.flume_host.specs.HandedOut.{HandedOut}
 use Rattle.flume_host.specs.HostState.{Folders, HostState}
 use Rattle.flume_host.specs.Rolled.{Rolled}
@@ -13,13 +13,6 @@ use Rattle.agent_sinks.specs.declared.sink.AgentSink.TheVariants.{Null, Roll, Av
 use Rattle.agent_outside.specs.Backs.{Reopened, RollBack, RollsOut}
 use Rattle.avro_ends.specs.Dialing.{DialTold}
 use Rattle.agent_outside.specs.Dials.{DialsRefused, HasNewDial, dials_of}
-
--- it drops what it is handed, writes rolled files, or makes Avro calls
-abbrev pub IsPlain : SinkKind → Type 0
-IsPlain plan.Null = Unit {0}
-IsPlain (plan.Roll folder interval) = Unit {0}
-IsPlain (plan.Avro host port) = Unit {0}
-IsPlain (plan.Plugin name) = ⊥
 
 -- the path of its folder, if it has one
 abbrev pub folder_of : SinkKind → List (List ℕ)
@@ -80,19 +73,40 @@ AreNew faults plans [] = Unit {0}
 AreNew faults [] (sink ∷ sinks) = ⊥
 AreNew faults (plan ∷ plans) (sink ∷ sinks) = IsNew faults plan.kind sink × AreNew faults plans sinks
 
+-- the first of some objects, and those behind it; of none there is none
+abbrev pub first_of : {B : Type 0} → List (Option B) → Option B
+first_of [] = None
+first_of (object ∷ objects) = object
+
+abbrev pub rest_of : {B : Type 0} → List (Option B) → List (Option B)
+rest_of [] = []
+rest_of (object ∷ objects) = objects
+
+-- a sink that was handed in is this object
+abbrev pub IsBoxed : {R A B : Type 0} → SinkKind → Option B → AgentSink R A B → Type 0
+IsBoxed (plan.Plugin name) object (Boxed sink) = object ≡ Some sink
+IsBoxed kind object sink = Unit {0}
+
+-- so it is of the first of these plans, each with the object at its place
+abbrev pub AreBoxed : {R A B : Type 0} → List SinkPlan → List (Option B) → List (AgentSink R A B) → Type 0
+AreBoxed plans objects [] = Unit {0}
+AreBoxed (plan ∷ plans) (object ∷ objects) (sink ∷ sinks) = IsBoxed plan.kind object sink × AreBoxed plans objects sinks
+AreBoxed plans objects sinks = ⊥
+
 -- The sinks of the first of these plans were opened, and nothing else of the folders changed.
 pub record SinksOpened {R A B : Type 0} (rolled : R → Option Rolled) (faults : R → ℕ) (plans : List SinkPlan) (old new : Folders) (sinks : List (AgentSink R A B)) : Type 0 where
   pub are : AreOfPlans new plans sinks
   pub made : AreNew faults plans sinks
   pub out : RollsOut (backs_of rolled plans sinks) old new
 
--- The sink of a plan was opened, and added to these; these are the host's dialers then.
-pub record SinkAdded {R A B : Type 0} (rolled : R → Option Rolled) (faults : R → ℕ) (dial : DialTold A) (plan : SinkPlan) (all : Option HandedOut)
+-- The sink of a plan, with this object, was opened, and added to these; these are the host's dialers then.
+pub record SinkAdded {R A B : Type 0} (rolled : R → Option Rolled) (faults : R → ℕ) (dial : DialTold A) (plan : SinkPlan) (object : Option B) (all : Option HandedOut)
     (old new : Folders) (before after : List (AgentSink R A B)) : Type 0 where
   pub sink : AgentSink R A B
   pub is : after ≡ before ++ sink ∷ []
   pub of : IsOfKind new plan.kind sink
   pub made : IsNew faults plan.kind sink
+  pub boxed : IsBoxed plan.kind object sink
   pub out : RollsOut (back_of rolled plan.kind sink) old new
   pub dialed : HasNewDial dial all plan.kind sink
 

@@ -1,17 +1,17 @@
 -- The statuses of a run of `agent`.
-use Rattle.std.proofs.Common.{◌≡◌, ◌⊎◌, inl, inr, ℕ, List, [], Bool, true, false, cond, Option, IfOk, Result, Ok, Err, refl, sym, subst, arith}
+use Rattle.std.proofs.Common.{◌≡◌, ◌⊎◌, inl, inr, ℕ, List, [], Bool, true, false, cond, Option, IfOk, Result, Ok, Err, refl, sym, ap, subst, arith}
 use Rattle.std.specs.declared.alloc.Global.{Global}
 use Rattle.std.specs.declared.vec.Vec.{Vec}
 use Rattle.prop_text.specs.declared.fault.PropRefused.TheVariants as text
 use Rattle.flume_config.specs.declared.plan.Plan.{Plan}
 use Rattle.plan_refused.specs.declared.refused.PlanRefused.TheVariants as plan
-use Rattle.plan_support.proofs.Telling.{no_plugin}
-use Rattle.plan_support.specs.Least.{HasNoPlugin}
+use Rattle.plan_objects.specs.Asks.{AreTaken}
+use Rattle.plan_objects.specs.declared.named.Named.{Named}
 use Rattle.agent_words.specs.Statuses.{status_of}
 use Rattle.agent_words.specs.declared.error.RunError.{RunError}
 use Rattle.agent_words.specs.declared.error.RunError.TheVariants.{Usage, FileTooLarge, Text, NoAgent, Plan as Plan', Fault, BadCheckpoint, BadLog, OverCapacity, Spent, Damaged, NoMemory, InputTooLong, LineTooLong}
 use Rattle.flume_host.specs.HostState.{HostState}
-use Rattle.agent_commands.specs.Checked.{IsPlanOf, Unplanned}
+use Rattle.agent_commands.specs.Checked.{IsPlanOf, Lacking, Unplanned}
 use Rattle.flume_host.specs.HandedOut.{HandedOut}
 use Rattle.flume_host.specs.Listens.{Endpoint}
 use Rattle.flume_host.specs.Rolled.{Rolled}
@@ -22,7 +22,7 @@ use Rattle.agent_channels.specs.Openings.{HostTold}
 use Rattle.agent_end.specs.Statuses.{run_status}
 use Rattle.agent_end.specs.declared.ends.RunEnds.{RunEnds}
 use Rattle.agent_run.specs.NotBegun.{ChannelNotOpened, DidNotBegin, IsRunRefused, NoPlan, NotBegun, NotPrepared, OutsideNotOpened}
-use Rattle.agent_run.specs.Through.{AgentEndsAs, CameTo, EndsAs}
+use Rattle.agent_run.specs.Through.{AgentEndsAs, CameTo, EndsAs, WithObjects}
 use Rattle.agent_run.specs.declared.outcome.ChannelEnd.{ChannelEnd}
 use Rattle.agent_run.specs.Errors.{IsRunStatus}
 use Rattle.agent_run.specs.Named.{AgentEnds, IsAgentStatus}
@@ -81,12 +81,12 @@ pub refused : (p : Plan) (status n : ℕ) (a b : HostTold) → status ≡ n → 
 refused p status n a b same why = subst IsRunStatus (sym same) (by_step n (step_status why))
 
 -- the plan was found in the file, and run
-pub named : (file : Option (List ℕ)) (agent : List ℕ) (status : ℕ) → IsRunStatus status → AgentEnds file agent status
-named file agent status is = record { which = inr is; fault = λ two. absurd (never_two status is two) }
+pub named : (lacks : Lacking) (file : Option (List ℕ)) (agent : List ℕ) (status : ℕ) → IsRunStatus status → AgentEnds lacks file agent status
+named lacks file agent status is = record { which = inr is; fault = λ two. absurd (never_two status is two) }
 
 -- it was not found
-pub unnamed : (file : Option (List ℕ)) (agent : List ℕ) (old new : HostState) (status : ℕ) → Unplanned file agent old new status → AgentEnds file agent status
-unnamed file agent old new status is = record {
+pub unnamed : (lacks : Lacking) (file : Option (List ℕ)) (agent : List ℕ) (old new : HostState) (status : ℕ) → Unplanned lacks file agent old new status → AgentEnds lacks file agent status
+unnamed lacks file agent old new status is = record {
   which = elim is.which [
     | inl two ↦ inl two
     | inr more ↦ elim more [
@@ -97,11 +97,8 @@ unnamed file agent old new status is = record {
   fault = λ two told e. is.fault two told e;
 }
 
-pub is_planned : (file : Option (List ℕ)) (agent : List ℕ) (p : Plan) → IsPlanOf file agent p → IsPlanned p
-is_planned file agent p of = (of.2.0, agent, of.2.2.0)
-
-pub has_no_plugin : (file : Option (List ℕ)) (agent : List ℕ) (p : Plan) → IsPlanOf file agent p → HasNoPlugin p
-has_no_plugin file agent p of = no_plugin p of.2.2.1
+pub is_planned : (lacks : Lacking) (file : Option (List ℕ)) (agent : List ℕ) (p : Plan) → IsPlanOf lacks file agent p → IsPlanned p
+is_planned lacks file agent p of = (of.2.0, agent, of.2.2.0)
 
 -- no error has the status 0
 pub nonzero : (e : RunError) → status_of e ≡ 0 → ⊥
@@ -137,11 +134,24 @@ not_begun {channels = channels} p status n a b planned same none why =
     (record { none = none; why = why; host = refused_host p n a b why; folders = refused_folders p n a b (folders_apart p planned) why })
 
 -- there was no plan
-pub not_planned : {channels : List ChannelEnd} (file : Option (List ℕ)) (agent : List ℕ) (status n : ℕ) (a b : HostTold) → status ≡ n → channels ≡ [] → Unplanned file agent a.state b.state n → b.folders ≡ a.folders
-    → DidNotBegin file agent status channels a b
-not_planned {channels = channels} file agent status n a b same none why folders =
-    let no : NoPlan file agent n a b = record { why = why; folders = folders } in
-    subst (λ (m : ℕ). DidNotBegin file agent m channels a b) (sym same) (record { none = none; host = plan_host file agent n a b no; why = inl no })
+pub not_planned : {channels : List ChannelEnd} (lacks : Lacking) (file : Option (List ℕ)) (agent : List ℕ) (status n : ℕ) (a b : HostTold) → status ≡ n → channels ≡ [] → Unplanned lacks file agent a.state b.state n → b.folders ≡ a.folders
+    → DidNotBegin lacks file agent status channels a b
+not_planned {channels = channels} lacks file agent status n a b same none why folders =
+    let no : NoPlan lacks file agent n a b = record { why = why; folders = folders } in
+    subst (λ (m : ℕ). DidNotBegin lacks file agent m channels a b) (sym same) (record { none = none; host = plan_host lacks file agent n a b no; why = inl no })
+
+-- there was no memory for the words, and nothing was touched
+pub not_read : {channels : List ChannelEnd} (lacks : Lacking) (file : Option (List ℕ)) (agent : List ℕ) (status : ℕ) (a b : HostTold) → channels ≡ [] → status ≡ 5 → b.state ≡ a.state → b.folders ≡ a.folders
+    → DidNotBegin lacks file agent status channels a b
+not_read lacks file agent status a b none five same folders =
+    let none_planned : Unplanned lacks file agent a.state b.state 5 = record {
+      which = inr (inr refl);
+      fault = λ two. absurd (omega (arith, two));
+      stopped = λ three. absurd (omega (arith, three));
+      well = λ _. ap (λ (s : HostState). s.faults) same;
+      state = (a.state.faults, same);
+    } in
+    not_planned lacks file agent status 5 a b five none none_planned folders
 
 -- a run that began came to the channels that are handed on
 pub came_with : {Ran : Plan → RunEnds → List ChannelEnd → HostTold → HostTold → Type 0} {p : Plan} {status : ℕ} {a b : HostTold} (ends : RunEnds) (before after : Vec ChannelEnd Global)
@@ -149,30 +159,33 @@ pub came_with : {Ran : Plan → RunEnds → List ChannelEnd → HostTold → Hos
 came_with {Ran = Ran} {p = p} {a = a} {b = b} ends before after same well ran =
     inl (record { ends = ends; by_ends = well; ran = subst (λ (v : Vec ChannelEnd Global). Ran p ends v.items a b) (sym same) ran })
 
--- how a run of this kind ended, from the same to the same
-module _ {Ran : Plan → RunEnds → List ChannelEnd → HostTold → HostTold → Type 0} {status : ℕ} {channels : List ChannelEnd} where
-  -- a run of the agent's plan in a file came to what the run of that plan came to
-  pub of_plan : {file : Option (List ℕ)} {agent : List ℕ} {p : Plan} {a a' b : HostTold} → a ≡ a' → IsPlanOf file agent p
-      → EndsAs Ran p status channels a b → AgentEndsAs Ran file agent status channels a' b
-  of_plan {p = p} {b = b} first of (inl ran) = inl (record { plan = p; of = of; ran = subst (λ (x : HostTold). CameTo Ran p status channels x b) first ran })
-  of_plan {p = p} {b = b} first of (inr not) =
-      let none = subst (λ (x : HostTold). NotBegun p status channels x b) first not in
-      inr (record { none = none.none; host = none.host; why = inr (p, of, none) })
+-- a run of the agent's plan in a file, with the objects that its sinks took of these, came to what the run of that plan with them came to
+pub of_plan : {B : Type 0} (Ran : List (Option B) → Plan → RunEnds → List ChannelEnd → HostTold → HostTold → Type 0) (lacks : Lacking) (held left : List (Named B)) (objects : List (Option B))
+    {status : ℕ} {channels : List ChannelEnd} {file : Option (List ℕ)} {agent : List ℕ} {p : Plan} {a a' b : HostTold} → a ≡ a' → IsPlanOf lacks file agent p → AreTaken p.sinks.items held objects left
+    → EndsAs (Ran objects) p status channels a b → AgentEndsAs lacks (WithObjects Ran held) file agent status channels a' b
+of_plan Ran lacks held left objects {status = status} {channels = channels} {p = p} {a = a} {b = b} first of taken (inl came) =
+    let with_objects : CameTo (WithObjects Ran held) p status channels a b = record { ends = came.ends; by_ends = came.by_ends; ran = (objects, left, taken, came.ran) } in
+    inl (record { plan = p; of = of; ran = subst (λ (x : HostTold). CameTo (WithObjects Ran held) p status channels x b) first with_objects })
+of_plan Ran lacks held left objects {status = status} {channels = channels} {p = p} {b = b} first of taken (inr not) =
+    let none = subst (λ (x : HostTold). NotBegun p status channels x b) first not in
+    inr (record { none = none.none; host = none.host; why = inr (p, of, none) })
 
+-- how a run of this kind ended, from the same to the same
+module _ {lacks : Lacking} {Ran : Plan → RunEnds → List ChannelEnd → HostTold → HostTold → Type 0} {status : ℕ} {channels : List ChannelEnd} where
   pub agent_same : {file : Option (List ℕ)} {agent : List ℕ} {a b b' : HostTold} → b ≡ b'
-      → AgentEndsAs Ran file agent status channels a b → AgentEndsAs Ran file agent status channels a b'
-  agent_same {file = file} {agent = agent} {a = a} last ran = subst (λ (x : HostTold). AgentEndsAs Ran file agent status channels a x) last ran
+      → AgentEndsAs lacks Ran file agent status channels a b → AgentEndsAs lacks Ran file agent status channels a b'
+  agent_same {file = file} {agent = agent} {a = a} last ran = subst (λ (x : HostTold). AgentEndsAs lacks Ran file agent status channels a x) last ran
 
   pub agent_named : (files : List ℕ → Option (List ℕ)) {file file' agent agent' : List ℕ} {a b : HostTold} → file ≡ file' → agent ≡ agent'
-      → AgentEndsAs Ran (files file) agent status channels a b → AgentEndsAs Ran (files file') agent' status channels a b
-  agent_named files {a = a} {b = b} f n ran = subst (λ (x : List ℕ × List ℕ). AgentEndsAs Ran (files x.0) x.1 status channels a b) (λ i. (f i, n i)) ran
+      → AgentEndsAs lacks Ran (files file) agent status channels a b → AgentEndsAs lacks Ran (files file') agent' status channels a b
+  agent_named files {a = a} {b = b} f n ran = subst (λ (x : List ℕ × List ℕ). AgentEndsAs lacks Ran (files x.0) x.1 status channels a b) (λ i. (f i, n i)) ran
 
 -- what comes with an answer comes with what follows of it
 pub if_ok : {T E : Type 0} (r : Result T E) (P Q : T → Type 0) → ((t : T) → P t → Q t) → IfOk r P → IfOk r Q
 if_ok (Ok t) P Q step p = step t p
 if_ok (Err e) P Q step p = tt
 
-pub outside_at : {R A B N : Type 0} {rolled : R → Option Rolled} {faults : R → ℕ} {dial : DialTold A} {Fresh : Endpoint → Option HandedOut → N → Type 0} {p : Plan} {l l' : List ℕ} {a b : HostTold}
-    {all : List (AgentSink R A B)} {bare bare' : List N} → l ≡ l' → bare ≡ bare' → IsOutside rolled faults dial Fresh p l a b all bare → IsOutside rolled faults dial Fresh p l' a b all bare'
-outside_at {N = N} {rolled = rolled} {faults = faults} {dial = dial} {Fresh = Fresh} {p = p} {a = a} {b = b} {all = all} places listeners is =
-    subst (λ (x : List ℕ × List N). IsOutside rolled faults dial Fresh p x.0 a b all x.1) (λ i. (places i, listeners i)) is
+pub outside_at : {R A B N : Type 0} {rolled : R → Option Rolled} {faults : R → ℕ} {dial : DialTold A} {Fresh : Endpoint → Option HandedOut → N → Type 0} {p : Plan} {objects : List (Option B)} {l l' : List ℕ} {a b : HostTold}
+    {all : List (AgentSink R A B)} {bare bare' : List N} → l ≡ l' → bare ≡ bare' → IsOutside rolled faults dial Fresh p objects l a b all bare → IsOutside rolled faults dial Fresh p objects l' a b all bare'
+outside_at {N = N} {rolled = rolled} {faults = faults} {dial = dial} {Fresh = Fresh} {p = p} {objects = objects} {a = a} {b = b} {all = all} places listeners is =
+    subst (λ (x : List ℕ × List N). IsOutside rolled faults dial Fresh p objects x.0 a b all x.1) (λ i. (places i, listeners i)) is

@@ -75,12 +75,12 @@ module _ {R P Q D L : Type 0} (rolled : R → Option Rolled) (links_of : P → S
   agent_asks s (Avro t) is = (t, refl, is.0, is.1, is.2)
   agent_asks s (Boxed t) is = absurd is
 
-  -- a delivery of any sink keeps its kind, and the address and port of its dialer
-  pub agent_stays : (dial : DialTold P) → ((x : P) → dial.endpoint x ≡ endpoint (links_of x).dialer) → (s t : AgentSink R P Q)
-      → DeliversAs (λ (x y : NullSink). answer ≡ Ok tt) (λ (x y : RollSink R). Rolls (state_of x) batch moment (roll_answer answer) (state_of y) (rolled x.dir) (rolled y.dir)) (AvroDelivers links_of links troubles told faults endpoint batch answer) (λ (x y : Q). answer ≡ Ok tt) s t
+  -- a delivery of any sink keeps its kind, and the address and port of its dialer, whatever one that was handed in does
+  pub agent_stays : (boxed : Q → Q → Type 0) (dial : DialTold P) → ((x : P) → dial.endpoint x ≡ endpoint (links_of x).dialer) → (s t : AgentSink R P Q)
+      → DeliversAs (λ (x y : NullSink). answer ≡ Ok tt) (λ (x y : RollSink R). Rolls (state_of x) batch moment (roll_answer answer) (state_of y) (rolled x.dir) (rolled y.dir)) (AvroDelivers links_of links troubles told faults endpoint batch answer) boxed s t
       → IsSameSink dial s t
-  agent_stays dial same s t is =
-      agent_keeps dial (λ (x y : NullSink). answer ≡ Ok tt) (λ (x y : RollSink R). Rolls (state_of x) batch moment (roll_answer answer) (state_of y) (rolled x.dir) (rolled y.dir)) (AvroDelivers links_of links troubles told faults endpoint batch answer) (λ (x y : Q). answer ≡ Ok tt)
+  agent_stays boxed dial same s t is =
+      agent_keeps dial (λ (x y : NullSink). answer ≡ Ok tt) (λ (x y : RollSink R). Rolls (state_of x) batch moment (roll_answer answer) (state_of y) (rolled x.dir) (rolled y.dir)) (AvroDelivers links_of links troubles told faults endpoint batch answer) boxed
       (λ a b d. same b ∙ d.3 ∙ sym (same a)) s t is
 
 ok_same : (said : Result (Unit {0}) DeliverRefused) (batch : List Content) → if_ok said batch ≡ ok_of (sink_answer said) batch

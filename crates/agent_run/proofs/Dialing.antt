@@ -184,9 +184,9 @@ some_share shares homes [] place at below many = absurd (omega (arith, below))
 some_share shares homes (w ∷ ws) place at below many = there shares w.channel (let l = (All-head (IsSinkHome homes) w ws at).0 in omega (arith, l, many))
 
 -- what was opened may be given back
-can_dial : {R A B N : Type 0} (rolled : R → Option Rolled) (faults : R → ℕ) (dial : DialTold A) (Fresh : Endpoint → Option HandedOut → N → Type 0) (p : Plan) (places : List ℕ) (a b : HostTold)
-    (sinks : List (AgentSink R A B)) (bare : List N) → IsOutside rolled faults dial Fresh p places a b sinks bare → CanDial dial b.folders p.sinks.items sinks b.state.dialers
-can_dial rolled faults dial Fresh p places a b sinks bare is =
+can_dial : {R A B N : Type 0} (rolled : R → Option Rolled) (faults : R → ℕ) (dial : DialTold A) (Fresh : Endpoint → Option HandedOut → N → Type 0) (p : Plan) (objects : List (Option B)) (places : List ℕ) (a b : HostTold)
+    (sinks : List (AgentSink R A B)) (bare : List N) → IsOutside rolled faults dial Fresh p objects places a b sinks bare → CanDial dial b.folders p.sinks.items sinks b.state.dialers
+can_dial rolled faults dial Fresh p objects places a b sinks bare is =
     let plans = p.sinks.items in
     let whole : take (length sinks) plans ≡ plans = ap (λ (n : ℕ). take n plans) is.many ∙ take_all (length plans) plans (omega arith) in
     let same : b.state.dialers ≡ is.between.dialers = ap (λ (s : HostState). s.dialers) is.opened.out.state in
@@ -198,11 +198,11 @@ can_dial rolled faults dial Fresh p places a b sinks bare is =
     }
 
 -- so may what stands in rows
-pub stand_in_rows : {R A B N G : Type 0} (rolled : R → Option Rolled) (faults : R → ℕ) (dial : DialTold A) (Fresh : Endpoint → Option HandedOut → N → Type 0) (p : Plan) (places : List ℕ) (a b : HostTold)
-    (rows : List SinkRow) (sinks : List (AgentSink R A B)) (bare : List N) (runners : List (Runner (AgentSink R A B) G)) → IsOutside rolled faults dial Fresh p places a b sinks bare
+pub stand_in_rows : {R A B N G : Type 0} (rolled : R → Option Rolled) (faults : R → ℕ) (dial : DialTold A) (Fresh : Endpoint → Option HandedOut → N → Type 0) (p : Plan) (objects : List (Option B)) (places : List ℕ) (a b : HostTold)
+    (rows : List SinkRow) (sinks : List (AgentSink R A B)) (bare : List N) (runners : List (Runner (AgentSink R A B) G)) → IsOutside rolled faults dial Fresh p objects places a b sinks bare
     → AreDealt sinks rows runners → StandInRows dial b.folders p.sinks.items rows runners b.state.dialers
-stand_in_rows rolled faults dial Fresh p places a b rows sinks bare runners is dealt =
-    record { sinks = sinks; dealt = dealt; can = can_dial rolled faults dial Fresh p places a b sinks bare is }
+stand_in_rows rolled faults dial Fresh p objects places a b rows sinks bare runners is dealt =
+    record { sinks = sinks; dealt = dealt; can = can_dial rolled faults dial Fresh p objects places a b sinks bare is }
 
 module _ {R X Y P Q G N I O C K Z : Type 0} (runs : Runs (EitherPort Z X Y) (Runner (AgentSink P Q R) G) N I O C K) (deliver : AgentSink P Q R → List Content → ℕ → Result (Unit {0}) SinkRefused → AgentSink P Q R → Type 0)
     (sink : Told (Runner (AgentSink P Q R) G)) (Means : Meaning K) (moments : C → Option (ℕ → ℕ)) (heard : N → Heard)

@@ -37,7 +37,7 @@ use Rattle.agent_end.specs.Statuses.{run_status}
 use Rattle.agent_end.specs.declared.draining.ChannelDrain.{ChannelDrain}
 use Rattle.agent_end.specs.declared.ends.RunEnds.{RunEnds}
 use Rattle.agent_outside.specs.Dials.{DialsOpened}
-use Rattle.agent_outside.specs.Sinks.{SinksOpened}
+use Rattle.agent_outside.specs.Sinks.{AreBoxed, SinksOpened}
 use Rattle.grouped_sinks.specs.Picks.{AreDealt}
 use Rattle.grouped_sinks.specs.Rows.{AreRows, IsOrder, places_of}
 use Rattle.grouped_sinks.specs.Splits.{RunnersSplit}
@@ -78,6 +78,7 @@ use Rattle.agent_run.specs.declared.settle.Settled.{Settled}
 use Rattle.agent_run.specs.declared.workers.Returned.{Returned}
 use Rattle.agent_run.specs.declared.workers.Workers.{Workers}
 use Rattle.agent_run.proofs.Asking.{AsksOnLinks, ClosesSo, dialed_told}
+use Rattle.agent_run.proofs.Boxing.{HandsOn, boxed_told}
 use Rattle.agent_run.proofs.Chaining.{drained_ends}
 use Rattle.agent_run.proofs.Comeback.{opened_state}
 use Rattle.agent_run.proofs.Course.{Course, Stands, closed_are_many, tells_of}
@@ -115,12 +116,13 @@ zips_at P (a ∷ xs) (b ∷ ys) all (suc i) x y below = zips_at P xs ys all.1 i 
 
 -- ---- the whole
 
--- The sinks of a plan were opened, and each row's runner has its own of them.
-pub record WereHanded {R P Q G : Type 0} (rolled : R → Option Rolled) (faults : R → ℕ) (dial : DialTold P) (plans : List SinkPlan) (rows : List SinkRow) (a b : HostTold)
+-- The sinks of a plan were opened, or are these objects, and each row's runner has its own of them.
+pub record WereHanded {R P Q G : Type 0} (rolled : R → Option Rolled) (faults : R → ℕ) (dial : DialTold P) (objects : List (Option Q)) (plans : List SinkPlan) (rows : List SinkRow) (a b : HostTold)
     (runners : List (Runner (AgentSink R P Q) G)) : Type 0 where
   pub sinks : List (AgentSink R P Q)
   pub many : length sinks ≡ length plans
   pub opened : SinksOpened rolled faults plans a.folders b.folders sinks
+  pub boxed : AreBoxed plans objects sinks
   pub between : HostState
   pub dials : DialsOpened dial plans a.state between sinks
   pub after : b.state.dialers ≡ between.dialers
@@ -203,13 +205,15 @@ module _ {R D P Q G N I O C K : Type 0} (rolled : R → Option Rolled) (dial : D
       (links_of : P → SinkLinks E L) (links : E → Option LinksTold) (troubles : E → ℕ) (link_told : L → Option LinkTold) (link_faults : L → ℕ)
       (asks : AsksOnLinks dial links_of links troubles link_told link_faults deliver) (law : RequestsAreOnLinks E L) (closes : ClosesSo dial links_of links troubles link_told link_faults deliver)
       (keeps : (s : AgentSink R P Q) (batch : List Content) (at : ℕ) (answer : Result (Unit {0}) SinkRefused) (t : AgentSink R P Q) → deliver s batch at answer t → IsSameSink dial s t)
+      (own : Q → List Content → ℕ → Result (Unit {0}) SinkRefused → Q → Type 0) (objects : List (Option Q)) (hands : HandsOn deliver own)
       (order : (rows : List SinkRow) → AreRows plan.sinks.items plan.groups.items rows → IsOrder (length plan.sinks.items) (places_of rows))
       (outside : (rows : List SinkRow) (p : Prepared K C) (a b : HostTold) (out : Outside (Runner (AgentSink R P Q) G) N) → Opens rows p a b out
-      → WereHanded rolled roll_faults dial plan.sinks.items rows a b out.sinks.items) where
-    -- The sinks of a run took what the workers of their rows committed; their folders and links have what they took.
+      → WereHanded rolled roll_faults dial objects plan.sinks.items rows a b out.sinks.items) where
+    -- The sinks of a run took what the workers of their rows committed; their folders and links have what they took, and those that were
+    -- handed in were handed it.
     pub run_members : (ends : RunEnds) (channels : List ChannelEnd) (a b : HostTold) (finals : List Known) (ran : Ran ends channels a b)
         → AreBeside (IsSinkWhole sink moments ran.ran.goes.manned.crew.shares.items finals) ran.ran.goes.manned.crew.jobs.sinks.items ran.ran.goes.settled.ends.items ran.ran.goes.settled.sinks.items
-        → MembersTold plan.sinks.items ran.rows ran.ran.goes.manned.crew.jobs.sinks.items finals a b
+        → MembersTold own objects plan.sinks.items ran.rows ran.ran.goes.manned.crew.jobs.sinks.items finals a b
     run_members ends channels a b finals ran whole =
         let o = ran.ran in
         let r = o.goes in
@@ -243,4 +247,5 @@ module _ {R D P Q G N I O C K : Type 0} (rolled : R → Option Rolled) (dial : D
               (dialed_told dial links_of links troubles link_told link_faults deliver asks law closes sink moments split shares finals plans rows jobs runners shared out.sinks backs dealt came as_many stand stay
               out.many o.between.folders out.opened.are a.state ran.behind.state out.between r.back.behind_sinks.state
               (sym (ap (λ (s : HostState). s.dialers) (opened_state ran.made.wishes.items ran.channels a ran.behind ran.opened))) out.dials r.behind.dialers between r.back.dials.told);
+          boxed = boxed_told deliver sink moments split shares finals plans rows jobs runners shared out.sinks backs dealt came as_many own hands o.between.folders objects out.opened.are out.boxed;
         }

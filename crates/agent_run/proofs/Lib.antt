@@ -70,6 +70,7 @@ pub mod Growing
 pub mod Sharing
 pub mod Parting
 pub mod Rolling
+pub mod Boxing
 pub mod Dialing
 pub mod Asking
 pub mod Unstaged

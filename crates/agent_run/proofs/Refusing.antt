@@ -23,6 +23,7 @@ use Rattle.agent_channels.specs.declared.wish.ChannelPlace.TheVariants as place
 use Rattle.agent_channels.specs.declared.wish.ChannelWish.{ChannelWish}
 use Rattle.agent_outside.specs.Ends.{places}
 use Rattle.agent_run.specs.Errors.{IsCauseError}
+use Rattle.agent_commands.specs.Checked.{Lacking}
 use Rattle.agent_run.specs.NotBegun.{AreWanted, ChannelNotOpened, IsCauseStatus, IsRefusedOutside, IsRunRefused, LeavesHost, NoPlan, NotPrepared, OutsideNotOpened}
 use Rattle.agent_outside.specs.Dials.{FailsBy}
 use Rattle.agent_run.specs.Outside.{OutsideRefused}
@@ -108,8 +109,8 @@ not_two_or_four status (inl three) (inr four) = absurd (omega (arith, three, fou
 not_two_or_four status (inr five) (inl two) = absurd (omega (arith, five, two))
 not_two_or_four status (inr five) (inr four) = absurd (omega (arith, five, four))
 
-pub plan_host : (file : Option (List ℕ)) (agent : List ℕ) (status : ℕ) (a b : HostTold) → NoPlan file agent status a b → LeavesHost status a.state b.state
-plan_host file agent status a b none =
+pub plan_host : (lacks : Lacking) (file : Option (List ℕ)) (agent : List ℕ) (status : ℕ) (a b : HostTold) → NoPlan lacks file agent status a b → LeavesHost status a.state b.state
+plan_host lacks file agent status a b none =
     let n = none.why.state.0 in
     let faults : b.state.faults ≡ n = ap (λ (s : HostState). s.faults) none.why.state.1 in
     host_counted status a.state b.state (from none.why.which) (below none.why.which) (none.why.state.1 ∙ ap (λ (m : ℕ). record a.state { faults = m }) (sym faults)) none.why.stopped (clean none.why.which)

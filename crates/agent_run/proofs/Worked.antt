@@ -1,4 +1,6 @@
 -- What the steps of a run come to.
+use Rattle.event_core.specs.Content.{Content}
+use Rattle.plug_in.specs.declared.sink.SinkRefused.{SinkRefused}
 use Rattle.std.proofs.Common.{◌≡◌, ◌∙◌, ◌<◌, ℕ, List, [], ◌∷◌, Bool, Option, Result, length, map, get_or, sym, ap, subst, arith}
 use Rattle.std.proofs.lemmas.List.{get_or-map, length-map}
 use Rattle.std.proofs.lemmas.List.Elements.{recursion_from_All}
@@ -80,7 +82,7 @@ module _ {R A B S N I O C K : Type 0} (runs : Runs (EitherPort R A B) S N I O C 
   abbrev pub Made : RunEnds → List ChannelEnd → HostTold → HostTold → Type 0
   Made = Steps runs sink Means moments heard left read_faults took handed write_faults disk tells moment memory tells' plan Drafted Opens Given Back
 
-  abbrev pub Did : RunEnds → List ChannelEnd → HostTold → HostTold → Type 0
+  abbrev pub Did : {Q : Type 0} → (Q → List Content → ℕ → Result (Unit {0}) SinkRefused → Q → Type 0) → List (Option Q) → RunEnds → List ChannelEnd → HostTold → HostTold → Type 0
   Did = RunDid runs sink Means moments heard left read_faults took handed write_faults disk tells moment memory tells' plan Drafted Opens Given Back
 
   -- Where a run ended well, nothing is staged in the channels that are in folders.
@@ -124,13 +126,13 @@ module _ {R A B S N I O C K : Type 0} (runs : Runs (EitherPort R A B) S N I O C 
 
   -- Steps are told of in all whose sinks took so much by what the workers called, whose status has its causes, and whose folders, report and
   -- drainings are told of at status 0.
-  pub run_did : (ends : RunEnds) (channels : List ChannelEnd) (a b : HostTold) (ran : Made ends channels a b)
+  pub run_did : {Q : Type 0} (delivers : Q → List Content → ℕ → Result (Unit {0}) SinkRefused → Q → Type 0) (objects : List (Option Q)) (ends : RunEnds) (channels : List ChannelEnd) (a b : HostTold) (ran : Made ends channels a b)
       → (AreBeside (IsSinkWhole sink moments ran.ran.goes.manned.crew.shares.items (passes_of channels)) ran.ran.goes.manned.crew.jobs.sinks.items
       ran.ran.goes.settled.ends.items ran.ran.goes.settled.sinks.items
-      → MembersTold plan.sinks.items ran.rows ran.ran.goes.manned.crew.jobs.sinks.items (passes_of channels) a b)
+      → MembersTold delivers objects plan.sinks.items ran.rows ran.ran.goes.manned.crew.jobs.sinks.items (passes_of channels) a b)
       → CausesTold plan (run_status ends) (passes_of channels) a.state b.state
-      → (run_status ends ≡ 0 → RunLeft plan ran.rows ends ran.ran.goes.homes ran.ran.goes.behind.output (passes_of channels) a b) → Did ends channels a b
-  run_did ends channels a b ran members causes after =
+      → (run_status ends ≡ 0 → RunLeft plan ran.rows ends ran.ran.goes.homes ran.ran.goes.behind.output (passes_of channels) a b) → Did delivers objects ends channels a b
+  run_did delivers objects ends channels a b ran members causes after =
       let o = ran.ran in
       let r = o.goes in
       let j = r.joins in

@@ -29,6 +29,7 @@ pub mod ReportTold
 pub mod DrainedTold
 pub mod RolledTold
 pub mod MembersTold
+pub mod BoxedTold
 pub mod DialedTold
 pub mod StagedTold
 pub mod RunLeft

@@ -1,5 +1,5 @@
 -- Which sinks of a run took what the workers of their rows committed.
-use Rattle.std.specs.Prelude.{◌≡◌, ◌<◌, ℕ, List, [], ◌∷◌, length, slice_index_or}
+use Rattle.std.specs.Prelude.{◌≡◌, ◌<◌, ℕ, List, [], ◌∷◌, Option, Result, length, slice_index_or}
 use Rattle.std.specs.List.{AllByRecursion}
 use Rattle.event_core.specs.Content.{Content}
 use Rattle.flume_config.specs.declared.plan.SinkPlan.{SinkPlan}
@@ -8,6 +8,8 @@ use Rattle.grouped_sinks.specs.declared.row.SinkRow.{SinkRow}
 use Rattle.shared_channel.specs.Passes.{Known}
 use Rattle.sink_worker.specs.declared.worker.SinkWorker.{SinkWorker}
 use Rattle.agent_channels.specs.Openings.{HostTold}
+use Rattle.plug_in.specs.declared.sink.SinkRefused.{SinkRefused}
+use Rattle.agent_run.specs.BoxedTold.{BoxedTold}
 use Rattle.agent_run.specs.DialedTold.{DialedTold}
 use Rattle.agent_run.specs.RolledTold.{CountsMore, RolledTold, calls_of, committed, seen_of}
 
@@ -18,11 +20,13 @@ pub record RowTook {S C : Type 0} (finals : List Known) (row : SinkRow) (job : S
   pub these : CountsMore (length (seen_of finals job).seen) → batches_of taken ≡ committed [] (calls_of finals job)
 
 -- So many batches were taken in each row; the folders of rolled files have just those that their sinks took, in order, and so have the links
--- of Avro sinks.
-pub record MembersTold {S C : Type 0} (plans : List SinkPlan) (rows : List SinkRow) (jobs : List (SinkWorker Known S C)) (finals : List Known) (a b : HostTold) : Type 0 where
+-- of Avro sinks; and each sink that was handed in was handed its own.
+pub record MembersTold {S C Q : Type 0} (delivers : Q → List Content → ℕ → Result (Unit {0}) SinkRefused → Q → Type 0) (objects : List (Option Q))
+    (plans : List SinkPlan) (rows : List SinkRow) (jobs : List (SinkWorker Known S C)) (finals : List Known) (a b : HostTold) : Type 0 where
   pub taken : List (List (ℕ × List Content))
   pub as_many : length taken ≡ length rows
   pub each : (at : ℕ) (row : SinkRow) (job : SinkWorker Known S C) (took : List (ℕ × List Content)) → at < length rows
       → RowTook finals (slice_index_or rows at row) (slice_index_or jobs at job) (slice_index_or taken at took)
   pub rolled : RolledTold plans rows jobs taken finals a.folders b.folders
   pub dialed : DialedTold plans rows jobs taken finals a.state b.state
+  pub boxed : BoxedTold delivers objects plans rows jobs taken finals

@@ -18,7 +18,7 @@ use Rattle.agent_channels.specs.declared.wish.ChannelWish.{ChannelWish}
 use Rattle.agent_outside.specs.Backs.{is_among}
 use Rattle.agent_outside.specs.Ends.{places}
 use Rattle.agent_outside.specs.Sinks.{folders_of}
-use Rattle.agent_commands.specs.Checked.{IsPlanOf, Unplanned}
+use Rattle.agent_commands.specs.Checked.{IsPlanOf, Lacking, Unplanned}
 use Rattle.agent_commands.specs.Piped.{cause_status}
 use Rattle.agent_commands.specs.Stored.{IsOfFolder}
 use Rattle.agent_run.specs.FoldersTold.{folder_of}
@@ -30,8 +30,8 @@ use Rattle.agent_run.specs.declared.outcome.ChannelEnd.{ChannelEnd}
 -- ---- which step refused, and why
 
 -- The file could not be read, or the agent has no plan in it. No folder was touched.
-pub record NoPlan (file : Option (List ℕ)) (agent : List ℕ) (status : ℕ) (a b : HostTold) : Type 0 where
-  pub why : Unplanned file agent a.state b.state status
+pub record NoPlan (lacks : Lacking) (file : Option (List ℕ)) (agent : List ℕ) (status : ℕ) (a b : HostTold) : Type 0 where
+  pub why : Unplanned lacks file agent a.state b.state status
   pub folders : b.folders ≡ a.folders
 
 -- The host failed to tell a name that interceptors ask for, or memory ran out, before anything was opened. No folder was touched.
@@ -134,7 +134,7 @@ pub record NotBegun (plan : Plan) (status : ℕ) (channels : List ChannelEnd) (a
   pub folders : LeavesFolders plan status a.folders b.folders
 
 -- A run of the agent's plan in this file did not begin, or there is no such plan. No channel comes back.
-pub record DidNotBegin (file : Option (List ℕ)) (agent : List ℕ) (status : ℕ) (channels : List ChannelEnd) (a b : HostTold) : Type 0 where
+pub record DidNotBegin (lacks : Lacking) (file : Option (List ℕ)) (agent : List ℕ) (status : ℕ) (channels : List ChannelEnd) (a b : HostTold) : Type 0 where
   pub none : channels ≡ []
   pub host : LeavesHost status a.state b.state
-  pub why : NoPlan file agent status a b ⊎ ((plan : Plan) × IsPlanOf file agent plan × NotBegun plan status channels a b)
+  pub why : NoPlan lacks file agent status a b ⊎ ((plan : Plan) × IsPlanOf lacks file agent plan × NotBegun plan status channels a b)

@@ -15,7 +15,7 @@ use Rattle.agent_outside.specs.Backs.{Reopened}
 use Rattle.agent_outside.specs.Dials.{DialsOpened, FailsBy, dials_of}
 use Rattle.agent_outside.specs.Ends.{ListenersBack, come_back, end_at}
 use Rattle.agent_outside.specs.Listening.{CameUnused, ListenersOpened}
-use Rattle.agent_outside.specs.Sinks.{SinksOpened, folders_of}
+use Rattle.agent_outside.specs.Sinks.{AreBoxed, SinksOpened, folders_of}
 use Rattle.agent_outside.specs.declared.listener.SourceListener.{SourceListener}
 use Rattle.flume_config.specs.declared.plan.GroupPlan.{GroupPlan}
 use Rattle.grouped_sinks.specs.Picks.{AreDealt, AreNewRunners}
@@ -40,11 +40,13 @@ pub record LeavesDisks (old new : Folders) : Type 0 where
   pub disks : new.disks ≡ old.disks
   pub opened : new.disk_opened ≡ old.disk_opened
 
--- The sinks of a plan were opened, each with a folder or a dialer if it has one, and then its listeners, of the sources at these places.
+-- The sinks of a plan were opened, each with a folder or a dialer if it has one, or as the object that it asks for, and then its listeners,
+-- of the sources at these places.
 pub record IsOutside {R A B N : Type 0} (rolled : R → Option Rolled) (faults : R → ℕ) (dial : DialTold A) (Fresh : Endpoint → Option HandedOut → N → Type 0)
-    (plan : Plan) (places : List ℕ) (a b : HostTold) (all : List (AgentSink R A B)) (bare : List N) : Type 0 where
+    (plan : Plan) (objects : List (Option B)) (places : List ℕ) (a b : HostTold) (all : List (AgentSink R A B)) (bare : List N) : Type 0 where
   pub many : length all ≡ length plan.sinks.items
   pub sinks : SinksOpened rolled faults plan.sinks.items a.folders b.folders all
+  pub boxed : AreBoxed plan.sinks.items objects all
   pub between : HostState
   pub dials : DialsOpened dial plan.sinks.items a.state between all
   pub named : List (SourceListener N)

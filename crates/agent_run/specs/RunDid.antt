@@ -3,7 +3,9 @@ use Rattle.std.specs.Prelude.{◌≡◌, ℕ, List, [], ◌∷◌, Bool, Option,
 use Rattle.std.specs.declared.alloc.Global.{Global}
 use Rattle.channel_face.specs.History.{Opening, Step}
 use Rattle.channel_face.specs.declared.replies.Counts.{Counts}
+use Rattle.event_core.specs.Content.{Content}
 use Rattle.flume_config.specs.declared.plan.Plan.{Plan}
+use Rattle.plug_in.specs.declared.sink.SinkRefused.{SinkRefused}
 use Rattle.flume_host.specs.HostState.{HostState}
 use Rattle.grouped_sinks.specs.declared.row.SinkRow.{SinkRow}
 use Rattle.line_session.specs.declared.session.SessionEnd.TheVariants as session
@@ -81,23 +83,26 @@ module _ {R A B S N I O C K : Type 0} (runs : Runs (EitherPort R A B) S N I O C 
     abbrev pub Steps : RunEnds → List ChannelEnd → HostTold → HostTold → Type 0
     Steps = PlanRan plan Drafted Opens (λ rows o. RanThrough rows o Takes (Joins Given) Settles (Back rows))
 
-    -- A run made its steps. Each channel that comes back is named with its workers, and its pass saw all calls. In these the calls of each
-    -- row of sinks, of each session and of the worker of lines are all calls with their numbers; each batch that the calls of a row commit was
-    -- taken by one of its sinks; the folders of rolled files hold what their sinks took, and the links of Avro sinks took the requests of what
-    -- these took. It is told why the status is what it is. At status 0 the workers ran, standard input had its dialogue, nothing is
-    -- staged in a folder's channel, and it is told what the channels' folders hold, what the report says, and which sinks emptied their channels.
-    pub record RunDid (ends : RunEnds) (channels : List ChannelEnd) (a b : HostTold) : Type 0 where
-      pub steps : Steps ends channels a b
-      pub labels : AreLabels (users_of plan steps.rows steps.made.listeners.items steps.made.lines.items) 0 plan.channels.items (map label_of channels)
-      pub input : steps.ran.between.state.input ≡ a.state.input
-      pub output : steps.ran.between.state.output ≡ a.state.output
-      pub full : AreToldInFull sink Means moments heard talk steps.ran.goes.manned.crew.shares.items steps.ran.goes.homes (passes_of channels)
-          steps.ran.goes.manned.crew.jobs steps.ran.goes.joins.returned steps.ran.goes.settled
-      pub members : MembersTold plan.sinks.items steps.rows steps.ran.goes.manned.crew.jobs.sinks.items (passes_of channels) a b
-      pub causes : CausesTold plan (run_status ends) (passes_of channels) a.state b.state
-      pub workers : run_status ends ≡ 0
-          → AreTold runs sink Means moments heard talk steps.ran.goes.manned.crew.shares.items steps.ran.goes.homes steps.ran.goes.manned.crew.jobs steps.ran.goes.joins.returned
-      pub served : run_status ends ≡ 0 → AreServed (passes_of channels) steps.ran.goes.manned.crew.shares.items steps.ran.goes.manned.crew.jobs.lines.items
-          steps.ran.between.state steps.ran.goes.joins.behind_lines
-      pub staged : run_status ends ≡ 0 → StagedTold plan.channels.items (passes_of channels)
-      pub left_behind : run_status ends ≡ 0 → RunLeft plan steps.rows ends steps.ran.goes.homes steps.ran.goes.behind.output (passes_of channels) a b
+    -- with these objects as those of its sinks, and what a delivery to one means
+    module _ {Q : Type 0} (delivers : Q → List Content → ℕ → Result (Unit {0}) SinkRefused → Q → Type 0) (objects : List (Option Q)) where
+      -- A run made its steps. Each channel that comes back is named with its workers, and its pass saw all calls. In these the calls of each
+      -- row of sinks, of each session and of the worker of lines are all calls with their numbers; each batch that the calls of a row commit was
+      -- taken by one of its sinks; the folders of rolled files hold what their sinks took, the links of Avro sinks took the requests of what
+      -- these took, and each sink that was handed in was handed what it took. It is told why the status is what it is. At status 0 the workers
+      -- ran, standard input had its dialogue, nothing is staged in a folder's channel, and it is told what the channels' folders hold, what the
+      -- report says, and which sinks emptied their channels.
+      pub record RunDid (ends : RunEnds) (channels : List ChannelEnd) (a b : HostTold) : Type 0 where
+        pub steps : Steps ends channels a b
+        pub labels : AreLabels (users_of plan steps.rows steps.made.listeners.items steps.made.lines.items) 0 plan.channels.items (map label_of channels)
+        pub input : steps.ran.between.state.input ≡ a.state.input
+        pub output : steps.ran.between.state.output ≡ a.state.output
+        pub full : AreToldInFull sink Means moments heard talk steps.ran.goes.manned.crew.shares.items steps.ran.goes.homes (passes_of channels)
+            steps.ran.goes.manned.crew.jobs steps.ran.goes.joins.returned steps.ran.goes.settled
+        pub members : MembersTold delivers objects plan.sinks.items steps.rows steps.ran.goes.manned.crew.jobs.sinks.items (passes_of channels) a b
+        pub causes : CausesTold plan (run_status ends) (passes_of channels) a.state b.state
+        pub workers : run_status ends ≡ 0
+            → AreTold runs sink Means moments heard talk steps.ran.goes.manned.crew.shares.items steps.ran.goes.homes steps.ran.goes.manned.crew.jobs steps.ran.goes.joins.returned
+        pub served : run_status ends ≡ 0 → AreServed (passes_of channels) steps.ran.goes.manned.crew.shares.items steps.ran.goes.manned.crew.jobs.lines.items
+            steps.ran.between.state steps.ran.goes.joins.behind_lines
+        pub staged : run_status ends ≡ 0 → StagedTold plan.channels.items (passes_of channels)
+        pub left_behind : run_status ends ≡ 0 → RunLeft plan steps.rows ends steps.ran.goes.homes steps.ran.goes.behind.output (passes_of channels) a b

@@ -9,12 +9,14 @@ use Rattle.agent_end.specs.declared.ends.ReportRefused.{ReportRefused}
 use Rattle.agent_end.specs.Statuses.{run_status}
 use Rattle.agent_end.specs.declared.ends.RunEnds.{RunEnds}
 use Rattle.channel_face.specs.declared.replies.Counts.{Counts}
-use Rattle.agent_commands.specs.Checked.{IsPlanOf}
+use Rattle.agent_commands.specs.Checked.{IsPlanOf, Lacking}
 use Rattle.flume_config.specs.declared.plan.ChannelPlan.{ChannelPlan}
 use Rattle.flume_config.specs.declared.plan.Plan.{Plan}
 use Rattle.grouped_sinks.specs.Rows.{AreRows}
 use Rattle.grouped_sinks.specs.declared.row.SinkRow.{SinkRow}
 use Rattle.flume_host.specs.HostState.{HostState}
+use Rattle.plan_objects.specs.Asks.{AreTaken}
+use Rattle.plan_objects.specs.declared.named.Named.{Named}
 use Rattle.run_tracks.specs.Homes.{EachTook}
 use Rattle.shared_channel.specs.Passes.{Known}
 use Rattle.sink_worker.specs.declared.worker.SinkWorker.{SinkWorker}
@@ -106,17 +108,23 @@ pub record CameTo (Ran : Plan → RunEnds → List ChannelEnd → HostTold → H
   pub by_ends : run_status ends ≡ status
   pub ran : Ran plan ends channels a b
 
+-- The run of a plan, with the objects that its sinks took, each in turn, out of these.
+abbrev pub WithObjects : {B : Type 0} → (List (Option B) → Plan → RunEnds → List ChannelEnd → HostTold → HostTold → Type 0) → List (Named B)
+    → Plan → RunEnds → List ChannelEnd → HostTold → HostTold → Type 0
+WithObjects {B} Ran held plan ends channels a b =
+    (objects : List (Option B)) × (left : List (Named B)) × AreTaken plan.sinks.items held objects left × Ran objects plan ends channels a b
+
 -- A run of the plan came to this status and these channels, or did not begin.
 abbrev pub EndsAs : (Plan → RunEnds → List ChannelEnd → HostTold → HostTold → Type 0) → Plan → ℕ → List ChannelEnd → HostTold → HostTold → Type 0
 EndsAs Ran plan status channels a b = CameTo Ran plan status channels a b ⊎ NotBegun plan status channels a b
 
 -- A run of the agent's plan in this file came to this status and these channels.
-pub record AgentRan (Ran : Plan → RunEnds → List ChannelEnd → HostTold → HostTold → Type 0) (file : Option (List ℕ)) (agent : List ℕ) (status : ℕ)
+pub record AgentRan (lacks : Lacking) (Ran : Plan → RunEnds → List ChannelEnd → HostTold → HostTold → Type 0) (file : Option (List ℕ)) (agent : List ℕ) (status : ℕ)
     (channels : List ChannelEnd) (a b : HostTold) : Type 0 where
   pub plan : Plan
-  pub of : IsPlanOf file agent plan
+  pub of : IsPlanOf lacks file agent plan
   pub ran : CameTo Ran plan status channels a b
 
 -- It did, or the run did not begin.
-abbrev pub AgentEndsAs : (Plan → RunEnds → List ChannelEnd → HostTold → HostTold → Type 0) → Option (List ℕ) → List ℕ → ℕ → List ChannelEnd → HostTold → HostTold → Type 0
-AgentEndsAs Ran file agent status channels a b = AgentRan Ran file agent status channels a b ⊎ DidNotBegin file agent status channels a b
+abbrev pub AgentEndsAs : Lacking → (Plan → RunEnds → List ChannelEnd → HostTold → HostTold → Type 0) → Option (List ℕ) → List ℕ → ℕ → List ChannelEnd → HostTold → HostTold → Type 0
+AgentEndsAs lacks Ran file agent status channels a b = AgentRan lacks Ran file agent status channels a b ⊎ DidNotBegin lacks file agent status channels a b

@@ -1,13 +1,14 @@
 // The run of an agent.
-ghost use Rattle.std.specs.Prelude.{◌≡◌, ◌+◌, ◌++◌, ◌≤◌, [], All, IfErr, IfOk, Some, length, map};
+ghost use Rattle.std.specs.Prelude.{◌≡◌, ◌+◌, ◌++◌, ◌≤◌, [], All, IfErr, IfOk, Some, length, map, reverse};
 ghost use Rattle.two_channels.specs.Shares.{pass_of};
 ghost use Rattle.std.specs.Vec.{vec_capacity};
 ghost use Rattle.agent_channels.specs.Closings.{AreOfWishes, AreOut};
 ghost use Rattle.agent_channels.specs.Several.{WereOpened};
 ghost use Rattle.agent_end.specs.Statuses.{run_status};
-ghost use Rattle.agent_outside.specs.Sinks.{AreOpened, IsPlain};
+ghost use Rattle.agent_outside.specs.Sinks.{AreOpened};
 ghost use Rattle.agent_words.specs.Statuses.{status_of};
-ghost use Rattle.plan_support.specs.Least.{HasNoPlugin};
+ghost use Rattle.plan_objects.specs.Least.{HasOwnSteps};
+ghost use Rattle.plan_objects.specs.Asks.{HaveObjects, first_unmet, names_of};
 ghost use Rattle.agent_run.specs.Lists.{HasRoomFor, HasSettleRoom};
 ghost use Rattle.agent_run.specs.Opening.{CanBeManned};
 ghost use Rattle.agent_run.specs.Named.{AgentEnds};
@@ -18,7 +19,7 @@ ghost use Rattle.grouped_sinks.specs.Frames.{IsFrameOf};
 ghost use Rattle.grouped_sinks.specs.Rows.{AreRows, IsOrder, Zips, places_of};
 ghost use Rattle.agent_run.specs.NotBegun.{IsRefusedOutside, IsRunRefused};
 ghost use Rattle.agent_run.specs.Run.{CanListenAt, IsGivenBack, MayReturn, StandInRows};
-ghost use Rattle.agent_run.specs.Through.{AgentEndsAs, EndsAs, OpenedAndRan};
+ghost use Rattle.agent_run.specs.Through.{AgentEndsAs, EndsAs, OpenedAndRan, WithObjects};
 ghost use Rattle.agent_run.specs.Errors.{IsBrokenCause, IsBrokenError, IsCauseError, IsRunStatus, IsSaid};
 
 use crate::assemble::Crew;
@@ -38,8 +39,7 @@ use agent_channels::{
     ChannelRefused, ChannelWish, OpenedChannel, close_channels, closed_channels_fit,
     give_all_unused, open_channels,
 };
-use agent_commands::{plan_agent, unopened};
-use agent_drafts::sinks_are_plain;
+use agent_commands::{Planned, plan_agent, unopened};
 use agent_end::RunEnds;
 use agent_outside::give_back_sinks;
 use agent_words::RunError;
@@ -55,7 +55,8 @@ use memory_channel::MemoryChannel;
 use plan_laws::{
     groups_name_what_is_there, numbers_are_limited, sinks_name_what_is_there, sinks_stand_once,
 };
-use plug_in::Interceptor;
+use plan_objects::{HandedIn, Objects};
+use plug_in::{EventSink, Interceptor};
 use shared_channel::Pass;
 use std::alloc::{AllocError, Global};
 use std::sync::Wait;
@@ -89,14 +90,20 @@ pub(crate) struct Ran {
 }
 
 // Runs what was opened, to its end.
-fn run_opened<'a, R: Threads + Wait + Sync + 'a, H: Host + 'a, K: Interceptor + Send + Drop>(
+fn run_opened<
+    'a,
+    R: Threads + Wait + Sync + 'a,
+    H: Host + 'a,
+    K: Interceptor + Send + Drop,
+    B: EventSink + Send,
+>(
     rt: &'a R,
     alloc: Global,
     host: &mut H,
     plan: &Plan,
     rows: &[SinkRow],
-    vacant: Vec<SinkOf<H>>,
-    opening: OpeningOf<H, K>,
+    vacant: Vec<SinkOf<H, B>>,
+    opening: OpeningOf<H, K, B>,
 ) -> Ran
     requires can { CanBeManned rows.now opening }
     requires order { IsOrder (length plan.now.sinks.items) (places_of rows.now) }
@@ -111,7 +118,7 @@ fn run_opened<'a, R: Threads + Wait + Sync + 'a, H: Host + 'a, K: Interceptor + 
     requires disks { AreOut (H.folders host.old) opening.prepared.wishes.items }
     requires settle { HasSettleRoom plan.now.channels.items (length rows.now) opening.settled }
     requires many { length opening.prepared.wishes.items ≡ length plan.now.channels.items }
-    ensures { ⟦<RunOf<'a, R, H, K> as Goes<OpeningOf<H, K>>>⟧.goes plan.now rows.now opening
+    ensures { ⟦<RunOf<'a, R, H, K, B> as Goes<OpeningOf<H, K, B>>>⟧.goes plan.now rows.now opening
         result.ends result.channels.items
         (record { state = H.state host.old; folders = H.folders host.old })
         (record { state = H.state host.new; folders = H.folders host.new }) }
@@ -151,14 +158,14 @@ fn run_opened<'a, R: Threads + Wait + Sync + 'a, H: Host + 'a, K: Interceptor + 
         R,
         FileChannel<H::Disk>,
         MemoryChannel,
-        RunnerOf<H>,
+        RunnerOf<H, B>,
         H::Listener,
         H::Source,
         H::Sink,
         H::Clock,
         K,
     >();
-    runners_split::<SinkOf<H>, H::Random>();
+    runners_split::<SinkOf<H, B>, H::Random>();
     let ends = give_rest(
         alloc,
         host,
@@ -175,15 +182,15 @@ fn run_opened<'a, R: Threads + Wait + Sync + 'a, H: Host + 'a, K: Interceptor + 
 }
 
 // Gives the sinks and the channels back after a run, and writes the report.
-fn give_rest<H: Host>(
+fn give_rest<H: Host, B: EventSink>(
     alloc: Global,
     host: &mut H,
     plans: &[SinkPlan],
     rows: &[SinkRow],
-    places: Vec<SinkOf<H>>,
+    places: Vec<SinkOf<H, B>>,
     wishes: Vec<ChannelWish>,
     passes: &mut Vec<Pass>,
-    settled: Settled<RunnerOf<H>, FileChannel<H::Disk>, MemoryChannel>,
+    settled: Settled<RunnerOf<H, B>, FileChannel<H::Disk>, MemoryChannel>,
     streams: StreamsEnded,
 ) -> RunEnds
     requires sinks { AreOpened (H.folders host.old) plans.now (length plans.now) }
@@ -227,17 +234,24 @@ fn give_rest<H: Host>(
 }
 
 // Opens what a run needs outside its channels, and runs. Where that is refused, the channels are given back.
-fn run_channels<'a, R: Threads + Wait + Sync + 'a, H: Host + 'a, K: Interceptor + Send + Drop>(
+fn run_channels<
+    'a,
+    R: Threads + Wait + Sync + 'a,
+    H: Host + 'a,
+    K: Interceptor + Send + Drop,
+    B: EventSink + Send,
+>(
     rt: &'a R,
     alloc: Global,
     host: &mut H,
     plan: &Plan,
     rows: &[SinkRow],
-    frames: Vec<Frame<SinkOf<H>, H::Random>>,
+    objects: Objects<B>,
+    frames: Vec<Frame<SinkOf<H, B>, H::Random>>,
     opened: Vec<OpenedChannel<FileChannel<H::Disk>, MemoryChannel>>,
     prepared: Prepared<K, H::Clock>,
     room: Room<
-        RunnerOf<H>,
+        RunnerOf<H, B>,
         FileChannel<H::Disk>,
         MemoryChannel,
         H::Listener,
@@ -251,7 +265,7 @@ fn run_channels<'a, R: Threads + Wait + Sync + 'a, H: Host + 'a, K: Interceptor 
     requires planned { IsPlanned plan.now }
     requires rows { AreRows plan.now.sinks.items plan.now.groups.items rows.now }
     requires frames { Zips (IsFrameOf plan.now.groups.items) rows.now frames.items }
-    requires plain { All (λ sink. IsPlain sink.kind) plan.now.sinks.items }
+    requires have { HaveObjects plan.now.sinks.items (reverse objects.sinks.items) }
     requires opened { WereOpened prepared.wishes.items opened.items }
     requires out { AreOut (H.folders host.old) prepared.wishes.items }
     requires room { HasRoomFor plan.now (length rows.now) (length prepared.listeners.items) (length prepared.lines.items) room }
@@ -263,13 +277,14 @@ fn run_channels<'a, R: Threads + Wait + Sync + 'a, H: Host + 'a, K: Interceptor 
         (λ old new outside. HasRunners (λ sinks. IsOutside H.Roll.rolled H.Roll.faults
         ⟦<AvroSink<H::Dialer> as HasDialer>⟧.dial
         (IsFresh H.Listener.told H.Listener.endpoint H.Listener.waits H.Listener.faults)
-        plan.now prepared.places.items old new sinks outside.listeners.items)
+        plan.now (reverse objects.sinks.items) prepared.places.items old new sinks outside.listeners.items)
         plan.now.groups.items rows.now outside.sinks.items)
-        (⟦<RunOf<'a, R, H, K> as Goes<OpeningOf<H, K>>>⟧.goes plan.now rows.now)
+        (⟦<RunOf<'a, R, H, K, B> as Goes<OpeningOf<H, K, B>>>⟧.goes plan.now rows.now)
         run.ends run.channels.items
         (record { state = H.state host.old; folders = H.folders host.old })
         (record { state = H.state host.new; folders = H.folders host.new })) }
 {
+    let Objects { sinks: objects } = objects;
     let Room {
         listeners,
         runners,
@@ -277,7 +292,8 @@ fn run_channels<'a, R: Threads + Wait + Sync + 'a, H: Host + 'a, K: Interceptor 
         workers,
         settled,
     } = room;
-    match open_outside(alloc, host, plan, prepared.places.as_slice(), listeners) {
+    let places = prepared.places.as_slice();
+    match open_outside(alloc, host, plan, objects, places, listeners) {
         Ok(outside) => {
             sinks_name_what_is_there();
             groups_name_what_is_there();
@@ -306,25 +322,26 @@ fn run_channels<'a, R: Threads + Wait + Sync + 'a, H: Host + 'a, K: Interceptor 
     }
 }
 
-/// Runs the agent of a plan to its end. It is refused where a name was not told, or a channel, a folder or a listener was not opened;
-/// then what was opened came back unused.
+/// Runs the agent of a plan, whose sinks take these objects, to its end. It is refused where a name was not told, or a channel, a folder
+/// or a listener was not opened; then what was opened came back unused.
 pub(crate) fn run_plan<
     'a,
     R: Threads + Wait + Sync + 'a,
     H: Host + 'a,
     K: Interceptor + Send + Drop,
->(rt: &'a R, alloc: Global, host: &mut H, plan: &Plan) -> Result<Ran, RunError>
+    B: EventSink + Send,
+>(rt: &'a R, alloc: Global, host: &mut H, plan: &Plan, objects: Objects<B>) -> Result<Ran, RunError>
     requires planned { IsPlanned plan.now }
-    requires own { HasNoPlugin plan.now }
+    requires own { All HasOwnSteps plan.now.sources.items }
+    requires have { HaveObjects plan.now.sinks.items (reverse objects.sinks.items) }
     ensures refused { IfErr result (λ error. IsRunRefused plan.now (status_of error)
         (record { state = H.state host.old; folders = H.folders host.old })
         (record { state = H.state host.new; folders = H.folders host.new })) }
-    ensures ran { IfOk result (λ run. ⟦<RunOf<'a, R, H, K> as Steps>⟧.steps plan.now
-        run.ends run.channels.items
+    ensures ran { IfOk result (λ run. ⟦<RunOf<'a, R, H, K, B> as Steps<B>>⟧.steps
+        (reverse objects.sinks.items) plan.now run.ends run.channels.items
         (record { state = H.state host.old; folders = H.folders host.old })
         (record { state = H.state host.new; folders = H.folders host.new })) }
 {
-    sinks_are_plain();
     groups_name_what_is_there();
     let rows = rows_of(alloc, plan)?;
     let rows = rows.as_slice();
@@ -333,7 +350,9 @@ pub(crate) fn run_plan<
     let listeners = prepared.listeners.len();
     let room = room_of(alloc, plan, rows.len(), listeners, prepared.lines.len())?;
     match open_channels(rt, alloc, host, prepared.wishes.as_slice()) {
-        Ok(opened) => run_channels(rt, alloc, host, plan, rows, frames, opened, prepared, room),
+        Ok(opened) => run_channels(
+            rt, alloc, host, plan, rows, objects, frames, opened, prepared, room,
+        ),
         Err(ChannelRefused { place, cause }) => {
             Err(cause_error(alloc, &plan.channels[place], cause))
         }
@@ -428,43 +447,56 @@ fn broken_error(alloc: Global, plans: &[ChannelPlan], mends: &[Result<bool, Open
     }
 }
 
-// Runs the agent of a plan, and answers how that ended.
-fn end_plan<'a, R: Threads + Wait + Sync + 'a, H: Host + 'a, K: Interceptor + Send + Drop>(
-    rt: &'a R,
-    alloc: Global,
-    host: &mut H,
-    plan: &Plan,
-) -> Ended
+// Runs the agent of a plan, whose sinks take these objects, and answers how that ended.
+fn end_plan<
+    'a,
+    R: Threads + Wait + Sync + 'a,
+    H: Host + 'a,
+    K: Interceptor + Send + Drop,
+    B: EventSink + Send,
+>(rt: &'a R, alloc: Global, host: &mut H, plan: &Plan, objects: Objects<B>) -> Ended
     requires planned { IsPlanned plan.now }
-    requires own { HasNoPlugin plan.now }
+    requires own { All HasOwnSteps plan.now.sources.items }
+    requires have { HaveObjects plan.now.sinks.items (reverse objects.sinks.items) }
     ensures ends { IsRunStatus result.status }
-    ensures ran { EndsAs ⟦<RunOf<'a, R, H, K> as Runs>⟧.ran plan.now
-        result.status result.channels.items
+    ensures ran { EndsAs (⟦<RunOf<'a, R, H, K, B> as Runs<B>>⟧.ran (reverse objects.sinks.items))
+        plan.now result.status result.channels.items
         (record { state = H.state host.old; folders = H.folders host.old })
         (record { state = H.state host.new; folders = H.folders host.new }) }
 {
-    steps_are_told::<'a, R, H, K>();
-    match run_plan::<R, H, K>(rt, alloc, host, plan) {
+    steps_are_told::<'a, R, H, K, B>();
+    match run_plan::<R, H, K, B>(rt, alloc, host, plan, objects) {
         Ok(done) => Ended::of(alloc, plan.channels.as_slice(), done),
         Err(error) => Ended::refused(alloc, error),
     }
 }
 
-/// `agent -n NAME -f FILE`: runs the agent `NAME` of the configuration file `FILE`, and answers the exit status, and why it is not 0.
+/// `agent -n NAME -f FILE`: runs the agent `NAME` of the configuration file `FILE`, whose sinks take the objects that they ask for out of
+/// what is handed in, and answers the exit status, and why it is not 0.
 pub(crate) fn run_named<
     'a,
     R: Threads + Wait + Sync + 'a,
     H: Host + 'a,
     K: Interceptor + Send + Drop,
->(rt: &'a R, alloc: Global, agent: &str, file: &str, host: &mut H) -> Ended
-    ensures ends { AgentEnds ((H.state host.old).files file.now) agent.now result.status }
-    ensures ran { AgentEndsAs ⟦<RunOf<'a, R, H, K> as Runs>⟧.ran
+    B: EventSink + Send,
+>(
+    rt: &'a R,
+    alloc: Global,
+    agent: &str,
+    file: &str,
+    handed: &mut HandedIn<K, B>,
+    host: &mut H,
+) -> Ended
+    ensures ends { AgentEnds (first_unmet (names_of handed.old.sinks.items))
+        ((H.state host.old).files file.now) agent.now result.status }
+    ensures ran { AgentEndsAs (first_unmet (names_of handed.old.sinks.items))
+        (WithObjects ⟦<RunOf<'a, R, H, K, B> as Runs<B>>⟧.ran handed.old.sinks.items)
         ((H.state host.old).files file.now) agent.now result.status result.channels.items
         (record { state = H.state host.old; folders = H.folders host.old })
         (record { state = H.state host.new; folders = H.folders host.new }) }
 {
-    match plan_agent(alloc, agent, file, host) {
-        Ok(plan) => end_plan::<R, H, K>(rt, alloc, host, &plan),
+    match plan_agent(alloc, agent, file, handed, host) {
+        Ok(Planned { plan, objects }) => end_plan::<R, H, K, B>(rt, alloc, host, &plan, objects),
         Err(error) => Ended::refused(alloc, error),
     }
 }

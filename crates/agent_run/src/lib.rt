@@ -37,6 +37,6 @@ pub use laws::{
 pub use outcome::{ChannelEnd, Outcome, Worker};
 pub use run::run_agent;
 pub use running::run_workers;
-pub use through::{NoStep, RunOf, Runs, Steps};
+pub use through::{RunOf, Runs, Steps};
 pub use told::{folders_are_apart, steps_are_told};
 pub use workers::{Returned, Workers};

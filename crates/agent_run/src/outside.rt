@@ -1,9 +1,9 @@
 // What a run opens outside its channels.
-ghost use Rattle.std.specs.Prelude.{◌≡◌, ◌≤◌, [], All, IfErr, IfOk, length, map};
+ghost use Rattle.std.specs.Prelude.{◌≡◌, ◌≤◌, [], All, IfErr, IfOk, length, map, reverse};
 ghost use Rattle.std.specs.Vec.{vec_capacity};
 ghost use Rattle.agent_outside.specs.Ends.{AreOut, ListensAt, end_at};
 ghost use Rattle.agent_outside.specs.Listening.{IsFresh};
-ghost use Rattle.agent_outside.specs.Sinks.{IsPlain};
+ghost use Rattle.plan_objects.specs.Asks.{HaveObjects};
 ghost use Rattle.agent_run.specs.Lists.{IsEmptyFor};
 ghost use Rattle.grouped_sinks.specs.Frames.{IsFrameOf};
 ghost use Rattle.grouped_sinks.specs.Rows.{AreBelow, Zips, places_of};
@@ -19,7 +19,6 @@ use flume_config::{GroupPlan, Plan, SourcePlan};
 use flume_host::{Host, NameRefused, Random, RollDir};
 use grouped_sinks::{Frame, Runner, SinkRow, group_sinks};
 use plug_in::EventSink;
-use sink_runner::NullSink;
 use std::alloc::Global;
 
 /// The sinks of a run, or what drives the rows of them, and its listeners.
@@ -124,22 +123,24 @@ fn with_places<N: Drop>(places: &[usize], listeners: Vec<N>, named: &mut Vec<Sou
     });
 }
 
-/// Opens the sinks of a plan, and then its listeners, of the sources at these places. At a refusal all that was opened is given
-/// back, unused; `Failed` comes only where the host has counted a fault. The list has room for the listeners.
-pub(crate) fn open_outside<H: Host>(
+/// Opens the sinks of a plan, which take these objects, the last sink's first in the list, and then its listeners, of the sources at these
+/// places. At a refusal all that was opened is given back, unused; `Failed` comes only where the host has counted a fault. The list has
+/// room for the listeners.
+pub(crate) fn open_outside<H: Host, B: Drop>(
     alloc: Global,
     host: &mut H,
     plan: &Plan,
+    objects: Vec<Option<B>>,
     places: &[usize],
     room: Vec<H::Listener>,
-) -> Result<Outside<AgentSink<H::Roll, AvroSink<H::Dialer>, NullSink>, H::Listener>, NameRefused>
-    requires plain { All (λ sink. IsPlain sink.kind) plan.now.sinks.items }
+) -> Result<Outside<AgentSink<H::Roll, AvroSink<H::Dialer>, B>, H::Listener>, NameRefused>
+    requires have { HaveObjects plan.now.sinks.items (reverse objects.items) }
     requires listen { All (ListensAt plan.now.sources.items) places.now }
     requires room { IsEmptyFor (length places.now) room }
     ensures opened { IfOk result (λ outside. IsOutside H.Roll.rolled H.Roll.faults
         ⟦<AvroSink<H::Dialer> as HasDialer>⟧.dial
         (IsFresh H.Listener.told H.Listener.endpoint H.Listener.waits H.Listener.faults)
-        plan.now places.now
+        plan.now (reverse objects.items) places.now
         (record { state = H.state host.old; folders = H.folders host.old })
         (record { state = H.state host.new; folders = H.folders host.new })
         outside.sinks.items outside.listeners.items) }
@@ -149,7 +150,7 @@ pub(crate) fn open_outside<H: Host>(
     ensures disks { LeavesDisks (H.folders host.old) (H.folders host.new) }
 {
     let plans = plan.sinks.as_slice();
-    let sinks = match open_sinks(alloc, host, plans) {
+    let sinks = match open_sinks(alloc, host, plans, objects) {
         Ok(sinks) => sinks,
         Err(refused) => return Err(refused),
     };

@@ -1,6 +1,6 @@
 // What a run of an agent is made of, before anything of it is opened.
-ghost use Rattle.std.specs.Prelude.{◌≡◌, IfErr, IfOk, OnOk, length};
-ghost use Rattle.plan_support.specs.Least.{HasNoPlugin};
+ghost use Rattle.std.specs.Prelude.{◌≡◌, All, IfErr, IfOk, OnOk, length};
+ghost use Rattle.plan_objects.specs.Least.{HasOwnSteps};
 ghost use Rattle.agent_run.specs.Prepared.{IsDrafted, IsPlanned, IsPrepared, IsUnprepared, error_of};
 
 use crate::labels::{ChannelLabel, labels_of};
@@ -64,7 +64,7 @@ pub(crate) fn prepare<H: Host, K: Drop>(
     rows: &[SinkRow],
 ) -> Result<Prepared<K, H::Clock>, RunError>
     requires planned { IsPlanned plan.now }
-    requires none { HasNoPlugin plan.now }
+    requires own { All HasOwnSteps plan.now.sources.items }
     ensures prepared { IfOk result (IsPrepared plan.now rows.now) }
     ensures drafted { IfOk result
         (IsDrafted (H.state host.old).name (H.state host.old).address plan.now) }

@@ -6,7 +6,8 @@ ghost use Rattle.agent_words.specs.Commands.{IsAgent, IsCheck, IsLoad, IsPipe};
 ghost use Rattle.agent_words.specs.Statuses.{status_of};
 ghost use Rattle.agent_words.specs.Words.{texts};
 ghost use Rattle.agent_run.specs.Named.{AgentEnds};
-ghost use Rattle.agent_run.specs.Through.{AgentEndsAs};
+ghost use Rattle.agent_run.specs.Through.{AgentEndsAs, WithObjects};
+ghost use Rattle.plan_objects.specs.Asks.{first_unmet, names_of};
 ghost use Rattle.agent_run.specs.Words.{IsNoCommand};
 ghost use Rattle.agent_commands.specs.Checked.{Checked, IsCheckStatus};
 ghost use Rattle.agent_commands.specs.Loads.{IsLoadStatus};
@@ -16,11 +17,12 @@ ghost use Rattle.agent_run.specs.PipeRan.{IsChannelOf, PipeRan};
 
 use crate::agent::{Ended, run_named};
 use crate::outcome::{ChannelEnd, Outcome};
-use crate::through::{NoStep, RunOf, Runs};
+use crate::through::{RunOf, Runs};
 use agent_commands::{LoadEnded, PipeEnded, run_check, run_load, run_pipe, say_error};
 use agent_words::{Command, RunError, read_words};
 use flume_host::Host;
-use plug_in::Plugins;
+use plan_objects::HandedIn;
+use plug_in::{EventSink, Interceptor};
 use shared_channel::Pass;
 use std::alloc::Global;
 use std::sync::Wait;
@@ -37,15 +39,24 @@ fn say_end<H: Host>(alloc: Global, host: &mut H, error: Option<RunError>)
 }
 
 // `agent -n NAME -f FILE`, and what is said of its end.
-fn run_configured<'a, R: Threads + Wait + Sync + 'a, H: Host + 'a>(
+fn run_configured<
+    'a,
+    R: Threads + Wait + Sync + 'a,
+    H: Host + 'a,
+    K: Interceptor + Send + Drop,
+    B: EventSink + Send,
+>(
     rt: &'a R,
     alloc: Global,
     agent: &str,
     file: &str,
+    handed: &mut HandedIn<K, B>,
     host: &mut H,
 ) -> Outcome
-    ensures ends { AgentEnds ((H.state host.old).files file.now) agent.now result.status }
-    ensures ran { AgentEndsAs ⟦<RunOf<'a, R, H, NoStep> as Runs>⟧.ran
+    ensures ends { AgentEnds (first_unmet (names_of handed.old.sinks.items))
+        ((H.state host.old).files file.now) agent.now result.status }
+    ensures ran { AgentEndsAs (first_unmet (names_of handed.old.sinks.items))
+        (WithObjects ⟦<RunOf<'a, R, H, K, B> as Runs<B>>⟧.ran handed.old.sinks.items)
         ((H.state host.old).files file.now) agent.now result.status result.channels.items
         (record { state = H.state host.old; folders = H.folders host.old })
         (record { state = H.state host.new; folders = H.folders host.new }) }
@@ -54,7 +65,7 @@ fn run_configured<'a, R: Threads + Wait + Sync + 'a, H: Host + 'a>(
         status,
         error,
         channels,
-    } = run_named::<R, H, NoStep>(rt, alloc, agent, file, host);
+    } = run_named::<R, H, K, B>(rt, alloc, agent, file, handed, host);
     say_end(alloc, host, error);
     Outcome { status, channels }
 }
@@ -133,16 +144,18 @@ fn run_loaded<R: Wait, H: Host>(rt: &R, alloc: Global, n: u32, dir: String, host
 /// All that the program does: takes the words after its name, and answers the exit status.
 ///
 /// `pipe DIR` makes each line of standard input one transaction of the file channel in the folder `DIR`, which it opens, and
-/// answers `OK` for it once it is on the disk. `check -n NAME -f FILE` reads the configuration file `FILE`, plans the agent `NAME` in it and prints
-/// how many components it has. `load N DIR` runs the generator of N events on the folder `DIR`, and prints its summary. `agent -n NAME -f FILE` runs that agent: its sources, channels and sinks, each worker in a thread of its
-/// own, until standard input has ended. Each other status than 0 has its line on standard error. What was handed in is dropped.
-pub fn run_agent<'a, R: Threads + Wait + Sync + 'a, H: Host + 'a>(
-    rt: &'a R,
-    alloc: Global,
-    words: &[String],
-    host: &mut H,
-    plugins: Plugins,
-) -> Outcome
+/// answers `OK` for it once it is on the disk. `check -n NAME -f FILE` reads the configuration file `FILE`, plans the agent `NAME` in it
+/// and prints how many components it has. `load N DIR` runs the generator of N events on the folder `DIR`, and prints its summary.
+/// `agent -n NAME -f FILE` runs that agent: its sources, channels and sinks, each worker in a thread of its own, until standard input has
+/// ended. Each other status than 0 has its line on standard error. The agent's sinks take the objects that they ask for out of what is
+/// handed in. One that was taken is dropped after its last call, and the others at the end.
+pub fn run_agent<
+    'a,
+    R: Threads + Wait + Sync + 'a,
+    H: Host + 'a,
+    K: Interceptor + Send + Drop,
+    B: EventSink + Send,
+>(rt: &'a R, alloc: Global, words: &[String], host: &mut H, plugins: HandedIn<K, B>) -> Outcome
     // The words are a command that runs, or the status is 1 and nothing was touched; out of memory may come before.
     ensures usage { result.status ≡ 1 → IsNoCommand (texts words.now) }
     ensures no_command { IsNoCommand (texts words.now) → (result.status ≡ 1) ⊎ (result.status ≡ 5) }
@@ -160,7 +173,8 @@ pub fn run_agent<'a, R: Threads + Wait + Sync + 'a, H: Host + 'a>(
 
     // What `check` found in the file and wrote, and when each status comes.
     ensures checked { (agent file : List ℕ) → IsCheck (texts words.now) agent file
-        → Checked ((H.state host.old).files file) agent (H.state host.old) (H.state host.new) result.status }
+        → Checked (first_unmet (names_of plugins.sinks.items))
+        ((H.state host.old).files file) agent (H.state host.old) (H.state host.new) result.status }
     ensures check_statuses { (agent file : List ℕ) → IsCheck (texts words.now) agent file → IsCheckStatus result.status }
     ensures unopened { (agent file : List ℕ) → IsCheck (texts words.now) agent file → H.folders host.new ≡ H.folders host.old }
 
@@ -175,14 +189,17 @@ pub fn run_agent<'a, R: Threads + Wait + Sync + 'a, H: Host + 'a>(
 
     // What the configuration file of `agent` holds where the status is 2, and which statuses come.
     ensures agent { (name file : List ℕ) → IsAgent (texts words.now) name file
-        → AgentEnds ((H.state host.old).files file) name result.status }
+        → AgentEnds (first_unmet (names_of plugins.sinks.items))
+        ((H.state host.old).files file) name result.status }
 
-    // What `agent` did, where its run began, and what that comes to: why the status is 3, 4, 6 or 7, and when it is none of these; at status
-    // 0 what is in each folder, what the report says, what each sink took and delivered, and what each session and standard input brought
-    // in. Where it did not begin, which step refused and
-    // why, and what became of the host.
+    // What `agent` did, where its run began, and what that comes to: which objects its sinks took of those that were handed in; why the
+    // status is 3, 4, 6 or 7, and when it is none of these; what each sink took and delivered; at status 0 what is in each folder, what
+    // the report says, and what each session and standard input brought in. Where it did not begin, which step refused and why, and what
+    // became of the host.
     ensures agent_ran { (name file : List ℕ) → IsAgent (texts words.now) name file
-        → AgentEndsAs ⟦<RunOf<'a, R, H, NoStep> as Runs>⟧.ran ((H.state host.old).files file) name
+        → AgentEndsAs (first_unmet (names_of plugins.sinks.items))
+        (WithObjects ⟦<RunOf<'a, R, H, K, B> as Runs<B>>⟧.ran plugins.sinks.items)
+        ((H.state host.old).files file) name
         result.status result.channels.items
         (record { state = H.state host.old; folders = H.folders host.old })
         (record { state = H.state host.new; folders = H.folders host.new }) }
@@ -197,14 +214,15 @@ pub fn run_agent<'a, R: Threads + Wait + Sync + 'a, H: Host + 'a>(
     ensures rolls { ((name file : List ℕ) → ¬ IsAgent (texts words.now) name file)
         → ((H.folders host.new).rolls ≡ (H.folders host.old).rolls) × ((H.folders host.new).roll_opened ≡ (H.folders host.old).roll_opened) }
 {
-    drop(plugins);
+    let mut handed = plugins;
     match read_words(alloc, words) {
         Ok(Some(Command::Pipe { dir })) => run_piped(rt, alloc, dir, host),
         Ok(Some(Command::Check { name, file })) => {
-            Outcome::ended(alloc, run_check(alloc, name.as_str(), file.as_str(), host))
+            let status = run_check(alloc, name.as_str(), file.as_str(), &mut handed, host);
+            Outcome::ended(alloc, status)
         }
         Ok(Some(Command::Agent { name, file })) => {
-            run_configured(rt, alloc, name.as_str(), file.as_str(), host)
+            run_configured(rt, alloc, name.as_str(), file.as_str(), &mut handed, host)
         }
         Ok(Some(Command::Load { n, dir })) => run_loaded(rt, alloc, n, dir, host),
         Ok(None) => refuse(alloc, host, &RunError::Usage),

@@ -10,21 +10,19 @@ ghost use Rattle.flume_config.specs.declared.plan.Plan.{Plan};
 ghost use Rattle.agent_end.specs.declared.ends.RunEnds.{RunEnds};
 ghost use Rattle.agent_run.specs.declared.outcome.ChannelEnd.{ChannelEnd};
 ghost use Rattle.grouped_sinks.specs.declared.row.SinkRow.{SinkRow};
-ghost use Rattle.std.specs.Prelude.{List};
+ghost use Rattle.std.specs.Prelude.{List, Option};
 
 use crate::opening::Opening;
 use agent_sinks::AgentSink;
 use avro_ends::{AvroSink, HasDialer};
 use channel_face::Channel;
 use crew::{DrainWorker, Work};
-use event_core::Event;
 use file_channel::FileChannel;
 use flume_host::Host;
 use grouped_sinks::Runner;
 use line_worker::LineWorker;
 use memory_channel::MemoryChannel;
-use plug_in::{EventSink, Intercepted, Interceptor};
-use sink_runner::NullSink;
+use plug_in::{EventSink, Interceptor};
 use sink_worker::SinkWorker;
 use source_worker::ListenWorker;
 use std::marker::PhantomData;
@@ -33,15 +31,17 @@ use std::thread::Threads;
 use two_channels::EitherPort;
 
 /// What a run does: which plans came to which ends and channels, from what the host told before to what it told after it.
-pub trait Runs {
-    /// A run of this plan came to these ends and channels: its steps, and what they come to.
-    ghost ran: { Plan → RunEnds → List ChannelEnd → HostTold → HostTold → Type 0 };
+pub trait Runs<B> {
+    /// A run of this plan, whose sinks took these objects, came to these ends and channels: its steps, and what they come to.
+    ghost ran: { List (Option B) → Plan → RunEnds → List ChannelEnd
+        → HostTold → HostTold → Type 0 };
 }
 
 /// The steps of a run, one after the other.
-pub trait Steps {
-    /// A run of this plan made its steps, to these ends and channels.
-    ghost steps: { Plan → RunEnds → List ChannelEnd → HostTold → HostTold → Type 0 };
+pub trait Steps<B> {
+    /// A run of this plan, whose sinks took these objects, made its steps, to these ends and channels.
+    ghost steps: { List (Option B) → Plan → RunEnds → List ChannelEnd
+        → HostTold → HostTold → Type 0 };
 }
 
 /// How a run goes on once all of it is opened, `P`.
@@ -50,27 +50,29 @@ pub(crate) trait Goes<P> {
     ghost goes: { Plan → List SinkRow → P → RunEnds → List ChannelEnd → HostTold → HostTold → Type 0 };
 }
 
-/// Runs over a runtime and a host, with interceptors of a kind. There is none of it: it names what their contracts say.
-pub struct RunOf<'a, R, H, K> {
+/// Runs over a runtime and a host, with interceptors and sinks of these types that were handed in. There is none of it: it names what their
+/// contracts say.
+pub struct RunOf<'a, R, H, K, B> {
     runtime: PhantomData<&'a R>,
     host: PhantomData<H>,
     steps: PhantomData<K>,
+    sinks: PhantomData<B>,
 }
 
 /// The sinks of a run.
-pub(crate) type SinkOf<H> = AgentSink<<H as Host>::Roll, AvroSink<<H as Host>::Dialer>, NullSink>;
+pub(crate) type SinkOf<H, B> = AgentSink<<H as Host>::Roll, AvroSink<<H as Host>::Dialer>, B>;
 
 /// What drives the rows of them.
-pub(crate) type RunnerOf<H> = Runner<SinkOf<H>, <H as Host>::Random>;
+pub(crate) type RunnerOf<H, B> = Runner<SinkOf<H, B>, <H as Host>::Random>;
 
 /// The ports of a run's channels.
 pub(crate) type PortOf<'a, R, H> = EitherPort<'a, R, FileChannel<<H as Host>::Disk>, MemoryChannel>;
 
 /// What a run has once all is opened.
-pub(crate) type OpeningOf<H, K> = Opening<
+pub(crate) type OpeningOf<H, K, B> = Opening<
     FileChannel<<H as Host>::Disk>,
     MemoryChannel,
-    RunnerOf<H>,
+    RunnerOf<H, B>,
     <H as Host>::Listener,
     <H as Host>::Source,
     <H as Host>::Sink,
@@ -78,9 +80,13 @@ pub(crate) type OpeningOf<H, K> = Opening<
     K,
 >;
 
-impl<'a, R: Threads + Wait + Sync + 'a, H: Host + 'a, K: Interceptor + Send + Drop> Goes<
-    OpeningOf<H, K>,
-> for RunOf<'a, R, H, K> {
+impl<
+    'a,
+    R: Threads + Wait + Sync + 'a,
+    H: Host + 'a,
+    K: Interceptor + Send + Drop,
+    B: EventSink + Send,
+> Goes<OpeningOf<H, K, B>> for RunOf<'a, R, H, K, B> {
     ghost use Rattle.agent_run.specs.Draining.{IsDrainedAt};
     ghost use Rattle.agent_run.specs.Joined.{HaveReturned, IsJoined};
     ghost use Rattle.agent_run.specs.Outside.{AreBack};
@@ -96,11 +102,11 @@ impl<'a, R: Threads + Wait + Sync + 'a, H: Host + 'a, K: Interceptor + Send + Dr
         (λ manned. AreTaken H.Source.left H.Source.faults H.Sink.took H.Sink.handed H.Sink.faults
         (map (λ job. own_talk job) manned.crew.jobs.lines.items) manned.crew.jobs.drains.items)
         (λ manned homes. IsJoined (λ returned. HaveReturned
-        (runs ⟦<SinkWorker<PortOf<'a, R, H>, RunnerOf<H>, H::Clock> as Work>⟧.ran
+        (runs ⟦<SinkWorker<PortOf<'a, R, H>, RunnerOf<H, B>, H::Clock> as Work>⟧.ran
         ⟦<ListenWorker<PortOf<'a, R, H>, H::Listener, H::Clock, K> as Work>⟧.ran
         ⟦<DrainWorker<H::Source> as Work>⟧.ran
         ⟦<LineWorker<PortOf<'a, R, H>, H::Source, H::Sink, H::Clock, K> as Work>⟧.ran)
-        (told ⟦<RunnerOf<H> as EventSink>⟧.delivers ⟦<RunnerOf<H> as EventSink>⟧.faults)
+        (told ⟦<RunnerOf<H, B> as EventSink>⟧.delivers ⟦<RunnerOf<H, B> as EventSink>⟧.faults)
         K.intercepts H.Clock.moments
         (heard_of H.Listener.told H.Listener.faults H.Listener.waits)
         (talk_of H.Source.left H.Source.faults H.Sink.took H.Sink.handed H.Sink.faults)
@@ -110,7 +116,7 @@ impl<'a, R: Threads + Wait + Sync + 'a, H: Host + 'a, K: Interceptor + Send + Dr
         (AreBack H.Listener.told H.Listener.waits H.Listener.faults
         plan.sources.items manned.places.items))
         (AreSettled (IsDrainedAt
-        (told ⟦<RunnerOf<H> as EventSink>⟧.delivers ⟦<RunnerOf<H> as EventSink>⟧.faults)
+        (told ⟦<RunnerOf<H, B> as EventSink>⟧.delivers ⟦<RunnerOf<H, B> as EventSink>⟧.faults)
         H.Clock.moments)
         (IsMended ⟦<FileChannel<H::Disk> as Channel>⟧.stands
         ⟦<FileChannel<H::Disk> as Channel>⟧.tells ⟦<FileChannel<H::Disk> as Channel>⟧.moment)
@@ -121,37 +127,47 @@ impl<'a, R: Threads + Wait + Sync + 'a, H: Host + 'a, K: Interceptor + Send + Dr
         ⟦<AvroSink<H::Dialer> as HasDialer>⟧.dial H.Disk.told H.Disk.faults plan.sinks.items rows) };
 }
 
-impl<'a, R: Threads + Wait + Sync + 'a, H: Host + 'a, K: Interceptor + Send + Drop> Steps
-    for RunOf<'a, R, H, K> {
+impl<
+    'a,
+    R: Threads + Wait + Sync + 'a,
+    H: Host + 'a,
+    K: Interceptor + Send + Drop,
+    B: EventSink + Send,
+> Steps<B> for RunOf<'a, R, H, K, B> {
     ghost use Rattle.agent_run.specs.Outside.{HasRunners, IsOutside};
     ghost use Rattle.agent_run.specs.Prepared.{IsDrafted};
     ghost use Rattle.agent_run.specs.Through.{PlanRan};
 
-    ghost steps = { λ plan ends channels a b.
+    ghost steps = { λ objects plan ends channels a b.
         PlanRan plan (IsDrafted a.state.name a.state.address plan)
         (λ rows prepared old new outside. HasRunners (λ sinks. IsOutside H.Roll.rolled H.Roll.faults
         ⟦<AvroSink<H::Dialer> as HasDialer>⟧.dial
         (IsFresh H.Listener.told H.Listener.endpoint H.Listener.waits H.Listener.faults)
-        plan prepared.places.items old new sinks outside.listeners.items)
+        plan objects prepared.places.items old new sinks outside.listeners.items)
         plan.groups.items rows outside.sinks.items)
-        (⟦<RunOf<'a, R, H, K> as Goes<OpeningOf<H, K>>>⟧.goes plan)
+        (⟦<RunOf<'a, R, H, K, B> as Goes<OpeningOf<H, K, B>>>⟧.goes plan)
         ends channels a b };
 }
 
-impl<'a, R: Threads + Wait + Sync + 'a, H: Host + 'a, K: Interceptor + Send + Drop> Runs
-    for RunOf<'a, R, H, K> {
+impl<
+    'a,
+    R: Threads + Wait + Sync + 'a,
+    H: Host + 'a,
+    K: Interceptor + Send + Drop,
+    B: EventSink + Send,
+> Runs<B> for RunOf<'a, R, H, K, B> {
     ghost use Rattle.agent_run.specs.Outside.{AreBack, HasRunners, IsOutside};
     ghost use Rattle.agent_run.specs.Prepared.{IsDrafted};
     ghost use Rattle.agent_run.specs.Run.{IsGivenBack};
     ghost use Rattle.agent_run.specs.RunDid.{RunDid};
     ghost use Rattle.agent_run.specs.Runs.{runs};
 
-    ghost ran = { λ plan ends channels a b. RunDid
-        (runs ⟦<SinkWorker<PortOf<'a, R, H>, RunnerOf<H>, H::Clock> as Work>⟧.ran
+    ghost ran = { λ objects plan ends channels a b. RunDid
+        (runs ⟦<SinkWorker<PortOf<'a, R, H>, RunnerOf<H, B>, H::Clock> as Work>⟧.ran
         ⟦<ListenWorker<PortOf<'a, R, H>, H::Listener, H::Clock, K> as Work>⟧.ran
         ⟦<DrainWorker<H::Source> as Work>⟧.ran
         ⟦<LineWorker<PortOf<'a, R, H>, H::Source, H::Sink, H::Clock, K> as Work>⟧.ran)
-        (told ⟦<RunnerOf<H> as EventSink>⟧.delivers ⟦<RunnerOf<H> as EventSink>⟧.faults)
+        (told ⟦<RunnerOf<H, B> as EventSink>⟧.delivers ⟦<RunnerOf<H, B> as EventSink>⟧.faults)
         K.intercepts H.Clock.moments
         (heard_of H.Listener.told H.Listener.faults H.Listener.waits)
         H.Source.left H.Source.faults H.Sink.took H.Sink.handed H.Sink.faults
@@ -162,25 +178,11 @@ impl<'a, R: Threads + Wait + Sync + 'a, H: Host + 'a, K: Interceptor + Send + Dr
         (λ rows prepared old new outside. HasRunners (λ sinks. IsOutside H.Roll.rolled H.Roll.faults
         ⟦<AvroSink<H::Dialer> as HasDialer>⟧.dial
         (IsFresh H.Listener.told H.Listener.endpoint H.Listener.waits H.Listener.faults)
-        plan prepared.places.items old new sinks outside.listeners.items)
+        plan objects prepared.places.items old new sinks outside.listeners.items)
         plan.groups.items rows outside.sinks.items)
         (λ manned. AreBack H.Listener.told H.Listener.waits H.Listener.faults
         plan.sources.items manned.places.items)
         (λ rows. IsGivenBack H.Roll.rolled
         ⟦<AvroSink<H::Dialer> as HasDialer>⟧.dial H.Disk.told H.Disk.faults plan.sinks.items rows)
-        ends channels a b };
-}
-
-/// An interceptor that was handed in. There is none yet: a plan that names one is refused.
-#[derive(Drop)]
-pub struct NoStep;
-
-impl Interceptor for NoStep {
-    ghost use Rattle.std.specs.Prelude.{◌≡◌};
-
-    ghost intercepts = { λ old event moment answer new. new ≡ old };
-
-    fn intercept(&mut self, event: Event, _moment: u64) -> Intercepted {
-        Intercepted::Keep(event)
-    }
+        B.delivers objects ends channels a b };
 }

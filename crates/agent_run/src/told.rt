@@ -1,5 +1,5 @@
 // What the steps of a run come to.
-ghost use Rattle.std.specs.Prelude.{List};
+ghost use Rattle.std.specs.Prelude.{List, Option};
 ghost use Rattle.agent_channels.specs.Openings.{HostTold};
 ghost use Rattle.agent_end.specs.declared.ends.RunEnds.{RunEnds};
 ghost use Rattle.flume_config.specs.declared.plan.Plan.{Plan};
@@ -16,31 +16,33 @@ use grouped_sinks::{rows_are_apart, runners_split};
 use memory_channel::MemoryChannel;
 use netcat_source::one_cut;
 use plan_laws::{groups_name_what_is_there, sinks_stand_once};
-use plug_in::Interceptor;
+use plug_in::{EventSink, Interceptor};
 use roll_sink::delivered_batches_are_in_files;
 use std::sync::Wait;
 use std::thread::Threads;
 
 /// What the steps of a run come to: in all calls of its channels those of each worker are told of, each batch that the calls of a row of
-/// sinks commit was taken by one of these, the folders of rolled files and the links of Avro sinks have what their sinks took, and the
-/// status has its causes. At status 0 it is told what the channels' folders hold, what the report says, which rows emptied their
-/// channels, and what was said on standard input and output.
+/// sinks commit was taken by one of these, the folders of rolled files and the links of Avro sinks have what their sinks took, sinks that
+/// were handed in were handed what they took, and the status has its causes. At status 0 it is told what the channels' folders hold, what
+/// the report says, which rows emptied their channels, and what was said on standard input and output.
 pub fn steps_are_told<
     'a,
     R: Threads + Wait + Sync + 'a,
     H: Host + 'a,
     K: Interceptor + Send + Drop,
+    B: EventSink + Send,
 >()
-    ensures { (plan : Plan) (ends : RunEnds) (channels : List ChannelEnd) (a b : HostTold)
-        → IsPlanned plan → ⟦<RunOf<'a, R, H, K> as Steps>⟧.steps plan ends channels a b
-        → ⟦<RunOf<'a, R, H, K> as Runs>⟧.ran plan ends channels a b }
+    ensures { (objects : List (Option B)) (plan : Plan)
+        (ends : RunEnds) (channels : List ChannelEnd) (a b : HostTold) → IsPlanned plan
+        → ⟦<RunOf<'a, R, H, K, B> as Steps<B>>⟧.steps objects plan ends channels a b
+        → ⟦<RunOf<'a, R, H, K, B> as Runs<B>>⟧.ran objects plan ends channels a b }
 {
     runs_are_told::<
         'a,
         R,
         FileChannel<H::Disk>,
         MemoryChannel,
-        RunnerOf<H>,
+        RunnerOf<H, B>,
         H::Listener,
         H::Source,
         H::Sink,
@@ -52,7 +54,7 @@ pub fn steps_are_told<
         R,
         FileChannel<H::Disk>,
         MemoryChannel,
-        RunnerOf<H>,
+        RunnerOf<H, B>,
         H::Listener,
         H::Source,
         H::Sink,
@@ -64,7 +66,7 @@ pub fn steps_are_told<
         R,
         FileChannel<H::Disk>,
         MemoryChannel,
-        RunnerOf<H>,
+        RunnerOf<H, B>,
         H::Listener,
         H::Source,
         H::Sink,
@@ -74,7 +76,7 @@ pub fn steps_are_told<
     groups_name_what_is_there();
     sinks_stand_once();
     rows_are_apart();
-    runners_split::<SinkOf<H>, H::Random>();
+    runners_split::<SinkOf<H, B>, H::Random>();
     delivered_batches_are_in_files();
     requests_are_on_links::<H::Dialer, <<H as Host>::Dialer as Dialer>::Link>();
     one_cut();

@@ -17,6 +17,8 @@ mod ends;
 #[cfg(test)]
 mod groups;
 #[cfg(test)]
+mod handed;
+#[cfg(test)]
 mod left;
 #[cfg(test)]
 mod lines;
@@ -28,6 +30,8 @@ mod logs;
 mod looks;
 #[cfg(test)]
 mod mended;
+#[cfg(test)]
+mod objects;
 #[cfg(test)]
 mod openings;
 #[cfg(test)]

@@ -364,6 +364,7 @@ fn is_pair(scene: &Scene, word: &str, rest: &str) -> bool {
 fn is_seen_in(scene: &Scene, word: &str, rest: &str) -> bool {
     match word {
         "file" => is_file(scene, rest),
+        "objects" => scene.notes.are(rest),
         "rolled" => is_rolled(scene, rest),
         "left" => is_left(scene, rest),
         "there" => are_somewhere(scene, rest),

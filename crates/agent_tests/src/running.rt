@@ -1,13 +1,13 @@
 // The runs of a scenario.
 use crate::bytes::add_text;
+use crate::objects::outcome_of;
 use crate::own_host::OwnHost;
 use crate::scene::{Given, Scene};
-use agent_run::{Outcome, run_agent};
+use agent_run::Outcome;
 use host_memory::{
     MemClock, MemDialer, MemDisk, MemHost, MemListener, MemRandom, MemRoll, MemSink, MemSource,
     Named, Offer, Placed, Stood,
 };
-use plug_in::Plugins;
 use std::alloc::Global;
 use std::mem;
 use std::sync::Wait;
@@ -168,21 +168,15 @@ fn lengths(scene: &Scene) -> (usize, usize) {
     }
 }
 
-fn outcome_of<R: Threads + Wait + Sync>(
-    rt: &R,
-    alloc: Global,
-    words: &[String],
-    host: &mut OwnHost,
-) -> Outcome {
-    run_agent(rt, alloc, words, host, Plugins::new(alloc))
-}
-
 // The run, on the host that is there.
 fn is_run<R: Threads + Wait + Sync>(rt: &R, scene: &mut Scene, words: &[String]) -> bool {
     let Some(host) = &mut scene.host else {
         return false;
     };
-    let Outcome { status, channels } = outcome_of(rt, scene.alloc, words, host);
+    let Some(outcome) = outcome_of(rt, scene.alloc, words, host, &scene.notes) else {
+        return false;
+    };
+    let Outcome { status, channels } = outcome;
     scene.has_run = true;
     scene.status = status;
     scene.channels = channels;

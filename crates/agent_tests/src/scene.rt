@@ -1,4 +1,5 @@
 // What the words of a scenario work on: what the next run is given, the host of the last one, and what came of it.
+use crate::objects::Notes;
 use crate::own_host::{Gate, OwnHost};
 use agent_run::ChannelEnd;
 use host_memory::{DiskFault, Flag, MemDisk, MemHost, MemLink, MemRoll, Named, Offer};
@@ -80,6 +81,8 @@ pub struct Scene {
     pub channels: Vec<ChannelEnd>,
     /// How many calls of the disk were noted.
     pub noted: u64,
+    /// What the objects that were handed in have written down.
+    pub notes: Notes,
     /// Some run was made.
     pub has_run: bool,
 }
@@ -106,6 +109,7 @@ impl Scene {
             status: 0,
             channels: Vec::new(alloc),
             noted: 0,
+            notes: Notes::new(alloc)?,
             has_run: false,
         })
     }

@@ -38,7 +38,7 @@ IsLook saw P earlier own = (own ≡ []) × ((s : State) × saw earlier s × P s)
 abbrev pub IsCheck : ℕ → Result (Unit {0}) CheckRefused → List Own → Type 0
 IsCheck seen reply own = (s : State) × IsMade seen (is_spent_check reply) (Checkpoint reply) s own
 
--- files that no reopening needs were to be removed, and it was answered so
+-- files that the newest checkpoint does not need were to be removed, and it was answered so
 abbrev pub IsPrune : ℕ → Result ℕ PruneRefused → List Own → Type 0
 IsPrune seen reply own = (s : State) × IsMade seen (is_spent_prune reply) (Prune reply) s own
 

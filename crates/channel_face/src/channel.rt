@@ -1,5 +1,5 @@
 // What a channel is. It stands for an opening and the calls since, and each call adds itself to them.
-ghost use Rattle.std.specs.Prelude.{◌≡◌, ◌++◌, ℕ, List, Bool, length, IfErr, IsErrOf};
+ghost use Rattle.std.specs.Prelude.{◌≡◌, ◌++◌, ℕ, List, Bool, length, IfErr, IfOk, IsErrOf, OnOk};
 ghost use Rattle.flume_host.specs.Causes.{Rose};
 ghost use Rattle.channel_face.specs.Calls.{IsCommit, cause_of};
 ghost use Rattle.channel_face.specs.Counters.{counts_of};
@@ -11,7 +11,7 @@ ghost use Rattle.channel_face.specs.declared.replies.OpenCause.{OpenCause};
 ghost use Rattle.channel_face.specs.declared.replies.PruneRefused.{PruneRefused};
 ghost use Rattle.channel_face.specs.declared.replies.PutRefused.{PutRefused};
 ghost use Rattle.channel_face.specs.declared.replies.TakeRefused.{TakeRefused};
-ghost use Rattle.channel_face.specs.Machine.{State, BeginPut, BeginTake, Put, Take, StagePut, StageTake, Flush, RollbackPut, RollbackTake, Checkpoint, Prune, Reopen, Reopened, settled};
+ghost use Rattle.channel_face.specs.Machine.{State, BeginPut, BeginTake, Put, Take, StagePut, StageTake, Flush, RollbackPut, RollbackTake, Checkpoint, Prune, Reopen, Reopened, settle, settled};
 
 use crate::{
     BeginRefused, CheckRefused, CommitRefused, Counts, FlushRefused, OpenCause, PruneRefused,
@@ -162,16 +162,29 @@ pub trait Reopen: Channel {
 
 /// A channel on a disk that lays checkpoints and removes old files.
 pub trait Durable: Reopen {
+    /// A checkpoint of just this state, at the end of its log, is the newest one of whatever a crash leaves.
+    ghost is_laid: { Self → State → Type 0 };
+
+    /// No file is left that its newest checkpoint does not need.
+    ghost is_pruned: { Self → Type 0 };
+
+    /// So many files are there that its newest checkpoint does not need.
+    ghost has_old: { Self → ℕ → Type 0 };
+
     /// Flushes, then lays a checkpoint. 1. `Broken`. 2. `Spent` of `Counter::Check`. 3. `DiskFault`, where the flush failed.
     /// 4. `CheckFault`, where the checkpoint's own file failed: what was staged is settled. It takes no memory.
     fn checkpoint(&mut self) -> Result<(), CheckRefused>
         ensures step { AddsOne (Self.stands self.old) (Self.stands self.new) (Checkpoint result) (Self.moment self.new) }
+        // It has the present state: all that was staged is settled in it.
+        ensures laid { Shows (Self.stands self.old) (λ s. OnOk result (Self.is_laid self.new (settle s))) }
         ensures fault { IsErrOf result CheckRefused.DiskFault → Rose (Self.faults self.old) (Self.faults self.new) }
         ensures check { IsErrOf result CheckRefused.CheckFault → Rose (Self.faults self.old) (Self.faults self.new) };
 
-    /// Removes the files that no reopening needs, and answers how many. 1. `Broken`. 2. `DiskFault`, and the channel is not
-    /// broken. It takes no memory.
+    /// Removes the files that its newest checkpoint does not need, and answers how many. 1. `Broken`. 2. `DiskFault`, and the
+    /// channel is not broken. It takes no memory.
     fn prune(&mut self) -> Result<u64, PruneRefused>
         ensures step { AddsOne (Self.stands self.old) (Self.stands self.new) (Prune result) (Self.moment self.new) }
+        ensures gone { OnOk result (Self.is_pruned self.new) }
+        ensures count { IfOk result (λ count. Self.has_old self.old count) }
         ensures fault { IsErrOf result PruneRefused.DiskFault → Rose (Self.faults self.old) (Self.faults self.new) };
 }

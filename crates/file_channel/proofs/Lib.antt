@@ -20,3 +20,4 @@ pub mod Seen
 pub mod Removing
 pub mod Begun
 pub mod Reopening
+pub mod Kept

@@ -59,6 +59,10 @@ pub record IsEnd (t : Told) (place : Place) : Type 0 where
 abbrev pub IsLaid : ℕ → State → Told → Type 0
 IsLaid number s t = (place : Place) × IsEnd t place × IsLaidOf t number place s
 
+-- so it is of some number
+abbrev pub HasLaid : State → Told → Type 0
+HasLaid s t = (number : ℕ) × IsLaid number s t
+
 -- One of this number is passed over in whatever a crash leaves, or is so.
 abbrev pub MayBeLaid : ℕ → State → Told → Type 0
 MayBeLaid number s t = (place : Place) × IsEnd t place × ((image : Files) → IsImage t.now image → MayStand number place s image)

@@ -1,6 +1,7 @@
 -- What a prune of a channel's folder removes.
-use Rattle.std.specs.Prelude.{◌≡◌, ◌<◌, ◌+◌, ℕ, Option, None, Some}
+use Rattle.std.specs.Prelude.{◌≡◌, ◌<◌, ◌+◌, ℕ, Option, None, Some, IfSome}
 use Rattle.flume_host.specs.Folder.{Files}
+use Rattle.flume_host.specs.Told.{Told}
 use Rattle.flume_host.specs.declared.names.FileName.TheVariants.{Check, Log}
 use Rattle.checkpoint_opening.specs.declared.opening.NewestCheck.{NewestCheck}
 use Rattle.checkpoint_pruning.specs.Pruning.{checks_in, count_below, logs_in}
@@ -14,3 +15,11 @@ pub record IsPruned (files : Files) (laid : NewestCheck) : Type 0 where
 abbrev pub pruned_count : Files → Option NewestCheck → ℕ
 pruned_count files None = 0
 pruned_count files (Some laid) = count_below (checks_in files) laid.number + count_below (logs_in files) laid.least
+
+-- where a newest checkpoint is known, no older file is left
+abbrev pub IsPrunedBy : Option NewestCheck → Told → Type 0
+IsPrunedBy laid t = IfSome laid (IsPruned t.reads)
+
+-- so many files are older than those that the newest checkpoint needs
+abbrev pub HasOld : Option NewestCheck → ℕ → Told → Type 0
+HasOld laid count t = count ≡ pruned_count t.reads laid

@@ -17,6 +17,16 @@ impl<D: Disk + Drop> Reopen for FileChannel<D> {
 
 /// It lays checkpoints, and removes old files, as [`FileChannel::checkpoint`] and [`FileChannel::prune`] say.
 impl<D: Disk + Drop> Durable for FileChannel<D> {
+    ghost use Rattle.flume_host.specs.Told.{WhereTold};
+    ghost use Rattle.file_channel.specs.Pruned.{HasOld, IsPrunedBy};
+    ghost use Rattle.file_channel.specs.Laid.{HasLaid};
+
+    ghost is_laid = { λ c s. WhereTold (D.told c.0) (HasLaid s) };
+
+    ghost is_pruned = { λ c. WhereTold (D.told c.0) (IsPrunedBy c.1.checks.laid) };
+
+    ghost has_old = { λ c n. WhereTold (D.told c.0) (HasOld c.1.checks.laid n) };
+
     fn checkpoint(&mut self) -> Result<(), CheckRefused> {
         FileChannel::checkpoint(self)
     }

@@ -2,7 +2,8 @@
 use crate::sinks::rolls;
 use crate::texts::owned;
 use event_core::Event;
-use plug_in::{EventSink, Intercepted, Interceptor, Plugins, PluginsRefused, SinkRefused};
+use plan_objects::{Plugins, PluginsRefused};
+use plug_in::{EventSink, Intercepted, Interceptor, SinkRefused};
 use scenarios::{Scene, pass, word_and_rest};
 use sink_runner::NullSink;
 use std::alloc::Global;

@@ -10,7 +10,7 @@ use channel_face::Durable;
 use shared_channel::{Pass, Shared};
 use std::sync::Wait;
 
-/// After a fiftieth batch lays a checkpoint, and then removes the files that no reopening needs. After any other batch does nothing.
+/// After a fiftieth batch lays a checkpoint, and then removes the files that this one does not need. After any other batch does nothing.
 pub(crate) fn keep_channel<R: Wait, C: Durable>(
     rt: &R,
     shared: &Shared<C>,

@@ -17,7 +17,7 @@ use std::sync::Wait;
 
 /// Puts `n` events that it makes, in batches of 100, and takes some out again after each batch: up to 50, in a transaction that is
 /// rolled back where 7 divides the batch's number, counted from 1, and committed otherwise. After each 50th batch it then lays a
-/// checkpoint and removes the files that no reopening needs. It answers what it did, as lines of a name and a number: events,
+/// checkpoint and removes the files that this one does not need. It answers what it did, as lines of a name and a number: events,
 /// batches, committed takes, the events that these took, the events left in the channel, and the MD5 (RFC 1321) of the taken ones'
 /// bodies, in order, each followed by a newline.
 ///

@@ -1,11 +1,11 @@
 -- What it tells that there is no least line.
-use Rattle.std.proofs.Common.{◌≡◌, ◌++◌, ℕ, min, List, [], ◌∷◌, All, flat_map, fold, Option, Some, None, refl, sym, subst}
+use Rattle.std.proofs.Common.{◌≡◌, ◌++◌, ℕ, min, List, [], ◌∷◌, All, flat_map, fold, Option, Some, None, IfNone, refl, sym, subst}
 use Rattle.std.proofs.lemmas.List.Elements.{All-cons, All-nil}
 use Rattle.flume_config.specs.declared.plan.Plan.{Plan}
 use Rattle.flume_config.specs.declared.plan.SourcePlan.{SourcePlan}
 use Rattle.flume_config.specs.declared.plan.StepPlan.{StepPlan}
 use Rattle.flume_config.specs.declared.plan.StepPlan.TheVariants.{Step, Regex, Plugin}
-use Rattle.plan_support.specs.Least.{HasOwnSteps, IsOwn, nearer, plugin_lines, source_plugin_lines}
+use Rattle.plan_objects.specs.Least.{HasOwnSteps, IsOwn, nearer, plugin_lines, source_plugin_lines}
 use Rattle.plan_objects.specs.Asks.{first_step}
 
 abbrev IsNil : {A : Type 0} → List A → Type 0
@@ -53,3 +53,7 @@ own_steps source is = each_none plugin_lines IsOwn own source.steps.items is
 -- where there is no least line, no interceptor asks for an object
 pub no_step : (plan : Plan) → first_step plan ≡ None → All HasOwnSteps plan.sources.items
 no_step plan is = each_none source_plugin_lines HasOwnSteps own_steps plan.sources.items (no_lines (flat_map source_plugin_lines plan.sources.items) is)
+
+pub if_none : (o : Option ℕ) (P : Type 0) → (o ≡ None → P) → IfNone o P
+if_none None P is = is refl
+if_none (Some line) P is = tt

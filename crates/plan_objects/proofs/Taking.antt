@@ -6,7 +6,7 @@ use Rattle.plan_objects.specs.Named.{Claims, HasNone, Named}
 use Rattle.flume_config.specs.declared.plan.SinkPlan.{SinkPlan}
 use Rattle.flume_config.specs.declared.plan.SinkKind.{SinkKind}
 use Rattle.flume_config.specs.declared.plan.SinkKind.TheVariants.{Null, Roll, Avro, Plugin}
-use Rattle.plan_support.specs.Least.{HasOwnSteps, nearer}
+use Rattle.plan_objects.specs.Least.{HasOwnSteps, nearer}
 use Rattle.plan_objects.proofs.Lining.{goes_on, no_lines, no_step}
 use Rattle.flume_config.specs.declared.plan.Plan.{Plan}
 use Rattle.plan_objects.specs.Asks.{AreTaken, HasObject, HaveObjects, IsTaken, asked, first_step, first_unmet, found, is_left, is_met, left, misses, names_of, unmet, without}

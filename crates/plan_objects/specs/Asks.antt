@@ -6,7 +6,7 @@ use Rattle.flume_config.specs.declared.plan.Plan.{Plan}
 use Rattle.flume_config.specs.declared.plan.SinkPlan.{SinkPlan}
 use Rattle.flume_config.specs.declared.plan.SinkKind.{SinkKind}
 use Rattle.flume_config.specs.declared.plan.SinkKind.TheVariants.{Null, Roll, Avro, Plugin}
-use Rattle.plan_support.specs.Least.{nearer, source_plugin_lines}
+use Rattle.plan_objects.specs.Least.{nearer, source_plugin_lines}
 use Rattle.plan_objects.specs.declared.claim.ClaimRefused.{ClaimRefused}
 use Rattle.plan_objects.specs.declared.claim.ClaimRefused.TheVariants.{Missing, NoMemory}
 

@@ -1,8 +1,8 @@
 -- When an object is added to those that are handed in.
 use Rattle.std.specs.Prelude.{◌≡◌, ◌<◌, ◌≤◌, ◌++◌, ◌∷◌, [], ℕ, List, Result, Ok, Err}
-use Rattle.plan_objects.specs.Named.{Named}
-use Rattle.plug_in.specs.declared.plugins.PluginsRefused.{PluginsRefused}
-use Rattle.plug_in.specs.declared.plugins.PluginsRefused.TheVariants.{TooMany, NoMemory}
+use Rattle.plan_objects.specs.declared.named.Named.{Named}
+use Rattle.plan_objects.specs.declared.handed.PluginsRefused.{PluginsRefused}
+use Rattle.plan_objects.specs.declared.handed.PluginsRefused.TheVariants.{TooMany, NoMemory}
 
 -- fewer than 64 are held, so that one more may be, or as many
 abbrev pub IsRoom : ℕ → Result (Unit {0}) PluginsRefused → Type 0

@@ -1,3 +1,4 @@
+pub mod Least
 pub mod Asks
 pub mod Handed
 pub mod Named

@@ -1,7 +1,7 @@
 // The objects of a plan are claimed.
 ghost use Rattle.std.specs.Prelude.{◌≡◌, ◌≤◌, [], All, IfErr, IfOk, None, OnOk, fold, if◌then◌else◌, length, reverse};
 ghost use Rattle.std.specs.Vec.{vec_capacity};
-ghost use Rattle.plan_support.specs.Least.{HasOwnSteps, nearer};
+ghost use Rattle.plan_objects.specs.Least.{HasOwnSteps, nearer};
 ghost use Rattle.plan_objects.specs.Asks.{AreTaken, HaveObjects, IsTaken, IsUnmet, LeavesRest, asked, first_unmet, found, misses, names_of, unmet};
 
 use crate::handed::HandedIn;

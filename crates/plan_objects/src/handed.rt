@@ -4,8 +4,20 @@ ghost use Rattle.plan_objects.specs.Handed.{Adds, IsRoom};
 ghost use Rattle.plan_objects.specs.Named.{Claims};
 
 use crate::named::{Named, claim, join};
-use plug_in::{EventSink, Interceptor, MAX_PLUGINS, PluginsRefused};
+use plug_in::{EventSink, Interceptor};
 use std::alloc::Global;
+
+/// Why an object was not added. It is dropped.
+#[derive(Clone, Copy, Debug, PartialEq, Eq)]
+pub enum PluginsRefused {
+    /// As many are held as may be.
+    TooMany,
+    /// Out of memory.
+    NoMemory,
+}
+
+/// How many objects may be held, interceptors and sinks together.
+pub const MAX_PLUGINS: usize = 64;
 
 /// The interceptors and the sinks that are handed in to an agent, by the names with which its configuration asks for them. Their types are
 /// parameters, so that contracts can name what a call of one means.

@@ -7,4 +7,5 @@ mod lines;
 mod named;
 
 pub use claim::{ClaimRefused, Objects, claim_objects};
-pub use handed::{HandedIn, Plugins};
+pub use handed::{HandedIn, MAX_PLUGINS, Plugins, PluginsRefused};
+pub use named::Named;

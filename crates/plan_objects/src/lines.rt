@@ -1,6 +1,6 @@
 // The least line of an interceptor that asks for an object.
 ghost use Rattle.std.specs.Prelude.{◌≡◌, All, IfNone, None, flat_map, fold};
-ghost use Rattle.plan_support.specs.Least.{HasOwnSteps, nearer, plugin_lines, source_plugin_lines};
+ghost use Rattle.plan_objects.specs.Least.{HasOwnSteps, nearer, plugin_lines, source_plugin_lines};
 ghost use Rattle.plan_objects.specs.Asks.{first_step};
 
 use flume_config::{Plan, SourcePlan, StepPlan};

@@ -7,7 +7,9 @@ use std::alloc::AllocError;
 /// An object and its name.
 #[derive(Drop)]
 pub struct Named<T: Drop> {
+    /// The name with which a configuration asks for it.
     pub name: String,
+    /// The object.
     pub object: T,
 }
 

@@ -1,3 +1,1 @@
 pub mod Sinks
-pub mod Named
-pub mod Handed

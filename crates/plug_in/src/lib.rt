@@ -2,11 +2,8 @@
 //! events out of them.
 #![tactic(auto)]
 
-mod named;
-mod plugins;
 mod sink;
 mod step;
 
-pub use plugins::{MAX_PLUGINS, Plugins, PluginsRefused};
 pub use sink::{EventSink, SinkRefused};
 pub use step::{Intercepted, Interceptor};

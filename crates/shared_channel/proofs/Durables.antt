@@ -1,9 +1,10 @@
 -- Calls of a channel on a disk, under one lock.
-use Rattle.std.proofs.Common.{◌≡◌, ◌⊎◌, inl, inr, ℕ, List, [], length, Result, Ok, Err, Bool, true, false, not, refl, sym, ◌∙◌, ap, subst}
+use Rattle.std.proofs.Common.{◌≡◌, ◌⊎◌, inl, inr, ℕ, List, [], length, Result, Ok, Err, OnOk, Bool, true, false, not, refl, sym, ◌∙◌, ap, subst}
 use Rattle.std.proofs.lemmas.List.{append-nil}
 use Rattle.atomic_table.specs.Seated.{TableId}
-use Rattle.channel_face.specs.Machine.{State, Reopen, Reopened, AdmitsCheckpoint, AdmitsPrune, AdmitsReopen}
-use Rattle.channel_face.specs.History.{Opening, Step, opening, state_after, reopen_reply}
+use Rattle.channel_face.proofs.Adding.{state-push}
+use Rattle.channel_face.specs.Machine.{State, Checkpoint, Reopen, Reopened, AdmitsCheckpoint, AdmitsPrune, AdmitsReopen, after, settle}
+use Rattle.channel_face.specs.History.{Opening, Shows, Step, opening, state_after, reopen_reply}
 use Rattle.channel_face.specs.declared.replies.Counter.TheVariants.{File, Check, Life, Calls}
 use Rattle.channel_face.specs.declared.replies.CheckRefused.{CheckRefused}
 use Rattle.channel_face.specs.declared.replies.CheckRefused.TheVariants as CheckNo
@@ -12,15 +13,15 @@ use Rattle.channel_face.specs.declared.replies.PruneRefused.TheVariants as Prune
 use Rattle.channel_face.specs.declared.replies.OpenCause.{OpenCause}
 use Rattle.channel_face.specs.declared.replies.OpenCause.TheVariants as OpenNo
 use Rattle.channel_lock.specs.Calls.{has}
-use Rattle.channel_lock.specs.Views.{View}
+use Rattle.channel_lock.specs.Views.{View, with_call}
 use Rattle.channel_lock.specs.Turns.{Making}
-use Rattle.shared_channel.specs.Calls.{made_if, state_seen}
-use Rattle.shared_channel.specs.Holding.{IsReleased, Makes, made_by}
+use Rattle.shared_channel.specs.Calls.{SawOf, made_if, state_seen}
+use Rattle.shared_channel.specs.Holding.{Holds, IsReleased, Makes, made_by}
 use Rattle.shared_channel.specs.Passes.{Known, known, view_of}
 use Rattle.shared_channel.specs.declared.shared.Holder.{Holder}
 use Rattle.channel_face.specs.Keeps.{is_spent_check, is_spent_prune, is_spent_open}
 use Rattle.shared_channel.specs.Durables.{calls_of, WasBroken, TriesReopen, MakesMended, Reopens, Mends}
-use Rattle.shared_channel.proofs.Turning.{answers, looks}
+use Rattle.shared_channel.proofs.Turning.{answers, gone, looks, shows_seen}
 
 -- the machine refuses none of them because no more calls are counted
 
@@ -44,11 +45,33 @@ length_made : (spent : Bool) (s : Step) → length (made_if (not spent) s) ≡ c
 length_made true s = refl
 length_made false s = refl
 
+-- what a checkpoint that was laid under the lock has is the state that is seen after it
+pub laid_seen : {C : Type 0} (stands : C → Opening → List Step → Type 0) (tells : C → Bool) (table : TableId) (P : State → Type 0) (reply : Result (Unit {0}) CheckRefused) (told : Step) (old : Holder C) (v : View) → Holds stands table old → v ≡ with_call told old.seat.me.0
+    → told.call ≡ Checkpoint reply → Shows (stands old.home.channel) (λ s. OnOk reply (P (settle s))) → OnOk reply (P (state_seen v))
+laid_seen stands tells table P (Ok done) told old v holds counted call shows =
+    let k = old.seat.me.0 in
+    let settles : state_seen v ≡ settle (state_seen k) = ap state_seen counted ∙ (state-push (opening k.base) k.seen told ∙ ap (after (state_seen k)) call) in
+    subst P (sym settles) (shows_seen stands tells table old (λ s. P (settle s)) holds shows)
+laid_seen stands tells table P (Err refused) told old v holds counted call shows = tt
+
 -- From the pass before a lock to its views after it, with a reopening or a mend under the lock.
 module _ {C : Type 0} (stands : C → Opening → List Step → Type 0) (tells : C → Bool) (table held : TableId) (number : ℕ) (before after : List View) (p : Known) (is : known table number before ≡ p) (own : has (view_of before).numbers number ≡ true)
     (a b : Holder C) (mine : a.by ≡ number) (making : Making (view_of before) [] a.seat.me.0) (count : ℕ) (released : IsReleased stands tells b after count) (moment : C → ℕ) where
   pub reopens : (reply : Result (Unit {0}) OpenCause) → TriesReopen stands held moment reply a b → Reopens stands tells moment p.view p.number reply (view_of after)
   reopens reply tried = (tried.0, answers stands tells table held number before after p is own a b mine making count released moment (is_spent_open reply) (Reopen (reopen_reply reply tried.0)) tried.1)
+
+  -- what was so of the channel under the lock is so of one that was seen
+  saw_of : (P : C → State → Type 0) (es : List Step) → Makes stands held es a b → P b.home.channel (state_seen b.seat.me.0) → SawOf stands tells P (view_of after)
+  saw_of P es makes so =
+      let m : Making (view_of before) es b.seat.me.0 = makes.goes_on (view_of before) [] making (ap (has (view_of before).numbers) mine ∙ own) in
+      let base : b.seat.me.0.base ≡ (view_of after).base = ap (λ (x : View). x.base) m.1 ∙ sym (ap (λ (x : View). x.base) (released.saw (view_of before) es m)) in
+      let seen = (gone stands tells table held number before after p is own a b mine making count released es makes).seen in
+      (b.home.channel, seen, subst (λ (x : Opening × List Step). P b.home.channel (state_after (opening x.0) x.1)) (λ i. (base i, sym released.seen i)) so)
+
+  -- the same where the call was answered Ok
+  pub saw_ok : {T E : Type 0} (reply : Result T E) (P : C → State → Type 0) (es : List Step) → Makes stands held es a b → OnOk reply (P b.home.channel (state_seen b.seat.me.0)) → OnOk reply (SawOf stands tells P (view_of after))
+  saw_ok (Ok done) P es makes so = saw_of P es makes so
+  saw_ok (Err refused) P es makes so = tt
 
   -- the history that was opened is the one that was seen
   based : (es : List Step) → Makes stands held es a b → a.seat.me.0.base ≡ (view_of after).base

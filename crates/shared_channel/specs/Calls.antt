@@ -49,6 +49,10 @@ module _ {C : Type 0} (stands : C → Opening → List Step → Type 0) (tells :
   abbrev pub Looks : View → View → Type 0
   Looks v w = (c : C) × Left v [] w c
 
+  -- A channel that stands for what was seen is so, in the state that was seen.
+  abbrev pub SawOf : (C → State → Type 0) → View → Type 0
+  SawOf P w = (c : C) × IsSeen c w × P c (state_seen w)
+
 module _ {C : Type 0} (stands : C → Opening → List Step → Type 0) (tells : C → Bool) (moment : C → ℕ) where
   -- it made this call
   abbrev pub Called : View → ℕ → Call → View → Type 0

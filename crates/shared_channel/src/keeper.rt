@@ -1,7 +1,8 @@
 // A port as those see it who keep the channel in order.
-ghost use Rattle.std.specs.Prelude.{◌≡◌, ◌≤◌, length};
+ghost use Rattle.std.specs.Prelude.{◌≡◌, ◌≤◌, OnOk, length};
 ghost use Rattle.channel_face.specs.Faces.{Gains};
 ghost use Rattle.channel_face.specs.Keeps.{IsCheck, IsLook, IsMend, IsPrune};
+ghost use Rattle.shared_channel.specs.Calls.{SawOf};
 ghost use Rattle.shared_channel.specs.Ports.{AreOwned, Later, Saw};
 
 use crate::port::Port;
@@ -63,11 +64,18 @@ impl<'a, R: Wait, C: Reopen> MendFace for Port<'a, R, C> {
 }
 
 impl<'a, R: Wait, C: Durable> KeepFace for Port<'a, R, C> {
+    ghost use Rattle.shared_channel.specs.Calls.{SawOf};
+
+    ghost saw_laid = { λ p. SawOf C.stands C.tells C.is_laid p.pass.view };
+
+    ghost saw_pruned = { λ p. SawOf C.stands C.tells (λ c s. C.is_pruned c) p.pass.view };
+
     fn checkpoint(&mut self) -> Result<(), CheckRefused>
         ensures seen { length self.old.pass.view.seen ≤ length self.new.pass.view.seen }
         ensures calls { Gains (AreOwned self.old.pass.view) (AreOwned self.new.pass.view)
             (λ earlier. IsCheck (length self.new.pass.view.seen) result) }
         ensures kept { Later self.old.pass self.new.pass }
+        ensures laid { OnOk result (SawOf C.stands C.tells C.is_laid self.new.pass.view) }
     {
         self.shared.checkpoint(self.rt, &mut self.pass)
     }
@@ -77,6 +85,8 @@ impl<'a, R: Wait, C: Durable> KeepFace for Port<'a, R, C> {
         ensures calls { Gains (AreOwned self.old.pass.view) (AreOwned self.new.pass.view)
             (λ earlier. IsPrune (length self.new.pass.view.seen) result) }
         ensures kept { Later self.old.pass self.new.pass }
+        ensures gone { OnOk result
+            (SawOf C.stands C.tells (λ c s. C.is_pruned c) self.new.pass.view) }
     {
         self.shared.prune(self.rt, &mut self.pass)
     }

@@ -3,6 +3,7 @@ use Rattle.std.specs.Prelude.{ℕ, List, length}
 use Rattle.channel_face.specs.Faces.{Own}
 use Rattle.channel_face.specs.History.{Opening, Step}
 use Rattle.channel_face.specs.Machine.{State}
+use Rattle.channel_lock.specs.Views.{View}
 use Rattle.shared_channel.specs.Passes.{Known}
 use Rattle.shared_channel.specs.Ports.{AreOwned, Later, Saw, later_none, later_then}
 use Rattle.two_channels.specs.declared.port.EitherPort.{EitherPort}
@@ -22,6 +23,11 @@ module _ {R A B : Type 0} where
   abbrev pub SawIn : (A → Opening → List Step → Type 0) → (B → Opening → List Step → Type 0) → EitherPort R A B → List Own → State → Type 0
   SawIn disk memory (Disk port) = Saw disk port.pass.view
   SawIn disk memory (Memory port) = Saw memory port.pass.view
+
+  -- The channel is on a disk, and this is so of what was seen of it.
+  abbrev pub SawOnDisk : (View → Type 0) → EitherPort R A B → Type 0
+  SawOnDisk P (Disk port) = P port.pass.view
+  SawOnDisk P (Memory port) = ⊥
 
   -- the same port after some calls
   abbrev pub LaterPort : EitherPort R A B → EitherPort R A B → Type 0

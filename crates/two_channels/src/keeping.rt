@@ -40,6 +40,13 @@ impl<'a, R: Wait, A: Reopen, B: Channel> MendFace for EitherPort<'a, R, A, B> {
 }
 
 impl<'a, R: Wait, A: Durable, B: Channel> KeepFace for EitherPort<'a, R, A, B> {
+    ghost use Rattle.shared_channel.specs.Calls.{SawOf};
+    ghost use Rattle.two_channels.specs.Ports.{SawOnDisk};
+
+    ghost saw_laid = { λ p. SawOnDisk (SawOf A.stands A.tells A.is_laid) p };
+
+    ghost saw_pruned = { λ p. SawOnDisk (SawOf A.stands A.tells (λ c s. A.is_pruned c)) p };
+
     fn checkpoint(&mut self) -> Result<(), CheckRefused> {
         match self {
             EitherPort::Disk(port) => port.checkpoint(),

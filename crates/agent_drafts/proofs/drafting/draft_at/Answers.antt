@@ -1,5 +1,5 @@
 use Rattle.std.proofs.Common.{sym, subst}
-use Rattle.plan_support.specs.Least.{HasOwnSteps}
+use Rattle.plan_objects.specs.Least.{HasOwnSteps}
 use Rattle.agent_drafts.proofs.Ordered.{draft_there}
 use Rattle.agent_drafts.proofs.drafting.draft_at.Goals as goal
 

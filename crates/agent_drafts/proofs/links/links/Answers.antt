@@ -4,7 +4,7 @@ use Rattle.std.specs.List.{AllZip}
 use Rattle.flume_config.specs.declared.plan.StepPlan.{StepPlan}
 use Rattle.chain_plan.specs.declared.plan.LinkPlan.{LinkPlan}
 use Rattle.agent_outside.proofs.Zips.{zip_push}
-use Rattle.plan_support.specs.Least.{IsOwn}
+use Rattle.plan_objects.specs.Least.{IsOwn}
 use Rattle.agent_drafts.specs.Drafts.{IsLink}
 use Rattle.agent_drafts.proofs.links.links.Goals as goal
 

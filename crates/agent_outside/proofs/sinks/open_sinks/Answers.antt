@@ -1,10 +1,13 @@
-use Rattle.std.proofs.Common.{◌≡◌, ◌<◌, ◌∙◌, ℕ, [], ◌∷◌, length, get_or, sym, ap, subst, arith, length-append}
+use Rattle.std.proofs.Common.{◌≡◌, ◌<◌, ◌∙◌, ℕ, [], ◌∷◌, length, get_or, refl, sym, ap, subst, arith, length-append}
+use Rattle.std.specs.Prelude.{reverse}
 use Rattle.flume_config.specs.declared.plan.SinkPlan.{SinkPlan}
 use Rattle.agent_outside.specs.Backs.{RollsBack}
 use Rattle.agent_outside.specs.Dials.{AreDialed, DialersBack, DialersOut, DialsOpened, dial_of as dial_by, dials_back}
 use Rattle.agent_outside.specs.Ends.{AreOut, ends_of}
-use Rattle.agent_outside.specs.Sinks.{AreOpened, SinkAdded, SinkUnopened, SinksOpened, backs_of}
+use Rattle.plan_objects.specs.Asks.{HasObject}
+use Rattle.agent_outside.specs.Sinks.{AreOpened, SinkAdded, SinkUnopened, SinksOpened, backs_of, first_of}
 use Rattle.agent_outside.proofs.Backing.{reopened_marks}
+use Rattle.agent_outside.proofs.Boxing.{Boxing, boxing_more, next_object}
 use Rattle.agent_outside.proofs.Dialing.{are_dialed, dialed_more, dials_may_come_back, none_dialed}
 use Rattle.agent_outside.proofs.Ordering.{are_later, are_opened}
 use Rattle.agent_outside.proofs.Opening.{none_opened, opened_more, refused_at}
@@ -21,7 +24,19 @@ loop-plan-init g c =
       many = ap length c.new-sinks.ensures.items;
       opened = subst (λ l. SinksOpened g.H.Roll.RollDir.rolled g.H.Roll.RollDir.faults plans folders folders l) none (none_opened g.H.Roll.RollDir.rolled g.H.Roll.RollDir.faults (dial_of g) plans folders);
       dialed = subst (λ l. DialsOpened (dial_of g) plans state state l) none (none_dialed (dial_of g) plans state);
+      boxing = subst (λ l. Boxing plans (reverse c.args.objects.items) (reverse c.args.objects.items) l) none (record { rest = refl; boxed = tt });
     }
+
+pub add_sink-requires-clause-have : goal.add_sink-requires-clause-have
+add_sink-requires-clause-have g c κs within =
+    let plans = c.args.plans.now in
+    let inv = c.loop-plan.invariant in
+    let sinks = c.loop-plan.sinks.items in
+    let plan = c.plan-item.result in
+    let left = reverse c.loop-plan.objects.items in
+    let below : length sinks < length plans = let many = inv.many in let test = c.loop-plan-test.true in omega (arith, many, test) in
+    let is : plan ≡ get_or plans (length sinks) plan = c.plan-item.is ∙ ap (λ (n : ℕ). get_or plans n plan) (sym inv.many) in
+    subst (λ (p : SinkPlan). HasObject p.kind (first_of left)) (sym is) (next_object plans (reverse c.args.objects.items) c.requires sinks below left inv.boxing plan)
 
 pub give_back_sinks-requires-clause-opened : goal.give_back_sinks-requires-clause-opened
 give_back_sinks-requires-clause-opened g c κs within =
@@ -86,10 +101,13 @@ loop-plan-preserved g c =
     let after = c.add_sink.new.sinks.items in
     let below : length sinks < length plans = let many = inv.many in let test = c.loop-plan-test.true in omega arith in
     let is : plan ≡ get_or plans (length sinks) plan = c.plan-item.is ∙ ap (λ (n : ℕ). get_or plans n plan) (sym inv.many) in
-    let added = subst (λ (p : SinkPlan). SinkAdded rolled faults (dial_of g) p t.dialers old new sinks after) is c.in_default.ensures.added in
+    let object = first_of (reverse c.loop-plan.objects.items) in
+    let added = subst (λ (p : SinkPlan). SinkAdded rolled faults (dial_of g) p object t.dialers old new sinks after) is c.in_default.ensures.added in
     let out = subst (λ (p : SinkPlan). DialersOut (dial_by p.kind) t u) is c.in_default.ensures.dials in
     record {
       many = let many = inv.many in let one = ap length added.is ∙ length-append sinks (added.sink ∷ []) in omega (arith, one);
-      opened = opened_more rolled faults (dial_of g) plans t.dialers start old new sinks after plan below inv.opened added;
+      opened = opened_more rolled faults (dial_of g) plans object t.dialers start old new sinks after plan below inv.opened added;
       dialed = dialed_more (dial_of g) plans s t u sinks after added.sink plan below inv.dialed added.dialed added.is out;
+      boxing = boxing_more plans (reverse c.args.objects.items) c.requires sinks below (reverse c.loop-plan.objects.items) inv.boxing plan (reverse c.add_sink.new.objects.items) after added.sink c.add_sink.ensures.rest
+          added.is added.boxed;
     }

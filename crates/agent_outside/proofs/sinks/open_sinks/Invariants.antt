@@ -1,9 +1,11 @@
 use Rattle.std.proofs.Common.{◌≡◌, None, length}
+use Rattle.std.specs.Prelude.{reverse}
 use Rattle.avro_ends.specs.Deliveries.{HasBack}
 use Rattle.avro_ends.specs.Dialing.{DialTold, closed_links}
 use Rattle.avro_ends.specs.declared.sink.AvroSink.{AvroSink}
 use Rattle.agent_outside.specs.Dials.{DialsOpened}
 use Rattle.agent_outside.specs.Sinks.{SinksOpened}
+use Rattle.agent_outside.proofs.Boxing.{Boxing}
 use Rattle.agent_outside.proofs.sinks.open_sinks.Given as goal
 
 -- what the Avro sinks of the host show of their dialers
@@ -21,4 +23,5 @@ invariant-loop-plan g l = record {
   many : length l.sinks.items ≡ l.plan-index;
   opened : SinksOpened g.H.Roll.RollDir.rolled g.H.Roll.RollDir.faults l.plans (g.H.Host.folders l.fn.host) (g.H.Host.folders l.host) l.sinks.items;
   dialed : DialsOpened (dial_of g) l.plans (g.H.Host.state l.fn.host) (g.H.Host.state l.host) l.sinks.items;
+  boxing : Boxing l.plans (reverse l.fn.objects.items) (reverse l.objects.items) l.sinks.items;
 }

@@ -9,7 +9,6 @@ use Rattle.avro_ends.specs.Dialing.{DialTold, closed_links}
 use Rattle.avro_ends.specs.declared.sink.AvroSink.{AvroSink}
 use Rattle.file_channel.specs.Stands.{FileState}
 use Rattle.memory_channel.specs.declared.channel.MemoryChannel.{MemoryChannel}
-use Rattle.sink_runner.specs.declared.null.NullSink.{NullSink}
 use Rattle.two_channels.specs.declared.shared.EitherClosed.{EitherClosed}
 use Rattle.agent_channels.specs.Closings.{AreOfWishes, DisksBack, backs_of}
 use Rattle.agent_channels.specs.Openings.{HostTold}
@@ -37,7 +36,7 @@ dial_of g = record {
 
 -- a sink of the host
 abbrev Sink : Over → Type 0
-Sink g = AgentSink g.row.H-Roll.Denot (AvroSink g.row.H-Dialer.Denot g.row.H-Dialer-Link.Denot g.H.Dialer.Dialer g.H.Dialer.Link.Link) NullSink
+Sink g = AgentSink g.row.H-Roll.Denot (AvroSink g.row.H-Dialer.Denot g.row.H-Dialer-Link.Denot g.H.Dialer.Dialer g.H.Dialer.Link.Link) g.row.B.Denot
 
 pub ungroup_sinks-requires-clause-within : goal.ungroup_sinks-requires-clause-within
 ungroup_sinks-requires-clause-within g c =

@@ -41,7 +41,7 @@ run_opened-requires-clause-can g c κs within =
     let out = c.in-Ok.ensures.opened in
     let grouped = c.group_outside-outside.ensures in
     let hear : c.group_outside-outside.result.outside.listeners.items ≡ c.in-Ok.outside.listeners.items = ap (λ (v : Vec g.row.H-Listener.Denot Global). v.items) grouped.listeners in
-    let placed = subst (λ (x : List ℕ × List g.row.H-Listener.Denot). WithPlaces x.0 x.1 out.named) (λ i. (c.as_slice.ensures.value i, sym hear i)) out.with_places in
+    let placed = subst (λ (x : List ℕ × List g.row.H-Listener.Denot). WithPlaces x.0 x.1 out.named) (λ i. (c.as_slice-places.ensures.value i, sym hear i)) out.with_places in
     can_be_manned plan rows _ out.named c.sinks_name_what_is_there.ensures c.numbers_are_limited.ensures c.requires.planned (groups_there c.groups_name_what_is_there.ensures plan c.requires.planned)
     c.requires.rows c.requires.prepared c.requires.opened (runners_many c.in-Ok.outside.sinks.items rows c.group_outside-outside.result.outside.sinks.items grouped.dealt)
     placed c.requires.room.channels c.requires.room.workers
@@ -59,12 +59,12 @@ run_opened-requires-clause-listen g c κs within =
     let bare = c.in-Ok.outside.listeners.items in
     let sources = c.args.plan.now.sources.items in
     let all = (g.H.Host.state c.open_outside.new.host).listeners in
-    let back = given_back g.H.Listener.Listener.told g.H.Listener.Listener.endpoint g.H.Listener.Listener.waits g.H.Listener.Listener.faults sources c.as_slice.result.now bare out.named
+    let back = given_back g.H.Listener.Listener.told g.H.Listener.Listener.endpoint g.H.Listener.Listener.waits g.H.Listener.Listener.faults sources c.as_slice-places.result.now bare out.named
     out.between (g.H.Host.state c.open_outside.new.host) out.with_places out.opened in
     subst (λ (x : List ℕ × Vec g.row.H-Listener.Denot Global). CanListenAt g.H.Listener.Listener.endpoint sources x.0 x.1.items all)
-    (λ i. (c.as_slice.ensures.value i, sym c.group_outside-outside.ensures.listeners i))
+    (λ i. (c.as_slice-places.ensures.value i, sym c.group_outside-outside.ensures.listeners i))
     (record {
-      listen = subst (λ (l : List ℕ). All (ListensAt sources) l) (sym c.as_slice.ensures.value) c.requires.prepared.listen;
+      listen = subst (λ (l : List ℕ). All (ListensAt sources) l) (sym c.as_slice-places.ensures.value) c.requires.prepared.listen;
       from = back.0;
       out = back.1;
     })
@@ -78,7 +78,7 @@ run_opened-requires-clause-sinks g c κs within =
 
 pub run_opened-requires-clause-dials : goal.run_opened-requires-clause-dials
 run_opened-requires-clause-dials g c κs within =
-    stand_in_rows _ _ _ _ c.args.plan.now c.as_slice.result.now _ _ c.args.rows.now c.in-Ok.outside.sinks.items c.in-Ok.outside.listeners.items c.group_outside-outside.result.outside.sinks.items
+    stand_in_rows _ _ _ _ c.args.plan.now _ c.as_slice-places.result.now _ _ c.args.rows.now c.in-Ok.outside.sinks.items c.in-Ok.outside.listeners.items c.group_outside-outside.result.outside.sinks.items
     c.in-Ok.ensures.opened c.group_outside-outside.ensures.dealt
 
 pub run_opened-requires-clause-disks : goal.run_opened-requires-clause-disks
@@ -87,12 +87,12 @@ run_opened-requires-clause-disks g c κs within =
 
 pub give_all_unused-requires-clause-opened : goal.give_all_unused-requires-clause-opened
 give_all_unused-requires-clause-opened g c κs within =
-    subst (λ (wishes : List ChannelWish). WereOpened wishes c.args.opened.items) (sym c.as_slice-in-Err.ensures.value) c.requires.opened
+    subst (λ (wishes : List ChannelWish). WereOpened wishes c.args.opened.items) (sym c.as_slice.ensures.value) c.requires.opened
 
 pub give_all_unused-requires-clause-out : goal.give_all_unused-requires-clause-out
 give_all_unused-requires-clause-out g c κs within =
     let folders = g.H.Host.folders c.open_outside.new.host in
-    subst (λ (wishes : List ChannelWish). AreOut folders wishes) (sym c.as_slice-in-Err.ensures.value)
+    subst (λ (wishes : List ChannelWish). AreOut folders wishes) (sym c.as_slice.ensures.value)
     (still_out (g.H.Host.folders c.args.host.now) folders c.args.prepared.wishes.items c.open_outside.ensures.disks c.requires.out)
 
 pub returns-in-Err-clause-refused : goal.returns-in-Err-clause-refused
@@ -104,8 +104,8 @@ returns-in-Err-clause-refused g c =
       why = c.in-Err.refused;
       said = c.name_error.ensures;
       left = left;
-      refused = subst (λ (l : List ℕ). OutsideRefused c.args.plan.now l c.in-Err.refused old left) c.as_slice.ensures.value c.in-Err.ensures.refused;
-      back = subst (λ (l : List ChannelWish). AreUnused l c.args.opened.items left new) c.as_slice-in-Err.ensures.value c.give_all_unused.ensures;
+      refused = subst (λ (l : List ℕ). OutsideRefused c.args.plan.now l c.in-Err.refused old left) c.as_slice-places.ensures.value c.in-Err.ensures.refused;
+      back = subst (λ (l : List ChannelWish). AreUnused l c.args.opened.items left new) c.as_slice.ensures.value c.give_all_unused.ensures;
     }
 
 pub returns-in-Ok-clause-ran : goal.returns-in-Ok-clause-ran
@@ -126,7 +126,7 @@ returns-in-Ok-clause-ran g c =
       between = record { state = g.H.Host.state c.open_outside.new.host; folders = g.H.Host.folders c.open_outside.new.host };
       opens = record {
         sinks = c.in-Ok.outside.sinks.items;
-        opened = outside_at c.as_slice.ensures.value (ap (λ (v : Vec g.row.H-Listener.Denot Global). v.items) (sym grouped.listeners)) c.in-Ok.ensures.opened;
+        opened = outside_at c.as_slice-places.ensures.value (ap (λ (v : Vec g.row.H-Listener.Denot Global). v.items) (sym grouped.listeners)) c.in-Ok.ensures.opened;
         dealt = grouped.dealt;
         new_ones = subst (λ (l : List GroupPlan). AreNewRunners l c.args.rows.now c.group_outside-outside.result.outside.sinks.items) c.as_slice-groups.ensures.value grouped.new_ones;
       };

@@ -195,7 +195,7 @@ give_rest-ends-requires-clause-dials g c κs within =
     let runners = c.settle-settled.result.sinks.items in
     let may = may_return _ _ _ _ _ _ _ _ _ _ _ _ (dial_of g) c.runs_are_told.ensures c.runners_split.ensures
     (λ s batch moment answer t one. agent_stays g.H.Roll.RollDir.rolled (links_of g) g.H.Dialer.Dialer.told g.H.Dialer.Dialer.faults g.H.Dialer.Link.Link.told g.H.Dialer.Link.Link.faults g.H.Dialer.Dialer.endpoint
-    batch moment answer (dial_of g) (λ x. refl) s t one)
+    batch moment answer (λ x y. g.B.EventSink.delivers x batch moment answer y) (dial_of g) (λ x. refl) s t one)
     plans rows c.requires.order c.args.opening c.man-crew.result c.run_crew-sinks.new.homes c.run_crew-sinks.result joins.returned c.settle-settled.result is
     (subst (λ (l : List Known). EachTook l c.run_crew-sinks.new.homes) c.as_mut_slice.ensures.value c.run_crew-sinks.ensures.kept)
     (c.run_crew-sinks.ensures.all dealt)

@@ -49,10 +49,6 @@ run_channels-requires-clause-room g c κs within =
     let lines : c.len.result ≡ length p.lines.items = let e = c.len.ensures in first_of (omega arith, search (rules, arith)) in
     subst (λ (x : ℕ × ℕ). HasRoomFor c.args.plan.now (length c.as_slice-rows.result.now) x.0 x.1 c.in_ok-room.room) (λ i. (listeners i, lines i)) c.in_ok-room.ensures
 
-pub run_channels-requires-clause-plain : goal.run_channels-requires-clause-plain
-run_channels-requires-clause-plain g c κs within =
-    c.sinks_are_plain.ensures c.args.plan.now c.requires.own
-
 pub run_channels-requires-clause-opened : goal.run_channels-requires-clause-opened
 run_channels-requires-clause-opened g c κs within =
     were_opened c.in_ok-prepared.prepared.wishes.items c.as_slice-2.result.now c.in-Ok.opened.items _ _ c.as_slice-2.ensures.value c.in-Ok.ensures.opened
@@ -80,8 +76,8 @@ returns-in-Ok-clause-refused g c =
     (λ error refused. inr (inr (outside_refused plan p.places.items p.wishes.items c.in-Ok.opened.items error old open_then new (_, c.in_ok-prepared.ensures.prepared.wishes) c.in_ok-prepared.ensures.prepared.places opened refused)))
     c.run_channels.ensures.refused
 
-pub returns-clause-refused : goal.returns-clause-refused
-returns-clause-refused g c =
+pub returns-in-Err-clause-refused : goal.returns-in-Err-clause-refused
+returns-in-Err-clause-refused g c =
     let plan = c.args.plan.now in
     let p = c.in_ok-prepared.prepared in
     let state = c.in_ok-prepared.ensures.same ∙ c.frames_of.ensures.state in

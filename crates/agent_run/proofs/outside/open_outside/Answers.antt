@@ -1,4 +1,5 @@
 use Rattle.std.proofs.Common.{◌≡◌, ◌∙◌, ℕ, List, None, length, map, take, sym, ap, subst}
+use Rattle.std.specs.Prelude.{reverse}
 use Rattle.flume_host.specs.HostState.{Folders, HostState}
 use Rattle.flume_config.specs.declared.plan.SinkPlan.{SinkPlan}
 use Rattle.flume_config.specs.declared.plan.SourcePlan.{SourcePlan}
@@ -7,7 +8,7 @@ use Rattle.agent_outside.specs.Backs.{RollsBack}
 use Rattle.agent_outside.specs.Dials.{DialersBack, DialsOpened, dials_back}
 use Rattle.agent_outside.specs.Ends.{end_at}
 use Rattle.agent_outside.specs.Listening.{IsFresh, ListenersOpened, ListensRefused}
-use Rattle.agent_outside.specs.Sinks.{AreOpened, SinksOpened, SinksRefused, backs_of}
+use Rattle.agent_outside.specs.Sinks.{AreBoxed, AreOpened, SinksOpened, SinksRefused, backs_of}
 use Rattle.avro_ends.specs.Deliveries.{HasBack}
 use Rattle.avro_ends.specs.Dialing.{DialTold, closed_links}
 use Rattle.avro_ends.specs.declared.sink.AvroSink.{AvroSink}
@@ -83,6 +84,7 @@ returns-in-Ok-open_listeners-clause-opened g c =
     record {
       many = c.in-Ok.ensures.many ∙ ap length c.as_slice-plans.ensures.value;
       sinks = subst (λ (x : List SinkPlan × Folders). SinksOpened rolled faults x.0 old x.1 sinks) (λ i. (c.as_slice-plans.ensures.value i, sym c.open_listeners.ensures.folders i)) c.in-Ok.ensures.opened;
+      boxed = subst (λ (l : List SinkPlan). AreBoxed l (reverse c.args.objects.items) sinks) c.as_slice-plans.ensures.value c.in-Ok.ensures.boxed;
       between = between;
       dials = subst (λ (l : List SinkPlan). DialsOpened (dial_of g) l begun between sinks) c.as_slice-plans.ensures.value c.in-Ok.ensures.dialed;
       named = c.in-Ok-open_listeners.named.items;

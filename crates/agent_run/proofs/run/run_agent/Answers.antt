@@ -1,10 +1,11 @@
-use Rattle.std.proofs.Common.{◌≡◌, List, ℕ, codes, sym, subst, ◌∙◌}
+use Rattle.std.proofs.Common.{◌≡◌, List, ℕ, codes, inr, sym, subst, ◌∙◌}
 use Rattle.flume_host.proofs.Folders.{but_same}
 use Rattle.agent_words.specs.Words.{texts}
 use Rattle.agent_words.proofs.Unique.{one_asked}
+use Rattle.plan_objects.specs.Asks.{first_unmet, names_of}
 use Rattle.agent_commands.specs.Checked.{Checked}
 use Rattle.agent_run.specs.Named.{AgentEnds}
-use Rattle.agent_run.proofs.Answering.{agent_named, never_one}
+use Rattle.agent_run.proofs.Answering.{agent_named, never_one, not_read}
 use Rattle.agent_run.proofs.Commands.{agent_is_no_check, agent_is_no_load, agent_is_no_pipe, none_runs, one_folder, one_load, read_none, read_some}
 use Rattle.agent_channels.specs.Openings.{HostTold}
 use Rattle.agent_run.specs.PipeRan.{PipeRan}
@@ -24,9 +25,9 @@ returns-in-Ok-Some-Check-clause-checked g c = λ agent file is.
     let same = one_asked (texts c.args.words.now) (codes "check") _ _ agent file (read_some _ _ _ _ c.in-Ok-Some-Check.ensures c.in-Ok-Some-Check.field-0-is c.in-Ok-Some-Check.field-0-0-is) is in
     let n : c.as_str.result.now ≡ agent = c.as_str.ensures.value ∙ same.0 in
     let f : c.as_str-in-Ok-Some-Check.result.now ≡ file = c.as_str-in-Ok-Some-Check.ensures.value ∙ same.1 in
-    let status : c.run_check.result ≡ c.ended.result.status = sym c.ended.ensures.status in
-    let C : List ℕ × (List ℕ × ℕ) → Type 0 = λ x. Checked ((g.H.Host.state c.args.host.now).files x.1.0) x.0 (g.H.Host.state c.args.host.now) (g.H.Host.state c.run_check.new.host) x.1.1 in
-    subst C (λ i. (n i, (f i, status i))) c.run_check.ensures.checked
+    let status : c.run_check-status.result ≡ c.ended.result.status = sym c.ended.ensures.status in
+    let C : List ℕ × (List ℕ × ℕ) → Type 0 = λ x. Checked (first_unmet (names_of c.args.plugins.sinks.items)) ((g.H.Host.state c.args.host.now).files x.1.0) x.0 (g.H.Host.state c.args.host.now) (g.H.Host.state c.run_check-status.new.host) x.1.1 in
+    subst C (λ i. (n i, (f i, status i))) c.run_check-status.ensures.checked
 
 pub returns-in-Ok-None-clause-usage : goal.returns-in-Ok-None-clause-usage
 returns-in-Ok-None-clause-usage g c = λ one. none_runs _ (read_none _ _ c.in-Ok-None.ensures c.in-Ok-None.field-0-is)
@@ -42,20 +43,20 @@ returns-in-Ok-Some-Pipe-clause-piped g c = λ dir is.
     let b : HostTold = record { state = g.H.Host.state c.run_piped.new.host; folders = g.H.Host.folders c.run_piped.new.host } in
     subst (λ (d : List ℕ). PipeRan d r.status r.channels.items a b) same c.run_piped.ensures.piped
 
-pub returns-in-Err-clause-piped : goal.returns-in-Err-clause-piped
-returns-in-Err-clause-piped g c = λ dir is. not_piped dir _ _ _ _ c.refuse-in-Err.ensures.channels c.refuse-in-Err.ensures.status c.refuse-in-Err.ensures.state c.refuse-in-Err.ensures.folders
+pub returns-clause-piped : goal.returns-clause-piped
+returns-clause-piped g c = λ dir is. not_piped dir _ _ _ _ c.refuse-in-Err.ensures.channels c.refuse-in-Err.ensures.status c.refuse-in-Err.ensures.state c.refuse-in-Err.ensures.folders
 
 pub returns-in-Ok-Some-Pipe-clause-channels : goal.returns-in-Ok-Some-Pipe-clause-channels
 returns-in-Ok-Some-Pipe-clause-channels g c = λ none load agent. absurd (none _ (read_some _ _ _ _ c.in-Ok-Some-Pipe.ensures c.in-Ok-Some-Pipe.field-0-is c.in-Ok-Some-Pipe.field-0-0-is))
 
 pub returns-in-Ok-Some-Check-clause-others : goal.returns-in-Ok-Some-Check-clause-others
-returns-in-Ok-Some-Check-clause-others g c = λ dir is. but_same _ _ _ c.run_check.ensures.folders
+returns-in-Ok-Some-Check-clause-others g c = λ dir is. but_same _ _ _ c.run_check-status.ensures.folders
 
 pub returns-in-Ok-None-clause-others : goal.returns-in-Ok-None-clause-others
 returns-in-Ok-None-clause-others g c = λ dir is. but_same _ _ _ c.refuse.ensures.folders
 
-pub returns-in-Err-clause-others : goal.returns-in-Err-clause-others
-returns-in-Err-clause-others g c = λ dir is. but_same _ _ _ c.refuse-in-Err.ensures.folders
+pub returns-clause-others : goal.returns-clause-others
+returns-clause-others g c = λ dir is. but_same _ _ _ c.refuse-in-Err.ensures.folders
 
 pub returns-in-Ok-Some-Agent-clause-usage : goal.returns-in-Ok-Some-Agent-clause-usage
 returns-in-Ok-Some-Agent-clause-usage g c = λ one. absurd (never_one c.run_configured.result.status c.run_configured.ensures.ends.which one)
@@ -92,7 +93,7 @@ returns-in-Ok-Some-Agent-clause-agent g c = λ name file is.
     let same = one_asked (texts c.args.words.now) (codes "agent") _ _ name file (read_some _ _ _ _ c.in-Ok-Some-Agent.ensures c.in-Ok-Some-Agent.field-0-is c.in-Ok-Some-Agent.field-0-0-is) is in
     let n : c.as_str-in-Ok-Some-Agent.result.now ≡ name = c.as_str-in-Ok-Some-Agent.ensures.value ∙ same.0 in
     let f : c.as_str-in-Ok-Some-Agent-2.result.now ≡ file = c.as_str-in-Ok-Some-Agent-2.ensures.value ∙ same.1 in
-    let C : List ℕ × List ℕ → Type 0 = λ x. AgentEnds ((g.H.Host.state c.args.host.now).files x.1) x.0 c.run_configured.result.status in
+    let C : List ℕ × List ℕ → Type 0 = λ x. AgentEnds (first_unmet (names_of c.args.plugins.sinks.items)) ((g.H.Host.state c.args.host.now).files x.1) x.0 c.run_configured.result.status in
     subst C (λ i. (n i, f i)) c.run_configured.ensures.ends
 
 pub returns-in-Ok-Some-Agent-clause-rolls : goal.returns-in-Ok-Some-Agent-clause-rolls
@@ -111,6 +112,11 @@ returns-in-Ok-Some-Agent-clause-agent_ran g c = λ name file is.
 pub returns-in-Ok-Some-Agent-clause-channels : goal.returns-in-Ok-Some-Agent-clause-channels
 returns-in-Ok-Some-Agent-clause-channels g c = λ pipe load none. absurd (none _ _ (read_some _ _ _ _ c.in-Ok-Some-Agent.ensures c.in-Ok-Some-Agent.field-0-is c.in-Ok-Some-Agent.field-0-0-is))
 
+pub returns-clause-agent_ran : goal.returns-clause-agent_ran
+returns-clause-agent_ran g c = λ name file is.
+    inr (not_read (first_unmet (names_of c.args.plugins.sinks.items)) ((g.H.Host.state c.args.host.now).files file) name _ _ _ c.refuse-in-Err.ensures.channels c.refuse-in-Err.ensures.status
+    c.refuse-in-Err.ensures.state c.refuse-in-Err.ensures.folders)
+
 pub returns-in-Ok-None-clause-agent_ran : goal.returns-in-Ok-None-clause-agent_ran
 returns-in-Ok-None-clause-agent_ran g c = λ name file is. absurd ((read_none _ _ c.in-Ok-None.ensures c.in-Ok-None.field-0-is).agent name file is)
 
@@ -125,14 +131,14 @@ returns-in-Ok-Some-Load-clause-loaded g c = λ n dir is.
 pub returns-in-Ok-Some-Load-clause-channels : goal.returns-in-Ok-Some-Load-clause-channels
 returns-in-Ok-Some-Load-clause-channels g c = λ pipe none agent. absurd (none _ _ (read_some _ _ _ _ c.in-Ok-Some-Load.ensures c.in-Ok-Some-Load.field-0-is c.in-Ok-Some-Load.field-0-0-is))
 
-pub returns-in-Err-clause-loaded : goal.returns-in-Err-clause-loaded
-returns-in-Err-clause-loaded g c = λ n dir is. not_loaded n dir _ _ _ _ c.refuse-in-Err.ensures.channels c.refuse-in-Err.ensures.status c.refuse-in-Err.ensures.state c.refuse-in-Err.ensures.folders
+pub returns-clause-loaded : goal.returns-clause-loaded
+returns-clause-loaded g c = λ n dir is. not_loaded n dir _ _ _ _ c.refuse-in-Err.ensures.channels c.refuse-in-Err.ensures.status c.refuse-in-Err.ensures.state c.refuse-in-Err.ensures.folders
 
-pub returns-in-Err-clause-load_others : goal.returns-in-Err-clause-load_others
-returns-in-Err-clause-load_others g c = λ n dir is. but_same _ _ _ c.refuse-in-Err.ensures.folders
+pub returns-clause-load_others : goal.returns-clause-load_others
+returns-clause-load_others g c = λ n dir is. but_same _ _ _ c.refuse-in-Err.ensures.folders
 
 pub returns-in-Ok-Some-Check-clause-load_others : goal.returns-in-Ok-Some-Check-clause-load_others
-returns-in-Ok-Some-Check-clause-load_others g c = λ n dir is. but_same _ _ _ c.run_check.ensures.folders
+returns-in-Ok-Some-Check-clause-load_others g c = λ n dir is. but_same _ _ _ c.run_check-status.ensures.folders
 
 pub returns-in-Ok-None-clause-load_others : goal.returns-in-Ok-None-clause-load_others
 returns-in-Ok-None-clause-load_others g c = λ n dir is. but_same _ _ _ c.refuse.ensures.folders

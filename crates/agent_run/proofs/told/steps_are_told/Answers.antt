@@ -6,6 +6,7 @@ use Rattle.avro_ends.specs.Dialing.{DialTold, closed_links}
 use Rattle.avro_ends.specs.declared.sink.AvroSink.{AvroSink}
 use Rattle.agent_run.proofs.Apart.{folders_apart}
 use Rattle.agent_run.proofs.Asking.{agent_asks, agent_stays}
+use Rattle.agent_run.proofs.Boxing.{agent_hands}
 use Rattle.agent_run.proofs.Leaving.{IsSameChannel, returned_channels, run_left, run_members}
 use Rattle.agent_run.proofs.Lone.{plan_lone, seats_of}
 use Rattle.agent_run.proofs.Readying.{rows_in_order}
@@ -31,23 +32,25 @@ abbrev links_of : (g : Over) → AvroSink g.row.H-Dialer.Denot g.row.H-Dialer-Li
 links_of g s = record { dialer = s.dialer; opened = s.opened }
 
 pub returns : goal.returns
-returns g c = λ plan ends channels a b planned ran.
+returns g c = λ objects plan ends channels a b planned ran.
     run_did _ _ _ _ _ _ _ _ _ _ _ _ _ _ _ c.runs_are_told.ensures c.lines_stay_told.ensures c.workers_ran.ensures.well plan _ _ _ _
     (λ rows prepared old new out is. ap (λ (s : HostState). s.input) is.opened.opened.out.state ∙ ap (λ (s : HostState). s.input) is.opened.dials.out.state)
     (λ rows prepared old new out is. ap (λ (s : HostState). s.output) is.opened.opened.out.state ∙ ap (λ (s : HostState). s.output) is.opened.dials.out.state)
-    ends channels a b ran
+    g.B.EventSink.delivers objects ends channels a b ran
     (run_members _ (dial_of g) g.H.Disk.Disk.told g.H.Disk.Disk.faults _ _ _ _ _ plan _ _ _ _ _ c.delivered_batches_are_in_files.ensures _ c.runners_split.ensures (agent_writes _) (links_of g)
     g.H.Dialer.Dialer.told g.H.Dialer.Dialer.faults g.H.Dialer.Link.Link.told g.H.Dialer.Link.Link.faults
     (λ s batch moment answer b is. agent_asks g.H.Roll.RollDir.rolled (links_of g) g.H.Dialer.Dialer.told g.H.Dialer.Dialer.faults g.H.Dialer.Link.Link.told g.H.Dialer.Link.Link.faults g.H.Dialer.Dialer.endpoint
     batch moment answer s b is)
     c.requests_are_on_links.ensures (record { closed = λ s. refl; idle = λ s is. is })
     (λ s batch moment answer t one. agent_stays g.H.Roll.RollDir.rolled (links_of g) g.H.Dialer.Dialer.told g.H.Dialer.Dialer.faults g.H.Dialer.Link.Link.told g.H.Dialer.Link.Link.faults g.H.Dialer.Dialer.endpoint
-    batch moment answer (dial_of g) (λ x. refl) s t one)
+    batch moment answer (λ x y. g.B.EventSink.delivers x batch moment answer y) (dial_of g) (λ x. refl) s t one)
+    g.B.EventSink.delivers objects (agent_hands g.B.EventSink.delivers)
     (rows_in_order c.rows_are_apart.ensures c.groups_name_what_is_there.ensures c.sinks_stand_once.ensures plan planned)
     (λ rows prepared old new out is. record {
       sinks = is.sinks;
       many = is.opened.many;
       opened = is.opened.sinks;
+      boxed = is.opened.boxed;
       between = is.opened.between;
       dials = is.opened.dials;
       after = ap (λ (s : HostState). s.dialers) is.opened.opened.out.state;

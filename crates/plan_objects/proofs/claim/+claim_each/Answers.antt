@@ -1,6 +1,6 @@
 use Rattle.std.proofs.Common.{rules, ◌≡◌, ◌∙◌, ℕ, List, ◌∷◌, fold, Option, sym, ap}
 use Rattle.flume_config.specs.declared.plan.SinkPlan.{SinkPlan}
-use Rattle.plan_support.specs.Least.{nearer}
+use Rattle.plan_objects.specs.Least.{nearer}
 use Rattle.plan_objects.specs.Asks.{names_of, unmet}
 use Rattle.plan_objects.proofs.Taking.{first_over}
 use Rattle.plan_objects.proofs.claim.+claim_each.Goals as goal

@@ -1,9 +1,8 @@
 use Rattle.std.proofs.Common.{◌≡◌, ◌∙◌, All, List, None, flat_map, fold, sym, ap}
 use Rattle.flume_config.specs.declared.plan.SourcePlan.{SourcePlan}
-use Rattle.plan_support.specs.Least.{HasOwnSteps, nearer, source_plugin_lines}
-use Rattle.plan_support.proofs.Telling.{if_none}
+use Rattle.plan_objects.specs.Least.{HasOwnSteps, nearer, source_plugin_lines}
 use Rattle.plan_objects.specs.Asks.{first_step}
-use Rattle.plan_objects.proofs.Lining.{no_step}
+use Rattle.plan_objects.proofs.Lining.{if_none, no_step}
 use Rattle.plan_objects.proofs.lines.first_step.Goals as goal
 
 pub returns-clause-none : goal.returns-clause-none

@@ -1,5 +1,5 @@
 use Rattle.std.proofs.Common.{◌≡◌, flat_map, fold, drop}
-use Rattle.plan_support.specs.Least.{nearer, plugin_lines}
+use Rattle.plan_objects.specs.Least.{nearer, plugin_lines}
 use Rattle.plan_objects.proofs.lines.nearest_step.Given as goal
 
 -- the nearest so far, and those that are left, give the nearest of all

@@ -1,0 +1,135 @@
+// What is handed in to a run: what the program hands in, and sinks that write down what they do.
+ghost use Rattle.std.specs.Prelude.{Unit};
+
+use crate::own_host::OwnHost;
+use agent_run::{Outcome, run_agent};
+use event_core::Batch;
+use plan_objects::Plugins;
+use plug_in::{EventSink, SinkRefused};
+use shipped_objects::Tally;
+use std::alloc::{AllocError, Global};
+use std::sync::atomic::AtomicU64;
+use std::sync::atomic::Ordering::SeqCst;
+use std::sync::{Arc, Wait};
+use std::thread::Threads;
+
+/// The last eight letters that were written, by whoever has a handle.
+#[derive(Drop)]
+pub struct Notes {
+    letters: Arc<AtomicU64>,
+}
+
+// The letters behind these, the last in the last byte.
+fn with_letter(letters: u64, letter: u8) -> u64 {
+    letters.wrapping_mul(256).wrapping_add(letter as u64)
+}
+
+impl Notes {
+    /// No letters.
+    pub fn new(alloc: Global) -> Result<Notes, AllocError> {
+        let letters = Arc::new(alloc, AtomicU64::new(0))?;
+        Ok(Notes { letters })
+    }
+
+    fn handle(&self) -> Result<Notes, AllocError> {
+        let letters = Arc::clone(&self.letters)?;
+        Ok(Notes { letters })
+    }
+
+    fn add(&self, letter: u8) {
+        self.letters
+            .store(with_letter(self.letters.load(SeqCst), letter), SeqCst);
+    }
+
+    /// Whether these are the letters.
+    pub fn are(&self, want: &str) -> bool {
+        let mut letters = 0;
+        for letter in want.as_bytes() {
+            letters = with_letter(letters, *letter);
+        }
+        self.letters.load(SeqCst) == letters
+    }
+}
+
+// A sink that takes all, and writes down the first letter of each event, or refuses all. As it is dropped it writes its own letter down.
+struct Scribe {
+    notes: Notes,
+    takes: bool,
+    letter: u8,
+    refused: u64,
+}
+
+impl Drop for Scribe {
+    fn drop(self) {
+        let Scribe {
+            notes,
+            takes: _,
+            letter,
+            refused: _,
+        } = self;
+        notes.add(letter);
+    }
+}
+
+impl EventSink for Scribe {
+    ghost delivers = { λ _ _ _ _ _. Unit {0} };
+
+    ghost faults = { λ s. s.refused };
+
+    fn deliver(&mut self, batch: &Batch, _moment: u64) -> Result<(), SinkRefused> {
+        if !self.takes {
+            self.refused = self.refused.saturating_add(1);
+            return Err(SinkRefused::Refused);
+        }
+        for at in 0..batch.len() {
+            if let Some(letter) = batch.get(at).body().first() {
+                self.notes.add(*letter);
+            }
+        }
+        Ok(())
+    }
+
+    fn faults(&self) -> u64 {
+        self.refused
+    }
+}
+
+// A scribe of this name, who writes its first letter down as it is dropped.
+fn scribe_of(notes: &Notes, name: &str, takes: bool) -> Option<Scribe> {
+    Some(Scribe {
+        notes: notes.handle().ok()?,
+        takes,
+        letter: *name.as_bytes().first()?,
+        refused: 0,
+    })
+}
+
+// Hands in a sink under a name.
+fn add(
+    alloc: Global,
+    plugins: &mut Plugins,
+    name: &str,
+    sink: Box<dyn EventSink + Send>,
+) -> Option<()> {
+    plugins
+        .add_sink(String::from_str(alloc, name).ok()?, sink)
+        .ok()
+}
+
+/// Runs with these words, with what the program hands in, and the sinks `Taker`, which takes all, and `Refuser`, which refuses all.
+pub fn outcome_of<R: Threads + Wait + Sync>(
+    rt: &R,
+    alloc: Global,
+    words: &[String],
+    host: &mut OwnHost,
+    notes: &Notes,
+) -> Option<Outcome> {
+    let mut plugins = Plugins::new(alloc);
+    let tally = Box::new(alloc, Tally { count: 0 }).ok()?;
+    add(alloc, &mut plugins, "tally", tally)?;
+    let taker = Box::new(alloc, scribe_of(notes, "Taker", true)?).ok()?;
+    add(alloc, &mut plugins, "Taker", taker)?;
+    let refuser = Box::new(alloc, scribe_of(notes, "Refuser", false)?).ok()?;
+    add(alloc, &mut plugins, "Refuser", refuser)?;
+    Some(run_agent(rt, alloc, words, host, plugins))
+}

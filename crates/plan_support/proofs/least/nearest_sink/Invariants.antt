@@ -1,7 +1,0 @@
-use Rattle.std.proofs.Common.{◌≡◌, flat_map, fold, drop}
-use Rattle.plan_support.specs.Least.{nearer, sink_plugin_lines}
-use Rattle.plan_support.proofs.least.nearest_sink.Given as goal
-
--- the nearest so far, and those that are left, give the nearest of all
-abbrev pub invariant-loop-sink : goal.invariant-loop-sink
-invariant-loop-sink l = fold nearer l.first (flat_map sink_plugin_lines (drop l.sink-index l.sinks)) ≡ fold nearer l.fn.first (flat_map sink_plugin_lines l.sinks)
