@@ -98,6 +98,18 @@ fn held<C: Channel + Drop, R: Wait>(rt: &R, shared: Shared<C>, pass: Pass) -> u6
     channel.counts().size
 }
 
+// A channel that was shared, with two of its passes, and one more.
+fn with_three<C: Channel + Drop>(opened: Opened<C>) -> Option<(Shared<C>, (Pass, Pass), Pass)>
+    requires { IfSome opened (λ r. All (λ p. p.table_id ≡ r.0.turn.table.shared.table_id) r.1.items) }
+    ensures both { IfSome result (λ r. (r.1.0.table_id ≡ r.0.turn.table.shared.table_id) × (r.1.1.table_id ≡ r.0.turn.table.shared.table_id)) }
+    ensures other { IfSome result (λ r. r.2.table_id ≡ r.0.turn.table.shared.table_id) }
+{
+    let (shared, mut passes) = opened?;
+    let both = pair(&shared, &mut passes)?;
+    let other = last(&shared, &mut passes)?;
+    Some((shared, both, other))
+}
+
 // How many batches two threads have taken, and how many events each of the two channels then holds.
 fn counted<C: Channel + Drop + Send, R: Threads + Wait + Sync>(
     rt: &R,
@@ -108,17 +120,13 @@ fn counted<C: Channel + Drop + Send, R: Threads + Wait + Sync>(
     requires one { IfSome one (λ r. All (λ p. p.table_id ≡ r.0.turn.table.shared.table_id) r.1.items) }
     requires other { IfSome other (λ r. All (λ p. p.table_id ≡ r.0.turn.table.shared.table_id) r.1.items) }
 {
-    let (Some((one, mut ones)), Some((other, mut others))) = (one, other) else {
-        return None;
-    };
-    let (Some(a), Some(b)) = (pair(&one, &mut ones), pair(&other, &mut others)) else {
-        return None;
-    };
-    let taken = both(rt, alloc, &one, &other, (a, b));
-    let (Some(c), Some(d)) = (last(&one, &mut ones), last(&other, &mut others)) else {
-        return None;
-    };
-    Some((taken, held(rt, one, c), held(rt, other, d)))
+    match (with_three(one), with_three(other)) {
+        (Some((one, a, c)), Some((other, b, d))) => {
+            let taken = both(rt, alloc, &one, &other, (a, b));
+            Some((taken, held(rt, one, c), held(rt, other, d)))
+        }
+        _ => None,
+    }
 }
 
 #[test]

@@ -5,10 +5,10 @@ ghost use Rattle.std.specs.Prelude.{◌≡◌, All, IfSome};
 use crate::in_memory::{in_memory, plain};
 use crate::sharing::{Opened, on_disk};
 use crate::work::{Work, number_in, put_and_take};
-use channel_face::Channel;
+use channel_face::{Channel, TakeTxn, Taken};
 use host_memory::MemDisk;
 use shared_channel::{Closed, Pass, Shared};
-use std::alloc::{AllocError, Global};
+use std::alloc::Global;
 use std::sync::Wait;
 use std::thread::{Threads, join};
 
@@ -120,27 +120,31 @@ fn fours<C: Channel>(shared: &Shared<C>, passes: &mut Vec<Pass>) -> Option<Four>
     Some((one, other))
 }
 
-// The numbers of the events that are left, which stay there.
-fn left_in<C: Channel>(channel: &mut C, left: &mut Vec<u64>) -> Result<(), AllocError> {
+// The number of the next event that is left.
+fn next_number<C: Channel>(channel: &mut C, txn: &mut TakeTxn) -> Option<u64> {
+    match channel.take(txn) {
+        Ok(
+            Taken {
+                event: Some(event),
+                spilled: _,
+            },
+        ) => Some(number_in(&event)),
+        _ => None,
+    }
+}
+
+// The numbers of the events that are left, which stay there: all of them, where there is memory for these.
+fn left_in<C: Channel>(channel: &mut C, left: &mut Vec<u64>) {
     let Ok(mut txn) = channel.begin_take() else {
-        return Ok(());
+        return;
     };
     for _ in 0..1000 {
-        match channel.take(&mut txn) {
-            Ok(taken) => match taken.event {
-                Some(event) => {
-                    if let Err(e) = left.push(number_in(&event)) {
-                        channel.rollback_take(txn);
-                        return Err(AllocError::from(e));
-                    }
-                }
-                None => break,
-            },
-            Err(_) => break,
+        match next_number(channel, &mut txn) {
+            Some(number) if left.push(number).is_ok() => {}
+            _ => break,
         }
     }
     channel.rollback_take(txn);
-    Ok(())
 }
 
 // Whether these are the same numbers, in whatever order.
@@ -165,14 +169,14 @@ fn is_whole<C: Channel + Drop, R: Wait>(
     } = shared.close(rt, pass);
     let counts = channel.counts();
     let mut found = Vec::new(alloc);
-    let is_read = left_in(&mut channel, &mut found).is_ok();
+    left_in(&mut channel, &mut found);
     let is_counted = counts.put_attempts == attempts
         && counts.put_successes == put.len() as u64
         && counts.take_successes == taken.len() as u64
         && counts.size == found.len() as u64;
     let is_joined = found.extend_from_slice(&taken).is_ok();
     let is_same = are_same(found, put);
-    is_read && is_counted && is_joined && is_same
+    is_counted && is_joined && is_same
 }
 
 fn two_are_whole<C: Channel + Drop + Send, R: Threads + Wait + Sync>(

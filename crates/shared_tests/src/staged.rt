@@ -1,8 +1,8 @@
 // Staged transactions of two passes, which one flush settles, and what a port does then; and a sync that fails.
-ghost use Rattle.std.specs.Prelude.{◌≡◌, IfSome};
+ghost use Rattle.std.specs.Prelude.{◌≡◌, All, IfSome};
 
 use crate::many::{last, pair};
-use crate::sharing::{LIMITS, on_disk};
+use crate::sharing::{LIMITS, Opened, on_disk};
 use crate::work::batch_of;
 use channel_face::{BeginRefused, Channel, FaceRefused, PutFace, Settled, StageRefused, Ticket};
 use event_core::Event;
@@ -94,13 +94,21 @@ pub fn put_by_port<C: Channel, R: Wait>(
     (port.give_back(), Some(reply))
 }
 
+/// A channel that was shared, with one of its passes.
+pub fn with_pass<C: Channel + Drop>(opened: Opened<C>) -> Option<(Shared<C>, Pass)>
+    requires { IfSome opened (λ r. All (λ p. p.table_id ≡ r.0.turn.table.shared.table_id) r.1.items) }
+    ensures { IfSome result (λ r. r.1.table_id ≡ r.0.turn.table.shared.table_id) }
+{
+    let (shared, mut passes) = opened?;
+    let pass = last(&shared, &mut passes)?;
+    Some((shared, pass))
+}
+
 /// A channel in a folder of this disk, with one pass.
 pub fn one_on(alloc: Global, disk: MemDisk) -> Option<(OnDisk, Pass)>
     ensures { IfSome result (λ r. r.1.table_id ≡ r.0.turn.table.shared.table_id) }
 {
-    let (shared, mut passes) = on_disk(alloc, disk, 1)?;
-    let pass = last(&shared, &mut passes)?;
-    Some((shared, pass))
+    with_pass(on_disk(alloc, disk, 1))
 }
 
 // The same with two passes.
