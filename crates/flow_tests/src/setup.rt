@@ -1,32 +1,13 @@
-// What tests of batches are made of: batches of events with a header `state`, an intake over channels, and what these then hold.
-ghost use Rattle.std.specs.Prelude.{◌≡◌, ◌<◌, ◌≤◌, ◌↔◌, All, IfOk, IsTrue, length};
+// An intake over three channels, and what these then hold.
+ghost use Rattle.std.specs.Prelude.{◌≡◌, ◌<◌, ◌↔◌, All, IsTrue};
 ghost use Rattle.source_put.specs.Accepts.{NamesBelow};
 
-use crate::fixtures::{shown, text};
+use crate::texts::owned;
 use channel_face::{Channel, OwnFace, TakeFace};
 use event_core::{Batch, Event};
 use selectors::Selector;
-use source_put::{Chain, ChainLink, HostNames, Intake};
+use source_put::{Chain, ChainLink, HostNames, Intake, Verdict};
 use std::alloc::Global;
-use std::test::Fail;
-use test_fixtures::event_with;
-
-// A batch of at most ten events, of each of which the header `state` and the body are given.
-pub fn batch_of(alloc: Global, events: &[(&str, &str)]) -> Result<Batch, Fail>
-    ensures { IfOk result (λ batch. length batch ≤ 10) }
-{
-    let mut batch = Batch::new(alloc);
-    for (state, body) in events {
-        let event = event_with(alloc, &[("state", *state)], body.as_bytes())?;
-        if batch.push(event).is_err() {
-            return Err(Fail::from("no room"));
-        }
-    }
-    if batch.len() > 10 {
-        return Err(Fail::from("more than ten"));
-    }
-    Ok(batch)
-}
 
 fn are_below(places: &[u32], count: u32) -> bool
     ensures { IsTrue result ↔ All (λ place. place < count) places.now }
@@ -73,94 +54,72 @@ fn names_below(selector: &Selector, count: u32) -> bool
     }
 }
 
-// The intake over three channels.
+fn names(alloc: Global) -> Option<HostNames> {
+    let name = owned(alloc, "host")?;
+    Some(HostNames {
+        name,
+        address: owned(alloc, "10.0.0.1")?,
+    })
+}
+
+// The faces of some channels.
+fn faces_of<C: Channel + Drop>(alloc: Global, channels: Vec<C>) -> Option<Vec<OwnFace<C>>> {
+    let mut faces = Vec::new(alloc);
+    for channel in channels {
+        faces.push(OwnFace::new(channel)).ok()?;
+    }
+    Some(faces)
+}
+
+/// An intake over three channels, where the selector names no others.
 pub fn intake_over<C: Channel + Drop>(
     alloc: Global,
     links: Vec<ChainLink>,
     selector: Selector,
     channels: Vec<C>,
-) -> Result<Intake<OwnFace<C>>, Fail> {
-    let mut ports = Vec::new(alloc);
-    for channel in channels {
-        ports.push(OwnFace::new(channel))?;
-    }
-    let host = HostNames {
-        name: text(alloc, "host")?,
-        address: text(alloc, "10.0.0.1")?,
-    };
+) -> Option<Intake<OwnFace<C>>> {
+    let (host, ports) = (names(alloc)?, faces_of(alloc, channels)?);
     if ports.len() != 3 || !names_below(&selector, 3) {
-        return Err(Fail::from("no such channel"));
+        return None;
     }
-    match Intake::new(alloc, Chain { links }, selector, host, ports) {
-        Ok(intake) => Ok(intake),
-        Err(_) => Err(Fail::from("no intake")),
-    }
+    Intake::new(alloc, Chain { links }, selector, host, ports).ok()
 }
 
-// How many events each channel holds.
-pub fn sizes<C: Channel + Drop>(
-    alloc: Global,
-    intake: Intake<OwnFace<C>>,
-) -> Result<Vec<u64>, Fail> {
-    let mut sizes = Vec::new(alloc);
-    for port in intake.close() {
-        sizes.push(port.into_channel().size())?;
+/// Hands a batch of at most ten events to an intake.
+pub fn accept<C: Channel + Drop>(intake: &mut Intake<OwnFace<C>>, batch: Batch) -> Verdict {
+    if batch.len() > 10 {
+        return Verdict::NoMemory;
     }
-    Ok(sizes)
+    intake.accept(batch, 0)
 }
 
-// The next event of the channel at a place, by a transaction of its own: it is then gone from the channel, or stays in it.
-fn next_at<C: Channel + Drop>(
+/// How many events the channel at a place holds.
+pub fn size_at<C: Channel + Drop>(intake: &mut Intake<OwnFace<C>>, place: u32) -> Option<u64> {
+    if place >= intake.port_count() {
+        return None;
+    }
+    Some(intake.port(place).channel.size())
+}
+
+/// The next event of the channel at a place, by a transaction of its own: it is then gone from the channel, or stays in it. Nothing,
+/// where a call is refused.
+pub fn next_at<C: Channel + Drop>(
     intake: &mut Intake<OwnFace<C>>,
     place: u32,
     stays: bool,
-) -> Result<Option<Event>, Fail> {
+) -> Option<Option<Event>> {
     if place >= intake.port_count() {
-        return Err(Fail::from("no such channel"));
+        return None;
     }
     let port = intake.port(place);
     let Ok(mut txn) = port.begin() else {
-        return Err(Fail::from("no transaction"));
+        return None;
     };
     let taken = port.take(&mut txn);
     if stays {
         port.rollback(txn);
     } else if port.commit(txn).is_err() {
-        return Err(Fail::from("no commit"));
+        return None;
     }
-    match taken {
-        Ok(event) => Ok(event),
-        Err(_) => Err(Fail::from("no event")),
-    }
-}
-
-// Whether the channel at a place holds just these events as text, in this order. They are then gone from it.
-pub fn gives<C: Channel + Drop>(
-    alloc: Global,
-    intake: &mut Intake<OwnFace<C>>,
-    place: u32,
-    events: &[&str],
-) -> Result<bool, Fail> {
-    for want in events {
-        let Some(event) = next_at(intake, place, false)? else {
-            return Ok(false);
-        };
-        if shown(alloc, &event)?.as_slice() != want.as_bytes() {
-            return Ok(false);
-        }
-    }
-    Ok(next_at(intake, place, false)?.is_none())
-}
-
-// Whether the next event of the channel at a place is this one, as text. It stays there.
-pub fn shows<C: Channel + Drop>(
-    alloc: Global,
-    intake: &mut Intake<OwnFace<C>>,
-    place: u32,
-    want: &str,
-) -> Result<bool, Fail> {
-    let Some(event) = next_at(intake, place, true)? else {
-        return Ok(false);
-    };
-    Ok(shown(alloc, &event)?.as_slice() == want.as_bytes())
+    taken.ok()
 }

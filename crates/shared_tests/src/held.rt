@@ -1,9 +1,8 @@
 // A disk whose sync waits for a commit of another channel: the turn of one channel does not hold another up.
-ghost use Rattle.std.specs.Prelude.{◌≡◌, All, IfSome};
+ghost use Rattle.std.specs.Prelude.{◌≡◌, IfSome};
 
-use crate::many::last;
-use crate::sharing::{LIMITS, Opened, on_disk, on_disk_by};
-use crate::staged::put_by_port;
+use crate::sharing::{LIMITS, on_disk_by};
+use crate::staged::{one_on, put_by_port, with_pass};
 use channel_face::{Channel, FaceRefused};
 use file_channel::FileChannel;
 use host_memory::{DiskCall, Flag, HeldDisk, MemDisk};
@@ -25,11 +24,11 @@ struct Gate {
     answered: Flag,
 }
 
-// A channel on such a disk, which no call has been made of, with one pass.
-fn opened(alloc: Global, disk: HeldDisk) -> Opened<FileChannel<HeldDisk>>
-    ensures { IfSome result (λ r. All (λ p. p.table_id ≡ r.0.turn.table.shared.table_id) r.1.items) }
+// A channel on such a disk, which no call has been made of, with a pass.
+fn opened(alloc: Global, disk: HeldDisk) -> Option<(Shared<FileChannel<HeldDisk>>, Pass)>
+    ensures { IfSome result (λ r. r.1.table_id ≡ r.0.turn.table.shared.table_id) }
 {
-    on_disk_by::<HeldDisk, Brand>(alloc, Blank::new(1), disk, LIMITS, 1)
+    with_pass(on_disk_by::<HeldDisk, Brand>(alloc, Blank::new(1), disk, LIMITS, 1))
 }
 
 // Puts once a sync of the other channel waits, and lets that go on. Where none came in time there is no answer.
@@ -86,26 +85,44 @@ fn held_disk(alloc: Global, gate: &Gate) -> Result<HeldDisk, Fail> {
     Ok(HeldDisk::new(MemDisk::new(alloc), DiskCall::Sync, begun, until))
 }
 
+// The same in two channels, each with a pass.
+fn puts_in<A: Channel + Drop + Send, B: Channel + Drop + Send, R: Threads + Wait + Sync>(
+    rt: &R,
+    alloc: Global,
+    gate: &Gate,
+    one: Option<(Shared<A>, Pass)>,
+    other: Option<(Shared<B>, Pass)>,
+) -> (Answer, Answer)
+    requires one { IfSome one (λ r. r.1.table_id ≡ r.0.turn.table.shared.table_id) }
+    requires other { IfSome other (λ r. r.1.table_id ≡ r.0.turn.table.shared.table_id) }
+{
+    match (one, other) {
+        (Some((one, a)), Some((other, b))) => {
+            puts_beside_a_sync(rt, alloc, gate, &one, a, &other, b)
+        }
+        _ => (None, None),
+    }
+}
+
+// The same in a channel on a disk whose syncs wait at the gate, and in another.
+fn answers<R: Threads + Wait + Sync>(
+    rt: &R,
+    alloc: Global,
+    gate: &Gate,
+    disk: HeldDisk,
+) -> (Answer, Answer) {
+    // no sync of the opening waits
+    gate.answered.set();
+    let held = opened(alloc, disk);
+    gate.answered.clear();
+    puts_in(rt, alloc, gate, held, one_on(alloc, MemDisk::new(alloc)))
+}
+
 #[test]
 fn gate_sync(rt: HostRuntime) -> Result<(), Fail> {
     let alloc = rt.alloc();
     let gate = new_gate(alloc)?;
-    // no sync of the opening waits
-    gate.answered.set();
-    let Some((held, mut passes)) = opened(alloc, held_disk(alloc, &gate)?) else {
-        return Err(Fail::from("no channel"));
-    };
-    gate.answered.clear();
-    let Some((other, mut others)) = on_disk(alloc, MemDisk::new(alloc), 1) else {
-        return Err(Fail::from("no channel"));
-    };
-    let Some(a) = last(&held, &mut passes) else {
-        return Err(Fail::from("no pass"));
-    };
-    let Some(b) = last(&other, &mut others) else {
-        return Err(Fail::from("no pass"));
-    };
-    let (one, two) = puts_beside_a_sync(&rt, alloc, &gate, &held, a, &other, b);
-    assert!(rt; one == Some(Ok(0)) && two == Some(Ok(0)));
+    let disk = held_disk(alloc, &gate)?;
+    assert!(rt; answers(&rt, alloc, &gate, disk) == (Some(Ok(0)), Some(Ok(0))));
     Ok(())
 }

@@ -11,7 +11,6 @@ use shared_channel::{Closed, Pass, Port, Shared};
 use source_put::{Chain, HostNames, Intake, Verdict};
 use std::alloc::Global;
 use std::sync::Wait;
-use std::test::Fail;
 use std::thread::{Threads, join};
 
 const BATCHES: u32 = 40;
@@ -99,33 +98,41 @@ fn held<C: Channel + Drop, R: Wait>(rt: &R, shared: Shared<C>, pass: Pass) -> u6
     channel.counts().size
 }
 
+// A channel that was shared, with two of its passes, and one more.
+fn with_three<C: Channel + Drop>(opened: Opened<C>) -> Option<(Shared<C>, (Pass, Pass), Pass)>
+    requires { IfSome opened (λ r. All (λ p. p.table_id ≡ r.0.turn.table.shared.table_id) r.1.items) }
+    ensures both { IfSome result (λ r. (r.1.0.table_id ≡ r.0.turn.table.shared.table_id) × (r.1.1.table_id ≡ r.0.turn.table.shared.table_id)) }
+    ensures other { IfSome result (λ r. r.2.table_id ≡ r.0.turn.table.shared.table_id) }
+{
+    let (shared, mut passes) = opened?;
+    let both = pair(&shared, &mut passes)?;
+    let other = last(&shared, &mut passes)?;
+    Some((shared, both, other))
+}
+
 // How many batches two threads have taken, and how many events each of the two channels then holds.
 fn counted<C: Channel + Drop + Send, R: Threads + Wait + Sync>(
     rt: &R,
     alloc: Global,
     one: Opened<C>,
     other: Opened<C>,
-) -> Result<(u32, u64, u64), Fail>
+) -> Option<(u32, u64, u64)>
     requires one { IfSome one (λ r. All (λ p. p.table_id ≡ r.0.turn.table.shared.table_id) r.1.items) }
     requires other { IfSome other (λ r. All (λ p. p.table_id ≡ r.0.turn.table.shared.table_id) r.1.items) }
 {
-    let (Some((one, mut ones)), Some((other, mut others))) = (one, other) else {
-        return Err(Fail::from("no channel"));
-    };
-    let (Some(a), Some(b)) = (pair(&one, &mut ones), pair(&other, &mut others)) else {
-        return Err(Fail::from("no pass"));
-    };
-    let taken = both(rt, alloc, &one, &other, (a, b));
-    let (Some(c), Some(d)) = (last(&one, &mut ones), last(&other, &mut others)) else {
-        return Err(Fail::from("no pass"));
-    };
-    Ok((taken, held(rt, one, c), held(rt, other, d)))
+    match (with_three(one), with_three(other)) {
+        (Some((one, a, c)), Some((other, b, d))) => {
+            let taken = both(rt, alloc, &one, &other, (a, b));
+            Some((taken, held(rt, one, c), held(rt, other, d)))
+        }
+        _ => None,
+    }
 }
 
 #[test]
-fn two_threads_put_batches_into_two_channels(rt: HostRuntime) -> Result<(), Fail> {
+fn two_threads_put_batches_into_two_channels(rt: HostRuntime) {
     let alloc = rt.alloc();
-    let found = counted(&rt, alloc, in_memory(alloc, 3), in_memory(alloc, 3))?;
-    assert!(rt; found == (2 * BATCHES, 2 * u64::from(BATCHES), 2 * u64::from(BATCHES)));
-    Ok(())
+    let found = counted(&rt, alloc, in_memory(alloc, 3), in_memory(alloc, 3));
+    let all = 2 * u64::from(BATCHES);
+    assert!(rt; found == Some((2 * BATCHES, all, all)));
 }

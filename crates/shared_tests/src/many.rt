@@ -5,12 +5,11 @@ ghost use Rattle.std.specs.Prelude.{◌≡◌, All, IfSome};
 use crate::in_memory::{in_memory, plain};
 use crate::sharing::{Opened, on_disk};
 use crate::work::{Work, number_in, put_and_take};
-use channel_face::Channel;
+use channel_face::{Channel, TakeTxn, Taken};
 use host_memory::MemDisk;
 use shared_channel::{Closed, Pass, Shared};
-use std::alloc::{AllocError, Global};
+use std::alloc::Global;
 use std::sync::Wait;
-use std::test::Fail;
 use std::thread::{Threads, join};
 
 const EVENTS: u32 = 40;
@@ -121,27 +120,36 @@ fn fours<C: Channel>(shared: &Shared<C>, passes: &mut Vec<Pass>) -> Option<Four>
     Some((one, other))
 }
 
-// The numbers of the events that are left, which stay there.
-fn left_in<C: Channel>(channel: &mut C, left: &mut Vec<u64>) -> Result<(), AllocError> {
+// The number of the next event that is left.
+fn next_number<C: Channel>(channel: &mut C, txn: &mut TakeTxn) -> Option<u64> {
+    match channel.take(txn) {
+        Ok(
+            Taken {
+                event: Some(event),
+                spilled: _,
+            },
+        ) => Some(number_in(&event)),
+        _ => None,
+    }
+}
+
+// The numbers of the events that are left, which stay there: all of them, where there is memory for these.
+fn left_in<C: Channel>(channel: &mut C, left: &mut Vec<u64>) {
     let Ok(mut txn) = channel.begin_take() else {
-        return Ok(());
+        return;
     };
     for _ in 0..1000 {
-        match channel.take(&mut txn) {
-            Ok(taken) => match taken.event {
-                Some(event) => {
-                    if let Err(e) = left.push(number_in(&event)) {
-                        channel.rollback_take(txn);
-                        return Err(AllocError::from(e));
-                    }
-                }
-                None => break,
-            },
-            Err(_) => break,
+        match next_number(channel, &mut txn) {
+            Some(number) if left.push(number).is_ok() => {}
+            _ => break,
         }
     }
     channel.rollback_take(txn);
-    Ok(())
+}
+
+// Whether these are the same numbers, in whatever order.
+fn are_same(mut found: Vec<u64>, mut put: Vec<u64>) -> bool {
+    found.sort().is_ok() && put.sort().is_ok() && found == put
 }
 
 // Whether each event that was put is taken or left, once, and the counts are the sums of what was done.
@@ -151,49 +159,43 @@ fn is_whole<C: Channel + Drop, R: Wait>(
     shared: Shared<C>,
     work: Work,
     attempts: u64,
-) -> Result<bool, Fail>
+) -> bool
     requires { work.pass.table_id ≡ shared.turn.table.shared.table_id }
 {
-    let Work {
-        pass,
-        mut put,
-        taken,
-    } = work;
+    let Work { pass, put, taken } = work;
     let Closed {
         mut channel,
         pass: _,
     } = shared.close(rt, pass);
     let counts = channel.counts();
     let mut found = Vec::new(alloc);
-    left_in(&mut channel, &mut found)?;
-    let left = found.len() as u64;
-    found.extend_from_slice(&taken)?;
-    found.sort()?;
-    put.sort()?;
-    Ok(
-        found == put
-            && counts.put_attempts == attempts
-            && counts.put_successes == put.len() as u64
-            && counts.take_successes == taken.len() as u64
-            && counts.size == left,
-    )
+    left_in(&mut channel, &mut found);
+    let is_counted = counts.put_attempts == attempts
+        && counts.put_successes == put.len() as u64
+        && counts.take_successes == taken.len() as u64
+        && counts.size == found.len() as u64;
+    let is_joined = found.extend_from_slice(&taken).is_ok();
+    let is_same = are_same(found, put);
+    is_counted && is_joined && is_same
 }
 
 fn two_are_whole<C: Channel + Drop + Send, R: Threads + Wait + Sync>(
     rt: &R,
     alloc: Global,
     opened: Opened<C>,
-) -> Result<bool, Fail>
+) -> bool
     requires { IfSome opened (λ r. All (λ p. p.table_id ≡ r.0.turn.table.shared.table_id) r.1.items) }
 {
     let Some((shared, mut passes)) = opened else {
-        return Err(Fail::from("no channel"));
+        return false;
     };
-    let Some(both) = pair(&shared, &mut passes) else {
-        return Err(Fail::from("no pass"));
-    };
-    let work = two(rt, alloc, &shared, both, 0);
-    is_whole(rt, alloc, shared, work, 2 * u64::from(EVENTS))
+    match pair(&shared, &mut passes) {
+        Some(both) => {
+            let work = two(rt, alloc, &shared, both, 0);
+            is_whole(rt, alloc, shared, work, 2 * u64::from(EVENTS))
+        }
+        None => false,
+    }
 }
 
 fn eight<C: Channel + Drop + Send, R: Threads + Wait + Sync>(
@@ -227,52 +229,58 @@ fn eight<C: Channel + Drop + Send, R: Threads + Wait + Sync>(
     both(shared, first, second)
 }
 
+// The work of eight threads, through these passes.
+fn eight_by<C: Channel + Drop + Send, R: Threads + Wait + Sync>(
+    rt: &R,
+    alloc: Global,
+    shared: &Shared<C>,
+    passes: &mut Vec<Pass>,
+) -> Option<Work>
+    requires { All (λ p. p.table_id ≡ shared.now.turn.table.shared.table_id) passes.old.items }
+    ensures { IfSome result (λ work. work.pass.table_id ≡ shared.now.turn.table.shared.table_id) }
+{
+    let one = fours(shared, passes)?;
+    let other = fours(shared, passes)?;
+    Some(eight(rt, alloc, shared, one, other))
+}
+
 fn eight_are_whole<C: Channel + Drop + Send, R: Threads + Wait + Sync>(
     rt: &R,
     alloc: Global,
     opened: Opened<C>,
-) -> Result<bool, Fail>
+) -> bool
     requires { IfSome opened (λ r. All (λ p. p.table_id ≡ r.0.turn.table.shared.table_id) r.1.items) }
 {
     let Some((shared, mut passes)) = opened else {
-        return Err(Fail::from("no channel"));
+        return false;
     };
-    let Some(one) = fours(&shared, &mut passes) else {
-        return Err(Fail::from("no pass"));
-    };
-    let Some(other) = fours(&shared, &mut passes) else {
-        return Err(Fail::from("no pass"));
-    };
-    let work = eight(rt, alloc, &shared, one, other);
-    is_whole(rt, alloc, shared, work, 8 * u64::from(EVENTS))
+    match eight_by(rt, alloc, &shared, &mut passes) {
+        Some(work) => is_whole(rt, alloc, shared, work, 8 * u64::from(EVENTS)),
+        None => false,
+    }
 }
 
 #[test]
-fn two_threads_lose_and_double_nothing(rt: HostRuntime) -> Result<(), Fail> {
+fn two_threads_lose_and_double_nothing(rt: HostRuntime) {
     let alloc = rt.alloc();
     assert!(rt;
-        two_are_whole(&rt, alloc, on_disk(alloc, MemDisk::new(alloc), 2))?,
+        two_are_whole(&rt, alloc, on_disk(alloc, MemDisk::new(alloc), 2)),
         "on a disk"
     );
-    assert!(rt;
-        two_are_whole(&rt, alloc, in_memory(alloc, 2))?,
-        "in memory"
-    );
-    assert!(rt; two_are_whole(&rt, alloc, plain(alloc, 2))?, "plain");
-    Ok(())
+    assert!(rt; two_are_whole(&rt, alloc, in_memory(alloc, 2)), "in memory");
+    assert!(rt; two_are_whole(&rt, alloc, plain(alloc, 2)), "plain");
 }
 
 #[test]
-fn eight_threads_lose_and_double_nothing(rt: HostRuntime) -> Result<(), Fail> {
+fn eight_threads_lose_and_double_nothing(rt: HostRuntime) {
     let alloc = rt.alloc();
     assert!(rt;
-        eight_are_whole(&rt, alloc, on_disk(alloc, MemDisk::new(alloc), 8))?,
+        eight_are_whole(&rt, alloc, on_disk(alloc, MemDisk::new(alloc), 8)),
         "on a disk"
     );
     assert!(rt;
-        eight_are_whole(&rt, alloc, in_memory(alloc, 8))?,
+        eight_are_whole(&rt, alloc, in_memory(alloc, 8)),
         "in memory"
     );
-    assert!(rt; eight_are_whole(&rt, alloc, plain(alloc, 8))?, "plain");
-    Ok(())
+    assert!(rt; eight_are_whole(&rt, alloc, plain(alloc, 8)), "plain");
 }

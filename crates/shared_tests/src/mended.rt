@@ -1,8 +1,8 @@
 // A channel that breaks and is mended, by a port and through a pass.
 ghost use Rattle.std.specs.Prelude.{◌≡◌, ◌<◌};
 
-use crate::sharing::{LIMITS, on_disk};
-use crate::staged::put_by_port;
+use crate::sharing::LIMITS;
+use crate::staged::{one_on, put_by_port};
 use channel_face::{BeginRefused, FaceRefused, OpenCause, Reopen};
 use flume_host::Steps;
 use host_memory::MemDisk;
@@ -96,34 +96,44 @@ fn is_reopened<R: Wait, C: Reopen, L: Ledger>(
     (pass, is_so)
 }
 
+// The three, one after another.
+fn all_in<R: Wait, C: Reopen, L: Ledger>(
+    rt: &R,
+    alloc: Global,
+    shared: &Shared<C>,
+    pass: Pass,
+    steps: &mut Steps<L>,
+) -> (bool, bool, bool)
+    requires { pass.table_id ≡ shared.now.turn.table.shared.table_id }
+{
+    let (pass, mended) = breaks_and_is_mended(rt, alloc, shared, pass, steps);
+    let (pass, sound) = is_sound(rt, alloc, shared, pass, steps);
+    let (_, reopened) = is_reopened(rt, shared, pass, steps);
+    (mended, sound, reopened)
+}
+
 fn all_of_it<R: Wait, L: Ledger>(
     rt: &R,
     alloc: Global,
     blank: Blank,
     disk: MemDisk,
-) -> Result<(bool, bool, bool), Fail>
+) -> (bool, bool, bool)
     requires name { blank.name ≡ L.name }
     requires parts { blank.parts ≡ L.parts }
     requires some { 0 < L.parts }
 {
     let mut steps = Steps::<L>::new(blank);
-    let Some((shared, mut passes)) = on_disk(alloc, disk, 1) else {
-        return Err(Fail::from("no channel"));
-    };
-    let Some(pass) = passes.pop() else {
-        return Err(Fail::from("no pass"));
-    };
-    let (pass, mended) = breaks_and_is_mended(rt, alloc, &shared, pass, &mut steps);
-    let (pass, sound) = is_sound(rt, alloc, &shared, pass, &mut steps);
-    let (_, reopened) = is_reopened(rt, &shared, pass, &mut steps);
-    Ok((mended, sound, reopened))
+    match one_on(alloc, disk) {
+        Some((shared, pass)) => all_in(rt, alloc, &shared, pass, &mut steps),
+        None => (false, false, false),
+    }
 }
 
 #[test]
 fn a_mend_reopens_what_is_broken(rt: HostRuntime) -> Result<(), Fail> {
     let alloc = rt.alloc();
     let disk = disk_failing_in_flush(alloc, LIMITS)?;
-    let answers = all_of_it::<HostRuntime, Brand>(&rt, alloc, Blank::new(1), disk)?;
+    let answers = all_of_it::<HostRuntime, Brand>(&rt, alloc, Blank::new(1), disk);
     assert!(rt; answers == (true, true, true));
     Ok(())
 }

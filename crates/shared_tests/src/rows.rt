@@ -8,98 +8,94 @@ use channel_face::{
     BeginRefused, Channel, CommitRefused, Limits, PutRefused, PutTxn, StageRefused, TakeRefused,
     TakeTxn, Taken, Ticket,
 };
-use event_core::{Event, EventRefused};
+use event_core::Event;
 use file_channel::FileChannel;
 use host_memory::MemDisk;
+use scenarios::{number_of, word_and_rest};
 use shared_channel::{Pass, Shared};
 use std::alloc::Global;
 use std::marker::Brand;
 use std::sync::Wait;
 use std::sync::ledger::Blank;
-use std::test::Fail;
 use test_fixtures::event;
 
-// Who makes a call.
-#[derive(Clone, Copy)]
-enum By {
-    A,
-    B,
-}
-
-// A call. Tokens are of the channel's first life, and named by the number of their transaction.
-#[derive(Clone, Copy)]
-enum Step {
-    BeginPut,
-    BeginTake,
-    // An event of this one byte.
-    Put(u64, u8),
-    Take(u64),
-    CommitPut(u64),
-    CommitTake(u64),
-    RollbackTake(u64),
-    Size,
-}
-
-// What a call answered.
-#[derive(Clone, Copy, Debug, PartialEq, Eq)]
-enum Said {
-    Token(u64),
-    Done,
-    // The first number of a ticket.
-    First(u64),
-    Event(u8),
-    NoEvent,
-    Ended(bool),
-    Number(u64),
-    Stale,
-    Full(u32),
-    Other,
-}
-
-// A channel with room for two events is full, until a taker has committed.
-const FULL: [(By, Step, Said); 12] = [
-    (By::A, Step::BeginPut, Said::Token(1)),
-    (By::A, Step::Put(1, b'a'), Said::Done),
-    (By::A, Step::Put(1, b'b'), Said::Done),
-    (By::A, Step::Put(1, b'c'), Said::Full(2)),
-    (By::A, Step::CommitPut(1), Said::First(0)),
-    (By::B, Step::BeginTake, Said::Token(2)),
-    (By::B, Step::Take(2), Said::Event(b'a')),
-    (By::A, Step::BeginPut, Said::Token(3)),
-    (By::A, Step::Put(3, b'c'), Said::Full(2)),
-    (By::B, Step::CommitTake(2), Said::First(0)),
-    (By::A, Step::Put(3, b'c'), Said::Done),
-    (By::B, Step::Size, Said::Number(1)),
-];
+// A channel with room for two events is full, until a taker has committed. Each line says who makes a call, and what it answers.
+const FULL: &str = "a begin-put > token 1
+a put 1 a > done
+a put 1 b > done
+a put 1 c > full 2
+a commit-put 1 > first 0
+b begin-take > token 2
+b take 2 > event a
+a begin-put > token 3
+a put 3 c > full 2
+b commit-take 2 > first 0
+a put 3 c > done
+b size > count 1";
 
 // Two put and commit the other way round; each takes one event, and they roll back the other way round.
-const TURNED: [(By, Step, Said); 20] = [
-    (By::A, Step::BeginPut, Said::Token(1)),
-    (By::B, Step::BeginPut, Said::Token(2)),
-    (By::A, Step::Put(1, b'x'), Said::Done),
-    (By::B, Step::Put(2, b'y'), Said::Done),
-    (By::B, Step::CommitPut(2), Said::First(0)),
-    (By::A, Step::CommitPut(1), Said::First(1)),
-    (By::A, Step::BeginTake, Said::Token(3)),
-    (By::B, Step::BeginTake, Said::Token(4)),
-    (By::A, Step::Take(3), Said::Event(b'y')),
-    (By::B, Step::Take(4), Said::Event(b'x')),
-    (By::A, Step::Take(3), Said::NoEvent),
-    (By::B, Step::RollbackTake(4), Said::Ended(true)),
-    (By::A, Step::RollbackTake(3), Said::Ended(true)),
-    (By::B, Step::Take(4), Said::Stale),
-    (By::A, Step::BeginTake, Said::Token(5)),
-    (By::A, Step::Take(5), Said::Event(b'y')),
-    (By::A, Step::Take(5), Said::Event(b'x')),
-    (By::B, Step::Size, Said::Number(2)),
-    (By::A, Step::CommitTake(5), Said::First(0)),
-    (By::B, Step::Size, Said::Number(0)),
-];
+const TURNED: &str = "a begin-put > token 1
+b begin-put > token 2
+a put 1 x > done
+b put 2 y > done
+b commit-put 2 > first 0
+a commit-put 1 > first 1
+a begin-take > token 3
+b begin-take > token 4
+a take 3 > event y
+b take 4 > event x
+a take 3 > no-event
+b rollback-take 4 > ended
+a rollback-take 3 > ended
+b take 4 > stale
+a begin-take > token 5
+a take 5 > event y
+a take 5 > event x
+b size > count 2
+a commit-take 5 > first 0
+b size > count 0";
+
+// A call. Its token is of the channel's first life, and named by the number of its transaction. The value is a byte.
+#[derive(Clone, Copy)]
+struct Call<'a> {
+    word: &'a str,
+    number: u64,
+    value: u64,
+}
+
+// What a call answered: a word, and its number, which is 0 where it has none.
+type Said = (&'static str, u64);
+
+const OTHER: Said = ("other", 0);
+
+// A number, or the first byte of a text, or 0.
+fn value_of(text: &str) -> u64 {
+    match (number_of(text), text.bytes().next()) {
+        (Some(number), _) => number,
+        (None, Some(byte)) => u64::from(byte),
+        (None, None) => 0,
+    }
+}
+
+fn call_of(text: &str) -> Call<'_> {
+    let (word, rest) = word_and_rest(text);
+    let (number, value) = word_and_rest(rest);
+    Call {
+        word,
+        number: value_of(number),
+        value: value_of(value),
+    }
+}
+
+fn is_said(said: Said, want: &str) -> bool {
+    let (word, number) = word_and_rest(want);
+    said.0 == word && said.1 == value_of(number)
+}
 
 fn said_of_begin(reply: Result<(u64, u64), BeginRefused>) -> Said {
     match reply {
-        Ok((_, number)) => Said::Token(number),
-        Err(_) => Said::Other,
+        Ok((_, number)) => ("token", number),
+        Err(_) => OTHER,
     }
 }
 
@@ -125,14 +121,14 @@ fn begin_take<C: Channel, R: Wait>(rt: &R, shared: &Shared<C>, pass: &mut Pass) 
 
 fn said_of_put(reply: Result<channel_face::Put, PutRefused>) -> Said {
     match reply {
-        Ok(_) => Said::Done,
-        Err(PutRefused::Stale) => Said::Stale,
-        Err(PutRefused::Full { count }) => Said::Full(count),
-        Err(_) => Said::Other,
+        Ok(_) => ("done", 0),
+        Err(PutRefused::Stale) => ("stale", 0),
+        Err(PutRefused::Full { count }) => ("full", u64::from(count)),
+        Err(_) => OTHER,
     }
 }
 
-fn put<C: Channel, R: Wait>(
+fn put_event<C: Channel, R: Wait>(
     rt: &R,
     shared: &Shared<C>,
     pass: &mut Pass,
@@ -148,21 +144,38 @@ fn put<C: Channel, R: Wait>(
     said_of_put(reply)
 }
 
-fn said_of_event(event: Option<Event>) -> Said {
-    match event {
-        Some(event) => match event.body().first() {
-            Some(byte) => Said::Event(*byte),
-            None => Said::Other,
-        },
-        None => Said::NoEvent,
+// Puts an event of this one byte.
+fn put<C: Channel, R: Wait>(
+    rt: &R,
+    alloc: Global,
+    shared: &Shared<C>,
+    pass: &mut Pass,
+    call: Call<'_>,
+) -> Said
+    requires { pass.old.table_id ≡ shared.now.turn.table.shared.table_id }
+    ensures { pass.new.table_id ≡ pass.old.table_id }
+{
+    match event(alloc, &[(call.value % 256) as u8]) {
+        Ok(event) => put_event(rt, shared, pass, call.number, &event),
+        Err(_) => OTHER,
     }
 }
 
-fn said_of_take(reply: Result<Taken, TakeRefused>) -> Said {
+fn said_of_event(event: &Option<Event>) -> Said {
+    match event {
+        Some(event) => match event.body() {
+            [byte] => ("event", u64::from(*byte)),
+            _ => OTHER,
+        },
+        None => ("no-event", 0),
+    }
+}
+
+fn said_of_take(reply: &Result<Taken, TakeRefused>) -> Said {
     match reply {
-        Ok(Taken { event, spilled: _ }) => said_of_event(event),
-        Err(TakeRefused::Stale) => Said::Stale,
-        Err(_) => Said::Other,
+        Ok(taken) => said_of_event(&taken.event),
+        Err(TakeRefused::Stale) => ("stale", 0),
+        Err(_) => OTHER,
     }
 }
 
@@ -173,29 +186,33 @@ fn take<C: Channel, R: Wait>(rt: &R, shared: &Shared<C>, pass: &mut Pass, number
     let mut txn = TakeTxn::new(1, number);
     let reply = shared.take(rt, pass, &mut txn);
     let _ended = txn.into_numbers();
-    said_of_take(reply)
+    said_of_take(&reply)
 }
 
 fn said_of_put_commit(reply: Result<Ticket, CommitRefused<PutTxn>>) -> Said {
     match reply {
-        Ok(ticket) => Said::First(ticket.first),
+        Ok(ticket) => ("first", ticket.first),
         Err(CommitRefused::Stage(StageRefused { txn, cause: _ })) => {
             let _ended = txn.into_numbers();
-            Said::Other
+            OTHER
         }
-        Err(CommitRefused::InDoubt) => Said::Other,
+        Err(CommitRefused::InDoubt) => OTHER,
     }
 }
 
 fn said_of_take_commit(reply: Result<Ticket, CommitRefused<TakeTxn>>) -> Said {
     match reply {
-        Ok(ticket) => Said::First(ticket.first),
+        Ok(ticket) => ("first", ticket.first),
         Err(CommitRefused::Stage(StageRefused { txn, cause: _ })) => {
             let _ended = txn.into_numbers();
-            Said::Other
+            OTHER
         }
-        Err(CommitRefused::InDoubt) => Said::Other,
+        Err(CommitRefused::InDoubt) => OTHER,
     }
+}
+
+fn said_of_end(is_ended: bool) -> Said {
+    if is_ended { ("ended", 0) } else { OTHER }
 }
 
 // Makes a call through a pass.
@@ -204,27 +221,22 @@ fn made<C: Channel, R: Wait>(
     alloc: Global,
     shared: &Shared<C>,
     pass: &mut Pass,
-    step: Step,
-) -> Result<Said, EventRefused>
+    call: Call<'_>,
+) -> Said
     requires { pass.old.table_id ≡ shared.now.turn.table.shared.table_id }
     ensures { pass.new.table_id ≡ pass.old.table_id }
 {
-    Ok(match step {
-        Step::BeginPut => begin_put(rt, shared, pass),
-        Step::BeginTake => begin_take(rt, shared, pass),
-        Step::Put(number, byte) => put(rt, shared, pass, number, &event(alloc, &[byte])?),
-        Step::Take(number) => take(rt, shared, pass, number),
-        Step::CommitPut(number) => {
-            said_of_put_commit(shared.commit_put(rt, pass, PutTxn::new(1, number)))
-        }
-        Step::CommitTake(number) => {
-            said_of_take_commit(shared.commit_take(rt, pass, TakeTxn::new(1, number)))
-        }
-        Step::RollbackTake(number) => {
-            Said::Ended(shared.rollback_take(rt, pass, TakeTxn::new(1, number)))
-        }
-        Step::Size => Said::Number(shared.size(rt, pass)),
-    })
+    let number = call.number;
+    match call.word {
+        "begin-put" => begin_put(rt, shared, pass),
+        "begin-take" => begin_take(rt, shared, pass),
+        "put" => put(rt, alloc, shared, pass, call),
+        "take" => take(rt, shared, pass, number),
+        "commit-put" => said_of_put_commit(shared.commit_put(rt, pass, PutTxn::new(1, number))),
+        "commit-take" => said_of_take_commit(shared.commit_take(rt, pass, TakeTxn::new(1, number))),
+        "rollback-take" => said_of_end(shared.rollback_take(rt, pass, TakeTxn::new(1, number))),
+        _ => ("count", shared.size(rt, pass)),
+    }
 }
 
 // Makes a call through the pass of the one who makes it.
@@ -234,36 +246,52 @@ fn made_by<C: Channel, R: Wait>(
     shared: &Shared<C>,
     a: &mut Pass,
     b: &mut Pass,
-    by: By,
-    step: Step,
-) -> Result<Said, EventRefused>
+    by: &str,
+    call: Call<'_>,
+) -> Said
     requires { (a.old.table_id ≡ shared.now.turn.table.shared.table_id) × (b.old.table_id ≡ shared.now.turn.table.shared.table_id) }
     ensures { (a.new.table_id ≡ a.old.table_id) × (b.new.table_id ≡ b.old.table_id) }
 {
     match by {
-        By::A => made(rt, alloc, shared, a, step),
-        By::B => made(rt, alloc, shared, b, step),
+        "a" => made(rt, alloc, shared, a, call),
+        _ => made(rt, alloc, shared, b, call),
     }
 }
 
-// The row of the first call that does not answer as it has to, if there is one.
+// Whether a call answers as its line has it, as `a put 1 x > done`.
+fn holds<C: Channel, R: Wait>(
+    rt: &R,
+    alloc: Global,
+    shared: &Shared<C>,
+    a: &mut Pass,
+    b: &mut Pass,
+    line: &str,
+) -> bool
+    requires { (a.old.table_id ≡ shared.now.turn.table.shared.table_id) × (b.old.table_id ≡ shared.now.turn.table.shared.table_id) }
+    ensures { (a.new.table_id ≡ a.old.table_id) × (b.new.table_id ≡ b.old.table_id) }
+{
+    let (by, rest) = word_and_rest(line);
+    let (call, want) = rest.split_once(" > ").unwrap_or((rest, ""));
+    is_said(made_by(rt, alloc, shared, a, b, by, call_of(call)), want)
+}
+
+// The first line that does not hold, if there is one.
 fn first_wrong<C: Channel, R: Wait>(
     rt: &R,
     alloc: Global,
     shared: &Shared<C>,
     mut a: Pass,
     mut b: Pass,
-    turns: &[(By, Step, Said)],
-) -> Result<Option<usize>, EventRefused>
+    lines: &'static str,
+) -> &'static str
     requires { (a.table_id ≡ shared.now.turn.table.shared.table_id) × (b.table_id ≡ shared.now.turn.table.shared.table_id) }
 {
-    for row in 0..turns.len() {
-        let (by, step, want) = turns[row];
-        if made_by(rt, alloc, shared, &mut a, &mut b, by, step)? != want {
-            return Ok(Some(row));
+    for line in lines.lines() {
+        if !holds(rt, alloc, shared, &mut a, &mut b, line) {
+            return line;
         }
     }
-    Ok(None)
+    ""
 }
 
 // The same of a channel that was just shared with two passes.
@@ -271,17 +299,17 @@ fn first_wrong_in<C: Channel + Drop, R: Wait>(
     rt: &R,
     alloc: Global,
     opened: Opened<C>,
-    turns: &[(By, Step, Said)],
-) -> Result<Option<usize>, Fail>
+    lines: &'static str,
+) -> &'static str
     requires { IfSome opened (λ r. All (λ p. p.table_id ≡ r.0.turn.table.shared.table_id) r.1.items) }
 {
     let Some((shared, mut passes)) = opened else {
-        return Err(Fail::from("no channel"));
+        return "no channel";
     };
-    let Some((b, a)) = pair(&shared, &mut passes) else {
-        return Err(Fail::from("no pass"));
-    };
-    Ok(first_wrong(rt, alloc, &shared, a, b, turns)?)
+    match pair(&shared, &mut passes) {
+        Some((b, a)) => first_wrong(rt, alloc, &shared, a, b, lines),
+        None => "no pass",
+    }
 }
 
 // With room for two events.
@@ -299,19 +327,18 @@ fn on_disk(alloc: Global, limits: Limits) -> Opened<FileChannel<MemDisk>>
 }
 
 #[test]
-fn a_channel_is_full_for_all_who_share_it(rt: HostRuntime) -> Result<(), Fail> {
-    let alloc = rt.alloc();
-    let wrong = first_wrong_in(&rt, alloc, on_disk(alloc, TWO), &FULL)?;
-    assert_eq!(rt; wrong, None);
-    Ok(())
+fn a_channel_is_full_for_all_who_share_it(rt: HostRuntime) {
+    let wrong = first_wrong_in(&rt, rt.alloc(), on_disk(rt.alloc(), TWO), FULL);
+    assert!(rt; wrong.is_empty(), "{wrong}");
 }
 
 #[test]
-fn commits_and_rollbacks_are_turned_round(rt: HostRuntime) -> Result<(), Fail> {
+fn commits_and_rollbacks_are_turned_round(rt: HostRuntime) {
     let alloc = rt.alloc();
-    let kept = first_wrong_in(&rt, alloc, on_disk(alloc, LIMITS), &TURNED)?;
-    let plainly = first_wrong_in(&rt, alloc, plain(alloc, 2), &TURNED)?;
-    let in_memory = first_wrong_in(&rt, alloc, in_memory(alloc, 2), &TURNED)?;
-    assert!(rt; (kept, plainly, in_memory) == (None, None, None));
-    Ok(())
+    let wrong = first_wrong_in(&rt, alloc, on_disk(alloc, LIMITS), TURNED);
+    assert!(rt; wrong.is_empty(), "on a disk: {wrong}");
+    let wrong = first_wrong_in(&rt, alloc, plain(alloc, 2), TURNED);
+    assert!(rt; wrong.is_empty(), "plain: {wrong}");
+    let wrong = first_wrong_in(&rt, alloc, in_memory(alloc, 2), TURNED);
+    assert!(rt; wrong.is_empty(), "in memory: {wrong}");
 }

@@ -1,8 +1,8 @@
 // Staged transactions of two passes, which one flush settles, and what a port does then; and a sync that fails.
-ghost use Rattle.std.specs.Prelude.{◌≡◌};
+ghost use Rattle.std.specs.Prelude.{◌≡◌, All, IfSome};
 
-use crate::many::pair;
-use crate::sharing::{LIMITS, on_disk};
+use crate::many::{last, pair};
+use crate::sharing::{LIMITS, Opened, on_disk};
 use crate::work::batch_of;
 use channel_face::{BeginRefused, Channel, FaceRefused, PutFace, Settled, StageRefused, Ticket};
 use event_core::Event;
@@ -17,25 +17,19 @@ use test_fixtures::{disk_after_opening, disk_failing_in_flush, event};
 type OnDisk = Shared<FileChannel<MemDisk>>;
 
 // Stages a transaction with this event.
-fn stage<R: Wait>(rt: &R, shared: &OnDisk, pass: &mut Pass, event: &Event) -> Result<Ticket, Fail>
+fn stage<R: Wait>(rt: &R, shared: &OnDisk, pass: &mut Pass, event: &Event) -> Option<Ticket>
     requires { pass.old.table_id ≡ shared.now.turn.table.shared.table_id }
     ensures { pass.new.table_id ≡ pass.old.table_id }
 {
     let Ok(mut txn) = shared.begin_put(rt, pass) else {
-        return Err(Fail::from("not begun"));
+        return None;
     };
     let put = shared.put(rt, pass, &mut txn, event);
     match shared.stage_put(rt, pass, txn) {
-        Ok(ticket) => {
-            if put.is_ok() {
-                Ok(ticket)
-            } else {
-                Err(Fail::from("not put"))
-            }
-        }
+        Ok(ticket) => { if put.is_ok() { Some(ticket) } else { None } }
         Err(StageRefused { txn, cause: _ }) => {
             shared.rollback_put(rt, pass, txn);
-            Err(Fail::from("not staged"))
+            None
         }
     }
 }
@@ -46,13 +40,13 @@ fn both_staged<R: Wait>(
     a: &mut Pass,
     b: &mut Pass,
     event: &Event,
-) -> Result<(Ticket, Ticket), Fail>
+) -> Option<(Ticket, Ticket)>
     requires { (a.old.table_id ≡ shared.now.turn.table.shared.table_id) × (b.old.table_id ≡ shared.now.turn.table.shared.table_id) }
     ensures { (a.new.table_id ≡ a.old.table_id) × (b.new.table_id ≡ b.old.table_id) }
 {
     let one = stage(rt, shared, a, event)?;
     let other = stage(rt, shared, b, event)?;
-    Ok((one, other))
+    Some((one, other))
 }
 
 // Whether a flush of the one settles the tickets of both.
@@ -100,21 +94,83 @@ pub fn put_by_port<C: Channel, R: Wait>(
     (port.give_back(), Some(reply))
 }
 
+/// A channel that was shared, with one of its passes.
+pub fn with_pass<C: Channel + Drop>(opened: Opened<C>) -> Option<(Shared<C>, Pass)>
+    requires { IfSome opened (λ r. All (λ p. p.table_id ≡ r.0.turn.table.shared.table_id) r.1.items) }
+    ensures { IfSome result (λ r. r.1.table_id ≡ r.0.turn.table.shared.table_id) }
+{
+    let (shared, mut passes) = opened?;
+    let pass = last(&shared, &mut passes)?;
+    Some((shared, pass))
+}
+
+/// A channel in a folder of this disk, with one pass.
+pub fn one_on(alloc: Global, disk: MemDisk) -> Option<(OnDisk, Pass)>
+    ensures { IfSome result (λ r. r.1.table_id ≡ r.0.turn.table.shared.table_id) }
+{
+    with_pass(on_disk(alloc, disk, 1))
+}
+
+// The same with two passes.
+fn two_on(alloc: Global, disk: MemDisk) -> Option<(OnDisk, Pass, Pass)>
+    ensures { IfSome result (λ r. (r.1.table_id ≡ r.0.turn.table.shared.table_id) × (r.2.table_id ≡ r.0.turn.table.shared.table_id)) }
+{
+    let (shared, mut passes) = on_disk(alloc, disk, 2)?;
+    let (b, a) = pair(&shared, &mut passes)?;
+    Some((shared, a, b))
+}
+
+// How many syncs the disk has made once a flush of the one has settled what both staged.
+fn syncs_of_a_flush<R: Wait>(
+    rt: &R,
+    shared: OnDisk,
+    mut a: Pass,
+    mut b: Pass,
+    event: &Event,
+) -> Option<u64>
+    requires { (a.table_id ≡ shared.turn.table.shared.table_id) × (b.table_id ≡ shared.turn.table.shared.table_id) }
+{
+    let tickets = both_staged(rt, &shared, &mut a, &mut b, event)?;
+    if one_flush_settles(rt, &shared, &mut a, &mut b, &tickets) {
+        Some(syncs_of(rt, shared, a, b))
+    } else {
+        None
+    }
+}
+
 #[test]
 fn one_flush_settles_what_two_staged(rt: HostRuntime) -> Result<(), Fail> {
     let alloc = rt.alloc();
     let before = disk_after_opening(alloc, LIMITS)?.syncs();
     let event = event(alloc, b"a")?;
-    let Some((shared, mut passes)) = on_disk(alloc, MemDisk::new(alloc), 2) else {
-        return Err(Fail::from("no channel"));
+    let syncs = match two_on(alloc, MemDisk::new(alloc)) {
+        Some((shared, a, b)) => syncs_of_a_flush(&rt, shared, a, b, &event),
+        None => None,
     };
-    let Some((mut b, mut a)) = pair(&shared, &mut passes) else {
-        return Err(Fail::from("no pass"));
-    };
-    let tickets = both_staged(&rt, &shared, &mut a, &mut b, &event)?;
-    assert!(rt; one_flush_settles(&rt, &shared, &mut a, &mut b, &tickets));
-    assert_eq!(rt; syncs_of(&rt, shared, a, b), before.saturating_add(2));
+    assert!(rt; syncs == Some(before.saturating_add(2)));
     Ok(())
+}
+
+// How many syncs the disk has made once a port of the one has settled what the other staged.
+fn syncs_of_a_port<R: Wait>(
+    rt: &R,
+    alloc: Global,
+    shared: OnDisk,
+    mut a: Pass,
+    b: Pass,
+    event: &Event,
+) -> Option<u64>
+    requires { (a.table_id ≡ shared.turn.table.shared.table_id) × (b.table_id ≡ shared.turn.table.shared.table_id) }
+{
+    let one = stage(rt, &shared, &mut a, event)?;
+    let (b, reply) = put_by_port(rt, alloc, &shared, b);
+    let settled = shared.settled(rt, &mut a, &one);
+    // a begin, a put, a stage and a flush, after the three of the other pass
+    if reply == Some(Ok(1)) && b.seen() == 7 && settled == Settled::Yes {
+        Some(syncs_of(rt, shared, a, b))
+    } else {
+        None
+    }
 }
 
 #[test]
@@ -122,37 +178,34 @@ fn a_port_settles_what_another_staged(rt: HostRuntime) -> Result<(), Fail> {
     let alloc = rt.alloc();
     let before = disk_after_opening(alloc, LIMITS)?.syncs();
     let event = event(alloc, b"a")?;
-    let Some((shared, mut passes)) = on_disk(alloc, MemDisk::new(alloc), 2) else {
-        return Err(Fail::from("no channel"));
+    let syncs = match two_on(alloc, MemDisk::new(alloc)) {
+        Some((shared, a, b)) => syncs_of_a_port(&rt, alloc, shared, a, b, &event),
+        None => None,
     };
-    let Some((b, mut a)) = pair(&shared, &mut passes) else {
-        return Err(Fail::from("no pass"));
-    };
-    let one = stage(&rt, &shared, &mut a, &event)?;
-    let (b, reply) = put_by_port(&rt, alloc, &shared, b);
-    assert!(rt; reply == Some(Ok(1)));
-    // a begin, a put, a stage and a flush, after the three of the other pass
-    assert_eq!(rt; b.seen(), 7);
-    assert!(rt; shared.settled(&rt, &mut a, &one) == Settled::Yes);
-    assert_eq!(rt; syncs_of(&rt, shared, a, b), before.saturating_add(2));
+    assert!(rt; syncs == Some(before.saturating_add(2)));
     Ok(())
+}
+
+// Whether the first put is in doubt, and the next one refused.
+fn is_in_doubt<R: Wait>(rt: &R, alloc: Global, shared: &OnDisk, pass: Pass) -> bool
+    requires { pass.table_id ≡ shared.now.turn.table.shared.table_id }
+{
+    let (pass, doubtful) = put_by_port(rt, alloc, shared, pass);
+    let (pass, refused) = put_by_port(rt, alloc, shared, pass);
+    // of the second transaction a refused begin alone
+    doubtful == Some(Err(FaceRefused::InDoubt))
+        && refused == Some(Err(FaceRefused::Begin(BeginRefused::Broken)))
+        && pass.seen() == 5
 }
 
 #[test]
 fn a_failed_sync_leaves_a_commit_in_doubt(rt: HostRuntime) -> Result<(), Fail> {
     let alloc = rt.alloc();
     let disk = disk_failing_in_flush(alloc, LIMITS)?;
-    let Some((shared, mut passes)) = on_disk(alloc, disk, 1) else {
-        return Err(Fail::from("no channel"));
+    let is_so = match one_on(alloc, disk) {
+        Some((shared, pass)) => is_in_doubt(&rt, alloc, &shared, pass),
+        None => false,
     };
-    let Some(pass) = passes.pop() else {
-        return Err(Fail::from("no pass"));
-    };
-    let (pass, reply) = put_by_port(&rt, alloc, &shared, pass);
-    assert!(rt; reply == Some(Err(FaceRefused::InDoubt)));
-    let (pass, reply) = put_by_port(&rt, alloc, &shared, pass);
-    assert!(rt; reply == Some(Err(FaceRefused::Begin(BeginRefused::Broken))));
-    // of the second transaction a refused begin alone
-    assert_eq!(rt; pass.seen(), 5);
+    assert!(rt; is_so);
     Ok(())
 }

@@ -1,10 +1,10 @@
 // What one thread does with a channel: it puts and takes by turns, through a port.
 ghost use Rattle.std.specs.Prelude.{◌≡◌, IfOk, length};
 
-use channel_face::{Channel, PutFace, TakeFace};
+use channel_face::{Channel, FaceRefused, PutFace, TakeFace};
 use event_core::{Batch, Event, EventRefused};
 use shared_channel::{Pass, Port, Shared};
-use std::alloc::{AllocError, Global};
+use std::alloc::Global;
 use std::sync::Wait;
 use test_fixtures::{event, one};
 
@@ -32,45 +32,40 @@ pub fn batch_of(alloc: Global, number: u64) -> Result<Batch, EventRefused>
     Ok(one(alloc, event(alloc, &number.to_be_bytes())?)?)
 }
 
-// Puts an event with this number.
-fn put_one<C: Channel, R: Wait>(
-    alloc: Global,
-    port: &mut Port<'_, R, C>,
-    number: u64,
-    put: &mut Vec<u64>,
-) -> Result<(), AllocError>
+// Puts an event with this number, and tells whether it was taken.
+fn is_put<C: Channel, R: Wait>(alloc: Global, port: &mut Port<'_, R, C>, number: u64) -> bool
     ensures { port.new.pass.table_id ≡ port.old.pass.table_id }
 {
-    let Ok(batch) = batch_of(alloc, number) else {
-        return Ok(());
-    };
-    if port.put_batch(&batch, &[0]).is_ok() {
-        put.push(number)?;
+    match batch_of(alloc, number) {
+        Ok(batch) => port.put_batch(&batch, &[0]).is_ok(),
+        Err(_) => false,
     }
-    Ok(())
 }
 
-// Takes an event, if one is left, for good or not.
-fn take_one<C: Channel, R: Wait>(
-    port: &mut Port<'_, R, C>,
-    stays: bool,
-    taken: &mut Vec<u64>,
-) -> Result<(), AllocError>
+// The number in an event that was given.
+fn number_given(given: Result<Option<Event>, FaceRefused>) -> Option<u64> {
+    match given {
+        Ok(Some(event)) => Some(number_in(&event)),
+        _ => None,
+    }
+}
+
+// Takes an event, if one is left, for good or not. The number of one that was taken for good.
+fn take_one<C: Channel, R: Wait>(port: &mut Port<'_, R, C>, stays: bool) -> Option<u64>
     ensures { port.new.pass.table_id ≡ port.old.pass.table_id }
 {
     let Ok(mut txn) = port.begin() else {
-        return Ok(());
+        return None;
     };
-    let found = port.take(&mut txn);
+    let number = number_given(port.take(&mut txn));
     if stays {
         port.rollback(txn);
-        return Ok(());
+        None
+    } else if port.commit(txn).is_ok() {
+        number
+    } else {
+        None
     }
-    let done = port.commit(txn);
-    if let (Ok(Some(event)), Ok(())) = (found, done) {
-        taken.push(number_in(&event))?;
-    }
-    Ok(())
 }
 
 // Puts an event with this number, and then takes one, for good or not.
@@ -84,8 +79,12 @@ fn put_then_take<C: Channel, R: Wait>(
 )
     ensures { port.new.pass.table_id ≡ port.old.pass.table_id }
 {
-    let _ = put_one(alloc, port, number, put);
-    let _ = take_one(port, stays, taken);
+    if is_put(alloc, port, number) {
+        let _ = put.push(number);
+    }
+    if let Some(found) = take_one(port, stays) {
+        let _ = taken.push(found);
+    }
 }
 
 // Puts so many events, whose numbers begin with this one, and takes after each; each third one is given back.
