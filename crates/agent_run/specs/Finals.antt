@@ -1,6 +1,7 @@
 -- What the workers of a run called, in all that the passes of its channels had seen when these were closed.
 use Rattle.std.specs.Prelude.{◌≡◌, ◌⊎◌, ℕ, List, All, Bool, Option, length, map}
 use Rattle.channel_face.specs.History.{Opening, Step}
+use Rattle.channel_face.specs.Machine.{State}
 use Rattle.grouped_sinks.specs.declared.row.SinkRow.{SinkRow}
 use Rattle.shared_channel.specs.Passes.{Known}
 use Rattle.sink_worker.specs.Rounds.{Told}
@@ -14,7 +15,7 @@ use Rattle.two_channels.specs.declared.shared.EitherShared.{EitherShared}
 use Rattle.run_tracks.specs.Closes.{IsClosed}
 use Rattle.run_tracks.specs.Homes.{EachTook}
 use Rattle.run_tracks.specs.Places.{Zips}
-use Rattle.run_tracks.specs.Stops.{IsMended}
+use Rattle.run_tracks.specs.Stops.{IsKept, IsMended}
 use Rattle.agent_run.specs.Draining.{EachGoesOn, IsDrainedAt, IsSinkHome}
 use Rattle.agent_run.specs.Ends.{IsLineEnded}
 use Rattle.agent_run.specs.Histories.{IsLineTold, IsListenTold}
@@ -49,13 +50,13 @@ pub record AreToldInFull {A B S N I O C K : Type 0} (sink : Told S) (Means : Mea
 -- What came back of a run's workers, which were manned so, and whose channels were then settled so, is told of in full in what the
 -- passes of the channels had seen when these were closed.
 abbrev pub RunsAreTold : {R A B S N I O C K : Type 0} → Runs (EitherPort R A B) S N I O C K → Told S → Meaning K → (C → Option (ℕ → ℕ)) → (N → Heard) → (I → O → Talk)
-    → (A → Opening → List Step → Type 0) → (A → Bool) → (A → ℕ) → (B → Opening → List Step → Type 0) → (B → Bool) → Type 0
-RunsAreTold {R} {A} {B} {S} {N} {I} {O} {C} {K} runs sink Means moments heard talk disk tells moment memory tells' =
+    → (A → Opening → List Step → Type 0) → (A → Bool) → (A → ℕ) → (A → State → Type 0) → (A → Type 0) → (B → Opening → List Step → Type 0) → (B → Bool) → Type 0
+RunsAreTold {R} {A} {B} {S} {N} {I} {O} {C} {K} runs sink Means moments heard talk disk tells moment laid pruned memory tells' =
     (plans : List SinkRow) (o : Opened A B S N I O C K) (m : Manned A B S N I O C K) (homes : List Known) (joined : Joined S C)
     (returned : Returned S N I O C) (settled : Settled S A B)
     → IsManned plans o m → EachTook m.crew.homes.items homes → All (λ (p : Known). HasAll p.view) homes
     → HaveReturned runs sink Means moments heard talk m.crew.shares.items homes m.crew.jobs returned
     → joined.sinks ≡ returned.sinks → All (IsSinkHome homes) joined.sinks.items → length m.settled.report.items ≡ length homes
-    → AreSettled (IsDrainedAt sink moments) (IsMended disk tells moment) (IsClosed disk tells memory tells') m.crew.shares.items homes
-    joined.sinks.items m.settled.report.items settled
+    → AreSettled (IsDrainedAt sink moments) (IsKept disk tells moment laid pruned) (IsMended disk tells moment) (IsClosed disk tells memory tells') m.crew.shares.items homes
+    joined.sinks.items m.closes.items m.settled.report.items settled
     → AreToldInFull sink Means moments heard talk m.crew.shares.items homes (finals_of settled) m.crew.jobs returned settled

@@ -1,18 +1,21 @@
 -- What the folders of a run's channels hold after it.
-use Rattle.std.specs.Prelude.{◌≡◌, ◌<◌, ℕ, List, Option, Some, None, false, length, slice_index_or, string_bytes}
+use Rattle.std.specs.Prelude.{◌≡◌, ◌⊎◌, ◌<◌, ◌≤◌, ◌-◌, ◌^◌, ◌++◌, ℕ, List, [], ◌∷◌, Option, Some, None, Bool, true, false, Result, length, slice_index_or, string_bytes}
 use Rattle.flume_config.specs.declared.plan.ChannelKind.{ChannelKind}
 use Rattle.flume_config.specs.declared.plan.ChannelKind.TheVariants.{File, Memory}
 use Rattle.flume_config.specs.declared.plan.ChannelPlan.{ChannelPlan}
 use Rattle.flume_host.specs.HostState.{Folders}
 use Rattle.flume_host.specs.Told.{Told}
-use Rattle.channel_face.specs.History.{IsRun, opening}
-use Rattle.channel_face.specs.Machine.{is_some_of}
+use Rattle.channel_face.specs.History.{IsRun, Step, opening}
+use Rattle.channel_face.specs.Machine.{Call, Checkpoint, Prune, Reopen, is_some_of}
+use Rattle.channel_face.specs.declared.replies.CheckRefused.{CheckRefused}
+use Rattle.channel_face.specs.declared.replies.PruneRefused.{PruneRefused}
 use Rattle.channel_face.specs.declared.replies.Limits.{Limits}
 use Rattle.channel_laws.specs.Images.{LeavesAtEach}
 use Rattle.channel_writing.specs.Touches.{Rests}
 use Rattle.shared_channel.specs.Calls.{state_seen}
 use Rattle.shared_channel.specs.Passes.{Known}
 use Rattle.agent_channels.specs.Openings.{BeginsOnDisk}
+use Rattle.agent_run.specs.Keepers.{closes}
 
 -- the folder of a channel, if it is in one
 abbrev pub folder_of : ChannelKind → Option (List ℕ)
@@ -28,23 +31,39 @@ file_of (File folder max_file interval on_close) = max_file
 abbrev pub limits_of : ChannelPlan → Limits
 limits_of plan = record { capacity = plan.capacity; txn_capacity = plan.txn_capacity; max_file = file_of plan.kind }
 
+-- the calls that are no reopening, in order
+abbrev pub but_reopen : Call → List Call
+but_reopen (Reopen reply) = []
+but_reopen call = call ∷ []
+
+abbrev pub but_reopens : List Step → List Call
+but_reopens [] = []
+but_reopens (step ∷ steps) = but_reopen step.call ++ but_reopens steps
+
+-- The last two are a checkpoint and a removal of old files, whatever these were answered.
+abbrev pub EndsKept : List Call → Type 0
+EndsKept calls =
+    (front : List Call) × (check : Result (Unit {0}) CheckRefused) × (prune : Result ℕ PruneRefused) × (calls ≡ front ++ Checkpoint check ∷ Prune prune ∷ [])
+
 -- Of a folder the host told this before a run and that after it, by the pass that has seen all calls of the folder's channel. The
 -- channel began with what the folder opened to, and its calls were answered as the machine answers them. Whatever a crash left of the
 -- folder at a moment since then opens to something that the calls up to that moment may leave. In the end the channel was not broken,
--- and whatever a crash now leaves opens to just what is settled.
-pub record FolderTold (limits : Limits) (before after : Option Told) (final : Known) : Type 0 where
+-- and whatever a crash now leaves opens to just what is settled. Where it is kept at the end, that was its last call but for a mend, unless
+-- no more calls were counted.
+pub record FolderTold (limits : Limits) (closes : Bool) (before after : Option Told) (final : Known) : Type 0 where
   pub begins : BeginsOnDisk limits before final.view.base
   pub tells : is_some_of after ≡ is_some_of before
   pub run : IsRun (is_some_of after) (opening final.view.base) final.view.seen
   pub images : LeavesAtEach after final.view.base final.view.seen
   pub whole : (state_seen final.view).broken ≡ false
   pub rests : Rests after (state_seen final.view)
+  pub kept : closes ≡ true → EndsKept (but_reopens final.view.seen) ⊎ (2 ^ 64 - 1026 ≤ length final.view.seen)
 
 -- So it is of the folder of each channel of the plan.
 abbrev pub FoldersTold : List ChannelPlan → Folders → Folders → List Known → Type 0
 FoldersTold plans before after finals =
     (place : ℕ) (plan : ChannelPlan) (final : Known) (path : List ℕ) → place < length plans → folder_of (slice_index_or plans place plan).kind ≡ Some path
-    → FolderTold (limits_of (slice_index_or plans place plan)) (before.disks path) (after.disks path) (slice_index_or finals place final)
+    → FolderTold (limits_of (slice_index_or plans place plan)) (closes (slice_index_or plans place plan).kind) (before.disks path) (after.disks path) (slice_index_or finals place final)
 
 -- no two channels of a plan are in one folder
 abbrev pub FoldersAreApart : List ChannelPlan → Type 0

@@ -42,11 +42,11 @@ use Rattle.agent_run.specs.declared.prepare.Prepared.{Prepared}
 use Rattle.agent_run.specs.declared.settle.Settled.{Settled}
 
 -- The workers were made of what was opened and of the streams that they took, ran and came back; then each sink emptied its channel,
--- and each channel was mended, counted and closed; then all was given back, and what the run came to was handed on.
+-- those channels that are kept at the end were kept, and each was mended, counted and closed; then all was given back, and what the run came to was handed on.
 pub record RanThrough {A B S N I O C K : Type 0} (plans : List SinkRow) (o : Opening A B S N I O C K)
     (Takes : Manned A B S N I O C K → HostState → HostState → Type 0)
     (Joins : Manned A B S N I O C K → List Known → Joined S C → HostState → HostState → Type 0)
-    (Settles : List (EitherShared A B) → List Known → List (SinkWorker AtHome S C) → List (String Global × Counts) → Settled S A B → Type 0)
+    (Settles : List (EitherShared A B) → List Known → List (SinkWorker AtHome S C) → List Bool → List (String Global × Counts) → Settled S A B → Type 0)
     (Back : List ChannelWish → Settled S A B → Bool → Result (Unit {0}) ReportRefused → HostTold → HostTold → Type 0)
     (ends : RunEnds) (channels : List ChannelEnd) (a b : HostTold) : Type 0 where
   pub manned : Manned A B S N I O C K
@@ -64,7 +64,7 @@ pub record RanThrough {A B S N I O C K : Type 0} (plans : List SinkRow) (o : Ope
   pub home : All (IsSinkHome homes) joined.sinks.items
   pub named : length manned.settled.report.items ≡ length homes
   pub settled : Settled S A B
-  pub settles : Settles manned.crew.shares.items homes joined.sinks.items manned.settled.report.items settled
+  pub settles : Settles manned.crew.shares.items homes joined.sinks.items manned.closes.items manned.settled.report.items settled
   pub back : Back manned.wishes.items settled joined.streams.output_failed ends.report (record { state = behind; folders = a.folders }) b
   pub input : ends.input ≡ joined.streams.input
   pub drains : ends.drains ≡ settled.ends

@@ -126,6 +126,7 @@ fn run_opened<
     let Manned {
         crew,
         wishes,
+        closes,
         places,
         labels,
         mut passes,
@@ -151,7 +152,7 @@ fn run_opened<
         returned,
         named,
     );
-    let settled = settle(rt, shares, homes, sinks, settled);
+    let settled = settle(rt, shares, homes, sinks, closes.as_slice(), settled);
     closed_channels_fit::<FileChannel<H::Disk>, MemoryChannel>();
     runs_are_told::<
         'a,
@@ -268,7 +269,7 @@ fn run_channels<
     requires have { HaveObjects plan.now.sinks.items (reverse objects.sinks.items) }
     requires opened { WereOpened prepared.wishes.items opened.items }
     requires out { AreOut (H.folders host.old) prepared.wishes.items }
-    requires room { HasRoomFor plan.now (length rows.now) (length prepared.listeners.items) (length prepared.lines.items) room }
+    requires room { HasRoomFor plan.now (length prepared.keepers.items) (length rows.now) (length prepared.listeners.items) (length prepared.lines.items) room }
     ensures refused { IfErr result (λ error. IsRefusedOutside plan.now prepared.places.items
         prepared.wishes.items opened.items error
         (record { state = H.state host.old; folders = H.folders host.old })
@@ -348,7 +349,15 @@ pub(crate) fn run_plan<
     let frames = frames_of(alloc, host, plan.groups.as_slice(), rows)?;
     let prepared = prepare::<H, K>(alloc, host, plan, rows)?;
     let listeners = prepared.listeners.len();
-    let room = room_of(alloc, plan, rows.len(), listeners, prepared.lines.len())?;
+    let keepers = prepared.keepers.len();
+    let room = room_of(
+        alloc,
+        plan,
+        keepers,
+        rows.len(),
+        listeners,
+        prepared.lines.len(),
+    )?;
     match open_channels(rt, alloc, host, prepared.wishes.as_slice()) {
         Ok(opened) => run_channels(
             rt, alloc, host, plan, rows, objects, frames, opened, prepared, room,

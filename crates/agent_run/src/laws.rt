@@ -8,9 +8,10 @@ ghost use Rattle.agent_run.specs.Finals.{RunsAreTold};
 ghost use Rattle.agent_run.specs.Runs.{runs};
 ghost use Rattle.agent_run.specs.Wholes.{CountsAreSilent, DrainsAreSilent, LinesStayTold, ListenersStayTold, MendsAreSilent, OthersStay, SinksAreWhole};
 
-use channel_face::{Channel, Reopen};
+use channel_face::{Channel, Durable};
 use crew::{DrainWorker, Work};
 use flume_host::{Clock, Listener, Sink, Source};
+use keep_worker::KeepWorker;
 use line_worker::LineWorker;
 use plug_in::{EventSink, Interceptor};
 use sink_worker::SinkWorker;
@@ -38,7 +39,7 @@ pub fn sinks_are_whole<A: Channel, B: Channel, S: EventSink, C: Clock>()
 pub fn listeners_stay_told<
     'a,
     R: Wait + 'a,
-    A: Reopen + Drop + Send + 'a,
+    A: Durable + Drop + Send + 'a,
     B: Channel + Drop + Send + 'a,
     S: EventSink + Send,
     N: Listener + Send + Drop,
@@ -48,7 +49,8 @@ pub fn listeners_stay_told<
     K: Interceptor + Send,
 >()
     ensures { ListenersStayTold
-        (runs ⟦<SinkWorker<EitherPort<'a, R, A, B>, S, C> as Work>⟧.ran
+        (runs ⟦<KeepWorker<EitherPort<'a, R, A, B>, C> as Work>⟧.ran
+        ⟦<SinkWorker<EitherPort<'a, R, A, B>, S, C> as Work>⟧.ran
         ⟦<ListenWorker<EitherPort<'a, R, A, B>, N, C, K> as Work>⟧.ran
         ⟦<DrainWorker<I> as Work>⟧.ran
         ⟦<LineWorker<EitherPort<'a, R, A, B>, I, O, C, K> as Work>⟧.ran)
@@ -60,7 +62,7 @@ pub fn listeners_stay_told<
 pub fn lines_stay_told<
     'a,
     R: Wait + 'a,
-    A: Reopen + Drop + Send + 'a,
+    A: Durable + Drop + Send + 'a,
     B: Channel + Drop + Send + 'a,
     S: EventSink + Send,
     N: Listener + Send + Drop,
@@ -70,7 +72,8 @@ pub fn lines_stay_told<
     K: Interceptor + Send,
 >()
     ensures { LinesStayTold
-        (runs ⟦<SinkWorker<EitherPort<'a, R, A, B>, S, C> as Work>⟧.ran
+        (runs ⟦<KeepWorker<EitherPort<'a, R, A, B>, C> as Work>⟧.ran
+        ⟦<SinkWorker<EitherPort<'a, R, A, B>, S, C> as Work>⟧.ran
         ⟦<ListenWorker<EitherPort<'a, R, A, B>, N, C, K> as Work>⟧.ran
         ⟦<DrainWorker<I> as Work>⟧.ran
         ⟦<LineWorker<EitherPort<'a, R, A, B>, I, O, C, K> as Work>⟧.ran)
@@ -83,7 +86,7 @@ pub fn lines_stay_told<
 pub fn lines_are_answered<
     'a,
     R: Wait + 'a,
-    A: Reopen + Drop + Send + 'a,
+    A: Durable + Drop + Send + 'a,
     B: Channel + Drop + Send + 'a,
     S: EventSink + Send,
     N: Listener + Send + Drop,
@@ -93,7 +96,8 @@ pub fn lines_are_answered<
     K: Interceptor + Send,
 >()
     ensures answered { LinesAreAnswered
-        (runs ⟦<SinkWorker<EitherPort<'a, R, A, B>, S, C> as Work>⟧.ran
+        (runs ⟦<KeepWorker<EitherPort<'a, R, A, B>, C> as Work>⟧.ran
+        ⟦<SinkWorker<EitherPort<'a, R, A, B>, S, C> as Work>⟧.ran
         ⟦<ListenWorker<EitherPort<'a, R, A, B>, N, C, K> as Work>⟧.ran
         ⟦<DrainWorker<I> as Work>⟧.ran
         ⟦<LineWorker<EitherPort<'a, R, A, B>, I, O, C, K> as Work>⟧.ran)
@@ -106,7 +110,7 @@ pub fn lines_are_answered<
 pub fn workers_ran<
     'a,
     R: Wait + 'a,
-    A: Reopen + Drop + Send + 'a,
+    A: Durable + Drop + Send + 'a,
     B: Channel + Drop + Send + 'a,
     S: EventSink + Send,
     N: Listener + Send + Drop,
@@ -116,14 +120,16 @@ pub fn workers_ran<
     K: Interceptor + Send,
 >()
     ensures ran { RanUnlessNoMemory
-        (runs ⟦<SinkWorker<EitherPort<'a, R, A, B>, S, C> as Work>⟧.ran
+        (runs ⟦<KeepWorker<EitherPort<'a, R, A, B>, C> as Work>⟧.ran
+        ⟦<SinkWorker<EitherPort<'a, R, A, B>, S, C> as Work>⟧.ran
         ⟦<ListenWorker<EitherPort<'a, R, A, B>, N, C, K> as Work>⟧.ran
         ⟦<DrainWorker<I> as Work>⟧.ran
         ⟦<LineWorker<EitherPort<'a, R, A, B>, I, O, C, K> as Work>⟧.ran)
         (told S.delivers S.faults) K.intercepts C.moments (heard_of N.told N.faults N.waits)
         I.left I.faults O.took O.handed O.faults }
     ensures well { EndsWell
-        (runs ⟦<SinkWorker<EitherPort<'a, R, A, B>, S, C> as Work>⟧.ran
+        (runs ⟦<KeepWorker<EitherPort<'a, R, A, B>, C> as Work>⟧.ran
+        ⟦<SinkWorker<EitherPort<'a, R, A, B>, S, C> as Work>⟧.ran
         ⟦<ListenWorker<EitherPort<'a, R, A, B>, N, C, K> as Work>⟧.ran
         ⟦<DrainWorker<I> as Work>⟧.ran
         ⟦<LineWorker<EitherPort<'a, R, A, B>, I, O, C, K> as Work>⟧.ran)
@@ -133,7 +139,7 @@ pub fn workers_ran<
 
 /// After a run a number of a worker's pass stays silent: while sinks that have not this number in this channel empty their channels,
 /// while channels are mended through passes at home that carry another number, and while they are counted.
-pub fn silence_is_kept<A: Reopen, B: Channel, S: EventSink, C: Clock>()
+pub fn silence_is_kept<A: Durable, B: Channel, S: EventSink, C: Clock>()
     ensures drains { DrainsAreSilent (told S.delivers S.faults) C.moments }
     ensures mends { MendsAreSilent A B A.stands A.tells A.moment }
     ensures counts { CountsAreSilent }
@@ -146,7 +152,7 @@ pub fn silence_is_kept<A: Reopen, B: Channel, S: EventSink, C: Clock>()
 pub fn runs_are_told<
     'a,
     R: Wait + 'a,
-    A: Reopen + Drop + Send + 'a,
+    A: Durable + Drop + Send + 'a,
     B: Channel + Drop + Send + 'a,
     S: EventSink + Send,
     N: Listener + Send + Drop,
@@ -156,12 +162,14 @@ pub fn runs_are_told<
     K: Interceptor + Send,
 >()
     ensures { RunsAreTold
-        (runs ⟦<SinkWorker<EitherPort<'a, R, A, B>, S, C> as Work>⟧.ran
+        (runs ⟦<KeepWorker<EitherPort<'a, R, A, B>, C> as Work>⟧.ran
+        ⟦<SinkWorker<EitherPort<'a, R, A, B>, S, C> as Work>⟧.ran
         ⟦<ListenWorker<EitherPort<'a, R, A, B>, N, C, K> as Work>⟧.ran
         ⟦<DrainWorker<I> as Work>⟧.ran
         ⟦<LineWorker<EitherPort<'a, R, A, B>, I, O, C, K> as Work>⟧.ran)
         (told S.delivers S.faults) K.intercepts C.moments (heard_of N.told N.faults N.waits)
-        (talk_of I.left I.faults O.took O.handed O.faults) A.stands A.tells A.moment B.stands B.tells }
+        (talk_of I.left I.faults O.took O.handed O.faults) A.stands A.tells A.moment
+        A.is_laid A.is_pruned B.stands B.tells }
 {
     listeners_stay_told::<'a, R, A, B, S, N, I, O, C, K>();
     lines_stay_told::<'a, R, A, B, S, N, I, O, C, K>();

@@ -4,7 +4,7 @@ ghost use Rattle.plan_objects.specs.Least.{HasOwnSteps};
 ghost use Rattle.agent_run.specs.Prepared.{IsDrafted, IsPlanned, IsPrepared, IsUnprepared, error_of};
 
 use crate::labels::{ChannelLabel, labels_of};
-use crate::seats::{Seat, seats_of};
+use crate::seats::{KeepSeat, Seat, closes_of, keep_seats_of, seats_of};
 use crate::wishes::{uses_of, wishes_of};
 use agent_channels::ChannelWish;
 use agent_drafts::{draft_lines, draft_listeners, drafts_can_serve};
@@ -20,6 +20,10 @@ use std::alloc::{AllocError, Global};
 pub(crate) struct Prepared<K, C> {
     /// The channels that it wants.
     pub wishes: Vec<ChannelWish>,
+    /// The workers of its channels on disks.
+    pub keepers: Vec<KeepSeat<C>>,
+    /// Of each channel, whether it is kept once more at the end.
+    pub closes: Vec<bool>,
     /// The workers of its listeners.
     pub listeners: Vec<Seat<K, C>>,
     /// The workers of the lines of standard input.
@@ -81,14 +85,31 @@ pub(crate) fn prepare<H: Host, K: Drop>(
     let lines = draft_lines(alloc, plan, names.as_slice())?;
     let listeners = seats_of(alloc, host, listeners)?;
     let lines = seats_of(alloc, host, lines)?;
-    let uses = uses_of(alloc, rows, listeners.as_slice(), lines.as_slice())?;
+    let keepers = keep_seats_of(alloc, host, plan.channels.as_slice())?;
+    let closes = closes_of(alloc, plan.channels.as_slice())?;
+    let uses = uses_of(
+        alloc,
+        keepers.as_slice(),
+        rows,
+        listeners.as_slice(),
+        lines.as_slice(),
+    )?;
     let wishes = wishes_of(alloc, plan.channels.as_slice(), uses.as_slice())?;
     let places = listening_places(alloc, plan.sources.as_slice())?;
     let clocks = clocks_of(alloc, host, rows.len())?;
-    let labels = labels_of(alloc, plan, rows, listeners.as_slice(), lines.as_slice())?;
+    let labels = labels_of(
+        alloc,
+        plan,
+        keepers.as_slice(),
+        rows,
+        listeners.as_slice(),
+        lines.as_slice(),
+    )?;
     drafts_can_serve::<K>();
     Ok(Prepared {
         wishes,
+        keepers,
+        closes,
         listeners,
         lines,
         places,

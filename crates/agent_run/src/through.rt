@@ -1,7 +1,7 @@
 // What a run of an agent does, in one relation.
 ghost use Rattle.agent_outside.specs.Listening.{IsFresh};
 ghost use Rattle.run_tracks.specs.Closes.{IsClosed};
-ghost use Rattle.run_tracks.specs.Stops.{IsMended};
+ghost use Rattle.run_tracks.specs.Stops.{IsKept, IsMended};
 ghost use Rattle.sink_worker.specs.Rounds.{told};
 ghost use Rattle.source_worker.specs.Workers.{heard_of};
 ghost use Rattle.line_worker.specs.Workers.{talk_of};
@@ -15,11 +15,12 @@ ghost use Rattle.std.specs.Prelude.{List, Option};
 use crate::opening::Opening;
 use agent_sinks::AgentSink;
 use avro_ends::{AvroSink, HasDialer};
-use channel_face::Channel;
+use channel_face::{Channel, Durable};
 use crew::{DrainWorker, Work};
 use file_channel::FileChannel;
 use flume_host::Host;
 use grouped_sinks::Runner;
+use keep_worker::KeepWorker;
 use line_worker::LineWorker;
 use memory_channel::MemoryChannel;
 use plug_in::{EventSink, Interceptor};
@@ -102,7 +103,8 @@ impl<
         (λ manned. AreTaken H.Source.left H.Source.faults H.Sink.took H.Sink.handed H.Sink.faults
         (map (λ job. own_talk job) manned.crew.jobs.lines.items) manned.crew.jobs.drains.items)
         (λ manned homes. IsJoined (λ returned. HaveReturned
-        (runs ⟦<SinkWorker<PortOf<'a, R, H>, RunnerOf<H, B>, H::Clock> as Work>⟧.ran
+        (runs ⟦<KeepWorker<PortOf<'a, R, H>, H::Clock> as Work>⟧.ran
+        ⟦<SinkWorker<PortOf<'a, R, H>, RunnerOf<H, B>, H::Clock> as Work>⟧.ran
         ⟦<ListenWorker<PortOf<'a, R, H>, H::Listener, H::Clock, K> as Work>⟧.ran
         ⟦<DrainWorker<H::Source> as Work>⟧.ran
         ⟦<LineWorker<PortOf<'a, R, H>, H::Source, H::Sink, H::Clock, K> as Work>⟧.ran)
@@ -118,6 +120,9 @@ impl<
         (AreSettled (IsDrainedAt
         (told ⟦<RunnerOf<H, B> as EventSink>⟧.delivers ⟦<RunnerOf<H, B> as EventSink>⟧.faults)
         H.Clock.moments)
+        (IsKept ⟦<FileChannel<H::Disk> as Channel>⟧.stands
+        ⟦<FileChannel<H::Disk> as Channel>⟧.tells ⟦<FileChannel<H::Disk> as Channel>⟧.moment
+        ⟦<FileChannel<H::Disk> as Durable>⟧.is_laid ⟦<FileChannel<H::Disk> as Durable>⟧.is_pruned)
         (IsMended ⟦<FileChannel<H::Disk> as Channel>⟧.stands
         ⟦<FileChannel<H::Disk> as Channel>⟧.tells ⟦<FileChannel<H::Disk> as Channel>⟧.moment)
         (IsClosed ⟦<FileChannel<H::Disk> as Channel>⟧.stands
@@ -163,7 +168,8 @@ impl<
     ghost use Rattle.agent_run.specs.Runs.{runs};
 
     ghost ran = { λ objects plan ends channels a b. RunDid
-        (runs ⟦<SinkWorker<PortOf<'a, R, H>, RunnerOf<H, B>, H::Clock> as Work>⟧.ran
+        (runs ⟦<KeepWorker<PortOf<'a, R, H>, H::Clock> as Work>⟧.ran
+        ⟦<SinkWorker<PortOf<'a, R, H>, RunnerOf<H, B>, H::Clock> as Work>⟧.ran
         ⟦<ListenWorker<PortOf<'a, R, H>, H::Listener, H::Clock, K> as Work>⟧.ran
         ⟦<DrainWorker<H::Source> as Work>⟧.ran
         ⟦<LineWorker<PortOf<'a, R, H>, H::Source, H::Sink, H::Clock, K> as Work>⟧.ran)
@@ -173,6 +179,7 @@ impl<
         H.Source.left H.Source.faults H.Sink.took H.Sink.handed H.Sink.faults
         ⟦<FileChannel<H::Disk> as Channel>⟧.stands ⟦<FileChannel<H::Disk> as Channel>⟧.tells
         ⟦<FileChannel<H::Disk> as Channel>⟧.moment
+        ⟦<FileChannel<H::Disk> as Durable>⟧.is_laid ⟦<FileChannel<H::Disk> as Durable>⟧.is_pruned
         ⟦<MemoryChannel as Channel>⟧.stands ⟦<MemoryChannel as Channel>⟧.tells
         plan (IsDrafted a.state.name a.state.address plan)
         (λ rows prepared old new outside. HasRunners (λ sinks. IsOutside H.Roll.rolled H.Roll.faults
