@@ -1,5 +1,4 @@
 // What is handed in to a run: what the program hands in, and sinks that write down what they do.
-ghost use Rattle.std.specs.Prelude.{Unit};
 
 use crate::own_host::OwnHost;
 use agent_run::{Outcome, run_agent};
