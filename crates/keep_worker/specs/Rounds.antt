@@ -54,20 +54,33 @@ module _ {F : Type 0} (face : Face F) where
     pub same : face.kept old new
     pub calls : Gains (face.own old) (face.own new) (IsMend (face.on_disk old) (face.saw new) (face.seen new) result)
 
+module _ {P : Type 0} (Checks : P → Result (Unit {0}) CheckRefused → P → Type 0) (Prunes : P → Result ℕ PruneRefused → P → Type 0)
+    (Mends : P → Result Bool OpenCause → P → Type 0) where
   -- a checkpoint, and then the removal of old files
-  abbrev pub Keeps : F → Upkeep → F → Type 0
-  Keeps old upkeep new = (between : F) × Checks old upkeep.checked between × Prunes between upkeep.pruned new
+  abbrev pub KeepsBy : P → Upkeep → P → Type 0
+  KeepsBy old upkeep new = (between : P) × Checks old upkeep.checked between × Prunes between upkeep.pruned new
 
   -- a mend where one is due
-  abbrev pub MendsIf : Bool → F → F → Type 0
+  abbrev pub MendsIf : Bool → P → P → Type 0
   MendsIf true old new = (result : Result Bool OpenCause) × Mends old result new
   MendsIf false old new = new ≡ old
 
   -- these two, and a mend exactly where one of them met a broken channel or broke it
-  abbrev pub Round : F → Upkeep → F → Type 0
-  Round old upkeep new = (between : F) × Keeps old upkeep between × MendsIf (needs_mend upkeep.checked upkeep.pruned) between new
+  abbrev pub RoundBy : P → Upkeep → P → Type 0
+  RoundBy old upkeep new = (between : P) × KeepsBy old upkeep between × MendsIf (needs_mend upkeep.checked upkeep.pruned) between new
 
   -- rounds one after the other
-  abbrev pub Rounds : List Upkeep → F → F → Type 0
-  Rounds [] old new = new ≡ old
-  Rounds (upkeep ∷ upkeeps) old new = (next : F) × Round old upkeep next × Rounds upkeeps next new
+  abbrev pub RoundsBy : List Upkeep → P → P → Type 0
+  RoundsBy [] old new = new ≡ old
+  RoundsBy (upkeep ∷ upkeeps) old new = (next : P) × RoundBy old upkeep next × RoundsBy upkeeps next new
+
+-- the same of a face
+
+abbrev pub Keeps : {F : Type 0} → Face F → F → Upkeep → F → Type 0
+Keeps face = KeepsBy (Checks face) (Prunes face) (Mends face)
+
+abbrev pub Round : {F : Type 0} → Face F → F → Upkeep → F → Type 0
+Round face = RoundBy (Checks face) (Prunes face) (Mends face)
+
+abbrev pub Rounds : {F : Type 0} → Face F → List Upkeep → F → F → Type 0
+Rounds face = RoundsBy (Checks face) (Prunes face) (Mends face)

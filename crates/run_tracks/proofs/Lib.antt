@@ -10,3 +10,4 @@ mod Closing
 pub mod Emptying
 mod Stopping
 mod Finding
+mod Keeping

@@ -18,4 +18,4 @@ pub use laws::{
     listening_is_in_tracks, passes_are_dealt, rounds_are_in_track,
 };
 pub use open::open_ports;
-pub use stop::{count_all, mend_all};
+pub use stop::{count_all, keep_all, mend_all};

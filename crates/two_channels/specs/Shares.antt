@@ -1,9 +1,13 @@
 -- A shared channel of either kind.
-use Rattle.std.specs.Prelude.{◌≡◌, ℕ, Bool, false, List, [], Result, Ok}
+use Rattle.std.specs.Prelude.{◌≡◌, ℕ, Bool, false, List, [], Result, Ok, OnOk}
 use Rattle.atomic_table.specs.Seated.{TableId}
 use Rattle.channel_face.specs.History.{Opening, Step}
+use Rattle.channel_face.specs.Keeps.{is_spent_check, is_spent_prune}
+use Rattle.channel_face.specs.Machine.{State, Checkpoint, Prune}
+use Rattle.channel_face.specs.declared.replies.CheckRefused.{CheckRefused}
 use Rattle.channel_face.specs.declared.replies.OpenCause.{OpenCause}
-use Rattle.shared_channel.specs.Calls.{Left, Looks}
+use Rattle.channel_face.specs.declared.replies.PruneRefused.{PruneRefused}
+use Rattle.shared_channel.specs.Calls.{Answers, Left, Looks, SawOf}
 use Rattle.shared_channel.specs.Counting.{StandsAgreeing}
 use Rattle.shared_channel.specs.Durables.{Mends}
 use Rattle.shared_channel.specs.Passes.{Known}
@@ -55,3 +59,20 @@ module _ {A B : Type 0} where
   abbrev pub MendsIn : (A → Opening → List Step → Type 0) → (A → Bool) → (A → ℕ) → EitherShared A B → View → ℕ → Result Bool OpenCause → View → Type 0
   MendsIn disk tells moment (share.Disk s) v by result w = Mends disk tells moment v by result w
   MendsIn disk tells moment (share.Memory s) v by result w = (w ≡ v) × (result ≡ Ok false)
+
+-- A checkpoint was asked for, and then the removal of old files, under this number, and no other call was made with a number of the pass.
+-- After Ok the channel then had a checkpoint of what was seen, and no file that its newest one does not need.
+pub record Kept {A : Type 0} (disk : A → Opening → List Step → Type 0) (tells : A → Bool) (moment : A → ℕ) (Laid : A → State → Type 0)
+    (Pruned : A → Type 0) (v : View) (by : ℕ) (w : View) : Type 0 where
+  pub check : Result (Unit {0}) CheckRefused
+  pub prune : Result ℕ PruneRefused
+  pub between : View
+  pub checks : Answers disk tells moment (is_spent_check check) v by (Checkpoint check) between
+  pub prunes : Answers disk tells moment (is_spent_prune prune) between by (Prune prune) w
+  pub laid : OnOk check (SawOf disk tells Laid between)
+  pub gone : OnOk prune (SawOf disk tells (λ c s. Pruned c) w)
+
+-- it was kept so, or it is not on a disk, and nothing was called
+abbrev pub KeepsIn : {A B : Type 0} → (A → Opening → List Step → Type 0) → (A → Bool) → (A → ℕ) → (A → State → Type 0) → (A → Type 0) → EitherShared A B → View → ℕ → View → Type 0
+KeepsIn disk tells moment laid pruned (share.Disk s) v by w = Kept disk tells moment laid pruned v by w
+KeepsIn disk tells moment laid pruned (share.Memory s) v by w = w ≡ v

@@ -8,6 +8,7 @@ mod port;
 mod putting;
 mod shared;
 mod taking;
+mod upkeep;
 
 pub use port::EitherPort;
 pub use shared::{EitherClosed, EitherShared};
