@@ -119,7 +119,7 @@ cut_off lacks file agent old new p rest rose is front = record {
 }
 
 -- what the file holds was judged
-pub judged : {B : Type 0} (lacks : Lacking) (file : Option (List ℕ)) (agent : List ℕ) (s0 s1 : HostState) (n : ℕ) (bytes : List ℕ) (r : Result (Planned B) RunError) → s1 ≡ record s0 { faults = n }
+pub judged : {K B : Type 0} (lacks : Lacking) (file : Option (List ℕ)) (agent : List ℕ) (s0 s1 : HostState) (n : ℕ) (bytes : List ℕ) (r : Result (Planned K B) RunError) → s1 ≡ record s0 { faults = n }
     → WasRead file s0.faults n bytes → Judges lacks bytes agent r → PlansAgent lacks file agent s0 s1 r
 judged lacks file agent s0 s1 n bytes (Ok p) opened read is =
     ((bytes, read.few, is, read.whole), opened ∙ ap (λ (m : ℕ). record s0 { faults = m }) read.well)

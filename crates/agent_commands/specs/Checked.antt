@@ -1,5 +1,5 @@
 -- What a run of `check` has done, by its status.
-use Rattle.std.specs.Prelude.{◌≡◌, ◌≢◌, ◌⊎◌, ℕ, ◌≤◌, ◌<◌, List, ◌++◌, All, length, reverse, codes, decimal, Option, Some, None, Result, Ok, Err, string_bytes}
+use Rattle.std.specs.Prelude.{◌≡◌, ◌≢◌, ◌⊎◌, ℕ, ◌≤◌, ◌<◌, List, ◌++◌, length, reverse, codes, decimal, Option, Some, None, Result, Ok, Err, string_bytes}
 use Rattle.std.specs.Io.KnownBytes.{Appends}
 use Rattle.prop_text.specs.Pairs.{Pair}
 use Rattle.prop_text.specs.Reads.{Reads}
@@ -7,9 +7,8 @@ use Rattle.prop_text.specs.declared.fault.PropRefused.{PropRefused}
 use Rattle.prop_text.specs.declared.fault.PropRefused.TheVariants as text
 use Rattle.flume_config.specs.Plans.{Plans}
 use Rattle.flume_config.specs.declared.plan.Plan.{Plan}
-use Rattle.plan_objects.specs.Least.{HasOwnSteps}
-use Rattle.plan_objects.specs.Asks.{AreTaken, HaveObjects}
-use Rattle.plan_objects.specs.declared.named.Named.{Named}
+use Rattle.plan_objects.specs.Asks.{AreClaimed, AreTaken, HaveObjects, step_asks}
+use Rattle.plan_objects.specs.declared.handed.HandedIn.{HandedIn}
 use Rattle.plan_refused.specs.declared.refused.PlanRefused.{PlanRefused}
 use Rattle.plan_refused.specs.declared.refused.PlanRefused.TheVariants as plan
 use Rattle.agent_words.specs.Statuses.{status_of}
@@ -44,7 +43,7 @@ IsPlanFault lacks pairs agent errors.NoMemory = Unit {0}
 IsPlanFault lacks pairs agent other = ⊥
 
 -- the agent's plan, or why there is none; out of memory may come at any time
-abbrev pub PlansWhole : {B : Type 0} → Lacking → List Pair → List ℕ → Result (Planned B) RunError → Type 0
+abbrev pub PlansWhole : {K B : Type 0} → Lacking → List Pair → List ℕ → Result (Planned K B) RunError → Type 0
 PlansWhole lacks pairs agent (Ok p) = IsWhole lacks pairs agent p.plan
 PlansWhole lacks pairs agent (Err e) = IsPlanFault lacks pairs agent e
 
@@ -56,15 +55,16 @@ abbrev pub IsConfigFault : Lacking → List ℕ → List ℕ → RunError → Ty
 IsConfigFault lacks bytes agent (errors.Text refused) = Reads bytes (Err refused)
 IsConfigFault lacks bytes agent other = (pairs : List Pair) × Reads bytes (Ok pairs) × IsPlanFault lacks pairs agent other
 
-abbrev pub Judges : {B : Type 0} → Lacking → List ℕ → List ℕ → Result (Planned B) RunError → Type 0
+abbrev pub Judges : {K B : Type 0} → Lacking → List ℕ → List ℕ → Result (Planned K B) RunError → Type 0
 Judges lacks bytes agent (Ok p) = IsPlanIn lacks bytes agent p.plan
 Judges lacks bytes agent (Err e) = IsConfigFault lacks bytes agent e
 
--- The sinks of what was planned took the objects that they ask for, each in turn, out of these, and no interceptor asks for one.
-pub record HasItsObjects {B : Type 0} (old new : List (Named B)) (p : Planned B) : Type 0 where
-  pub taken : AreTaken p.plan.sinks.items old (reverse p.objects.sinks.items) new
+-- The interceptors and the sinks of what was planned took the objects that they ask for, each in turn, out of these.
+pub record HasItsObjects {K B : Type 0} (old new : HandedIn K B) (p : Planned K B) : Type 0 where
+  pub steps : AreClaimed p.plan.sources.items old.steps.items p.objects.steps.items new.steps.items
+  pub many : length p.objects.steps.items ≡ length (step_asks p.plan.sources.items)
+  pub taken : AreTaken p.plan.sinks.items old.sinks.items (reverse p.objects.sinks.items) new.sinks.items
   pub have : HaveObjects p.plan.sinks.items (reverse p.objects.sinks.items)
-  pub own : All HasOwnSteps p.plan.sources.items
 
 -- the line that is printed of a plan
 abbrev pub plan_line : List ℕ → Plan → List ℕ
@@ -96,7 +96,7 @@ pub record Unplanned (lacks : Lacking) (file : Option (List ℕ)) (agent : List 
   -- nothing but the count of faults changed
   pub state : (n : ℕ) × (new ≡ record old { faults = n })
 
-abbrev pub PlansAgent : {B : Type 0} → Lacking → Option (List ℕ) → List ℕ → HostState → HostState → Result (Planned B) RunError → Type 0
+abbrev pub PlansAgent : {K B : Type 0} → Lacking → Option (List ℕ) → List ℕ → HostState → HostState → Result (Planned K B) RunError → Type 0
 PlansAgent lacks file agent old new (Ok p) = IsPlanOf lacks file agent p.plan × (new ≡ old)
 PlansAgent lacks file agent old new (Err e) = Unplanned lacks file agent old new (status_of e)
 

@@ -3,7 +3,7 @@ ghost use Rattle.std.specs.Prelude.{◌≡◌, IfOk, OnOk, string_bytes};
 ghost use Rattle.std.specs.Io.KnownBytes.{Appends};
 ghost use Rattle.flume_host.specs.Causes.{HasCause};
 ghost use Rattle.agent_end.specs.Writes.{Fronts};
-ghost use Rattle.plan_objects.specs.Asks.{first_unmet, names_of};
+ghost use Rattle.plan_objects.specs.Asks.{lacking};
 ghost use Rattle.agent_commands.specs.Checked.{Checked, HasItsObjects, IsBeside, IsCheckStatus};
 ghost use Rattle.agent_commands.specs.Checked.{Judges, PlansAgent, PlansWhole, end_of, plan_line};
 
@@ -17,11 +17,11 @@ use std::alloc::{AllocError, Global};
 
 /// A plan, and the objects that it asks for.
 #[derive(Drop)]
-pub struct Planned<B> {
+pub struct Planned<K, B> {
     /// The plan.
     pub plan: Plan,
-    /// The objects that its sinks took.
-    pub objects: Objects<B>,
+    /// The objects that its interceptors and its sinks took.
+    pub objects: Objects<K, B>,
 }
 
 // The agent's plan, by the pairs of a configuration file, with what it asks for of what is handed in.
@@ -30,10 +30,10 @@ fn plan_of_pairs<K: Drop, B: Drop>(
     properties: &Properties,
     agent: &str,
     handed: &mut HandedIn<K, B>,
-) -> Result<Planned<B>, RunError>
-    ensures whole { PlansWhole (first_unmet (names_of handed.old.sinks.items))
+) -> Result<Planned<K, B>, RunError>
+    ensures whole { PlansWhole (lacking handed.old)
         properties.now agent.now result }
-    ensures objects { IfOk result (HasItsObjects handed.old.sinks.items handed.new.sinks.items) }
+    ensures objects { IfOk result (HasItsObjects handed.old handed.new) }
 {
     match plan_of(alloc, properties, agent) {
         Ok(plan) => match claim_objects(alloc, &plan, handed) {
@@ -56,10 +56,10 @@ fn plan_in<K: Drop, B: Drop>(
     bytes: &[u8],
     agent: &str,
     handed: &mut HandedIn<K, B>,
-) -> Result<Planned<B>, RunError>
-    ensures judged { Judges (first_unmet (names_of handed.old.sinks.items))
+) -> Result<Planned<K, B>, RunError>
+    ensures judged { Judges (lacking handed.old)
         bytes.now agent.now result }
-    ensures objects { IfOk result (HasItsObjects handed.old.sinks.items handed.new.sinks.items) }
+    ensures objects { IfOk result (HasItsObjects handed.old handed.new) }
 {
     match read_properties(alloc, bytes) {
         Ok(properties) => plan_of_pairs(alloc, &properties, agent, handed),
@@ -99,8 +99,8 @@ pub(crate) fn print<H: Host>(host: &mut H, text: &str) -> Result<(), Failed>
     done
 }
 
-/// Reads a configuration file, and plans the agent of this name in it, whose sinks take the objects that they ask for out of what is handed
-/// in. A fault of the file or of the plan is named with its line where it has one; what was not handed in is of unknown type. `Fault` comes
+/// Reads a configuration file, and plans the agent of this name in it, whose interceptors and sinks take the objects that they ask for out
+/// of what is handed in. A fault of the file or of the plan is named with its line where it has one; what was not handed in is of unknown type. `Fault` comes
 /// only where the host has counted one.
 pub fn plan_agent<H: Host, K: Drop, B: Drop>(
     alloc: Global,
@@ -108,11 +108,11 @@ pub fn plan_agent<H: Host, K: Drop, B: Drop>(
     file: &str,
     handed: &mut HandedIn<K, B>,
     host: &mut H,
-) -> Result<Planned<B>, RunError>
-    ensures planned { PlansAgent (first_unmet (names_of handed.old.sinks.items))
+) -> Result<Planned<K, B>, RunError>
+    ensures planned { PlansAgent (lacking handed.old)
         ((H.state host.old).files file.now) agent.now
         (H.state host.old) (H.state host.new) result }
-    ensures objects { IfOk result (HasItsObjects handed.old.sinks.items handed.new.sinks.items) }
+    ensures objects { IfOk result (HasItsObjects handed.old handed.new) }
     ensures folders { H.folders host.new ≡ H.folders host.old }
 {
     match host.read_file(file) {
@@ -132,7 +132,7 @@ pub fn check<H: Host, K: Drop, B: Drop>(
     handed: &mut HandedIn<K, B>,
     host: &mut H,
 ) -> Result<(), RunError>
-    ensures checked { Checked (first_unmet (names_of handed.old.sinks.items))
+    ensures checked { Checked (lacking handed.old)
         ((H.state host.old).files file.now) agent.now
         (H.state host.old) (H.state host.new) (end_of result) }
     ensures status { IsCheckStatus (end_of result) }

@@ -2,7 +2,7 @@
 ghost use Rattle.std.specs.Prelude.{◌≡◌, ◌⊎◌, List, ℕ, IfOk, MatchOption};
 ghost use Rattle.flume_host.specs.HostState.{ButDisk};
 ghost use Rattle.agent_words.specs.Statuses.{status_of};
-ghost use Rattle.plan_objects.specs.Asks.{first_unmet, names_of};
+ghost use Rattle.plan_objects.specs.Asks.{lacking};
 ghost use Rattle.agent_commands.specs.Checked.{Checked, IsCheckStatus};
 ghost use Rattle.agent_commands.specs.Loads.{IsLoadStatus, Loaded, face_status, refused_status, unloaded_status};
 ghost use Rattle.agent_commands.specs.Piped.{Piped, IsPipeStatus, cause_status, pipe_status};
@@ -140,7 +140,7 @@ pub fn run_check<H: Host, K: Drop, B: Drop>(
     handed: &mut HandedIn<K, B>,
     host: &mut H,
 ) -> u8
-    ensures checked { Checked (first_unmet (names_of handed.old.sinks.items))
+    ensures checked { Checked (lacking handed.old)
         ((H.state host.old).files file.now) agent.now (H.state host.old) (H.state host.new) result }
     ensures status { IsCheckStatus result }
     ensures folders { H.folders host.new ≡ H.folders host.old }

@@ -15,7 +15,7 @@ use Rattle.plan_laws.specs.Limits.{IsSourceLimited}
 use Rattle.plan_laws.specs.Names.{IsWithin}
 use Rattle.agent_drafts.specs.declared.draft.SourceDraft.{SourceDraft}
 use Rattle.agent_drafts.specs.Copies.{IsSameSelector}
-use Rattle.agent_drafts.specs.Drafts.{AreRules, IsDraft, IsDraftAt}
+use Rattle.agent_drafts.specs.Drafts.{AreRules, IsDraft, IsDraftAt, objects_at}
 use Rattle.agent_drafts.specs.Fits.{IsFit}
 
 -- ---- what is true of what is seen of each item
@@ -52,15 +52,15 @@ limited (Stdin max_line ack) rules is limits = subst HasLimit (sym is) (let low 
 -- ---- drafts
 
 module _ {B : Type 0} (count : ℕ) (draft : SourceDraft B) where
-  fits : (source : SourcePlan) (names : HostNames) → IsDraft source names draft → IsWithin count source → IsSourceLimited source.kind → IsFit count draft
-  fits source names is within limits = record {
+  fits : (source : SourcePlan) (own : List B) (names : HostNames) → IsDraft source own names draft → IsWithin count source → IsSourceLimited source.kind → IsFit count draft
+  fits source own names is within limits = record {
     max = limited source.kind draft.rules is.rules limits;
     few = is.few;
     there = subst (All (λ (n : ℕ). n < count)) (sym is.channels) within.0;
     named = subst (NamesBelow draft.selector) (sym (ap length is.channels)) (same_named source.selector draft.selector (length source.channels.items) is.selector within.1);
   }
 
-  pub fits_at : (sources : List SourcePlan) (names : List HostNames) → IsDraftAt sources names draft → All (IsWithin count) sources → All (λ (s : SourcePlan). IsSourceLimited s.kind) sources → IsFit count draft
-  fits_at [] names is within limits = absurd (omega (arith, is.there))
-  fits_at (s ∷ sources) names is within limits =
-      fits (get_or (s ∷ sources) draft.source s) (get_or names draft.source draft.host) (is.is s draft.host) (within draft.source s is.there) (limits draft.source s is.there)
+  pub fits_at : (sources : List SourcePlan) (objects : List B) (names : List HostNames) → IsDraftAt sources objects names draft → All (IsWithin count) sources → All (λ (s : SourcePlan). IsSourceLimited s.kind) sources → IsFit count draft
+  fits_at [] objects names is within limits = absurd (omega (arith, is.there))
+  fits_at (s ∷ sources) objects names is within limits =
+      fits (get_or (s ∷ sources) draft.source s) (objects_at (s ∷ sources) draft.source objects) (get_or names draft.source draft.host) (is.is s draft.host) (within draft.source s is.there) (limits draft.source s is.there)

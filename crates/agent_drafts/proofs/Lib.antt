@@ -1,5 +1,6 @@
 mod Copying
 mod Ordered
+mod Dealing
 mod Fitting
 mod Meaning
 mod Lining

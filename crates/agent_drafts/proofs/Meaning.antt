@@ -1,7 +1,6 @@
 -- Copies mean the same.
 use Rattle.std.proofs.Common.{◌≡◌, ◌∙◌, ℕ, Bool, true, false, List, [], ◌∷◌, cond, map, Option, Some, None, refl, sym, ap, subst, string_bytes, bytes_eq}
 use Rattle.std.specs.Option.{option_map}
-use Rattle.std.specs.List.{AllZip}
 use Rattle.std.specs.Fmt.{decimal}
 use Rattle.std.specs.declared.string.String.{String}
 use Rattle.std.specs.declared.vec.Vec.{Vec}
@@ -32,7 +31,7 @@ use Rattle.flume_config.specs.Values.{seen_pair}
 use Rattle.flume_config.specs.declared.plan.StepPlan.{StepPlan}
 use Rattle.flume_config.specs.declared.plan.StepPlan.TheVariants as plan
 use Rattle.agent_drafts.specs.Copies.{AreSameKeys, AreSameNames, IsSameSelector, IsSameStep, seen_group}
-use Rattle.agent_drafts.specs.Drafts.{IsLink}
+use Rattle.agent_drafts.specs.Drafts.{Deals, IsLink}
 use Rattle.agent_drafts.specs.Means.{DoesTheSame, IsAsPlanned}
 
 -- ---- steps
@@ -189,25 +188,29 @@ same_optional (Multiplexing header mapping default others) (Multiplexing copy ma
 
 -- ---- chains
 
-one_planned : {B : Type 0} (step : StepPlan) (plan : LinkPlan B) (made : ChainLink B) → IsLink step plan → IsBuilt plan made → IsAsPlanned step made
-one_planned (plan.Step step) (link_plan.Step copy) (link.Step made) is built = same_step step made (subst (IsSameStep step) (sym built) is)
-one_planned (plan.Step step) (link_plan.Step copy) (link.Regex made) is built = absurd built
-one_planned (plan.Step step) (link_plan.Step copy) (link.Boxed made) is built = absurd built
-one_planned (plan.Step step) (link_plan.Regex keys) made is built = absurd is
-one_planned (plan.Step step) (link_plan.Boxed object) made is built = absurd is
-one_planned (plan.Regex keys line) (link_plan.Step copy) made is built = absurd is
-one_planned (plan.Regex keys line) (link_plan.Regex copy) (link.Step made) is built = absurd built
-one_planned (plan.Regex keys line) (link_plan.Regex copy) (link.Regex made) is built = same_keys keys copy is (step_of made) built
-one_planned (plan.Regex keys line) (link_plan.Regex copy) (link.Boxed made) is built = absurd built
-one_planned (plan.Regex keys line) (link_plan.Boxed object) made is built = absurd is
-one_planned (plan.Plugin name line) (link_plan.Step copy) made is built = absurd is
-one_planned (plan.Plugin name line) (link_plan.Regex keys) made is built = absurd is
-one_planned (plan.Plugin name line) (link_plan.Boxed object) made is built = absurd is
+one_planned : {B : Type 0} (step : StepPlan) (given : List B) (plan : LinkPlan B) (made : ChainLink B) → IsLink step given plan → IsBuilt plan made → IsAsPlanned step given made
+one_planned (plan.Step step) given (link_plan.Step copy) (link.Step made) is built = (is.0, same_step step made (subst (IsSameStep step) (sym built) is.1))
+one_planned (plan.Step step) given (link_plan.Step copy) (link.Regex made) is built = absurd built
+one_planned (plan.Step step) given (link_plan.Step copy) (link.Boxed made) is built = absurd built
+one_planned (plan.Step step) given (link_plan.Regex keys) made is built = absurd is
+one_planned (plan.Step step) given (link_plan.Boxed object) made is built = absurd is
+one_planned (plan.Regex keys line) given (link_plan.Step copy) made is built = absurd is
+one_planned (plan.Regex keys line) given (link_plan.Regex copy) (link.Step made) is built = absurd built
+one_planned (plan.Regex keys line) given (link_plan.Regex copy) (link.Regex made) is built = (is.0, same_keys keys copy is.1 (step_of made) built)
+one_planned (plan.Regex keys line) given (link_plan.Regex copy) (link.Boxed made) is built = absurd built
+one_planned (plan.Regex keys line) given (link_plan.Boxed object) made is built = absurd is
+one_planned (plan.Plugin name line) given (link_plan.Step copy) made is built = absurd is
+one_planned (plan.Plugin name line) given (link_plan.Regex keys) made is built = absurd is
+one_planned (plan.Plugin name line) given (link_plan.Boxed object) (link.Step made) is built = absurd built
+one_planned (plan.Plugin name line) given (link_plan.Boxed object) (link.Regex made) is built = absurd built
+one_planned {B} (plan.Plugin name line) given (link_plan.Boxed object) (link.Boxed made) is built = is ∙ ap (λ (o : B). o ∷ []) (sym built)
 
-pub all_planned : {B : Type 0} (steps : List StepPlan) (plans : List (LinkPlan B)) (links : List (ChainLink B)) → AllZip IsLink steps plans → AreBuilt plans links → AllZip IsAsPlanned steps links
-all_planned [] [] [] are built = tt
-all_planned [] [] (made ∷ links) are built = absurd built
-all_planned [] (p ∷ plans) links are built = absurd are
-all_planned (step ∷ steps) [] links are built = absurd are
-all_planned (step ∷ steps) (p ∷ plans) [] are built = absurd built
-all_planned (step ∷ steps) (p ∷ plans) (made ∷ links) are built = (one_planned step p made are.0 built.0, all_planned steps plans links are.1 built.1)
+pub all_planned : {B : Type 0} (steps : List StepPlan) (own : List B) (plans : List (LinkPlan B)) (links : List (ChainLink B)) → Deals IsLink steps own plans → AreBuilt plans links
+    → Deals IsAsPlanned steps own links
+all_planned [] own [] [] are built = are
+all_planned [] own [] (made ∷ links) are built = absurd built
+all_planned [] own (p ∷ plans) links are built = absurd are
+all_planned (step ∷ steps) own [] links are built = absurd are
+all_planned (step ∷ steps) own (p ∷ plans) [] are built = absurd built
+all_planned (step ∷ steps) own (p ∷ plans) (made ∷ links) (given, rest, is, here, are) built =
+    (given, rest, is, one_planned step given p made here built.0, all_planned steps rest plans links are built.1)

@@ -20,5 +20,5 @@ pub record IsFit {B : Type 0} (count : ℕ) (draft : SourceDraft B) : Type 0 whe
 abbrev pub DraftsFit : Type 0 → Type 0
 DraftsFit B =
     (pairs : List Pair) (agent : List ℕ) (plan : Plan) → Plans pairs agent (Ok plan)
-    → (names : List HostNames) (draft : SourceDraft B) → IsDraftAt plan.sources.items names draft
+    → (objects : List B) (names : List HostNames) (draft : SourceDraft B) → IsDraftAt plan.sources.items objects names draft
     → IsFit (length plan.channels.items) draft

@@ -1,6 +1,5 @@
 -- What copies mean, and what is built of them.
-use Rattle.std.specs.Prelude.{◌≡◌, ℕ, List}
-use Rattle.std.specs.List.{AllZip}
+use Rattle.std.specs.Prelude.{◌≡◌, ℕ, List, [], ◌∷◌}
 use Rattle.event_core.specs.Content.{Content, Header}
 use Rattle.interceptors.specs.Steps.{applied}
 use Rattle.interceptors.specs.declared.step.Step.{Step}
@@ -18,7 +17,7 @@ use Rattle.chain_plan.specs.declared.plan.LinkPlan.{LinkPlan}
 use Rattle.flume_config.specs.declared.plan.StepPlan.{StepPlan}
 use Rattle.flume_config.specs.declared.plan.StepPlan.TheVariants as plan
 use Rattle.agent_drafts.specs.Copies.{AreSameKeys, AreSameNames, IsSameSelector, IsSameStep}
-use Rattle.agent_drafts.specs.Drafts.{IsLink}
+use Rattle.agent_drafts.specs.Drafts.{Deals, IsLink}
 
 -- it makes the same of each event at each moment, by what the host's names tell it
 abbrev pub DoesTheSame : Step → Step → Type 0
@@ -34,13 +33,14 @@ pub record CopiesDoTheSame : Type 0 where
   pub optional : (selector copy : Selector) → IsSameSelector selector copy → (headers : List Header)
       → optional copy headers ≡ optional selector headers
 
--- the interceptor does what was planned
-abbrev pub IsAsPlanned : {B : Type 0} → StepPlan → ChainLink B → Type 0
-IsAsPlanned (plan.Step step) (link.Step made) = DoesTheSame step made
-IsAsPlanned (plan.Regex keys line) (link.Regex made) = IsStepOf keys (step_of made)
-IsAsPlanned step made = ⊥
+-- the interceptor does what was planned, or is the object that it asks for
+abbrev pub IsAsPlanned : {B : Type 0} → StepPlan → List B → ChainLink B → Type 0
+IsAsPlanned (plan.Step step) given (link.Step made) = (given ≡ []) × DoesTheSame step made
+IsAsPlanned (plan.Regex keys line) given (link.Regex made) = (given ≡ []) × IsStepOf keys (step_of made)
+IsAsPlanned (plan.Plugin name line) given (link.Boxed object) = given ≡ object ∷ []
+IsAsPlanned step given made = ⊥
 
 abbrev pub ChainsAreAsPlanned : Type 0 → Type 0
 ChainsAreAsPlanned B =
-    (steps : List StepPlan) (plans : List (LinkPlan B)) (links : List (ChainLink B))
-    → AllZip IsLink steps plans → AreBuilt plans links → AllZip IsAsPlanned steps links
+    (steps : List StepPlan) (own : List B) (plans : List (LinkPlan B)) (links : List (ChainLink B))
+    → Deals IsLink steps own plans → AreBuilt plans links → Deals IsAsPlanned steps own links

@@ -23,3 +23,12 @@ pub struct SourceDraft<B = Box<dyn Interceptor + Send>> {
     /// The rules of its sessions.
     pub rules: SessionRules,
 }
+
+/// Drafts of all session workers of an agent, in the order of its sources.
+#[derive(Drop)]
+pub struct Drafts<B = Box<dyn Interceptor + Send>> {
+    /// Those of the sources that listen: as many of each source as it has listeners.
+    pub listeners: Vec<SourceDraft<B>>,
+    /// Those of the sources of standard input, one of each source.
+    pub lines: Vec<SourceDraft<B>>,
+}

@@ -20,7 +20,7 @@ pub fn copies_do_the_same()
 {}
 
 /// A chain that is built of a draft's plan has an interceptor for each of the source's, in order: one that does the same, or one
-/// that is built of the same keys.
+/// that is built of the same keys, or the object that was handed in for it.
 pub fn chains_are_as_planned<B: Drop>()
     ensures { ChainsAreAsPlanned B }
 {}

@@ -1,5 +1,5 @@
-//! What a run of an agent makes of its plan before anything is opened: the least line of what it can't run, and a draft for
-//! each session worker of a source, which holds all that the worker needs of the plan.
+//! What a run of an agent makes of its plan before anything is opened: a draft for each session worker of a source, which holds all that
+//! the worker needs of the plan, and the interceptors that were handed in for it.
 #![tactic(auto)]
 
 mod copies;
@@ -8,6 +8,6 @@ mod drafting;
 mod laws;
 mod links;
 
-pub use draft::SourceDraft;
-pub use drafting::{draft_lines, draft_listeners};
+pub use draft::{Drafts, SourceDraft};
+pub use drafting::draft_sources;
 pub use laws::{chains_are_as_planned, copies_do_the_same, drafts_can_serve};

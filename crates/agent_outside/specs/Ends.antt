@@ -1,5 +1,5 @@
 -- Listeners of sources that were opened and came back.
-use Rattle.std.specs.Prelude.{◌≡◌, ◌≤◌, ◌+◌, ◌==◌, ◌&&◌, ℕ, zero, suc, Bool, List, [], ◌∷◌, ◌++◌, map, replicate, reverse, Option, None, Some, bytes_eq, string_bytes}
+use Rattle.std.specs.Prelude.{◌≡◌, ◌≤◌, ◌+◌, ◌==◌, ◌&&◌, if◌then◌else◌, ℕ, zero, suc, Bool, List, [], ◌∷◌, ◌++◌, map, replicate, reverse, Option, None, Some, bytes_eq, string_bytes}
 use Rattle.std.specs.List.{count_by}
 use Rattle.flume_host.specs.HostState.{HostState}
 use Rattle.flume_host.specs.HandedOut.{CameBack, HandedOut}
@@ -8,6 +8,7 @@ use Rattle.flume_host.specs.Told.{Tells}
 use Rattle.flume_config.specs.declared.plan.SourcePlan.{SourcePlan}
 use Rattle.flume_config.specs.declared.plan.SourceKind.{SourceKind}
 use Rattle.flume_config.specs.declared.plan.SourceKind.TheVariants.{Netcat, Avro, Stdin}
+use Rattle.plan_objects.specs.Asks.{asks_of_source, has_asks}
 use Rattle.agent_outside.specs.declared.listener.SourceListener.{SourceListener}
 
 -- the address and the port at which a source of this kind listens; a source of standard input listens nowhere
@@ -21,11 +22,15 @@ Listens (Netcat bind port max_line ack threads) = Unit {0}
 Listens (Avro bind port threads) = Unit {0}
 Listens (Stdin max_line ack) = ⊥
 
--- how many listeners it has: one for each of its session workers
-abbrev pub listeners_of : SourceKind → ℕ
-listeners_of (Netcat bind port max_line ack threads) = threads
-listeners_of (Avro bind port threads) = threads
-listeners_of (Stdin max_line ack) = 0
+-- how many listeners it has, where it may have one only or more
+abbrev pub listeners_by : Bool → SourceKind → ℕ
+listeners_by one (Netcat bind port max_line ack threads) = if one then 1 else threads
+listeners_by one (Avro bind port threads) = if one then 1 else threads
+listeners_by one (Stdin max_line ack) = 0
+
+-- How many listeners a source has: one for each of its session workers, of which there is one only where an interceptor was handed in.
+abbrev pub listeners_of : SourcePlan → ℕ
+listeners_of source = listeners_by (has_asks (asks_of_source source)) source.kind
 
 -- the same of the source at a place
 abbrev pub end_at : List SourcePlan → ℕ → Endpoint
@@ -38,10 +43,10 @@ ListensAt [] place = ⊥
 ListensAt (source ∷ sources) zero = Listens source.kind
 ListensAt (source ∷ sources) (suc place) = ListensAt sources place
 
--- The place of each source, in order, as often as it has something by its kind. The first of these sources has this place.
-abbrev pub places_by : (SourceKind → ℕ) → ℕ → List SourcePlan → List ℕ
+-- The place of each source, in order, as often as it has something. The first of these sources has this place.
+abbrev pub places_by : (SourcePlan → ℕ) → ℕ → List SourcePlan → List ℕ
 places_by many place [] = []
-places_by many place (source ∷ sources) = replicate (many source.kind) place ++ places_by many (place + 1) sources
+places_by many place (source ∷ sources) = replicate (many source) place ++ places_by many (place + 1) sources
 
 -- the place of the source of each listener
 abbrev pub places : ℕ → List SourcePlan → List ℕ

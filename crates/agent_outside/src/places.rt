@@ -1,13 +1,14 @@
 // The places of the sources that listen.
 ghost use Rattle.std.specs.Prelude.{◌≡◌, ◌++◌, All, IfOk, OnOk, replicate};
-ghost use Rattle.agent_outside.specs.Ends.{ListensAt, listeners_of, places};
+ghost use Rattle.agent_outside.specs.Ends.{ListensAt, listeners_by, listeners_of, places};
 
 use flume_config::{SourceKind, SourcePlan};
+use plan_objects::is_handed_in;
 use std::alloc::{AllocError, Global};
 
-/// How many listeners a source of this kind has: one for each of its session workers.
-pub fn listeners_of(kind: &SourceKind) -> u32
-    ensures { result ≡ listeners_of kind.now }
+// How many listeners a source of this kind has, where it may have one only or more.
+fn listeners_by(one: bool, kind: &SourceKind) -> u32
+    ensures { result ≡ listeners_by one kind.now }
 {
     match kind {
         SourceKind::Netcat {
@@ -16,14 +17,21 @@ pub fn listeners_of(kind: &SourceKind) -> u32
             max_line: _,
             ack: _,
             threads,
-        } => *threads,
+        } => if one { 1 } else { *threads },
         SourceKind::Avro {
             bind: _,
             port: _,
             threads,
-        } => *threads,
+        } => if one { 1 } else { *threads },
         SourceKind::Stdin { .. } => 0,
     }
+}
+
+/// How many listeners a source has: one for each of its session workers. Where an interceptor was handed in, it has one.
+pub fn listeners_of(source: &SourcePlan) -> u32
+    ensures { result ≡ listeners_of source.now }
+{
+    listeners_by(is_handed_in(source), &source.kind)
 }
 
 // Adds a place so often.
@@ -43,7 +51,7 @@ pub fn listening_places(alloc: Global, sources: &[SourcePlan]) -> Result<Vec<usi
 {
     let mut found = Vec::new(alloc);
     for (place, source) in sources.iter().enumerate() {
-        add_places(&mut found, place, listeners_of(&source.kind))?;
+        add_places(&mut found, place, listeners_of(source))?;
     }
     Ok(found)
 }

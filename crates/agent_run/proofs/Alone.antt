@@ -6,6 +6,7 @@ use Rattle.std.specs.List.{AllByRecursion}
 use Rattle.std.proofs.lemmas.List.{get_or-set_other, get_or-set_same, get_or_append_left, get_or_push}
 use Rattle.std.proofs.lemmas.List.Elements.{All-from_recursion}
 use Rattle.shared_channel.specs.Passes.{Known}
+use Rattle.keep_worker.specs.declared.worker.KeepWorker.{KeepWorker}
 use Rattle.sink_worker.specs.declared.worker.SinkWorker.{SinkWorker}
 use Rattle.source_worker.specs.declared.worker.ListenWorker.{ListenWorker}
 use Rattle.line_worker.specs.declared.worker.LineWorker.{LineWorker}
@@ -18,7 +19,7 @@ use Rattle.run_tracks.proofs.Handing.{one_left}
 use Rattle.agent_run.specs.Alone.{AllDiffer, AreAlone, Differ, IsAway}
 use Rattle.agent_run.specs.Assembled.{IsStaff}
 use Rattle.agent_run.specs.Runs.{owners_at, owners_of}
-use Rattle.agent_run.specs.Staff.{line_channels, line_ports, listen_channels, listen_ports, sink_channels, sink_ports}
+use Rattle.agent_run.specs.Staff.{keep_channels, keep_ports, line_channels, line_ports, listen_channels, listen_ports, sink_channels, sink_ports}
 use Rattle.agent_run.specs.declared.assemble.Parts.{Parts}
 use Rattle.agent_run.specs.declared.workers.Workers.{Workers}
 use Rattle.agent_run.proofs.Fresh.{AreFresh, AreInOrder, hands, home_numbered, home_there, homes, in_order}
@@ -149,13 +150,16 @@ module _ {S N I O C K : Type 0} (plans : List SinkRow) (parts : Parts S N I O C 
     (staff : IsStaff plans parts hands' jobs) (order : AreInOrder hands') where
   staff_dealt : WereDealt hands' (owners_of jobs) staff.last
   staff_dealt =
+      let z : List Owner = flat_map (λ (k : KeepWorker Known C). owners_at (keep_channels k) (keep_ports k)) jobs.keepers.items in
       let a : List Owner = flat_map (λ (s : SinkWorker Known S C). owners_at (sink_channels s) (sink_ports s)) jobs.sinks.items in
       let b : List Owner = flat_map (λ (l : ListenWorker Known N C K). owners_at (listen_channels l) (listen_ports l)) jobs.listeners.items in
       let c : List Owner = flat_map (λ (l : LineWorker Known I O C K). owners_at (line_channels l) (line_ports l)) jobs.lines.items in
-      let one = each_alone sink_channels sink_ports hands' jobs.sinks.items staff.behind_sinks staff.deals_sinks order in
+      let zero = each_alone keep_channels keep_ports hands' jobs.keepers.items staff.behind_keepers staff.deals_keepers order in
+      let one = each_alone sink_channels sink_ports staff.behind_keepers jobs.sinks.items staff.behind_sinks staff.deals_sinks zero.order in
       let two = each_alone listen_channels listen_ports staff.behind_sinks jobs.listeners.items staff.behind_listeners staff.deals_listeners one.order in
       let three = each_alone line_channels line_ports staff.behind_listeners jobs.lines.items staff.last staff.deals_lines two.order in
-      dealt_then hands' staff.behind_sinks staff.last a (b ++ c) one (dealt_then staff.behind_sinks staff.behind_listeners staff.last b c two three)
+      dealt_then hands' staff.behind_keepers staff.last z (a ++ (b ++ c)) zero
+      (dealt_then staff.behind_keepers staff.behind_sinks staff.last a (b ++ c) one (dealt_then staff.behind_sinks staff.behind_listeners staff.last b c two three))
 
 -- ---- the passes of channels that were opened
 

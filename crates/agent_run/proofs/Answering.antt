@@ -5,8 +5,8 @@ use Rattle.std.specs.declared.vec.Vec.{Vec}
 use Rattle.prop_text.specs.declared.fault.PropRefused.TheVariants as text
 use Rattle.flume_config.specs.declared.plan.Plan.{Plan}
 use Rattle.plan_refused.specs.declared.refused.PlanRefused.TheVariants as plan
-use Rattle.plan_objects.specs.Asks.{AreTaken}
-use Rattle.plan_objects.specs.declared.named.Named.{Named}
+use Rattle.plan_objects.specs.Asks.{AreClaimed, AreTaken}
+use Rattle.plan_objects.specs.declared.handed.HandedIn.{HandedIn}
 use Rattle.agent_words.specs.Statuses.{status_of}
 use Rattle.agent_words.specs.declared.error.RunError.{RunError}
 use Rattle.agent_words.specs.declared.error.RunError.TheVariants.{Usage, FileTooLarge, Text, NoAgent, Plan as Plan', Fault, BadCheckpoint, BadLog, OverCapacity, Spent, Damaged, NoMemory, InputTooLong, LineTooLong}
@@ -159,14 +159,16 @@ pub came_with : {Ran : Plan → RunEnds → List ChannelEnd → HostTold → Hos
 came_with {Ran = Ran} {p = p} {a = a} {b = b} ends before after same well ran =
     inl (record { ends = ends; by_ends = well; ran = subst (λ (v : Vec ChannelEnd Global). Ran p ends v.items a b) (sym same) ran })
 
--- a run of the agent's plan in a file, with the objects that its sinks took of these, came to what the run of that plan with them came to
-pub of_plan : {B : Type 0} (Ran : List (Option B) → Plan → RunEnds → List ChannelEnd → HostTold → HostTold → Type 0) (lacks : Lacking) (held left : List (Named B)) (objects : List (Option B))
-    {status : ℕ} {channels : List ChannelEnd} {file : Option (List ℕ)} {agent : List ℕ} {p : Plan} {a a' b : HostTold} → a ≡ a' → IsPlanOf lacks file agent p → AreTaken p.sinks.items held objects left
-    → EndsAs (Ran objects) p status channels a b → AgentEndsAs lacks (WithObjects Ran held) file agent status channels a' b
-of_plan Ran lacks held left objects {status = status} {channels = channels} {p = p} {a = a} {b = b} first of taken (inl came) =
-    let with_objects : CameTo (WithObjects Ran held) p status channels a b = record { ends = came.ends; by_ends = came.by_ends; ran = (objects, left, taken, came.ran) } in
+-- a run of the agent's plan in a file, with the objects that it took of these, came to what the run of that plan with them came to
+pub of_plan : {K B : Type 0} (Ran : List K → List (Option B) → Plan → RunEnds → List ChannelEnd → HostTold → HostTold → Type 0) (lacks : Lacking) (held left : HandedIn K B) (given : List K)
+    (objects : List (Option B)) {status : ℕ} {channels : List ChannelEnd} {file : Option (List ℕ)} {agent : List ℕ} {p : Plan} {a a' b : HostTold} → a ≡ a' → IsPlanOf lacks file agent p
+    → AreClaimed p.sources.items held.steps.items given left.steps.items → AreTaken p.sinks.items held.sinks.items objects left.sinks.items
+    → EndsAs (Ran given objects) p status channels a b → AgentEndsAs lacks (WithObjects Ran held) file agent status channels a' b
+of_plan Ran lacks held left given objects {status = status} {channels = channels} {p = p} {a = a} {b = b} first of claimed taken (inl came) =
+    let with_objects : CameTo (WithObjects Ran held) p status channels a b =
+    record { ends = came.ends; by_ends = came.by_ends; ran = (given, objects, left, claimed, taken, came.ran) } in
     inl (record { plan = p; of = of; ran = subst (λ (x : HostTold). CameTo (WithObjects Ran held) p status channels x b) first with_objects })
-of_plan Ran lacks held left objects {status = status} {channels = channels} {p = p} {b = b} first of taken (inr not) =
+of_plan Ran lacks held left given objects {status = status} {channels = channels} {p = p} {b = b} first of claimed taken (inr not) =
     let none = subst (λ (x : HostTold). NotBegun p status channels x b) first not in
     inr (record { none = none.none; host = none.host; why = inr (p, of, none) })
 

@@ -4,6 +4,7 @@ use Rattle.std.proofs.lemmas.List.{get_or-map, get_or_default, length-map}
 use Rattle.std.specs.declared.alloc.Global.{Global}
 use Rattle.channel_face.specs.History.{Opening, Step}
 use Rattle.channel_face.specs.Keeps.{is_spent_open}
+use Rattle.channel_face.specs.Machine.{State}
 use Rattle.channel_face.specs.declared.replies.Counts.{Counts}
 use Rattle.channel_face.specs.declared.replies.OpenCause.{OpenCause}
 use Rattle.channel_face.specs.declared.replies.OpenCause.TheVariants as cause
@@ -25,7 +26,7 @@ use Rattle.agent_commands.specs.Piped.{cause_status}
 use Rattle.agent_end.specs.Statuses.{mend_status}
 use Rattle.agent_end.specs.declared.draining.ChannelDrain.{ChannelDrain}
 use Rattle.run_tracks.specs.Closes.{IsClosed}
-use Rattle.run_tracks.specs.Stops.{IsMended}
+use Rattle.run_tracks.specs.Stops.{IsKept, IsMended}
 use Rattle.agent_run.specs.Causes.{IsLeftBroken, IsSpent, SomeInFolder, SomeIsLeft}
 use Rattle.agent_run.specs.Finals.{finals_of}
 use Rattle.agent_run.specs.FoldersTold.{folder_of}
@@ -118,17 +119,20 @@ abbrev closed_view : View → View
 closed_view v = saw (saw v v.seen) v.seen
 
 module _ {A B S C : Type 0} (Drained : SinkWorker AtHome S C → List Known → ChannelDrain → S → List Known → Type 0)
-    (disk : A → Opening → List Step → Type 0) (tells : A → Bool) (moment : A → ℕ) (memory : B → Opening → List Step → Type 0) (tells' : B → Bool)
-    (plans : List ChannelPlan) (shares : List (EitherShared A B)) (homes : List Known) (workers : List (SinkWorker AtHome S C)) (names : List (String Global × Counts)) (settled : Settled S A B)
-    (is : AreSettled Drained (IsMended disk tells moment) (IsClosed disk tells memory tells') shares homes workers names settled)
+    (disk : A → Opening → List Step → Type 0) (tells : A → Bool) (moment : A → ℕ) (laid : A → State → Type 0) (pruned : A → Type 0) (memory : B → Opening → List Step → Type 0) (tells' : B → Bool)
+    (plans : List ChannelPlan) (shares : List (EitherShared A B)) (homes : List Known) (workers : List (SinkWorker AtHome S C)) (closes : List Bool) (names : List (String Global × Counts)) (settled : Settled S A B)
+    (is : AreSettled Drained (IsKept disk tells moment laid pruned) (IsMended disk tells moment) (IsClosed disk tells memory tells') shares homes workers closes names settled)
     (are : FoldersAre plans shares) (many : length homes ≡ length plans) (named : length names ≡ length homes) where
   drained_below : (place : ℕ) → place < length plans → place < length is.drained
   drained_below place below = let e = is.goes_on.as_many in omega (arith, below, e, many)
 
+  kept_below : (place : ℕ) → place < length plans → place < length is.kept
+  kept_below place below = let e = is.keeps.as_many in let d = drained_below place below in omega (arith, d, e)
+
   -- the pass that came back is that which was mended
   final_is : (place : ℕ) (d : Known) → place < length plans → (get_or (finals_of settled) place d).view ≡ closed_view (get_or is.mended place d).view
   final_is place d below =
-      let few = drained_below place below in
+      let few = kept_below place below in
       let mid : place < length is.mended = let e = is.mends.as_many in omega (arith, few, e) in
       let low : place < length is.counted = let e = is.counts.as_many in omega (arith, mid, e) in
       let name = there names place (omega (arith, below, many, named)) in
@@ -138,22 +142,22 @@ module _ {A B S C : Type 0} (Drained : SinkWorker AtHome S C → List Known → 
 
   -- a mend at the stop
   mend_at : (place : ℕ) (s : EitherShared A B) (d : Known) (a : Result Bool OpenCause) → place < length plans
-      → IsMended disk tells moment (get_or shares place s) (get_or is.drained place d) (get_or settled.mends.items place a) (get_or is.mended place d)
-  mend_at place s d a below = is.mends.each place s d d a (drained_below place below)
+      → IsMended disk tells moment (get_or shares place s) (get_or is.kept place d) (get_or settled.mends.items place a) (get_or is.mended place d)
+  mend_at place s d a below = is.mends.each place s d d a (kept_below place below)
 
   -- one that was refused left its channel so
   leaves_at : (place : ℕ) (s : EitherShared A B) (d : Known) (c : OpenCause) → place < length plans → get_or settled.mends.items place (Ok false) ≡ Err c
       → IsDisk (get_or shares place s) × Leaves c (get_or is.mended place d).view
   leaves_at place s d c below refused =
       let did = mend_at place s d (Ok false) below in
-      refused_left disk tells moment (get_or shares place s) (get_or is.drained place d).view (get_or is.mended place d).view (get_or is.drained place d).number c
-      (subst (λ (r : Result Bool OpenCause). MendsIn disk tells moment (get_or shares place s) (get_or is.drained place d).view (get_or is.drained place d).number r (get_or is.mended place d).view) refused did.mends)
+      refused_left disk tells moment (get_or shares place s) (get_or is.kept place d).view (get_or is.mended place d).view (get_or is.kept place d).number c
+      (subst (λ (r : Result Bool OpenCause). MendsIn disk tells moment (get_or shares place s) (get_or is.kept place d).view (get_or is.kept place d).number r (get_or is.mended place d).view) refused did.mends)
 
   -- so the channel is left broken, or no more of its calls are counted
   pub some_left : (status : ℕ) → (status ≡ 0 → ⊥) → SomeMend status settled.mends.items
       → SomeIsLeft (λ c. cause_status c ≡ status) plans (finals_of settled) ⊎ ((status ≡ 4) × SomeInFolder IsSpent plans (finals_of settled))
   some_left status not some =
-      let below : some.place < length plans = let b = some.below in let e = is.mends.answered in let g = is.goes_on.as_many in omega (arith, b, e, g, many) in
+      let below : some.place < length plans = let b = some.below in let e = is.mends.answered in let k = is.keeps.as_many in let g = is.goes_on.as_many in omega (arith, b, e, k, g, many) in
       let why = mend_cause (get_or settled.mends.items some.place (Ok false)) status (some.here (Ok false)) not in
       let s = there shares some.place (let e = are.many in omega (arith, below, e)) in
       let d = there homes some.place (omega (arith, below, many)) in
@@ -202,9 +206,9 @@ module _ {A B S C : Type 0} (Drained : SinkWorker AtHome S C → List Known → 
       let left : IsLeftBroken last.0 (get_or is.mended some.place d).view = record { front = was.front; last = was.last; whole = was.whole; refused = was.refused; broken = was.broken } in
       record {
         place = some.place;
-        below = let e = is.mends.answered in let g = is.goes_on.as_many in omega (arith, below, e, g, many);
+        below = let e = is.mends.answered in let k = is.keeps.as_many in let g = is.goes_on.as_many in omega (arith, below, e, k, g, many);
         here = λ a.
-            let got = left_refused disk tells moment (get_or shares some.place s) (get_or is.drained some.place d).view (get_or is.mended some.place d).view (get_or is.drained some.place d).number
+            let got = left_refused disk tells moment (get_or shares some.place s) (get_or is.kept some.place d).view (get_or is.mended some.place d).view (get_or is.kept some.place d).number
             (get_or settled.mends.items some.place a) last.0 on (mend_at some.place s d a below).mends left in
             ap mend_status got.1 ∙ refused_status got.0 ∙ elim got.2 [
               | inl same ↦ ap cause_status same ∙ last.1

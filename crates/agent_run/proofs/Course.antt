@@ -3,7 +3,7 @@ use Rattle.std.proofs.Common.{◌≡◌, ◌∙◌, ◌<◌, ℕ, List, [], ◌�
 use Rattle.std.proofs.lemmas.List.{get_or-map, length-map}
 use Rattle.std.specs.declared.alloc.Global.{Global}
 use Rattle.channel_face.specs.History.{Opening, Step}
-use Rattle.channel_face.specs.Machine.{is_some_of}
+use Rattle.channel_face.specs.Machine.{State, is_some_of}
 use Rattle.channel_face.specs.declared.replies.Counts.{Counts}
 use Rattle.flume_config.specs.declared.plan.ChannelPlan.{ChannelPlan}
 use Rattle.flume_host.specs.Told.{Told}
@@ -18,8 +18,9 @@ use Rattle.agent_channels.specs.declared.opened.OpenedChannel.{OpenedChannel}
 use Rattle.agent_channels.specs.declared.wish.ChannelWish.{ChannelWish}
 use Rattle.run_tracks.specs.Closes.{IsClosed}
 use Rattle.run_tracks.specs.Homes.{EachTook}
-use Rattle.run_tracks.specs.Stops.{IsMended}
+use Rattle.run_tracks.specs.Stops.{IsKept, IsMended}
 use Rattle.agent_run.specs.Draining.{GoesOn}
+use Rattle.agent_run.specs.Keepers.{closes}
 use Rattle.agent_run.specs.Lists.{NamesOf}
 use Rattle.agent_run.specs.Settling.{AreSettled}
 use Rattle.agent_run.specs.Wishes.{AreWishes}
@@ -29,7 +30,7 @@ use Rattle.agent_run.proofs.Began.{opened_many}
 use Rattle.agent_run.proofs.Chaining.{each_goes_then}
 use Rattle.agent_run.proofs.Left.{closed_long}
 use Rattle.agent_run.proofs.Resting.{names_many}
-use Rattle.agent_run.proofs.Stopping.{counts_silent, mends_silent}
+use Rattle.agent_run.proofs.Stopping.{counts_silent, keeps_silent, mends_silent}
 
 -- what is at a place of a list, where there is something
 pub there : {X : Type 0} (xs : List X) (i : ℕ) → i < length xs → X
@@ -43,7 +44,7 @@ Stands told faults c = StandsOver (told c.0) (faults c.0) c.1
 abbrev pub tells_of : {D : Type 0} → (D → Option Told) → D × FileState → Bool
 tells_of told c = is_some_of (told c.0)
 
-module _ {D M S C : Type 0} (told : D → Option Told) (faults : D → ℕ) (moment : D × FileState → ℕ) (memory : M → Opening → List Step → Type 0) (tells' : M → Bool)
+module _ {D M S C : Type 0} (told : D → Option Told) (faults : D → ℕ) (moment : D × FileState → ℕ) (laid : D × FileState → State → Type 0) (pruned : D × FileState → Type 0) (memory : M → Opening → List Step → Type 0) (tells' : M → Bool)
     (Drained : SinkWorker AtHome S C → List Known → ChannelDrain → S → List Known → Type 0) (plans : List ChannelPlan) where
   -- Channels that were wanted were opened, shared among workers, and settled after them.
   pub record Course : Type 0 where
@@ -61,10 +62,12 @@ module _ {D M S C : Type 0} (told : D → Option Told) (faults : D → ℕ) (mom
     pub homes : List Known
     pub took : EachTook firsts homes
     pub workers : List (SinkWorker AtHome S C)
+    pub kept_at_end : List Bool
+    pub same_kept : kept_at_end ≡ map (λ (plan : ChannelPlan). closes plan.kind) plans
     pub names : List (String Global × Counts)
     pub named : NamesOf plans names
     pub settled : Settled S (D × FileState) M
-    pub settles : AreSettled Drained (IsMended (Stands told faults) (tells_of told) moment) (IsClosed (Stands told faults) (tells_of told) memory tells') shares homes workers names settled
+    pub settles : AreSettled Drained (IsKept (Stands told faults) (tells_of told) moment laid pruned) (IsMended (Stands told faults) (tells_of told) moment) (IsClosed (Stands told faults) (tells_of told) memory tells') shares homes workers kept_at_end names settled
 
   module _ (r : Course) where
     pub cs_many : length r.cs ≡ length plans
@@ -82,8 +85,11 @@ module _ {D M S C : Type 0} (told : D → Option Told) (faults : D → ℕ) (mom
     pub drained_many : length r.settles.drained ≡ length plans
     drained_many = r.settles.goes_on.as_many ∙ homes_many
 
+    pub kept_many : length r.settles.kept ≡ length plans
+    kept_many = r.settles.keeps.as_many ∙ drained_many
+
     pub mended_many : length r.settles.mended ≡ length plans
-    mended_many = r.settles.mends.as_many ∙ drained_many
+    mended_many = r.settles.mends.as_many ∙ kept_many
 
     pub counted_many : length r.settles.counted ≡ length plans
     counted_many = r.settles.counts.as_many ∙ mended_many
@@ -100,9 +106,11 @@ module _ {D M S C : Type 0} (told : D → Option Told) (faults : D → ℕ) (mom
     from_drained place d below =
         let share = there r.shares place (let e = shares_many in omega (arith, below, e)) in
         let name = there r.names place (let e = names_are_many in omega (arith, below, e)) in
-        (each_goes_then r.settles.drained r.settles.mended r.settles.counted
-        (mends_silent (D × FileState) M (Stands told faults) (tells_of told) moment share r.shares r.settles.drained r.settles.mended r.settled.mends.items r.settles.mends).0
-        (counts_silent name r.settles.mended r.settles.counted r.names r.settled.report.items r.settles.counts).0).each place d
+        (each_goes_then r.settles.drained r.settles.kept r.settles.counted
+        (keeps_silent (D × FileState) M (Stands told faults) (tells_of told) moment laid pruned share r.shares r.kept_at_end r.settles.drained r.settles.kept r.settles.keeps).0
+        (each_goes_then r.settles.kept r.settles.mended r.settles.counted
+        (mends_silent (D × FileState) M (Stands told faults) (tells_of told) moment share r.shares r.settles.kept r.settles.mended r.settled.mends.items r.settles.mends).0
+        (counts_silent name r.settles.mended r.settles.counted r.names r.settled.report.items r.settles.counts).0)).each place d
         (let e = drained_many in omega (arith, below, e))
 
     pub from_homes : (place : ℕ) (d : Known) → place < length plans → GoesOn (get_or r.homes place d) (get_or r.settles.drained place d)

@@ -11,6 +11,7 @@ use Rattle.std.proofs.lemmas.List.Elements.{All-from_recursion, recursion_from_A
 use Rattle.selectors.specs.declared.selector.Selector.{Selector}
 use Rattle.source_put.specs.Accepts.{NamesBelow}
 use Rattle.shared_channel.specs.Passes.{Known}
+use Rattle.keep_worker.specs.declared.worker.KeepWorker.{KeepWorker}
 use Rattle.sink_worker.specs.declared.worker.SinkWorker.{SinkWorker}
 use Rattle.source_worker.specs.Workers.{CanListen, HasLimit}
 use Rattle.source_worker.specs.declared.worker.ListenWorker.{ListenWorker}
@@ -34,16 +35,18 @@ use Rattle.run_tracks.proofs.Handing.{count_joined}
 use Rattle.agent_run.specs.Alone.{AreAlone}
 use Rattle.agent_run.specs.Assembled.{AreFit, AreUsed, IsCrew, IsStaff}
 use Rattle.agent_run.specs.Draining.{HasOwn}
+use Rattle.agent_run.specs.Keepers.{AreWantedInFolders}
 use Rattle.agent_run.specs.Prepared.{uses_of}
-use Rattle.agent_run.specs.Ends.{AreLinePorts, AreListenPorts, IsSinkPort}
+use Rattle.agent_run.specs.Ends.{AreLinePorts, AreListenPorts, IsKeepPort, IsSinkPort}
 use Rattle.agent_run.specs.Runs.{AreNew, AreWorkers, CanRun, owners_at, owners_of}
-use Rattle.agent_run.specs.Staff.{IsLineOf, IsListenOf, line_channels, line_ports, listen_channels, listen_ports, sink_channels, sink_ports}
+use Rattle.agent_run.specs.Staff.{IsLineOf, IsListenOf, keep_channels, keep_ports, line_channels, line_ports, listen_channels, listen_ports, sink_channels, sink_ports}
 use Rattle.agent_run.specs.declared.assemble.Crew.{Crew}
 use Rattle.agent_run.specs.declared.assemble.Parts.{Parts}
 use Rattle.agent_run.specs.declared.seats.Seat.{Seat}
 use Rattle.agent_run.specs.declared.workers.Workers.{Workers}
 use Rattle.agent_run.proofs.Alone.{are_alone}
 use Rattle.agent_run.proofs.Numbering.{staff_numbered}
+use Rattle.agent_run.proofs.Keeping.{all_on}
 use Rattle.agent_run.proofs.Dealt.{each_in, each_owned}
 use Rattle.agent_run.proofs.Fresh.{AreFresh, InHands, are_fresh, dealt_but, fresh_many, hand_many, hand_none, homes, homes_are, hands, in_hands, in_order, own_are, shares}
 
@@ -148,8 +151,11 @@ module _ {A B : Type 0} (shares' : List (EitherShared A B)) where
 
   module _ {S N I O C K : Type 0} (plans : List SinkRow) (parts : Parts S N I O C K) (hands' : List (List Known)) (jobs : Workers Known S N I O C K)
       (staff : IsStaff plans parts hands' jobs) (all : InHands Holds hands') where
+    keepers_in : AllByRecursion (λ (j : KeepWorker Known C). Zips Holds (keep_channels j) (keep_ports j)) jobs.keepers.items × InHands Holds staff.behind_keepers
+    keepers_in = each_in Holds keep_channels keep_ports hands' jobs.keepers.items staff.behind_keepers staff.deals_keepers all
+
     sinks_in : AllByRecursion (λ (j : SinkWorker Known S C). Zips Holds (sink_channels j) (sink_ports j)) jobs.sinks.items × InHands Holds staff.behind_sinks
-    sinks_in = each_in Holds sink_channels sink_ports hands' jobs.sinks.items staff.behind_sinks staff.deals_sinks all
+    sinks_in = each_in Holds sink_channels sink_ports staff.behind_keepers jobs.sinks.items staff.behind_sinks staff.deals_sinks keepers_in.1
 
     listeners_in : AllByRecursion (λ (j : ListenWorker Known N C K). Zips Holds (listen_channels j) (listen_ports j)) jobs.listeners.items × InHands Holds staff.behind_listeners
     listeners_in = each_in Holds listen_channels listen_ports staff.behind_sinks jobs.listeners.items staff.behind_listeners staff.deals_listeners sinks_in.1
@@ -159,6 +165,8 @@ module _ {A B : Type 0} (shares' : List (EitherShared A B)) where
 
     pub are_workers : AreWorkers table_of shares' (λ (pass : Known). pass) jobs
     are_workers = record {
+      keepers = mapped (λ (j : KeepWorker Known C). Zips Holds (keep_channels j) (keep_ports j)) (λ (j : KeepWorker Known C). IsKeepPort table_of shares' (λ (pass : Known). pass) j)
+          (λ j zips. zips.0.0) jobs.keepers.items keepers_in.0;
       sinks = mapped (λ (j : SinkWorker Known S C). Zips Holds (sink_channels j) (sink_ports j)) (λ (j : SinkWorker Known S C). IsSinkPort table_of shares' (λ (pass : Known). pass) j)
           (λ j zips. zips.0.0) jobs.sinks.items sinks_in.0;
       listeners = mapped (λ (j : ListenWorker Known N C K). Zips Holds (listen_channels j) (listen_ports j)) (λ (j : ListenWorker Known N C K). AreListenPorts table_of shares' (λ (pass : Known). pass) j)
@@ -169,6 +177,7 @@ module _ {A B : Type 0} (shares' : List (EitherShared A B)) where
 
     pub are_new : AreNew jobs
     are_new = record {
+      keepers = mapped (λ (j : KeepWorker Known C). Zips Holds (keep_channels j) (keep_ports j)) (λ (j : KeepWorker Known C). IsNew j.port) (λ j zips. zips.0.1) jobs.keepers.items keepers_in.0;
       sinks = mapped (λ (j : SinkWorker Known S C). Zips Holds (sink_channels j) (sink_ports j)) (λ (j : SinkWorker Known S C). IsNew j.port) (λ j zips. zips.0.1) jobs.sinks.items sinks_in.0;
       listeners = mapped (λ (j : ListenWorker Known N C K). Zips Holds (listen_channels j) (listen_ports j)) (λ (j : ListenWorker Known N C K). All IsNew j.ports.items)
           (λ j zips. All-from_recursion IsNew j.ports.items (seconds (listen_channels j) (listen_ports j) zips)) jobs.listeners.items listeners_in.0;
@@ -180,13 +189,16 @@ module _ {S N I O C K : Type 0} (plans : List SinkRow) (parts : Parts S N I O C 
     (staff : IsStaff plans parts hands' jobs) (homes' : List Known) (but : AreDealtBut homes' [] hands') where
   pub are_dealt : AreDealt homes' (owners_of jobs)
   are_dealt =
+      let z : List Owner = flat_map (λ (k : KeepWorker Known C). owners_at (keep_channels k) (keep_ports k)) jobs.keepers.items in
       let a : List Owner = flat_map (λ (s : SinkWorker Known S C). owners_at (sink_channels s) (sink_ports s)) jobs.sinks.items in
       let b : List Owner = flat_map (λ (l : ListenWorker Known N C K). owners_at (listen_channels l) (listen_ports l)) jobs.listeners.items in
       let c : List Owner = flat_map (λ (l : LineWorker Known I O C K). owners_at (line_channels l) (line_ports l)) jobs.lines.items in
-      let one = each_owned homes' sink_channels sink_ports hands' [] jobs.sinks.items staff.behind_sinks staff.deals_sinks but in
-      let two = each_owned homes' listen_channels listen_ports staff.behind_sinks a jobs.listeners.items staff.behind_listeners staff.deals_listeners one in
-      let three = each_owned homes' line_channels line_ports staff.behind_listeners (a ++ b) jobs.lines.items staff.last staff.deals_lines two in
-      ends homes' staff.last (owners_of jobs) staff.none_left (subst (λ (x : List Owner). AreDealtBut homes' x staff.last) (append_assoc a b c) three)
+      let zero = each_owned homes' keep_channels keep_ports hands' [] jobs.keepers.items staff.behind_keepers staff.deals_keepers but in
+      let one = each_owned homes' sink_channels sink_ports staff.behind_keepers z jobs.sinks.items staff.behind_sinks staff.deals_sinks zero in
+      let two = each_owned homes' listen_channels listen_ports staff.behind_sinks (z ++ a) jobs.listeners.items staff.behind_listeners staff.deals_listeners one in
+      let three = each_owned homes' line_channels line_ports staff.behind_listeners ((z ++ a) ++ b) jobs.lines.items staff.last staff.deals_lines two in
+      let same : ((z ++ a) ++ b) ++ c ≡ z ++ (a ++ (b ++ c)) = append_assoc (z ++ a) b c ∙ append_assoc z a (b ++ c) in
+      ends homes' staff.last (owners_of jobs) staff.none_left (subst (λ (x : List Owner). AreDealtBut homes' x staff.last) same three)
 
 -- ---- the whole
 
@@ -194,7 +206,8 @@ pub freshly : {A B : Type 0} (wishes : List ChannelWish) (cs : List (OpenedChann
 freshly wishes cs opened = are_fresh wishes cs opened.0 opened.1 opened.2
 
 module _ {A B S N I O C K : Type 0} (plans : List SinkRow) (wishes : List ChannelWish) (cs : List (OpenedChannel A B)) (parts : Parts S N I O C K)
-    (opened : WereOpened wishes cs) (used : AreUsed wishes (uses_of plans parts.listeners.items parts.lines.items)) (fit : AreFit (length wishes) parts) (crew : Crew A B S N I O C K) where
+    (opened : WereOpened wishes cs) (used : AreUsed wishes (uses_of parts.keepers.items plans parts.listeners.items parts.lines.items))
+    (folders : AreWantedInFolders wishes parts.keepers.items) (fit : AreFit (length wishes) parts) (crew : Crew A B S N I O C K) where
   pub is_crew : crew.shares.items ≡ shares wishes cs (freshly wishes cs opened) → crew.homes.items ≡ homes wishes cs (freshly wishes cs opened) → IsStaff plans parts (hands wishes cs (freshly wishes cs opened)) crew.jobs
       → IsCrew plans cs parts crew
   is_crew same_shares same_homes staff = record {
@@ -205,10 +218,12 @@ module _ {A B S N I O C K : Type 0} (plans : List SinkRow) (wishes : List Channe
     dealt = are_dealt plans parts (hands wishes cs (freshly wishes cs opened)) crew.jobs staff crew.homes.items (subst (λ (l : List Known). AreDealtBut l [] (hands wishes cs (freshly wishes cs opened))) (sym same_homes) (dealt_but wishes cs (freshly wishes cs opened)));
     alone = subst (λ (l : List Known). AreAlone l (owners_of crew.jobs)) (sym same_homes) (are_alone wishes cs (freshly wishes cs opened) plans parts crew.jobs staff);
     numbers = staff_numbered plans parts (hands wishes cs (freshly wishes cs opened)) crew.jobs staff (in_order wishes cs (freshly wishes cs opened))
-        (undealt wishes cs (freshly wishes cs opened) (uses_of plans parts.listeners.items parts.lines.items) used);
+        (undealt wishes cs (freshly wishes cs opened) (uses_of parts.keepers.items plans parts.listeners.items parts.lines.items) used);
     workers = are_workers crew.shares.items plans parts (hands wishes cs (freshly wishes cs opened)) crew.jobs staff held;
     new_ones = are_new crew.shares.items plans parts (hands wishes cs (freshly wishes cs opened)) crew.jobs staff held;
     fit = can_run (length wishes) plans parts (hands wishes cs (freshly wishes cs opened)) crew.jobs fit staff;
+    on_disks = all_on crew.shares.items wishes cs opened.0 opened.1 opened.2 same_shares parts.keepers.items crew.jobs.keepers.items folders staff.keepers;
+    keepers = staff.keepers;
     sinks = staff.sinks;
     own_sinks = staff.own_sinks;
     listeners = staff.listeners;

@@ -29,6 +29,7 @@ use Rattle.agent_channels.specs.Openings.{HostTold}
 use Rattle.flume_config.specs.declared.plan.Plan.{Plan}
 use Rattle.flume_host.specs.Rolled.{Rolled}
 use Rattle.channel_face.specs.History.{Opening as Begun, Step}
+use Rattle.channel_face.specs.Machine.{State}
 use Rattle.source_put.specs.Chains.{Meaning}
 use Rattle.source_worker.specs.Rounds.{Heard}
 use Rattle.line_worker.specs.Workers.{Talk}
@@ -36,7 +37,7 @@ use Rattle.channel_lock.specs.Turns.{HasAll}
 use Rattle.two_channels.specs.declared.port.EitherPort.{EitherPort}
 use Rattle.run_tracks.specs.Closes.{IsClosed}
 use Rattle.run_tracks.specs.Homes.{EachTook}
-use Rattle.run_tracks.specs.Stops.{IsMended}
+use Rattle.run_tracks.specs.Stops.{IsKept, IsMended}
 use Rattle.run_tracks.specs.Places.{Zips}
 use Rattle.agent_run.specs.Run.{CanDial, DialsMayReturn, MayReturn, StandInRows}
 use Rattle.agent_run.specs.Staff.{IsSinkOf}
@@ -206,9 +207,9 @@ stand_in_rows rolled faults dial Fresh p objects places a b rows sinks bare runn
 
 module _ {R X Y P Q G N I O C K Z : Type 0} (runs : Runs (EitherPort Z X Y) (Runner (AgentSink P Q R) G) N I O C K) (deliver : AgentSink P Q R → List Content → ℕ → Result (Unit {0}) SinkRefused → AgentSink P Q R → Type 0)
     (sink : Told (Runner (AgentSink P Q R) G)) (Means : Meaning K) (moments : C → Option (ℕ → ℕ)) (heard : N → Heard)
-    (talk : I → O → Talk) (disk : X → Begun → List Step → Type 0) (tells : X → Bool) (moment : X → ℕ) (memory : Y → Begun → List Step → Type 0) (tells' : Y → Bool) (dial : DialTold Q) where
+    (talk : I → O → Talk) (disk : X → Begun → List Step → Type 0) (tells : X → Bool) (moment : X → ℕ) (laid : X → State → Type 0) (pruned : X → Type 0) (memory : Y → Begun → List Step → Type 0) (tells' : Y → Bool) (dial : DialTold Q) where
   -- What comes back of the sinks of a run may be given back, where what was opened could be; and each row has as many sinks as before.
-  pub may_return : RunsAreTold runs sink Means moments heard talk disk tells moment memory tells' → RunnersSplit deliver sink.delivers
+  pub may_return : RunsAreTold runs sink Means moments heard talk disk tells moment laid pruned memory tells' → RunnersSplit deliver sink.delivers
       → ((s : AgentSink P Q R) (batch : List Content) (at : ℕ) (answer : Result (Unit {0}) SinkRefused) (t : AgentSink P Q R) → deliver s batch at answer t → IsSameSink dial s t)
       → (plans : List SinkPlan) (rows : List SinkRow) → IsOrder (length plans) (places_of rows)
       → (o : Opening X Y (Runner (AgentSink P Q R) G) N I O C K) (m : Manned X Y (Runner (AgentSink P Q R) G) N I O C K) (homes : List Known) (joined : Joined (Runner (AgentSink P Q R) G) C)
@@ -216,7 +217,7 @@ module _ {R X Y P Q G N I O C K Z : Type 0} (runs : Runs (EitherPort Z X Y) (Run
       → IsManned rows o m → EachTook m.crew.homes.items homes → All (λ (p : Known). HasAll p.view) homes
       → HaveReturned runs sink Means moments heard talk m.crew.shares.items homes m.crew.jobs returned
       → joined.sinks ≡ returned.sinks → All (IsSinkHome homes) joined.sinks.items → length m.settled.report.items ≡ length homes
-      → AreSettled (IsDrainedAt sink moments) (IsMended disk tells moment) (IsClosed disk tells memory tells') m.crew.shares.items homes joined.sinks.items m.settled.report.items settled
+      → AreSettled (IsDrainedAt sink moments) (IsKept disk tells moment laid pruned) (IsMended disk tells moment) (IsClosed disk tells memory tells') m.crew.shares.items homes joined.sinks.items m.closes.items m.settled.report.items settled
       → (f : Folders) (all : Option HandedOut) → StandInRows dial f plans rows o.outside.sinks.items all
       → MayReturn dial plans rows settled.sinks.items all
   may_return told split keeps plans rows order o m homes joined returned settled is took full back same home named settles f all stand =

@@ -31,9 +31,9 @@ use Rattle.agent_run.specs.Draining.{AreDrained, IsDrainedAt, IsDrainedHome, IsS
 use Rattle.agent_run.specs.declared.homes.AtHome.{AtHome}
 use Rattle.agent_run.proofs.Bare.{IsBare, stays_bare}
 use Rattle.agent_run.proofs.Chaining.{all_go_on, drained_ends, drained_goes_on, sink_goes_on}
-use Rattle.agent_run.proofs.Course.{Course, Stands, closed_are_many, counted_many, drained_many, homes_many, mended_many, names_are_many, shares_many, tells_of, there}
+use Rattle.agent_run.proofs.Course.{Course, Stands, closed_are_many, counted_many, drained_many, homes_many, kept_many, mended_many, names_are_many, shares_many, tells_of, there}
 use Rattle.agent_run.proofs.Left.{at_rest, closed_at, finals_are, left_below, left_run}
-use Rattle.agent_run.proofs.Quiet.{IsQuiet, drained_quiet, mended_quiet, none_puts, quiet_at, quiet_self, quiet_then}
+use Rattle.agent_run.proofs.Quiet.{IsQuiet, drained_quiet, kept_if_quiet, mended_quiet, none_puts, quiet_at, quiet_self, quiet_then}
 
 -- the calls after others are answered as the machine answers them there
 run_behind : (tells : Bool) (s : State) (a b : List Step) → IsRun tells s (a ++ b) → IsRun tells (state_after s a) b
@@ -126,28 +126,32 @@ module _ {S C : Type 0} (sink : Told S) (moments : C → Option (ℕ → ℕ)) w
         (λ i x. quiet_then (get_or homes i x).view (get_or old i x).view (get_or mid i x).view (before i x) (quiet_at sink moments v old e b mid at.0 one i x))
         did place w end d (omega (arith, below))
 
-module _ {D M S C : Type 0} (told : D → Option DiskTold) (faults : D → ℕ) (moment : D × FileState → ℕ) (memory : M → Opening → List Step → Type 0) (tells' : M → Bool)
-    (sink : Told S) (moments : C → Option (ℕ → ℕ)) (plans : List ChannelPlan) (r : Course told faults moment memory tells' (IsDrainedAt sink moments) plans) where
-  -- nobody puts while channels are mended and counted
+module _ {D M S C : Type 0} (told : D → Option DiskTold) (faults : D → ℕ) (moment : D × FileState → ℕ) (laid : D × FileState → State → Type 0) (pruned : D × FileState → Type 0) (memory : M → Opening → List Step → Type 0) (tells' : M → Bool)
+    (sink : Told S) (moments : C → Option (ℕ → ℕ)) (plans : List ChannelPlan) (r : Course told faults moment laid pruned memory tells' (IsDrainedAt sink moments) plans) where
+  -- nobody puts while channels are kept, mended and counted
   from_drained_quiet : (place : ℕ) (d : Known) → place < length plans → IsQuiet (get_or r.settles.drained place d).view (get_or r.settles.counted place d).view
   from_drained_quiet place d below =
-      let low : place < length r.settles.drained = let e = drained_many told faults moment memory tells' (IsDrainedAt sink moments) plans r in omega (arith, below, e) in
-      let mid : place < length r.settles.mended = let e = mended_many told faults moment memory tells' (IsDrainedAt sink moments) plans r in omega (arith, below, e) in
-      let s = there r.shares place (let e = shares_many told faults moment memory tells' (IsDrainedAt sink moments) plans r in omega (arith, below, e)) in
-      let name = there r.names place (let e = names_are_many told faults moment memory tells' (IsDrainedAt sink moments) plans r in omega (arith, below, e)) in
+      let low : place < length r.settles.drained = let e = drained_many told faults moment laid pruned memory tells' (IsDrainedAt sink moments) plans r in omega (arith, below, e) in
+      let between : place < length r.settles.kept = let e = kept_many told faults moment laid pruned memory tells' (IsDrainedAt sink moments) plans r in omega (arith, below, e) in
+      let mid : place < length r.settles.mended = let e = mended_many told faults moment laid pruned memory tells' (IsDrainedAt sink moments) plans r in omega (arith, below, e) in
+      let s = there r.shares place (let e = shares_many told faults moment laid pruned memory tells' (IsDrainedAt sink moments) plans r in omega (arith, below, e)) in
+      let name = there r.names place (let e = names_are_many told faults moment laid pruned memory tells' (IsDrainedAt sink moments) plans r in omega (arith, below, e)) in
       let old = get_or r.settles.drained place d in
+      let kept = get_or r.settles.kept place d in
       let mended = get_or r.settles.mended place d in
-      let one = mended_quiet (Stands told faults) (tells_of told) moment (get_or r.shares place s) old.view mended.view old.number (get_or r.settled.mends.items place (Ok false))
-      (r.settles.mends.each place s d d (Ok false) low).mends in
+      let first = kept_if_quiet (Stands told faults) (tells_of told) moment laid pruned (get_or r.shares place s) (get_or r.kept_at_end place false) old kept (r.settles.keeps.each place s false d d low) in
+      let last = mended_quiet (Stands told faults) (tells_of told) moment (get_or r.shares place s) kept.view mended.view kept.number (get_or r.settled.mends.items place (Ok false))
+      (r.settles.mends.each place s d d (Ok false) between).mends in
+      let one = quiet_then old.view kept.view mended.view first last in
       subst (λ (p : Known). IsQuiet old.view p.view) (sym (r.settles.counts.each place d d name name mid).pass)
       (record { base = one.base; passes = one.passes; numbers = one.numbers; rest = one.rest; whole = one.whole; none = one.none })
 
   end_at : (place : ℕ) (d : Known) → place < length plans → IsEnd (get_or r.settles.counted place d)
   end_at place d below =
-      let s = there r.shares place (let e = shares_many told faults moment memory tells' (IsDrainedAt sink moments) plans r in omega (arith, below, e)) in
-      let e = there r.settled.closed.items place (let e = closed_are_many told faults moment memory tells' (IsDrainedAt sink moments) plans r in omega (arith, below, e)) in
+      let s = there r.shares place (let e = shares_many told faults moment laid pruned memory tells' (IsDrainedAt sink moments) plans r in omega (arith, below, e)) in
+      let e = there r.settled.closed.items place (let e = closed_are_many told faults moment laid pruned memory tells' (IsDrainedAt sink moments) plans r in omega (arith, below, e)) in
       let is = closed_at (IsClosed (Stands told faults) (tells_of told) memory tells') r.shares r.settles.counted r.settled.closed.items r.settles.closed place s d e
-      (let k = counted_many told faults moment memory tells' (IsDrainedAt sink moments) plans r in omega (arith, below, k)) in
+      (let k = counted_many told faults moment laid pruned memory tells' (IsDrainedAt sink moments) plans r in omega (arith, below, k)) in
       record {
         below = left_below (Stands told faults) (tells_of told) memory tells' (get_or r.shares place s) (get_or r.settles.counted place d) (get_or r.settled.closed.items place e) is;
         run = left_run (Stands told faults) (tells_of told) memory tells' (get_or r.shares place s) (get_or r.settles.counted place d) (get_or r.settled.closed.items place e) is;
@@ -157,16 +161,16 @@ module _ {D M S C : Type 0} (told : D → Option DiskTold) (faults : D → ℕ) 
   final_at place final d below =
       ap (λ (l : List Known). get_or l place final)
       (finals_are (Stands told faults) (tells_of told) memory tells' r.shares r.settles.counted r.settled.closed.items r.settles.closed)
-      ∙ get_or-map at_rest r.settles.counted place d final (let k = counted_many told faults moment memory tells' (IsDrainedAt sink moments) plans r in omega (arith, below, k))
+      ∙ get_or-map at_rest r.settles.counted place d final (let k = counted_many told faults moment laid pruned memory tells' (IsDrainedAt sink moments) plans r in omega (arith, below, k))
 
   drained_of : (place : ℕ) → place < length r.settles.drained → place < length plans
-  drained_of place low = let e = drained_many told faults moment memory tells' (IsDrainedAt sink moments) plans r in omega (arith, low, e)
+  drained_of place low = let e = drained_many told faults moment laid pruned memory tells' (IsDrainedAt sink moments) plans r in omega (arith, low, e)
 
   -- after the join nobody puts
   puts_end : All (IsSinkHome r.homes) r.workers → All (λ (p : Known). HasAll p.view) r.homes → (place : ℕ) (home final : Known) → place < length plans
       → PutsEnd (get_or r.homes place home) (get_or (map pass_of r.settled.closed.items) place final)
   puts_end at all place home final below =
-      let low : place < length r.homes = let e = homes_many told faults moment memory tells' (IsDrainedAt sink moments) plans r in omega (arith, below, e) in
+      let low : place < length r.homes = let e = homes_many told faults moment laid pruned memory tells' (IsDrainedAt sink moments) plans r in omega (arith, below, e) in
       let p = get_or r.homes place home in
       let q = get_or r.settles.counted place home in
       let is = quiet_then p.view (get_or r.settles.drained place home).view q.view

@@ -4,12 +4,14 @@ use Rattle.std.specs.List.{AllByRecursion}
 use Rattle.event_core.specs.Content.{Content}
 use Rattle.channel_face.specs.Faces.{Own, ArePut, ArePutUpTo, Ends, EndsAs, EndsBegin, EndsPuts, EndsStage, EndsTakeStage, IsMade, IsPutBatch, IsRolledBack, IsTake, IsTakeCommit, IsTakeRolledBack, is_spent_begin, is_spent_flush, is_spent_put, is_spent_stage, is_spent_take}
 use Rattle.channel_face.specs.History.{reopen_reply}
-use Rattle.channel_face.specs.Keeps.{IsMend, is_spent_open}
-use Rattle.channel_face.specs.Machine.{State, Call, BeginPut, BeginTake, Put, Take, StagePut, StageTake, Flush, Reopen, RollbackPut, RollbackTake, puts_of, settled, takes_of}
+use Rattle.channel_face.specs.Keeps.{IsCheck, IsMend, IsPrune, is_spent_check, is_spent_open, is_spent_prune}
+use Rattle.channel_face.specs.Machine.{State, Call, BeginPut, BeginTake, Put, Take, StagePut, StageTake, Flush, Checkpoint, Prune, Reopen, RollbackPut, RollbackTake, puts_of, settled, takes_of}
 use Rattle.channel_face.specs.Token.{Token}
 use Rattle.channel_face.specs.declared.replies.BeginRefused.{BeginRefused}
+use Rattle.channel_face.specs.declared.replies.CheckRefused.{CheckRefused}
 use Rattle.channel_face.specs.declared.replies.FaceRefused.{FaceRefused}
 use Rattle.channel_face.specs.declared.replies.OpenCause.{OpenCause}
+use Rattle.channel_face.specs.declared.replies.PruneRefused.{PruneRefused}
 use Rattle.channel_face.specs.declared.replies.PutRefused.{PutRefused}
 use Rattle.channel_face.specs.declared.replies.Settled.{Settled}
 use Rattle.channel_face.specs.declared.replies.Settled.TheVariants.{Yes, No, InDoubt}
@@ -130,6 +132,13 @@ module _ (saw : List Own → State → Type 0) (seen : ℕ) where
 
   take_rolled_ends : (token : Token) (earlier own : List Own) → IsTakeRolledBack saw token earlier own → EachEnds saw seen earlier own
   take_rolled_ends token earlier own is = ends_plain earlier own (plain_rolled saw (RollbackTake token) (λ s. takes_of s token ≡ None) earlier own (λ b. refl) is)
+
+  -- a checkpoint, and a removal of old files
+  pub check_ends : (reply : Result (Unit {0}) CheckRefused) (earlier own : List Own) → IsCheck seen reply own → EachEnds saw seen earlier own
+  check_ends reply earlier own is = ends_plain earlier own (plain_made seen (is_spent_check reply) (Checkpoint reply) is.0 own refl is.1)
+
+  pub prune_ends : (reply : Result ℕ PruneRefused) (earlier own : List Own) → IsPrune seen reply own → EachEnds saw seen earlier own
+  prune_ends reply earlier own is = ends_plain earlier own (plain_made seen (is_spent_prune reply) (Prune reply) is.0 own refl is.1)
 
   -- a mend
   pub mend_ends : (OnDisk : Type 0) (result : Result Bool OpenCause) (earlier own : List Own) → IsMend OnDisk saw seen result earlier own → EachEnds saw seen earlier own

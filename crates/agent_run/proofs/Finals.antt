@@ -5,8 +5,10 @@ use Rattle.std.specs.declared.alloc.Global.{Global}
 use Rattle.std.specs.declared.vec.Vec.{Vec}
 use Rattle.std.proofs.lemmas.List.Elements.{All-from_recursion, recursion_from_All}
 use Rattle.channel_face.specs.History.{Opening, Step}
+use Rattle.channel_face.specs.Machine.{State}
 use Rattle.channel_face.specs.declared.replies.Counts.{Counts}
 use Rattle.shared_channel.specs.Passes.{Known}
+use Rattle.keep_worker.specs.declared.worker.KeepWorker.{KeepWorker}
 use Rattle.sink_worker.specs.Rounds.{Told}
 use Rattle.sink_worker.specs.declared.worker.SinkWorker.{SinkWorker}
 use Rattle.source_put.specs.Chains.{Meaning}
@@ -22,25 +24,25 @@ use Rattle.run_tracks.specs.Closes.{IsClosed}
 use Rattle.run_tracks.specs.Dealt.{HasNumber, Owner}
 use Rattle.run_tracks.specs.Homes.{EachTook, IsAt}
 use Rattle.run_tracks.specs.Places.{Zips}
-use Rattle.run_tracks.specs.Stops.{IsMended}
+use Rattle.run_tracks.specs.Stops.{IsKept, IsMended}
 use Rattle.agent_run.specs.Alone.{AreAlone, Differ, IsAway}
 use Rattle.agent_run.specs.Draining.{EachGoesOn, IsDrainedAt, IsSinkHome}
 use Rattle.agent_run.specs.Ends.{IsLineEnded}
 use Rattle.agent_run.specs.Finals.{AreToldInFull, RunsAreTold, finals_of}
-use Rattle.agent_run.specs.Histories.{IsLineTold, IsListenTold, IsSinkTold}
+use Rattle.agent_run.specs.Histories.{IsKeepTold, IsLineTold, IsListenTold, IsSinkTold}
 use Rattle.agent_run.specs.Joined.{AreTold}
 use Rattle.agent_run.specs.Runs.{AreEnded, AreNew, AreWorkers, Runs, owners_at, owners_of}
 use Rattle.agent_run.specs.Settling.{AreSettled}
-use Rattle.agent_run.specs.Wholes.{AreSilentAt, IsNot, IsSilentAt, LinesStayTold, ListenersStayTold, StaysSilent}
+use Rattle.agent_run.specs.Wholes.{AreSilentAt, IsNot, IsSilentAt, KeepersStayTold, LinesStayTold, ListenersStayTold, StaysSilent}
 use Rattle.agent_run.specs.declared.homes.AtHome.{AtHome}
 use Rattle.agent_run.specs.declared.settle.Settled.{Settled}
 use Rattle.agent_run.specs.declared.workers.Returned.{Returned}
 use Rattle.agent_run.specs.declared.workers.Workers.{Workers}
 use Rattle.agent_run.proofs.Finishing.{all_on, behind_silent}
 use Rattle.agent_run.proofs.Lasting.{all_both}
-use Rattle.agent_run.proofs.Owners.{all_split, beside_owners, differ_split, each_owner, other_jobs, sink_owners}
+use Rattle.agent_run.proofs.Owners.{all_split, beside_owners, differ_split, each_keep, each_owner, keep_owners, other_jobs, sink_owners, swap_across}
 use Rattle.agent_run.proofs.Silence.{drains_silent, others_stay, silent_then, sinks_whole}
-use Rattle.agent_run.proofs.Unrun.{listeners_unrun, sinks_unrun}
+use Rattle.agent_run.proofs.Unrun.{keepers_unrun, listeners_unrun, sinks_unrun}
 use Rattle.agent_run.proofs.Zipping.{all_map}
 
 -- the pass at home has the worker's number, and carries another
@@ -59,12 +61,12 @@ own_home old homes took all o away =
     }
 
 module _ {A B S C : Type 0} (sink : Told S) (moments : C → Option (ℕ → ℕ)) (disk : A → Opening → List Step → Type 0) (tells : A → Bool) (moment : A → ℕ)
-    (memory : B → Opening → List Step → Type 0) (tells' : B → Bool) (shares : List (EitherShared A B)) (homes : List Known) (workers : List (SinkWorker AtHome S C))
-    (names : List (String Global × Counts)) (settled : Settled S A B)
-    (is : AreSettled (IsDrainedAt sink moments) (IsMended disk tells moment) (IsClosed disk tells memory tells') shares homes workers names settled)
+    (laid : A → State → Type 0) (pruned : A → Type 0) (memory : B → Opening → List Step → Type 0) (tells' : B → Bool) (shares : List (EitherShared A B)) (homes : List Known) (workers : List (SinkWorker AtHome S C))
+    (closes : List Bool) (names : List (String Global × Counts)) (settled : Settled S A B)
+    (is : AreSettled (IsDrainedAt sink moments) (IsKept disk tells moment laid pruned) (IsMended disk tells moment) (IsClosed disk tells memory tells') shares homes workers closes names settled)
     (named : length names ≡ length homes) (old : List Known) (took : EachTook old homes) (all : All (λ (p : Known). HasAll p.view) homes) where
   own_silent : (o : Owner) → IsOwn homes o → StaysSilent o.place o.number is.drained (finals_of settled)
-  own_silent o own = behind_silent sink moments disk tells moment memory tells' shares homes workers names settled is named o.place o.number own.there own.mine own.other
+  own_silent o own = behind_silent sink moments disk tells moment laid pruned memory tells' shares homes workers closes names settled is named o.place o.number own.there own.mine own.other
 
   -- no call with a sink's number came after the drainings
   sinks_silent : (jobs : List (SinkWorker Known S C)) (ws : List (SinkWorker AtHome S C)) → Zips (IsSinkTold sink moments shares homes) jobs ws → AllByRecursion (IsAway old) (sink_owners jobs)
@@ -116,10 +118,10 @@ silent_each {J} places passes R homes last jobs at silent =
     (All-from_recursion Silent jobs (each_owner (λ (o : Owner). P o.place o.number) (λ (j : J). owners_at (places j) (passes j)) jobs silent)))
 
 module _ {A B S N I O C K : Type 0} (sink : Told S) (Means : Meaning K) (moments : C → Option (ℕ → ℕ)) (heard : N → Heard) (talk : I → O → Talk)
-    (disk : A → Opening → List Step → Type 0) (tells : A → Bool) (moment : A → ℕ) (memory : B → Opening → List Step → Type 0) (tells' : B → Bool)
+    (disk : A → Opening → List Step → Type 0) (tells : A → Bool) (moment : A → ℕ) (laid : A → State → Type 0) (pruned : A → Type 0) (memory : B → Opening → List Step → Type 0) (tells' : B → Bool)
     (shares : List (EitherShared A B)) (homes : List Known) (jobs : Workers Known S N I O C K) (returned : Returned S N I O C)
-    (names : List (String Global × Counts)) (settled : Settled S A B)
-    (is : AreSettled (IsDrainedAt sink moments) (IsMended disk tells moment) (IsClosed disk tells memory tells') shares homes returned.sinks.items names settled)
+    (closes : List Bool) (names : List (String Global × Counts)) (settled : Settled S A B)
+    (is : AreSettled (IsDrainedAt sink moments) (IsKept disk tells moment laid pruned) (IsMended disk tells moment) (IsClosed disk tells memory tells') shares homes returned.sinks.items closes names settled)
     (named : length names ≡ length homes) (old : List Known) (took : EachTook old homes) (all : All (λ (p : Known). HasAll p.view) homes)
     (alone : AreAlone old (owners_of jobs)) (workers : AreWorkers table_of shares (λ (p : Known). p) jobs) (home : All (IsSinkHome homes) returned.sinks.items) where
   abbrev listen_owners : List Owner
@@ -128,28 +130,38 @@ module _ {A B S N I O C K : Type 0} (sink : Told S) (Means : Meaning K) (moments
   abbrev line_owners : List Owner
   line_owners = flat_map (λ (l : LineWorker Known I O C K). owners_at l.channels.items l.ports.items) jobs.lines.items
 
-  -- the sinks were told of at the join, and so are the listeners in the end where their numbers stay silent
+  -- the sinks were told of at the join, and so are the others in the end where their numbers stay silent
   in_full : Zips (IsSinkTold sink moments shares homes) jobs.sinks.items returned.sinks.items
+      → (EachGoesOn homes (finals_of settled) → All (λ (k : KeepWorker Known C). StaysSilent k.channel k.port.number homes (finals_of settled)) jobs.keepers.items
+      → All (IsKeepTold shares (finals_of settled)) jobs.keepers.items)
       → (EachGoesOn homes (finals_of settled) → All (λ (l : ListenWorker Known N C K). AreSilentAt homes (finals_of settled) l.channels.items l.ports.items) jobs.listeners.items
       → Zips (IsListenTold Means moments heard shares (finals_of settled)) jobs.listeners.items returned.listeners.items)
       → (EachGoesOn homes (finals_of settled) → All (λ (l : LineWorker Known I O C K). AreSilentAt homes (finals_of settled) l.channels.items l.ports.items) jobs.lines.items
       → Zips (IsLineTold Means moments talk shares (finals_of settled)) jobs.lines.items returned.lines.items
       ⊎ Zips (IsLineEnded (λ (p : Known). p) homes) jobs.lines.items returned.lines.items)
       → AreToldInFull sink Means moments heard talk shares homes (finals_of settled) jobs returned settled
-  in_full told stay said =
+  in_full told upkeep stay said =
       let last = finals_of settled in
       let ws = returned.sinks.items in
+      let keeps = keep_owners jobs.keepers.items in
+      let sinks = sink_owners jobs.sinks.items in
       let rest = listen_owners ++ line_owners in
-      let away = all_split (IsAway old) (sink_owners jobs.sinks.items) rest (recursion_from_All (IsAway old) (owners_of jobs) alone.away) in
-      let apart = differ_split (sink_owners jobs.sinks.items) rest alone.apart in
-      let on = all_on sink moments disk tells moment memory tells' shares homes ws names settled is named in
-      let behind = sinks_silent sink moments disk tells moment memory tells' shares homes ws names settled is named old took all jobs.sinks.items ws told away.0 in
-      let silent = others_silent sink moments disk tells moment memory tells' shares homes ws names settled is named old took all jobs.sinks.items told rest away.1 apart.across in
+      let all_away = all_split (IsAway old) keeps (sinks ++ rest) (recursion_from_All (IsAway old) (owners_of jobs) alone.away) in
+      let away = all_split (IsAway old) sinks rest all_away.1 in
+      let all_apart = differ_split keeps (sinks ++ rest) alone.apart in
+      let apart = differ_split sinks rest all_apart.seconds in
+      let keeps_apart = swap_across keeps sinks (all_split (λ (p : Owner). AllByRecursion (λ (o : Owner). Differ o p) keeps) sinks rest all_apart.across).0 in
+      let on = all_on sink moments disk tells moment laid pruned memory tells' shares homes ws closes names settled is named in
+      let behind = sinks_silent sink moments disk tells moment laid pruned memory tells' shares homes ws closes names settled is named old took all jobs.sinks.items ws told away.0 in
+      let silent = others_silent sink moments disk tells moment laid pruned memory tells' shares homes ws closes names settled is named old took all jobs.sinks.items told rest away.1 apart.across in
+      let unkept = others_silent sink moments disk tells moment laid pruned memory tells' shares homes ws closes names settled is named old took all jobs.sinks.items told keeps all_away.0 keeps_apart in
       let parts = all_split (λ (o : Owner). StaysSilent o.place o.number homes last) listen_owners line_owners silent in
       let quiet = silent_each (λ (l : LineWorker Known I O C K). l.channels.items) (λ (l : LineWorker Known I O C K). l.ports.items) (λ place p. IsAt table_of shares place p) homes last jobs.lines.items
       workers.lines parts.1 in
       record {
         goes_on = on;
+        keepers = upkeep on (All-from_recursion (λ (k : KeepWorker Known C). StaysSilent k.channel k.port.number homes last) jobs.keepers.items
+            (each_keep (λ place n. StaysSilent place n homes last) jobs.keepers.items unkept));
         sinks = sinks_whole sink moments A B shares homes is.drained last jobs.sinks.items ws settled.ends.items settled.sinks.items told home
             (others_stay sink moments A B shares homes jobs.sinks.items ws told (other_jobs jobs.sinks.items apart.firsts)) is.drains
             (All-from_recursion (IsSilentAt is.drained last) ws behind);
@@ -160,20 +172,22 @@ module _ {A B S N I O C K : Type 0} (sink : Told S) (Means : Meaning K) (moments
       }
 
 module _ {R A B S N I O C K : Type 0} (runs : Runs (EitherPort R A B) S N I O C K) (sink : Told S) (Means : Meaning K) (moments : C → Option (ℕ → ℕ)) (heard : N → Heard) (talk : I → O → Talk)
-    (disk : A → Opening → List Step → Type 0) (tells : A → Bool) (moment : A → ℕ) (memory : B → Opening → List Step → Type 0) (tells' : B → Bool)
-    (stay : ListenersStayTold runs Means moments heard) (said : LinesStayTold runs Means moments talk) where
-  pub runs_told : RunsAreTold runs sink Means moments heard talk disk tells moment memory tells'
+    (disk : A → Opening → List Step → Type 0) (tells : A → Bool) (moment : A → ℕ) (laid : A → State → Type 0) (pruned : A → Type 0) (memory : B → Opening → List Step → Type 0) (tells' : B → Bool)
+    (upkeep : KeepersStayTold runs) (stay : ListenersStayTold runs Means moments heard) (said : LinesStayTold runs Means moments talk) where
+  pub runs_told : RunsAreTold runs sink Means moments heard talk disk tells moment laid pruned memory tells'
   runs_told plans o m homes joined returned settled manned took all back same home named did =
       let shares = m.crew.shares.items in
       let jobs = m.crew.jobs in
       let V = Vec (SinkWorker AtHome S C) Global in
-      let is = subst (λ (v : V). AreSettled (IsDrainedAt sink moments) (IsMended disk tells moment) (IsClosed disk tells memory tells') shares homes v.items m.settled.report.items settled) same did in
+      let is = subst (λ (v : V). AreSettled (IsDrainedAt sink moments) (IsKept disk tells moment laid pruned) (IsMended disk tells moment) (IsClosed disk tells memory tells') shares homes v.items m.closes.items m.settled.report.items settled) same did in
       let home' = subst (λ (v : V). All (IsSinkHome homes) v.items) same home in
-      let whole = in_full sink Means moments heard talk disk tells moment memory tells' shares homes jobs returned m.settled.report.items settled is named m.crew.homes.items took all manned.alone manned.workers home' in
+      let whole = in_full sink Means moments heard talk disk tells moment laid pruned memory tells' shares homes jobs returned m.closes.items m.settled.report.items settled is named m.crew.homes.items took all manned.alone manned.workers home' in
       one shares jobs manned.new_ones whole back
     where
       one : (shares : List (EitherShared A B)) (jobs : Workers Known S N I O C K) → AreNew jobs
           → (Zips (IsSinkTold sink moments shares homes) jobs.sinks.items returned.sinks.items
+          → (EachGoesOn homes (finals_of settled) → All (λ (k : KeepWorker Known C). StaysSilent k.channel k.port.number homes (finals_of settled)) jobs.keepers.items
+          → All (IsKeepTold shares (finals_of settled)) jobs.keepers.items)
           → (EachGoesOn homes (finals_of settled) → All (λ (l : ListenWorker Known N C K). AreSilentAt homes (finals_of settled) l.channels.items l.ports.items) jobs.listeners.items
           → Zips (IsListenTold Means moments heard shares (finals_of settled)) jobs.listeners.items returned.listeners.items)
           → (EachGoesOn homes (finals_of settled) → All (λ (l : LineWorker Known I O C K). AreSilentAt homes (finals_of settled) l.channels.items l.ports.items) jobs.lines.items
@@ -183,9 +197,11 @@ module _ {R A B S N I O C K : Type 0} (runs : Runs (EitherPort R A B) S N I O C 
           → AreTold runs sink Means moments heard talk shares homes jobs returned ⊎ AreEnded (λ (p : Known). p) homes jobs returned
           → AreToldInFull sink Means moments heard talk shares homes (finals_of settled) jobs returned settled
       one shares jobs new whole (inl told) =
-          whole told.sinks (λ on silent. stay shares homes (finals_of settled) jobs returned new told.ran on silent)
+          whole told.sinks (λ on silent. upkeep shares homes (finals_of settled) jobs returned new told.ran on silent)
+          (λ on silent. stay shares homes (finals_of settled) jobs returned new told.ran on silent)
           (λ on silent. inl (said shares homes (finals_of settled) jobs returned new told.ran on silent))
       one shares jobs new whole (inr gone) =
           whole (sinks_unrun sink moments shares homes jobs.sinks.items returned.sinks.items new.sinks gone.sinks)
+          (λ on silent. keepers_unrun shares homes (finals_of settled) on jobs.keepers.items new.keepers silent gone.keepers)
           (λ on silent. listeners_unrun Means moments heard shares homes (finals_of settled) on jobs.listeners.items returned.listeners.items new.listeners silent gone.listeners)
           (λ on silent. inr gone.lines)

@@ -3,6 +3,7 @@ use Rattle.std.proofs.Common.{◌≡◌, ◌∙◌, ◌<◌, ℕ, zero, suc, Lis
 use Rattle.std.specs.declared.alloc.Global.{Global}
 use mathlib.Core.List.{IsPrefix}
 use Rattle.channel_face.specs.History.{Opening, Step}
+use Rattle.channel_face.specs.Machine.{State}
 use Rattle.channel_face.specs.declared.replies.Counts.{Counts}
 use Rattle.shared_channel.specs.Passes.{Known}
 use Rattle.sink_worker.specs.Rounds.{Told}
@@ -15,7 +16,7 @@ use Rattle.two_channels.specs.declared.shared.EitherClosed.{EitherClosed}
 use Rattle.two_channels.specs.declared.shared.EitherShared.{EitherShared}
 use Rattle.run_tracks.specs.Closes.{AreClosed, IsClosed}
 use Rattle.run_tracks.specs.Dealt.{HasNumber}
-use Rattle.run_tracks.specs.Stops.{IsMended}
+use Rattle.run_tracks.specs.Stops.{IsKept, IsMended}
 use Rattle.agent_run.specs.Draining.{EachGoesOn, GoesOn, IsDrainedAt}
 use Rattle.agent_run.specs.Settling.{AreSettled}
 use Rattle.agent_run.specs.Wholes.{IsSilent, StaysSilent}
@@ -23,7 +24,7 @@ use Rattle.agent_run.specs.declared.homes.AtHome.{AtHome}
 use Rattle.agent_run.specs.declared.settle.Settled.{Settled}
 use Rattle.agent_run.proofs.Chaining.{each_goes_then}
 use Rattle.agent_run.proofs.Silence.{silent_then}
-use Rattle.agent_run.proofs.Stopping.{counts_silent, mends_silent}
+use Rattle.agent_run.proofs.Stopping.{counts_silent, keeps_silent, mends_silent}
 
 -- a member of a list that has one
 one_of : {X : Type 0} (xs : List X) (place : ℕ) → place < length xs → X
@@ -66,9 +67,9 @@ module _ {A B : Type 0} (disk : A → Opening → List Step → Type 0) (tells :
       one_more share shares home homes (pass_of end) (map pass_of ends) (closed_one share home end all.0) (closed_left shares homes ends all.1)
 
 module _ {A B S C : Type 0} (sink : Told S) (moments : C → Option (ℕ → ℕ)) (disk : A → Opening → List Step → Type 0) (tells : A → Bool) (moment : A → ℕ)
-    (memory : B → Opening → List Step → Type 0) (tells' : B → Bool) (shares : List (EitherShared A B)) (homes : List Known) (workers : List (SinkWorker AtHome S C))
-    (names : List (String Global × Counts)) (settled : Settled S A B)
-    (is : AreSettled (IsDrainedAt sink moments) (IsMended disk tells moment) (IsClosed disk tells memory tells') shares homes workers names settled)
+    (laid : A → State → Type 0) (pruned : A → Type 0) (memory : B → Opening → List Step → Type 0) (tells' : B → Bool) (shares : List (EitherShared A B)) (homes : List Known) (workers : List (SinkWorker AtHome S C))
+    (closes : List Bool) (names : List (String Global × Counts)) (settled : Settled S A B)
+    (is : AreSettled (IsDrainedAt sink moments) (IsKept disk tells moment laid pruned) (IsMended disk tells moment) (IsClosed disk tells memory tells') shares homes workers closes names settled)
     (named : length names ≡ length homes) where
   abbrev pub finals : List Known
   finals = map pass_of settled.closed.items
@@ -79,26 +80,38 @@ module _ {A B S C : Type 0} (sink : Told S) (moments : C → Option (ℕ → ℕ
   -- there is a share, and a name, for each
   share_at : (place : ℕ) → place < length homes → EitherShared A B
   share_at place below =
-      let a = left.shared in let b = is.counts.as_many in let c = is.mends.as_many in let d = is.goes_on.as_many in
-      one_of shares place (omega (arith, a, b, c, d, below))
+      let a = left.shared in let b = is.counts.as_many in let c = is.mends.as_many in let k = is.keeps.as_many in let d = is.goes_on.as_many in
+      one_of shares place (omega (arith, a, b, c, k, d, below))
 
   was_home : (place : ℕ) → place < length is.drained → place < length homes
   was_home place below = let d = is.goes_on.as_many in omega (arith, d, below)
 
-  was_drained : (place : ℕ) → place < length is.mended → place < length is.drained
-  was_drained place below = let c = is.mends.as_many in omega (arith, c, below)
+  was_drained : (place : ℕ) → place < length is.kept → place < length is.drained
+  was_drained place below = let k = is.keeps.as_many in omega (arith, k, below)
 
-  mended_on : EachGoesOn is.drained is.mended
+  was_kept : (place : ℕ) → place < length is.mended → place < length is.kept
+  was_kept place below = let c = is.mends.as_many in omega (arith, c, below)
+
+  kept_on : EachGoesOn is.drained is.kept
+  kept_on = record {
+    as_many = is.keeps.as_many;
+    each = λ place d below.
+        (keeps_silent A B disk tells moment laid pruned (share_at place (was_home place below)) shares closes is.drained is.kept is.keeps).0.each place d below;
+  }
+
+  mended_on : EachGoesOn is.kept is.mended
   mended_on = record {
     as_many = is.mends.as_many;
-    each = λ place d below. (mends_silent A B disk tells moment (share_at place (was_home place below)) shares is.drained is.mended settled.mends.items is.mends).0.each place d below;
+    each = λ place d below.
+        let low = was_home place (was_drained place below) in
+        (mends_silent A B disk tells moment (share_at place low) shares is.kept is.mended settled.mends.items is.mends).0.each place d below;
   }
 
   counted_on : EachGoesOn is.mended is.counted
   counted_on = record {
     as_many = is.counts.as_many;
     each = λ place d below.
-        let low = was_home place (was_drained place below) in
+        let low = was_home place (was_drained place (was_kept place below)) in
         (counts_silent (one_of names place (omega (arith, named, low))) is.mended is.counted names settled.report.items is.counts).0.each place d below;
   }
 
@@ -106,7 +119,9 @@ module _ {A B S C : Type 0} (sink : Told S) (moments : C → Option (ℕ → ℕ
   closed_on = record { as_many = left.as_many; each = λ place d below. (left.each place d below).0 }
 
   pub behind_on : EachGoesOn is.drained finals
-  behind_on = each_goes_then is.drained is.mended finals mended_on (each_goes_then is.mended is.counted finals counted_on closed_on)
+  behind_on =
+      each_goes_then is.drained is.kept finals kept_on
+      (each_goes_then is.kept is.mended finals mended_on (each_goes_then is.mended is.counted finals counted_on closed_on))
 
   pub all_on : EachGoesOn homes finals
   all_on = each_goes_then homes is.drained finals is.goes_on behind_on
@@ -115,12 +130,17 @@ module _ {A B S C : Type 0} (sink : Told S) (moments : C → Option (ℕ → ℕ
   pub behind_silent : (place n : ℕ) → place < length homes → HasNumber homes place n → ((d : Known) → (get_or homes place d).number ≡ n → ⊥) → StaysSilent place n is.drained finals
   behind_silent place n below mine other d =
       let in_drained : place < length is.drained = let e = is.goes_on.as_many in omega (arith, below, e) in
-      let in_mended : place < length is.mended = let e = is.mends.as_many in omega (arith, in_drained, e) in
+      let in_kept : place < length is.kept = let e = is.keeps.as_many in omega (arith, in_drained, e) in
+      let in_mended : place < length is.mended = let e = is.mends.as_many in omega (arith, in_kept, e) in
       let in_counted : place < length is.counted = let e = is.counts.as_many in omega (arith, in_mended, e) in
       let has_it : HasNumber is.drained place n = λ e. subst (λ (l : List ℕ). has l n ≡ true) (sym (is.goes_on.each place e below).numbers) (mine e) in
       let carries : (e : Known) → (get_or is.drained place e).number ≡ n → ⊥ = λ e same. other e (sym (is.goes_on.each place e below).number ∙ same) in
-      let mended = (mends_silent A B disk tells moment (share_at place below) shares is.drained is.mended settled.mends.items is.mends).1 place n in_drained has_it carries d in
+      let has_still : HasNumber is.kept place n = λ e. subst (λ (l : List ℕ). has l n ≡ true) (sym (kept_on.each place e in_drained).numbers) (has_it e) in
+      let carries_still : (e : Known) → (get_or is.kept place e).number ≡ n → ⊥ = λ e same. carries e (sym (kept_on.each place e in_drained).number ∙ same) in
+      let kept = (keeps_silent A B disk tells moment laid pruned (share_at place below) shares closes is.drained is.kept is.keeps).1 place n in_drained has_it carries d in
+      let mended = (mends_silent A B disk tells moment (share_at place below) shares is.kept is.mended settled.mends.items is.mends).1 place n in_kept has_still carries_still d in
       let counted = (counts_silent (one_of names place (omega (arith, named, below))) is.mended is.counted names settled.report.items is.counts).1 place n in_mended d in
       let closed = (left.each place d in_counted).1 n in
-      silent_then n (get_or is.drained place d) (get_or is.mended place d) (get_or finals place d) mended
-      (silent_then n (get_or is.mended place d) (get_or is.counted place d) (get_or finals place d) counted closed)
+      silent_then n (get_or is.drained place d) (get_or is.kept place d) (get_or finals place d) kept
+      (silent_then n (get_or is.kept place d) (get_or is.mended place d) (get_or finals place d) mended
+      (silent_then n (get_or is.mended place d) (get_or is.counted place d) (get_or finals place d) counted closed))

@@ -1,5 +1,7 @@
 -- Workers that can run, once they have got their ports.
-use Rattle.std.proofs.Common.{◌≡◌, ◌≢◌, ◌<◌, ◌^◌, ℕ, List, Option, None, sym, subst}
+use Rattle.std.proofs.Common.{◌≡◌, ◌≢◌, ◌<◌, ◌^◌, ℕ, List, [], ◌∷◌, get_or, length, Option, None, sym, subst, arith}
+use Rattle.keep_worker.specs.Workers.{CanKeep}
+use Rattle.keep_worker.specs.declared.worker.KeepWorker.{KeepWorker}
 use Rattle.netcat_source.specs.Lines.{IsLineLimit}
 use Rattle.netcat_source.specs.declared.session.LineRules.{LineRules}
 use Rattle.selectors.specs.declared.selector.Selector.{Selector}
@@ -9,13 +11,27 @@ use Rattle.source_worker.specs.Workers.{CanListen, HasLimit}
 use Rattle.source_worker.specs.declared.worker.ListenWorker.{ListenWorker}
 use Rattle.line_worker.specs.Workers.{CanServe}
 use Rattle.line_worker.specs.declared.worker.LineWorker.{LineWorker}
-use Rattle.two_channels.specs.Ports.{pass_of}
+use Rattle.two_channels.specs.Ports.{IsOnDisk, LaterPort, pass_of}
+use Rattle.two_channels.specs.Shares.{IsDisk, table_of}
 use Rattle.two_channels.specs.declared.port.EitherPort.{EitherPort}
 use Rattle.two_channels.specs.declared.shared.EitherShared.{EitherShared}
 use Rattle.run_tracks.proofs.Homing.{zips_length}
-use Rattle.agent_run.specs.Opened.{IsLineOpened, IsListenOpened}
+use Rattle.run_tracks.proofs.Telling.{either_steady}
+use Rattle.agent_run.specs.Ends.{IsKeepPort}
+use Rattle.agent_run.specs.Opened.{IsKeepOpened, IsLineOpened, IsListenOpened}
 
 module _ {R A B : Type 0} (shares : List (EitherShared A B)) where
+  -- the port of a channel on a disk is on a disk, and stays there
+  pub keep_fits : {C : Type 0} (job : KeepWorker Known C) (v : KeepWorker (EitherPort R A B) C) → IsKeepPort table_of shares (λ (p : Known). p) job
+      → ((share : EitherShared A B) → IsDisk (get_or shares job.channel share)) → IsKeepOpened shares job v → CanKeep IsOnDisk LaterPort v
+  keep_fits job v port on opened =
+      let share = first shares job.channel port.below in
+      record { here = (opened.kind share).0 (on share); stays = λ p q kept. (either_steady p q kept).0 }
+    where
+      first : (l : List (EitherShared A B)) (at : ℕ) → at < length l → EitherShared A B
+      first [] at lt = absurd (omega (arith, lt))
+      first (share ∷ l) at lt = share
+
   pub listen_fits : {N C K : Type 0} (job : ListenWorker Known N C K) (v : ListenWorker (EitherPort R A B) N C K) → CanListen job → IsListenOpened shares job v → CanListen v
   listen_fits job v can opened =
       let many = zips_length (λ (p : Known) (port : EitherPort R A B). pass_of port ≡ p) job.ports.items v.ports.items opened.passes in

@@ -1,8 +1,9 @@
 -- What the folders of a run's channels hold after it.
-use Rattle.std.proofs.Common.{◌≡◌, ◌∙◌, ◌<◌, ℕ, List, All, Bool, false, Option, Some, length, map, get_or, sym, ap, subst, arith, string_bytes}
+use Rattle.std.proofs.Common.{◌≡◌, ◌∙◌, ◌<◌, ℕ, List, All, Bool, true, false, Ok, Option, Some, length, map, get_or, sym, ap, subst, arith, string_bytes}
 use Rattle.std.specs.List.{AllByRecursion}
 use Rattle.std.proofs.lemmas.List.{get_or-map, get_or_default}
 use Rattle.channel_face.specs.History.{Opening, Shows, Step}
+use Rattle.channel_face.specs.Machine.{State}
 use Rattle.channel_face.specs.declared.replies.Limits.{Limits}
 use Rattle.channel_laws.proofs.Until.{counted_calls_leave}
 use Rattle.flume_config.specs.declared.plan.ChannelKind.{ChannelKind}
@@ -24,13 +25,19 @@ use Rattle.agent_channels.specs.Openings.{BeginsOnDisk, HostTold}
 use Rattle.agent_channels.specs.declared.wish.ChannelPlace.{ChannelPlace}
 use Rattle.agent_channels.specs.declared.wish.ChannelPlace.TheVariants.{Memory, Folder}
 use Rattle.agent_channels.specs.declared.wish.ChannelWish.{ChannelWish}
+use Rattle.channel_lock.specs.Turns.{HasAll}
 use Rattle.run_tracks.specs.Closes.{IsClosed}
-use Rattle.agent_run.specs.FoldersTold.{FolderTold, FoldersAreApart, FoldersTold, file_of, folder_of, limits_of}
+use Rattle.run_tracks.specs.Stops.{IsKept, KeptIf}
+use Rattle.agent_run.specs.FoldersTold.{EndsKept, FolderTold, FoldersAreApart, FoldersTold, file_of, folder_of, limits_of}
+use Rattle.agent_run.specs.Keepers.{closes}
+use Rattle.agent_run.specs.RolledTold.{CountsMore}
 use Rattle.agent_run.specs.Run.{IsAtRest}
 use Rattle.agent_run.specs.Wishes.{IsFileOf, IsPlaceOf, IsWish}
 use Rattle.agent_run.specs.declared.homes.AtHome.{AtHome}
 use Rattle.agent_run.proofs.Began.{IsPlacedIn, began_at}
-use Rattle.agent_run.proofs.Course.{Course, Stands, base_at, closed_are_many, counted_many, cs_many, drained_many, homes_many, mended_many, names_are_many, share_at, shares_many, tells_of, there}
+use Rattle.agent_run.proofs.Chaining.{all_go_on}
+use Rattle.agent_run.proofs.Course.{Course, Stands, base_at, closed_are_many, counted_many, cs_many, drained_many, homes_many, kept_many, mended_many, names_are_many, share_at, shares_many, tells_of, there}
+use Rattle.agent_run.proofs.Kept.{ends_kept}
 use Rattle.agent_run.proofs.Left.{IsDiskLeft, at_rest, closed_at, disk_left, finals_are, told_at}
 use Rattle.agent_run.proofs.Mended.{whole_at}
 use Rattle.agent_run.proofs.WellEnded.{IsWell}
@@ -57,12 +64,13 @@ limits_are plan many wish is =
     let file = file_is plan.kind wish.limits.max_file is.file in
     λ i. record { capacity = is.capacity i; txn_capacity = is.txn_capacity i; max_file = file i }
 
-module _ {D M S C : Type 0} (told : D → Option Told) (faults : D → ℕ) (moment : D × FileState → ℕ) (memory : M → Opening → List Step → Type 0) (tells' : M → Bool)
+module _ {D M S C : Type 0} (told : D → Option Told) (faults : D → ℕ) (moment : D × FileState → ℕ) (laid : D × FileState → State → Type 0) (pruned : D × FileState → Type 0) (memory : M → Opening → List Step → Type 0) (tells' : M → Bool)
     (Drained : SinkWorker AtHome S C → List Known → ChannelDrain → S → List Known → Type 0) (plans : List ChannelPlan) where
   -- what a closed channel on a disk says of its folder
-  folder_left : (limits : Limits) (before : Option Told) (p : Known) (e : EitherClosed (D × FileState) M) → (left : IsDiskLeft (Stands told faults) (tells_of told) memory tells' p e)
-      → BeginsOnDisk limits before p.view.base → (state_seen p.view).broken ≡ false → IsAtRest told faults e → FolderTold limits before (told left.of.channel.0) (at_rest p)
-  folder_left limits before p e left begins whole rests =
+  folder_left : (limits : Limits) (closes : Bool) (before : Option Told) (p : Known) (e : EitherClosed (D × FileState) M) → (left : IsDiskLeft (Stands told faults) (tells_of told) memory tells' p e)
+      → BeginsOnDisk limits before p.view.base → (state_seen p.view).broken ≡ false → IsAtRest told faults e → (closes ≡ true → CountsMore (length p.view.seen) → EndsKept p.view.seen)
+      → FolderTold limits closes before (told left.of.channel.0) (at_rest p)
+  folder_left limits closes before p e left begins whole rests kept =
       let c = left.of.channel in
       let all = left.stands in
       let rest : Shows (StandsOver (told c.0) (faults c.0) c.1) (Rests (told c.0)) = subst (IsAtRest told faults) left.same rests in
@@ -73,52 +81,74 @@ module _ {D M S C : Type 0} (told : D → Option Told) (faults : D → ℕ) (mom
         images = counted_calls_leave (told c.0) (faults c.0) c.1 p.view.base p.view.seen (all.0, all.1, all.2);
         whole = whole;
         rests = subst (Rests (told c.0)) all.3.state (rest p.view.base all.0 all.1);
+        kept = kept;
       }
 
-  module _ (r : Course told faults moment memory tells' Drained plans) where
+  module _ (r : Course told faults moment laid pruned memory tells' Drained plans) where
     -- no channel on a disk was left broken
     whole_left : AllByRecursion IsWell r.settled.mends.items → (place : ℕ) (d : Known) → place < length plans
         → ((s : EitherShared (D × FileState) M) → IsDisk (get_or r.shares place s)) → (state_seen (get_or r.settles.counted place d).view).broken ≡ false
     whole_left well place d below on =
-        let low : place < length r.settles.drained = let e = drained_many told faults moment memory tells' Drained plans r in omega (arith, below, e) in
-        let mid : place < length r.settles.mended = let e = mended_many told faults moment memory tells' Drained plans r in omega (arith, below, e) in
-        let s = there r.shares place (let e = shares_many told faults moment memory tells' Drained plans r in omega (arith, below, e)) in
-        let name = there r.names place (let e = names_are_many told faults moment memory tells' Drained plans r in omega (arith, below, e)) in
+        let between : place < length r.settles.kept = let e = kept_many told faults moment laid pruned memory tells' Drained plans r in omega (arith, below, e) in
+        let mid : place < length r.settles.mended = let e = mended_many told faults moment laid pruned memory tells' Drained plans r in omega (arith, below, e) in
+        let s = there r.shares place (let e = shares_many told faults moment laid pruned memory tells' Drained plans r in omega (arith, below, e)) in
+        let name = there r.names place (let e = names_are_many told faults moment laid pruned memory tells' Drained plans r in omega (arith, below, e)) in
         ap (λ (p : Known). (state_seen p.view).broken) (r.settles.counts.each place d d name name mid).pass
-        ∙ whole_at (Stands told faults) (tells_of told) moment r.shares r.settles.drained r.settles.mended r.settled.mends.items r.settles.mends well place s d low (on s)
+        ∙ whole_at (Stands told faults) (tells_of told) moment r.shares r.settles.kept r.settles.mended r.settled.mends.items r.settles.mends well place s d between (on s)
+
+    -- a channel on a disk that the plan keeps at the end
+    kept_at : All (λ (p : Known). HasAll p.view) r.homes → (place : ℕ) (plan : ChannelPlan) (d : Known) → place < length plans → ((s : EitherShared (D × FileState) M) → IsDisk (get_or r.shares place s))
+        → closes (get_or plans place plan).kind ≡ true → CountsMore (length (get_or r.settles.counted place d).view.seen) → EndsKept (get_or r.settles.counted place d).view.seen
+    kept_at all place plan d below on closing counted =
+        let low : place < length r.settles.drained = let e = drained_many told faults moment laid pruned memory tells' Drained plans r in omega (arith, below, e) in
+        let between : place < length r.settles.kept = let e = kept_many told faults moment laid pruned memory tells' Drained plans r in omega (arith, below, e) in
+        let mid : place < length r.settles.mended = let e = mended_many told faults moment laid pruned memory tells' Drained plans r in omega (arith, below, e) in
+        let s = there r.shares place (let e = shares_many told faults moment laid pruned memory tells' Drained plans r in omega (arith, below, e)) in
+        let name = there r.names place (let e = names_are_many told faults moment laid pruned memory tells' Drained plans r in omega (arith, below, e)) in
+        let old = get_or r.settles.drained place d in
+        let kept = get_or r.settles.kept place d in
+        let mended = get_or r.settles.mended place d in
+        let closed : get_or r.kept_at_end place false ≡ true =
+        ap (λ (l : List Bool). get_or l place false) r.same_kept ∙ get_or-map (λ (p : ChannelPlan). closes p.kind) plans place plan false below ∙ closing in
+        let is = subst (λ (b : Bool). KeptIf b (IsKept (Stands told faults) (tells_of told) moment laid pruned (get_or r.shares place s)) old kept) closed (r.settles.keeps.each place s false d d low) in
+        let seen : (get_or r.settles.counted place d).view.seen ≡ mended.view.seen = ap (λ (p : Known). p.view.seen) (r.settles.counts.each place d d name name mid).pass in
+        subst EndsKept (sym seen)
+        (ends_kept (Stands told faults) (tells_of told) moment laid pruned (get_or r.shares place s) old.view kept.view mended.view old.number kept.number (get_or r.settled.mends.items place (Ok false)) (on s)
+        (all_go_on r.homes r.settles.drained r.settles.goes_on all place d low) is.keeps (r.settles.mends.each place s d d (Ok false) between).mends
+        (subst (λ (h : List Step). CountsMore (length h)) seen counted))
 
     -- so it is of each folder
-    pub folders_told : FoldersAreApart plans → AllByRecursion IsWell r.settled.mends.items → All (IsAtRest told faults) r.settled.closed.items → (sunk last : HostTold)
+    pub folders_told : FoldersAreApart plans → All (λ (p : Known). HasAll p.view) r.homes → AllByRecursion IsWell r.settled.mends.items → All (IsAtRest told faults) r.settled.closed.items → (sunk last : HostTold)
         → DisksBack (backs_of told faults r.wishes r.settled.closed.items) sunk last → FoldersTold plans r.before.folders last.folders (map pass_of r.settled.closed.items)
-    folders_told apart well rests sunk last back place plan final path below named =
+    folders_told apart full well rests sunk last back place plan final path below named =
         let ends = r.settled.closed.items in
-        let few = closed_are_many told faults moment memory tells' Drained plans r in
+        let few = closed_are_many told faults moment laid pruned memory tells' Drained plans r in
         let under : place < length ends = omega (arith, below, few) in
         let many = r.wanted.many in
         let wide : place < length r.wishes = omega (arith, below, many) in
         let w = there r.wishes place wide in
-        let c = there r.cs place (let e = cs_many told faults moment memory tells' Drained plans r in omega (arith, below, e)) in
-        let d = there r.homes place (let e = homes_many told faults moment memory tells' Drained plans r in omega (arith, below, e)) in
-        let s0 = there r.shares place (let e = shares_many told faults moment memory tells' Drained plans r in omega (arith, below, e)) in
+        let c = there r.cs place (let e = cs_many told faults moment laid pruned memory tells' Drained plans r in omega (arith, below, e)) in
+        let d = there r.homes place (let e = homes_many told faults moment laid pruned memory tells' Drained plans r in omega (arith, below, e)) in
+        let s0 = there r.shares place (let e = shares_many told faults moment laid pruned memory tells' Drained plans r in omega (arith, below, e)) in
         let e0 = there ends place under in
         let wish = (r.wanted.each place plan w below).0 in
         let placed = placed_in (get_or plans place plan).kind (get_or r.wishes place w).place path wish.place named in
         let none : (i : ℕ) → i < place → IsPlacedIn (get_or r.wishes i w).place path → ⊥ = λ i low is.
         apart i place plan path low below (named_by (get_or plans i plan).kind (get_or r.wishes i w).place path (r.wanted.each i plan w (omega (arith, low, below))).0.place is) named in
         let began = began_at r.wishes r.cs r.before r.behind r.opened place w c path wide placed none in
-        let on : (s : EitherShared (D × FileState) M) → IsDisk (get_or r.shares place s) = λ s. subst IsDisk (sym (share_at told faults moment memory tells' Drained plans r place s c below)) began.1 in
+        let on : (s : EitherShared (D × FileState) M) → IsDisk (get_or r.shares place s) = λ s. subst IsDisk (sym (share_at told faults moment laid pruned memory tells' Drained plans r place s c below)) began.1 in
         let p = get_or r.settles.counted place d in
-        let counts = counted_many told faults moment memory tells' Drained plans r in
+        let counts = counted_many told faults moment laid pruned memory tells' Drained plans r in
         let low : place < length r.settles.counted = omega (arith, below, counts) in
         let is = closed_at (IsClosed (Stands told faults) (tells_of told) memory tells') r.shares r.settles.counted ends r.settles.closed place s0 d e0 low in
         let left = disk_left (Stands told faults) (tells_of told) memory tells' (get_or r.shares place s0) p (get_or ends place e0) (on s0) is in
         let here : (e : EitherClosed (D × FileState) M) → get_or ends place e ≡ closed.Disk left.of = λ e. get_or_default ends place e e0 under ∙ left.same in
         let after = back.disks path ∙ told_at told faults r.wishes ends place w left.of path (sunk.folders.disks path) wide under here placed none in
         let limits = limits_are (get_or plans place plan) _ (get_or r.wishes place w) wish in
-        let base = base_at told faults moment memory tells' Drained plans r place d c below in
+        let base = base_at told faults moment laid pruned memory tells' Drained plans r place d c below in
         let passes = finals_are (Stands told faults) (tells_of told) memory tells' r.shares r.settles.counted ends r.settles.closed in
         let same : get_or (map pass_of ends) place final ≡ at_rest p =
         ap (λ (l : List Known). get_or l place final) passes ∙ get_or-map at_rest r.settles.counted place d final low in
-        let told_so = folder_left (get_or r.wishes place w).limits (r.before.folders.disks path) p (get_or ends place e0) left
-        (subst (BeginsOnDisk (get_or r.wishes place w).limits (r.before.folders.disks path)) (sym base) began.0) (whole_left well place d below on) (rests place e0 under) in
-        subst (λ (x : Limits × Option Told × Known). FolderTold x.0 (r.before.folders.disks path) x.1 x.2) (λ i. (limits i, sym after i, sym same i)) told_so
+        let told_so = folder_left (get_or r.wishes place w).limits (closes (get_or plans place plan).kind) (r.before.folders.disks path) p (get_or ends place e0) left
+        (subst (BeginsOnDisk (get_or r.wishes place w).limits (r.before.folders.disks path)) (sym base) began.0) (whole_left well place d below on) (rests place e0 under) (kept_at full place plan d below on) in
+        subst (λ (x : Limits × Option Told × Known). FolderTold x.0 (closes (get_or plans place plan).kind) (r.before.folders.disks path) x.1 x.2) (λ i. (limits i, sym after i, sym same i)) told_so

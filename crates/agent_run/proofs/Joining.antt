@@ -8,6 +8,7 @@ use Rattle.sink_worker.specs.Rounds.{Told}
 use Rattle.source_put.specs.Chains.{Meaning}
 use Rattle.source_worker.specs.Rounds.{Heard}
 use Rattle.source_worker.specs.declared.worker.ListenWorker.{ListenWorker}
+use Rattle.keep_worker.specs.declared.worker.KeepWorker.{KeepWorker}
 use Rattle.sink_worker.specs.declared.worker.SinkWorker.{SinkWorker}
 use Rattle.line_worker.specs.Workers.{Talk}
 use Rattle.line_worker.specs.declared.worker.LineWorker.{LineWorker}
@@ -49,11 +50,11 @@ module _ {R A B S N I O C K : Type 0} (does : Runs (EitherPort R A B) S N I O C 
 
 module _ {R A B : Type 0} (disk : A → Opening → List Step → Type 0) (memory : B → Opening → List Step → Type 0)
     {S N I O C K : Type 0} (sink : Told S) (Means : Meaning K) (moments : C → Option (ℕ → ℕ)) (heard : N → Heard) (talk : I → O → Talk) (stands : N → Option Endpoint)
-    (Sinks : SinkWorker (EitherPort R A B) S C → SinkWorker (EitherPort R A B) S C → Type 0) (Drains : DrainWorker I → DrainWorker I → Type 0)
+    (Keeps : KeepWorker (EitherPort R A B) C → KeepWorker (EitherPort R A B) C → Type 0) (Sinks : SinkWorker (EitherPort R A B) S C → SinkWorker (EitherPort R A B) S C → Type 0) (Drains : DrainWorker I → DrainWorker I → Type 0)
     (Lines : LineWorker (EitherPort R A B) I O C K → LineWorker (EitherPort R A B) I O C K → Type 0) where
   -- A listener comes back at the same address and port, whether its worker ran or not.
   pub same_ends : (shares : List (EitherShared A B)) (homes : List Known) (jobs : Workers Known S N I O C K) (returned : Returned S N I O C)
-      → HaveReturned (runs Sinks (ListenRuns {R = R} disk memory Means moments heard stands) Drains Lines) sink Means moments heard talk shares homes jobs returned
+      → HaveReturned (runs Keeps Sinks (ListenRuns {R = R} disk memory Means moments heard stands) Drains Lines) sink Means moments heard talk shares homes jobs returned
       → Zips (IsSameEnd stands) jobs.listeners.items returned.listeners.items
   same_ends shares homes jobs returned (inr idle) =
       zips_map (IsListenEnded (λ (p : Known). p) homes) (IsSameEnd stands) (λ job listener gone. ap stands gone.same) jobs.listeners.items returned.listeners.items idle.listeners

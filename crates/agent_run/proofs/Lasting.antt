@@ -1,5 +1,5 @@
 -- What the passes at home took in, in what they have seen later.
-use Rattle.std.proofs.Common.{◌≡◌, ◌∙◌, ℕ, List, [], ◌∷◌, All, true, Option, get_or, sym, subst, arith}
+use Rattle.std.proofs.Common.{◌∙◌, ℕ, List, [], ◌∷◌, All, Option, get_or, sym, subst, arith}
 use Rattle.std.proofs.lemmas.List.Elements.{All-cons, All-head, All-nil, All-tail}
 use Rattle.channel_face.specs.History.{Opening, Step}
 use Rattle.flume_host.specs.Listens.{Endpoint}
@@ -9,15 +9,13 @@ use Rattle.source_worker.specs.Rounds.{Heard}
 use Rattle.source_worker.specs.declared.worker.ListenWorker.{ListenWorker}
 use Rattle.line_worker.specs.Workers.{Talk}
 use Rattle.line_worker.specs.declared.worker.LineWorker.{LineWorker}
-use Rattle.channel_lock.specs.Calls.{calls_by, has}
 use Rattle.two_channels.specs.Ports.{pass_of}
 use Rattle.two_channels.specs.declared.port.EitherPort.{EitherPort}
 use Rattle.two_channels.specs.declared.shared.EitherShared.{EitherShared}
-use Rattle.run_tracks.specs.Homes.{Took, TookAt}
+use Rattle.run_tracks.specs.Homes.{TookAt}
 use Rattle.run_tracks.specs.Places.{TookEach, Zips}
 use Rattle.run_tracks.specs.Told.{IsNew}
-use Rattle.run_tracks.proofs.Homing.{prefix_then}
-use Rattle.agent_run.specs.Draining.{EachGoesOn, GoesOn}
+use Rattle.agent_run.specs.Draining.{EachGoesOn}
 use Rattle.agent_run.specs.Ends.{IsLineEnded, IsListenEnded}
 use Rattle.agent_run.specs.Histories.{IsLineTold, IsListenTold}
 use Rattle.agent_run.specs.Opened.{IsLineOpened, IsListenOpened}
@@ -25,20 +23,8 @@ use Rattle.agent_run.specs.Wholes.{AreSilentAt, IsSilent}
 use Rattle.agent_run.specs.declared.homes.LineEnded.{LineEnded}
 use Rattle.agent_run.proofs.Behind.{LineRuns, ListenRuns, line_same, listen_same}
 use Rattle.agent_run.proofs.Same.{Same}
+use Rattle.agent_run.proofs.Silence.{took_silent}
 use Rattle.agent_run.proofs.Telling.{line_told, listen_told}
-
--- a pass with one number that is silent
-took_silent : (home last q : Known) (n : ℕ) → q.view.numbers ≡ n ∷ [] → GoesOn home last → IsSilent n home last → Took home q → Took last q
-took_silent home last q n one on silent took = record {
-  table = on.table ∙ took.table;
-  base = on.base ∙ took.base;
-  passes = on.passes ∙ took.passes;
-  seen = (
-    prefix_then q.view.seen home.view.seen last.view.seen took.seen.0 silent.begins,
-    subst (λ (l : List ℕ). calls_by l last.view.seen ≡ calls_by l home.view.seen) (sym one) silent.calls ∙ took.seen.1,
-  );
-  numbers = λ m h. subst (λ (l : List ℕ). has l m ≡ true) (sym on.numbers) (took.numbers m h);
-}
 
 module _ {F : Type 0} (pass : F → Known) (homes last : List Known) (on : EachGoesOn homes last) where
   took_at_silent : (place : ℕ) (p q : Known) → IsNew p → Same p q → ((d : Known) → IsSilent p.number (get_or homes place d) (get_or last place d)) → TookAt homes place q → TookAt last place q

@@ -5,6 +5,7 @@ use Rattle.std.specs.List.{AllByRecursion}
 use Rattle.std.specs.declared.alloc.Global.{Global}
 use Rattle.std.specs.declared.vec.Vec.{Vec}
 use Rattle.channel_face.specs.History.{Opening as Begun, Step}
+use Rattle.channel_face.specs.Machine.{State}
 use Rattle.channel_face.specs.declared.replies.Counts.{Counts}
 use Rattle.channel_face.specs.declared.replies.OpenCause.{OpenCause}
 use Rattle.flume_config.specs.declared.plan.Plan.{Plan}
@@ -49,7 +50,7 @@ use Rattle.avro_ends.specs.Dialing.{DialTold}
 use Rattle.avro_requests.specs.Requests.{RequestsAreOnLinks}
 use Rattle.run_tracks.specs.Closes.{IsClosed}
 use Rattle.run_tracks.specs.Places.{Zips}
-use Rattle.run_tracks.specs.Stops.{IsMended}
+use Rattle.run_tracks.specs.Stops.{IsKept, IsMended}
 use Rattle.agent_run.specs.DialedTold.{DialsTold}
 use Rattle.agent_run.specs.DrainedTold.{DrainedTold}
 use Rattle.agent_run.specs.Draining.{IsDrainedAt}
@@ -129,25 +130,25 @@ pub record WereHanded {R P Q G : Type 0} (rolled : R → Option Rolled) (faults 
   pub dealt : AreDealt sinks rows runners
 
 module _ {R D P Q G N I O C K : Type 0} (rolled : R → Option Rolled) (dial : DialTold P) (told : D → Option DiskTold) (faults : D → ℕ) (moment : D × FileState → ℕ)
-    (memory : MemoryChannel → Begun → List Step → Type 0) (tells' : MemoryChannel → Bool) (sink : Told (Runner (AgentSink R P Q) G)) (moments : C → Option (ℕ → ℕ)) (plan : Plan)
+    (laid : D × FileState → State → Type 0) (pruned : D × FileState → Type 0) (memory : MemoryChannel → Begun → List Step → Type 0) (tells' : MemoryChannel → Bool) (sink : Told (Runner (AgentSink R P Q) G)) (moments : C → Option (ℕ → ℕ)) (plan : Plan)
     (Drafted : Prepared K C → Type 0) (Opens : List SinkRow → Prepared K C → HostTold → HostTold → Outside (Runner (AgentSink R P Q) G) N → Type 0)
     (Takes : Manned (D × FileState) MemoryChannel (Runner (AgentSink R P Q) G) N I O C K → HostState → HostState → Type 0)
     (Joins : Manned (D × FileState) MemoryChannel (Runner (AgentSink R P Q) G) N I O C K → List Known → Joined (Runner (AgentSink R P Q) G) C → HostState → HostState → Type 0) where
   -- the settling and what follows it
-  abbrev Settles : List (EitherShared (D × FileState) MemoryChannel) → List Known → List (SinkWorker AtHome (Runner (AgentSink R P Q) G) C) → List (String Global × Counts)
+  abbrev Settles : List (EitherShared (D × FileState) MemoryChannel) → List Known → List (SinkWorker AtHome (Runner (AgentSink R P Q) G) C) → List Bool → List (String Global × Counts)
       → Settled (Runner (AgentSink R P Q) G) (D × FileState) MemoryChannel → Type 0
-  Settles = AreSettled (IsDrainedAt sink moments) (IsMended (Stands told faults) (tells_of told) moment) (IsClosed (Stands told faults) (tells_of told) memory tells')
+  Settles = AreSettled (IsDrainedAt sink moments) (IsKept (Stands told faults) (tells_of told) moment laid pruned) (IsMended (Stands told faults) (tells_of told) moment) (IsClosed (Stands told faults) (tells_of told) memory tells')
 
   abbrev Ran : RunEnds → List ChannelEnd → HostTold → HostTold → Type 0
   Ran ends channels a b =
       PlanRan plan Drafted Opens (λ rows opening. RanThrough rows opening Takes Joins Settles (IsGivenBack rolled dial told faults plan.sinks.items rows)) ends channels a b
 
   course : (ends : RunEnds) (channels : List ChannelEnd) (a b : HostTold) → Ran ends channels a b
-      → Course told faults moment memory tells' (IsDrainedAt {S = Runner (AgentSink R P Q) G} {C = C} sink moments) plan.channels.items
+      → Course told faults moment laid pruned memory tells' (IsDrainedAt {S = Runner (AgentSink R P Q) G} {C = C} sink moments) plan.channels.items
   course ends channels a b ran =
       let goes = ran.ran.goes in
       let is = goes.is_manned in
-      let uses = uses_of ran.rows ran.made.listeners.items ran.made.lines.items in
+      let uses = uses_of ran.made.keepers.items ran.rows ran.made.listeners.items ran.made.lines.items in
       let wishes : goes.manned.wishes.items ≡ ran.made.wishes.items = ap (λ (v : Vec ChannelWish Global). v.items) is.wishes ∙ ap (λ (p : Prepared K C). p.wishes.items) ran.ran.same_made in
       record {
         uses = uses;
@@ -164,6 +165,8 @@ module _ {R D P Q G N I O C K : Type 0} (rolled : R → Option Rolled) (dial : D
         homes = goes.homes;
         took = goes.took;
         workers = goes.joined.sinks.items;
+        kept_at_end = goes.manned.closes.items;
+        same_kept = ap (λ (v : Vec Bool Global). v.items) is.closes ∙ ap (λ (p : Prepared K C). p.closes.items) ran.ran.same_made ∙ ran.is_prepared.closes;
         names = goes.manned.settled.report.items;
         named = subst (λ (s : Settled (Runner (AgentSink R P Q) G) (D × FileState) MemoryChannel). NamesOf plan.channels.items s.report.items) (sym is.settled) ran.ran.names;
         settled = goes.settled;
@@ -186,17 +189,17 @@ module _ {R D P Q G N I O C K : Type 0} (rolled : R → Option Rolled) (dial : D
       let both : Zips (λ (s : SinkRow) (w : SinkWorker AtHome (Runner (AgentSink R P Q) G) C). w.channel ≡ s.channel) rows workers =
       zips_then IsSinkOf IsSameChannel (λ (s : SinkRow) (w : SinkWorker AtHome (Runner (AgentSink R P Q) G) C). w.channel ≡ s.channel) (λ s job w of back. back ∙ of.channel) rows jobs workers goes.is_manned.sinks kept in
       let many : length workers ≡ length rows = zips_long (λ (s : SinkRow) (w : SinkWorker AtHome (Runner (AgentSink R P Q) G) C). w.channel ≡ s.channel) rows workers both in
-      let finals = length-map goes.settled.closed.items pass_of ∙ closed_are_many told faults moment memory tells' (IsDrainedAt sink moments) plan.channels.items r in
+      let finals = length-map goes.settled.closed.items pass_of ∙ closed_are_many told faults moment laid pruned memory tells' (IsDrainedAt sink moments) plan.channels.items r in
       let well = subst (λ (v : Vec (Result Bool OpenCause) Global). AllByRecursion IsWell v.items) goes.mends (were_mended ends good) in
       subst (λ (l : List Known). RunLeft plan rows ends goes.homes goes.behind.output l a b) (sym goes.passes)
       (record {
         many = finals;
         folders = subst (λ (f : Folders). FoldersTold plan.channels.items a.folders f (map pass_of goes.settled.closed.items)) (sym back.folders)
-            (folders_told told faults moment memory tells' (IsDrainedAt sink moments) plan.channels.items r apart well back.rests back.behind_sinks back.behind_disks back.disks);
-        report = report_told told faults moment memory tells' (IsDrainedAt sink moments) plan.channels.items r goes.joined.streams.output_failed ends.report goes.behind.output back.behind_disks.state b.state
+            (folders_told told faults moment laid pruned memory tells' (IsDrainedAt sink moments) plan.channels.items r apart goes.all well back.rests back.behind_sinks back.behind_disks back.disks);
+        report = report_told told faults moment laid pruned memory tells' (IsDrainedAt sink moments) plan.channels.items r goes.joined.streams.output_failed ends.report goes.behind.output back.behind_disks.state b.state
             (ap (λ (s : HostState). s.output) back.disks.state ∙ ap (λ (s : HostState). s.output) back.dials.state) (was_reported ends good) back.report;
         drained = subst (λ (v : Vec ChannelDrain Global). DrainedTold rows v.items goes.homes (map pass_of goes.settled.closed.items)) (sym goes.drains)
-            (drained_told told faults moment memory tells' sink moments plan.channels.items r rows goes.home goes.all many
+            (drained_told told faults moment laid pruned memory tells' sink moments plan.channels.items r rows goes.home goes.all many
             (λ place w s below. zips_at (λ (s : SinkRow) (w : SinkWorker AtHome (Runner (AgentSink R P Q) G) C). w.channel ≡ s.channel) rows workers both place s w below) finals);
       })
 

@@ -16,10 +16,12 @@ pub mod Chaining
 pub mod Owning
 pub mod Widening
 pub mod Silence
+pub mod Upkeeps
 pub mod Lasting
 pub mod Talking
 pub mod Stopping
 pub mod Joining
+pub mod Keeping
 pub mod Settled
 pub mod Broken
 pub mod Given
@@ -54,6 +56,7 @@ pub mod Left
 pub mod WellEnded
 pub mod Course
 pub mod Mended
+pub mod Kept
 pub mod Folders
 pub mod Reports
 pub mod Emptied

@@ -24,7 +24,7 @@ use Rattle.plan_laws.proofs.Names.{Clean, both_clean}
 use Rattle.source_put.specs.declared.chain.HostNames.{HostNames}
 use Rattle.source_worker.specs.declared.ends.SessionRules.{SessionRules}
 use Rattle.agent_outside.specs.Ends.{places_by}
-use Rattle.agent_drafts.specs.Drafts.{AreDrafts, AreRules, IsDraftAt, inputs_of}
+use Rattle.agent_drafts.specs.Drafts.{AreDrafts, AreRules, IsDraftAt, inputs_by, inputs_of}
 use Rattle.agent_drafts.specs.declared.draft.SourceDraft.{SourceDraft}
 use Rattle.agent_run.specs.Causes.{limit_of, line_limit}
 use Rattle.agent_run.specs.Prepared.{IsPlanned}
@@ -169,7 +169,7 @@ inputs_here place most x ss places here none (inr (i, other, are, is, at)) = abs
 
 inputs_one : (place : ℕ) (kind : SourceKind) (x : SourcePlan) (ss : List SourcePlan) → x.kind ≡ kind → ((most : ℕ) → limit_of kind ≡ Some most → line_limit ss ≡ None)
     → Inputs (place + 1) ss (line_limit ss) (places_by inputs_of (place + 1) ss)
-    → Inputs place (x ∷ ss) (or_else (limit_of kind) (line_limit ss)) (replicate (inputs_of kind) place ++ places_by inputs_of (place + 1) ss)
+    → Inputs place (x ∷ ss) (or_else (limit_of kind) (line_limit ss)) (replicate (inputs_by kind) place ++ places_by inputs_of (place + 1) ss)
 inputs_one place (Netcat bind port max_line ack threads) x ss is alone rest = inputs_later place x ss (line_limit ss) (places_by inputs_of (place + 1) ss) rest
 inputs_one place (Avro bind port threads) x ss is alone rest = inputs_later place x ss (line_limit ss) (places_by inputs_of (place + 1) ss) rest
 inputs_one place (Stdin max_line ack) x ss is alone rest =
@@ -201,8 +201,8 @@ module _ {K C : Type 0} where
   one_seat (s ∷ t ∷ seats) n is = absurd (cc)
 
   -- a plan's drafts of workers of lines: one with the limit of its source, or none
-  pub seats_of : (sources : List SourcePlan) (names : List HostNames) (seats : List (Seat K C)) → IsLone sources → AreDrafts inputs_of sources names (map draft_of seats) → OneSeat (line_limit sources) seats
-  seats_of sources names seats lone are = by (inputs_at 0 sources lone)
+  pub seats_of : (sources : List SourcePlan) (given : List K) (names : List HostNames) (seats : List (Seat K C)) → IsLone sources → AreDrafts inputs_of sources given names (map draft_of seats) → OneSeat (line_limit sources) seats
+  seats_of sources given names seats lone are = by (inputs_at 0 sources lone)
     where
       by : Inputs 0 sources (line_limit sources) (places_by inputs_of 0 sources) → OneSeat (line_limit sources) seats
       by (inl (limit, none)) = inl (limit, no_seats seats (are.order ∙ none))
@@ -210,8 +210,8 @@ module _ {K C : Type 0} where
           let same : 0 + i ≡ i = omega arith in
           let one = one_seat seats i (are.order ∙ places ∙ ap (λ (n : ℕ). n ∷ []) same) in
           let draft = one.0.draft in
-          let is : IsDraftAt sources names draft =
-          All-head (IsDraftAt sources names) draft [] (subst (λ (l : List (Seat K C)). All (IsDraftAt sources names) (map draft_of l)) one.1 are.each) in
+          let is : IsDraftAt sources given names draft =
+          All-head (IsDraftAt sources given names) draft [] (subst (λ (l : List (Seat K C)). All (IsDraftAt sources given names) (map draft_of l)) one.1 are.each) in
           let s = there sources draft.source is.there in
           let kind : limit_of (get_or sources draft.source s).kind ≡ Some most = ap (λ (n : ℕ). limit_of (get_or sources n s).kind) one.2 ∙ at s in
           let rule = rules_max (get_or sources draft.source s).kind draft.rules most kind (is.is s draft.host).rules in

@@ -11,12 +11,12 @@ use Rattle.agent_run.specs.Assembled.{IsStaff}
 use Rattle.agent_run.specs.Labels.{numbered}
 use Rattle.agent_run.specs.Prepared.{uses_of}
 use Rattle.agent_run.specs.Runs.{owners_at, owners_of}
-use Rattle.agent_run.specs.Staff.{line_channels, line_ports, listen_channels, listen_ports, sink_channels, sink_ports}
+use Rattle.agent_run.specs.Staff.{keep_channels, keep_ports, line_channels, line_ports, listen_channels, listen_ports, sink_channels, sink_ports}
 use Rattle.agent_run.specs.declared.assemble.Parts.{Parts}
 use Rattle.agent_run.specs.declared.workers.Workers.{Workers}
 use Rattle.agent_run.proofs.Alone.{last_number, many_before, order_left}
 use Rattle.agent_run.proofs.Fresh.{AreInOrder}
-use Rattle.agent_run.proofs.Staffing.{line_places, listen_places, sinks_places}
+use Rattle.agent_run.proofs.Staffing.{keeps_places, line_places, listen_places, sinks_places}
 
 one_here : (n : ℕ) → count_of n (n ∷ []) ≡ 1
 one_here n = let is : (n == n) ≡ true = eq-eqb n n refl in rw is refl
@@ -92,22 +92,29 @@ module _ {J : Type 0} (channels : J → List ℕ) (ports : J → List Known) whe
       }
 
 module _ {S N I O C K : Type 0} (plans : List SinkRow) (parts : Parts S N I O C K) (hands : List (List Known)) (jobs : Workers Known S N I O C K)
-    (staff : IsStaff plans parts hands jobs) (order : AreInOrder hands) (left : Left hands (uses_of plans parts.listeners.items parts.lines.items)) where
+    (staff : IsStaff plans parts hands jobs) (order : AreInOrder hands) (left : Left hands (uses_of parts.keepers.items plans parts.listeners.items parts.lines.items)) where
   -- the workers' passes have the numbers of their uses
-  pub staff_numbered : owners_of jobs ≡ numbered (uses_of plans parts.listeners.items parts.lines.items)
+  pub staff_numbered : owners_of jobs ≡ numbered (uses_of parts.keepers.items plans parts.listeners.items parts.lines.items)
   staff_numbered =
+      let z = flat_map keep_channels jobs.keepers.items in
       let a = flat_map sink_channels jobs.sinks.items in
       let b = flat_map listen_channels jobs.listeners.items in
       let c = flat_map line_channels jobs.lines.items in
-      let same : uses_of plans parts.listeners.items parts.lines.items ≡ a ++ (b ++ c) =
-      λ i. sym (sinks_places plans jobs.sinks.items staff.sinks) i ++ (sym (listen_places parts.listeners.items jobs.listeners.items staff.listeners) i ++ sym (line_places parts.lines.items jobs.lines.items staff.lines) i) in
-      let all : Left hands (a ++ (b ++ (c ++ []))) =
-      subst (λ (l : List ℕ). Left hands (a ++ (b ++ l))) (sym (append-nil c)) (subst (Left hands) same left) in
-      let one = each_numbered sink_channels sink_ports hands jobs.sinks.items (b ++ (c ++ [])) staff.behind_sinks staff.deals_sinks order all in
+      let same : uses_of parts.keepers.items plans parts.listeners.items parts.lines.items ≡ z ++ (a ++ (b ++ c)) =
+      λ i. sym (keeps_places parts.keepers.items jobs.keepers.items staff.keepers) i ++ (sym (sinks_places plans jobs.sinks.items staff.sinks) i
+      ++ (sym (listen_places parts.listeners.items jobs.listeners.items staff.listeners) i ++ sym (line_places parts.lines.items jobs.lines.items staff.lines) i)) in
+      let all : Left hands (z ++ (a ++ (b ++ (c ++ [])))) =
+      subst (λ (l : List ℕ). Left hands (z ++ (a ++ (b ++ l)))) (sym (append-nil c)) (subst (Left hands) same left) in
+      let zero = each_numbered keep_channels keep_ports hands jobs.keepers.items (a ++ (b ++ (c ++ []))) staff.behind_keepers staff.deals_keepers order all in
+      let one = each_numbered sink_channels sink_ports staff.behind_keepers jobs.sinks.items (b ++ (c ++ [])) staff.behind_sinks staff.deals_sinks zero.order zero.left in
       let two = each_numbered listen_channels listen_ports staff.behind_sinks jobs.listeners.items (c ++ []) staff.behind_listeners staff.deals_listeners one.order one.left in
       let three = each_numbered line_channels line_ports staff.behind_listeners jobs.lines.items [] staff.last staff.deals_lines two.order two.left in
-      (λ i. one.numbers i ++ (two.numbers i ++ three.numbers i))
-      ∙ (λ i. numbered_before (sym (append_assoc b c []) i) a ++ sym (two_parts [] b c) i)
-      ∙ sym (two_parts [] a (b ++ c))
-      ∙ none_follow (a ++ (b ++ c))
+      let behind : numbered_before (b ++ (c ++ [])) a ++ (numbered_before (c ++ []) b ++ numbered_before [] c) ≡ numbered_before [] (a ++ (b ++ c)) =
+      (λ i. numbered_before (sym (append_assoc b c []) i) a ++ sym (two_parts [] b c) i) ∙ sym (two_parts [] a (b ++ c)) in
+      let more : a ++ (b ++ (c ++ [])) ≡ (a ++ (b ++ c)) ++ [] =
+      ap (λ (l : List ℕ). a ++ l) (sym (append_assoc b c [])) ∙ sym (append_assoc a (b ++ c) []) in
+      (λ i. zero.numbers i ++ (one.numbers i ++ (two.numbers i ++ three.numbers i)))
+      ∙ (λ i. numbered_before (more i) z ++ behind i)
+      ∙ sym (two_parts [] z (a ++ (b ++ c)))
+      ∙ none_follow (z ++ (a ++ (b ++ c)))
       ∙ ap numbered (sym same)

@@ -1,7 +1,8 @@
 -- Workers whose numbers are their own, by the kinds of the workers.
-use Rattle.std.proofs.Common.{◌≡◌, ◌++◌, ℕ, List, [], ◌∷◌, flat_map}
+use Rattle.std.proofs.Common.{◌≡◌, ◌++◌, ℕ, List, [], ◌∷◌, flat_map, sym}
 use Rattle.std.specs.List.{AllByRecursion}
 use Rattle.shared_channel.specs.Passes.{Known}
+use Rattle.keep_worker.specs.declared.worker.KeepWorker.{KeepWorker}
 use Rattle.sink_worker.specs.declared.worker.SinkWorker.{SinkWorker}
 use Rattle.run_tracks.specs.Dealt.{Owner}
 use Rattle.run_tracks.specs.Places.{Zips}
@@ -48,6 +49,27 @@ beside_owners P R [] [] zips all = tt
 beside_owners P R [] (p ∷ passes) zips all = absurd zips
 beside_owners P R (place ∷ places) [] zips all = absurd zips
 beside_owners P R (place ∷ places) (p ∷ passes) zips all = (all.0, beside_owners P R places passes zips.1 all.1)
+
+-- those of the first kind differ from those of the second
+one_across : (o : Owner) (os ps : List Owner) → AllByRecursion (λ (p : Owner). AllByRecursion (λ (x : Owner). Differ x p) (o ∷ os)) ps
+    → AllByRecursion (λ (p : Owner). Differ p o) ps × AllByRecursion (λ (p : Owner). AllByRecursion (λ (x : Owner). Differ x p) os) ps
+one_across o os [] all = (tt, tt)
+one_across o os (p ∷ ps) all =
+    let rest = one_across o os ps all.1 in
+    ((λ place number. all.0.0 (sym place) (sym number), rest.0), (all.0.1, rest.1))
+
+pub swap_across : (os ps : List Owner) → AllByRecursion (λ (p : Owner). AllByRecursion (λ (o : Owner). Differ o p) os) ps → AllByRecursion (λ (o : Owner). AllByRecursion (λ (p : Owner). Differ p o) ps) os
+swap_across [] ps all = tt
+swap_across (o ∷ os) ps all = let both = one_across o os ps all in (both.0, swap_across os ps both.1)
+
+-- the number of the worker of each channel on a disk
+abbrev pub keep_owners : {C : Type 0} → List (KeepWorker Known C) → List Owner
+keep_owners {C} jobs = flat_map (λ (k : KeepWorker Known C). owners_at (k.channel ∷ []) (k.port ∷ [])) jobs
+
+pub each_keep : {C : Type 0} (P : ℕ → ℕ → Type 0) (jobs : List (KeepWorker Known C)) → AllByRecursion (λ (o : Owner). P o.place o.number) (keep_owners jobs)
+    → AllByRecursion (λ (k : KeepWorker Known C). P k.channel k.port.number) jobs
+each_keep P [] all = tt
+each_keep P (job ∷ jobs) all = (all.0, each_keep P jobs all.1)
 
 module _ {S C : Type 0} where
   -- the number of each sink's worker

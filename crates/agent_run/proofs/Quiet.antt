@@ -8,8 +8,8 @@ use native.Mathlib.Decide.{ℕ_discrete}
 use Rattle.agent_end.specs.declared.draining.ChannelDrain.{ChannelDrain}
 use Rattle.channel_face.specs.Faces.{Own}
 use Rattle.channel_face.specs.History.{Opening, Step, opening, reopen_reply, state_after}
-use Rattle.channel_face.specs.Keeps.{is_spent_open}
-use Rattle.channel_face.specs.Machine.{Reopen, Reopened, State, after}
+use Rattle.channel_face.specs.Keeps.{is_spent_check, is_spent_open, is_spent_prune}
+use Rattle.channel_face.specs.Machine.{Call, Checkpoint, Prune, Reopen, State, after}
 use Rattle.channel_face.specs.declared.replies.OpenCause.{OpenCause}
 use Rattle.shared_channel.specs.Calls.{Answers, step}
 use Rattle.shared_channel.specs.Passes.{Known}
@@ -21,10 +21,11 @@ use Rattle.channel_lock.specs.Calls.{Below, calls_by, has, keep}
 use Rattle.channel_lock.specs.Turns.{HasAll, MadeInTurn}
 use Rattle.channel_lock.specs.Views.{View}
 use Rattle.channel_lock.proofs.Histories.{all_own, begins_self, calls_by-append}
-use Rattle.two_channels.specs.Shares.{MendsIn}
+use Rattle.two_channels.specs.Shares.{KeepsIn, MendsIn}
 use Rattle.two_channels.specs.declared.shared.EitherShared.{EitherShared}
 use Rattle.two_channels.specs.declared.shared.EitherShared.TheVariants as share
 use Rattle.run_tracks.specs.Drained.{called_in}
+use Rattle.run_tracks.specs.Stops.{IsKept, KeptIf}
 use Rattle.run_tracks.specs.Tracks.{Track}
 use Rattle.agent_run.specs.DrainedTold.{IsNoPut}
 use Rattle.agent_run.specs.Draining.{IsDrainedAt, IsDrainedHome, IsSinkHome}
@@ -121,7 +122,7 @@ module _ {S C : Type 0} (sink : Told S) (moments : C → Option (ℕ → ℕ)) w
       (drained_quiet w (get_or old w.channel d) end back (get_or new w.channel d) (at.1 d) (did.home d)))
       (λ other. subst (λ (q : Known). IsQuiet (get_or old place d).view q.view) (sym (did.others place d ((λ e. other (sym e)), tt))) (quiet_self (get_or old place d).view))
 
--- ---- mends
+-- ---- what channels are called at the stop
 
 made_quiet : (v w : View) (es : List Step) → NonePuts es → MadeInTurn v es w → IsQuiet v w
 made_quiet v w es none is =
@@ -139,14 +140,26 @@ made_quiet v w es none is =
     }
 
 module _ {A : Type 0} (disk : A → Opening → List Step → Type 0) (tells : A → Bool) (moment : A → ℕ) where
-  answered_quiet : (spent : Bool) (v w : View) (by : ℕ) (reply : Result Reopened OpenCause) → Answers disk tells moment spent v by (Reopen reply) w → IsQuiet v w
-  answered_quiet true v w by reply is = made_quiet v w [] tt is.0.1.made
-  answered_quiet false v w by reply is = made_quiet v w (step by (Reopen reply) (moment is.0.0) ∷ []) (tt, tt) is.0.1.made
+  answered_quiet : (spent : Bool) (v w : View) (by : ℕ) (call : Call) → IsNoPut call → Answers disk tells moment spent v by call w → IsQuiet v w
+  answered_quiet true v w by call none is = made_quiet v w [] tt is.0.1.made
+  answered_quiet false v w by call none is = made_quiet v w (step by call (moment is.0.0) ∷ []) (none, tt) is.0.1.made
+
+  module _ (laid : A → State → Type 0) (pruned : A → Type 0) {B : Type 0} where
+    kept_quiet : (s : EitherShared A B) (v w : View) (by : ℕ) → KeepsIn disk tells moment laid pruned s v by w → IsQuiet v w
+    kept_quiet (share.Disk s) v w by is =
+        quiet_then v is.between w (answered_quiet (is_spent_check is.check) v is.between by (Checkpoint is.check) tt is.checks)
+        (answered_quiet (is_spent_prune is.prune) is.between w by (Prune is.prune) tt is.prunes)
+    kept_quiet (share.Memory s) v w by same = subst (IsQuiet v) (sym same) (quiet_self v)
+
+    -- where it was to be kept, or else
+    pub kept_if_quiet : (s : EitherShared A B) (b : Bool) (p q : Known) → KeptIf b (IsKept disk tells moment laid pruned s) p q → IsQuiet p.view q.view
+    kept_if_quiet s true p q is = kept_quiet s p.view q.view p.number is.keeps
+    kept_if_quiet s false p q same = subst (λ (k : Known). IsQuiet p.view k.view) (sym same) (quiet_self p.view)
 
   pub mended_quiet : {B : Type 0} (s : EitherShared A B) (v w : View) (by : ℕ) (result : Result Bool OpenCause) → MendsIn disk tells moment s v by result w → IsQuiet v w
   mended_quiet (share.Disk s) v w by (Ok false) is = made_quiet v w [] tt is.0.1.made
-  mended_quiet (share.Disk s) v w by (Ok true) is = answered_quiet (is_spent_open is.0) v w by (reopen_reply is.0 is.1.0) is.1.1
-  mended_quiet (share.Disk s) v w by (Err e) is = answered_quiet (is_spent_open is.0) v w by (reopen_reply is.0 is.1.0) is.1.1
+  mended_quiet (share.Disk s) v w by (Ok true) is = answered_quiet (is_spent_open is.0) v w by (Reopen (reopen_reply is.0 is.1.0)) tt is.1.1
+  mended_quiet (share.Disk s) v w by (Err e) is = answered_quiet (is_spent_open is.0) v w by (Reopen (reopen_reply is.0 is.1.0)) tt is.1.1
   mended_quiet (share.Memory s) v w by result is = subst (IsQuiet v) (sym is.0) (quiet_self v)
 
 -- ---- all numbers

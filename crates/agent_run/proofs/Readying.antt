@@ -23,6 +23,7 @@ use Rattle.agent_channels.specs.declared.wish.ChannelPlace.TheVariants.{Folder, 
 use Rattle.agent_channels.specs.declared.wish.ChannelWish.{ChannelWish}
 use Rattle.agent_outside.specs.declared.listener.SourceListener.{SourceListener}
 use Rattle.run_tracks.specs.Deals.{count_of}
+use Rattle.agent_run.specs.Keepers.{IsWantedInFolder, closes as is_closed}
 use Rattle.agent_run.specs.Labels.{users_of}
 use Rattle.agent_run.specs.Lists.{HaveChannelLists, HaveWorkerLists}
 use Rattle.agent_run.specs.Opening.{CanBeManned}
@@ -31,7 +32,9 @@ use Rattle.agent_run.specs.Prepared.{IsPlanned, IsPrepared, IsSeat, uses_of}
 use Rattle.agent_run.specs.Staff.{seat_channels}
 use Rattle.agent_run.specs.Wishes.{AreWishes}
 use Rattle.agent_run.specs.declared.opening.Opening.{Opening}
+use Rattle.agent_run.specs.declared.seats.KeepSeat.{KeepSeat}
 use Rattle.agent_run.specs.declared.seats.Seat.{Seat}
+use Rattle.agent_run.proofs.Keeping.{are_wanted}
 use Rattle.agent_run.proofs.Labelling.{labels_many}
 
 -- ---- the groups of a plan
@@ -80,13 +83,17 @@ seats_there {K} {C} count (seat ∷ seats) all =
     All-append (λ place. place < count) (seat_channels seat) (flat_map seat_channels seats)
     (All-head (IsSeat count) seat seats all).0.there (seats_there count seats (All-tail (IsSeat count) seat seats all))
 
-uses_there : {K C : Type 0} (count : ℕ) (sinks : List SinkRow) (listeners lines : List (Seat K C)) → All (λ (row : SinkRow). row.channel < count) sinks
-    → All (IsSeat count) listeners → All (IsSeat count) lines → All (λ place. place < count) (uses_of sinks listeners lines)
-uses_there count sinks listeners lines named hear talk =
+uses_there : {K C : Type 0} (count : ℕ) (keepers : List (KeepSeat C)) (sinks : List SinkRow) (listeners lines : List (Seat K C))
+    → All (λ (seat : KeepSeat C). seat.channel < count) keepers → All (λ (row : SinkRow). row.channel < count) sinks
+    → All (IsSeat count) listeners → All (IsSeat count) lines → All (λ place. place < count) (uses_of keepers sinks listeners lines)
+uses_there {K} {C} count keepers sinks listeners lines kept named hear talk =
     let Below : ℕ → Type 0 = λ place. place < count in
-    All-append Below (map (λ (row : SinkRow). row.channel) sinks) (flat_map seat_channels listeners ++ flat_map seat_channels lines)
+    let others = flat_map seat_channels listeners ++ flat_map seat_channels lines in
+    All-append Below (map (λ (seat : KeepSeat C). seat.channel) keepers) (map (λ (row : SinkRow). row.channel) sinks ++ others)
+    (All-map Below (λ (seat : KeepSeat C). seat.channel) keepers kept)
+    (All-append Below (map (λ (row : SinkRow). row.channel) sinks) others
     (All-map Below (λ (row : SinkRow). row.channel) sinks named)
-    (All-append Below (flat_map seat_channels listeners) (flat_map seat_channels lines) (seats_there count listeners hear) (seats_there count lines talk))
+    (All-append Below (flat_map seat_channels listeners) (flat_map seat_channels lines) (seats_there count listeners hear) (seats_there count lines talk)))
 
 -- ---- each worker of a listener has one
 
@@ -105,29 +112,34 @@ pub can_be_manned : {A B S N I O C K : Type 0} (plan : Plan) (rows : List SinkRo
     → SinksNameWhatIsThere → NumbersAreLimited → IsPlanned plan → AreThere (length plan.sinks.items) plan.groups.items → AreRows plan.sinks.items plan.groups.items rows
     → IsPrepared plan rows o.prepared → WereOpened o.prepared.wishes.items o.opened.items → length o.outside.sinks.items ≡ length rows
     → WithPlaces o.prepared.places.items o.outside.listeners.items named → HaveChannelLists (length plan.channels.items) o.channels
-    → HaveWorkerLists (length rows) (length o.prepared.listeners.items) (length o.prepared.lines.items) o.workers → CanBeManned rows o
+    → HaveWorkerLists (length o.prepared.keepers.items) (length rows) (length o.prepared.listeners.items) (length o.prepared.lines.items) o.workers → CanBeManned rows o
 can_be_manned {A} {B} {S} {N} {I} {O} {C} {K} plan rows o named names limits planned in_groups are is opened sinks w channels workers =
     let p = o.prepared in
     let count = length plan.channels.items in
     let many : count ≡ length p.wishes.items = sym is.wishes.many in
-    let there = uses_there count rows p.listeners.items p.lines.items
+    let folders = are_wanted (uses_of p.keepers.items rows p.listeners.items p.lines.items) plan.channels.items p.wishes.items is.wishes p.keepers.items is.keepers in
+    let kept = All-weaker (IsWantedInFolder p.wishes.items) (λ (seat : KeepSeat C). seat.channel < count)
+    (λ seat wanted. (let t = wanted.there in omega (arith, t, many))) p.keepers.items folders in
+    let there = uses_there count p.keepers.items rows p.listeners.items p.lines.items kept
     (rows_named plan.sinks.items plan.groups.items rows in_groups are count (names planned.0 planned.1 plan planned.2)) is.listeners is.lines in
     record {
       opened = opened;
       used = record {
-        users = λ place wish below. (wish_at (uses_of rows p.listeners.items p.lines.items) plan.channels.items p.wishes.items is.wishes place wish below).0;
-        there = subst (λ (n : ℕ). All (λ place. place < n) (uses_of rows p.listeners.items p.lines.items)) many there;
+        users = λ place wish below. (wish_at (uses_of p.keepers.items rows p.listeners.items p.lines.items) plan.channels.items p.wishes.items is.wishes place wish below).0;
+        there = subst (λ (n : ℕ). All (λ place. place < n) (uses_of p.keepers.items rows p.listeners.items p.lines.items)) many there;
       };
+      folders = folders;
       some = rows_some plan.sinks.items plan.groups.items rows in_groups are
           (All-weaker (λ (sink : SinkPlan). IsFromTo 1 10000 sink.batch) (λ (sink : SinkPlan). 1 ≤ sink.batch) (λ sink within. within.0) plan.sinks.items
           (limits planned.0 planned.1 plan planned.2).sinks);
       sinks = sinks;
       clocks = is.clocks;
+      closes = ap length is.closes ∙ length-map plan.channels.items (λ (channel : ChannelPlan). is_closed channel.kind) ∙ many;
       hearers = as_many p.places.items o.outside.listeners.items named p.listeners.items w is.sources;
       listeners = subst (λ (n : ℕ). All (IsSeat n) p.listeners.items) many is.listeners;
       lines = subst (λ (n : ℕ). All (IsSeat n) p.lines.items) many is.lines;
       lined = is.lined;
-      labels = labels_many (users_of plan rows p.listeners.items p.lines.items) 0 plan.channels.items p.labels.items is.labels ∙ many;
+      labels = labels_many (users_of plan p.keepers.items rows p.listeners.items p.lines.items) 0 plan.channels.items p.labels.items is.labels ∙ many;
       channels = subst (λ (n : ℕ). HaveChannelLists n o.channels) many channels;
       workers = workers;
     }

@@ -5,6 +5,7 @@ use Rattle.std.specs.Io.KnownBytes.{Consumes, IsAtEnd}
 use Rattle.std.specs.declared.alloc.Global.{Global}
 use Rattle.std.specs.declared.vec.Vec.{Vec}
 use Rattle.channel_face.specs.History.{Opening, Step}
+use Rattle.channel_face.specs.Machine.{State}
 use Rattle.channel_face.specs.declared.replies.OpenCause.{OpenCause}
 use Rattle.channel_face.specs.declared.replies.OpenCause.TheVariants.{DiskFault}
 use Rattle.crew.specs.Drains.{DrainRan}
@@ -157,7 +158,7 @@ finishes one limit status input new (inr (inr (inr (inr (inr is))))) can fault h
 
 module _ {R A B S N I O C K : Type 0} (runs : Runs (EitherPort R A B) S N I O C K) (sink : Told S) (Means : Meaning K) (moments : C → Option (ℕ → ℕ)) (heard : N → Heard)
     (left : I → Option (List ℕ)) (read_faults : I → ℕ) (took handed : O → Option (List ℕ)) (write_faults : O → ℕ)
-    (disk : A → Opening → List Step → Type 0) (tells : A → Bool) (moment : A → ℕ) (memory : B → Opening → List Step → Type 0) (tells' : B → Bool)
+    (disk : A → Opening → List Step → Type 0) (tells : A → Bool) (moment : A → ℕ) (laid : A → State → Type 0) (pruned : A → Type 0) (memory : B → Opening → List Step → Type 0) (tells' : B → Bool)
     (plan : Plan) (Drafted : Prepared K C → Type 0) (Opens : List SinkRow → Prepared K C → HostTold → HostTold → Outside S N → Type 0)
     (Given : Manned A B S N I O C K → List N → HostState → HostState → Type 0)
     (Back : List SinkRow → List ChannelWish → Settled S A B → Bool → Result (Unit {0}) ReportRefused → HostTold → HostTold → Type 0)
@@ -168,7 +169,7 @@ module _ {R A B S N I O C K : Type 0} (runs : Runs (EitherPort R A B) S N I O C 
     (back : (rows : List SinkRow) (wishes : List ChannelWish) (settled : Settled S A B) (failed : Bool) (answer : Result (Unit {0}) ReportRefused) (a b : HostTold) → Back rows wishes settled failed answer a b
     → GoesBack failed answer a.state b.state) where
   abbrev Made : RunEnds → List ChannelEnd → HostTold → HostTold → Type 0
-  Made = Steps runs sink Means moments heard left read_faults took handed write_faults disk tells moment memory tells' plan Drafted Opens Given Back
+  Made = Steps runs sink Means moments heard left read_faults took handed write_faults disk tells moment laid pruned memory tells' plan Drafted Opens Given Back
 
   module _ (ends : RunEnds) (channels : List ChannelEnd) (a b : HostTold) (ran : Made ends channels a b) where
     abbrev limit : Option ℕ
@@ -214,7 +215,7 @@ module _ {R A B S N I O C K : Type 0} (runs : Runs (EitherPort R A B) S N I O C 
     folders : FoldersAre plan.channels.items ran.ran.goes.manned.crew.shares.items
     folders =
         let is = ran.ran.goes.is_manned in
-        folders_are (uses_of ran.rows ran.made.listeners.items ran.made.lines.items) plan.channels.items ran.made.wishes.items ran.channels a ran.behind ran.ran.goes.manned.crew.shares.items
+        folders_are (uses_of ran.made.keepers.items ran.rows ran.made.listeners.items ran.made.lines.items) plan.channels.items ran.made.wishes.items ran.channels a ran.behind ran.ran.goes.manned.crew.shares.items
         ran.is_prepared.wishes ran.opened (is.shares ∙ ap (map (λ (c : OpenedChannel A B). c.share)) ran.ran.same_channels)
 
     homes_many : length ran.ran.goes.homes ≡ length plan.channels.items
@@ -226,7 +227,7 @@ module _ {R A B S N I O C K : Type 0} (runs : Runs (EitherPort R A B) S N I O C 
     mended_left status not some =
         let r = ran.ran.goes in
         subst (λ (l : List Known). SomeIsLeft (λ c. cause_status c ≡ status) plan.channels.items l ⊎ ((status ≡ 4) × SomeInFolder IsSpent plan.channels.items l)) (sym r.passes)
-        (some_left (IsDrainedAt sink moments) disk tells moment memory tells' plan.channels.items r.manned.crew.shares.items r.homes r.joined.sinks.items r.manned.settled.report.items r.settled r.settles
+        (some_left (IsDrainedAt sink moments) disk tells moment laid pruned memory tells' plan.channels.items r.manned.crew.shares.items r.homes r.joined.sinks.items r.manned.closes.items r.manned.settled.report.items r.settled r.settles
         folders homes_many r.named status not (subst (λ (v : Vec (Result Bool OpenCause) Global). SomeMend status v.items) r.mends some))
 
     fault_left : run_status ends ≡ 3 → Rose a.state.faults b.state.faults ⊎ SomeIsLeft (λ c. c ≡ DiskFault) plan.channels.items (passes_of channels)
@@ -251,7 +252,7 @@ module _ {R A B S N I O C K : Type 0} (runs : Runs (EitherPort R A B) S N I O C 
     left_held some =
         let r = ran.ran.goes in
         mend_first ends (subst (λ (v : Vec (Result Bool OpenCause) Global). SomeMend 4 v.items) (sym r.mends)
-        (left_some (IsDrainedAt sink moments) disk tells moment memory tells' plan.channels.items r.manned.crew.shares.items r.homes r.joined.sinks.items r.manned.settled.report.items r.settled r.settles
+        (left_some (IsDrainedAt sink moments) disk tells moment laid pruned memory tells' plan.channels.items r.manned.crew.shares.items r.homes r.joined.sinks.items r.manned.closes.items r.manned.settled.report.items r.settled r.settles
         folders homes_many r.named (subst (SomeIsLeft (λ c. cause_status c ≡ 4) plan.channels.items) r.passes some)))
 
     pub run_causes : CausesTold plan (run_status ends) (passes_of channels) a.state b.state

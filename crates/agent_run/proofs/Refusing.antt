@@ -336,3 +336,19 @@ pub refused_host : (plan : Plan) (status : ℕ) (a b : HostTold) → IsRunRefuse
 refused_host plan status a b (inl not) = prepared_host status a b not
 refused_host plan status a b (inr (inl not)) = channel_host plan status a b not
 refused_host plan status a b (inr (inr not)) = outside_host plan status a b not
+
+-- ---- a run that was not prepared
+
+-- no memory, where nothing changed
+pub unprepared : (old new : HostState) → new ≡ old → (error : RunError) → error ≡ errors.NoMemory → IsUnprepared error old new
+unprepared old new same error is = record {
+  why = inr (is, ap (λ (s : HostState). s.faults) same);
+  state = same ∙ ap (λ (n : ℕ). record old { faults = n }) (sym (ap (λ (s : HostState). s.faults) same));
+}
+
+-- as the run says it
+pub unprepared_run : (plan : Plan) (said error : RunError) (a b : HostTold) (mid : HostState) → said ≡ error → mid ≡ a.state → b.folders ≡ a.folders → IsUnprepared error mid b.state
+    → IsRunRefused plan (status_of said) a b
+unprepared_run plan said error a b mid same state folders is =
+    subst (λ (e : RunError). IsRunRefused plan (status_of e) a b) (sym same)
+    (inl (not_prepared error a b (subst (λ (s : HostState). IsUnprepared error s b.state) state is) folders))

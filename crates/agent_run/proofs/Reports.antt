@@ -4,6 +4,7 @@ use Rattle.std.proofs.lemmas.List.{get_or-map, length-map, same_lists}
 use Rattle.std.specs.Prelude.{string_bytes}
 use Rattle.std.specs.declared.alloc.Global.{Global}
 use Rattle.channel_face.specs.History.{Opening, Step}
+use Rattle.channel_face.specs.Machine.{State}
 use Rattle.channel_face.specs.declared.replies.Counts.{Counts}
 use Rattle.flume_config.specs.declared.plan.ChannelPlan.{ChannelPlan}
 use Rattle.flume_host.specs.HostState.{HostState}
@@ -28,11 +29,11 @@ use Rattle.agent_end.specs.declared.ends.ReportRefused.{ReportRefused}
 abbrev Entry : Type 0
 Entry = String Global × Counts
 
-module _ {D M S C : Type 0} (told : D → Option Told) (faults : D → ℕ) (moment : D × FileState → ℕ) (memory : M → Opening → List Step → Type 0) (tells' : M → Bool)
+module _ {D M S C : Type 0} (told : D → Option Told) (faults : D → ℕ) (moment : D × FileState → ℕ) (laid : D × FileState → State → Type 0) (pruned : D × FileState → Type 0) (memory : M → Opening → List Step → Type 0) (tells' : M → Bool)
     (Drained : SinkWorker AtHome S C → List Known → ChannelDrain → S → List Known → Type 0) (plans : List ChannelPlan)
-    (r : Course told faults moment memory tells' Drained plans) where
+    (r : Course told faults moment laid pruned memory tells' Drained plans) where
   entries_many : length r.settled.report.items ≡ length plans
-  entries_many = r.settles.counts.noted ∙ names_are_many told faults moment memory tells' Drained plans r
+  entries_many = r.settles.counts.noted ∙ names_are_many told faults moment laid pruned memory tells' Drained plans r
 
   -- the entries have the names of the plan's channels
   pub named_entries : NamesOf plans r.settled.report.items
@@ -43,8 +44,8 @@ module _ {D M S C : Type 0} (told : D → Option Told) (faults : D → ℕ) (mom
       (λ k d low.
       let all = entries_many in
       let long = length-map after f in
-      let mid = mended_many told faults moment memory tells' Drained plans r in
-      let names = names_are_many told faults moment memory tells' Drained plans r in
+      let mid = mended_many told faults moment laid pruned memory tells' Drained plans r in
+      let names = names_are_many told faults moment laid pruned memory tells' Drained plans r in
       let below : k < length after = omega (arith, low, long) in
       let at : k < length r.settles.mended = omega (arith, below, all, mid) in
       let was : k < length r.names = omega (arith, below, all, names) in
@@ -59,13 +60,13 @@ module _ {D M S C : Type 0} (told : D → Option Told) (faults : D → ℕ) (mom
       let f = λ (entry : Entry). entry.1 in
       let after = r.settled.report.items in
       let counted = r.settles.counted in
-      let many = counted_many told faults moment memory tells' Drained plans r in
+      let many = counted_many told faults moment laid pruned memory tells' Drained plans r in
       let all = entries_many in
       let long = length-map after f in
       let wide = length-map (map at_rest counted) counts_seen ∙ length-map counted at_rest in
       same_lists (map f after) (map counts_seen (map at_rest counted)) (long ∙ all ∙ sym many ∙ sym wide)
       (λ k d low.
-      let mid = mended_many told faults moment memory tells' Drained plans r in
+      let mid = mended_many told faults moment laid pruned memory tells' Drained plans r in
       let below : k < length after = omega (arith, low, long) in
       let at : k < length r.settles.mended = omega (arith, below, all, mid) in
       let last : k < length counted = omega (arith, below, all, many) in

@@ -77,3 +77,14 @@ module _ {F : Type 0} (pass : F → Known) where
         (same_owned homes (places job) (passes job) (ports w) same.0.ports' (All-head (λ (job : J). All IsNew (passes job)) job jobs new)
         (subst (λ (cs : List ℕ). TookEach homes pass cs (ports w)) same.0.channels' (took w e ended.0)))
         (kind_owned Ended homes took jobs ws es same.1 (All-tail (λ (job : J). All IsNew (passes job)) job jobs new) ended.1)
+
+    -- the same of workers of which nothing else comes back
+    pub kind_took : (Ended : W → Type 0) (homes : List Known) → ((w : W) → Ended w → TookEach homes pass (channels w) (ports w))
+        → (jobs : List J) (ws : List W) → Zips IsSameWorker jobs ws → All (λ job. All IsNew (passes job)) jobs → All Ended ws
+        → All (λ o. HasNumber homes o.place o.number) (flat_map (λ job. owners_at (places job) (passes job)) jobs)
+    kind_took Ended homes took jobs ws same new ended =
+        kind_owned (λ (w : W) (e : W). Ended w) homes (λ w e is. took w is) jobs ws ws same new (beside ws ended)
+      where
+        beside : (ws : List W) → All Ended ws → Zips (λ (w : W) (e : W). Ended w) ws ws
+        beside [] all = tt
+        beside (w ∷ ws) all = (All-head Ended w ws all, beside ws (All-tail Ended w ws all))

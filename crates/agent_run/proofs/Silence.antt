@@ -20,12 +20,13 @@ use Rattle.two_channels.specs.Shares.{IsDisk}
 use Rattle.two_channels.specs.declared.shared.EitherShared.{EitherShared}
 use Rattle.run_tracks.specs.Dealt.{HasNumber}
 use Rattle.run_tracks.specs.Drained.{Looked}
+use Rattle.run_tracks.specs.Homes.{Took}
 use Rattle.run_tracks.specs.Places.{Zips}
 use Rattle.run_tracks.specs.Tracks.{Mended, Turned, ended, track_of}
 use Rattle.run_tracks.proofs.Homing.{prefix_then}
 use Rattle.run_tracks.proofs.Tracking.{own_same}
 use Rattle.agent_run.specs.declared.homes.AtHome.{AtHome}
-use Rattle.agent_run.specs.Draining.{AreDrained, IsDrainedAt, IsDrainedHome, IsSinkHome, under}
+use Rattle.agent_run.specs.Draining.{AreDrained, GoesOn, IsDrainedAt, IsDrainedHome, IsSinkHome, under}
 use Rattle.agent_run.specs.Histories.{IsSinkTold}
 use Rattle.agent_run.specs.Wholes.{AreBeside, AreOtherJobs, AreOthers, OthersStay, DrainsAreSilent, IsNot, IsOther, IsSilent, IsSilentAt, IsSinkWhole, SinksAreWhole, StaysSilent, WorkedAndDrained}
 use Rattle.agent_run.proofs.Chaining.{drained_goes_on, sink_goes_on}
@@ -64,6 +65,19 @@ silent_under n m p q is other later =
       begins = later.begins;
       calls = ap (calls_by (n ∷ [])) (sym later.begins.1) ∙ calls_by-append (n ∷ []) p.view.seen d ∙ ap (λ (l : List Step). calls_by (n ∷ []) p.view.seen ++ l) none ∙ append-nil (calls_by (n ∷ []) p.view.seen);
     }
+
+-- a pass with one number that is silent, and was taken in
+pub took_silent : (home last q : Known) (n : ℕ) → q.view.numbers ≡ n ∷ [] → GoesOn home last → IsSilent n home last → Took home q → Took last q
+took_silent home last q n one on silent took = record {
+  table = on.table ∙ took.table;
+  base = on.base ∙ took.base;
+  passes = on.passes ∙ took.passes;
+  seen = (
+    prefix_then q.view.seen home.view.seen last.view.seen took.seen.0 silent.begins,
+    subst (λ (l : List ℕ). calls_by l last.view.seen ≡ calls_by l home.view.seen) (sym one) silent.calls ∙ took.seen.1,
+  );
+  numbers = λ m h. subst (λ (l : List ℕ). has l m ≡ true) (sym on.numbers) (took.numbers m h);
+}
 
 -- so its own calls are the same
 pub silent_own : (n : ℕ) (p q : Known) → IsSilent n p q → own_calls (n ∷ []) (opening q.view.base) q.view.seen ≡ own_calls (n ∷ []) (opening p.view.base) p.view.seen

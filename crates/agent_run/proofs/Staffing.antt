@@ -4,13 +4,15 @@ use Rattle.std.proofs.lemmas.List.{map-append}
 use Rattle.std.proofs.lemmas.Grind.{flat_map-append}
 use Rattle.std.specs.declared.alloc.Global.{Global}
 use Rattle.std.specs.declared.vec.Vec.{Vec}
+use Rattle.keep_worker.specs.declared.worker.KeepWorker.{KeepWorker}
 use Rattle.line_worker.specs.declared.worker.LineWorker.{LineWorker}
 use Rattle.source_worker.specs.declared.worker.ListenWorker.{ListenWorker}
+use Rattle.agent_run.specs.declared.seats.KeepSeat.{KeepSeat}
 use Rattle.agent_run.specs.declared.seats.Seat.{Seat}
 use Rattle.grouped_sinks.specs.declared.row.SinkRow.{SinkRow}
 use Rattle.shared_channel.specs.Passes.{Known}
 use Rattle.sink_worker.specs.declared.worker.SinkWorker.{SinkWorker}
-use Rattle.agent_run.specs.Staff.{IsLineOf, IsListenOf, IsSinkOf, line_channels, line_ports, listen_channels, listen_ports, seat_channels, sink_channels, sink_ports}
+use Rattle.agent_run.specs.Staff.{IsKeepOf, IsLineOf, IsListenOf, IsSinkOf, keep_channels, keep_ports, line_channels, line_ports, listen_channels, listen_ports, seat_channels, sink_channels, sink_ports}
 use Rattle.run_tracks.specs.Deals.{Deals, DealsEach, Suffice, count_of, hand_at}
 use Rattle.run_tracks.specs.Places.{Zips}
 use Rattle.run_tracks.proofs.Handing.{one_left, count_joined}
@@ -70,6 +72,25 @@ ports_dealt hands new places channels before ports same none (passes, is, deals)
     let all : ports ≡ passes = is ∙ ap (λ (l : List Known). l ++ passes) none in
     let dealt : Deals hands channels ports new = subst (λ (x : List ℕ × List Known). Deals hands x.0 x.1 new) (λ i. (same i, sym all i)) deals in
     (dealt, deals_many hands channels ports new dealt)
+
+-- the places of channels that are kept, the last of them apart
+pub last_keep : {C : Type 0} (hands : List (List Known)) (seats front : List (KeepSeat C)) (seat : KeepSeat C) → seats ≡ front ++ seat ∷ []
+    → Suffice hands (map (λ (s : KeepSeat C). s.channel) seats) → Suffice hands (map (λ (s : KeepSeat C). s.channel) front ++ seat.channel ∷ [])
+last_keep {C} hands seats front seat same enough =
+    subst (Suffice hands) (ap (map (λ (s : KeepSeat C). s.channel)) same ∙ map-append (λ (s : KeepSeat C). s.channel) front (seat ∷ [])) enough
+
+pub keeps_places : {C : Type 0} (seats : List (KeepSeat C)) (jobs : List (KeepWorker Known C)) → Zips IsKeepOf seats jobs → flat_map keep_channels jobs ≡ map (λ (s : KeepSeat C). s.channel) seats
+keeps_places [] [] of = refl
+keeps_places [] (job ∷ jobs) of = absurd of
+keeps_places (seat ∷ seats) [] of = absurd of
+keeps_places (seat ∷ seats) (job ∷ jobs) of = λ i. of.0.channel i ∷ keeps_places seats jobs of.1 i
+
+-- what is left for the last of them
+pub keeps_left : {C : Type 0} (hands mid : List (List Known)) (seats front : List (KeepSeat C)) (seat : KeepSeat C) (jobs : List (KeepWorker Known C)) → seats ≡ front ++ seat ∷ []
+    → Suffice hands (map (λ (s : KeepSeat C). s.channel) seats) → Zips IsKeepOf front jobs → DealsEach keep_channels keep_ports hands jobs mid → Suffice mid (seat.channel ∷ [])
+keeps_left {C} hands mid seats front seat jobs same enough of dealt =
+    suffice_back hands mid (map (λ (s : KeepSeat C). s.channel) front) (seat.channel ∷ []) (last_keep hands seats front seat same enough)
+    (λ place. each_left keep_channels keep_ports hands jobs mid dealt place ∙ ap (λ (l : List ℕ). length (hand_at mid place) + count_of place l) (keeps_places front jobs of))
 
 -- the places of the sinks of a plan, the last of them apart
 pub last_plan : (hands : List (List Known)) (plans front : List SinkRow) (plan : SinkRow) → plans ≡ front ++ plan ∷ [] → Suffice hands (map (λ (p : SinkRow). p.channel) plans)

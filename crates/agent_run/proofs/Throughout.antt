@@ -60,13 +60,13 @@ pub returned_same : {R A B S N I O C K : Type 0} (runs : Runs (EitherPort R A B)
 returned_same {R} {A} {B} runs sink Means moments heard talk homes jobs returned shares shares' e is =
     subst (λ (l : List (EitherShared A B)). HaveReturned runs sink Means moments heard talk l homes jobs returned) e is
 
--- the channels were settled through the same passes at home
+-- the channels were settled through the same passes at home, and the same of them kept
 pub settled_same : {A B S C : Type 0} (Drained : SinkWorker AtHome S C → List Known → ChannelDrain → S → List Known → Type 0)
-    (Mended : EitherShared A B → Known → Result Bool OpenCause → Known → Type 0) (Closed : EitherShared A B → Known → EitherClosed A B → Type 0)
-    (shares : List (EitherShared A B)) (workers : List (SinkWorker AtHome S C)) (names : List (String Global × Counts)) (s : Settled S A B) (homes homes' : List Known) → homes ≡ homes'
-    → AreSettled Drained Mended Closed shares homes workers names s → AreSettled Drained Mended Closed shares homes' workers names s
-settled_same Drained Mended Closed shares workers names s homes homes' e is =
-    subst (λ (l : List Known). AreSettled Drained Mended Closed shares l workers names s) e is
+    (Kept : EitherShared A B → Known → Known → Type 0) (Mended : EitherShared A B → Known → Result Bool OpenCause → Known → Type 0) (Closed : EitherShared A B → Known → EitherClosed A B → Type 0)
+    (shares : List (EitherShared A B)) (workers : List (SinkWorker AtHome S C)) (closes closes' : List Bool) (names : List (String Global × Counts)) (s : Settled S A B) (homes homes' : List Known) → homes ≡ homes' → closes ≡ closes'
+    → AreSettled Drained Kept Mended Closed shares homes workers closes names s → AreSettled Drained Kept Mended Closed shares homes' workers closes' names s
+settled_same Drained Kept Mended Closed shares workers closes closes' names s homes homes' e f is =
+    subst (λ (x : List Known × List Bool). AreSettled Drained Kept Mended Closed shares x.0 workers x.1 names s) (λ i. (e i, f i)) is
 
 -- all was given back, by the same plans and folders
 pub back_same : {R D A B G : Type 0} (rolled : R → Option Rolled) (dial : DialTold A) (told : D → Option DiskTold) (faults : D → ℕ) (rows : List SinkRow) (wishes : List ChannelWish)

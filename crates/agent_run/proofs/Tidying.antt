@@ -1,12 +1,17 @@
 -- Each stage of a run's workers was settled or flushed, in the tracks of their passes.
-use Rattle.std.proofs.Common.{◌≡◌, ◌∙◌, ◌<◌, ◌++◌, ℕ, suc, List, [], ◌∷◌, append-nil, append_assoc, Bool, true, false, Option, Result, length, map, flat_map, get_or, sym, ap, subst}
+use Rattle.std.proofs.Common.{◌≡◌, ◌∙◌, ◌<◌, ◌++◌, ℕ, suc, List, [], ◌∷◌, All, append-nil, append_assoc, Bool, true, false, Option, Result, length, map, flat_map, get_or, sym, ap, subst}
 use Rattle.std.specs.List.{AllByRecursion}
 use Rattle.std.proofs.lemmas.List.{get_or_default}
+use Rattle.std.proofs.lemmas.List.Elements.{All-head, All-tail}
 use Rattle.event_core.specs.Content.{Content}
 use Rattle.channel_face.specs.Faces.{Own}
 use Rattle.channel_face.specs.History.{opening}
 use Rattle.channel_face.specs.declared.replies.FaceRefused.{FaceRefused}
 use Rattle.flume_host.specs.Links.{LinkTold}
+use Rattle.keep_worker.specs.Answers.{needs_mend as keep_needs_mend}
+use Rattle.keep_worker.specs.Rounds.{MendsIf as KeepMends, RoundBy as KeepRound, RoundsBy as KeepRounds}
+use Rattle.keep_worker.specs.declared.keeping.Upkeep.{Upkeep}
+use Rattle.keep_worker.specs.declared.worker.KeepWorker.{KeepWorker}
 use Rattle.selectors.specs.declared.selector.Selector.{Selector}
 use Rattle.shared_channel.specs.Passes.{Known}
 use Rattle.shared_channel.specs.Ports.{own_calls}
@@ -22,16 +27,18 @@ use Rattle.line_session.specs.Handled.{Handled, TakesAll}
 use Rattle.line_worker.specs.Turns.{Feeding, MendsWhere, TakesTurn, is_due}
 use Rattle.line_worker.specs.Workers.{Talk}
 use Rattle.line_worker.specs.declared.worker.LineWorker.{LineWorker}
+use Rattle.two_channels.specs.Shares.{IsDisk}
 use Rattle.two_channels.specs.declared.shared.EitherShared.{EitherShared}
 use Rattle.run_tracks.specs.Dealt.{Owner}
 use Rattle.run_tracks.specs.Listening.{MendedEach, MendedInto, MendedPort, home_tracks}
 use Rattle.run_tracks.specs.Places.{Zips}
 use Rattle.run_tracks.specs.Tracks.{Calls, Gave, Stood, Track, ended, track_of}
 use Rattle.run_tracks.proofs.Staying.{into_same, line_stays, rounds_stay, stay_then}
-use Rattle.agent_run.specs.Histories.{IsDiskOf, IsLineTold, IsListenTold}
+use Rattle.agent_run.specs.Histories.{Checked, IsDiskOf, IsKeepTold, IsLineTold, IsListenTold, Pruned}
 use Rattle.agent_run.specs.Runs.{owners_at}
 use Rattle.agent_run.specs.declared.homes.LineEnded.{LineEnded}
-use Rattle.agent_run.proofs.Ended.{batch_ends, ends_then, mend_ends}
+use Rattle.agent_run.proofs.Ended.{batch_ends, check_ends, ends_then, mend_ends, prune_ends}
+use Rattle.agent_run.proofs.Owners.{keep_owners}
 use Rattle.agent_run.proofs.Staged.{EachEnds, EndsOf}
 
 -- its next calls are these, and each of their stages was settled or flushed
@@ -89,6 +96,25 @@ module _ {B : Type 0} (Served : Into Track B → Option LinkTold → LinkEnd →
     rounds_as made next b others,
   )
 
+-- ---- those who keep channels
+
+module _ (D : Type 0) where
+  keep_mend_tidy : (due : Bool) (a b : Track) → KeepMends Checked Pruned (MendedPort D) due a b → Tidy a b
+  keep_mend_tidy true a b is = tidy_mend D a is.0 b is.1
+  keep_mend_tidy false a b same = subst (Tidy a) (sym same) (tidy_self a)
+
+  keep_round_tidy : (upkeep : Upkeep) (a b : Track) → KeepRound Checked Pruned (MendedPort D) a upkeep b → Tidy a b
+  keep_round_tidy upkeep a b (mid, (between, checks, prunes), mends) =
+      tidy_then a mid b
+      (tidy_then a between mid
+      (checks.0, checks.1, check_ends (Stood a) (length a.whole) upkeep.checked a.own checks.0 checks.2)
+      (prunes.0, prunes.1, prune_ends (Stood between) (length between.whole) upkeep.pruned between.own prunes.0 prunes.2))
+      (keep_mend_tidy (keep_needs_mend upkeep.checked upkeep.pruned) mid b mends)
+
+  keep_rounds_tidy : (upkeeps : List Upkeep) (a b : Track) → KeepRounds Checked Pruned (MendedPort D) upkeeps a b → Tidy a b
+  keep_rounds_tidy [] a b same = subst (Tidy a) (sym same) (tidy_self a)
+  keep_rounds_tidy (upkeep ∷ upkeeps) a b (next, one, others) = tidy_then a next b (keep_round_tidy upkeep a next one) (keep_rounds_tidy upkeeps next b others)
+
 -- ---- lines
 
 module _ {B E : Type 0} (Means : Meaning B) (selector : Selector) (host : HostNames) (D : E → ℕ → Type 0) (e : E) where
@@ -141,6 +167,16 @@ module _ {A B N I O C K : Type 0} (Means : Meaning K) (moments : C → Option (�
   pub owned_both : (os ps : List Owner) → Owned os → Owned ps → Owned (os ++ ps)
   owned_both [] ps a b = b
   owned_both (o ∷ os) ps a b = (a.0, owned_both os ps a.1 b)
+
+  -- the workers of channels on disks
+  pub keeps_tidy : (jobs : List (KeepWorker Known C)) → All (IsKeepTold shares finals) jobs → Owned (keep_owners jobs)
+  keeps_tidy [] all = tt
+  keeps_tidy (job ∷ jobs) all =
+      let is = All-head (IsKeepTold shares finals) job jobs all in (
+        whole_tidy finals job.channel job.port job.port.number
+            (keep_rounds_tidy (IsDisk (get_or shares job.channel share)) is.upkeeps _ _ (is.rounds share job.port)),
+        keeps_tidy jobs (All-tail (IsKeepTold shares finals) job jobs all),
+      )
 
   -- a listener's worker
   pub listen_tidy : (job : ListenWorker Known N C K) (listener : N) → IsListenTold Means moments heard shares finals job listener → Owned (owners_at job.channels.items job.ports.items)

@@ -1,10 +1,11 @@
 -- Workers that did not run, since there was no memory for it, called nothing.
 use Rattle.std.proofs.Common.{◌≡◌, ◌∙◌, ℕ, List, [], ◌∷◌, All, true, false, Option, map, get_or, refl, sym, ap, subst}
-use Rattle.std.proofs.lemmas.List.Elements.{All-head, All-tail}
+use Rattle.std.proofs.lemmas.List.Elements.{All-cons, All-head, All-nil, All-tail}
 use Rattle.channel_face.specs.Faces.{Own}
 use Rattle.channel_face.specs.History.{opening}
 use Rattle.shared_channel.specs.Passes.{Known}
 use Rattle.shared_channel.specs.Ports.{own_calls}
+use Rattle.keep_worker.specs.declared.worker.KeepWorker.{KeepWorker}
 use Rattle.sink_worker.specs.Rounds.{Told}
 use Rattle.sink_worker.specs.declared.worker.SinkWorker.{SinkWorker}
 use Rattle.source_put.specs.Chains.{Meaning}
@@ -19,12 +20,13 @@ use Rattle.run_tracks.specs.Told.{IsNew}
 use Rattle.run_tracks.specs.Tracks.{ended, track_of}
 use Rattle.run_tracks.proofs.Tracking.{own_same}
 use Rattle.agent_run.specs.Draining.{EachGoesOn}
-use Rattle.agent_run.specs.Ends.{IsListenEnded, IsSinkEnded}
-use Rattle.agent_run.specs.Histories.{IsListenTold, IsSinkTold}
-use Rattle.agent_run.specs.Wholes.{AreSilentAt}
+use Rattle.agent_run.specs.Ends.{IsKeepEnded, IsListenEnded, IsSinkEnded}
+use Rattle.agent_run.specs.Histories.{IsKeepTold, IsListenTold, IsSinkTold}
+use Rattle.agent_run.specs.Wholes.{AreSilentAt, StaysSilent}
 use Rattle.agent_run.specs.declared.homes.AtHome.{AtHome}
 use Rattle.agent_run.proofs.Lasting.{took_each_silent}
 use Rattle.agent_run.proofs.Same.{Same, same_self}
+use Rattle.agent_run.proofs.Silence.{took_silent}
 use Rattle.agent_run.proofs.Zipping.{zips_self}
 
 -- a new pass that was taken in called nothing, in what the pass at home has seen
@@ -46,6 +48,26 @@ tracks_ended homes (place ∷ places) (p ∷ passes) new took =
     let one = ended_same (get_or homes place p) p (All-head IsNew p passes new) (took.0.1 p) in
     let rest = tracks_ended homes places passes (All-tail IsNew p passes new) took.1 in
     λ i. one i ∷ rest i
+
+module _ {A B C : Type 0} (shares : List (EitherShared A B)) (homes last : List Known) (on : EachGoesOn homes last) where
+  keep_unrun : (job : KeepWorker Known C) → IsNew job.port → StaysSilent job.channel job.port.number homes last → IsKeepEnded (λ (p : Known). p) homes job → IsKeepTold shares last job
+  keep_unrun job new silent gone = record {
+    upkeeps = [];
+    rounds = λ share home.
+        let p = get_or homes job.channel home in
+        let q = get_or last job.channel home in
+        ended_same q job.port new (took_silent p q job.port job.port.number new.0 (on.each job.channel home gone.0) (silent home) (gone.1 home));
+  }
+
+  pub keepers_unrun : (jobs : List (KeepWorker Known C)) → All (λ (k : KeepWorker Known C). IsNew k.port) jobs → All (λ (k : KeepWorker Known C). StaysSilent k.channel k.port.number homes last) jobs
+      → All (IsKeepEnded (λ (p : Known). p) homes) jobs → All (IsKeepTold shares last) jobs
+  keepers_unrun [] new silent gone = All-nil (IsKeepTold shares last)
+  keepers_unrun (job ∷ jobs) new silent gone =
+      let New = λ (k : KeepWorker Known C). IsNew k.port in
+      let Silent = λ (k : KeepWorker Known C). StaysSilent k.channel k.port.number homes last in
+      let Gone = IsKeepEnded (λ (p : Known). p) homes in
+      All-cons (IsKeepTold shares last) job jobs (keep_unrun job (All-head New job jobs new) (All-head Silent job jobs silent) (All-head Gone job jobs gone))
+      (keepers_unrun jobs (All-tail New job jobs new) (All-tail Silent job jobs silent) (All-tail Gone job jobs gone))
 
 module _ {A B S C : Type 0} (sink : Told S) (moments : C → Option (ℕ → ℕ)) (shares : List (EitherShared A B)) (homes : List Known) where
   sink_unrun : (job : SinkWorker Known S C) (back : SinkWorker AtHome S C) → IsNew job.port → IsSinkEnded (λ (p : Known). p) homes job back → IsSinkTold sink moments shares homes job back

@@ -7,8 +7,8 @@ use Rattle.std.specs.List.{AllByRecursion}
 use Rattle.std.specs.declared.alloc.Global.{Global}
 use Rattle.channel_face.specs.Faces.{Own}
 use Rattle.channel_face.specs.History.{IsRun, Opening, Step, opening, reopen_reply, state_after}
-use Rattle.channel_face.specs.Keeps.{is_spent_open}
-use Rattle.channel_face.specs.Machine.{Reopen, Reopened, State, after, is_none_staged}
+use Rattle.channel_face.specs.Keeps.{is_spent_check, is_spent_open, is_spent_prune}
+use Rattle.channel_face.specs.Machine.{Call, Checkpoint, Prune, Reopen, State, after, is_none_staged}
 use Rattle.channel_face.specs.declared.replies.Counts.{Counts}
 use Rattle.channel_face.specs.declared.replies.OpenCause.{OpenCause}
 use Rattle.event_core.specs.declared.journal.Entry.{Entry}
@@ -23,14 +23,14 @@ use Rattle.channel_lock.specs.Calls.{Below, calls_by, has, keep}
 use Rattle.channel_lock.specs.Turns.{MadeInTurn}
 use Rattle.channel_lock.specs.Views.{View}
 use Rattle.channel_lock.proofs.Histories.{calls_by-append, has_only}
-use Rattle.two_channels.specs.Shares.{MendsIn}
+use Rattle.two_channels.specs.Shares.{KeepsIn, MendsIn}
 use Rattle.two_channels.specs.declared.shared.EitherShared.{EitherShared}
 use Rattle.two_channels.specs.declared.shared.EitherShared.TheVariants as share
 use Rattle.run_tracks.specs.Dealt.{AreDealt, IsOwned, Owner}
 use Rattle.run_tracks.specs.Closes.{IsClosed}
 use Rattle.run_tracks.specs.Homes.{EachTook, Took}
 use Rattle.run_tracks.specs.Places.{Zips}
-use Rattle.run_tracks.specs.Stops.{IsMended}
+use Rattle.run_tracks.specs.Stops.{IsKept, IsMended, KeptIf}
 use Rattle.run_tracks.specs.Told.{IsNew}
 use Rattle.run_tracks.specs.Tracks.{Stood}
 use Rattle.agent_run.specs.Alone.{IsAway}
@@ -114,16 +114,45 @@ made_still v w es none is =
       none = subst StagesNone (sym (append_cancel_left (calls_by v.numbers v.seen) (calls_by v.numbers rest) es calls)) none;
     }
 
+still_self : (v : View) → IsStill v v
+still_self v = record { base = refl; rest = []; whole = append-nil v.seen; none = tt }
+
+stages_more : (a b : List Step) → StagesNone a → StagesNone b → StagesNone (a ++ b)
+stages_more [] b p q = q
+stages_more (x ∷ a) b p q = (p.0, stages_more a b p.1 q)
+
+still_then : (u v w : View) → v.numbers ≡ u.numbers → IsStill u v → IsStill v w → IsStill u w
+still_then u v w numbers f g = record {
+  base = g.base ∙ f.base;
+  rest = f.rest ++ g.rest;
+  whole = sym (append_assoc u.seen f.rest g.rest) ∙ ap (λ (l : List Step). l ++ g.rest) f.whole ∙ g.whole;
+  none = subst StagesNone (sym (calls_by-append u.numbers f.rest g.rest))
+      (stages_more (calls_by u.numbers f.rest) (calls_by u.numbers g.rest) f.none (subst (λ (ns : List ℕ). StagesNone (calls_by ns g.rest)) numbers g.none));
+}
+
 module _ {A : Type 0} (disk : A → Opening → List Step → Type 0) (tells : A → Bool) (moment : A → ℕ) where
-  answered_still : (spent : Bool) (v w : View) (by : ℕ) (reply : Result Reopened OpenCause) → Answers disk tells moment spent v by (Reopen reply) w → IsStill v w
-  answered_still true v w by reply is = made_still v w [] tt is.0.1.made
-  answered_still false v w by reply is = made_still v w (step by (Reopen reply) (moment is.0.0) ∷ []) (refl, tt) is.0.1.made
+  called_still : (spent : Bool) (v w : View) (by : ℕ) (call : Call) → ticket_of call ≡ None → Answers disk tells moment spent v by call w → IsStill v w × (w.numbers ≡ v.numbers)
+  called_still true v w by call none is = (made_still v w [] tt is.0.1.made, ap (λ (x : View). x.numbers) is.0.1.made.1)
+  called_still false v w by call none is = (made_still v w (step by call (moment is.0.0) ∷ []) (none, tt) is.0.1.made, ap (λ (x : View). x.numbers) is.0.1.made.1)
+
+  module _ (laid : A → State → Type 0) (pruned : A → Type 0) {B : Type 0} where
+    kept_still : (s : EitherShared A B) (v w : View) (by : ℕ) → KeepsIn disk tells moment laid pruned s v by w → IsStill v w
+    kept_still (share.Disk s) v w by is =
+        let first = called_still (is_spent_check is.check) v is.between by (Checkpoint is.check) refl is.checks in
+        let last = called_still (is_spent_prune is.prune) is.between w by (Prune is.prune) refl is.prunes in
+        still_then v is.between w first.1 first.0 last.0
+    kept_still (share.Memory s) v w by same = subst (IsStill v) (sym same) (still_self v)
+
+    -- where it was to be kept, or else
+    kept_if_still : (s : EitherShared A B) (b : Bool) (p q : Known) → KeptIf b (IsKept disk tells moment laid pruned s) p q → IsStill p.view q.view × (q.view.numbers ≡ p.view.numbers)
+    kept_if_still s true p q is = (kept_still s p.view q.view p.number is.keeps, is.later.numbers)
+    kept_if_still s false p q same = subst (λ (k : Known). IsStill p.view k.view × (k.view.numbers ≡ p.view.numbers)) (sym same) (still_self p.view, refl)
 
   mended_still : {B : Type 0} (s : EitherShared A B) (v w : View) (by : ℕ) (result : Result Bool OpenCause) → MendsIn disk tells moment s v by result w → IsStill v w
   mended_still (share.Disk s) v w by (Ok false) is = made_still v w [] tt is.0.1.made
-  mended_still (share.Disk s) v w by (Ok true) is = answered_still (is_spent_open is.0) v w by (reopen_reply is.0 is.1.0) is.1.1
-  mended_still (share.Disk s) v w by (Err e) is = answered_still (is_spent_open is.0) v w by (reopen_reply is.0 is.1.0) is.1.1
-  mended_still (share.Memory s) v w by result is = subst (IsStill v) (sym is.0) (record { base = refl; rest = []; whole = append-nil v.seen; none = tt })
+  mended_still (share.Disk s) v w by (Ok true) is = (called_still (is_spent_open is.0) v w by (Reopen (reopen_reply is.0 is.1.0)) refl is.1.1).0
+  mended_still (share.Disk s) v w by (Err e) is = (called_still (is_spent_open is.0) v w by (Reopen (reopen_reply is.0 is.1.0)) refl is.1.1).0
+  mended_still (share.Memory s) v w by result is = subst (IsStill v) (sym is.0) (still_self v)
 
 -- no call with the number of the pass at home staged anything
 pub home_ends : (n : ℕ) (p0 p1 p2 : Known) (v : View) → IsNew p0 → p0.number ≡ n → Took p1 p0 → IsSilent n p1 p2 → has p2.view.numbers n ≡ true → IsStill p2.view v → EndsOf v.base v.seen n
@@ -164,9 +193,9 @@ still_later u v w base seen is = record { base = base ∙ is.base; rest = is.res
 -- ---- the whole
 
 module _ {A B S C : Type 0} (sink : Told S) (moments : C → Option (ℕ → ℕ)) (disk : A → Opening → List Step → Type 0) (tells : A → Bool) (moment : A → ℕ)
-    (memory : B → Opening → List Step → Type 0) (tells' : B → Bool) (shares : List (EitherShared A B)) (firsts homes : List Known) (workers : List (SinkWorker AtHome S C))
-    (names : List (String Global × Counts)) (settled : Settled S A B)
-    (is : AreSettled (IsDrainedAt sink moments) (IsMended disk tells moment) (IsClosed disk tells memory tells') shares homes workers names settled)
+    (laid : A → State → Type 0) (pruned : A → Type 0) (memory : B → Opening → List Step → Type 0) (tells' : B → Bool) (shares : List (EitherShared A B)) (firsts homes : List Known) (workers : List (SinkWorker AtHome S C))
+    (closes : List Bool) (names : List (String Global × Counts)) (settled : Settled S A B)
+    (is : AreSettled (IsDrainedAt sink moments) (IsKept disk tells moment laid pruned) (IsMended disk tells moment) (IsClosed disk tells memory tells') shares homes workers closes names settled)
     (many : length firsts ≡ length shares) (named : length names ≡ length homes) (took : EachTook firsts homes) (fresh : (place : ℕ) (d : Known) → place < length firsts → IsNew (get_or firsts place d))
     (owners : List Owner) (dealt : AreDealt firsts owners) (goes_on : EachGoesOn homes (finals_of settled))
     (owned : AllByRecursion (λ (o : Owner). EndsAt (finals_of settled) o.place o.number) owners)
@@ -181,8 +210,11 @@ module _ {A B S C : Type 0} (sink : Told S) (moments : C → Option (ℕ → ℕ
   at_drained : place < length is.drained
   at_drained = let e = is.goes_on.as_many in let h = at_home in omega (arith, h, e)
 
+  at_kept : place < length is.kept
+  at_kept = let e = is.keeps.as_many in let h = at_drained in omega (arith, h, e)
+
   at_mended : place < length is.mended
-  at_mended = let e = is.mends.as_many in let h = at_drained in omega (arith, h, e)
+  at_mended = let e = is.mends.as_many in let h = at_kept in omega (arith, h, e)
 
   at_counted : place < length is.counted
   at_counted = let e = is.counts.as_many in let h = at_mended in omega (arith, h, e)
@@ -205,8 +237,11 @@ module _ {A B S C : Type 0} (sink : Told S) (moments : C → Option (ℕ → ℕ
       let b = there names place (let h = at_home in omega (arith, h, named)) in
       let c = there settled.report.items place (let e = is.counts.noted in let h = at_home in omega (arith, h, named, e)) in
       let old = get_or is.drained place final in
+      let kept = get_or is.kept place final in
       let mid = get_or is.mended place final in
-      let one = mended_still disk tells moment (get_or shares place s) old.view mid.view old.number (get_or settled.mends.items place (Ok false)) (is.mends.each place s final final (Ok false) at_drained).mends in
+      let first = kept_if_still disk tells moment laid pruned (get_or shares place s) (get_or closes place false) old kept (is.keeps.each place s false final final at_drained) in
+      let last = mended_still disk tells moment (get_or shares place s) kept.view mid.view kept.number (get_or settled.mends.items place (Ok false)) (is.mends.each place s final final (Ok false) at_kept).mends in
+      let one = still_then old.view kept.view mid.view first.1 first.0 last in
       let counted = (is.counts.each place final final b c at_mended).pass in
       still_later old.view mid.view at_end
       (ap (λ (q : Known). q.view.base) final_is ∙ ap (λ (q : Known). q.view.base) counted) (ap (λ (q : Known). q.view.seen) final_is ∙ ap (λ (q : Known). q.view.seen) counted) one

@@ -7,6 +7,7 @@ use Rattle.std.proofs.lemmas.List.Elements.{recursion_from_All}
 use Rattle.std.specs.declared.alloc.Global.{Global}
 use Rattle.std.specs.declared.vec.Vec.{Vec}
 use Rattle.channel_face.specs.History.{Opening, Step}
+use Rattle.channel_face.specs.Machine.{State}
 use Rattle.flume_config.specs.declared.plan.Plan.{Plan}
 use Rattle.flume_host.specs.HostState.{HostState}
 use Rattle.grouped_sinks.specs.declared.row.SinkRow.{SinkRow}
@@ -51,8 +52,8 @@ use Rattle.agent_run.specs.declared.streams.StreamsEnded.{StreamsEnded}
 use Rattle.agent_run.proofs.Comeback.{opened_state}
 use Rattle.agent_run.proofs.Course.{there}
 use Rattle.agent_run.proofs.Fresh.{are_fresh, fresh_at, fresh_many}
-use Rattle.agent_run.proofs.Owners.{all_split, sink_owners}
-use Rattle.agent_run.proofs.Tidying.{lines_tidy, listens_tidy, owned_both}
+use Rattle.agent_run.proofs.Owners.{all_split, keep_owners, sink_owners}
+use Rattle.agent_run.proofs.Tidying.{keeps_tidy, lines_tidy, listens_tidy, owned_both}
 use Rattle.agent_run.proofs.Unstaged.{sinks_tidy, staged_none}
 
 -- ---- rolled files stay while channels are opened
@@ -69,8 +70,8 @@ opened_rolls (wish ∷ wishes) (c ∷ cs) a b are = opened_rolls wishes cs are.0
 
 module _ {R A B S N I O C K : Type 0} (runs : Runs (EitherPort R A B) S N I O C K) (sink : Told S) (Means : Meaning K) (moments : C → Option (ℕ → ℕ)) (heard : N → Heard)
     (left : I → Option (List ℕ)) (read_faults : I → ℕ) (took handed : O → Option (List ℕ)) (write_faults : O → ℕ)
-    (disk : A → Opening → List Step → Type 0) (tells : A → Bool) (moment : A → ℕ) (memory : B → Opening → List Step → Type 0) (tells' : B → Bool)
-    (in_full : RunsAreTold runs sink Means moments heard (talk_of left read_faults took handed write_faults) disk tells moment memory tells')
+    (disk : A → Opening → List Step → Type 0) (tells : A → Bool) (moment : A → ℕ) (laid : A → State → Type 0) (pruned : A → Type 0) (memory : B → Opening → List Step → Type 0) (tells' : B → Bool)
+    (in_full : RunsAreTold runs sink Means moments heard (talk_of left read_faults took handed write_faults) disk tells moment laid pruned memory tells')
     (stay : LinesStayTold runs Means moments (talk_of left read_faults took handed write_faults))
     (well : EndsWell runs sink Means moments heard left read_faults took handed write_faults)
     (plan : Plan) (Drafted : Prepared K C → Type 0) (Opens : List SinkRow → Prepared K C → HostTold → HostTold → Outside S N → Type 0)
@@ -80,10 +81,10 @@ module _ {R A B S N I O C K : Type 0} (runs : Runs (EitherPort R A B) S N I O C 
     (output : (rows : List SinkRow) (p : Prepared K C) (a b : HostTold) (out : Outside S N) → Opens rows p a b out → b.state.output ≡ a.state.output) where
   -- its steps, and what a run did
   abbrev pub Made : RunEnds → List ChannelEnd → HostTold → HostTold → Type 0
-  Made = Steps runs sink Means moments heard left read_faults took handed write_faults disk tells moment memory tells' plan Drafted Opens Given Back
+  Made = Steps runs sink Means moments heard left read_faults took handed write_faults disk tells moment laid pruned memory tells' plan Drafted Opens Given Back
 
   abbrev pub Did : {Q : Type 0} → (Q → List Content → ℕ → Result (Unit {0}) SinkRefused → Q → Type 0) → List (Option Q) → RunEnds → List ChannelEnd → HostTold → HostTold → Type 0
-  Did = RunDid runs sink Means moments heard left read_faults took handed write_faults disk tells moment memory tells' plan Drafted Opens Given Back
+  Did = RunDid runs sink Means moments heard left read_faults took handed write_faults disk tells moment laid pruned memory tells' plan Drafted Opens Given Back
 
   -- Where a run ended well, nothing is staged in the channels that are in folders.
   staged_told : (ends : RunEnds) (channels : List ChannelEnd) (a b : HostTold) (ran : Made ends channels a b)
@@ -116,12 +117,14 @@ module _ {R A B S N I O C K : Type 0} (runs : Runs (EitherPort R A B) S N I O C 
       let w = there wishes i (let m = fresh_many wishes ran.channels are in omega (arith, here, m)) in
       subst IsNew (sym (ap (λ (l : List Known). get_or l i d) homes_of ∙ get_or-map (λ (c : OpenedChannel A B). c.home) ran.channels i c d here)) (fresh_at wishes ran.channels are i w c here).home.1 in
       let lines = stay shares r.homes finals jobs j.returned is.new_ones told.ran full.goes_on full.silent in
-      let owned = owned_both Means moments heard talk shares some finals _ _ (sinks_tidy sink moments shares finals some jobs.sinks.items r.settled.ends.items r.settled.sinks.items full.sinks)
+      let owned = owned_both Means moments heard talk shares some finals _ _ (keeps_tidy Means moments heard talk shares some finals jobs.keepers.items full.keepers)
+      (owned_both Means moments heard talk shares some finals _ _ (sinks_tidy sink moments shares finals some jobs.sinks.items r.settled.ends.items r.settled.sinks.items full.sinks)
       (owned_both Means moments heard talk shares some finals _ _ (listens_tidy Means moments heard talk shares some finals jobs.listeners.items j.returned.listeners.items full.listeners)
-      (lines_tidy Means moments heard talk shares some finals jobs.lines.items j.returned.lines.items lines)) in
+      (lines_tidy Means moments heard talk shares some finals jobs.lines.items j.returned.lines.items lines))) in
       let sinks = subst (λ (v : Vec (SinkWorker AtHome S C) Global). Zips (IsSinkTold sink moments shares r.homes) jobs.sinks.items v.items) (sym j.sinks) told.sinks in
-      let away = all_split (IsAway firsts) (sink_owners jobs.sinks.items) _ (recursion_from_All (IsAway firsts) (owners_of jobs) is.alone.away) in
-      staged_none sink moments disk tells moment memory tells' shares firsts r.homes r.joined.sinks.items r.manned.settled.report.items r.settled r.settles is.homes.as_many r.named r.took fresh
+      let all_away = all_split (IsAway firsts) (keep_owners jobs.keepers.items) _ (recursion_from_All (IsAway firsts) (owners_of jobs) is.alone.away) in
+      let away = all_split (IsAway firsts) (sink_owners jobs.sinks.items) _ all_away.1 in
+      staged_none sink moments disk tells moment laid pruned memory tells' shares firsts r.homes r.joined.sinks.items r.manned.closes.items r.manned.settled.report.items r.settled r.settles is.homes.as_many r.named r.took fresh
       (owners_of jobs) is.dealt full.goes_on owned jobs.sinks.items sinks away.0 place final below _ folder.run folder.whole counted
 
   -- Steps are told of in all whose sinks took so much by what the workers called, whose status has its causes, and whose folders, report and
@@ -146,7 +149,7 @@ module _ {R A B S N I O C K : Type 0} (runs : Runs (EitherPort R A B) S N I O C 
       (r.input ∙ ap (λ (s : StreamsEnded). s.input) j.streams) in
       record {
         steps = ran;
-        labels = subst (AreLabels (users_of plan ran.rows ran.made.listeners.items ran.made.lines.items) 0 plan.channels.items)
+        labels = subst (AreLabels (users_of plan ran.made.keepers.items ran.rows ran.made.listeners.items ran.made.lines.items) 0 plan.channels.items)
             (sym (r.labels ∙ ap (λ (p : Prepared K C). p.labels.items) o.same_made)) ran.is_prepared.labels;
         input = input ran.rows ran.made ran.behind o.between o.opening.outside o.opens ∙ ap (λ (s : HostState). s.input) state;
         output = output ran.rows ran.made ran.behind o.between o.opening.outside o.opens ∙ ap (λ (s : HostState). s.output) state;

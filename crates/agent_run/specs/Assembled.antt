@@ -16,8 +16,8 @@ use Rattle.agent_run.specs.Draining.{HasOwn}
 use Rattle.agent_run.specs.Labels.{numbered}
 use Rattle.agent_run.specs.Lists.{IsEmptyFor}
 use Rattle.agent_run.specs.Prepared.{uses_of}
-use Rattle.agent_run.specs.Runs.{AreNew, AreWorkers, CanRun, owners_of}
-use Rattle.agent_run.specs.Staff.{IsLineOf, IsListenOf, IsRoomy, IsSinkOf, line_channels, line_ports, listen_channels, listen_ports, own_talk, sink_channels, sink_ports}
+use Rattle.agent_run.specs.Runs.{AreNew, AreOnDisks, AreWorkers, CanRun, owners_of}
+use Rattle.agent_run.specs.Staff.{IsKeepOf, IsLineOf, IsListenOf, IsRoomy, IsSinkOf, keep_channels, keep_ports, line_channels, line_ports, listen_channels, listen_ports, own_talk, sink_channels, sink_ports}
 use Rattle.agent_run.specs.declared.assemble.Crew.{Crew}
 use Rattle.agent_run.specs.declared.assemble.Parts.{Parts}
 use Rattle.agent_run.specs.declared.workers.Workers.{Workers}
@@ -32,6 +32,7 @@ pub record ArePartsOf {S N I O C K : Type 0} (plans : List SinkRow) (parts : Par
   pub listen_rooms : All IsRoomy parts.listeners.items
   pub line_rooms : All IsRoomy parts.lines.items
   pub lined : All (λ seat. TakesLines seat.draft.rules) parts.lines.items
+  pub keep_jobs : IsEmptyFor (length parts.keepers.items) parts.room.keepers
   pub sink_jobs : IsEmptyFor (length plans) parts.room.sinks
   pub listen_jobs : IsEmptyFor (length parts.listeners.items) parts.room.listeners
   pub line_jobs : IsEmptyFor (length parts.lines.items) parts.room.lines
@@ -39,11 +40,12 @@ pub record ArePartsOf {S N I O C K : Type 0} (plans : List SinkRow) (parts : Par
 -- Each channel has as many passes left as workers use it.
 abbrev pub AreUndealt : {S N I O C K : Type 0} → List SinkRow → Parts S N I O C K → List (List Known) → Type 0
 AreUndealt plans parts hands =
-    (place : ℕ) → length (hand_at hands place) ≡ count_of place (uses_of plans parts.listeners.items parts.lines.items)
+    (place : ℕ) → length (hand_at hands place) ≡ count_of place (uses_of parts.keepers.items plans parts.listeners.items parts.lines.items)
 
 -- Each worker has what it is made of and a pass of each of its channels, dealt one worker after the other, and no pass is left.
 pub record IsStaff {S N I O C K : Type 0} (plans : List SinkRow) (parts : Parts S N I O C K) (hands : List (List Known))
     (jobs : Workers Known S N I O C K) : Type 0 where
+  pub keepers : Zips IsKeepOf parts.keepers.items jobs.keepers.items
   pub sinks : Zips IsSinkOf plans jobs.sinks.items
   pub own_sinks : map (λ job. job.sink) jobs.sinks.items ≡ parts.outside.sinks.items
   pub listeners : Zips IsListenOf parts.listeners.items jobs.listeners.items
@@ -51,10 +53,12 @@ pub record IsStaff {S N I O C K : Type 0} (plans : List SinkRow) (parts : Parts 
   pub lines : Zips IsLineOf parts.lines.items jobs.lines.items
   pub own_talks : map (λ job. own_talk job) jobs.lines.items ≡ parts.talks.items
   pub drains : jobs.drains ≡ parts.room.drains
+  pub behind_keepers : List (List Known)
   pub behind_sinks : List (List Known)
   pub behind_listeners : List (List Known)
   pub last : List (List Known)
-  pub deals_sinks : DealsEach sink_channels sink_ports hands jobs.sinks.items behind_sinks
+  pub deals_keepers : DealsEach keep_channels keep_ports hands jobs.keepers.items behind_keepers
+  pub deals_sinks : DealsEach sink_channels sink_ports behind_keepers jobs.sinks.items behind_sinks
   pub deals_listeners : DealsEach listen_channels listen_ports behind_sinks jobs.listeners.items behind_listeners
   pub deals_lines : DealsEach line_channels line_ports behind_listeners jobs.lines.items last
   pub none_left : (place : ℕ) → hand_at last place ≡ []
@@ -79,10 +83,12 @@ pub record IsCrew {A B S N I O C K : Type 0} (plans : List SinkRow) (opened : Li
   pub own : All HasOwn crew.homes.items
   pub dealt : AreDealt crew.homes.items (owners_of crew.jobs)
   pub alone : AreAlone crew.homes.items (owners_of crew.jobs)
-  pub numbers : owners_of crew.jobs ≡ numbered (uses_of plans parts.listeners.items parts.lines.items)
+  pub numbers : owners_of crew.jobs ≡ numbered (uses_of parts.keepers.items plans parts.listeners.items parts.lines.items)
   pub workers : AreWorkers table_of crew.shares.items (λ (pass : Known). pass) crew.jobs
   pub new_ones : AreNew crew.jobs
   pub fit : CanRun crew.jobs
+  pub on_disks : AreOnDisks crew.shares.items crew.jobs
+  pub keepers : Zips IsKeepOf parts.keepers.items crew.jobs.keepers.items
   pub sinks : Zips IsSinkOf plans crew.jobs.sinks.items
   pub own_sinks : map (λ job. job.sink) crew.jobs.sinks.items ≡ parts.outside.sinks.items
   pub listeners : Zips IsListenOf parts.listeners.items crew.jobs.listeners.items

@@ -3,12 +3,21 @@ use Rattle.std.specs.Prelude.{◌≡◌, List}
 use Rattle.atomic_table.specs.Seated.{TableId}
 use Rattle.shared_channel.specs.Passes.{Known}
 use Rattle.sink_worker.specs.declared.worker.SinkWorker.{SinkWorker}
+use Rattle.keep_worker.specs.declared.worker.KeepWorker.{KeepWorker}
 use Rattle.source_worker.specs.declared.worker.ListenWorker.{ListenWorker}
 use Rattle.run_tracks.specs.Homes.{IsAt, TookAt}
 use Rattle.run_tracks.specs.Places.{AreAt, TookEach}
 use Rattle.line_worker.specs.declared.worker.LineWorker.{LineWorker}
 use Rattle.agent_run.specs.declared.homes.AtHome.{AtHome}
 use Rattle.agent_run.specs.declared.homes.LineEnded.{LineEnded}
+
+-- the pass of a port is of the channel that the worker keeps
+abbrev pub IsKeepPort : {Z F C : Type 0} → (Z → TableId) → List Z → (F → Known) → KeepWorker F C → Type 0
+IsKeepPort table shares pass w = IsAt table shares w.channel (pass w.port)
+
+-- its pass was taken in at home
+abbrev pub IsKeepEnded : {F C : Type 0} → (F → Known) → List Known → KeepWorker F C → Type 0
+IsKeepEnded pass homes w = TookAt homes w.channel (pass w.port)
 
 -- the pass of a sink's port is of the sink's channel
 abbrev pub IsSinkPort : {Z F S C : Type 0} → (Z → TableId) → List Z → (F → Known) → SinkWorker F S C → Type 0

@@ -1,6 +1,13 @@
 -- What the workers of a run called, in the whole histories of their channels.
-use Rattle.std.specs.Prelude.{◌≡◌, ◌<◌, ℕ, List, [], ◌∷◌, length, map, Bool, true, false, Option, Some, slice_index_or}
+use Rattle.std.specs.Prelude.{◌≡◌, ◌<◌, ℕ, List, [], ◌∷◌, length, map, Bool, true, false, Option, Some, Result, slice_index_or}
 use Rattle.std.specs.List.{AllByRecursion}
+use Rattle.channel_face.specs.Faces.{Own}
+use Rattle.channel_face.specs.Keeps.{IsCheck, IsPrune}
+use Rattle.channel_face.specs.declared.replies.CheckRefused.{CheckRefused}
+use Rattle.channel_face.specs.declared.replies.PruneRefused.{PruneRefused}
+use Rattle.keep_worker.specs.Rounds.{RoundsBy}
+use Rattle.keep_worker.specs.declared.keeping.Upkeep.{Upkeep}
+use Rattle.keep_worker.specs.declared.worker.KeepWorker.{KeepWorker}
 use Rattle.shared_channel.specs.Passes.{Known}
 use Rattle.sink_runner.specs.declared.turn.Turn.{Turn}
 use Rattle.sink_worker.specs.Rounds.{Rounds as SinkRounds, Told}
@@ -18,10 +25,26 @@ use Rattle.line_worker.specs.Workers.{Session as LineSession, Talk, told_by}
 use Rattle.line_worker.specs.declared.worker.LineWorker.{LineWorker}
 use Rattle.two_channels.specs.Shares.{IsDisk}
 use Rattle.two_channels.specs.declared.shared.EitherShared.{EitherShared}
-use Rattle.run_tracks.specs.Listening.{MendedInto, home_tracks}
-use Rattle.run_tracks.specs.Tracks.{Gave, Mended, Track, Turned, ended, track_of}
+use Rattle.run_tracks.specs.Listening.{MendedInto, MendedPort, home_tracks}
+use Rattle.run_tracks.specs.Tracks.{Calls, Gave, Mended, Track, Turned, ended, track_of}
 use Rattle.agent_run.specs.declared.homes.AtHome.{AtHome}
 use Rattle.agent_run.specs.declared.homes.LineEnded.{LineEnded}
+
+-- its next calls were a checkpoint, which was answered so
+abbrev pub Checked : Track → Result (Unit {0}) CheckRefused → Track → Type 0
+Checked old reply new = (more : List Own) × Calls old new more × IsCheck (length old.whole) reply more
+
+-- its next calls were a removal of old files, which was answered so
+abbrev pub Pruned : Track → Result ℕ PruneRefused → Track → Type 0
+Pruned old reply new = (more : List Own) × Calls old new more × IsPrune (length old.whole) reply more
+
+-- Of the worker of a channel on a disk, its rounds of a checkpoint, a removal of old files and a mend where one was due, in order, are all
+-- calls with the number of its pass in the history that the pass at home has seen.
+pub record IsKeepTold {A B C : Type 0} (shares : List (EitherShared A B)) (homes : List Known) (job : KeepWorker Known C) : Type 0 where
+  pub upkeeps : List Upkeep
+  pub rounds : (share : EitherShared A B) (home : Known)
+      → let track = track_of (slice_index_or homes job.channel home) job.port.number in
+      RoundsBy Checked Pruned (MendedPort (IsDisk (slice_index_or shares job.channel share))) upkeeps track (ended track)
 
 -- Its rounds, in order, are all calls with the number of its pass in the history that the pass at home has seen.
 pub record IsSinkTold {A B S C : Type 0} (sink : Told S) (moments : C → Option (ℕ → ℕ)) (shares : List (EitherShared A B)) (homes : List Known)

@@ -13,6 +13,7 @@ use Rattle.agent_run.specs.declared.labels.ChannelLabel.{ChannelLabel}
 use Rattle.agent_run.specs.declared.labels.User.{User}
 use Rattle.agent_run.specs.declared.outcome.ChannelEnd.{ChannelEnd}
 use Rattle.agent_run.specs.declared.outcome.Worker.{Worker}
+use Rattle.agent_run.specs.declared.seats.KeepSeat.{KeepSeat}
 use Rattle.agent_run.specs.declared.seats.Seat.{Seat}
 
 -- A worker that uses the channel at this place: its component, and its place among the workers of that.
@@ -23,6 +24,19 @@ pub record Use : Type 0 where
 
 abbrev pub user_of : User → Use
 user_of user = record { channel = user.channel; component = string_bytes user.component; place = user.place }
+
+-- the component of a channel, if there is one
+abbrev pub channel_name_of : Option ChannelPlan → List ℕ
+channel_name_of None = []
+channel_name_of (Some plan) = codes "channels." ++ string_bytes plan.name
+
+-- this text is the component of the channel at this place
+abbrev pub IsChannelNamed : List ChannelPlan → ℕ → String Global → Type 0
+IsChannelNamed plans at text = string_bytes text ≡ channel_name_of (slice_get plans at)
+
+-- the worker of a channel on a disk
+abbrev pub keep_user : {C : Type 0} → List ChannelPlan → KeepSeat C → Use
+keep_user plans seat = record { channel = seat.channel; component = channel_name_of (slice_get plans seat.channel); place = 0 }
 
 abbrev pub sink_user : SinkRow → Use
 sink_user row = record { channel = row.channel; component = string_bytes row.component; place = 0 }
@@ -44,10 +58,11 @@ channel_user sources draft channel = record { channel = channel; component = nam
 abbrev pub seat_users : {K C : Type 0} → List SourcePlan → Seat K C → List Use
 seat_users sources seat = map (channel_user sources seat.draft) (seat_channels seat)
 
--- the workers that use channels: those of the rows of sinks, of the listeners and of the lines
-abbrev pub users_of : {K C : Type 0} → Plan → List SinkRow → List (Seat K C) → List (Seat K C) → List Use
-users_of plan rows listeners lines =
-    map sink_user rows ++ (flat_map (seat_users plan.sources.items) listeners ++ flat_map (seat_users plan.sources.items) lines)
+-- the workers that use channels: those of the channels on disks, of the rows of sinks, of the listeners and of the lines
+abbrev pub users_of : {K C : Type 0} → Plan → List (KeepSeat C) → List SinkRow → List (Seat K C) → List (Seat K C) → List Use
+users_of plan keepers rows listeners lines =
+    map (keep_user plan.channels.items) keepers
+    ++ (map sink_user rows ++ (flat_map (seat_users plan.sources.items) listeners ++ flat_map (seat_users plan.sources.items) lines))
 
 -- the channels that they use, each as often as it is used
 abbrev pub places_of : List Use → List ℕ

@@ -4,6 +4,7 @@ pub mod Ends
 pub mod Runs
 pub mod Histories
 pub mod Staff
+pub mod Keepers
 pub mod Labels
 pub mod Wishes
 pub mod Lists

@@ -35,8 +35,9 @@ pub record HasSettleRoom {S A B : Type 0} (plans : List ChannelPlan) (many : ℕ
   pub report : NamesOf plans room.report.items
   pub closed : IsEmptyFor (length plans) room.closed
 
--- room for so many sinks, listeners and workers of lines
-pub record HaveWorkerLists {S N I O C K : Type 0} (of_sinks of_listeners of_lines : ℕ) (lists : WorkerLists S N I O C K) : Type 0 where
+-- room for so many kept channels, sinks, listeners and workers of lines
+pub record HaveWorkerLists {S N I O C K : Type 0} (of_keepers of_sinks of_listeners of_lines : ℕ) (lists : WorkerLists S N I O C K) : Type 0 where
+  pub keep_jobs : IsEmptyFor of_keepers lists.jobs.keepers
   pub sink_jobs : IsEmptyFor of_sinks lists.jobs.sinks
   pub listen_jobs : IsEmptyFor of_listeners lists.jobs.listeners
   pub line_jobs : IsEmptyFor of_lines lists.jobs.lines
@@ -47,10 +48,10 @@ pub record HaveWorkerLists {S N I O C K : Type 0} (of_sinks of_listeners of_line
   pub talks : IsEmptyFor of_lines lists.talks
   pub named : IsEmptyFor of_listeners lists.named
 
--- room for all that a run of this plan has, with so many rows of sinks, listeners and workers of lines
-pub record HasRoomFor {S A B N I O C K : Type 0} (plan : Plan) (of_rows of_listeners of_lines : ℕ) (room : Room S A B N I O C K) : Type 0 where
+-- room for all that a run of this plan has, with so many kept channels, rows of sinks, listeners and workers of lines
+pub record HasRoomFor {S A B N I O C K : Type 0} (plan : Plan) (of_keepers of_rows of_listeners of_lines : ℕ) (room : Room S A B N I O C K) : Type 0 where
   pub listeners : IsEmptyFor of_listeners room.listeners
   pub runners : IsEmptyFor of_rows room.runners
   pub channels : HaveChannelLists (length plan.channels.items) room.channels
-  pub workers : HaveWorkerLists of_rows of_listeners of_lines room.workers
+  pub workers : HaveWorkerLists of_keepers of_rows of_listeners of_lines room.workers
   pub settled : HasSettleRoom plan.channels.items of_rows room.settled

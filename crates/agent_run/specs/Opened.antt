@@ -5,6 +5,7 @@ use Rattle.std.specs.declared.alloc.Global.{Global}
 use Rattle.std.specs.declared.vec.Vec.{Vec}
 use Rattle.shared_channel.specs.Passes.{Known}
 use Rattle.sink_worker.specs.declared.worker.SinkWorker.{SinkWorker}
+use Rattle.keep_worker.specs.declared.worker.KeepWorker.{KeepWorker}
 use Rattle.source_worker.specs.declared.worker.ListenWorker.{ListenWorker}
 use Rattle.line_worker.specs.declared.worker.LineWorker.{LineWorker}
 use Rattle.two_channels.specs.Ports.{pass_of}
@@ -12,6 +13,14 @@ use Rattle.two_channels.specs.Shares.{IsPortOf}
 use Rattle.two_channels.specs.declared.port.EitherPort.{EitherPort}
 use Rattle.two_channels.specs.declared.shared.EitherShared.{EitherShared}
 use Rattle.run_tracks.specs.Places.{AreKinds, Zips}
+
+-- it is the same worker of a channel, with a port of it that has its pass
+pub record IsKeepOpened {R A B C : Type 0} (shares : List (EitherShared A B)) (job : KeepWorker Known C) (w : KeepWorker (EitherPort R A B) C) : Type 0 where
+  pub pass : pass_of w.port ≡ job.port
+  pub kind : (d : EitherShared A B) → IsPortOf (slice_index_or shares job.channel d) w.port
+  pub channel : w.channel ≡ job.channel
+  pub interval : w.interval ≡ job.interval
+  pub clock : w.clock ≡ job.clock
 
 -- it is the same sink, with a port of its channel that has its pass
 pub record IsSinkOpened {R A B S C : Type 0} (shares : List (EitherShared A B)) (job : SinkWorker Known S C) (w : SinkWorker (EitherPort R A B) S C) : Type 0 where

@@ -12,11 +12,12 @@ use Rattle.run_tracks.specs.Places.{Zips}
 use Rattle.agent_run.specs.Alone.{AreAlone}
 use Rattle.agent_run.specs.Assembled.{AreUsed}
 use Rattle.agent_run.specs.Draining.{HasOwn}
+use Rattle.agent_run.specs.Keepers.{AreWantedInFolders}
 use Rattle.agent_run.specs.Labels.{numbered}
 use Rattle.agent_run.specs.Lists.{HaveChannelLists, HaveWorkerLists}
 use Rattle.agent_run.specs.Prepared.{IsSeat, uses_of}
-use Rattle.agent_run.specs.Runs.{AreNew, AreWorkers, CanRun, HaveRoom, owners_of}
-use Rattle.agent_run.specs.Staff.{IsLineOf, IsListenOf, IsSinkOf}
+use Rattle.agent_run.specs.Runs.{AreNew, AreOnDisks, AreWorkers, CanRun, HaveRoom, owners_of}
+use Rattle.agent_run.specs.Staff.{IsKeepOf, IsLineOf, IsListenOf, IsSinkOf}
 use Rattle.agent_run.specs.declared.opening.Manned.{Manned}
 use Rattle.agent_run.specs.declared.opening.Opening.{Opening}
 
@@ -24,17 +25,19 @@ use Rattle.agent_run.specs.declared.opening.Opening.{Opening}
 -- it has users.
 pub record CanBeManned {A B S N I O C K : Type 0} (plans : List SinkRow) (o : Opening A B S N I O C K) : Type 0 where
   pub opened : WereOpened o.prepared.wishes.items o.opened.items
-  pub used : AreUsed o.prepared.wishes.items (uses_of plans o.prepared.listeners.items o.prepared.lines.items)
+  pub used : AreUsed o.prepared.wishes.items (uses_of o.prepared.keepers.items plans o.prepared.listeners.items o.prepared.lines.items)
+  pub folders : AreWantedInFolders o.prepared.wishes.items o.prepared.keepers.items
   pub some : All (λ (plan : SinkRow). 1 ≤ plan.batch) plans
   pub sinks : length o.outside.sinks.items ≡ length plans
   pub clocks : length o.prepared.clocks.items ≡ length plans
+  pub closes : length o.prepared.closes.items ≡ length o.prepared.wishes.items
   pub hearers : length o.outside.listeners.items ≡ length o.prepared.listeners.items
   pub listeners : All (IsSeat (length o.prepared.wishes.items)) o.prepared.listeners.items
   pub lines : All (IsSeat (length o.prepared.wishes.items)) o.prepared.lines.items
   pub lined : All (λ seat. TakesLines seat.draft.rules) o.prepared.lines.items
   pub labels : length o.prepared.labels.items ≡ length o.prepared.wishes.items
   pub channels : HaveChannelLists (length o.prepared.wishes.items) o.channels
-  pub workers : HaveWorkerLists (length plans) (length o.prepared.listeners.items) (length o.prepared.lines.items) o.workers
+  pub workers : HaveWorkerLists (length o.prepared.keepers.items) (length plans) (length o.prepared.listeners.items) (length o.prepared.lines.items) o.workers
 
 -- The workers are those of the plan's sinks and sources and can run over the channels, and there is room for what comes back of them.
 pub record IsManned {A B S N I O C K : Type 0} (plans : List SinkRow) (o : Opening A B S N I O C K) (m : Manned A B S N I O C K) : Type 0 where
@@ -44,17 +47,20 @@ pub record IsManned {A B S N I O C K : Type 0} (plans : List SinkRow) (o : Openi
   pub own : All HasOwn m.crew.homes.items
   pub dealt : AreDealt m.crew.homes.items (owners_of m.crew.jobs)
   pub alone : AreAlone m.crew.homes.items (owners_of m.crew.jobs)
-  pub numbers : owners_of m.crew.jobs ≡ numbered (uses_of plans o.prepared.listeners.items o.prepared.lines.items)
+  pub numbers : owners_of m.crew.jobs ≡ numbered (uses_of o.prepared.keepers.items plans o.prepared.listeners.items o.prepared.lines.items)
   pub workers : AreWorkers table_of m.crew.shares.items (λ (pass : Known). pass) m.crew.jobs
   pub new_ones : AreNew m.crew.jobs
   pub fit : CanRun m.crew.jobs
+  pub on_disks : AreOnDisks m.crew.shares.items m.crew.jobs
   pub room : HaveRoom m.crew.jobs m.returned
+  pub keepers : Zips IsKeepOf o.prepared.keepers.items m.crew.jobs.keepers.items
   pub sinks : Zips IsSinkOf plans m.crew.jobs.sinks.items
   pub own_sinks : map (λ job. job.sink) m.crew.jobs.sinks.items ≡ o.outside.sinks.items
   pub listeners : Zips IsListenOf o.prepared.listeners.items m.crew.jobs.listeners.items
   pub own_listeners : map (λ job. job.listener) m.crew.jobs.listeners.items ≡ o.outside.listeners.items
   pub lines : Zips IsLineOf o.prepared.lines.items m.crew.jobs.lines.items
   pub wishes : m.wishes ≡ o.prepared.wishes
+  pub closes : m.closes ≡ o.prepared.closes
   pub places : m.places ≡ o.prepared.places
   pub labels : m.labels ≡ o.prepared.labels
   pub passes : m.passes ≡ o.channels.passes

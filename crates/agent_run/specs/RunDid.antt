@@ -2,6 +2,7 @@
 use Rattle.std.specs.Prelude.{◌≡◌, ℕ, List, [], ◌∷◌, Bool, Option, Result, String, map}
 use Rattle.std.specs.declared.alloc.Global.{Global}
 use Rattle.channel_face.specs.History.{Opening, Step}
+use Rattle.channel_face.specs.Machine.{State}
 use Rattle.channel_face.specs.declared.replies.Counts.{Counts}
 use Rattle.event_core.specs.Content.{Content}
 use Rattle.flume_config.specs.declared.plan.Plan.{Plan}
@@ -19,7 +20,7 @@ use Rattle.source_worker.specs.Rounds.{Heard}
 use Rattle.two_channels.specs.declared.port.EitherPort.{EitherPort}
 use Rattle.two_channels.specs.declared.shared.EitherShared.{EitherShared}
 use Rattle.run_tracks.specs.Closes.{IsClosed}
-use Rattle.run_tracks.specs.Stops.{IsMended}
+use Rattle.run_tracks.specs.Stops.{IsKept, IsMended}
 use Rattle.agent_channels.specs.Openings.{HostTold}
 use Rattle.agent_channels.specs.declared.wish.ChannelWish.{ChannelWish}
 use Rattle.agent_end.specs.Statuses.{run_status}
@@ -53,7 +54,7 @@ passes_of channels = map (λ (end : ChannelEnd). end.pass) channels
 
 module _ {R A B S N I O C K : Type 0} (runs : Runs (EitherPort R A B) S N I O C K) (sink : Told S) (Means : Meaning K) (moments : C → Option (ℕ → ℕ)) (heard : N → Heard)
     (left : I → Option (List ℕ)) (read_faults : I → ℕ) (took handed : O → Option (List ℕ)) (write_faults : O → ℕ)
-    (disk : A → Opening → List Step → Type 0) (tells : A → Bool) (moment : A → ℕ) (memory : B → Opening → List Step → Type 0) (tells' : B → Bool) where
+    (disk : A → Opening → List Step → Type 0) (tells : A → Bool) (moment : A → ℕ) (laid : A → State → Type 0) (pruned : A → Type 0) (memory : B → Opening → List Step → Type 0) (tells' : B → Bool) where
   -- what a worker of lines reads and writes
   abbrev pub talk : I → O → Talk
   talk = talk_of left read_faults took handed write_faults
@@ -68,8 +69,8 @@ module _ {R A B S N I O C K : Type 0} (runs : Runs (EitherPort R A B) S N I O C 
       (DrainKept left read_faults) (TalkKept left read_faults took handed write_faults) (Given manned)
 
   -- the channels were settled after them
-  abbrev pub Settles : List (EitherShared A B) → List Known → List (SinkWorker AtHome S C) → List (String Global × Counts) → Settled S A B → Type 0
-  Settles = AreSettled (IsDrainedAt sink moments) (IsMended disk tells moment) (IsClosed disk tells memory tells')
+  abbrev pub Settles : List (EitherShared A B) → List Known → List (SinkWorker AtHome S C) → List Bool → List (String Global × Counts) → Settled S A B → Type 0
+  Settles = AreSettled (IsDrainedAt sink moments) (IsKept disk tells moment laid pruned) (IsMended disk tells moment) (IsClosed disk tells memory tells')
 
   -- Where standard input is a source, the host has had one dialogue, from what it told at the beginning of the run to what it told once the
   -- worker of lines had given standard input and output back.
@@ -86,14 +87,14 @@ module _ {R A B S N I O C K : Type 0} (runs : Runs (EitherPort R A B) S N I O C 
     -- with these objects as those of its sinks, and what a delivery to one means
     module _ {Q : Type 0} (delivers : Q → List Content → ℕ → Result (Unit {0}) SinkRefused → Q → Type 0) (objects : List (Option Q)) where
       -- A run made its steps. Each channel that comes back is named with its workers, and its pass saw all calls. In these the calls of each
-      -- row of sinks, of each session and of the worker of lines are all calls with their numbers; each batch that the calls of a row commit was
+      -- worker of a channel on a disk, of each row of sinks, of each session and of the worker of lines are all calls with their numbers; each batch that the calls of a row commit was
       -- taken by one of its sinks; the folders of rolled files hold what their sinks took, the links of Avro sinks took the requests of what
       -- these took, and each sink that was handed in was handed what it took. It is told why the status is what it is. At status 0 the workers
       -- ran, standard input had its dialogue, nothing is staged in a folder's channel, and it is told what the channels' folders hold, what the
       -- report says, and which sinks emptied their channels.
       pub record RunDid (ends : RunEnds) (channels : List ChannelEnd) (a b : HostTold) : Type 0 where
         pub steps : Steps ends channels a b
-        pub labels : AreLabels (users_of plan steps.rows steps.made.listeners.items steps.made.lines.items) 0 plan.channels.items (map label_of channels)
+        pub labels : AreLabels (users_of plan steps.made.keepers.items steps.rows steps.made.listeners.items steps.made.lines.items) 0 plan.channels.items (map label_of channels)
         pub input : steps.ran.between.state.input ≡ a.state.input
         pub output : steps.ran.between.state.output ≡ a.state.output
         pub full : AreToldInFull sink Means moments heard talk steps.ran.goes.manned.crew.shares.items steps.ran.goes.homes (passes_of channels)

@@ -1,28 +1,31 @@
 -- The workers of a run, before it, in it and after it.
-use Rattle.std.specs.Prelude.{◌≡◌, ℕ, List, [], ◌∷◌, ◌++◌, All, flat_map}
+use Rattle.std.specs.Prelude.{◌≡◌, ℕ, List, [], ◌∷◌, ◌++◌, All, flat_map, slice_index_or}
 use Rattle.atomic_table.specs.Seated.{TableId}
 use Rattle.shared_channel.specs.Passes.{Known}
 use Rattle.two_channels.specs.declared.port.EitherPort.{EitherPort}
 use Rattle.two_channels.specs.declared.shared.EitherShared.{EitherShared}
 use Rattle.crew.specs.Rows.{EachRan}
 use Rattle.crew.specs.declared.draining.DrainWorker.{DrainWorker}
+use Rattle.keep_worker.specs.declared.worker.KeepWorker.{KeepWorker}
 use Rattle.sink_worker.specs.declared.worker.SinkWorker.{SinkWorker}
 use Rattle.source_worker.specs.Workers.{CanListen}
 use Rattle.source_worker.specs.declared.worker.ListenWorker.{ListenWorker}
 use Rattle.line_worker.specs.Workers.{CanServe}
 use Rattle.line_worker.specs.declared.worker.LineWorker.{LineWorker}
 use Rattle.two_channels.specs.Ports.{pass_of}
+use Rattle.two_channels.specs.Shares.{IsDisk}
 use Rattle.run_tracks.specs.Dealt.{Owner}
 use Rattle.run_tracks.specs.Places.{Zips}
 use Rattle.run_tracks.specs.Told.{IsNew}
-use Rattle.agent_run.specs.Ends.{AreLinePorts, AreListenPorts, IsLineEnded, IsListenEnded, IsSinkEnded, IsSinkPort}
-use Rattle.agent_run.specs.Opened.{HasRoom, IsLineOpened, IsListenOpened, IsSinkOpened}
+use Rattle.agent_run.specs.Ends.{AreLinePorts, AreListenPorts, IsKeepEnded, IsKeepPort, IsLineEnded, IsListenEnded, IsSinkEnded, IsSinkPort}
+use Rattle.agent_run.specs.Opened.{HasRoom, IsKeepOpened, IsLineOpened, IsListenOpened, IsSinkOpened}
 use Rattle.agent_run.specs.declared.rooms.Rooms.{Rooms}
 use Rattle.agent_run.specs.declared.workers.Returned.{Returned}
 use Rattle.agent_run.specs.declared.workers.Workers.{Workers}
 
 -- each worker's passes are of its channels
 pub record AreWorkers {Z F S N I O C K : Type 0} (table : Z → TableId) (shares : List Z) (pass : F → Known) (w : Workers F S N I O C K) : Type 0 where
+  pub keepers : All (IsKeepPort table shares pass) w.keepers.items
   pub sinks : All (IsSinkPort table shares pass) w.sinks.items
   pub listeners : All (AreListenPorts table shares pass) w.listeners.items
   pub lines : All (AreLinePorts table shares pass) w.lines.items
@@ -35,6 +38,7 @@ pub record HaveRoom {F S N I O C K : Type 0} (w : Workers F S N I O C K) (r : Re
 
 -- what came back of each kind, in order
 pub record AreEnded {F S N I O C K : Type 0} (pass : F → Known) (homes : List Known) (w : Workers F S N I O C K) (r : Returned S N I O C) : Type 0 where
+  pub keepers : All (IsKeepEnded pass homes) w.keepers.items
   pub sinks : Zips (IsSinkEnded pass homes) w.sinks.items r.sinks.items
   pub listeners : Zips (IsListenEnded pass homes) w.listeners.items r.listeners.items
   pub drains : r.drains ≡ w.drains
@@ -42,6 +46,7 @@ pub record AreEnded {F S N I O C K : Type 0} (pass : F → Known) (homes : List 
 
 -- the workers of each kind have got their ports
 pub record AreOpened {R A B S N I O C K : Type 0} (shares : List (EitherShared A B)) (jobs : Workers Known S N I O C K) (w : Workers (EitherPort R A B) S N I O C K) : Type 0 where
+  pub keepers : Zips (IsKeepOpened shares) jobs.keepers.items w.keepers.items
   pub sinks : Zips (IsSinkOpened shares) jobs.sinks.items w.sinks.items
   pub listeners : Zips (IsListenOpened shares) jobs.listeners.items w.listeners.items
   pub drains : w.drains ≡ jobs.drains
@@ -49,6 +54,7 @@ pub record AreOpened {R A B S N I O C K : Type 0} (shares : List (EitherShared A
 
 -- there is room for the workers with ports, and for the ports of each
 pub record HaveRooms {R A B S N I O C K : Type 0} (jobs : Workers Known S N I O C K) (rooms : Rooms R A B S N I O C K) : Type 0 where
+  pub keepers : HasRoom jobs.keepers.items rooms.keepers
   pub sinks : HasRoom jobs.sinks.items rooms.sinks
   pub listeners : HasRoom jobs.listeners.items rooms.listeners
   pub listener_ports : Zips (λ job room. HasRoom job.ports.items room) jobs.listeners.items rooms.listener_ports.items
@@ -60,8 +66,13 @@ pub record CanRun {F S N I O C K : Type 0} (w : Workers F S N I O C K) : Type 0 
   pub listeners : All CanListen w.listeners.items
   pub lines : All CanServe w.lines.items
 
+-- each channel that is kept is on a disk
+abbrev pub AreOnDisks : {A B S N I O C K : Type 0} → List (EitherShared A B) → Workers Known S N I O C K → Type 0
+AreOnDisks {A} {B} shares jobs = All (λ k. (share : EitherShared A B) → IsDisk (slice_index_or shares k.channel share)) jobs.keepers.items
+
 -- each pass has one number, and has made no call
 pub record AreNew {S N I O C K : Type 0} (jobs : Workers Known S N I O C K) : Type 0 where
+  pub keepers : All (λ k. IsNew k.port) jobs.keepers.items
   pub sinks : All (λ s. IsNew s.port) jobs.sinks.items
   pub listeners : All (λ l. All IsNew l.ports.items) jobs.listeners.items
   pub lines : All (λ l. All IsNew l.ports.items) jobs.lines.items
@@ -75,23 +86,26 @@ owners_at (place ∷ places) (pass ∷ passes) = record { place = place; number 
 -- those of all workers
 abbrev pub owners_of : {S N I O C K : Type 0} → Workers Known S N I O C K → List Owner
 owners_of {S} {N} {I} {O} {C} {K} jobs =
-    flat_map (λ (s : SinkWorker Known S C). owners_at (s.channel ∷ []) (s.port ∷ [])) jobs.sinks.items
+    flat_map (λ (k : KeepWorker Known C). owners_at (k.channel ∷ []) (k.port ∷ [])) jobs.keepers.items
+    ++ (flat_map (λ (s : SinkWorker Known S C). owners_at (s.channel ∷ []) (s.port ∷ [])) jobs.sinks.items
     ++ (flat_map (λ (l : ListenWorker Known N C K). owners_at l.channels.items l.ports.items) jobs.listeners.items
-    ++ flat_map (λ (l : LineWorker Known I O C K). owners_at l.channels.items l.ports.items) jobs.lines.items)
+    ++ flat_map (λ (l : LineWorker Known I O C K). owners_at l.channels.items l.ports.items) jobs.lines.items))
 
 -- what each kind of worker does in a run
 pub record Runs (F S N I O C K : Type 0) : Type 1 where
+  pub keepers : KeepWorker F C → KeepWorker F C → Type 0
   pub sinks : SinkWorker F S C → SinkWorker F S C → Type 0
   pub listeners : ListenWorker F N C K → ListenWorker F N C K → Type 0
   pub drains : DrainWorker I → DrainWorker I → Type 0
   pub lines : LineWorker F I O C K → LineWorker F I O C K → Type 0
 
-abbrev pub runs : {F S N I O C K : Type 0} → (SinkWorker F S C → SinkWorker F S C → Type 0) → (ListenWorker F N C K → ListenWorker F N C K → Type 0)
+abbrev pub runs : {F S N I O C K : Type 0} → (KeepWorker F C → KeepWorker F C → Type 0) → (SinkWorker F S C → SinkWorker F S C → Type 0) → (ListenWorker F N C K → ListenWorker F N C K → Type 0)
     → (DrainWorker I → DrainWorker I → Type 0) → (LineWorker F I O C K → LineWorker F I O C K → Type 0) → Runs F S N I O C K
-runs sinks listeners drains lines = record { sinks = sinks; listeners = listeners; drains = drains; lines = lines }
+runs keepers sinks listeners drains lines = record { keepers = keepers; sinks = sinks; listeners = listeners; drains = drains; lines = lines }
 
 -- each worker ran once
 pub record EachOnce {F S N I O C K : Type 0} (runs : Runs F S N I O C K) (old new : Workers F S N I O C K) : Type 0 where
+  pub keepers : EachRan runs.keepers old.keepers.items new.keepers.items
   pub sinks : EachRan runs.sinks old.sinks.items new.sinks.items
   pub listeners : EachRan runs.listeners old.listeners.items new.listeners.items
   pub drains : EachRan runs.drains old.drains.items new.drains.items

@@ -9,7 +9,7 @@ use Rattle.sink_worker.specs.declared.worker.SinkWorker.{SinkWorker}
 use Rattle.two_channels.specs.declared.shared.EitherClosed.{EitherClosed}
 use Rattle.two_channels.specs.declared.shared.EitherShared.{EitherShared}
 use Rattle.run_tracks.specs.Closes.{AreClosed}
-use Rattle.run_tracks.specs.Stops.{AreCounted, AreMended}
+use Rattle.run_tracks.specs.Stops.{AreCounted, AreKept, AreMended}
 use Rattle.agent_run.specs.Draining.{AreDrained, EachGoesOn}
 use Rattle.agent_run.specs.declared.homes.AtHome.{AtHome}
 use Rattle.agent_run.specs.declared.settle.Settled.{Settled}
@@ -21,19 +21,22 @@ pub record AreMendedAndCounted {Z : Type 0} (Mended : Z → Known → Result Boo
   pub mends : AreMended Mended shares homes answers mended
   pub counts : AreCounted mended names report counted
 
--- Each sink emptied its channel, one after the other, through the passes at home; then each channel was mended, then counted and
--- closed, and is as all that its pass at home had seen.
+-- Each sink emptied its channel, one after the other, through the passes at home; then each channel of which it is said so was kept once
+-- more; then each was mended, then counted and closed, and is as all that its pass at home had seen.
 pub record AreSettled {A B S C : Type 0}
     (Drained : SinkWorker AtHome S C → List Known → ChannelDrain → S → List Known → Type 0)
+    (Kept : EitherShared A B → Known → Known → Type 0)
     (Mended : EitherShared A B → Known → Result Bool OpenCause → Known → Type 0)
     (Closed : EitherShared A B → Known → EitherClosed A B → Type 0)
     (shares : List (EitherShared A B)) (homes : List Known) (workers : List (SinkWorker AtHome S C))
-    (names : List (String Global × Counts)) (s : Settled S A B) : Type 0 where
+    (closes : List Bool) (names : List (String Global × Counts)) (s : Settled S A B) : Type 0 where
   pub drained : List Known
+  pub kept : List Known
   pub mended : List Known
   pub counted : List Known
   pub goes_on : EachGoesOn homes drained
   pub drains : AreDrained Drained workers homes s.ends.items s.sinks.items drained
-  pub mends : AreMended Mended shares drained s.mends.items mended
+  pub keeps : AreKept Kept shares closes drained kept
+  pub mends : AreMended Mended shares kept s.mends.items mended
   pub counts : AreCounted mended names s.report.items counted
   pub closed : AreClosed Closed shares counted s.closed.items

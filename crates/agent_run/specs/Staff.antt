@@ -4,13 +4,21 @@ use Rattle.std.specs.Vec.{vec_capacity}
 use Rattle.shared_channel.specs.Passes.{Known}
 use Rattle.grouped_sinks.specs.declared.row.SinkRow.{SinkRow}
 use Rattle.sink_worker.specs.declared.worker.SinkWorker.{SinkWorker}
+use Rattle.keep_worker.specs.declared.worker.KeepWorker.{KeepWorker}
 use Rattle.source_worker.specs.declared.ends.SessionRules.TheVariants as rule
 use Rattle.source_worker.specs.declared.worker.ListenWorker.{ListenWorker}
 use Rattle.line_worker.specs.declared.worker.LineWorker.{LineWorker}
 use Rattle.agent_run.specs.declared.homes.LineEnded.{LineEnded}
+use Rattle.agent_run.specs.declared.seats.KeepSeat.{KeepSeat}
 use Rattle.agent_run.specs.declared.seats.Seat.{Seat}
 
 -- the channels that a worker uses, and its passes of them, in the same order
+abbrev pub keep_channels : {C : Type 0} → KeepWorker Known C → List ℕ
+keep_channels job = job.channel ∷ []
+
+abbrev pub keep_ports : {C : Type 0} → KeepWorker Known C → List Known
+keep_ports job = job.port ∷ []
+
 abbrev pub sink_channels : {S C : Type 0} → SinkWorker Known S C → List ℕ
 sink_channels job = job.channel ∷ []
 
@@ -40,6 +48,11 @@ seat_channels seat = seat.draft.channels.items
 pub record IsRoomy {K C : Type 0} (seat : Seat K C) : Type 0 where
   pub none : seat.ports.items ≡ []
   pub room : length seat.draft.channels.items ≤ vec_capacity seat.ports
+
+-- the worker of a channel by its plan
+pub record IsKeepOf {C : Type 0} (seat : KeepSeat C) (job : KeepWorker Known C) : Type 0 where
+  pub channel : job.channel ≡ seat.channel
+  pub interval : job.interval ≡ seat.interval
 
 -- the worker of a sink by its plan
 pub record IsSinkOf {S C : Type 0} (plan : SinkRow) (job : SinkWorker Known S C) : Type 0 where

@@ -15,8 +15,8 @@ use Rattle.flume_config.specs.declared.plan.Plan.{Plan}
 use Rattle.grouped_sinks.specs.Rows.{AreRows}
 use Rattle.grouped_sinks.specs.declared.row.SinkRow.{SinkRow}
 use Rattle.flume_host.specs.HostState.{HostState}
-use Rattle.plan_objects.specs.Asks.{AreTaken}
-use Rattle.plan_objects.specs.declared.named.Named.{Named}
+use Rattle.plan_objects.specs.Asks.{AreClaimed, AreTaken}
+use Rattle.plan_objects.specs.declared.handed.HandedIn.{HandedIn}
 use Rattle.run_tracks.specs.Homes.{EachTook}
 use Rattle.shared_channel.specs.Passes.{Known}
 use Rattle.sink_worker.specs.declared.worker.SinkWorker.{SinkWorker}
@@ -42,11 +42,11 @@ use Rattle.agent_run.specs.declared.prepare.Prepared.{Prepared}
 use Rattle.agent_run.specs.declared.settle.Settled.{Settled}
 
 -- The workers were made of what was opened and of the streams that they took, ran and came back; then each sink emptied its channel,
--- and each channel was mended, counted and closed; then all was given back, and what the run came to was handed on.
+-- those channels that are kept at the end were kept, and each was mended, counted and closed; then all was given back, and what the run came to was handed on.
 pub record RanThrough {A B S N I O C K : Type 0} (plans : List SinkRow) (o : Opening A B S N I O C K)
     (Takes : Manned A B S N I O C K → HostState → HostState → Type 0)
     (Joins : Manned A B S N I O C K → List Known → Joined S C → HostState → HostState → Type 0)
-    (Settles : List (EitherShared A B) → List Known → List (SinkWorker AtHome S C) → List (String Global × Counts) → Settled S A B → Type 0)
+    (Settles : List (EitherShared A B) → List Known → List (SinkWorker AtHome S C) → List Bool → List (String Global × Counts) → Settled S A B → Type 0)
     (Back : List ChannelWish → Settled S A B → Bool → Result (Unit {0}) ReportRefused → HostTold → HostTold → Type 0)
     (ends : RunEnds) (channels : List ChannelEnd) (a b : HostTold) : Type 0 where
   pub manned : Manned A B S N I O C K
@@ -64,7 +64,7 @@ pub record RanThrough {A B S N I O C K : Type 0} (plans : List SinkRow) (o : Ope
   pub home : All (IsSinkHome homes) joined.sinks.items
   pub named : length manned.settled.report.items ≡ length homes
   pub settled : Settled S A B
-  pub settles : Settles manned.crew.shares.items homes joined.sinks.items manned.settled.report.items settled
+  pub settles : Settles manned.crew.shares.items homes joined.sinks.items manned.closes.items manned.settled.report.items settled
   pub back : Back manned.wishes.items settled joined.streams.output_failed ends.report (record { state = behind; folders = a.folders }) b
   pub input : ends.input ≡ joined.streams.input
   pub drains : ends.drains ≡ settled.ends
@@ -108,11 +108,12 @@ pub record CameTo (Ran : Plan → RunEnds → List ChannelEnd → HostTold → H
   pub by_ends : run_status ends ≡ status
   pub ran : Ran plan ends channels a b
 
--- The run of a plan, with the objects that its sinks took, each in turn, out of these.
-abbrev pub WithObjects : {B : Type 0} → (List (Option B) → Plan → RunEnds → List ChannelEnd → HostTold → HostTold → Type 0) → List (Named B)
+-- The run of a plan, with the objects that its interceptors and its sinks took, each in turn, out of what was handed in.
+abbrev pub WithObjects : {K B : Type 0} → (List K → List (Option B) → Plan → RunEnds → List ChannelEnd → HostTold → HostTold → Type 0) → HandedIn K B
     → Plan → RunEnds → List ChannelEnd → HostTold → HostTold → Type 0
-WithObjects {B} Ran held plan ends channels a b =
-    (objects : List (Option B)) × (left : List (Named B)) × AreTaken plan.sinks.items held objects left × Ran objects plan ends channels a b
+WithObjects {K} {B} Ran handed plan ends channels a b =
+    (given : List K) × (objects : List (Option B)) × (left : HandedIn K B) × AreClaimed plan.sources.items handed.steps.items given left.steps.items
+    × AreTaken plan.sinks.items handed.sinks.items objects left.sinks.items × Ran given objects plan ends channels a b
 
 -- A run of the plan came to this status and these channels, or did not begin.
 abbrev pub EndsAs : (Plan → RunEnds → List ChannelEnd → HostTold → HostTold → Type 0) → Plan → ℕ → List ChannelEnd → HostTold → HostTold → Type 0

@@ -6,6 +6,7 @@ use mathlib.Core.List.{IsPrefix}
 use Rattle.agent_end.specs.Drains.{Drains}
 use Rattle.agent_end.specs.declared.draining.ChannelDrain.{ChannelDrain}
 use Rattle.channel_face.specs.History.{Opening, Step}
+use Rattle.channel_face.specs.Machine.{State}
 use Rattle.channel_face.specs.declared.replies.Counts.{Counts}
 use Rattle.channel_face.specs.declared.replies.OpenCause.{OpenCause}
 use Rattle.shared_channel.specs.Passes.{Known}
@@ -22,11 +23,11 @@ use Rattle.two_channels.specs.declared.shared.EitherShared.{EitherShared}
 use Rattle.run_tracks.specs.Dealt.{HasNumber}
 use Rattle.run_tracks.specs.Drained.{Looked}
 use Rattle.run_tracks.specs.Places.{Zips}
-use Rattle.run_tracks.specs.Stops.{AreCounted, AreMended, IsMended}
+use Rattle.run_tracks.specs.Stops.{AreCounted, AreKept, AreMended, IsKept, IsMended}
 use Rattle.run_tracks.specs.Tracks.{Mended, Track, Turned, ended, track_of}
 use Rattle.agent_run.specs.declared.homes.AtHome.{AtHome}
 use Rattle.agent_run.specs.Draining.{AreDrained, EachGoesOn, IsDrainedAt, IsSinkHome}
-use Rattle.agent_run.specs.Histories.{IsLineTold, IsListenTold, IsSinkTold}
+use Rattle.agent_run.specs.Histories.{IsKeepTold, IsLineTold, IsListenTold, IsSinkTold}
 use Rattle.agent_run.specs.Runs.{AreNew, HaveRun, Runs}
 use Rattle.agent_run.specs.declared.workers.Returned.{Returned}
 use Rattle.agent_run.specs.declared.workers.Workers.{Workers}
@@ -107,8 +108,16 @@ OthersStay A B {S} {C} sink moments =
 abbrev pub AreSilentAt : List Known → List Known → List ℕ → List Known → Type 0
 AreSilentAt old new places passes = Zips (λ place p. StaysSilent place p.number old new) places passes
 
--- Where passes at home go on after a run with no further calls with the numbers of listeners' passes, these are told of in what those
--- have then seen.
+-- Where passes at home go on after a run with no further calls with the numbers of the passes of those who keep channels, these are told of
+-- in what those have then seen.
+abbrev pub KeepersStayTold : {R A B S N I O C K : Type 0} → Runs (EitherPort R A B) S N I O C K → Type 0
+KeepersStayTold {R} {A} {B} {S} {N} {I} {O} {C} {K} runs =
+    (shares : List (EitherShared A B)) (homes last : List Known) (jobs : Workers Known S N I O C K) (returned : Returned S N I O C)
+    → AreNew jobs → HaveRun runs shares homes jobs returned → EachGoesOn homes last
+    → All (λ job. StaysSilent job.channel job.port.number homes last) jobs.keepers.items
+    → All (IsKeepTold shares last) jobs.keepers.items
+
+-- Where they go on with no further calls with the numbers of listeners' passes, these are told of in what those have then seen.
 abbrev pub ListenersStayTold : {R A B S N I O C K : Type 0} → Runs (EitherPort R A B) S N I O C K → Meaning K → (C → Option (ℕ → ℕ)) → (N → Heard) → Type 0
 ListenersStayTold {R} {A} {B} {S} {N} {I} {O} {C} {K} runs Means moments heard =
     (shares : List (EitherShared A B)) (homes last : List Known) (jobs : Workers Known S N I O C K) (returned : Returned S N I O C)
@@ -131,6 +140,14 @@ DrainsAreSilent {S} {C} sink moments =
     (place number : ℕ) (old new : List Known) (workers : List (SinkWorker AtHome S C)) (ends : List ChannelDrain) (backs : List S)
     → place < length old → HasNumber old place number → All (IsNot place number) workers
     → AreDrained (IsDrainedAt sink moments) workers old ends backs new → StaysSilent place number old new
+
+-- Where channels are kept at the stop, each pass at home goes on, silent of each number of its own but the one that it carries.
+abbrev pub KeepsAreSilent : (A B : Type 0) → (A → Opening → List Step → Type 0) → (A → Bool) → (A → ℕ) → (A → State → Type 0) → (A → Type 0) → Type 0
+KeepsAreSilent A B disk tells moment laid pruned =
+    (share : EitherShared A B) (shares : List (EitherShared A B)) (closes : List Bool) (old new : List Known)
+    → AreKept (IsKept disk tells moment laid pruned) shares closes old new
+    → EachGoesOn old new × ((place number : ℕ) → place < length old → HasNumber old place number
+    → ((d : Known) → (slice_index_or old place d).number ≡ number → ⊥) → StaysSilent place number old new)
 
 -- Where channels are mended at the stop, each pass at home goes on, silent of each number of its own but the one that it carries.
 abbrev pub MendsAreSilent : (A B : Type 0) → (A → Opening → List Step → Type 0) → (A → Bool) → (A → ℕ) → Type 0

@@ -7,8 +7,7 @@ ghost use Rattle.agent_channels.specs.Several.{WereOpened};
 ghost use Rattle.agent_end.specs.Statuses.{run_status};
 ghost use Rattle.agent_outside.specs.Sinks.{AreOpened};
 ghost use Rattle.agent_words.specs.Statuses.{status_of};
-ghost use Rattle.plan_objects.specs.Least.{HasOwnSteps};
-ghost use Rattle.plan_objects.specs.Asks.{HaveObjects, first_unmet, names_of};
+ghost use Rattle.plan_objects.specs.Asks.{HaveObjects, lacking, step_asks};
 ghost use Rattle.agent_run.specs.Lists.{HasRoomFor, HasSettleRoom};
 ghost use Rattle.agent_run.specs.Opening.{CanBeManned};
 ghost use Rattle.agent_run.specs.Named.{AgentEnds};
@@ -126,6 +125,7 @@ fn run_opened<
     let Manned {
         crew,
         wishes,
+        closes,
         places,
         labels,
         mut passes,
@@ -151,7 +151,7 @@ fn run_opened<
         returned,
         named,
     );
-    let settled = settle(rt, shares, homes, sinks, settled);
+    let settled = settle(rt, shares, homes, sinks, closes.as_slice(), settled);
     closed_channels_fit::<FileChannel<H::Disk>, MemoryChannel>();
     runs_are_told::<
         'a,
@@ -246,7 +246,7 @@ fn run_channels<
     host: &mut H,
     plan: &Plan,
     rows: &[SinkRow],
-    objects: Objects<B>,
+    objects: Vec<Option<B>>,
     frames: Vec<Frame<SinkOf<H, B>, H::Random>>,
     opened: Vec<OpenedChannel<FileChannel<H::Disk>, MemoryChannel>>,
     prepared: Prepared<K, H::Clock>,
@@ -265,10 +265,10 @@ fn run_channels<
     requires planned { IsPlanned plan.now }
     requires rows { AreRows plan.now.sinks.items plan.now.groups.items rows.now }
     requires frames { Zips (IsFrameOf plan.now.groups.items) rows.now frames.items }
-    requires have { HaveObjects plan.now.sinks.items (reverse objects.sinks.items) }
+    requires have { HaveObjects plan.now.sinks.items (reverse objects.items) }
     requires opened { WereOpened prepared.wishes.items opened.items }
     requires out { AreOut (H.folders host.old) prepared.wishes.items }
-    requires room { HasRoomFor plan.now (length rows.now) (length prepared.listeners.items) (length prepared.lines.items) room }
+    requires room { HasRoomFor plan.now (length prepared.keepers.items) (length rows.now) (length prepared.listeners.items) (length prepared.lines.items) room }
     ensures refused { IfErr result (λ error. IsRefusedOutside plan.now prepared.places.items
         prepared.wishes.items opened.items error
         (record { state = H.state host.old; folders = H.folders host.old })
@@ -277,14 +277,13 @@ fn run_channels<
         (λ old new outside. HasRunners (λ sinks. IsOutside H.Roll.rolled H.Roll.faults
         ⟦<AvroSink<H::Dialer> as HasDialer>⟧.dial
         (IsFresh H.Listener.told H.Listener.endpoint H.Listener.waits H.Listener.faults)
-        plan.now (reverse objects.sinks.items) prepared.places.items old new sinks outside.listeners.items)
+        plan.now (reverse objects.items) prepared.places.items old new sinks outside.listeners.items)
         plan.now.groups.items rows.now outside.sinks.items)
         (⟦<RunOf<'a, R, H, K, B> as Goes<OpeningOf<H, K, B>>>⟧.goes plan.now rows.now)
         run.ends run.channels.items
         (record { state = H.state host.old; folders = H.folders host.old })
         (record { state = H.state host.new; folders = H.folders host.new })) }
 {
-    let Objects { sinks: objects } = objects;
     let Room {
         listeners,
         runners,
@@ -322,7 +321,7 @@ fn run_channels<
     }
 }
 
-/// Runs the agent of a plan, whose sinks take these objects, to its end. It is refused where a name was not told, or a channel, a folder
+/// Runs the agent of a plan, whose interceptors and sinks take these objects, to its end. It is refused where a name was not told, or a channel, a folder
 /// or a listener was not opened; then what was opened came back unused.
 pub(crate) fn run_plan<
     'a,
@@ -330,28 +329,43 @@ pub(crate) fn run_plan<
     H: Host + 'a,
     K: Interceptor + Send + Drop,
     B: EventSink + Send,
->(rt: &'a R, alloc: Global, host: &mut H, plan: &Plan, objects: Objects<B>) -> Result<Ran, RunError>
+>(
+    rt: &'a R,
+    alloc: Global,
+    host: &mut H,
+    plan: &Plan,
+    objects: Objects<K, B>,
+) -> Result<Ran, RunError>
     requires planned { IsPlanned plan.now }
-    requires own { All HasOwnSteps plan.now.sources.items }
+    requires steps { length objects.steps.items ≡ length (step_asks plan.now.sources.items) }
     requires have { HaveObjects plan.now.sinks.items (reverse objects.sinks.items) }
     ensures refused { IfErr result (λ error. IsRunRefused plan.now (status_of error)
         (record { state = H.state host.old; folders = H.folders host.old })
         (record { state = H.state host.new; folders = H.folders host.new })) }
-    ensures ran { IfOk result (λ run. ⟦<RunOf<'a, R, H, K, B> as Steps<B>>⟧.steps
-        (reverse objects.sinks.items) plan.now run.ends run.channels.items
+    ensures ran { IfOk result (λ run. ⟦<RunOf<'a, R, H, K, B> as Steps<K, B>>⟧.steps
+        objects.steps.items (reverse objects.sinks.items) plan.now run.ends run.channels.items
         (record { state = H.state host.old; folders = H.folders host.old })
         (record { state = H.state host.new; folders = H.folders host.new })) }
 {
+    let Objects { steps, sinks } = objects;
     groups_name_what_is_there();
     let rows = rows_of(alloc, plan)?;
     let rows = rows.as_slice();
     let frames = frames_of(alloc, host, plan.groups.as_slice(), rows)?;
-    let prepared = prepare::<H, K>(alloc, host, plan, rows)?;
+    let prepared = prepare::<H, K>(alloc, host, plan, rows, steps)?;
     let listeners = prepared.listeners.len();
-    let room = room_of(alloc, plan, rows.len(), listeners, prepared.lines.len())?;
+    let keepers = prepared.keepers.len();
+    let room = room_of(
+        alloc,
+        plan,
+        keepers,
+        rows.len(),
+        listeners,
+        prepared.lines.len(),
+    )?;
     match open_channels(rt, alloc, host, prepared.wishes.as_slice()) {
         Ok(opened) => run_channels(
-            rt, alloc, host, plan, rows, objects, frames, opened, prepared, room,
+            rt, alloc, host, plan, rows, sinks, frames, opened, prepared, room,
         ),
         Err(ChannelRefused { place, cause }) => {
             Err(cause_error(alloc, &plan.channels[place], cause))
@@ -447,19 +461,19 @@ fn broken_error(alloc: Global, plans: &[ChannelPlan], mends: &[Result<bool, Open
     }
 }
 
-// Runs the agent of a plan, whose sinks take these objects, and answers how that ended.
+// Runs the agent of a plan, whose interceptors and sinks take these objects, and answers how that ended.
 fn end_plan<
     'a,
     R: Threads + Wait + Sync + 'a,
     H: Host + 'a,
     K: Interceptor + Send + Drop,
     B: EventSink + Send,
->(rt: &'a R, alloc: Global, host: &mut H, plan: &Plan, objects: Objects<B>) -> Ended
+>(rt: &'a R, alloc: Global, host: &mut H, plan: &Plan, objects: Objects<K, B>) -> Ended
     requires planned { IsPlanned plan.now }
-    requires own { All HasOwnSteps plan.now.sources.items }
+    requires steps { length objects.steps.items ≡ length (step_asks plan.now.sources.items) }
     requires have { HaveObjects plan.now.sinks.items (reverse objects.sinks.items) }
     ensures ends { IsRunStatus result.status }
-    ensures ran { EndsAs (⟦<RunOf<'a, R, H, K, B> as Runs<B>>⟧.ran (reverse objects.sinks.items))
+    ensures ran { EndsAs (⟦<RunOf<'a, R, H, K, B> as Runs<K, B>>⟧.ran objects.steps.items (reverse objects.sinks.items))
         plan.now result.status result.channels.items
         (record { state = H.state host.old; folders = H.folders host.old })
         (record { state = H.state host.new; folders = H.folders host.new }) }
@@ -471,8 +485,8 @@ fn end_plan<
     }
 }
 
-/// `agent -n NAME -f FILE`: runs the agent `NAME` of the configuration file `FILE`, whose sinks take the objects that they ask for out of
-/// what is handed in, and answers the exit status, and why it is not 0.
+/// `agent -n NAME -f FILE`: runs the agent `NAME` of the configuration file `FILE`, whose interceptors and sinks take the objects that they
+/// ask for out of what is handed in, and answers the exit status, and why it is not 0.
 pub(crate) fn run_named<
     'a,
     R: Threads + Wait + Sync + 'a,
@@ -487,10 +501,10 @@ pub(crate) fn run_named<
     handed: &mut HandedIn<K, B>,
     host: &mut H,
 ) -> Ended
-    ensures ends { AgentEnds (first_unmet (names_of handed.old.sinks.items))
+    ensures ends { AgentEnds (lacking handed.old)
         ((H.state host.old).files file.now) agent.now result.status }
-    ensures ran { AgentEndsAs (first_unmet (names_of handed.old.sinks.items))
-        (WithObjects ⟦<RunOf<'a, R, H, K, B> as Runs<B>>⟧.ran handed.old.sinks.items)
+    ensures ran { AgentEndsAs (lacking handed.old)
+        (WithObjects ⟦<RunOf<'a, R, H, K, B> as Runs<K, B>>⟧.ran handed.old)
         ((H.state host.old).files file.now) agent.now result.status result.channels.items
         (record { state = H.state host.old; folders = H.folders host.old })
         (record { state = H.state host.new; folders = H.folders host.new }) }

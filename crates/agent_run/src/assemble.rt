@@ -4,12 +4,13 @@ ghost use Rattle.agent_channels.specs.Several.{WereOpened};
 ghost use Rattle.run_tracks.specs.Deals.{hands_of};
 ghost use Rattle.agent_run.specs.Assembled.{AreFit, ArePartsOf, AreUndealt, AreUsed, IsCrew, IsStaff};
 ghost use Rattle.agent_run.specs.Lists.{IsEmptyFor};
+ghost use Rattle.agent_run.specs.Keepers.{AreWantedInFolders};
 ghost use Rattle.agent_run.specs.Prepared.{uses_of};
 
 use crate::homes::LineEnded;
 use crate::outside::Outside;
-use crate::seats::Seat;
-use crate::staff::{staff_lines, staff_listeners, staff_sinks};
+use crate::seats::{KeepSeat, Seat};
+use crate::staff::{staff_keepers, staff_lines, staff_listeners, staff_sinks};
 use crate::workers::Workers;
 use agent_channels::{ChannelWish, OpenedChannel, take_apart};
 use channel_face::Channel;
@@ -21,6 +22,8 @@ use two_channels::EitherShared;
 /// What the workers of a run are made of, beside their passes.
 #[derive(Drop)]
 pub(crate) struct Parts<S, N, I, O, C, K> {
+    /// The workers of the channels on disks.
+    pub keepers: Vec<KeepSeat<C>>,
     /// The sinks and the listeners.
     pub outside: Outside<S, N>,
     /// The workers of the listeners.
@@ -47,6 +50,7 @@ pub(crate) fn assemble<S: Drop, N: Drop, I: Drop, O: Drop, C: Drop, K: Drop>(
     ensures staff { IsStaff plans.now parts (hands_of hands.old) result }
 {
     let Parts {
+        keepers: keep_seats,
         outside,
         listeners: listen_seats,
         lines: line_seats,
@@ -56,15 +60,18 @@ pub(crate) fn assemble<S: Drop, N: Drop, I: Drop, O: Drop, C: Drop, K: Drop>(
     } = parts;
     let Outside { sinks, listeners } = outside;
     let Workers {
+        keepers: mut keep_jobs,
         sinks: mut sink_jobs,
         listeners: mut listen_jobs,
         drains,
         lines: mut line_jobs,
     } = room;
+    staff_keepers(hands, keep_seats, &mut keep_jobs);
     staff_sinks(alloc, hands, plans, sinks, clocks, &mut sink_jobs);
     staff_listeners(alloc, hands, listen_seats, listeners, &mut listen_jobs);
     staff_lines(alloc, hands, line_seats, talks, &mut line_jobs);
     Workers {
+        keepers: keep_jobs,
         sinks: sink_jobs,
         listeners: listen_jobs,
         drains,
@@ -106,7 +113,8 @@ pub(crate) fn crew_of<
 ) -> Crew<A, B, S, N, I, O, C, K>
     requires opened { WereOpened wishes.now opened.items }
     requires parts { ArePartsOf plans.now parts }
-    requires used { AreUsed wishes.now (uses_of plans.now parts.listeners.items parts.lines.items) }
+    requires used { AreUsed wishes.now (uses_of parts.keepers.items plans.now parts.listeners.items parts.lines.items) }
+    requires folders { AreWantedInFolders wishes.now parts.keepers.items }
     requires fit { AreFit (length wishes.now) parts }
     requires shares { IsEmptyFor (length opened.items) shares }
     requires homes { IsEmptyFor (length opened.items) homes }

@@ -3,8 +3,9 @@ ghost use Rattle.std.specs.Prelude.{◌≡◌, ◌≤◌, [], All, length};
 ghost use Rattle.std.specs.Vec.{vec_capacity};
 ghost use Rattle.run_tracks.specs.Homes.{AreHomes, EachTook};
 ghost use Rattle.run_tracks.specs.Places.{Zips};
-ghost use Rattle.agent_run.specs.Ends.{AreListenPorts, AreLinePorts, IsLineEnded, IsListenEnded, IsSinkEnded, IsSinkPort};
+ghost use Rattle.agent_run.specs.Ends.{AreListenPorts, AreLinePorts, IsKeepEnded, IsKeepPort, IsLineEnded, IsListenEnded, IsSinkEnded, IsSinkPort};
 
+use keep_worker::KeepWorker;
 use line_session::SessionEnd;
 use line_worker::LineWorker;
 use run_tracks::{bring_home, end_ports};
@@ -60,6 +61,27 @@ pub fn end_sinks<Z: Joins, F: Carries + Drop, S: Drop, C: Drop>(
         batch,
         clock,
     });
+}
+
+/// The passes at home take in those of the workers of channels. It takes no memory.
+pub fn end_keepers<Z: Joins, F: Carries + Drop, C: Drop>(
+    shares: &[Z],
+    homes: &mut [Pass],
+    workers: Vec<KeepWorker<F, C>>,
+)
+    requires homes { AreHomes Z.table shares.now homes.old }
+    requires workers { All (IsKeepPort Z.table shares.now F.pass) workers.items }
+    ensures homes { AreHomes Z.table shares.now homes.new }
+    ensures kept { EachTook homes.old homes.new }
+    ensures ended { All (IsKeepEnded F.pass homes.new) workers.items }
+{
+    let mut others = workers;
+    let Some(worker) = others.pop() else {
+        return;
+    };
+    end_keepers(shares, homes, others);
+    let KeepWorker { port, channel, .. } = worker;
+    bring_home(shares, homes, channel as usize, port.into_pass());
 }
 
 /// The passes at home take in those of listeners, which come back in their order. The list has room for them: so it takes no

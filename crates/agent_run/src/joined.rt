@@ -14,7 +14,7 @@ ghost use Rattle.agent_run.specs.Joined.{HaveReturned, IsButStreams, IsJoined, I
 ghost use Rattle.agent_run.specs.Lists.{IsEmptyFor};
 ghost use Rattle.agent_run.specs.Outside.{AreBack, AreFrom};
 ghost use Rattle.agent_run.specs.Streams.{DrainKept, TalkKept};
-ghost use Rattle.agent_run.specs.Runs.{AreNew, AreWorkers, CanRun, HaveRoom, owners_of, runs};
+ghost use Rattle.agent_run.specs.Runs.{AreNew, AreOnDisks, AreWorkers, CanRun, HaveRoom, owners_of, runs};
 
 use crate::homes::AtHome;
 use crate::outside::give_listeners;
@@ -22,10 +22,11 @@ use crate::running::run_workers;
 use crate::streams::{StreamsEnded, keep_streams};
 use crate::workers::{Returned, Workers};
 use agent_outside::SourceListener;
-use channel_face::{Channel, Reopen};
+use channel_face::{Channel, Durable};
 use crew::{DrainWorker, Work};
 use flume_config::SourcePlan;
 use flume_host::{Clock, Host, Listener, Sink, Source};
+use keep_worker::KeepWorker;
 use line_worker::LineWorker;
 use plug_in::{EventSink, Interceptor};
 use shared_channel::Pass;
@@ -50,7 +51,7 @@ pub(crate) struct Joined<S, C> {
 fn run_jobs<
     'a,
     R: Threads + Wait + Sync + 'a,
-    A: Reopen + Drop + Send + 'a,
+    A: Durable + Drop + Send + 'a,
     B: Channel + Drop + Send + 'a,
     S: EventSink + Send,
     N: Listener + Send + Drop,
@@ -69,6 +70,7 @@ fn run_jobs<
     requires homes { AreHomes table_of shares.now homes.old }
     requires jobs { AreWorkers table_of shares.now (λ pass. pass) jobs }
     requires fit { CanRun jobs }
+    requires disks { AreOnDisks shares.now jobs }
     requires new { AreNew jobs }
     requires room { HaveRoom jobs returned }
     ensures homes { AreHomes table_of shares.now homes.new }
@@ -77,7 +79,8 @@ fn run_jobs<
     ensures home { All (IsSinkHome homes.new) result.sinks.items }
     ensures many { length result.sinks.items ≡ length jobs.sinks.items }
     ensures back { HaveReturned
-        (runs ⟦<SinkWorker<EitherPort<'a, R, A, B>, S, C> as Work>⟧.ran
+        (runs ⟦<KeepWorker<EitherPort<'a, R, A, B>, C> as Work>⟧.ran
+        ⟦<SinkWorker<EitherPort<'a, R, A, B>, S, C> as Work>⟧.ran
         ⟦<ListenWorker<EitherPort<'a, R, A, B>, N, C, K> as Work>⟧.ran
         ⟦<DrainWorker<I> as Work>⟧.ran
         ⟦<LineWorker<EitherPort<'a, R, A, B>, I, O, C, K> as Work>⟧.ran)
@@ -96,7 +99,7 @@ pub(crate) fn run_crew<
     'a,
     R: Threads + Wait + Sync + 'a,
     H: Host,
-    A: Reopen + Drop + Send + 'a,
+    A: Durable + Drop + Send + 'a,
     B: Channel + Drop + Send + 'a,
     S: EventSink + Send,
     K: Interceptor + Send,
@@ -115,6 +118,7 @@ pub(crate) fn run_crew<
     requires homes { AreHomes table_of shares.now homes.old }
     requires jobs { AreWorkers table_of shares.now (λ pass. pass) jobs }
     requires fit { CanRun jobs }
+    requires disks { AreOnDisks shares.now jobs }
     requires new { AreNew jobs }
     requires room { HaveRoom jobs returned }
     requires from { AreFrom H.Listener.endpoint sources.now places.now
@@ -128,7 +132,8 @@ pub(crate) fn run_crew<
     ensures home { All (IsSinkHome homes.new) result.sinks.items }
     ensures many { length result.sinks.items ≡ length jobs.sinks.items }
     ensures joined { IsJoined (λ returned. HaveReturned
-        (runs ⟦<SinkWorker<EitherPort<'a, R, A, B>, S, H::Clock> as Work>⟧.ran
+        (runs ⟦<KeepWorker<EitherPort<'a, R, A, B>, H::Clock> as Work>⟧.ran
+        ⟦<SinkWorker<EitherPort<'a, R, A, B>, S, H::Clock> as Work>⟧.ran
         ⟦<ListenWorker<EitherPort<'a, R, A, B>, H::Listener, H::Clock, K> as Work>⟧.ran
         ⟦<DrainWorker<H::Source> as Work>⟧.ran
         ⟦<LineWorker<EitherPort<'a, R, A, B>, H::Source, H::Sink, H::Clock, K> as Work>⟧.ran)

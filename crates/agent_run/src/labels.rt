@@ -1,11 +1,11 @@
 // The channels of a run by name, with the workers that use each.
 ghost use Rattle.std.specs.Prelude.{◌≡◌, ◌≤◌, ◌++◌, [], IfOk, OnOk, flat_map, length, map};
 ghost use Rattle.std.specs.Vec.{vec_capacity};
-ghost use Rattle.agent_run.specs.Labels.{AreLabels, IsNamed, entries_at, entry_of, label_of, seat_users, sink_user, user_of, users_of};
+ghost use Rattle.agent_run.specs.Labels.{AreLabels, IsChannelNamed, IsNamed, entries_at, entry_of, keep_user, label_of, seat_users, sink_user, user_of, users_of};
 ghost use Rattle.agent_run.specs.Lists.{IsEmptyFor};
 
 use crate::outcome::{ChannelEnd, Worker};
-use crate::seats::Seat;
+use crate::seats::{KeepSeat, Seat};
 use flume_config::{ChannelPlan, Plan, SourcePlan};
 use grouped_sinks::SinkRow;
 use shared_channel::Pass;
@@ -29,6 +29,39 @@ pub(crate) struct ChannelLabel {
     pub name: String,
     /// The workers, by their numbers from 1 on.
     pub workers: Vec<Worker>,
+}
+
+// The component of the channel at a place of the plan.
+fn channel_component(alloc: Global, plans: &[ChannelPlan], at: usize) -> Result<String, AllocError>
+    ensures { IfOk result (λ text. IsChannelNamed plans.now at text) }
+{
+    match plans.get(at) {
+        Some(plan) => {
+            let name = plan.name.as_str();
+            format!(in alloc; "channels.{name}")
+        }
+        None => Ok(String::new(alloc)),
+    }
+}
+
+// Adds the workers of channels on disks.
+fn add_keepers<C>(
+    alloc: Global,
+    users: &mut Vec<User>,
+    plans: &[ChannelPlan],
+    keepers: &[KeepSeat<C>],
+) -> Result<(), AllocError>
+    ensures { OnOk result (map user_of users.new.items
+        ≡ map user_of users.old.items ++ map (keep_user plans.now) keepers.now) }
+{
+    for keeper in keepers {
+        users.push(User {
+            channel: keeper.channel,
+            component: channel_component(alloc, plans, keeper.channel as usize)?,
+            place: 0,
+        })?;
+    }
+    Ok(())
 }
 
 // Adds the workers of the rows of sinks.
@@ -95,18 +128,20 @@ fn add_seats<K, C>(
     Ok(())
 }
 
-// The workers that use channels, in the order in which passes are dealt to them: sinks, listeners and lines.
+// The workers that use channels, in the order in which passes are dealt to them: those of channels, sinks, listeners and lines.
 fn users_of<K, C>(
     alloc: Global,
     plan: &Plan,
+    keepers: &[KeepSeat<C>],
     rows: &[SinkRow],
     listeners: &[Seat<K, C>],
     lines: &[Seat<K, C>],
 ) -> Result<Vec<User>, AllocError>
-    ensures { IfOk result (λ users. map user_of users.items ≡ users_of plan.now rows.now listeners.now lines.now) }
+    ensures { IfOk result (λ users. map user_of users.items ≡ users_of plan.now keepers.now rows.now listeners.now lines.now) }
 {
     let mut users = Vec::new(alloc);
     let sources = plan.sources.as_slice();
+    add_keepers(alloc, &mut users, plan.channels.as_slice(), keepers)?;
     add_sinks(&mut users, rows)?;
     add_seats(alloc, &mut users, sources, listeners)?;
     add_seats(alloc, &mut users, sources, lines)?;
@@ -159,14 +194,15 @@ fn add_labels(
 pub(crate) fn labels_of<K, C>(
     alloc: Global,
     plan: &Plan,
+    keepers: &[KeepSeat<C>],
     rows: &[SinkRow],
     listeners: &[Seat<K, C>],
     lines: &[Seat<K, C>],
 ) -> Result<Vec<ChannelLabel>, AllocError>
-    ensures { IfOk result (λ labels. AreLabels (users_of plan.now rows.now listeners.now lines.now) 0
+    ensures { IfOk result (λ labels. AreLabels (users_of plan.now keepers.now rows.now listeners.now lines.now) 0
         plan.now.channels.items labels.items) }
 {
-    let users = users_of(alloc, plan, rows, listeners, lines)?;
+    let users = users_of(alloc, plan, keepers, rows, listeners, lines)?;
     let mut labels = Vec::new(alloc);
     add_labels(
         alloc,

@@ -6,11 +6,12 @@ ghost use Rattle.agent_run.specs.Dialogue.{EndsAtEnd, EndsWell, LinesAreAnswered
 ghost use Rattle.agent_run.specs.Draining.{FirstHasOwn, OwnIsKept};
 ghost use Rattle.agent_run.specs.Finals.{RunsAreTold};
 ghost use Rattle.agent_run.specs.Runs.{runs};
-ghost use Rattle.agent_run.specs.Wholes.{CountsAreSilent, DrainsAreSilent, LinesStayTold, ListenersStayTold, MendsAreSilent, OthersStay, SinksAreWhole};
+ghost use Rattle.agent_run.specs.Wholes.{CountsAreSilent, DrainsAreSilent, KeepersStayTold, KeepsAreSilent, LinesStayTold, ListenersStayTold, MendsAreSilent, OthersStay, SinksAreWhole};
 
-use channel_face::{Channel, Reopen};
+use channel_face::{Channel, Durable};
 use crew::{DrainWorker, Work};
 use flume_host::{Clock, Listener, Sink, Source};
+use keep_worker::KeepWorker;
 use line_worker::LineWorker;
 use plug_in::{EventSink, Interceptor};
 use sink_worker::SinkWorker;
@@ -33,12 +34,34 @@ pub fn sinks_are_whole<A: Channel, B: Channel, S: EventSink, C: Clock>()
     ensures others { OthersStay A B (told S.delivers S.faults) C.moments }
 {}
 
+/// The rounds of each worker of a channel on a disk are all calls with the number of its pass in what the passes at home have seen in
+/// the end, where no call with that number came after the run.
+pub fn keepers_stay_told<
+    'a,
+    R: Wait + 'a,
+    A: Durable + Drop + Send + 'a,
+    B: Channel + Drop + Send + 'a,
+    S: EventSink + Send,
+    N: Listener + Send + Drop,
+    I: Source + Send + Drop,
+    O: Sink + Send + Drop,
+    C: Clock + Send + Drop,
+    K: Interceptor + Send,
+>()
+    ensures { KeepersStayTold
+        (runs ⟦<KeepWorker<EitherPort<'a, R, A, B>, C> as Work>⟧.ran
+        ⟦<SinkWorker<EitherPort<'a, R, A, B>, S, C> as Work>⟧.ran
+        ⟦<ListenWorker<EitherPort<'a, R, A, B>, N, C, K> as Work>⟧.ran
+        ⟦<DrainWorker<I> as Work>⟧.ran
+        ⟦<LineWorker<EitherPort<'a, R, A, B>, I, O, C, K> as Work>⟧.ran) }
+{}
+
 /// What is told of each listener after a run stays told in what the passes at home have seen in the end, where no call with a number
 /// of its passes came after the run.
 pub fn listeners_stay_told<
     'a,
     R: Wait + 'a,
-    A: Reopen + Drop + Send + 'a,
+    A: Durable + Drop + Send + 'a,
     B: Channel + Drop + Send + 'a,
     S: EventSink + Send,
     N: Listener + Send + Drop,
@@ -48,7 +71,8 @@ pub fn listeners_stay_told<
     K: Interceptor + Send,
 >()
     ensures { ListenersStayTold
-        (runs ⟦<SinkWorker<EitherPort<'a, R, A, B>, S, C> as Work>⟧.ran
+        (runs ⟦<KeepWorker<EitherPort<'a, R, A, B>, C> as Work>⟧.ran
+        ⟦<SinkWorker<EitherPort<'a, R, A, B>, S, C> as Work>⟧.ran
         ⟦<ListenWorker<EitherPort<'a, R, A, B>, N, C, K> as Work>⟧.ran
         ⟦<DrainWorker<I> as Work>⟧.ran
         ⟦<LineWorker<EitherPort<'a, R, A, B>, I, O, C, K> as Work>⟧.ran)
@@ -60,7 +84,7 @@ pub fn listeners_stay_told<
 pub fn lines_stay_told<
     'a,
     R: Wait + 'a,
-    A: Reopen + Drop + Send + 'a,
+    A: Durable + Drop + Send + 'a,
     B: Channel + Drop + Send + 'a,
     S: EventSink + Send,
     N: Listener + Send + Drop,
@@ -70,7 +94,8 @@ pub fn lines_stay_told<
     K: Interceptor + Send,
 >()
     ensures { LinesStayTold
-        (runs ⟦<SinkWorker<EitherPort<'a, R, A, B>, S, C> as Work>⟧.ran
+        (runs ⟦<KeepWorker<EitherPort<'a, R, A, B>, C> as Work>⟧.ran
+        ⟦<SinkWorker<EitherPort<'a, R, A, B>, S, C> as Work>⟧.ran
         ⟦<ListenWorker<EitherPort<'a, R, A, B>, N, C, K> as Work>⟧.ran
         ⟦<DrainWorker<I> as Work>⟧.ran
         ⟦<LineWorker<EitherPort<'a, R, A, B>, I, O, C, K> as Work>⟧.ran)
@@ -83,7 +108,7 @@ pub fn lines_stay_told<
 pub fn lines_are_answered<
     'a,
     R: Wait + 'a,
-    A: Reopen + Drop + Send + 'a,
+    A: Durable + Drop + Send + 'a,
     B: Channel + Drop + Send + 'a,
     S: EventSink + Send,
     N: Listener + Send + Drop,
@@ -93,7 +118,8 @@ pub fn lines_are_answered<
     K: Interceptor + Send,
 >()
     ensures answered { LinesAreAnswered
-        (runs ⟦<SinkWorker<EitherPort<'a, R, A, B>, S, C> as Work>⟧.ran
+        (runs ⟦<KeepWorker<EitherPort<'a, R, A, B>, C> as Work>⟧.ran
+        ⟦<SinkWorker<EitherPort<'a, R, A, B>, S, C> as Work>⟧.ran
         ⟦<ListenWorker<EitherPort<'a, R, A, B>, N, C, K> as Work>⟧.ran
         ⟦<DrainWorker<I> as Work>⟧.ran
         ⟦<LineWorker<EitherPort<'a, R, A, B>, I, O, C, K> as Work>⟧.ran)
@@ -106,7 +132,7 @@ pub fn lines_are_answered<
 pub fn workers_ran<
     'a,
     R: Wait + 'a,
-    A: Reopen + Drop + Send + 'a,
+    A: Durable + Drop + Send + 'a,
     B: Channel + Drop + Send + 'a,
     S: EventSink + Send,
     N: Listener + Send + Drop,
@@ -116,14 +142,16 @@ pub fn workers_ran<
     K: Interceptor + Send,
 >()
     ensures ran { RanUnlessNoMemory
-        (runs ⟦<SinkWorker<EitherPort<'a, R, A, B>, S, C> as Work>⟧.ran
+        (runs ⟦<KeepWorker<EitherPort<'a, R, A, B>, C> as Work>⟧.ran
+        ⟦<SinkWorker<EitherPort<'a, R, A, B>, S, C> as Work>⟧.ran
         ⟦<ListenWorker<EitherPort<'a, R, A, B>, N, C, K> as Work>⟧.ran
         ⟦<DrainWorker<I> as Work>⟧.ran
         ⟦<LineWorker<EitherPort<'a, R, A, B>, I, O, C, K> as Work>⟧.ran)
         (told S.delivers S.faults) K.intercepts C.moments (heard_of N.told N.faults N.waits)
         I.left I.faults O.took O.handed O.faults }
     ensures well { EndsWell
-        (runs ⟦<SinkWorker<EitherPort<'a, R, A, B>, S, C> as Work>⟧.ran
+        (runs ⟦<KeepWorker<EitherPort<'a, R, A, B>, C> as Work>⟧.ran
+        ⟦<SinkWorker<EitherPort<'a, R, A, B>, S, C> as Work>⟧.ran
         ⟦<ListenWorker<EitherPort<'a, R, A, B>, N, C, K> as Work>⟧.ran
         ⟦<DrainWorker<I> as Work>⟧.ran
         ⟦<LineWorker<EitherPort<'a, R, A, B>, I, O, C, K> as Work>⟧.ran)
@@ -132,9 +160,10 @@ pub fn workers_ran<
 {}
 
 /// After a run a number of a worker's pass stays silent: while sinks that have not this number in this channel empty their channels,
-/// while channels are mended through passes at home that carry another number, and while they are counted.
-pub fn silence_is_kept<A: Reopen, B: Channel, S: EventSink, C: Clock>()
+/// while channels are kept and mended through passes at home that carry another number, and while they are counted.
+pub fn silence_is_kept<A: Durable, B: Channel, S: EventSink, C: Clock>()
     ensures drains { DrainsAreSilent (told S.delivers S.faults) C.moments }
+    ensures keeps { KeepsAreSilent A B A.stands A.tells A.moment A.is_laid A.is_pruned }
     ensures mends { MendsAreSilent A B A.stands A.tells A.moment }
     ensures counts { CountsAreSilent }
 {}
@@ -146,7 +175,7 @@ pub fn silence_is_kept<A: Reopen, B: Channel, S: EventSink, C: Clock>()
 pub fn runs_are_told<
     'a,
     R: Wait + 'a,
-    A: Reopen + Drop + Send + 'a,
+    A: Durable + Drop + Send + 'a,
     B: Channel + Drop + Send + 'a,
     S: EventSink + Send,
     N: Listener + Send + Drop,
@@ -156,13 +185,16 @@ pub fn runs_are_told<
     K: Interceptor + Send,
 >()
     ensures { RunsAreTold
-        (runs ⟦<SinkWorker<EitherPort<'a, R, A, B>, S, C> as Work>⟧.ran
+        (runs ⟦<KeepWorker<EitherPort<'a, R, A, B>, C> as Work>⟧.ran
+        ⟦<SinkWorker<EitherPort<'a, R, A, B>, S, C> as Work>⟧.ran
         ⟦<ListenWorker<EitherPort<'a, R, A, B>, N, C, K> as Work>⟧.ran
         ⟦<DrainWorker<I> as Work>⟧.ran
         ⟦<LineWorker<EitherPort<'a, R, A, B>, I, O, C, K> as Work>⟧.ran)
         (told S.delivers S.faults) K.intercepts C.moments (heard_of N.told N.faults N.waits)
-        (talk_of I.left I.faults O.took O.handed O.faults) A.stands A.tells A.moment B.stands B.tells }
+        (talk_of I.left I.faults O.took O.handed O.faults) A.stands A.tells A.moment
+        A.is_laid A.is_pruned B.stands B.tells }
 {
+    keepers_stay_told::<'a, R, A, B, S, N, I, O, C, K>();
     listeners_stay_told::<'a, R, A, B, S, N, I, O, C, K>();
     lines_stay_told::<'a, R, A, B, S, N, I, O, C, K>();
 }

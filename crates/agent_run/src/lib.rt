@@ -31,8 +31,8 @@ mod workers;
 pub use draining::drain_sinks;
 pub use homes::{AtHome, LineEnded, end_lines, end_listeners, end_sinks};
 pub use laws::{
-    lines_are_answered, lines_stay_told, listeners_stay_told, own_numbers_are_kept, runs_are_told,
-    silence_is_kept, sinks_are_whole, workers_ran,
+    keepers_stay_told, lines_are_answered, lines_stay_told, listeners_stay_told,
+    own_numbers_are_kept, runs_are_told, silence_is_kept, sinks_are_whole, workers_ran,
 };
 pub use outcome::{ChannelEnd, Outcome, Worker};
 pub use run::run_agent;

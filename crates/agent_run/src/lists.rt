@@ -93,20 +93,24 @@ pub(crate) fn settle_room<S: Drop, A: Channel + Drop, B: Channel + Drop>(
 // Room for the workers of a run.
 fn worker_room<S: Drop, N: Drop, I: Drop, O: Drop, C: Drop, K: Drop>(
     alloc: Global,
+    keepers: usize,
     sinks: usize,
     listeners: usize,
     lines: usize,
 ) -> Result<Workers<Pass, S, N, I, O, C, K>, AllocError>
+    ensures keepers { IfOk result (λ w. IsEmptyFor keepers w.keepers) }
     ensures sinks { IfOk result (λ w. IsEmptyFor sinks w.sinks) }
     ensures listeners { IfOk result (λ w. IsEmptyFor listeners w.listeners) }
     ensures lines { IfOk result (λ w. IsEmptyFor lines w.lines) }
     ensures drains { IfOk result (λ w. IsEmptyFor 1 w.drains) }
 {
+    let keepers = Vec::with_capacity(alloc, keepers)?;
     let sinks = Vec::with_capacity(alloc, sinks)?;
     let listeners = Vec::with_capacity(alloc, listeners)?;
     let drains = Vec::with_capacity(alloc, 1)?;
     let lines = Vec::with_capacity(alloc, lines)?;
     Ok(Workers {
+        keepers,
         sinks,
         listeners,
         drains,
@@ -149,16 +153,17 @@ pub(crate) struct WorkerLists<S, N, I, O, C, K> {
     pub named: Vec<SourceListener<N>>,
 }
 
-/// Makes room for what a run has of so many sinks, listeners and workers of lines.
+/// Makes room for what a run has of so many kept channels, sinks, listeners and workers of lines.
 pub(crate) fn worker_lists<S: Drop, N: Drop, I: Drop, O: Drop, C: Drop, K: Drop>(
     alloc: Global,
+    keepers: usize,
     sinks: usize,
     listeners: usize,
     lines: usize,
 ) -> Result<WorkerLists<S, N, I, O, C, K>, AllocError>
-    ensures { IfOk result (HaveWorkerLists sinks listeners lines) }
+    ensures { IfOk result (HaveWorkerLists keepers sinks listeners lines) }
 {
-    let jobs = worker_room(alloc, sinks, listeners, lines)?;
+    let jobs = worker_room(alloc, keepers, sinks, listeners, lines)?;
     let returned = returned_room(alloc, sinks, listeners, lines)?;
     let talks = Vec::with_capacity(alloc, lines)?;
     let named = Vec::with_capacity(alloc, listeners)?;

@@ -40,7 +40,7 @@ pub(crate) struct Room<S, A: Channel, B: Channel, N, I, O, C, K> {
     pub settled: Settled<S, A, B>,
 }
 
-/// Makes room for all that a run of this plan has, with so many rows of sinks, listeners and workers of lines.
+/// Makes room for all that a run of this plan has, with so many kept channels, rows of sinks, listeners and workers of lines.
 pub(crate) fn room_of<
     S: Drop,
     A: Channel + Drop,
@@ -53,16 +53,17 @@ pub(crate) fn room_of<
 >(
     alloc: Global,
     plan: &Plan,
+    keepers: usize,
     rows: usize,
     listeners: usize,
     lines: usize,
 ) -> Result<Room<S, A, B, N, I, O, C, K>, AllocError>
-    ensures { IfOk result (HasRoomFor plan.now rows listeners lines) }
+    ensures { IfOk result (HasRoomFor plan.now keepers rows listeners lines) }
 {
     let bare = Vec::with_capacity(alloc, listeners)?;
     let runners = Vec::with_capacity(alloc, rows)?;
     let channels = channel_lists(alloc, plan.channels.len())?;
-    let workers = worker_lists(alloc, rows, listeners, lines)?;
+    let workers = worker_lists(alloc, keepers, rows, listeners, lines)?;
     let settled = settle_room(alloc, plan.channels.as_slice(), rows)?;
     Ok(Room {
         listeners: bare,
@@ -101,6 +102,8 @@ pub(crate) struct Manned<A: Channel, B: Channel, S, N, I, O, C, K> {
     pub places: Vec<usize>,
     /// The channels by name, with the workers that use each.
     pub labels: Vec<ChannelLabel>,
+    /// Of each channel, whether it is kept once more at the end.
+    pub closes: Vec<bool>,
     /// Room for the passes of the channels once they are closed.
     pub passes: Vec<Pass>,
     /// Room for the channels with their passes and workers, after the run.
@@ -175,6 +178,8 @@ pub(crate) fn man<H: Host, A: Channel + Drop, B: Channel + Drop, S: Drop, K: Dro
     } = workers;
     let Prepared {
         wishes,
+        keepers,
+        closes,
         listeners,
         lines,
         places,
@@ -182,6 +187,7 @@ pub(crate) fn man<H: Host, A: Channel + Drop, B: Channel + Drop, S: Drop, K: Dro
         labels,
     } = prepared;
     let Workers {
+        keepers: keep_jobs,
         sinks: sink_jobs,
         listeners: listen_jobs,
         mut drains,
@@ -190,12 +196,14 @@ pub(crate) fn man<H: Host, A: Channel + Drop, B: Channel + Drop, S: Drop, K: Dro
     let mut talks = talks;
     take_streams(host, lines.len(), &mut talks, &mut drains);
     let parts = Parts {
+        keepers,
         outside,
         listeners,
         lines,
         clocks,
         talks,
         room: Workers {
+            keepers: keep_jobs,
             sinks: sink_jobs,
             listeners: listen_jobs,
             drains,
@@ -215,6 +223,7 @@ pub(crate) fn man<H: Host, A: Channel + Drop, B: Channel + Drop, S: Drop, K: Dro
     Manned {
         crew,
         wishes,
+        closes,
         places,
         labels,
         passes,

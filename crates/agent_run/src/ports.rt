@@ -3,10 +3,11 @@ ghost use Rattle.std.specs.Prelude.{◌≡◌, ◌≤◌, [], All, length};
 ghost use Rattle.std.specs.Vec.{vec_capacity};
 ghost use Rattle.two_channels.specs.Shares.{table_of};
 ghost use Rattle.run_tracks.specs.Places.{Zips};
-ghost use Rattle.agent_run.specs.Ends.{AreLinePorts, AreListenPorts, IsSinkPort};
-ghost use Rattle.agent_run.specs.Opened.{HasRoom, IsLineOpened, IsListenOpened, IsSinkOpened};
+ghost use Rattle.agent_run.specs.Ends.{AreLinePorts, AreListenPorts, IsKeepPort, IsSinkPort};
+ghost use Rattle.agent_run.specs.Opened.{HasRoom, IsKeepOpened, IsLineOpened, IsListenOpened, IsSinkOpened};
 
 use channel_face::Channel;
+use keep_worker::KeepWorker;
 use line_worker::LineWorker;
 use run_tracks::open_ports;
 use shared_channel::Pass;
@@ -15,6 +16,40 @@ use source_worker::ListenWorker;
 use std::marker::PhantomData;
 use std::sync::Wait;
 use two_channels::{EitherPort, EitherShared};
+
+/// Gives each worker of a channel a port of it, with the pass that it holds, in order. The list has room for them: so it takes no
+/// memory, and no pass is lost.
+pub(crate) fn open_keepers<'a, R: Wait + 'a, A: Channel + 'a, B: Channel + 'a, C: Drop>(
+    rt: &'a R,
+    shares: &'a [EitherShared<A, B>],
+    jobs: Vec<KeepWorker<Pass, C>>,
+    workers: &mut Vec<KeepWorker<EitherPort<'a, R, A, B>, C>>,
+)
+    requires jobs { All (IsKeepPort table_of shares.now (λ pass. pass)) jobs.items }
+    requires none { workers.old.items ≡ [] }
+    requires room { length jobs.items ≤ vec_capacity workers.old }
+    ensures opened { Zips (IsKeepOpened shares.now) jobs.items workers.new.items }
+    ensures room { vec_capacity workers.old ≤ vec_capacity workers.new }
+{
+    let mut others = jobs;
+    let Some(job) = others.pop() else {
+        return;
+    };
+    open_keepers(rt, shares, others, workers);
+    let KeepWorker {
+        port,
+        channel,
+        interval,
+        clock,
+    } = job;
+    let share = &shares[channel as usize];
+    workers.push_reserved(KeepWorker {
+        port: share.port(rt, port),
+        channel,
+        interval,
+        clock,
+    });
+}
 
 /// Gives each sink a port of its channel, with the pass that it holds, in order. The list has room for them: so it takes no
 /// memory, and no pass is lost.

@@ -1,13 +1,13 @@
 // What a run of an agent is made of, before anything of it is opened.
-ghost use Rattle.std.specs.Prelude.{◌≡◌, All, IfErr, IfOk, OnOk, length};
-ghost use Rattle.plan_objects.specs.Least.{HasOwnSteps};
+ghost use Rattle.std.specs.Prelude.{◌≡◌, IfErr, IfOk, OnOk, length};
+ghost use Rattle.plan_objects.specs.Asks.{step_asks};
 ghost use Rattle.agent_run.specs.Prepared.{IsDrafted, IsPlanned, IsPrepared, IsUnprepared, error_of};
 
 use crate::labels::{ChannelLabel, labels_of};
-use crate::seats::{Seat, seats_of};
+use crate::seats::{KeepSeat, Seat, closes_of, keep_seats_of, seats_of};
 use crate::wishes::{uses_of, wishes_of};
 use agent_channels::ChannelWish;
-use agent_drafts::{draft_lines, draft_listeners, drafts_can_serve};
+use agent_drafts::{Drafts, draft_sources, drafts_can_serve};
 use agent_outside::{listening_places, names_of};
 use agent_words::RunError;
 use flume_config::Plan;
@@ -20,6 +20,10 @@ use std::alloc::{AllocError, Global};
 pub(crate) struct Prepared<K, C> {
     /// The channels that it wants.
     pub wishes: Vec<ChannelWish>,
+    /// The workers of its channels on disks.
+    pub keepers: Vec<KeepSeat<C>>,
+    /// Of each channel, whether it is kept once more at the end.
+    pub closes: Vec<bool>,
     /// The workers of its listeners.
     pub listeners: Vec<Seat<K, C>>,
     /// The workers of the lines of standard input.
@@ -55,19 +59,20 @@ fn clocks_of<H: Host>(alloc: Global, host: &mut H, many: usize) -> Result<Vec<H:
     Ok(clocks)
 }
 
-/// Makes all that a run of this plan, with these rows of sinks, needs before anything is opened. The host is asked for its names where
-/// interceptors are told them.
+/// Makes all that a run of this plan, with these rows of sinks, needs before anything is opened. Its interceptors that were handed in are
+/// these. The host is asked for its names where interceptors are told them.
 pub(crate) fn prepare<H: Host, K: Drop>(
     alloc: Global,
     host: &mut H,
     plan: &Plan,
     rows: &[SinkRow],
+    steps: Vec<K>,
 ) -> Result<Prepared<K, H::Clock>, RunError>
     requires planned { IsPlanned plan.now }
-    requires own { All HasOwnSteps plan.now.sources.items }
+    requires steps { length steps.items ≡ length (step_asks plan.now.sources.items) }
     ensures prepared { IfOk result (IsPrepared plan.now rows.now) }
     ensures drafted { IfOk result
-        (IsDrafted (H.state host.old).name (H.state host.old).address plan.now) }
+        (IsDrafted steps.items (H.state host.old).name (H.state host.old).address plan.now) }
     ensures same { OnOk result (H.state host.new ≡ H.state host.old) }
     ensures refused { IfErr result
         (λ error. IsUnprepared error (H.state host.old) (H.state host.new)) }
@@ -77,18 +82,35 @@ pub(crate) fn prepare<H: Host, K: Drop>(
         Ok(names) => names,
         Err(refused) => return Err(name_error(refused)),
     };
-    let listeners = draft_listeners(alloc, plan, names.as_slice())?;
-    let lines = draft_lines(alloc, plan, names.as_slice())?;
+    let drafts = draft_sources(alloc, plan, names.as_slice(), steps)?;
+    let Drafts { listeners, lines } = drafts;
     let listeners = seats_of(alloc, host, listeners)?;
     let lines = seats_of(alloc, host, lines)?;
-    let uses = uses_of(alloc, rows, listeners.as_slice(), lines.as_slice())?;
+    let keepers = keep_seats_of(alloc, host, plan.channels.as_slice())?;
+    let closes = closes_of(alloc, plan.channels.as_slice())?;
+    let uses = uses_of(
+        alloc,
+        keepers.as_slice(),
+        rows,
+        listeners.as_slice(),
+        lines.as_slice(),
+    )?;
     let wishes = wishes_of(alloc, plan.channels.as_slice(), uses.as_slice())?;
     let places = listening_places(alloc, plan.sources.as_slice())?;
+    let labels = labels_of(
+        alloc,
+        plan,
+        keepers.as_slice(),
+        rows,
+        listeners.as_slice(),
+        lines.as_slice(),
+    )?;
     let clocks = clocks_of(alloc, host, rows.len())?;
-    let labels = labels_of(alloc, plan, rows, listeners.as_slice(), lines.as_slice())?;
     drafts_can_serve::<K>();
     Ok(Prepared {
         wishes,
+        keepers,
+        closes,
         listeners,
         lines,
         places,

@@ -6,6 +6,7 @@ ghost use Rattle.agent_run.specs.Runs.{HaveRooms};
 
 use crate::workers::Workers;
 use channel_face::Channel;
+use keep_worker::KeepWorker;
 use line_worker::LineWorker;
 use shared_channel::Pass;
 use sink_worker::SinkWorker;
@@ -47,6 +48,7 @@ fn rooms_of_lines<'a, R: Wait + 'a, A: Channel + 'a, B: Channel + 'a, I, O, C, K
 /// Room for the workers of a run with ports, and for the ports.
 #[derive(Drop)]
 pub(crate) struct Rooms<'a, R: Wait, A: Channel, B: Channel, S, N, I, O, C, K> {
+    pub keepers: Vec<KeepWorker<EitherPort<'a, R, A, B>, C>>,
     pub sinks: Vec<SinkWorker<EitherPort<'a, R, A, B>, S, C>>,
     pub listeners: Vec<ListenWorker<EitherPort<'a, R, A, B>, N, C, K>>,
     pub listener_ports: Vec<Vec<EitherPort<'a, R, A, B>>>,
@@ -72,12 +74,14 @@ pub(crate) fn rooms_of<
 ) -> Result<Rooms<'a, R, A, B, S, N, I, O, C, K>, AllocError>
     ensures { IfOk result (λ rooms. HaveRooms jobs.now rooms) }
 {
+    let keepers = Vec::with_capacity(alloc, jobs.keepers.len())?;
     let sinks = Vec::with_capacity(alloc, jobs.sinks.len())?;
     let listeners = Vec::with_capacity(alloc, jobs.listeners.len())?;
     let listener_ports = rooms_of_listeners(alloc, jobs.listeners.as_slice())?;
     let lines = Vec::with_capacity(alloc, jobs.lines.len())?;
     let line_ports = rooms_of_lines(alloc, jobs.lines.as_slice())?;
     Ok(Rooms {
+        keepers,
         sinks,
         listeners,
         listener_ports,

@@ -7,7 +7,7 @@ ghost use Rattle.agent_words.specs.Statuses.{status_of};
 ghost use Rattle.agent_words.specs.Words.{texts};
 ghost use Rattle.agent_run.specs.Named.{AgentEnds};
 ghost use Rattle.agent_run.specs.Through.{AgentEndsAs, WithObjects};
-ghost use Rattle.plan_objects.specs.Asks.{first_unmet, names_of};
+ghost use Rattle.plan_objects.specs.Asks.{lacking};
 ghost use Rattle.agent_run.specs.Words.{IsNoCommand};
 ghost use Rattle.agent_commands.specs.Checked.{Checked, IsCheckStatus};
 ghost use Rattle.agent_commands.specs.Loads.{IsLoadStatus};
@@ -53,10 +53,10 @@ fn run_configured<
     handed: &mut HandedIn<K, B>,
     host: &mut H,
 ) -> Outcome
-    ensures ends { AgentEnds (first_unmet (names_of handed.old.sinks.items))
+    ensures ends { AgentEnds (lacking handed.old)
         ((H.state host.old).files file.now) agent.now result.status }
-    ensures ran { AgentEndsAs (first_unmet (names_of handed.old.sinks.items))
-        (WithObjects ⟦<RunOf<'a, R, H, K, B> as Runs<B>>⟧.ran handed.old.sinks.items)
+    ensures ran { AgentEndsAs (lacking handed.old)
+        (WithObjects ⟦<RunOf<'a, R, H, K, B> as Runs<K, B>>⟧.ran handed.old)
         ((H.state host.old).files file.now) agent.now result.status result.channels.items
         (record { state = H.state host.old; folders = H.folders host.old })
         (record { state = H.state host.new; folders = H.folders host.new }) }
@@ -147,8 +147,8 @@ fn run_loaded<R: Wait, H: Host>(rt: &R, alloc: Global, n: u32, dir: String, host
 /// answers `OK` for it once it is on the disk. `check -n NAME -f FILE` reads the configuration file `FILE`, plans the agent `NAME` in it
 /// and prints how many components it has. `load N DIR` runs the generator of N events on the folder `DIR`, and prints its summary.
 /// `agent -n NAME -f FILE` runs that agent: its sources, channels and sinks, each worker in a thread of its own, until standard input has
-/// ended. Each other status than 0 has its line on standard error. The agent's sinks take the objects that they ask for out of what is
-/// handed in. One that was taken is dropped after its last call, and the others at the end.
+/// ended. Each other status than 0 has its line on standard error. The agent's interceptors and sinks take the objects that they ask for out
+/// of what is handed in. One that was taken is dropped after its last call, and the others at the end.
 pub fn run_agent<
     'a,
     R: Threads + Wait + Sync + 'a,
@@ -173,7 +173,7 @@ pub fn run_agent<
 
     // What `check` found in the file and wrote, and when each status comes.
     ensures checked { (agent file : List ℕ) → IsCheck (texts words.now) agent file
-        → Checked (first_unmet (names_of plugins.sinks.items))
+        → Checked (lacking plugins)
         ((H.state host.old).files file) agent (H.state host.old) (H.state host.new) result.status }
     ensures check_statuses { (agent file : List ℕ) → IsCheck (texts words.now) agent file → IsCheckStatus result.status }
     ensures unopened { (agent file : List ℕ) → IsCheck (texts words.now) agent file → H.folders host.new ≡ H.folders host.old }
@@ -189,16 +189,16 @@ pub fn run_agent<
 
     // What the configuration file of `agent` holds where the status is 2, and which statuses come.
     ensures agent { (name file : List ℕ) → IsAgent (texts words.now) name file
-        → AgentEnds (first_unmet (names_of plugins.sinks.items))
+        → AgentEnds (lacking plugins)
         ((H.state host.old).files file) name result.status }
 
-    // What `agent` did, where its run began, and what that comes to: which objects its sinks took of those that were handed in; why the
+    // What `agent` did, where its run began, and what that comes to: which objects its interceptors and sinks took of those that were handed in; why the
     // status is 3, 4, 6 or 7, and when it is none of these; what each sink took and delivered; at status 0 what is in each folder, what
     // the report says, and what each session and standard input brought in. Where it did not begin, which step refused and why, and what
     // became of the host.
     ensures agent_ran { (name file : List ℕ) → IsAgent (texts words.now) name file
-        → AgentEndsAs (first_unmet (names_of plugins.sinks.items))
-        (WithObjects ⟦<RunOf<'a, R, H, K, B> as Runs<B>>⟧.ran plugins.sinks.items)
+        → AgentEndsAs (lacking plugins)
+        (WithObjects ⟦<RunOf<'a, R, H, K, B> as Runs<K, B>>⟧.ran plugins)
         ((H.state host.old).files file) name
         result.status result.channels.items
         (record { state = H.state host.old; folders = H.folders host.old })

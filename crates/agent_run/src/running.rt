@@ -10,16 +10,17 @@ ghost use Rattle.agent_run.specs.Draining.{IsSinkHome};
 ghost use Rattle.agent_run.specs.Histories.{IsLineTold, IsListenTold, IsSinkTold};
 ghost use Rattle.source_worker.specs.Workers.{heard_of};
 ghost use Rattle.line_worker.specs.Workers.{talk_of};
-ghost use Rattle.agent_run.specs.Runs.{AreEnded, AreNew, AreOpened, AreWorkers, CanRun, HaveRoom, HaveRooms, HaveRun, owners_of, runs};
+ghost use Rattle.agent_run.specs.Runs.{AreEnded, AreNew, AreOnDisks, AreOpened, AreWorkers, CanRun, HaveRoom, HaveRooms, HaveRun, owners_of, runs};
 
-use crate::homes::{end_lines, end_listeners, end_sinks};
-use crate::ports::{open_lines, open_listeners, open_sinks};
+use crate::homes::{end_keepers, end_lines, end_listeners, end_sinks};
+use crate::ports::{open_keepers, open_lines, open_listeners, open_sinks};
 use crate::rooms::{Rooms, rooms_of};
 use crate::rows::run_lists;
 use crate::workers::{Returned, Workers};
-use channel_face::{Channel, Reopen};
+use channel_face::{Channel, Durable};
 use crew::{DrainWorker, Stop, Work};
 use flume_host::{Clock, Listener, Sink, Source};
+use keep_worker::KeepWorker;
 use line_worker::LineWorker;
 use plug_in::{EventSink, Interceptor};
 use shared_channel::{Carries, Joins, Pass};
@@ -53,22 +54,26 @@ fn open_workers<
     ensures { AreOpened shares.now jobs result }
 {
     let Workers {
+        keepers,
         sinks,
         listeners,
         drains,
         lines,
     } = jobs;
     let Rooms {
+        keepers: mut keep_workers,
         sinks: mut sink_workers,
         listeners: mut listen_workers,
         listener_ports,
         lines: mut line_workers,
         line_ports,
     } = rooms;
+    open_keepers(rt, shares, keepers, &mut keep_workers);
     open_sinks(rt, shares, sinks, &mut sink_workers);
     open_listeners(rt, shares, listeners, listener_ports, &mut listen_workers);
     open_lines(rt, shares, lines, line_ports, &mut line_workers);
     Workers {
+        keepers: keep_workers,
         sinks: sink_workers,
         listeners: listen_workers,
         drains,
@@ -91,11 +96,13 @@ fn end_workers<Z: Joins, F: Carries + Drop, S: Drop, N: Drop, I: Drop, O: Drop, 
     ensures ended { AreEnded F.pass homes.new workers returned.new }
 {
     let Workers {
+        keepers,
         sinks,
         listeners,
         drains,
         lines,
     } = workers;
+    end_keepers(shares, homes, keepers);
     end_sinks(shares, homes, sinks, &mut returned.sinks);
     end_listeners(shares, homes, listeners, &mut returned.listeners);
     end_lines(shares, homes, lines, &mut returned.lines);
@@ -106,7 +113,7 @@ fn end_workers<Z: Joins, F: Carries + Drop, S: Drop, N: Drop, I: Drop, O: Drop, 
 fn run_in<
     'a,
     R: Threads + Wait + Sync + 'a,
-    A: Reopen + Drop + Send + 'a,
+    A: Durable + Drop + Send + 'a,
     B: Channel + Drop + Send + 'a,
     S: EventSink + Send,
     N: Listener + Send + Drop,
@@ -125,6 +132,7 @@ fn run_in<
     requires homes { AreHomes table_of shares.now homes.old }
     requires jobs { AreWorkers table_of shares.now (λ pass. pass) jobs }
     requires fit { CanRun jobs }
+    requires disks { AreOnDisks shares.now jobs }
     requires new { AreNew jobs }
     requires rooms { HaveRooms jobs rooms }
     requires room { HaveRoom jobs returned.old }
@@ -132,7 +140,8 @@ fn run_in<
     ensures kept { EachTook homes.old homes.new }
     ensures all { AreDealt homes.old (owners_of jobs) → All (λ p. HasAll p.view) homes.new }
     ensures ran { HaveRun
-        (runs ⟦<SinkWorker<EitherPort<'a, R, A, B>, S, C> as Work>⟧.ran
+        (runs ⟦<KeepWorker<EitherPort<'a, R, A, B>, C> as Work>⟧.ran
+        ⟦<SinkWorker<EitherPort<'a, R, A, B>, S, C> as Work>⟧.ran
         ⟦<ListenWorker<EitherPort<'a, R, A, B>, N, C, K> as Work>⟧.ran
         ⟦<DrainWorker<I> as Work>⟧.ran
         ⟦<LineWorker<EitherPort<'a, R, A, B>, I, O, C, K> as Work>⟧.ran)
@@ -146,6 +155,7 @@ fn run_in<
         shares.now homes.new) jobs.lines.items returned.new.lines.items }
 {
     let Workers {
+        mut keepers,
         mut sinks,
         mut listeners,
         mut drains,
@@ -155,12 +165,14 @@ fn run_in<
     run_lists(
         rt,
         &stop,
+        &mut keepers,
         &mut sinks,
         &mut listeners,
         &mut drains,
         &mut lines,
     );
     let workers = Workers {
+        keepers,
         sinks,
         listeners,
         drains,
@@ -178,7 +190,7 @@ fn run_in<
 pub fn run_workers<
     'a,
     R: Threads + Wait + Sync + 'a,
-    A: Reopen + Drop + Send + 'a,
+    A: Durable + Drop + Send + 'a,
     B: Channel + Drop + Send + 'a,
     S: EventSink + Send,
     N: Listener + Send + Drop,
@@ -197,13 +209,15 @@ pub fn run_workers<
     requires homes { AreHomes table_of shares.now homes.old }
     requires jobs { AreWorkers table_of shares.now (λ pass. pass) jobs }
     requires fit { CanRun jobs }
+    requires disks { AreOnDisks shares.now jobs }
     requires new { AreNew jobs }
     requires room { HaveRoom jobs returned.old }
     ensures homes { AreHomes table_of shares.now homes.new }
     ensures kept { EachTook homes.old homes.new }
     ensures all { AreDealt homes.old (owners_of jobs) → All (λ p. HasAll p.view) homes.new }
     ensures ran { OnOk result (HaveRun
-        (runs ⟦<SinkWorker<EitherPort<'a, R, A, B>, S, C> as Work>⟧.ran
+        (runs ⟦<KeepWorker<EitherPort<'a, R, A, B>, C> as Work>⟧.ran
+        ⟦<SinkWorker<EitherPort<'a, R, A, B>, S, C> as Work>⟧.ran
         ⟦<ListenWorker<EitherPort<'a, R, A, B>, N, C, K> as Work>⟧.ran
         ⟦<DrainWorker<I> as Work>⟧.ran
         ⟦<LineWorker<EitherPort<'a, R, A, B>, I, O, C, K> as Work>⟧.ran)

@@ -9,15 +9,15 @@ ghost use Rattle.agent_run.specs.Draining.{HasOwn, IsDrainedAt, IsSinkHome};
 ghost use Rattle.agent_run.specs.Opened.{HasRoom};
 ghost use Rattle.agent_run.specs.Settling.{AreMendedAndCounted, AreSettled};
 ghost use Rattle.run_tracks.specs.Closes.{IsClosed};
-ghost use Rattle.run_tracks.specs.Stops.{IsMended};
+ghost use Rattle.run_tracks.specs.Stops.{IsKept, IsMended};
 
 use crate::draining::drain_sinks;
 use crate::homes::AtHome;
 use agent_end::ChannelDrain;
-use channel_face::{Channel, Counts, OpenCause, Reopen};
+use channel_face::{Channel, Counts, Durable, OpenCause, Reopen};
 use flume_host::Clock;
 use plug_in::EventSink;
-use run_tracks::{close_all, count_all, mend_all};
+use run_tracks::{close_all, count_all, keep_all, mend_all};
 use shared_channel::Pass;
 use sink_worker::SinkWorker;
 use std::sync::Wait;
@@ -59,12 +59,12 @@ fn mend_and_count<R: Wait, A: Reopen, B: Channel>(
     count_all(rt, shares, homes, report);
 }
 
-/// After the join of the workers each sink empties its channel, one after the other; then each channel is mended, counted and
-/// closed. The lists of `room` have room, and one mend and one entry of the report for each channel: so it takes no memory but that
-/// of the sinks' runs and of the mends.
+/// After the join of the workers each sink empties its channel, one after the other; then each channel of which it is said so lays a
+/// checkpoint and removes old files; then each channel is mended, counted and closed. The lists of `room` have room, and one mend and one
+/// entry of the report for each channel: so it takes no memory but that of the sinks' runs, of the checkpoints and of the mends.
 pub(crate) fn settle<
     R: Wait,
-    A: Reopen + Drop,
+    A: Durable + Drop,
     B: Channel + Drop,
     S: EventSink + Drop,
     C: Clock + Drop,
@@ -73,6 +73,7 @@ pub(crate) fn settle<
     shares: Vec<EitherShared<A, B>>,
     homes: Vec<Pass>,
     sinks: Vec<SinkWorker<AtHome, S, C>>,
+    keeps: &[bool],
     room: Settled<S, A, B>,
 ) -> Settled<S, A, B>
     requires homes { AreHomes table_of shares.items homes.items }
@@ -83,10 +84,12 @@ pub(crate) fn settle<
     requires back { HasRoom sinks.items room.sinks }
     requires mends { length room.mends.items ≡ length homes.items }
     requires report { length room.report.items ≡ length homes.items }
+    requires keeps { length keeps.now ≡ length homes.items }
     requires closed { HasRoom homes.items room.closed }
     ensures settled { AreSettled (IsDrainedAt (told S.delivers S.faults) C.moments)
+        (IsKept A.stands A.tells A.moment A.is_laid A.is_pruned)
         (IsMended A.stands A.tells A.moment) (IsClosed A.stands A.tells B.stands B.tells)
-        shares.items homes.items sinks.items room.report.items result }
+        shares.items homes.items sinks.items keeps.now room.report.items result }
 {
     let mut homes = homes;
     let Settled {
@@ -104,6 +107,7 @@ pub(crate) fn settle<
         &mut ends,
         &mut back,
     );
+    keep_all(rt, shares.as_slice(), homes.as_mut_slice(), keeps);
     mend_and_count(
         rt,
         shares.as_slice(),

@@ -4,12 +4,13 @@ ghost use Rattle.std.specs.Vec.{vec_capacity};
 ghost use Rattle.agent_drafts.specs.Drafts.{TakesLines};
 ghost use Rattle.run_tracks.specs.Deals.{Deals, DealsEach, Suffice, hands_of};
 ghost use Rattle.run_tracks.specs.Places.{Zips};
-ghost use Rattle.agent_run.specs.Staff.{IsLineOf, IsListenOf, IsRoomy, IsSinkOf, line_channels, line_ports, listen_channels, listen_ports, own_talk, seat_channels, sink_channels, sink_ports};
+ghost use Rattle.agent_run.specs.Staff.{IsKeepOf, IsLineOf, IsListenOf, IsRoomy, IsSinkOf, keep_channels, keep_ports, line_channels, line_ports, listen_channels, listen_ports, own_talk, seat_channels, sink_channels, sink_ports};
 
 use crate::homes::LineEnded;
-use crate::seats::Seat;
+use crate::seats::{KeepSeat, Seat};
 use agent_drafts::SourceDraft;
 use grouped_sinks::SinkRow;
+use keep_worker::KeepWorker;
 use line_worker::LineWorker;
 use run_tracks::{deal, draw};
 use shared_channel::Pass;
@@ -17,6 +18,39 @@ use sink_worker::SinkWorker;
 use source_worker::{ListenWorker, SessionRules};
 use std::alloc::Global;
 use std::marker::PhantomData;
+
+/// Makes the workers of channels on disks, in order, each with a pass of its channel. The list has room for them: so it takes no memory,
+/// and no pass is lost.
+pub(crate) fn staff_keepers<C: Drop>(
+    hands: &mut [Vec<Pass>],
+    seats: Vec<KeepSeat<C>>,
+    jobs: &mut Vec<KeepWorker<Pass, C>>,
+)
+    requires enough { Suffice (hands_of hands.old) (map (λ seat. seat.channel) seats.items) }
+    requires none { jobs.old.items ≡ [] }
+    requires room { length seats.items ≤ vec_capacity jobs.old }
+    ensures dealt { DealsEach keep_channels keep_ports (hands_of hands.old) jobs.new.items (hands_of hands.new) }
+    ensures of { Zips IsKeepOf seats.items jobs.new.items }
+    ensures room { vec_capacity jobs.old ≤ vec_capacity jobs.new }
+{
+    let mut others = seats;
+    let Some(seat) = others.pop() else {
+        return;
+    };
+    staff_keepers(hands, others, jobs);
+    let KeepSeat {
+        channel,
+        interval,
+        clock,
+    } = seat;
+    let port = draw(hands, channel);
+    jobs.push_reserved(KeepWorker {
+        port,
+        channel,
+        interval,
+        clock,
+    });
+}
 
 /// Makes the workers of the rows of sinks of a plan, in order, each with a pass of its channel. The list has room for them: so it takes no
 /// memory, and no pass is lost.

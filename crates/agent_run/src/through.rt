@@ -1,7 +1,7 @@
 // What a run of an agent does, in one relation.
 ghost use Rattle.agent_outside.specs.Listening.{IsFresh};
 ghost use Rattle.run_tracks.specs.Closes.{IsClosed};
-ghost use Rattle.run_tracks.specs.Stops.{IsMended};
+ghost use Rattle.run_tracks.specs.Stops.{IsKept, IsMended};
 ghost use Rattle.sink_worker.specs.Rounds.{told};
 ghost use Rattle.source_worker.specs.Workers.{heard_of};
 ghost use Rattle.line_worker.specs.Workers.{talk_of};
@@ -15,11 +15,12 @@ ghost use Rattle.std.specs.Prelude.{List, Option};
 use crate::opening::Opening;
 use agent_sinks::AgentSink;
 use avro_ends::{AvroSink, HasDialer};
-use channel_face::Channel;
+use channel_face::{Channel, Durable};
 use crew::{DrainWorker, Work};
 use file_channel::FileChannel;
 use flume_host::Host;
 use grouped_sinks::Runner;
+use keep_worker::KeepWorker;
 use line_worker::LineWorker;
 use memory_channel::MemoryChannel;
 use plug_in::{EventSink, Interceptor};
@@ -31,16 +32,16 @@ use std::thread::Threads;
 use two_channels::EitherPort;
 
 /// What a run does: which plans came to which ends and channels, from what the host told before to what it told after it.
-pub trait Runs<B> {
-    /// A run of this plan, whose sinks took these objects, came to these ends and channels: its steps, and what they come to.
-    ghost ran: { List (Option B) → Plan → RunEnds → List ChannelEnd
+pub trait Runs<K, B> {
+    /// A run of this plan, whose interceptors and sinks took these objects, came to these ends and channels: its steps, and what they come to.
+    ghost ran: { List K → List (Option B) → Plan → RunEnds → List ChannelEnd
         → HostTold → HostTold → Type 0 };
 }
 
 /// The steps of a run, one after the other.
-pub trait Steps<B> {
-    /// A run of this plan, whose sinks took these objects, made its steps, to these ends and channels.
-    ghost steps: { List (Option B) → Plan → RunEnds → List ChannelEnd
+pub trait Steps<K, B> {
+    /// A run of this plan, whose interceptors and sinks took these objects, made its steps, to these ends and channels.
+    ghost steps: { List K → List (Option B) → Plan → RunEnds → List ChannelEnd
         → HostTold → HostTold → Type 0 };
 }
 
@@ -102,7 +103,8 @@ impl<
         (λ manned. AreTaken H.Source.left H.Source.faults H.Sink.took H.Sink.handed H.Sink.faults
         (map (λ job. own_talk job) manned.crew.jobs.lines.items) manned.crew.jobs.drains.items)
         (λ manned homes. IsJoined (λ returned. HaveReturned
-        (runs ⟦<SinkWorker<PortOf<'a, R, H>, RunnerOf<H, B>, H::Clock> as Work>⟧.ran
+        (runs ⟦<KeepWorker<PortOf<'a, R, H>, H::Clock> as Work>⟧.ran
+        ⟦<SinkWorker<PortOf<'a, R, H>, RunnerOf<H, B>, H::Clock> as Work>⟧.ran
         ⟦<ListenWorker<PortOf<'a, R, H>, H::Listener, H::Clock, K> as Work>⟧.ran
         ⟦<DrainWorker<H::Source> as Work>⟧.ran
         ⟦<LineWorker<PortOf<'a, R, H>, H::Source, H::Sink, H::Clock, K> as Work>⟧.ran)
@@ -118,6 +120,9 @@ impl<
         (AreSettled (IsDrainedAt
         (told ⟦<RunnerOf<H, B> as EventSink>⟧.delivers ⟦<RunnerOf<H, B> as EventSink>⟧.faults)
         H.Clock.moments)
+        (IsKept ⟦<FileChannel<H::Disk> as Channel>⟧.stands
+        ⟦<FileChannel<H::Disk> as Channel>⟧.tells ⟦<FileChannel<H::Disk> as Channel>⟧.moment
+        ⟦<FileChannel<H::Disk> as Durable>⟧.is_laid ⟦<FileChannel<H::Disk> as Durable>⟧.is_pruned)
         (IsMended ⟦<FileChannel<H::Disk> as Channel>⟧.stands
         ⟦<FileChannel<H::Disk> as Channel>⟧.tells ⟦<FileChannel<H::Disk> as Channel>⟧.moment)
         (IsClosed ⟦<FileChannel<H::Disk> as Channel>⟧.stands
@@ -133,13 +138,13 @@ impl<
     H: Host + 'a,
     K: Interceptor + Send + Drop,
     B: EventSink + Send,
-> Steps<B> for RunOf<'a, R, H, K, B> {
+> Steps<K, B> for RunOf<'a, R, H, K, B> {
     ghost use Rattle.agent_run.specs.Outside.{HasRunners, IsOutside};
     ghost use Rattle.agent_run.specs.Prepared.{IsDrafted};
     ghost use Rattle.agent_run.specs.Through.{PlanRan};
 
-    ghost steps = { λ objects plan ends channels a b.
-        PlanRan plan (IsDrafted a.state.name a.state.address plan)
+    ghost steps = { λ given objects plan ends channels a b.
+        PlanRan plan (IsDrafted given a.state.name a.state.address plan)
         (λ rows prepared old new outside. HasRunners (λ sinks. IsOutside H.Roll.rolled H.Roll.faults
         ⟦<AvroSink<H::Dialer> as HasDialer>⟧.dial
         (IsFresh H.Listener.told H.Listener.endpoint H.Listener.waits H.Listener.faults)
@@ -155,15 +160,16 @@ impl<
     H: Host + 'a,
     K: Interceptor + Send + Drop,
     B: EventSink + Send,
-> Runs<B> for RunOf<'a, R, H, K, B> {
+> Runs<K, B> for RunOf<'a, R, H, K, B> {
     ghost use Rattle.agent_run.specs.Outside.{AreBack, HasRunners, IsOutside};
     ghost use Rattle.agent_run.specs.Prepared.{IsDrafted};
     ghost use Rattle.agent_run.specs.Run.{IsGivenBack};
     ghost use Rattle.agent_run.specs.RunDid.{RunDid};
     ghost use Rattle.agent_run.specs.Runs.{runs};
 
-    ghost ran = { λ objects plan ends channels a b. RunDid
-        (runs ⟦<SinkWorker<PortOf<'a, R, H>, RunnerOf<H, B>, H::Clock> as Work>⟧.ran
+    ghost ran = { λ given objects plan ends channels a b. RunDid
+        (runs ⟦<KeepWorker<PortOf<'a, R, H>, H::Clock> as Work>⟧.ran
+        ⟦<SinkWorker<PortOf<'a, R, H>, RunnerOf<H, B>, H::Clock> as Work>⟧.ran
         ⟦<ListenWorker<PortOf<'a, R, H>, H::Listener, H::Clock, K> as Work>⟧.ran
         ⟦<DrainWorker<H::Source> as Work>⟧.ran
         ⟦<LineWorker<PortOf<'a, R, H>, H::Source, H::Sink, H::Clock, K> as Work>⟧.ran)
@@ -173,8 +179,9 @@ impl<
         H.Source.left H.Source.faults H.Sink.took H.Sink.handed H.Sink.faults
         ⟦<FileChannel<H::Disk> as Channel>⟧.stands ⟦<FileChannel<H::Disk> as Channel>⟧.tells
         ⟦<FileChannel<H::Disk> as Channel>⟧.moment
+        ⟦<FileChannel<H::Disk> as Durable>⟧.is_laid ⟦<FileChannel<H::Disk> as Durable>⟧.is_pruned
         ⟦<MemoryChannel as Channel>⟧.stands ⟦<MemoryChannel as Channel>⟧.tells
-        plan (IsDrafted a.state.name a.state.address plan)
+        plan (IsDrafted given a.state.name a.state.address plan)
         (λ rows prepared old new outside. HasRunners (λ sinks. IsOutside H.Roll.rolled H.Roll.faults
         ⟦<AvroSink<H::Dialer> as HasDialer>⟧.dial
         (IsFresh H.Listener.told H.Listener.endpoint H.Listener.waits H.Listener.faults)

@@ -32,10 +32,10 @@ pub fn steps_are_told<
     K: Interceptor + Send + Drop,
     B: EventSink + Send,
 >()
-    ensures { (objects : List (Option B)) (plan : Plan)
+    ensures { (given : List K) (objects : List (Option B)) (plan : Plan)
         (ends : RunEnds) (channels : List ChannelEnd) (a b : HostTold) → IsPlanned plan
-        → ⟦<RunOf<'a, R, H, K, B> as Steps<B>>⟧.steps objects plan ends channels a b
-        → ⟦<RunOf<'a, R, H, K, B> as Runs<B>>⟧.ran objects plan ends channels a b }
+        → ⟦<RunOf<'a, R, H, K, B> as Steps<K, B>>⟧.steps given objects plan ends channels a b
+        → ⟦<RunOf<'a, R, H, K, B> as Runs<K, B>>⟧.ran given objects plan ends channels a b }
 {
     runs_are_told::<
         'a,

@@ -5,7 +5,7 @@ ghost use Rattle.agent_run.specs.Prepared.{uses_of};
 ghost use Rattle.agent_run.specs.Staff.{seat_channels};
 ghost use Rattle.agent_run.specs.Wishes.{AreWishes, IsFileOf, IsPlaceOf, IsWish};
 
-use crate::seats::Seat;
+use crate::seats::{KeepSeat, Seat};
 use agent_channels::{ChannelPlace, ChannelWish};
 use channel_face::Limits;
 use flume_config::{ChannelKind, ChannelPlan};
@@ -22,16 +22,21 @@ fn add_uses<K, C>(uses: &mut Vec<u32>, seats: &[Seat<K, C>]) -> Result<(), Alloc
     Ok(())
 }
 
-/// The channels that workers use, each as often as it is used: those of the sinks, of the listeners and of the lines.
+/// The channels that workers use, each as often as it is used: those that are kept, those of the sinks, of the listeners and of the
+/// lines.
 pub(crate) fn uses_of<K, C>(
     alloc: Global,
+    keepers: &[KeepSeat<C>],
     sinks: &[SinkRow],
     listeners: &[Seat<K, C>],
     lines: &[Seat<K, C>],
 ) -> Result<Vec<u32>, AllocError>
-    ensures { IfOk result (λ uses. uses.items ≡ uses_of sinks.now listeners.now lines.now) }
+    ensures { IfOk result (λ uses. uses.items ≡ uses_of keepers.now sinks.now listeners.now lines.now) }
 {
     let mut uses = Vec::new(alloc);
+    for keeper in keepers {
+        uses.push(keeper.channel)?;
+    }
     for sink in sinks {
         uses.push(sink.channel)?;
     }

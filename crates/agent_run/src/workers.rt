@@ -1,6 +1,7 @@
 // The workers of a run, and what comes back of them.
 use crate::homes::{AtHome, LineEnded};
 use crew::DrainWorker;
+use keep_worker::KeepWorker;
 use line_worker::LineWorker;
 use sink_worker::SinkWorker;
 use source_worker::ListenWorker;
@@ -8,6 +9,8 @@ use source_worker::ListenWorker;
 /// The workers of a run, by kind. `F` is what stands for their channels: passes before the run, ports in it.
 #[derive(Drop)]
 pub struct Workers<F, S, N, I, O, C, K> {
+    /// Those that lay the checkpoints of channels on disks.
+    pub keepers: Vec<KeepWorker<F, C>>,
     /// The sinks.
     pub sinks: Vec<SinkWorker<F, S, C>>,
     /// The session workers of the listening sources.

@@ -19,6 +19,8 @@ mod groups;
 #[cfg(test)]
 mod handed;
 #[cfg(test)]
+mod keeps;
+#[cfg(test)]
 mod left;
 #[cfg(test)]
 mod lines;

@@ -201,6 +201,7 @@ a.sources.n.channels = c1
 a.channels = c1 c2
 a.channels.c1.type = file
 a.channels.c1.dataDirs = d
+a.channels.c1.checkpointOnClose = false
 a.channels.c2.type = memory
 a.sinks = k
 a.sinks.k.type = null

@@ -1,11 +1,11 @@
-// What is handed in to a run: what the program hands in, and sinks that write down what they do.
+// What is handed in to a run: what the program hands in, and an interceptor and sinks that write down what they do.
 
 use crate::own_host::OwnHost;
 use agent_run::{Outcome, run_agent};
-use event_core::Batch;
+use event_core::{Batch, Event};
 use plan_objects::Plugins;
-use plug_in::{EventSink, SinkRefused};
-use shipped_objects::Tally;
+use plug_in::{EventSink, Intercepted, Interceptor, SinkRefused};
+use shipped_objects::{Sample, Tally};
 use std::alloc::{AllocError, Global};
 use std::sync::atomic::AtomicU64;
 use std::sync::atomic::Ordering::SeqCst;
@@ -47,6 +47,30 @@ impl Notes {
             letters = with_letter(letters, *letter);
         }
         self.letters.load(SeqCst) == letters
+    }
+}
+
+// An interceptor that hands all on, and writes down the first letter of each event. As it is dropped it writes its own letter down.
+struct Passer {
+    notes: Notes,
+    letter: u8,
+}
+
+impl Drop for Passer {
+    fn drop(self) {
+        let Passer { notes, letter } = self;
+        notes.add(letter);
+    }
+}
+
+impl Interceptor for Passer {
+    ghost intercepts = { λ _ _ _ _ _. Unit {0} };
+
+    fn intercept(&mut self, event: Event, _moment: u64) -> Intercepted {
+        if let Some(letter) = event.body().first() {
+            self.notes.add(*letter);
+        }
+        Intercepted::Keep(event)
     }
 }
 
@@ -115,7 +139,20 @@ fn add(
         .ok()
 }
 
-/// Runs with these words, with what the program hands in, and the sinks `Taker`, which takes all, and `Refuser`, which refuses all.
+// Hands in an interceptor under a name.
+fn add_step(
+    alloc: Global,
+    plugins: &mut Plugins,
+    name: &str,
+    step: Box<dyn Interceptor + Send>,
+) -> Option<()> {
+    plugins
+        .add_step(String::from_str(alloc, name).ok()?, step)
+        .ok()
+}
+
+/// Runs with these words, with what the program hands in, the interceptor `Passer`, which hands all on, and the sinks `Taker`, which takes
+/// all, and `Refuser`, which refuses all.
 pub fn outcome_of<R: Threads + Wait + Sync>(
     rt: &R,
     alloc: Global,
@@ -124,6 +161,14 @@ pub fn outcome_of<R: Threads + Wait + Sync>(
     notes: &Notes,
 ) -> Option<Outcome> {
     let mut plugins = Plugins::new(alloc);
+    let sample = Box::new(alloc, Sample { drops: false }).ok()?;
+    add_step(alloc, &mut plugins, "sample", sample)?;
+    let passer = Passer {
+        notes: notes.handle().ok()?,
+        letter: b'P',
+    };
+    let passer = Box::new(alloc, passer).ok()?;
+    add_step(alloc, &mut plugins, "Passer", passer)?;
     let tally = Box::new(alloc, Tally { count: 0 }).ok()?;
     add(alloc, &mut plugins, "tally", tally)?;
     let taker = Box::new(alloc, scribe_of(notes, "Taker", true)?).ok()?;

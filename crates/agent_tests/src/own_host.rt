@@ -1,16 +1,20 @@
-// A host of the tests' own over one in memory: its input may give many bytes first, and the syncs of one disk may wait.
+// A host of the tests' own over one in memory: its input may give many bytes first, the syncs of one disk may wait, and its clocks
+// let others run in long pauses.
 
-use flume_host::{Disk, Failed, FileName, FileRefused, Host, NameRefused, NoMemory, Source};
+use flume_host::{Clock, Disk, Failed, FileName, FileRefused, Host, NameRefused, NoMemory, Source};
 use host_memory::{
     Flag, MemClock, MemDialer, MemDisk, MemHost, MemListener, MemRandom, MemRoll, MemSink,
     MemSource,
 };
+use std::thread;
 
 /// An input that gives so many bytes of any kind, which it does not write anywhere, and then those of one in memory.
 #[derive(Drop)]
 pub struct LongSource {
     more: u64,
     source: MemSource,
+    // Is set once it has ended or failed.
+    ended: Option<Flag>,
 }
 
 impl Source for LongSource {
@@ -27,7 +31,11 @@ impl Source for LongSource {
             self.more -= most;
             return Ok(most as usize);
         }
-        self.source.read(into)
+        let read = self.source.read(into);
+        if let (Some(flag), Ok(0) | Err(_)) = (&self.ended, &read) {
+            flag.set();
+        }
+        read
     }
 
     fn faults(&self) -> u64 {
@@ -117,7 +125,77 @@ impl Disk for GatedDisk {
     }
 }
 
-/// A host in memory, whose input gives so many bytes more, and of which the first disk that is opened may wait.
+/// The longest pause that lets no other thread run, in milliseconds.
+const SHORT: u64 = 1_000;
+
+/// How often a piece of a longer pause lets other threads run, and how often at most before the input has ended. It is so often that a run
+/// ends before the pause does.
+const YIELDS: u32 = 200;
+
+const MOST_YIELDS: u32 = 20_000;
+
+fn is_set(flag: &Option<Flag>) -> bool {
+    match flag {
+        Some(flag) => flag.is_set(),
+        None => false,
+    }
+}
+
+// One more handle of a flag, if there is one.
+fn handle_of(flag: &Option<Flag>) -> Option<Flag> {
+    match flag {
+        Some(flag) => flag.handle().ok(),
+        None => None,
+    }
+}
+
+/// A clock that was not asked for a moment for more than a second lets other threads run in its pauses. So a worker that asks for none
+/// comes to the end of its first second at once, and goes on slowly.
+#[derive(Drop)]
+pub struct SlowClock {
+    clock: MemClock,
+    // The milliseconds of its pauses since it was asked for a moment.
+    paused: u64,
+    // Is set in the first of the slow pauses.
+    slow: Option<Flag>,
+    // Is set once the input has ended.
+    ended: Option<Flag>,
+}
+
+impl SlowClock {
+    // Lets other threads run.
+    fn wait(&self) {
+        for time in 0..MOST_YIELDS {
+            if time >= YIELDS && is_set(&self.ended) {
+                return;
+            }
+            thread::yield_now();
+        }
+    }
+}
+
+impl Clock for SlowClock {
+    ghost use Rattle.std.specs.Prelude.{None};
+
+    ghost moments = { λ c. None };
+
+    fn now(&mut self) -> u64 {
+        self.paused = 0;
+        self.clock.now()
+    }
+
+    fn pause(&mut self, ms: u32) {
+        self.paused = self.paused.saturating_add(u64::from(ms));
+        if self.paused > SHORT {
+            if let Some(flag) = &self.slow {
+                flag.set();
+            }
+            self.wait();
+        }
+    }
+}
+
+/// A host in memory, whose input gives so many bytes more, and of which the first disk that is opened may wait, and the clocks may be slow.
 #[derive(Drop)]
 pub struct OwnHost {
     /// What it does but for that.
@@ -126,6 +204,10 @@ pub struct OwnHost {
     pub more: u64,
     /// Where the first disk waits, until it is opened.
     pub gate: Option<Gate>,
+    /// Is set once a pause has lasted for more than a second.
+    pub slow: Option<Flag>,
+    /// Is set once the input has ended.
+    pub ended: Option<Flag>,
 }
 
 impl Host for OwnHost {
@@ -144,7 +226,7 @@ impl Host for OwnHost {
 
     type Dialer = MemDialer;
 
-    type Clock = MemClock;
+    type Clock = SlowClock;
 
     type Random = MemRandom;
 
@@ -156,6 +238,7 @@ impl Host for OwnHost {
         LongSource {
             more: self.more,
             source: self.host.take_input(),
+            ended: handle_of(&self.ended),
         }
     }
 
@@ -221,8 +304,13 @@ impl Host for OwnHost {
         self.host.host_name(use_ip)
     }
 
-    fn clock(&mut self) -> MemClock {
-        self.host.clock()
+    fn clock(&mut self) -> SlowClock {
+        SlowClock {
+            clock: self.host.clock(),
+            paused: 0,
+            slow: handle_of(&self.slow),
+            ended: handle_of(&self.ended),
+        }
     }
 
     fn random(&mut self) -> MemRandom {

@@ -5,8 +5,8 @@ use crate::own_host::OwnHost;
 use crate::scene::{Given, Scene};
 use agent_run::Outcome;
 use host_memory::{
-    MemClock, MemDialer, MemDisk, MemHost, MemListener, MemRandom, MemRoll, MemSink, MemSource,
-    Named, Offer, Placed, Stood,
+    Flag, MemClock, MemDialer, MemDisk, MemHost, MemListener, MemRandom, MemRoll, MemSink,
+    MemSource, Named, Offer, Placed, Stood,
 };
 use std::alloc::Global;
 use std::mem;
@@ -131,8 +131,15 @@ fn host_of(alloc: Global, given: &mut Given) -> Option<MemHost> {
 fn own_host_of(alloc: Global, given: &mut Given) -> Option<OwnHost> {
     let more = given.more;
     let gate = given.gate.take();
+    let slow = given.slow.take();
     let host = host_of(alloc, given)?;
-    Some(OwnHost { host, more, gate })
+    Some(OwnHost {
+        host,
+        more,
+        gate,
+        slow,
+        ended: Flag::new(alloc).ok(),
+    })
 }
 
 // A word of a command line: `''` is empty, and escapes stand for their bytes.

@@ -36,6 +36,8 @@ pub struct Given {
     /// The links of the dialer of `far`, port 4545.
     pub dials: Vec<Option<MemLink>>,
     pub gate: Option<Gate>,
+    /// Is set once a pause has lasted for more than a second.
+    pub slow: Option<Flag>,
 }
 
 impl Given {
@@ -61,6 +63,7 @@ impl Given {
             ports: Vec::new(alloc),
             dials: Vec::new(alloc),
             gate: None,
+            slow: None,
         }
     }
 }

@@ -17,11 +17,12 @@ a.sources.r.channels = c1
 a.channels.c1.type = memory
 ";
 
-// One channel on a disk.
+// One channel on a disk, which is not kept at the end.
 const ON_DISK: &str = "a.channels = c1
 a.sources.r.channels = c1
 a.channels.c1.type = file
 a.channels.c1.dataDirs = d
+a.channels.c1.checkpointOnClose = false
 ";
 
 // Three channels in memory, of which the second has room for one event, and the state decides which one gets a line.
@@ -38,7 +39,8 @@ a.sources.r.selector.type = multiplexing
 a.sources.r.selector.header = state
 ";
 
-// Lines go into a channel on a disk, which nobody takes from: so only their worker mends it, and the caller at the end. The sink that
+// Lines go into a channel on a disk, which nobody takes from: so only their worker mends it, and the caller at the
+// end, when it is not kept. The sink that
 // each agent has is of another channel.
 const UNTAKEN: &str = "a.sources = r
 a.sources.r.type = stdin
@@ -46,6 +48,7 @@ a.sources.r.channels = c1
 a.channels = c1 c2
 a.channels.c1.type = file
 a.channels.c1.dataDirs = d
+a.channels.c1.checkpointOnClose = false
 a.channels.c2.type = memory
 a.sinks = k
 a.sinks.k.type = null
@@ -104,6 +107,7 @@ a.sinks.k.type = null
 // Its channel is on a disk, and its sink rolls no file anew.
 const CALLED_ON_DISK: &str = "a.channels.c1.type = file
 a.channels.c1.dataDirs = d
+a.channels.c1.checkpointOnClose = false
 a.sinks.k.type = file_roll
 a.sinks.k.sink.directory = out
 a.sinks.k.sink.rollInterval = 0

@@ -175,6 +175,11 @@ fn set_flushed(scene: &mut Scene, flag: &str) -> bool {
     scene.given.flushed.is_some()
 }
 
+fn set_slow(scene: &mut Scene, flag: &str) -> bool {
+    scene.given.slow = scene.flag(flag);
+    scene.given.slow.is_some()
+}
+
 // The first call that waits; the flags are 0 before a sync waits, 1 that ends it, and 2 where it has waited in vain.
 fn set_gate(scene: &mut Scene, from: &str) -> bool {
     let Some(from) = number_of(from) else {
@@ -304,6 +309,7 @@ pub fn is_given(scene: &mut Scene, word: &str, rest: &str) -> bool {
         "input-held" => set_held(scene, rest),
         "flush-sets" => set_flushed(scene, rest),
         "gate" => set_gate(scene, rest),
+        "long-pause-sets" => set_slow(scene, rest),
         "listen" => add_port(scene, rest),
         "hold" => add_hold(scene, rest),
         "link" => add_link(scene, rest),

@@ -1,3 +1,3 @@
-mod Lining
 mod Names
 pub mod Taking
+mod Claiming

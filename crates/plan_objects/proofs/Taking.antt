@@ -1,15 +1,12 @@
 -- What is left of objects once one is taken.
-use Rattle.std.proofs.Common.{◌≡◌, ◌∙◌, ◌++◌, ◌||◌, ℕ, Bool, true, false, cond, All, List, [], ◌∷◌, fold, Option, Some, None, refl, sym, ap, bytes_eq, string_bytes}
+use Rattle.std.proofs.Common.{◌≡◌, ◌∙◌, ◌++◌, ◌||◌, ℕ, Bool, true, false, cond, min, List, [], ◌∷◌, fold, Option, Some, None, refl, sym, ap, bytes_eq, string_bytes}
 use Rattle.std.proofs.lemmas.Bool.{false_from_ne_true}
 use Rattle.std.proofs.lemmas.Slice.Eq.{bytes_eq-Decides}
 use Rattle.plan_objects.specs.Named.{Claims, HasNone, Named}
 use Rattle.flume_config.specs.declared.plan.SinkPlan.{SinkPlan}
 use Rattle.flume_config.specs.declared.plan.SinkKind.{SinkKind}
 use Rattle.flume_config.specs.declared.plan.SinkKind.TheVariants.{Null, Roll, Avro, Plugin}
-use Rattle.plan_objects.specs.Least.{HasOwnSteps, nearer}
-use Rattle.plan_objects.proofs.Lining.{goes_on, no_lines, no_step}
-use Rattle.flume_config.specs.declared.plan.Plan.{Plan}
-use Rattle.plan_objects.specs.Asks.{AreTaken, HasObject, HaveObjects, IsTaken, asked, first_step, first_unmet, found, is_left, is_met, left, misses, names_of, unmet, without}
+use Rattle.plan_objects.specs.Asks.{AreTaken, HasObject, HaveObjects, IsTaken, asked, found, is_left, is_met, left, misses, names_of, nearer, sink_asks, unmet, without}
 
 same_name : (a b : List ℕ) → a ≡ b → bytes_eq a b ≡ true
 same_name a b is = (bytes_eq-Decides a b).1 is
@@ -57,7 +54,7 @@ pub taken_leaves : {T : Type 0} (ask : Option (List ℕ)) (old new : List (Named
 taken_leaves None old new object is = ap (λ (l : List (Named _)). names_of l) is.1
 taken_leaves (Some name) old new object is = claim_leaves name old new object is
 
--- the line of a sink that misses its object
+-- the line of what misses its object
 pub missed : {T : Type 0} (ask : Option (List ℕ)) (line : ℕ) (old new : List (Named T)) (object : Option T) → IsTaken ask old object new
     → cond (is_met (names_of old) ask) [] (line ∷ []) ≡ cond (misses ask (found object)) (line ∷ []) []
 missed None line old new object is = refl
@@ -65,10 +62,10 @@ missed (Some name) line old new None is = ap (λ (b : Bool). cond b [] (line ∷
 missed (Some name) line old new (Some object) is = ap (λ (b : Bool). cond b [] (line ∷ [])) (claim_finds name old new (Some object) is)
 
 -- the nearest line, where one sink is after it
-pub nearest : (first : Option ℕ) (line : ℕ) (others : List ℕ) (b : Bool)
+pub nearest_after : (first : Option ℕ) (line : ℕ) (others : List ℕ) (b : Bool)
     → fold nearer first (cond b (line ∷ []) [] ++ others) ≡ fold nearer (cond b (nearer first line) first) others
-nearest first line others true = refl
-nearest first line others false = refl
+nearest_after first line others true = refl
+nearest_after first line others false = refl
 
 -- a sink that does not miss its object has it
 has_object : {T : Type 0} (kind : SinkKind) (line : ℕ) (object : Option T) → cond (misses (asked kind) (found object)) (line ∷ []) [] ≡ [] → HasObject kind object
@@ -78,34 +75,39 @@ has_object (Avro host port) line object none = tt
 has_object (Plugin name) line None none = absurd (cc)
 has_object (Plugin name) line (Some object) none = tt
 
-nil_back : {A : Type 0} (xs ys : List A) → xs ++ ys ≡ [] → (xs ≡ []) × (ys ≡ [])
-nil_back [] ys is = (refl, is)
-nil_back (x ∷ xs) ys is = absurd (cc)
+pub nil_both : {A : Type 0} (xs ys : List A) → xs ++ ys ≡ [] → (xs ≡ []) × (ys ≡ [])
+nil_both [] ys is = (refl, is)
+nil_both (x ∷ xs) ys is = absurd (cc)
 
 -- where no line is unmet, each sink has its object
-pub have_objects : {T : Type 0} (plans : List SinkPlan) (old : List (Named T)) (objects : List (Option T)) (new : List (Named T)) → AreTaken plans old objects new → unmet (names_of old) plans ≡ []
-    → HaveObjects plans objects
+pub have_objects : {T : Type 0} (plans : List SinkPlan) (old : List (Named T)) (objects : List (Option T)) (new : List (Named T)) → AreTaken plans old objects new
+    → unmet (names_of old) (sink_asks plans) ≡ [] → HaveObjects plans objects
 have_objects [] old [] new are none = tt
 have_objects [] old (object ∷ objects) new are none = absurd are
 have_objects (s ∷ plans) old [] new are none = absurd are
 have_objects (s ∷ plans) old (object ∷ objects) new (between, is, are) none =
-    let both = nil_back (cond (is_met (names_of old) (asked s.kind)) [] (s.line ∷ [])) (unmet (left (names_of old) (asked s.kind)) plans) none in (
+    let asks = sink_asks plans in
+    let both = nil_both (cond (is_met (names_of old) (asked s.kind)) [] (s.line ∷ [])) (unmet (left (names_of old) (asked s.kind)) asks) none in (
       has_object s.kind s.line object (sym (missed (asked s.kind) s.line old between object is) ∙ both.0),
-      have_objects plans between objects new are (ap (λ (l : List (List ℕ)). unmet l plans) (taken_leaves (asked s.kind) old between object is) ∙ both.1),
+      have_objects plans between objects new are (ap (λ (l : List (List ℕ)). unmet l asks) (taken_leaves (asked s.kind) old between object is) ∙ both.1),
     )
 
 -- the nearest line over one sink and those after it
 pub first_over : {T : Type 0} (first : Option ℕ) (s : SinkPlan) (plans : List SinkPlan) (old between : List (Named T)) (object : Option T) → IsTaken (asked s.kind) old object between
-    → fold nearer (cond (misses (asked s.kind) (found object)) (nearer first s.line) first) (unmet (names_of between) plans) ≡ fold nearer first (unmet (names_of old) (s ∷ plans))
+    → fold nearer (cond (misses (asked s.kind) (found object)) (nearer first s.line) first) (unmet (names_of between) (sink_asks plans))
+    ≡ fold nearer first (unmet (names_of old) (sink_asks (s ∷ plans)))
 first_over first s plans old between object is =
-    sym (nearest first s.line (unmet (names_of between) plans) (misses (asked s.kind) (found object)))
-    ∙ (λ i. fold nearer first (sym (missed (asked s.kind) s.line old between object is) i ++ unmet (taken_leaves (asked s.kind) old between object is i) plans))
+    let asks = sink_asks plans in
+    sym (nearest_after first s.line (unmet (names_of between) asks) (misses (asked s.kind) (found object)))
+    ∙ (λ i. fold nearer first (sym (missed (asked s.kind) s.line old between object is) i ++ unmet (taken_leaves (asked s.kind) old between object is i) asks))
+
+-- a line stays
+goes_on : (lines : List ℕ) (line : ℕ) → fold nearer (Some line) lines ≡ None → ⊥
+goes_on [] line is = cc
+goes_on (other ∷ lines) line is = goes_on lines (min line other) is
 
 -- where a nearest line is none, there was none, and there are no lines
 pub none_first : (first : Option ℕ) (lines : List ℕ) → fold nearer first lines ≡ None → (first ≡ None) × (lines ≡ [])
-none_first None lines is = (refl, no_lines lines is)
+none_first None [] is = (refl, refl)
+none_first None (line ∷ lines) is = absurd (goes_on lines line is)
 none_first (Some line) lines is = absurd (goes_on lines line is)
-
--- where nothing is unmet, no interceptor is handed in
-pub no_unmet_step : (names : List (List ℕ)) (p : Plan) → first_unmet names p ≡ None → All HasOwnSteps p.sources.items
-no_unmet_step names p is = no_step p (none_first (first_step p) (unmet names p.sinks.items) is).0

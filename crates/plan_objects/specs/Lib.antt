@@ -1,4 +1,3 @@
-pub mod Least
 pub mod Asks
 pub mod Handed
 pub mod Named

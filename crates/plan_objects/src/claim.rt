@@ -1,17 +1,19 @@
 // The objects of a plan are claimed.
-ghost use Rattle.std.specs.Prelude.{◌≡◌, ◌≤◌, [], All, IfErr, IfOk, None, OnOk, fold, if◌then◌else◌, length, reverse};
+ghost use Rattle.std.specs.Prelude.{◌≡◌, ◌≤◌, [], IfErr, IfOk, None, OnOk, if◌then◌else◌, length, reverse};
 ghost use Rattle.std.specs.Vec.{vec_capacity};
-ghost use Rattle.plan_objects.specs.Least.{HasOwnSteps, nearer};
-ghost use Rattle.plan_objects.specs.Asks.{AreTaken, HaveObjects, IsTaken, IsUnmet, LeavesRest, asked, first_unmet, found, misses, names_of, unmet};
+ghost use Rattle.plan_objects.specs.Asks.{AreClaimed, AreTaken, HaveObjects, IsTaken, IsUnmet, LeavesRest};
+ghost use Rattle.plan_objects.specs.Asks.{asked, found, lacking, misses, names_of, nearer, nearest, sink_asks, step_asks};
 
 use crate::handed::HandedIn;
-use crate::lines::{first_step, nearer};
+use crate::steps::{claim_sources, nearer};
 use flume_config::{Plan, SinkKind, SinkPlan};
 use std::alloc::Global;
 
 /// The objects that a plan asks for.
 #[derive(Drop)]
-pub struct Objects<B> {
+pub struct Objects<K, B> {
+    /// That of each interceptor that asks for one, in order, source after source.
+    pub steps: Vec<K>,
     /// That of each sink, if it asks for one, the last sink first.
     pub sinks: Vec<Option<B>>,
 }
@@ -74,7 +76,7 @@ fn claim_each<K: Drop, B: Drop>(
     requires none { objects.old.items ≡ [] }
     requires room { length plans.now ≤ vec_capacity objects.old }
     ensures taken { AreTaken plans.now handed.old.sinks.items (reverse objects.new.items) handed.new.sinks.items }
-    ensures first { result ≡ fold nearer first (unmet (names_of handed.old.sinks.items) plans.now) }
+    ensures first { result ≡ nearest first (names_of handed.old.sinks.items) (sink_asks plans.now) }
     ensures steps { handed.new.steps.items ≡ handed.old.steps.items }
     ensures many { length objects.new.items ≡ length plans.now }
     ensures room { vec_capacity objects.old ≤ vec_capacity objects.new }
@@ -89,30 +91,36 @@ fn claim_each<K: Drop, B: Drop>(
     first
 }
 
-/// Claims the objects that a plan asks for: each of its sinks in turn takes the first that is left of its name. An interceptor finds
-/// none. `Missing` names the least line that finds none, and the objects that sinks found are dropped; out of memory may come in its
-/// place, and leaves all.
+/// Claims the objects that a plan asks for: each of its interceptors and each of its sinks in turn takes the first that is left of its
+/// name among those of its kind. `Missing` names the least line that finds none, and the objects that were found are dropped; out of
+/// memory may come in its place, and leaves all.
 pub fn claim_objects<K: Drop, B: Drop>(
     alloc: Global,
     plan: &Plan,
     handed: &mut HandedIn<K, B>,
-) -> Result<Objects<B>, ClaimRefused>
+) -> Result<Objects<K, B>, ClaimRefused>
+    ensures steps { IfOk result (λ objects. AreClaimed plan.now.sources.items handed.old.steps.items
+        objects.steps.items handed.new.steps.items) }
+    ensures many { IfOk result (λ objects. length objects.steps.items ≡ length (step_asks plan.now.sources.items)) }
     ensures taken { IfOk result (λ objects. AreTaken plan.now.sinks.items handed.old.sinks.items
         (reverse objects.sinks.items) handed.new.sinks.items) }
     ensures have { IfOk result (λ objects. HaveObjects plan.now.sinks.items (reverse objects.sinks.items)) }
-    ensures own { OnOk result (All HasOwnSteps plan.now.sources.items) }
-    ensures met { OnOk result (first_unmet (names_of handed.old.sinks.items) plan.now ≡ None) }
-    ensures missing { IfErr result (λ refused. IsUnmet (names_of handed.old.sinks.items) plan.now refused) }
-    ensures left { IfErr result (λ refused. LeavesRest refused plan.now.sinks.items
+    ensures met { OnOk result (lacking handed.old plan.now ≡ None) }
+    ensures missing { IfErr result (λ refused. IsUnmet (lacking handed.old plan.now) refused) }
+    ensures left_steps { IfErr result (λ refused. LeavesRest refused (step_asks plan.now.sources.items)
+        handed.old.steps.items handed.new.steps.items) }
+    ensures left_sinks { IfErr result (λ refused. LeavesRest refused (sink_asks plan.now.sinks.items)
         handed.old.sinks.items handed.new.sinks.items) }
-    ensures steps { handed.new.steps.items ≡ handed.old.steps.items }
 {
-    let Ok(mut objects) = Vec::with_capacity(alloc, plan.sinks.len()) else {
+    let Ok(mut steps) = Vec::with_capacity(alloc, handed.many_steps()) else {
         return Err(ClaimRefused::NoMemory);
     };
-    let first = first_step(plan);
-    match claim_each(plan.sinks.as_slice(), handed, first, &mut objects) {
-        None => Ok(Objects { sinks: objects }),
+    let Ok(mut sinks) = Vec::with_capacity(alloc, plan.sinks.len()) else {
+        return Err(ClaimRefused::NoMemory);
+    };
+    let first = claim_sources(plan.sources.as_slice(), handed, &mut steps);
+    match claim_each(plan.sinks.as_slice(), handed, first, &mut sinks) {
+        None => Ok(Objects { steps, sinks }),
         Some(line) => Err(ClaimRefused::Missing { line }),
     }
 }

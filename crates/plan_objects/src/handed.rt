@@ -42,6 +42,13 @@ impl<K: Drop, B: Drop> HandedIn<K, B> {
         }
     }
 
+    /// How many interceptors are held.
+    pub(crate) fn many_steps(&self) -> usize
+        ensures { result ≡ length self.now.steps.items }
+    {
+        self.steps.len()
+    }
+
     // Whether one more may be held.
     fn has_room(&self) -> Result<(), PluginsRefused>
         ensures { IsRoom (length self.now.steps.items + length self.now.sinks.items) result }

@@ -3,9 +3,10 @@
 
 mod claim;
 mod handed;
-mod lines;
 mod named;
+mod steps;
 
 pub use claim::{ClaimRefused, Objects, claim_objects};
 pub use handed::{HandedIn, MAX_PLUGINS, Plugins, PluginsRefused};
 pub use named::Named;
+pub use steps::is_handed_in;

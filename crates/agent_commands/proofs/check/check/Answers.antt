@@ -1,6 +1,6 @@
 use Rattle.std.proofs.Common.{◌≡◌, ◌∙◌, ℕ, ap, subst, sym}
 use Rattle.agent_words.specs.Statuses.{status_of}
-use Rattle.plan_objects.specs.Asks.{first_unmet, names_of}
+use Rattle.plan_objects.specs.Asks.{lacking}
 use Rattle.agent_commands.specs.Checked.{Checked, end_of}
 use Rattle.agent_commands.proofs.Checks.{handed_on, out_of_memory, printed, printed_part, unplanned}
 use Rattle.agent_commands.proofs.check.check.Goals as goal
@@ -19,7 +19,7 @@ pub returns-in_err-planned-clause-checked : goal.returns-in_err-planned-clause-c
 returns-in_err-planned-clause-checked g c =
     let on = handed_on c.from_residual.result _ c.from_residual.ensures.0 c.from_residual.ensures.1 in
     let same : on.0 ≡ c.in_err-planned.field-0.0 = on.1 in
-    let lacks = first_unmet (names_of c.args.handed.now.sinks.items) in
+    let lacks = lacking c.args.handed.now in
     let file = (g.H.Host.state c.args.host.now).files c.args.file.now in
     subst (λ (n : ℕ). Checked lacks file c.args.agent.now (g.H.Host.state c.args.host.now) (g.H.Host.state c.plan_agent.new.host) n) (sym (on.2 ∙ ap status_of same))
     (unplanned lacks file c.args.agent.now (g.H.Host.state c.args.host.now) (g.H.Host.state c.plan_agent.new.host) (status_of c.in_err-planned.field-0.0) c.in_err-planned.ensures.planned)

@@ -11,7 +11,7 @@ loop-place-preserved c =
     let place = c.loop-place.place in
     let source = c.index-sources-place in
     c.in_ok-add_places.ensures ∙ ap (λ (l : List ℕ). l ++ replicate c.listeners_of.result place) c.loop-place.invariant
-    ∙ ap (λ (n : ℕ). places 0 (take place sources) ++ replicate n place) (c.listeners_of.ensures ∙ ap (λ (s : SourcePlan). listeners_of s.kind) source.is)
+    ∙ ap (λ (n : ℕ). places 0 (take place sources) ++ replicate n place) (c.listeners_of.ensures ∙ ap (λ (s : SourcePlan). listeners_of s) source.is)
     ∙ sym (places_next listeners_of sources place source.result c.loop-place-test.true)
 
 pub returns-clause-listen : goal.returns-clause-listen

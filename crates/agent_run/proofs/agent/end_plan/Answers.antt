@@ -12,7 +12,7 @@ pub returns-in-Ok-clause-ran : goal.returns-in-Ok-clause-ran
 returns-in-Ok-clause-ran g c =
     let run = c.in-Ok.done in
     came_with run.ends run.channels c.of.result.channels c.of.ensures.channels (sym c.of.ensures.status)
-    (c.steps_are_told.ensures (reverse c.args.objects.sinks.items) c.args.plan.now run.ends run.channels.items _ _ c.requires.planned c.in-Ok.ensures.ran)
+    (c.steps_are_told.ensures c.args.objects.steps.items (reverse c.args.objects.sinks.items) c.args.plan.now run.ends run.channels.items _ _ c.requires.planned c.in-Ok.ensures.ran)
 
 pub returns-in-Err-clause-ends : goal.returns-in-Err-clause-ends
 returns-in-Err-clause-ends g c = refused c.args.plan.now c.refused.result.status (status_of c.in-Err.error) _ _ c.refused.ensures.status c.in-Err.ensures.refused

@@ -1,4 +1,4 @@
-use Rattle.std.proofs.Common.{◌≡◌, ◌∙◌, ◌≤◌, ℕ, List, None, Option, All, refl, length, map, sym, ap, subst}
+use Rattle.std.proofs.Common.{◌≡◌, ◌∙◌, ◌≤◌, ℕ, Bool, List, None, Option, All, refl, length, map, sym, ap, subst}
 use Rattle.std.specs.Vec.{vec_capacity, with_items}
 use Rattle.std.specs.declared.alloc.Global.{Global}
 use Rattle.std.specs.declared.vec.Vec.{Vec}
@@ -24,7 +24,7 @@ use Rattle.agent_run.specs.Draining.{HasOwn, IsSinkHome}
 use Rattle.agent_run.specs.Lists.{IsEmptyFor}
 use Rattle.agent_run.specs.Opened.{HasRoom}
 use Rattle.agent_run.specs.Outside.{AreFrom}
-use Rattle.agent_run.specs.Runs.{AreWorkers, owners_of}
+use Rattle.agent_run.specs.Runs.{AreOnDisks, AreWorkers, owners_of}
 use Rattle.agent_run.specs.declared.labels.ChannelLabel.{ChannelLabel}
 use Rattle.agent_run.specs.declared.settle.Settled.{Settled}
 use Rattle.agent_run.specs.Run.{MayReturn, StandInRows}
@@ -62,6 +62,10 @@ run_crew-sinks-requires-clause-homes g c κs within =
     let is = c.man-crew.ensures.manned in
     subst (λ (x : List (EitherShared (g.row.H-Disk.Denot × FileState) MemoryChannel) × List Known). AreHomes table_of x.0 x.1)
     (λ i. (sym c.as_slice-3.ensures.value i, sym c.as_mut_slice.ensures.value i)) is.homes
+
+pub run_crew-sinks-requires-clause-disks : goal.run_crew-sinks-requires-clause-disks
+run_crew-sinks-requires-clause-disks g c κs within =
+    subst (λ (s : List (EitherShared (g.row.H-Disk.Denot × FileState) MemoryChannel)). AreOnDisks s c.man-crew.result.crew.jobs) (sym c.as_slice-3.ensures.value) c.man-crew.ensures.manned.on_disks
 
 pub run_crew-sinks-requires-clause-jobs : goal.run_crew-sinks-requires-clause-jobs
 run_crew-sinks-requires-clause-jobs g c κs within =
@@ -159,6 +163,15 @@ settle-settled-requires-clause-report g c =
     let all : length (with_items homes c.run_crew-sinks.new.homes).items ≡ length c.args.plan.now.channels.items = ap length (with_items_is homes c.run_crew-sinks.new.homes size) ∙ size ∙ homes.ok.0 ∙ many in
     ap (λ (r : Settled _ _ _). length r.report.items) is.settled ∙ names_many c.args.plan.now.channels.items c.args.opening.settled.report.items c.requires.settle.report ∙ sym all
 
+pub settle-settled-requires-clause-keeps : goal.settle-settled-requires-clause-keeps
+settle-settled-requires-clause-keeps g c =
+    let is = c.man-crew.ensures.manned in
+    let homes = c.man-crew.result.crew.homes in
+    let size : length c.run_crew-sinks.new.homes ≡ homes.len = c.run_crew-sinks.ensures.kept.as_many ∙ ap length c.as_mut_slice.ensures.value ∙ sym homes.ok.0 in
+    let many : length homes.items ≡ length c.args.plan.now.channels.items = homes_many c.args.rows.now c.args.opening c.man-crew.result c.requires.can is ∙ c.requires.many in
+    let all : length (with_items homes c.run_crew-sinks.new.homes).items ≡ length c.args.plan.now.channels.items = ap length (with_items_is homes c.run_crew-sinks.new.homes size) ∙ size ∙ homes.ok.0 ∙ many in
+    ap length (c.as_slice-4.ensures.value ∙ ap (λ (v : Vec Bool Global). v.items) is.closes) ∙ c.requires.can.closes ∙ c.requires.many ∙ sym all
+
 pub settle-settled-requires-clause-closed : goal.settle-settled-requires-clause-closed
 settle-settled-requires-clause-closed g c =
     let is = c.man-crew.ensures.manned in
@@ -172,14 +185,14 @@ settle-settled-requires-clause-closed g c =
 pub give_rest-ends-requires-clause-sinks : goal.give_rest-ends-requires-clause-sinks
 give_rest-ends-requires-clause-sinks g c κs within =
     let folders = c.run_crew-sinks.ensures.folders ∙ c.man-crew.ensures.folders in
-    subst (λ (x : Folders × List SinkPlan). AreOpened x.0 x.1 (length x.1)) (λ i. (sym folders i, sym c.as_slice-4.ensures.value i)) c.requires.sinks
+    subst (λ (x : Folders × List SinkPlan). AreOpened x.0 x.1 (length x.1)) (λ i. (sym folders i, sym c.as_slice-5.ensures.value i)) c.requires.sinks
 
 pub give_rest-ends-requires-clause-order : goal.give_rest-ends-requires-clause-order
 give_rest-ends-requires-clause-order g c κs within =
-    subst (λ (l : List SinkPlan). IsOrder (length l) (places_of c.args.rows.now)) (sym c.as_slice-4.ensures.value) c.requires.order
+    subst (λ (l : List SinkPlan). IsOrder (length l) (places_of c.args.rows.now)) (sym c.as_slice-5.ensures.value) c.requires.order
 
 pub give_rest-ends-requires-clause-places : goal.give_rest-ends-requires-clause-places
-give_rest-ends-requires-clause-places g c κs within = c.requires.vacant ∙ ap length (sym c.as_slice-4.ensures.value)
+give_rest-ends-requires-clause-places g c κs within = c.requires.vacant ∙ ap length (sym c.as_slice-5.ensures.value)
 
 pub give_rest-ends-requires-clause-dials : goal.give_rest-ends-requires-clause-dials
 give_rest-ends-requires-clause-dials g c κs within =
@@ -193,7 +206,7 @@ give_rest-ends-requires-clause-dials g c κs within =
     let plans = c.args.plan.now.sinks.items in
     let rows = c.args.rows.now in
     let runners = c.settle-settled.result.sinks.items in
-    let may = may_return _ _ _ _ _ _ _ _ _ _ _ _ (dial_of g) c.runs_are_told.ensures c.runners_split.ensures
+    let may = may_return _ _ _ _ _ _ _ _ _ _ _ _ _ _ (dial_of g) c.runs_are_told.ensures c.runners_split.ensures
     (λ s batch moment answer t one. agent_stays g.H.Roll.RollDir.rolled (links_of g) g.H.Dialer.Dialer.told g.H.Dialer.Dialer.faults g.H.Dialer.Link.Link.told g.H.Dialer.Link.Link.faults g.H.Dialer.Dialer.endpoint
     batch moment answer (λ x y. g.B.EventSink.delivers x batch moment answer y) (dial_of g) (λ x. refl) s t one)
     plans rows c.requires.order c.args.opening c.man-crew.result c.run_crew-sinks.new.homes c.run_crew-sinks.result joins.returned c.settle-settled.result is
@@ -202,11 +215,11 @@ give_rest-ends-requires-clause-dials g c κs within =
     (returned_same _ _ _ _ _ _ c.run_crew-sinks.new.homes c.man-crew.result.crew.jobs joins.returned _ _ c.as_slice-3.ensures.value joins.back)
     joins.sinks c.run_crew-sinks.ensures.home
     (ap (λ (r : Settled _ _ _). length r.report.items) is.settled ∙ names_many c.args.plan.now.channels.items c.args.opening.settled.report.items c.requires.settle.report ∙ sym (size ∙ homes.ok.0 ∙ many))
-    (settled_same _ _ _ c.man-crew.result.crew.shares.items c.run_crew-sinks.result.sinks.items c.man-crew.result.settled.report.items c.settle-settled.result _ _
-    (with_items_is homes c.run_crew-sinks.new.homes size) c.settle-settled.ensures.settled)
+    (settled_same _ _ _ _ c.man-crew.result.crew.shares.items c.run_crew-sinks.result.sinks.items _ _ c.man-crew.result.settled.report.items c.settle-settled.result _ _
+    (with_items_is homes c.run_crew-sinks.new.homes size) c.as_slice-4.ensures.value c.settle-settled.ensures.settled)
     (g.H.Host.folders c.args.host.now) (g.H.Host.state c.run_crew-sinks.new.host).dialers
     (subst (λ (l : Option HandedOut). StandInRows (dial_of g) (g.H.Host.folders c.args.host.now) plans rows c.args.opening.outside.sinks.items l) (sym all) c.requires.dials) in
-    subst (λ (p : List SinkPlan). MayReturn (dial_of g) p rows runners (g.H.Host.state c.run_crew-sinks.new.host).dialers) (sym c.as_slice-4.ensures.value) may
+    subst (λ (p : List SinkPlan). MayReturn (dial_of g) p rows runners (g.H.Host.state c.run_crew-sinks.new.host).dialers) (sym c.as_slice-5.ensures.value) may
 
 pub give_rest-ends-requires-clause-of : goal.give_rest-ends-requires-clause-of
 give_rest-ends-requires-clause-of g c κs within =
@@ -261,9 +274,9 @@ returns g c =
       home = c.run_crew-sinks.ensures.home;
       named = ap (λ (r : Settled _ _ _). length r.report.items) is.settled ∙ names_many c.args.plan.now.channels.items c.args.opening.settled.report.items c.requires.settle.report ∙ sym (size ∙ homes.ok.0 ∙ many);
       settled = c.settle-settled.result;
-      settles = settled_same _ _ _ c.man-crew.result.crew.shares.items c.run_crew-sinks.result.sinks.items c.man-crew.result.settled.report.items c.settle-settled.result _ _
-          (with_items_is homes c.run_crew-sinks.new.homes size) c.settle-settled.ensures.settled;
-      back = back_same _ _ _ _ c.args.rows.now c.man-crew.result.wishes.items c.settle-settled.result _ _ _ _ _ _ _ _ c.as_slice-4.ensures.value (c.run_crew-sinks.ensures.folders ∙ c.man-crew.ensures.folders) c.give_rest-ends.ensures.back;
+      settles = settled_same _ _ _ _ c.man-crew.result.crew.shares.items c.run_crew-sinks.result.sinks.items _ _ c.man-crew.result.settled.report.items c.settle-settled.result _ _
+          (with_items_is homes c.run_crew-sinks.new.homes size) c.as_slice-4.ensures.value c.settle-settled.ensures.settled;
+      back = back_same _ _ _ _ c.args.rows.now c.man-crew.result.wishes.items c.settle-settled.result _ _ _ _ _ _ _ _ c.as_slice-5.ensures.value (c.run_crew-sinks.ensures.folders ∙ c.man-crew.ensures.folders) c.give_rest-ends.ensures.back;
       input = c.give_rest-ends.ensures.input;
       drains = c.give_rest-ends.ensures.drains;
       mends = c.give_rest-ends.ensures.mends;

@@ -1,4 +1,5 @@
 use Rattle.std.proofs.Common.{rules, ◌≡◌, ◌∙◌, ◌<◌, inl, inr, ℕ, List, All, length, refl, sym, ap, subst, arith}
+use Rattle.std.proofs.lemmas.Result.{err_from_is_err_and}
 use Rattle.agent_channels.specs.Openings.{HostTold}
 use Rattle.agent_channels.specs.Several.{AreOpened}
 use Rattle.agent_channels.specs.declared.wish.ChannelWish.{ChannelWish}
@@ -11,7 +12,7 @@ use Rattle.grouped_sinks.specs.Rows.{AreRows, Zips}
 use Rattle.grouped_sinks.specs.declared.row.SinkRow.{SinkRow}
 use Rattle.grouped_sinks.proofs.Limits.{rows_fit}
 use Rattle.agent_run.proofs.Readying.{few_users, groups_there, groups_weighed, were_opened}
-use Rattle.agent_run.proofs.Refusing.{channel_refused, if_err, outside_refused, refused_there}
+use Rattle.agent_run.proofs.Refusing.{channel_refused, if_err, outside_refused, refused_there, unprepared_run}
 use Rattle.agent_run.specs.Lists.{HasRoomFor}
 use Rattle.agent_run.specs.NotBegun.{IsRefusedOutside, IsRunRefused}
 use Rattle.agent_run.proofs.Answering.{if_ok}
@@ -31,7 +32,7 @@ pub open_channels-requires-clause-users : goal.open_channels-requires-clause-use
 open_channels-requires-clause-users g c κs within =
     let plan = c.args.plan.now in
     let p = c.in_ok-prepared.prepared in
-    few_users (uses_of c.as_slice-rows.result.now p.listeners.items p.lines.items) plan.channels.items p.wishes.items c.as_slice-2.result.now c.as_slice-2.ensures.value c.in_ok-prepared.ensures.prepared.wishes
+    few_users (uses_of p.keepers.items c.as_slice-rows.result.now p.listeners.items p.lines.items) plan.channels.items p.wishes.items c.as_slice-2.result.now c.as_slice-2.ensures.value c.in_ok-prepared.ensures.prepared.wishes
 
 pub run_channels-requires-clause-rows : goal.run_channels-requires-clause-rows
 run_channels-requires-clause-rows g c κs within =
@@ -46,8 +47,9 @@ pub run_channels-requires-clause-room : goal.run_channels-requires-clause-room
 run_channels-requires-clause-room g c κs within =
     let p = c.in_ok-prepared.prepared in
     let listeners : c.len-listeners.result ≡ length p.listeners.items = let e = c.len-listeners.ensures in first_of (omega arith, search (rules, arith)) in
+    let keepers : c.len-keepers.result ≡ length p.keepers.items = let e = c.len-keepers.ensures in first_of (omega arith, search (rules, arith)) in
     let lines : c.len.result ≡ length p.lines.items = let e = c.len.ensures in first_of (omega arith, search (rules, arith)) in
-    subst (λ (x : ℕ × ℕ). HasRoomFor c.args.plan.now (length c.as_slice-rows.result.now) x.0 x.1 c.in_ok-room.room) (λ i. (listeners i, lines i)) c.in_ok-room.ensures
+    subst (λ (x : ℕ × ℕ × ℕ). HasRoomFor c.args.plan.now x.2 (length c.as_slice-rows.result.now) x.0 x.1 c.in_ok-room.room) (λ i. (listeners i, lines i, keepers i)) c.in_ok-room.ensures
 
 pub run_channels-requires-clause-opened : goal.run_channels-requires-clause-opened
 run_channels-requires-clause-opened g c κs within =
@@ -97,7 +99,7 @@ returns-in-Ok-clause-ran g c =
       are_rows = subst (λ (l : List SinkRow). AreRows plan.sinks.items plan.groups.items l) (sym c.as_slice-rows.ensures.value) c.in_ok-rows.ensures;
       made = c.in_ok-prepared.prepared;
       is_prepared = c.in_ok-prepared.ensures.prepared;
-      drafted = subst (λ (s : HostState). IsDrafted s.name s.address plan c.in_ok-prepared.prepared) c.frames_of.ensures.state c.in_ok-prepared.ensures.drafted;
+      drafted = subst (λ (s : HostState). IsDrafted c.args.objects.steps.items s.name s.address plan c.in_ok-prepared.prepared) c.frames_of.ensures.state c.in_ok-prepared.ensures.drafted;
       channels = c.in-Ok.opened.items;
       behind = told;
       opened = subst (λ (x : List ChannelWish × HostTold). AreOpened x.0 c.in-Ok.opened.items x.1 told)
@@ -106,3 +108,12 @@ returns-in-Ok-clause-ran g c =
       ran = ran;
     })
     c.run_channels.ensures.ran
+
+pub returns-in_err-prepared-clause-refused : goal.returns-in_err-prepared-clause-refused
+returns-in_err-prepared-clause-refused g c =
+    let old : HostTold = record { state = g.H.Host.state c.args.host.now; folders = g.H.Host.folders c.args.host.now } in
+    let new : HostTold = record { state = g.H.Host.state c.prepare.new.host; folders = g.H.Host.folders c.prepare.new.host } in
+    let p = err_from_is_err_and c.from_residual-in_err-prepared.result c.from_residual-in_err-prepared.ensures.1 in
+    rw (p.1)
+    (unprepared_run c.args.plan.now p.0 c.in_err-prepared.field-0.0 old new (g.H.Host.state c.frames_of.new.host) p.2 c.frames_of.ensures.state (c.prepare.ensures.folders ∙ c.frames_of.ensures.folders)
+    c.in_err-prepared.ensures.refused)

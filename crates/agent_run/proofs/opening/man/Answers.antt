@@ -3,6 +3,8 @@ use Rattle.run_tracks.proofs.Homing.{zips_length}
 use Rattle.std.specs.declared.alloc.Global.{Global}
 use Rattle.std.specs.declared.vec.Vec.{Vec}
 use Rattle.crew.specs.declared.draining.DrainWorker.{DrainWorker}
+use Rattle.agent_channels.specs.declared.wish.ChannelWish.{ChannelWish}
+use Rattle.agent_run.specs.Keepers.{AreWantedInFolders}
 use Rattle.agent_run.specs.Staff.{IsLineOf, IsListenOf, IsSinkOf}
 use Rattle.agent_run.specs.Streams.{AreTaken}
 use Rattle.agent_run.specs.declared.homes.LineEnded.{LineEnded}
@@ -25,10 +27,15 @@ crew_of-crew-requires-clause-parts g c =
       listen_rooms = seats_roomy (length c.args.opening.prepared.wishes.items) c.args.opening.prepared.listeners.items can.listeners;
       line_rooms = seats_roomy (length c.args.opening.prepared.wishes.items) c.args.opening.prepared.lines.items can.lines;
       lined = can.lined;
+      keep_jobs = can.workers.keep_jobs;
       sink_jobs = can.workers.sink_jobs;
       listen_jobs = can.workers.listen_jobs;
       line_jobs = can.workers.line_jobs;
     }
+
+pub crew_of-crew-requires-clause-folders : goal.crew_of-crew-requires-clause-folders
+crew_of-crew-requires-clause-folders g c =
+    subst (λ (l : List ChannelWish). AreWantedInFolders l c.args.opening.prepared.keepers.items) (sym c.as_slice.ensures.value) c.requires.can.folders
 
 pub crew_of-crew-requires-clause-fit : goal.crew_of-crew-requires-clause-fit
 crew_of-crew-requires-clause-fit g c =
@@ -67,17 +74,20 @@ returns-clause-manned g c =
       workers = is.workers;
       new_ones = is.new_ones;
       fit = is.fit;
+      on_disks = is.on_disks;
       room = record {
         sinks = (can.workers.sinks_back.0, room_for _ _ _ (sym (zips_length IsSinkOf _ _ is.sinks)) can.workers.sinks_back.1);
         listeners = (can.workers.listeners_back.0, room_for _ _ _ (sym (zips_length IsListenOf _ _ is.listeners)) can.workers.listeners_back.1);
         lines = (can.workers.lines_back.0, room_for _ _ _ (sym (zips_length IsLineOf _ _ is.lines)) can.workers.lines_back.1);
       };
+      keepers = is.keepers;
       sinks = is.sinks;
       own_sinks = is.own_sinks;
       listeners = is.listeners;
       own_listeners = is.own_listeners;
       lines = is.lines;
       wishes = refl;
+      closes = refl;
       places = refl;
       labels = refl;
       passes = refl;

@@ -15,6 +15,7 @@ returns g c =
     let N = ListenWorker Known g.row.N.Denot g.row.C.Denot g.row.K.Denot in
     let L = LineWorker Known g.row.I.Denot g.row.O.Denot g.row.C.Denot g.row.K.Denot in
     record {
+      keepers = (c.in_ok-keepers.ensures.items, search (rules, arith));
       sinks = (c.in_ok-sinks.ensures.items, search (rules, arith));
       listeners = (c.in_ok-listeners.ensures.items, search (rules, arith));
       listener_ports = subst (λ (l : List N). Zips (λ (job : N) (room : Room). HasRoom job.ports.items room) l c.in_ok-listener_ports.listener_ports.items) c.as_slice.ensures.value c.in_ok-listener_ports.ensures;

@@ -2,7 +2,7 @@ use Rattle.std.proofs.Common.{◌≡◌, List, ℕ, codes, inr, sym, subst, ◌�
 use Rattle.flume_host.proofs.Folders.{but_same}
 use Rattle.agent_words.specs.Words.{texts}
 use Rattle.agent_words.proofs.Unique.{one_asked}
-use Rattle.plan_objects.specs.Asks.{first_unmet, names_of}
+use Rattle.plan_objects.specs.Asks.{lacking}
 use Rattle.agent_commands.specs.Checked.{Checked}
 use Rattle.agent_run.specs.Named.{AgentEnds}
 use Rattle.agent_run.proofs.Answering.{agent_named, never_one, not_read}
@@ -26,7 +26,7 @@ returns-in-Ok-Some-Check-clause-checked g c = λ agent file is.
     let n : c.as_str.result.now ≡ agent = c.as_str.ensures.value ∙ same.0 in
     let f : c.as_str-in-Ok-Some-Check.result.now ≡ file = c.as_str-in-Ok-Some-Check.ensures.value ∙ same.1 in
     let status : c.run_check-status.result ≡ c.ended.result.status = sym c.ended.ensures.status in
-    let C : List ℕ × (List ℕ × ℕ) → Type 0 = λ x. Checked (first_unmet (names_of c.args.plugins.sinks.items)) ((g.H.Host.state c.args.host.now).files x.1.0) x.0 (g.H.Host.state c.args.host.now) (g.H.Host.state c.run_check-status.new.host) x.1.1 in
+    let C : List ℕ × (List ℕ × ℕ) → Type 0 = λ x. Checked (lacking c.args.plugins) ((g.H.Host.state c.args.host.now).files x.1.0) x.0 (g.H.Host.state c.args.host.now) (g.H.Host.state c.run_check-status.new.host) x.1.1 in
     subst C (λ i. (n i, (f i, status i))) c.run_check-status.ensures.checked
 
 pub returns-in-Ok-None-clause-usage : goal.returns-in-Ok-None-clause-usage
@@ -93,7 +93,7 @@ returns-in-Ok-Some-Agent-clause-agent g c = λ name file is.
     let same = one_asked (texts c.args.words.now) (codes "agent") _ _ name file (read_some _ _ _ _ c.in-Ok-Some-Agent.ensures c.in-Ok-Some-Agent.field-0-is c.in-Ok-Some-Agent.field-0-0-is) is in
     let n : c.as_str-in-Ok-Some-Agent.result.now ≡ name = c.as_str-in-Ok-Some-Agent.ensures.value ∙ same.0 in
     let f : c.as_str-in-Ok-Some-Agent-2.result.now ≡ file = c.as_str-in-Ok-Some-Agent-2.ensures.value ∙ same.1 in
-    let C : List ℕ × List ℕ → Type 0 = λ x. AgentEnds (first_unmet (names_of c.args.plugins.sinks.items)) ((g.H.Host.state c.args.host.now).files x.1) x.0 c.run_configured.result.status in
+    let C : List ℕ × List ℕ → Type 0 = λ x. AgentEnds (lacking c.args.plugins) ((g.H.Host.state c.args.host.now).files x.1) x.0 c.run_configured.result.status in
     subst C (λ i. (n i, f i)) c.run_configured.ensures.ends
 
 pub returns-in-Ok-Some-Agent-clause-rolls : goal.returns-in-Ok-Some-Agent-clause-rolls
@@ -114,7 +114,7 @@ returns-in-Ok-Some-Agent-clause-channels g c = λ pipe load none. absurd (none _
 
 pub returns-clause-agent_ran : goal.returns-clause-agent_ran
 returns-clause-agent_ran g c = λ name file is.
-    inr (not_read (first_unmet (names_of c.args.plugins.sinks.items)) ((g.H.Host.state c.args.host.now).files file) name _ _ _ c.refuse-in-Err.ensures.channels c.refuse-in-Err.ensures.status
+    inr (not_read (lacking c.args.plugins) ((g.H.Host.state c.args.host.now).files file) name _ _ _ c.refuse-in-Err.ensures.channels c.refuse-in-Err.ensures.status
     c.refuse-in-Err.ensures.state c.refuse-in-Err.ensures.folders)
 
 pub returns-in-Ok-None-clause-agent_ran : goal.returns-in-Ok-None-clause-agent_ran

@@ -32,12 +32,12 @@ abbrev links_of : (g : Over) → AvroSink g.row.H-Dialer.Denot g.row.H-Dialer-Li
 links_of g s = record { dialer = s.dialer; opened = s.opened }
 
 pub returns : goal.returns
-returns g c = λ objects plan ends channels a b planned ran.
-    run_did _ _ _ _ _ _ _ _ _ _ _ _ _ _ _ c.runs_are_told.ensures c.lines_stay_told.ensures c.workers_ran.ensures.well plan _ _ _ _
+returns g c = λ given objects plan ends channels a b planned ran.
+    run_did _ _ _ _ _ _ _ _ _ _ _ _ _ _ _ _ _ c.runs_are_told.ensures c.lines_stay_told.ensures c.workers_ran.ensures.well plan _ _ _ _
     (λ rows prepared old new out is. ap (λ (s : HostState). s.input) is.opened.opened.out.state ∙ ap (λ (s : HostState). s.input) is.opened.dials.out.state)
     (λ rows prepared old new out is. ap (λ (s : HostState). s.output) is.opened.opened.out.state ∙ ap (λ (s : HostState). s.output) is.opened.dials.out.state)
     g.B.EventSink.delivers objects ends channels a b ran
-    (run_members _ (dial_of g) g.H.Disk.Disk.told g.H.Disk.Disk.faults _ _ _ _ _ plan _ _ _ _ _ c.delivered_batches_are_in_files.ensures _ c.runners_split.ensures (agent_writes _) (links_of g)
+    (run_members _ (dial_of g) g.H.Disk.Disk.told g.H.Disk.Disk.faults _ _ _ _ _ _ _ plan _ _ _ _ _ c.delivered_batches_are_in_files.ensures _ c.runners_split.ensures (agent_writes _) (links_of g)
     g.H.Dialer.Dialer.told g.H.Dialer.Dialer.faults g.H.Dialer.Link.Link.told g.H.Dialer.Link.Link.faults
     (λ s batch moment answer b is. agent_asks g.H.Roll.RollDir.rolled (links_of g) g.H.Dialer.Dialer.told g.H.Dialer.Dialer.faults g.H.Dialer.Link.Link.told g.H.Dialer.Link.Link.faults g.H.Dialer.Dialer.endpoint
     batch moment answer s b is)
@@ -56,14 +56,14 @@ returns g c = λ objects plan ends channels a b planned ran.
       after = ap (λ (s : HostState). s.dialers) is.opened.opened.out.state;
       dealt = is.dealt;
     }) ends channels a b _ ran)
-    (run_causes _ _ _ _ _ g.H.Source.Source.left g.H.Source.Source.faults _ _ _ _ _ _ _ _ plan _ _ _ _ c.one_cut.ensures (λ v w ran. ran)
-    (λ prepared drafted. seats_of plan.sources.items drafted.names prepared.lines.items (plan_lone plan planned) drafted.lines)
+    (run_causes _ _ _ _ _ g.H.Source.Source.left g.H.Source.Source.faults _ _ _ _ _ _ _ _ _ _ plan _ _ _ _ c.one_cut.ensures (λ v w ran. ran)
+    (λ prepared drafted. seats_of plan.sources.items given drafted.names prepared.lines.items (plan_lone plan planned) drafted.lines)
     (λ rows prepared old new out is. (
       ap (λ (s : HostState). s.input) is.opened.opened.out.state ∙ ap (λ (s : HostState). s.input) is.opened.dials.out.state,
       ap (λ (s : HostState). s.faults) is.opened.opened.out.state ∙ ap (λ (s : HostState). s.faults) is.opened.dials.out.state,
     ))
     (λ manned listeners s t is. (ap (λ (s : HostState). s.input) is.back.state, ap (λ (s : HostState). s.faults) is.back.state))
     (gone_back _ _ g.H.Disk.Disk.told g.H.Disk.Disk.faults _) ends channels a b ran)
-    (λ zero. run_left _ _ g.H.Disk.Disk.told g.H.Disk.Disk.faults _ _ _ _ _ plan _ _ _ _
+    (λ zero. run_left _ _ g.H.Disk.Disk.told g.H.Disk.Disk.faults _ _ _ _ _ _ _ plan _ _ _ _
     (λ manned homes joined s t is. subst (λ sinks. Zips IsSameChannel manned.crew.jobs.sinks.items sinks.items) (sym is.sinks)
     (returned_channels _ _ _ _ _ _ manned.crew.shares.items homes manned.crew.jobs is.returned is.back)) (folders_apart plan planned) ends channels a b ran zero)

@@ -1,7 +1,6 @@
-use Rattle.std.proofs.Common.{rules, ◌≡◌, ◌∙◌, ℕ, List, ◌∷◌, fold, Option, sym, ap}
+use Rattle.std.proofs.Common.{rules, ◌≡◌, ◌∙◌, ℕ, List, ◌∷◌, Option, sym, ap}
 use Rattle.flume_config.specs.declared.plan.SinkPlan.{SinkPlan}
-use Rattle.plan_objects.specs.Least.{nearer}
-use Rattle.plan_objects.specs.Asks.{names_of, unmet}
+use Rattle.plan_objects.specs.Asks.{names_of, nearest, sink_asks}
 use Rattle.plan_objects.proofs.Taking.{first_over}
 use Rattle.plan_objects.proofs.claim.+claim_each.Goals as goal
 
@@ -13,6 +12,6 @@ returns-clause-first g t c =
     let held = c.args.handed.now.sinks.items in
     let rest = c.claim-object.new.handed.sinks.items in
     c.claim_each-first.ensures.first
-    ∙ ap (λ (o : Option ℕ). fold nearer o (unmet (names_of rest) others)) c.next_line-first.ensures
+    ∙ ap (λ (o : Option ℕ). nearest o (names_of rest) (sink_asks others)) c.next_line-first.ensures
     ∙ first_over c.args.first plan others held rest c.claim-object.result c.claim-object.ensures.taken
-    ∙ ap (λ (l : List SinkPlan). fold nearer c.args.first (unmet (names_of held) l)) (sym split)
+    ∙ ap (λ (l : List SinkPlan). nearest c.args.first (names_of held) (sink_asks l)) (sym split)
