@@ -1,0 +1,15 @@
+pub mod Others
+pub mod Growing
+pub mod Course
+pub mod Refusing
+pub mod Places
+pub mod Batches
+pub mod Lines
+pub mod Fair
+pub mod Unbroken
+pub mod Turns
+pub mod Workers
+pub mod Views
+pub mod Homes
+pub mod Faults
+pub mod Linked
