@@ -85,3 +85,9 @@ pub mod Reading
 pub mod Reasons
 pub mod Lone
 pub mod Returning
+pub mod Fairly
+pub mod Homely
+pub mod Undisturbed
+pub mod Soundly
+pub mod Putting
+pub mod Sounding

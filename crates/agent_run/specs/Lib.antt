@@ -38,3 +38,4 @@ pub mod Causes
 pub mod RunDid
 pub mod PipeRan
 pub mod LoadRan
+pub mod SoundRun

@@ -21,6 +21,7 @@ mod run;
 mod running;
 mod seats;
 mod settle;
+mod sound;
 mod staff;
 mod streams;
 mod through;
@@ -37,6 +38,7 @@ pub use laws::{
 pub use outcome::{ChannelEnd, Outcome, Worker};
 pub use run::run_agent;
 pub use running::run_workers;
+pub use sound::{dialogues_are_sound, listeners_are_sound, nothing_failed, runs_are_sound};
 pub use through::{RunOf, Runs, Steps};
 pub use told::{folders_are_apart, steps_are_told};
 pub use workers::{Returned, Workers};
