@@ -175,9 +175,7 @@ impl SlowClock {
 }
 
 impl Clock for SlowClock {
-    ghost use Rattle.std.specs.Prelude.{None};
-
-    ghost moments = { λ c. None };
+    ghost moments = { λ c. ⟦<MemClock as Clock>⟧.moments c.clock };
 
     fn now(&mut self) -> u64 {
         self.paused = 0;
