@@ -3,7 +3,7 @@ ghost use Rattle.std.specs.Prelude.{◌≡◌, ◌++◌, All, IfOk, OnOk, replic
 ghost use Rattle.agent_outside.specs.Ends.{ListensAt, listeners_by, listeners_of, places};
 
 use flume_config::{SourceKind, SourcePlan};
-use plan_objects::is_handed_in;
+use plan_objects::asks_for_object;
 use std::alloc::{AllocError, Global};
 
 // How many listeners a source of this kind has, where it may have one only or more.
@@ -31,7 +31,7 @@ fn listeners_by(one: bool, kind: &SourceKind) -> u32
 pub fn listeners_of(source: &SourcePlan) -> u32
     ensures { result ≡ listeners_of source.now }
 {
-    listeners_by(is_handed_in(source), &source.kind)
+    listeners_by(asks_for_object(source), &source.kind)
 }
 
 // Adds a place so often.

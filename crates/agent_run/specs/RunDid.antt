@@ -87,11 +87,11 @@ module _ {R A B S N I O C K : Type 0} (runs : Runs (EitherPort R A B) S N I O C 
     -- with these objects as those of its sinks, and what a delivery to one means
     module _ {Q : Type 0} (delivers : Q → List Content → ℕ → Result (Unit {0}) SinkRefused → Q → Type 0) (objects : List (Option Q)) where
       -- A run made its steps. Each channel that comes back is named with its workers, and its pass saw all calls. In these the calls of each
-      -- worker of a channel on a disk, of each row of sinks, of each session and of the worker of lines are all calls with their numbers; each batch that the calls of a row commit was
-      -- taken by one of its sinks; the folders of rolled files hold what their sinks took, the links of Avro sinks took the requests of what
-      -- these took, and each sink that was handed in was handed what it took. It is told why the status is what it is. At status 0 the workers
-      -- ran, standard input had its dialogue, nothing is staged in a folder's channel, and it is told what the channels' folders hold, what the
-      -- report says, and which sinks emptied their channels.
+      -- worker of a channel on a disk, of each row of sinks, of each session and of the worker of lines are all calls with their numbers;
+      -- each batch that the calls of a row commit was taken by one of its sinks; the folders of rolled files hold what their sinks took, the
+      -- links of Avro sinks took the requests of what these took, and each sink that was handed in was handed what it took. It is told why
+      -- the status is what it is. At status 0 the workers ran, standard input had its dialogue, nothing is staged in a folder's channel, and
+      -- it is told what the channels' folders hold, what the report says, and which sinks emptied their channels.
       pub record RunDid (ends : RunEnds) (channels : List ChannelEnd) (a b : HostTold) : Type 0 where
         pub steps : Steps ends channels a b
         pub labels : AreLabels (users_of plan steps.made.keepers.items steps.rows steps.made.listeners.items steps.made.lines.items) 0 plan.channels.items (map label_of channels)

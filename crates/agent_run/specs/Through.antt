@@ -42,7 +42,8 @@ use Rattle.agent_run.specs.declared.prepare.Prepared.{Prepared}
 use Rattle.agent_run.specs.declared.settle.Settled.{Settled}
 
 -- The workers were made of what was opened and of the streams that they took, ran and came back; then each sink emptied its channel,
--- those channels that are kept at the end were kept, and each was mended, counted and closed; then all was given back, and what the run came to was handed on.
+-- those channels that are kept at the end were kept, and each was mended, counted and closed; then all was given back, and what the run
+-- came to was handed on.
 pub record RanThrough {A B S N I O C K : Type 0} (plans : List SinkRow) (o : Opening A B S N I O C K)
     (Takes : Manned A B S N I O C K → HostState → HostState → Type 0)
     (Joins : Manned A B S N I O C K → List Known → Joined S C → HostState → HostState → Type 0)

@@ -9,4 +9,4 @@ mod steps;
 pub use claim::{ClaimRefused, Objects, claim_objects};
 pub use handed::{HandedIn, MAX_PLUGINS, Plugins, PluginsRefused};
 pub use named::Named;
-pub use steps::is_handed_in;
+pub use steps::asks_for_object;

@@ -17,7 +17,7 @@ pub(crate) fn nearer(first: Option<u32>, line: u32) -> Option<u32>
 }
 
 /// Whether an interceptor of this source asks for an object.
-pub fn is_handed_in(source: &SourcePlan) -> bool
+pub fn asks_for_object(source: &SourcePlan) -> bool
     ensures { result ≡ has_asks (asks_of_source source.now) }
 {
     for step in source.steps.as_slice() {
