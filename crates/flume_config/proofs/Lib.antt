@@ -1,3 +1,4 @@
+mod Placing
 pub mod Making
 pub mod AgentSteps
 pub mod Outcomes

@@ -72,7 +72,7 @@ Plans pairs agent (Err NoMemory) = Unit {0}
 
 -- the names of the agent's components, as they were read
 pub record Names (pairs : List Pair) (agent : List ℕ) (names : AgentNames) : Type 0 where
-  pub sources : texts names.sources.items ≡ agents.sources pairs agent
-  pub channels : texts names.channels.items ≡ agents.channels pairs agent
-  pub sinks : texts names.sinks.items ≡ agents.sinks pairs agent
-  pub groups : texts names.groups.items ≡ agents.groups pairs agent
+  pub sources : texts names.sources.keys ≡ agents.sources pairs agent
+  pub channels : texts names.channels.keys ≡ agents.channels pairs agent
+  pub sinks : texts names.sinks.keys ≡ agents.sinks pairs agent
+  pub groups : texts names.groups.keys ≡ agents.groups pairs agent

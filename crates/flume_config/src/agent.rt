@@ -35,12 +35,13 @@ fn judged(agent: &Agent<'_>, names: &AgentNames<'_>) -> Result<Findings, AllocEr
     requires { Names agent.now.properties.now agent.now.name.now names.now }
     ensures { IfOk result (λ found. IsJudged agent.now.properties.now agent.now.name.now (seen found)) }
 {
-    let sources = names.sources.as_slice();
-    let channels = names.channels.as_slice();
-    let sinks = names.sinks.as_slice();
-    let groups = names.groups.as_slice();
-    let found = judge(agent, sources, channels, sinks, groups)?;
-    Ok(found)
+    judge(
+        agent,
+        &names.sources,
+        &names.channels,
+        &names.sinks,
+        &names.groups,
+    )
 }
 
 /// What a user is told of what is at fault.
@@ -71,15 +72,11 @@ fn plan(agent: &Agent<'_>, names: &AgentNames<'_>) -> Result<Plan, AllocError>
     requires { Names agent.now.properties.now agent.now.name.now names.now }
     ensures { IfOk result (IsPlan agent.now.properties.now agent.now.name.now) }
 {
-    let source_names = names.sources.as_slice();
-    let channel_names = names.channels.as_slice();
-    let sink_names = names.sinks.as_slice();
-    let group_names = names.groups.as_slice();
     Ok(Plan {
-        sources: sources(agent, channel_names, source_names)?,
-        channels: channels(agent, channel_names)?,
-        sinks: sinks(agent, channel_names, sink_names)?,
-        groups: groups(agent, sink_names, group_names)?,
+        sources: sources(agent, &names.channels, names.sources.as_slice())?,
+        channels: channels(agent, names.channels.as_slice())?,
+        sinks: sinks(agent, &names.channels, names.sinks.as_slice())?,
+        groups: groups(agent, &names.sinks, names.groups.as_slice())?,
     })
 }
 

@@ -8,6 +8,7 @@ ghost use Rattle.plan_judging.specs.Candidates.{seen};
 ghost use Rattle.flume_config.specs.Patterns.{Asks, IsVerdict, asked_at, asked_of_date, asked_of_serializer, asked_of_extractor, asked_of_kind, asked_by_kind, asked_of_step, asked_of_source, asked_of};
 ghost use Rattle.flume_config.specs.Plans.{IsSeen};
 
+use indexmap::IndexSet;
 use plan_judging::{
     Agent, FaultKind, Findings, Place, front_of, is_millis, is_type, names_at, value_at,
 };
@@ -200,14 +201,14 @@ fn ask_sources(agent: &Agent<'_>, found: &mut Findings, names: &[&str]) -> Resul
 /// What is at fault in an agent with these components.
 pub fn judge(
     agent: &Agent<'_>,
-    sources: &[&str],
-    channels: &[&str],
-    sinks: &[&str],
-    groups: &[&str],
+    sources: &IndexSet<&str>,
+    channels: &IndexSet<&str>,
+    sinks: &IndexSet<&str>,
+    groups: &IndexSet<&str>,
 ) -> Result<Findings, AllocError>
-    ensures { IfOk result (λ found. IsSeen agent.now.properties.now agent.now.name.now (texts sources.now) (texts channels.now) (texts sinks.now) (texts groups.now) (seen found)) }
+    ensures { IfOk result (λ found. IsSeen agent.now.properties.now agent.now.name.now (texts sources.now.keys) (texts channels.now.keys) (texts sinks.now.keys) (texts groups.now.keys) (seen found)) }
 {
     let mut found = plan_judging::judge(agent, sources, channels, sinks, groups)?;
-    ask_sources(agent, &mut found, sources)?;
+    ask_sources(agent, &mut found, sources.as_slice())?;
     Ok(found)
 }

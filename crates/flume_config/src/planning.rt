@@ -17,6 +17,7 @@ use crate::stepping::steps;
 use crate::values::{
     count_at, line_at, number_at, place_at, places, port_at, str_at, text_at, truth_at,
 };
+use indexmap::IndexSet;
 use plan_judging::{Agent, Place, front_of, is_plugin, is_type, joined, names_at, plugin_name};
 use prop_text::Properties;
 use selectors::Selector;
@@ -91,8 +92,8 @@ fn steps_at(place: &Place<'_>) -> Result<Vec<StepPlan>, AllocError>
 }
 
 // The selector of a source with these channels.
-fn selector_at(place: &Place<'_>, channels: &[&str]) -> Result<Selector, AllocError>
-    ensures { IfOk result (IsSelector place.now.properties.now (place.now.front.now ++ codes "selector.") (texts channels.now)) }
+fn selector_at(place: &Place<'_>, channels: &IndexSet<&str>) -> Result<Selector, AllocError>
+    ensures { IfOk result (IsSelector place.now.properties.now (place.now.front.now ++ codes "selector.") (texts channels.now.keys)) }
 {
     let front = joined(place.alloc, place.front, "selector.")?;
     let place = Place {
@@ -113,24 +114,24 @@ fn kind_at(place: &Place<'_>) -> Result<SourceKind, AllocError>
 // The source of these keys and interceptors.
 fn source_with(
     place: &Place<'_>,
-    channels: &[&str],
-    chosen: &[&str],
+    channels: &IndexSet<&str>,
+    chosen: &IndexSet<&str>,
     name: &str,
     line: u32,
     kind: SourceKind,
     steps: Vec<StepPlan>,
 ) -> Result<SourcePlan, AllocError>
-    requires chosen { texts chosen.now ≡ names_in place.now.properties.now (place.now.front.now ++ codes "channels") }
+    requires chosen { texts chosen.now.keys ≡ names_in place.now.properties.now (place.now.front.now ++ codes "channels") }
     requires line { line ≡ line_at place.now.properties.now (place.now.front.now ++ codes "type") }
     requires kind { IsSourceKind place.now.properties.now place.now.front.now (text_at place.now.properties.now (place.now.front.now ++ codes "type")) kind }
     requires steps { Match (StepNamed place.now.properties.now place.now.front.now) (names_in place.now.properties.now (place.now.front.now ++ codes "interceptors")) steps.items }
-    ensures { IfOk result (IsSource place.now.properties.now place.now.front.now (texts channels.now) name.now) }
+    ensures { IfOk result (IsSource place.now.properties.now place.now.front.now (texts channels.now.keys) name.now) }
 {
     Ok(SourcePlan {
         line,
         kind,
         steps,
-        channels: places(place.alloc, channels, chosen)?,
+        channels: places(place.alloc, channels, chosen.as_slice())?,
         selector: selector_at(place, chosen)?,
         name: String::from_str(place.alloc, name)?,
     })
@@ -138,12 +139,12 @@ fn source_with(
 
 fn source_at(
     place: &Place<'_>,
-    channels: &[&str],
-    chosen: &[&str],
+    channels: &IndexSet<&str>,
+    chosen: &IndexSet<&str>,
     name: &str,
 ) -> Result<SourcePlan, AllocError>
-    requires { texts chosen.now ≡ names_in place.now.properties.now (place.now.front.now ++ codes "channels") }
-    ensures { IfOk result (IsSource place.now.properties.now place.now.front.now (texts channels.now) name.now) }
+    requires { texts chosen.now.keys ≡ names_in place.now.properties.now (place.now.front.now ++ codes "channels") }
+    ensures { IfOk result (IsSource place.now.properties.now place.now.front.now (texts channels.now.keys) name.now) }
 {
     let line = line_at(place, "type")?;
     let kind = kind_at(place)?;
@@ -151,8 +152,12 @@ fn source_at(
     source_with(place, channels, chosen, name, line, kind, steps)
 }
 
-fn source(agent: &Agent<'_>, channels: &[&str], name: &str) -> Result<SourcePlan, AllocError>
-    ensures { IfOk result (SourceNamed agent.now.properties.now agent.now.name.now (texts channels.now) name.now) }
+fn source(
+    agent: &Agent<'_>,
+    channels: &IndexSet<&str>,
+    name: &str,
+) -> Result<SourcePlan, AllocError>
+    ensures { IfOk result (SourceNamed agent.now.properties.now agent.now.name.now (texts channels.now.keys) name.now) }
 {
     let front = front_of(agent.alloc, agent.name, ".sources.", name)?;
     let place = Place {
@@ -161,7 +166,7 @@ fn source(agent: &Agent<'_>, channels: &[&str], name: &str) -> Result<SourcePlan
         front: front.as_str(),
     };
     let chosen = names_at(&place, "channels")?;
-    source_at(&place, channels, chosen.as_slice(), name)
+    source_at(&place, channels, &chosen, name)
 }
 
 fn memory_channel(place: &Place<'_>, name: &str) -> Result<ChannelPlan, AllocError>
@@ -220,10 +225,10 @@ fn channel(agent: &Agent<'_>, name: &str) -> Result<ChannelPlan, AllocError>
 /// The sources of an agent.
 pub fn sources(
     agent: &Agent<'_>,
-    channels: &[&str],
+    channels: &IndexSet<&str>,
     names: &[&str],
 ) -> Result<Vec<SourcePlan>, AllocError>
-    ensures { IfOk result (λ plans. Match (SourceNamed agent.now.properties.now agent.now.name.now (texts channels.now)) (texts names.now) plans.items) }
+    ensures { IfOk result (λ plans. Match (SourceNamed agent.now.properties.now agent.now.name.now (texts channels.now.keys)) (texts names.now) plans.items) }
 {
     let mut plans = Vec::new(agent.alloc);
     for name in names {
@@ -330,8 +335,8 @@ fn sink_at(place: &Place<'_>, channel: u32, name: &str) -> Result<SinkPlan, Allo
     null_sink(place, channel, name)
 }
 
-fn sink(agent: &Agent<'_>, channels: &[&str], name: &str) -> Result<SinkPlan, AllocError>
-    ensures { IfOk result (λ sink. SinkNamed agent.now.properties.now agent.now.name.now (texts channels.now) name.now sink) }
+fn sink(agent: &Agent<'_>, channels: &IndexSet<&str>, name: &str) -> Result<SinkPlan, AllocError>
+    ensures { IfOk result (λ sink. SinkNamed agent.now.properties.now agent.now.name.now (texts channels.now.keys) name.now sink) }
 {
     let front = front_of(agent.alloc, agent.name, ".sinks.", name)?;
     let place = Place {
@@ -347,10 +352,10 @@ fn sink(agent: &Agent<'_>, channels: &[&str], name: &str) -> Result<SinkPlan, Al
 /// The sinks of an agent.
 pub fn sinks(
     agent: &Agent<'_>,
-    channels: &[&str],
+    channels: &IndexSet<&str>,
     names: &[&str],
 ) -> Result<Vec<SinkPlan>, AllocError>
-    ensures { IfOk result (λ plans. Match (SinkNamed agent.now.properties.now agent.now.name.now (texts channels.now)) (texts names.now) plans.items) }
+    ensures { IfOk result (λ plans. Match (SinkNamed agent.now.properties.now agent.now.name.now (texts channels.now.keys)) (texts names.now) plans.items) }
 {
     let mut plans = Vec::new(agent.alloc);
     for name in names {
@@ -425,13 +430,13 @@ fn priorities(place: &Place<'_>, kind: &str, members: &[&str]) -> Result<Vec<u32
 // The group of a processor's type.
 fn group_with(
     place: &Place<'_>,
-    sinks: &[&str],
+    sinks: &IndexSet<&str>,
     members: &[&str],
     name: &str,
     kind: &str,
 ) -> Result<GroupPlan, AllocError>
     requires { kind.now ≡ text_at place.now.properties.now (place.now.front.now ++ codes "processor.type") }
-    ensures { IfOk result (GroupWith place.now.properties.now place.now.front.now (texts sinks.now) (texts members.now) name.now) }
+    ensures { IfOk result (GroupWith place.now.properties.now place.now.front.now (texts sinks.now.keys) (texts members.now) name.now) }
 {
     Ok(GroupPlan {
         processor: processor(place, kind)?,
@@ -445,18 +450,18 @@ fn group_with(
 
 fn group_at(
     place: &Place<'_>,
-    sinks: &[&str],
+    sinks: &IndexSet<&str>,
     members: &[&str],
     name: &str,
 ) -> Result<GroupPlan, AllocError>
-    ensures { IfOk result (GroupWith place.now.properties.now place.now.front.now (texts sinks.now) (texts members.now) name.now) }
+    ensures { IfOk result (GroupWith place.now.properties.now place.now.front.now (texts sinks.now.keys) (texts members.now) name.now) }
 {
     let kind = str_at(place, "processor.type")?;
     group_with(place, sinks, members, name, kind)
 }
 
-fn group(agent: &Agent<'_>, sinks: &[&str], name: &str) -> Result<GroupPlan, AllocError>
-    ensures { IfOk result (λ group. GroupNamed agent.now.properties.now agent.now.name.now (texts sinks.now) name.now group) }
+fn group(agent: &Agent<'_>, sinks: &IndexSet<&str>, name: &str) -> Result<GroupPlan, AllocError>
+    ensures { IfOk result (λ group. GroupNamed agent.now.properties.now agent.now.name.now (texts sinks.now.keys) name.now group) }
 {
     let front = front_of(agent.alloc, agent.name, ".sinkgroups.", name)?;
     let place = Place {
@@ -471,10 +476,10 @@ fn group(agent: &Agent<'_>, sinks: &[&str], name: &str) -> Result<GroupPlan, All
 /// The groups of an agent.
 pub fn groups(
     agent: &Agent<'_>,
-    sinks: &[&str],
+    sinks: &IndexSet<&str>,
     names: &[&str],
 ) -> Result<Vec<GroupPlan>, AllocError>
-    ensures { IfOk result (λ plans. Match (GroupNamed agent.now.properties.now agent.now.name.now (texts sinks.now)) (texts names.now) plans.items) }
+    ensures { IfOk result (λ plans. Match (GroupNamed agent.now.properties.now agent.now.name.now (texts sinks.now.keys)) (texts names.now) plans.items) }
 {
     let mut plans = Vec::new(agent.alloc);
     for name in names {
@@ -486,8 +491,8 @@ pub fn groups(
 /// The names of an agent's components.
 #[derive(Drop)]
 pub struct AgentNames<'a> {
-    pub sources: Vec<&'a str>,
-    pub channels: Vec<&'a str>,
-    pub sinks: Vec<&'a str>,
-    pub groups: Vec<&'a str>,
+    pub sources: IndexSet<&'a str>,
+    pub channels: IndexSet<&'a str>,
+    pub sinks: IndexSet<&'a str>,
+    pub groups: IndexSet<&'a str>,
 }

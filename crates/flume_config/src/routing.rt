@@ -10,21 +10,26 @@ ghost use Rattle.flume_config.specs.Values.{text_at, place_of, places_at, mapped
 
 use crate::stepping::text_else;
 use crate::values::{places, str_at};
+use indexmap::IndexSet;
 use plan_judging::{Place, is_type, joined, names_at, once, words};
 use selectors::Selector;
 use std::alloc::{AllocError, Global};
 
 // The places of the channels in the list at a key.
-fn places_at(place: &Place<'_>, channels: &[&str], key: &str) -> Result<Vec<u32>, AllocError>
-    ensures { IfOk result (λ found. found.items ≡ places_at place.now.properties.now (texts channels.now) (place.now.front.now ++ key.now)) }
+fn places_at(
+    place: &Place<'_>,
+    channels: &IndexSet<&str>,
+    key: &str,
+) -> Result<Vec<u32>, AllocError>
+    ensures { IfOk result (λ found. found.items ≡ places_at place.now.properties.now (texts channels.now.keys) (place.now.front.now ++ key.now)) }
 {
     let names = names_at(place, key)?;
     places(place.alloc, channels, names.as_slice())
 }
 
 // The places of the channels in a list.
-fn places_in(alloc: Global, channels: &[&str], value: &str) -> Result<Vec<u32>, AllocError>
-    ensures { IfOk result (λ found. found.items ≡ map (place_of (texts channels.now)) (once (words value.now))) }
+fn places_in(alloc: Global, channels: &IndexSet<&str>, value: &str) -> Result<Vec<u32>, AllocError>
+    ensures { IfOk result (λ found. found.items ≡ map (place_of (texts channels.now.keys)) (once (words value.now))) }
 {
     let names = words(alloc, value)?;
     let names = once(alloc, names.as_slice())?;
@@ -35,13 +40,13 @@ fn places_in(alloc: Global, channels: &[&str], value: &str) -> Result<Vec<u32>, 
 fn push_mapped(
     alloc: Global,
     found: &mut Vec<(String, Vec<u32>)>,
-    channels: &[&str],
+    channels: &IndexSet<&str>,
     front: &str,
     key: &str,
     value: &str,
     line: u32,
 ) -> Result<(), AllocError>
-    ensures { OnOk result (map seen_pair found.new.items ≡ map seen_pair found.old.items ++ mapped_at (texts channels.now) front.now (record { key = key.now; value = value.now; line = line })) }
+    ensures { OnOk result (map seen_pair found.new.items ≡ map seen_pair found.old.items ++ mapped_at (texts channels.now.keys) front.now (record { key = key.now; value = value.now; line = line })) }
 {
     match key.strip_prefix(front) {
         None => Ok(()),
@@ -57,10 +62,10 @@ fn push_mapped(
 // What the keys that begin so map.
 fn mapped(
     place: &Place<'_>,
-    channels: &[&str],
+    channels: &IndexSet<&str>,
     key: &str,
 ) -> Result<Vec<(String, Vec<u32>)>, AllocError>
-    ensures { IfOk result (λ found. map seen_pair found.items ≡ mapped place.now.properties.now (texts channels.now) (place.now.front.now ++ key.now)) }
+    ensures { IfOk result (λ found. map seen_pair found.items ≡ mapped place.now.properties.now (texts channels.now.keys) (place.now.front.now ++ key.now)) }
 {
     let front = joined(place.alloc, place.front, key)?;
     let mut found = Vec::new(place.alloc);
@@ -79,9 +84,9 @@ fn mapped(
     Ok(found)
 }
 
-fn multiplexing(place: &Place<'_>, channels: &[&str]) -> Result<Selector, AllocError>
+fn multiplexing(place: &Place<'_>, channels: &IndexSet<&str>) -> Result<Selector, AllocError>
     requires { is_type (codes "multiplexing") (text_at place.now.properties.now (place.now.front.now ++ codes "type")) ≡ true }
-    ensures { IfOk result (IsSelector place.now.properties.now place.now.front.now (texts channels.now)) }
+    ensures { IfOk result (IsSelector place.now.properties.now place.now.front.now (texts channels.now.keys)) }
 {
     Ok(Selector::Multiplexing {
         header: text_else(place, "flume.selector.header", "header")?,
@@ -91,9 +96,9 @@ fn multiplexing(place: &Place<'_>, channels: &[&str]) -> Result<Selector, AllocE
     })
 }
 
-fn replicating(place: &Place<'_>, channels: &[&str]) -> Result<Selector, AllocError>
+fn replicating(place: &Place<'_>, channels: &IndexSet<&str>) -> Result<Selector, AllocError>
     requires { is_type (codes "multiplexing") (text_at place.now.properties.now (place.now.front.now ++ codes "type")) ≡ false }
-    ensures { IfOk result (IsSelector place.now.properties.now place.now.front.now (texts channels.now)) }
+    ensures { IfOk result (IsSelector place.now.properties.now place.now.front.now (texts channels.now.keys)) }
 {
     let Ok(count) = u32::try_from(channels.len()) else {
         return Err(AllocError);
@@ -105,8 +110,8 @@ fn replicating(place: &Place<'_>, channels: &[&str]) -> Result<Selector, AllocEr
 }
 
 /// The selector of a source with these channels.
-pub fn selector(place: &Place<'_>, channels: &[&str]) -> Result<Selector, AllocError>
-    ensures { IfOk result (IsSelector place.now.properties.now place.now.front.now (texts channels.now)) }
+pub fn selector(place: &Place<'_>, channels: &IndexSet<&str>) -> Result<Selector, AllocError>
+    ensures { IfOk result (IsSelector place.now.properties.now place.now.front.now (texts channels.now.keys)) }
 {
     if is_type(str_at(place, "type")?, "multiplexing") {
         multiplexing(place, channels)

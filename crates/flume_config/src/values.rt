@@ -4,6 +4,7 @@ ghost use Rattle.std.specs.Prelude.{◌≡◌, ◌≤◌, ◌<◌, ◌++◌, OnO
 ghost use Rattle.prop_text.specs.Views.{texts};
 ghost use Rattle.flume_config.specs.Values.{text_at, line_at, number_at, truth_at, place_of};
 
+use indexmap::IndexSet;
 use plan_judging::{Place, number, truth, value_at};
 use std::alloc::{AllocError, Global};
 
@@ -95,20 +96,22 @@ pub fn truth_at(place: &Place<'_>, default: bool, key: &str) -> Result<bool, All
 }
 
 /// The place of a name among names, from 0.
-fn place_of(names: &[&str], name: &str) -> usize
-    ensures { result ≡ place_of (texts names.now) name.now }
+fn place_of(names: &IndexSet<&str>, name: &str) -> usize
+    ensures { result ≡ place_of (texts names.now.keys) name.now }
 {
-    for (place, other) in names.iter().enumerate() {
-        if name == *other {
-            return place;
-        }
+    match names.get_index_of(name) {
+        Some(place) => place,
+        None => names.len(),
     }
-    names.len()
 }
 
 /// The places of names among names, from 0.
-pub fn places(alloc: Global, names: &[&str], chosen: &[&str]) -> Result<Vec<u32>, AllocError>
-    ensures { IfOk result (λ places. places.items ≡ map (place_of (texts names.now)) (texts chosen.now)) }
+pub fn places(
+    alloc: Global,
+    names: &IndexSet<&str>,
+    chosen: &[&str],
+) -> Result<Vec<u32>, AllocError>
+    ensures { IfOk result (λ places. places.items ≡ map (place_of (texts names.now.keys)) (texts chosen.now)) }
 {
     let mut places = Vec::new(alloc);
     for name in chosen {
@@ -118,8 +121,8 @@ pub fn places(alloc: Global, names: &[&str], chosen: &[&str]) -> Result<Vec<u32>
 }
 
 /// The place of a name among names, from 0.
-pub fn place_at(names: &[&str], name: &str) -> Result<u32, AllocError>
-    ensures { IfOk result (λ place. place ≡ place_of (texts names.now) name.now) }
+pub fn place_at(names: &IndexSet<&str>, name: &str) -> Result<u32, AllocError>
+    ensures { IfOk result (λ place. place ≡ place_of (texts names.now.keys) name.now) }
 {
     match u32::try_from(place_of(names, name)) {
         Ok(place) => Ok(place),

@@ -1,3 +1,5 @@
-pub mod WordSteps
-pub mod Joins
+mod Clashes
+mod Onces
 pub mod CommaSteps
+pub mod Joins
+pub mod WordSteps

@@ -1,5 +1,5 @@
 -- What a component claims for itself alone: standard input, an address to listen at, a folder, an object that is handed in, a sink.
-use Rattle.std.specs.Prelude.{◌≡◌, ℕ, Bool, ◌||◌, ◌&&◌, List, [], ◌∷◌, ◌++◌, drop, max, ◌==◌, if◌then◌else◌, Option, Some, None, codes, map, string_bytes}
+use Rattle.std.specs.Prelude.{◌≡◌, ℕ, Bool, ◌||◌, ◌&&◌, List, [], ◌∷◌, ◌++◌, drop, max, min, ◌==◌, if◌then◌else◌, Option, Some, None, codes, map, string_bytes}
 use Rattle.std.specs.Str.{bytes_eq}
 use Rattle.prop_text.specs.Pairs.{Pair}
 use Rattle.prop_text.specs.Winners.{lookup}
@@ -36,6 +36,16 @@ clash a b = if same_wish a b then one_fault (max a.line b.line) Clash else nothi
 abbrev pub clashes : List Wish → Candidates
 clashes [] = nothing
 clashes (w ∷ ws) = each (clash w) ws ⊕ clashes ws
+
+-- a claim that stood on a line before, if it did, and stands on this line
+abbrev pub clash_with : Option ℕ → ℕ → Candidates
+clash_with None line = nothing
+clash_with (Some first) line = one_fault (max first line) Clash
+
+-- the lesser of a line, if there is one, and another
+abbrev pub least_with : Option ℕ → ℕ → ℕ
+least_with None line = line
+least_with (Some first) line = min first line
 
 abbrev pub listener_at : Pair → Pair → Option ℕ → List Wish
 listener_at bind port None = []

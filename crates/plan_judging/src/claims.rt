@@ -1,6 +1,6 @@
 //! What a component claims for itself alone.
 
-ghost use Rattle.std.specs.Prelude.{◌≡◌, OnOk, ◌++◌, [], ◌∷◌, codes, drop, map, IsTrue};
+ghost use Rattle.std.specs.Prelude.{◌≡◌, OnOk, ◌++◌, [], ◌∷◌, codes, drop, map, string_bytes, IsTrue};
 ghost use Rattle.plan_judging.specs.Rows.{is_plugin};
 ghost use Rattle.std.specs.List.{flat_map};
 ghost use Rattle.plan_judging.specs.Words.{number_in};
@@ -9,12 +9,13 @@ ghost use Rattle.plan_judging.specs.Agents.{step_claims};
 ghost use Rattle.prop_text.specs.Views.{texts};
 ghost use Rattle.prop_text.specs.Winners.{lookup};
 ghost use Rattle.plan_judging.specs.Candidates.{Adds, seen, each};
-ghost use Rattle.plan_judging.specs.Claims.{code, same_wish, clash, clashes, listener, plugin_wish, source_of_wish, source_wish, folder_wish, channel_wish, sink_wish, member_wish, group_wish, wish, wishes, Claims};
+ghost use Rattle.plan_judging.specs.Claims.{code, clash_with, least_with, clashes, listener, plugin_wish, source_of_wish, source_wish, folder_wish, channel_wish, sink_wish, member_wish, group_wish, wish, wishes, Claims};
 
 use crate::findings::{FaultKind, Findings};
 use crate::group::{front_of, names_at};
 use crate::rules::{Place, is_plugin, is_type, type_at, value_at};
 use crate::values::number;
+use indexmap::IndexMap;
 use std::alloc::{AllocError, Global};
 
 /// What only one component can have.
@@ -54,38 +55,49 @@ impl Claimed {
     }
 }
 
-fn same(one: &Claim, other: &Claim) -> bool
-    ensures { result ≡ same_wish (wish one.now) (wish other.now) }
-{
-    one.what.code() == other.what.code()
-        && one.text.as_str() == other.text.as_str()
-        && one.number == other.number
+impl Claim {
+    // What makes two claims the same.
+    fn key(&self) -> (u8, &str, u64)
+        ensures what { result.0 ≡ code self.now.what }
+        ensures text { result.1.now ≡ string_bytes self.now.text }
+        ensures number { result.2 ≡ self.now.number }
+    {
+        (self.what.code(), self.text.as_str(), self.number)
+    }
 }
 
+// Refuses a claim that stood on a line before, if it did.
 #[tactic(auto, unfolding(crate::specs::Candidates::adds))]
-fn check_two(found: &mut Findings, one: &Claim, other: &Claim)
-    ensures { Adds (seen found.old) (seen found.new) (clash (wish one.now) (wish other.now)) }
+fn check_earlier(found: &mut Findings, first: Option<u32>, line: u32)
+    ensures { Adds (seen found.old) (seen found.new) (clash_with first line) }
 {
-    if same(one, other) {
-        found.refuse(one.line.max(other.line), FaultKind::Clash);
+    if let Some(first) = first {
+        found.refuse(first.max(line), FaultKind::Clash);
     }
 }
 
-fn check_one(found: &mut Findings, one: &Claim, others: &[Claim])
-    ensures { Adds (seen found.old) (seen found.new) (each (clash (wish one.now)) (wishes others.now)) }
+// The lesser of a line, if there is one, and another.
+fn least_with(first: Option<u32>, line: u32) -> u32
+    ensures { result ≡ least_with first line }
 {
-    for other in others {
-        check_two(found, one, other);
+    match first {
+        Some(first) => first.min(line),
+        None => line,
     }
 }
 
-/// Two components that claim the same.
-pub fn check_claims(found: &mut Findings, claims: &[Claim])
-    ensures { Adds (seen found.old) (seen found.new) (clashes (wishes claims.now)) }
+/// Two components that claim the same. The least line of each claim is kept, so that each is looked up once.
+pub fn check_claims(alloc: Global, found: &mut Findings, claims: &[Claim]) -> Result<(), AllocError>
+    ensures { OnOk result (Adds (seen found.old) (seen found.new) (clashes (wishes claims.now))) }
 {
-    for (place, claim) in claims.iter().enumerate() {
-        check_one(found, claim, &claims[place + 1..]);
+    let mut lines = IndexMap::new(alloc);
+    for claim in claims {
+        let key = claim.key();
+        let first = lines.get(&key).copied();
+        check_earlier(found, first, claim.line);
+        lines.insert(key, least_with(first, claim.line))?;
     }
+    Ok(())
 }
 
 fn push(

@@ -5,11 +5,12 @@ ghost use Rattle.std.specs.Str.{bytes_eq};
 ghost use Rattle.prop_text.specs.Views.{texts};
 ghost use Rattle.prop_text.specs.Winners.{lookup};
 ghost use Rattle.plan_judging.specs.Candidates.{Adds, seen, each};
-ghost use Rattle.plan_judging.specs.Components.{front_of, once, names_in, several, priority, failover, group_of, group_by_kind, channel_of, same_channel, other_channel, one_channel, group_at};
+ghost use Rattle.plan_judging.specs.Components.{front_of, names_in, several, priority, failover, group_of, group_by_kind, channel_of, same_channel, other_channel, one_channel, group_at};
 
 use crate::findings::{FaultKind, Findings};
 use crate::rules::{Place, Row, Rule, check, check_names, check_rows, is_type, joined, value_at};
-use crate::values::{is_among, words};
+use crate::values::{is_among, once, words};
+use indexmap::IndexSet;
 use prop_text::Properties;
 use std::alloc::{AllocError, Global};
 
@@ -58,29 +59,16 @@ const FAILOVER: [Row; 1] = [PENALTY];
 
 const LOAD_BALANCE: [Row; 3] = [SELECTOR, BACKOFF, TIMEOUT];
 
-/// The names, each once, where it stands first.
-pub fn once<'a>(alloc: Global, names: &[&'a str]) -> Result<Vec<&'a str>, AllocError>
-    ensures { IfOk result (λ kept. texts kept.items ≡ once (texts names.now)) }
-{
-    let mut kept = Vec::new(alloc);
-    for (place, name) in names.iter().enumerate() {
-        if !is_among(name, &names[..place]) {
-            kept.push(*name)?;
-        }
-    }
-    Ok(kept)
-}
-
 /// The names in the list at a key, each once, where it stands first.
 pub fn names_in<'a>(
     alloc: Global,
     properties: &'a Properties,
     key: &str,
-) -> Result<Vec<&'a str>, AllocError>
-    ensures { IfOk result (λ names. texts names.items ≡ names_in properties.now key.now) }
+) -> Result<IndexSet<&'a str>, AllocError>
+    ensures { IfOk result (λ names. texts names.keys ≡ names_in properties.now key.now) }
 {
     match properties.get(key) {
-        None => Ok(Vec::new(alloc)),
+        None => Ok(IndexSet::new(alloc)),
         Some((value, _)) => {
             let names = words(alloc, value)?;
             once(alloc, names.as_slice())
@@ -89,8 +77,8 @@ pub fn names_in<'a>(
 }
 
 /// The names in the list at a component's key, each once, where it stands first.
-pub fn names_at<'a>(place: &Place<'a>, key: &str) -> Result<Vec<&'a str>, AllocError>
-    ensures { IfOk result (λ names. texts names.items ≡ names_in place.now.properties.now (place.now.front.now ++ key.now)) }
+pub fn names_at<'a>(place: &Place<'a>, key: &str) -> Result<IndexSet<&'a str>, AllocError>
+    ensures { IfOk result (λ names. texts names.keys ≡ names_in place.now.properties.now (place.now.front.now ++ key.now)) }
 {
     let key = joined(place.alloc, place.front, key)?;
     names_in(place.alloc, place.properties, key.as_str())
@@ -198,10 +186,10 @@ pub struct Agent<'a> {
 /// The channel of a sink of the agent, as it stands, and its line.
 fn channel_of<'a>(
     agent: &Agent<'a>,
-    sinks: &[&str],
+    sinks: &IndexSet<&str>,
     name: &str,
 ) -> Result<Option<(&'a str, u32)>, AllocError>
-    ensures { IfOk result (λ channel. option_map (λ x. (x.0.now, x.1)) channel ≡ channel_of agent.now.properties.now agent.now.name.now (texts sinks.now) name.now) }
+    ensures { IfOk result (λ channel. option_map (λ x. (x.0.now, x.1)) channel ≡ channel_of agent.now.properties.now agent.now.name.now (texts sinks.now.keys) name.now) }
 {
     if !is_among(name, sinks) {
         return Ok(None);
@@ -228,12 +216,12 @@ fn check_same(found: &mut Findings, first: Option<(&str, u32)>, other: Option<(&
 fn check_other(
     agent: &Agent<'_>,
     found: &mut Findings,
-    sinks: &[&str],
+    sinks: &IndexSet<&str>,
     first: &str,
     other: &str,
 ) -> Result<(), AllocError>
     ensures { OnOk result (Adds (seen found.old) (seen found.new)
-        (same_channel (channel_of agent.now.properties.now agent.now.name.now (texts sinks.now) first.now) (channel_of agent.now.properties.now agent.now.name.now (texts sinks.now) other.now))) }
+        (same_channel (channel_of agent.now.properties.now agent.now.name.now (texts sinks.now.keys) first.now) (channel_of agent.now.properties.now agent.now.name.now (texts sinks.now.keys) other.now))) }
 {
     match channel_of(agent, sinks, first) {
         Err(error) => Err(error),
@@ -252,11 +240,11 @@ fn check_other(
 fn check_one_channel(
     agent: &Agent<'_>,
     found: &mut Findings,
-    sinks: &[&str],
+    sinks: &IndexSet<&str>,
     members: &[&str],
 ) -> Result<(), AllocError>
     ensures { OnOk result (Adds (seen found.old) (seen found.new)
-        (one_channel agent.now.properties.now agent.now.name.now (texts sinks.now) (texts members.now))) }
+        (one_channel agent.now.properties.now agent.now.name.now (texts sinks.now.keys) (texts members.now))) }
 {
     match members {
         [] => Ok(()),
@@ -267,12 +255,12 @@ fn check_one_channel(
 fn check_others(
     agent: &Agent<'_>,
     found: &mut Findings,
-    sinks: &[&str],
+    sinks: &IndexSet<&str>,
     first: &str,
     others: &[&str],
 ) -> Result<(), AllocError>
     ensures { OnOk result (Adds (seen found.old) (seen found.new)
-        (each (other_channel agent.now.properties.now agent.now.name.now (texts sinks.now) first.now) (texts others.now))) }
+        (each (other_channel agent.now.properties.now agent.now.name.now (texts sinks.now.keys) first.now) (texts others.now))) }
 {
     for other in others {
         check_other(agent, found, sinks, first, other)?;
@@ -285,12 +273,12 @@ pub fn check_group_at(
     agent: &Agent<'_>,
     place: &Place<'_>,
     found: &mut Findings,
-    sinks: &[&str],
+    sinks: &IndexSet<&str>,
     members: &[&str],
 ) -> Result<(), AllocError>
     requires { place.now.properties.now ≡ agent.now.properties.now }
     ensures { OnOk result (Adds (seen found.old) (seen found.new)
-        (group_at place.now.properties.now agent.now.name.now (texts sinks.now) place.now.front.now (texts members.now))) }
+        (group_at place.now.properties.now agent.now.name.now (texts sinks.now.keys) place.now.front.now (texts members.now))) }
 {
     check_names(place, found, "sinks", sinks)?;
     check_rows(place, found, &KIND)?;

@@ -18,6 +18,7 @@ use crate::group::{Agent, check_group_at, front_of, names_at};
 use crate::rules::{Place, check_list, joined};
 use crate::sink::check_sink;
 use crate::source::check_source;
+use indexmap::IndexSet;
 use std::alloc::AllocError;
 
 fn check_lists(place: &Place<'_>, found: &mut Findings) -> Result<(), AllocError>
@@ -33,10 +34,10 @@ fn judge_source(
     agent: &Agent<'_>,
     found: &mut Findings,
     claims: &mut Vec<Claim>,
-    channels: &[&str],
+    channels: &IndexSet<&str>,
     name: &str,
 ) -> Result<(), AllocError>
-    ensures judged { OnOk result (Adds (seen found.old) (seen found.new) (source_named agent.now.properties.now agent.now.name.now (texts channels.now) name.now)) }
+    ensures judged { OnOk result (Adds (seen found.old) (seen found.new) (source_named agent.now.properties.now agent.now.name.now (texts channels.now.keys) name.now)) }
     ensures claimed { OnOk result (Claims (wishes claims.old.items) (wishes claims.new.items) (source_claims agent.now.properties.now agent.now.name.now name.now)) }
 {
     let front = front_of(agent.alloc, agent.name, ".sources.", name)?;
@@ -54,10 +55,10 @@ fn judge_sources(
     agent: &Agent<'_>,
     found: &mut Findings,
     claims: &mut Vec<Claim>,
-    channels: &[&str],
+    channels: &IndexSet<&str>,
     names: &[&str],
 ) -> Result<(), AllocError>
-    ensures judged { OnOk result (Adds (seen found.old) (seen found.new) (each (source_named agent.now.properties.now agent.now.name.now (texts channels.now)) (texts names.now))) }
+    ensures judged { OnOk result (Adds (seen found.old) (seen found.new) (each (source_named agent.now.properties.now agent.now.name.now (texts channels.now.keys)) (texts names.now))) }
     ensures claimed { OnOk result (Claims (wishes claims.old.items) (wishes claims.new.items) (flat_map (source_claims agent.now.properties.now agent.now.name.now) (texts names.now))) }
 {
     for name in names {
@@ -104,10 +105,10 @@ fn judge_sink(
     agent: &Agent<'_>,
     found: &mut Findings,
     claims: &mut Vec<Claim>,
-    channels: &[&str],
+    channels: &IndexSet<&str>,
     name: &str,
 ) -> Result<(), AllocError>
-    ensures judged { OnOk result (Adds (seen found.old) (seen found.new) (sink_named agent.now.properties.now agent.now.name.now (texts channels.now) name.now)) }
+    ensures judged { OnOk result (Adds (seen found.old) (seen found.new) (sink_named agent.now.properties.now agent.now.name.now (texts channels.now.keys) name.now)) }
     ensures claimed { OnOk result (Claims (wishes claims.old.items) (wishes claims.new.items) (sink_claims agent.now.properties.now agent.now.name.now name.now)) }
 {
     let front = front_of(agent.alloc, agent.name, ".sinks.", name)?;
@@ -124,10 +125,10 @@ fn judge_sinks(
     agent: &Agent<'_>,
     found: &mut Findings,
     claims: &mut Vec<Claim>,
-    channels: &[&str],
+    channels: &IndexSet<&str>,
     names: &[&str],
 ) -> Result<(), AllocError>
-    ensures judged { OnOk result (Adds (seen found.old) (seen found.new) (each (sink_named agent.now.properties.now agent.now.name.now (texts channels.now)) (texts names.now))) }
+    ensures judged { OnOk result (Adds (seen found.old) (seen found.new) (each (sink_named agent.now.properties.now agent.now.name.now (texts channels.now.keys)) (texts names.now))) }
     ensures claimed { OnOk result (Claims (wishes claims.old.items) (wishes claims.new.items) (flat_map (sink_claims agent.now.properties.now agent.now.name.now) (texts names.now))) }
 {
     for name in names {
@@ -141,12 +142,12 @@ fn judge_group_at(
     place: &Place<'_>,
     found: &mut Findings,
     claims: &mut Vec<Claim>,
-    sinks: &[&str],
+    sinks: &IndexSet<&str>,
     members: &[&str],
 ) -> Result<(), AllocError>
     requires { place.now.properties.now ≡ agent.now.properties.now }
     ensures judged { OnOk result (Adds (seen found.old) (seen found.new)
-        (group_at place.now.properties.now agent.now.name.now (texts sinks.now) place.now.front.now (texts members.now))) }
+        (group_at place.now.properties.now agent.now.name.now (texts sinks.now.keys) place.now.front.now (texts members.now))) }
     ensures claimed { OnOk result (Claims (wishes claims.old.items) (wishes claims.new.items)
         (group_wish (lookup (place.now.front.now ++ codes "sinks") place.now.properties.now) (texts members.now))) }
 {
@@ -158,10 +159,10 @@ fn judge_group(
     agent: &Agent<'_>,
     found: &mut Findings,
     claims: &mut Vec<Claim>,
-    sinks: &[&str],
+    sinks: &IndexSet<&str>,
     name: &str,
 ) -> Result<(), AllocError>
-    ensures judged { OnOk result (Adds (seen found.old) (seen found.new) (group_named agent.now.properties.now agent.now.name.now (texts sinks.now) name.now)) }
+    ensures judged { OnOk result (Adds (seen found.old) (seen found.new) (group_named agent.now.properties.now agent.now.name.now (texts sinks.now.keys) name.now)) }
     ensures claimed { OnOk result (Claims (wishes claims.old.items) (wishes claims.new.items) (group_claims agent.now.properties.now agent.now.name.now name.now)) }
 {
     let front = front_of(agent.alloc, agent.name, ".sinkgroups.", name)?;
@@ -178,10 +179,10 @@ fn judge_groups(
     agent: &Agent<'_>,
     found: &mut Findings,
     claims: &mut Vec<Claim>,
-    sinks: &[&str],
+    sinks: &IndexSet<&str>,
     names: &[&str],
 ) -> Result<(), AllocError>
-    ensures judged { OnOk result (Adds (seen found.old) (seen found.new) (each (group_named agent.now.properties.now agent.now.name.now (texts sinks.now)) (texts names.now))) }
+    ensures judged { OnOk result (Adds (seen found.old) (seen found.new) (each (group_named agent.now.properties.now agent.now.name.now (texts sinks.now.keys)) (texts names.now))) }
     ensures claimed { OnOk result (Claims (wishes claims.old.items) (wishes claims.new.items) (flat_map (group_claims agent.now.properties.now agent.now.name.now) (texts names.now))) }
 {
     for name in names {
@@ -195,32 +196,32 @@ fn judge_components(
     agent: &Agent<'_>,
     found: &mut Findings,
     claims: &mut Vec<Claim>,
-    sources: &[&str],
-    channels: &[&str],
-    sinks: &[&str],
-    groups: &[&str],
+    sources: &IndexSet<&str>,
+    channels: &IndexSet<&str>,
+    sinks: &IndexSet<&str>,
+    groups: &IndexSet<&str>,
 ) -> Result<(), AllocError>
     ensures judged { OnOk result (Adds (seen found.old) (seen found.new)
-        (components_of agent.now.properties.now agent.now.name.now (texts sources.now) (texts channels.now) (texts sinks.now) (texts groups.now))) }
+        (components_of agent.now.properties.now agent.now.name.now (texts sources.now.keys) (texts channels.now.keys) (texts sinks.now.keys) (texts groups.now.keys))) }
     ensures claimed { OnOk result (Claims (wishes claims.old.items) (wishes claims.new.items)
-        (claims_of agent.now.properties.now agent.now.name.now (texts sources.now) (texts channels.now) (texts sinks.now) (texts groups.now))) }
+        (claims_of agent.now.properties.now agent.now.name.now (texts sources.now.keys) (texts channels.now.keys) (texts sinks.now.keys) (texts groups.now.keys))) }
 {
-    judge_sources(agent, found, claims, channels, sources)?;
-    judge_channels(agent, found, claims, channels)?;
-    judge_sinks(agent, found, claims, channels, sinks)?;
-    judge_groups(agent, found, claims, sinks, groups)
+    judge_sources(agent, found, claims, channels, sources.as_slice())?;
+    judge_channels(agent, found, claims, channels.as_slice())?;
+    judge_sinks(agent, found, claims, channels, sinks.as_slice())?;
+    judge_groups(agent, found, claims, sinks, groups.as_slice())
 }
 
 /// What is at fault in an agent with these components, its patterns apart.
 pub fn judge(
     agent: &Agent<'_>,
-    sources: &[&str],
-    channels: &[&str],
-    sinks: &[&str],
-    groups: &[&str],
+    sources: &IndexSet<&str>,
+    channels: &IndexSet<&str>,
+    sinks: &IndexSet<&str>,
+    groups: &IndexSet<&str>,
 ) -> Result<Findings, AllocError>
     ensures { IfOk result (λ found. Adds (record { fault = None; missing = None }) (seen found)
-        (candidates_of agent.now.properties.now agent.now.name.now (texts sources.now) (texts channels.now) (texts sinks.now) (texts groups.now))) }
+        (candidates_of agent.now.properties.now agent.now.name.now (texts sources.now.keys) (texts channels.now.keys) (texts sinks.now.keys) (texts groups.now.keys))) }
 {
     let mut found = Findings::new();
     let front = joined(agent.alloc, agent.name, ".")?;
@@ -240,6 +241,6 @@ pub fn judge(
         sinks,
         groups,
     )?;
-    check_claims(&mut found, claims.as_slice());
+    check_claims(agent.alloc, &mut found, claims.as_slice())?;
     Ok(found)
 }

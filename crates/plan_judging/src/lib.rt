@@ -15,7 +15,7 @@ mod values;
 
 pub use claims::plugin_name;
 pub use findings::{Fault, FaultKind, Findings};
-pub use group::{Agent, front_of, names_at, names_in, once};
+pub use group::{Agent, front_of, names_at, names_in};
 pub use judging::judge;
 pub use rules::{Place, is_host, is_millis, is_plugin, is_timestamp, is_type, joined, value_at};
-pub use values::{number, push_listed, truth, words};
+pub use values::{number, once, push_listed, truth, words};

@@ -13,6 +13,7 @@ ghost use Rattle.plan_judging.specs.Rows.{when, is_type, is_plugin, is_timestamp
 
 use crate::findings::{FaultKind, Findings};
 use crate::values::{all_among, has_twice, number, truth, words};
+use indexmap::IndexSet;
 use prop_text::Properties;
 use std::alloc::{AllocError, Global};
 
@@ -298,18 +299,24 @@ pub fn check_rows(place: &Place<'_>, found: &mut Findings, rows: &[Row]) -> Resu
 
 // Judges a list that names a thing twice.
 #[tactic(auto, unfolding(crate::specs::Candidates::adds))]
-fn check_twice(found: &mut Findings, line: u32, names: &[&str])
-    ensures { Adds (seen found.old) (seen found.new) (twice line (texts names.now)) }
+fn check_twice(
+    alloc: Global,
+    found: &mut Findings,
+    line: u32,
+    names: &[&str],
+) -> Result<(), AllocError>
+    ensures { OnOk result (Adds (seen found.old) (seen found.new) (twice line (texts names.now))) }
 {
-    if has_twice(names) {
+    if has_twice(alloc, names)? {
         found.refuse(line, FaultKind::Clash);
     }
+    Ok(())
 }
 
 // Judges a list that names a thing that is not among the others.
 #[tactic(auto, unfolding(crate::specs::Candidates::adds))]
-fn check_known(found: &mut Findings, line: u32, names: &[&str], others: &[&str])
-    ensures { Adds (seen found.old) (seen found.new) (unknown line (texts names.now) (texts others.now)) }
+fn check_known(found: &mut Findings, line: u32, names: &[&str], others: &IndexSet<&str>)
+    ensures { Adds (seen found.old) (seen found.new) (unknown line (texts names.now) (texts others.now.keys)) }
 {
     if !all_among(names, others) {
         found.refuse(line, FaultKind::UnknownName);
@@ -322,13 +329,13 @@ pub fn check_list_of(
     found: &mut Findings,
     line: u32,
     value: &str,
-    others: &[&str],
+    others: &IndexSet<&str>,
 ) -> Result<(), AllocError>
     ensures { OnOk result (Adds (seen found.old) (seen found.new)
-        (twice line (words value.now) ⊕ unknown line (words value.now) (texts others.now))) }
+        (twice line (words value.now) ⊕ unknown line (words value.now) (texts others.now.keys))) }
 {
     let names = words(alloc, value)?;
-    check_twice(found, line, names.as_slice());
+    check_twice(alloc, found, line, names.as_slice())?;
     check_known(found, line, names.as_slice(), others);
     Ok(())
 }
@@ -346,8 +353,7 @@ pub fn check_list(
         None => lack(place, found, required, key),
         Some((value, line)) => {
             let names = words(place.alloc, value)?;
-            check_twice(found, line, names.as_slice());
-            Ok(())
+            check_twice(place.alloc, found, line, names.as_slice())
         }
     }
 }
@@ -357,9 +363,9 @@ pub fn check_names(
     place: &Place<'_>,
     found: &mut Findings,
     key: &str,
-    others: &[&str],
+    others: &IndexSet<&str>,
 ) -> Result<(), AllocError>
-    ensures { OnOk result (Adds (seen found.old) (seen found.new) (names_row place.now.properties.now place.now.front.now key.now (texts others.now))) }
+    ensures { OnOk result (Adds (seen found.old) (seen found.new) (names_row place.now.properties.now place.now.front.now key.now (texts others.now.keys))) }
 {
     match value_at(place, key)? {
         None => lack(place, found, true, key),
@@ -372,9 +378,9 @@ pub fn check_name(
     place: &Place<'_>,
     found: &mut Findings,
     key: &str,
-    others: &[&str],
+    others: &IndexSet<&str>,
 ) -> Result<(), AllocError>
-    ensures { OnOk result (Adds (seen found.old) (seen found.new) (name_row place.now.properties.now place.now.front.now key.now (texts others.now))) }
+    ensures { OnOk result (Adds (seen found.old) (seen found.new) (name_row place.now.properties.now place.now.front.now key.now (texts others.now.keys))) }
 {
     match value_at(place, key)? {
         None => lack(place, found, true, key),

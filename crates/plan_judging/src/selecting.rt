@@ -13,6 +13,7 @@ use crate::findings::Findings;
 use crate::rules::{
     Place, Row, Rule, check_list_of, check_rows, is_type, joined, type_at, value_at,
 };
+use indexmap::IndexSet;
 use std::alloc::{AllocError, Global};
 
 const KIND: [Row; 1] = [Row {
@@ -25,9 +26,9 @@ fn check_row(
     place: &Place<'_>,
     found: &mut Findings,
     key: &str,
-    channels: &[&str],
+    channels: &IndexSet<&str>,
 ) -> Result<(), AllocError>
-    ensures { OnOk result (Adds (seen found.old) (seen found.new) (channels_row place.now.properties.now place.now.front.now key.now (texts channels.now))) }
+    ensures { OnOk result (Adds (seen found.old) (seen found.new) (channels_row place.now.properties.now place.now.front.now key.now (texts channels.now.keys))) }
 {
     match value_at(place, key)? {
         None => Ok(()),
@@ -44,10 +45,10 @@ fn check_key(
     key: &str,
     value: &str,
     line: u32,
-    channels: &[&str],
+    channels: &IndexSet<&str>,
 ) -> Result<(), AllocError>
     ensures { OnOk result (Adds (seen found.old) (seen found.new)
-        (if starts_with nat_eq key.now front.now then (twice line (words value.now) ⊕ unknown line (words value.now) (texts channels.now)) else nothing)) }
+        (if starts_with nat_eq key.now front.now then (twice line (words value.now) ⊕ unknown line (words value.now) (texts channels.now.keys)) else nothing)) }
 {
     if key.as_bytes().starts_with(front.as_bytes()) {
         return check_list_of(alloc, found, line, value, channels);
@@ -60,9 +61,9 @@ fn check_mapped(
     place: &Place<'_>,
     found: &mut Findings,
     key: &str,
-    channels: &[&str],
+    channels: &IndexSet<&str>,
 ) -> Result<(), AllocError>
-    ensures { OnOk result (Adds (seen found.old) (seen found.new) (channels_rows place.now.properties.now (place.now.front.now ++ key.now) (texts channels.now))) }
+    ensures { OnOk result (Adds (seen found.old) (seen found.new) (channels_rows place.now.properties.now (place.now.front.now ++ key.now) (texts channels.now.keys))) }
 {
     let front = joined(place.alloc, place.front, key)?;
     for at in 0..place.properties.len() {
@@ -83,9 +84,9 @@ fn check_mapped(
 fn check_multiplexing(
     place: &Place<'_>,
     found: &mut Findings,
-    channels: &[&str],
+    channels: &IndexSet<&str>,
 ) -> Result<(), AllocError>
-    ensures { OnOk result (Adds (seen found.old) (seen found.new) (multiplexing place.now.properties.now place.now.front.now (texts channels.now))) }
+    ensures { OnOk result (Adds (seen found.old) (seen found.new) (multiplexing place.now.properties.now place.now.front.now (texts channels.now.keys))) }
 {
     check_row(place, found, "default", channels)?;
     check_mapped(place, found, "mapping.", channels)?;
@@ -96,10 +97,10 @@ fn check_multiplexing(
 fn check_kind(
     place: &Place<'_>,
     found: &mut Findings,
-    channels: &[&str],
+    channels: &IndexSet<&str>,
     kind: &str,
 ) -> Result<(), AllocError>
-    ensures { OnOk result (Adds (seen found.old) (seen found.new) (selector_of place.now.properties.now place.now.front.now (texts channels.now) kind.now)) }
+    ensures { OnOk result (Adds (seen found.old) (seen found.new) (selector_of place.now.properties.now place.now.front.now (texts channels.now.keys) kind.now)) }
 {
     if is_type(kind, "multiplexing") {
         return check_multiplexing(place, found, channels);
@@ -114,9 +115,9 @@ fn check_kind(
 pub fn check_selector(
     place: &Place<'_>,
     found: &mut Findings,
-    channels: &[&str],
+    channels: &IndexSet<&str>,
 ) -> Result<(), AllocError>
-    ensures { OnOk result (Adds (seen found.old) (seen found.new) (selector place.now.properties.now place.now.front.now (texts channels.now))) }
+    ensures { OnOk result (Adds (seen found.old) (seen found.new) (selector place.now.properties.now place.now.front.now (texts channels.now.keys))) }
 {
     check_rows(place, found, &KIND)?;
     match type_at(place)? {

@@ -8,6 +8,7 @@ ghost use Rattle.plan_judging.specs.Components.{sink_of, sink};
 
 use crate::findings::Findings;
 use crate::rules::{Place, Row, Rule, check_name, check_rows, is_type, type_at};
+use indexmap::IndexSet;
 use std::alloc::AllocError;
 
 const KIND: [Row; 1] = [Row {
@@ -110,9 +111,9 @@ fn check_kind(place: &Place<'_>, found: &mut Findings, kind: &str) -> Result<(),
 pub fn check_sink(
     place: &Place<'_>,
     found: &mut Findings,
-    channels: &[&str],
+    channels: &IndexSet<&str>,
 ) -> Result<(), AllocError>
-    ensures { OnOk result (Adds (seen found.old) (seen found.new) (sink place.now.properties.now (texts channels.now) place.now.front.now)) }
+    ensures { OnOk result (Adds (seen found.old) (seen found.new) (sink place.now.properties.now (texts channels.now.keys) place.now.front.now)) }
 {
     check_rows(place, found, &KIND)?;
     check_name(place, found, "channel", channels)?;

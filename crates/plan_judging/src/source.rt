@@ -11,6 +11,7 @@ use crate::group::names_at;
 use crate::interceptor::check_steps;
 use crate::rules::{Place, Row, Rule, check_names, check_rows, is_type, joined, type_at};
 use crate::selecting::check_selector;
+use indexmap::IndexSet;
 use std::alloc::AllocError;
 
 const KIND: [Row; 1] = [Row {
@@ -94,16 +95,16 @@ fn check_selector_at(place: &Place<'_>, found: &mut Findings) -> Result<(), Allo
         properties: place.properties,
         front: front.as_str(),
     };
-    check_selector(&selector, found, channels.as_slice())
+    check_selector(&selector, found, &channels)
 }
 
 /// Judges a source.
 pub fn check_source(
     place: &Place<'_>,
     found: &mut Findings,
-    channels: &[&str],
+    channels: &IndexSet<&str>,
 ) -> Result<(), AllocError>
-    ensures { OnOk result (Adds (seen found.old) (seen found.new) (source place.now.properties.now (texts channels.now) place.now.front.now)) }
+    ensures { OnOk result (Adds (seen found.old) (seen found.new) (source place.now.properties.now (texts channels.now.keys) place.now.front.now)) }
 {
     check_rows(place, found, &KIND)?;
     check_names(place, found, "channels", channels)?;

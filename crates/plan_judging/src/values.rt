@@ -5,7 +5,9 @@ ghost use Rattle.std.specs.Str.{IsCharBoundary};
 ghost use Rattle.prop_text.specs.Lines.{is_white_space};
 ghost use Rattle.prop_text.specs.Views.{texts};
 ghost use Rattle.plan_judging.specs.Words.{words, listed, trimmed_names, is_word, is_among, all_among, has_twice, number_in, truth_of};
+ghost use Rattle.plan_judging.specs.Components.{once};
 
+use indexmap::IndexSet;
 use std::alloc::{AllocError, Global};
 use std::str;
 
@@ -89,20 +91,15 @@ pub fn push_listed(alloc: Global, names: &mut Vec<String>, list: &str) -> Result
 }
 
 /// Whether the name is among the names.
-pub fn is_among(name: &str, names: &[&str]) -> bool
-    ensures { result ≡ is_among name.now (texts names.now) }
+pub fn is_among(name: &str, names: &IndexSet<&str>) -> bool
+    ensures { result ≡ is_among name.now (texts names.now.keys) }
 {
-    for other in names {
-        if name == *other {
-            return true;
-        }
-    }
-    false
+    names.contains(name)
 }
 
 /// Whether each of the names is among the others.
-pub fn all_among(names: &[&str], others: &[&str]) -> bool
-    ensures { result ≡ all_among (texts names.now) (texts others.now) }
+pub fn all_among(names: &[&str], others: &IndexSet<&str>) -> bool
+    ensures { result ≡ all_among (texts names.now) (texts others.now.keys) }
 {
     for name in names {
         if !is_among(name, others) {
@@ -112,16 +109,23 @@ pub fn all_among(names: &[&str], others: &[&str]) -> bool
     true
 }
 
-/// Whether some name stands twice.
-pub fn has_twice(names: &[&str]) -> bool
-    ensures { result ≡ has_twice (texts names.now) }
+/// The names, each once, where it stands first.
+pub fn once<'a>(alloc: Global, names: &[&'a str]) -> Result<IndexSet<&'a str>, AllocError>
+    ensures { IfOk result (λ kept. texts kept.keys ≡ once (texts names.now)) }
 {
-    for (place, name) in names.iter().enumerate() {
-        if is_among(name, &names[place + 1..]) {
-            return true;
-        }
+    let mut kept = IndexSet::new(alloc);
+    for name in names {
+        kept.insert(*name)?;
     }
-    false
+    Ok(kept)
+}
+
+/// Whether some name stands twice.
+pub fn has_twice(alloc: Global, names: &[&str]) -> Result<bool, AllocError>
+    ensures { IfOk result (λ twice. twice ≡ has_twice (texts names.now)) }
+{
+    let kept = once(alloc, names)?;
+    Ok(kept.len() < names.len())
 }
 
 /// A decimal number without sign that is at most 18,446,744,073,709,551,615.

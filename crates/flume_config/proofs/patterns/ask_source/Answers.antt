@@ -9,5 +9,5 @@ returns c =
     let front = front_of c.args.agent.now.name.now (codes ".sources.") c.args.name.now in
     let front_is : c.as_str.result.now ≡ front = c.as_str.ensures.value ∙ c.in_ok-front.ensures in
     let names_are : texts c.as_slice.result.now ≡ names_in pairs (front ++ codes "interceptors") =
-    ap texts c.as_slice.ensures.value ∙ c.in_ok-names.ensures ∙ ap (λ (x : List ℕ). names_in pairs (x ++ codes "interceptors")) front_is in
+    ap texts c.as_slice.ensures.keys ∙ c.in_ok-names.ensures ∙ ap (λ (x : List ℕ). names_in pairs (x ++ codes "interceptors")) front_is in
     rw (front_is, names_are) at c.ask_steps.ensures

@@ -4,4 +4,4 @@ use Rattle.flume_config.proofs.Making.{Makes}
 use Rattle.flume_config.proofs.planning.groups.Given as goal
 
 abbrev pub invariant-loop-name : goal.invariant-loop-name
-invariant-loop-name l = Makes (GroupNamed l.agent.properties.now l.agent.name.now (texts l.sinks)) l.name-index l.names l.plans.items
+invariant-loop-name l = Makes (GroupNamed l.agent.properties.now l.agent.name.now (texts l.sinks.keys)) l.name-index l.names l.plans.items

@@ -6,5 +6,5 @@ use Rattle.flume_config.proofs.routing.mapped.Given as goal
 
 abbrev pub invariant-loop-at : goal.invariant-loop-at
 invariant-loop-at l =
-    map seen_pair l.found.items ++ flat_map (mapped_at (texts l.channels) (l.place.front.now ++ l.key)) (drop l.at l.place.properties.now)
-    ≡ mapped l.place.properties.now (texts l.channels) (l.place.front.now ++ l.key)
+    map seen_pair l.found.items ++ flat_map (mapped_at (texts l.channels.keys) (l.place.front.now ++ l.key)) (drop l.at l.place.properties.now)
+    ≡ mapped l.place.properties.now (texts l.channels.keys) (l.place.front.now ++ l.key)

@@ -1,8 +1,12 @@
-use Rattle.std.proofs.Common.{drop}
-use Rattle.plan_judging.specs.Candidates.{Adds, Seen, seen}
-use Rattle.plan_judging.specs.Claims.{clashes, wishes}
+use Rattle.std.proofs.Common.{◌≡◌, take}
+use Rattle.plan_judging.specs.Candidates.{seen}
+use Rattle.plan_judging.specs.Claims.{wishes}
+use Rattle.plan_judging.proofs.Clashes.{with_line, least_clash, HasLines}
 use Rattle.plan_judging.proofs.claims.check_claims.Given as goal
 
--- the clashes of what is left complete those of all
-abbrev pub invariant-loop-place : goal.invariant-loop-place
-invariant-loop-place l = record { rest : (end : Seen) → Adds (seen l.found) end (clashes (wishes (drop l.place l.claims))) → Adds (seen l.fn.found) end (clashes (wishes l.claims)) }
+-- the clashes so far are told, and the least line of each claim so far is kept
+abbrev pub invariant-loop-claim : goal.invariant-loop-claim
+invariant-loop-claim l = record {
+  told : seen l.found ≡ with_line (seen l.fn.found) (least_clash (wishes (take l.claim-index l.claims)));
+  lines : HasLines l.lines (wishes (take l.claim-index l.claims));
+}

@@ -8,5 +8,5 @@ pub returns : goal.returns
 returns c =
     let pairs = c.args.place.now.properties.now in
     let names : texts c.as_slice.result.now ≡ names_in pairs (c.args.place.now.front.now ++ codes "serializers") =
-    ap texts c.as_slice.ensures.value ∙ c.in_ok-names.ensures in
+    ap texts c.as_slice.ensures.keys ∙ c.in_ok-names.ensures in
     join_last _ _ _ (join c.in_ok-check_rows.ensures c.in_ok-check_list.ensures) (rw names at c.check_serializers.ensures)

@@ -2,7 +2,12 @@ use Rattle.plan_judging.proofs.Joins.{join, join_last, claims_join, claims_last}
 use Rattle.plan_judging.proofs.judging.judge_components.Goals as goal
 
 pub returns : goal.returns
-returns c = record {
-  judged = join_last _ _ _ (join (join c.in_ok-judge_sources.ensures.judged c.in_ok-judge_channels.ensures.judged) c.in_ok-judge_sinks.ensures.judged) c.judge_groups.ensures.judged;
-  claimed = claims_last _ _ _ (claims_join (claims_join c.in_ok-judge_sources.ensures.claimed c.in_ok-judge_channels.ensures.claimed) c.in_ok-judge_sinks.ensures.claimed) c.judge_groups.ensures.claimed;
-}
+returns c =
+    let sources = rw c.as_slice.ensures.keys at c.in_ok-judge_sources.ensures in
+    let channels = rw c.as_slice-2.ensures.keys at c.in_ok-judge_channels.ensures in
+    let sinks = rw c.as_slice-3.ensures.keys at c.in_ok-judge_sinks.ensures in
+    let groups = rw c.as_slice-4.ensures.keys at c.judge_groups.ensures in
+    record {
+      judged = join_last _ _ _ (join (join sources.judged channels.judged) sinks.judged) groups.judged;
+      claimed = claims_last _ _ _ (claims_join (claims_join sources.claimed channels.claimed) sinks.claimed) groups.claimed;
+    }

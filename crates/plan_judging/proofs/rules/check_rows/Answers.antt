@@ -1,7 +1,6 @@
-use Rattle.std.proofs.Common.{[], false, ap, subst}
+use Rattle.std.proofs.Common.{[], false}
 use Rattle.std.proofs.lemmas.List.{drop_more}
 use Rattle.plan_judging.specs.declared.rules.Rule.TheVariants.{Text}
-use Rattle.plan_judging.specs.Candidates.{Candidates, Adds, seen}
 use Rattle.plan_judging.proofs.Joins.{goes_on, ends, rows_each}
 use Rattle.plan_judging.proofs.rules.check_rows.Goals as goal
 

@@ -6,4 +6,4 @@ use Rattle.plan_judging.proofs.Joins.{Goes}
 use Rattle.plan_judging.proofs.selecting.check_mapped.Given as goal
 
 abbrev pub invariant-loop-at : goal.invariant-loop-at
-invariant-loop-at l = Goes (channels_key (l.place.front.now ++ l.key) (texts l.channels)) l.at l.place.properties.now (seen l.fn.found) (seen l.found)
+invariant-loop-at l = Goes (channels_key (l.place.front.now ++ l.key) (texts l.channels.keys)) l.at l.place.properties.now (seen l.fn.found) (seen l.found)
