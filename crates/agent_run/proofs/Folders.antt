@@ -28,7 +28,7 @@ use Rattle.agent_channels.specs.declared.wish.ChannelWish.{ChannelWish}
 use Rattle.channel_lock.specs.Turns.{HasAll}
 use Rattle.run_tracks.specs.Closes.{IsClosed}
 use Rattle.run_tracks.specs.Stops.{IsKept, KeptIf}
-use Rattle.agent_run.specs.FoldersTold.{EndsKept, FolderTold, FoldersAreApart, FoldersTold, file_of, folder_of, limits_of}
+use Rattle.agent_run.specs.FoldersTold.{EndsKept, FolderRan, FolderTold, FoldersAreApart, FoldersRan, FoldersTold, file_of, folder_of, limits_of}
 use Rattle.agent_run.specs.Keepers.{closes}
 use Rattle.agent_run.specs.RolledTold.{CountsMore}
 use Rattle.agent_run.specs.Run.{IsAtRest}
@@ -67,22 +67,27 @@ limits_are plan many wish is =
 module _ {D M S C : Type 0} (told : D → Option Told) (faults : D → ℕ) (moment : D × FileState → ℕ) (laid : D × FileState → State → Type 0) (pruned : D × FileState → Type 0) (memory : M → Opening → List Step → Type 0) (tells' : M → Bool)
     (Drained : SinkWorker AtHome S C → List Known → ChannelDrain → S → List Known → Type 0) (plans : List ChannelPlan) where
   -- what a closed channel on a disk says of its folder
-  folder_left : (limits : Limits) (closes : Bool) (before : Option Told) (p : Known) (e : EitherClosed (D × FileState) M) → (left : IsDiskLeft (Stands told faults) (tells_of told) memory tells' p e)
-      → BeginsOnDisk limits before p.view.base → (state_seen p.view).broken ≡ false → IsAtRest told faults e → (closes ≡ true → CountsMore (length p.view.seen) → EndsKept p.view.seen)
-      → FolderTold limits closes before (told left.of.channel.0) (at_rest p)
-  folder_left limits closes before p e left begins whole rests kept =
+  folder_ran : (limits : Limits) (before : Option Told) (p : Known) (e : EitherClosed (D × FileState) M) → (left : IsDiskLeft (Stands told faults) (tells_of told) memory tells' p e)
+      → BeginsOnDisk limits before p.view.base → FolderRan limits before (told left.of.channel.0) (at_rest p)
+  folder_ran limits before p e left begins =
       let c = left.of.channel in
       let all = left.stands in
-      let rest : Shows (StandsOver (told c.0) (faults c.0) c.1) (Rests (told c.0)) = subst (IsAtRest told faults) left.same rests in
       record {
         begins = begins;
         tells = sym all.1.tells ∙ begins.tells;
         run = left.run;
         images = counted_calls_leave (told c.0) (faults c.0) c.1 p.view.base p.view.seen (all.0, all.1, all.2);
-        whole = whole;
-        rests = subst (Rests (told c.0)) all.3.state (rest p.view.base all.0 all.1);
-        kept = kept;
       }
+
+  -- and one that was left whole
+  folder_left : (closes : Bool) (p : Known) (e : EitherClosed (D × FileState) M) → (left : IsDiskLeft (Stands told faults) (tells_of told) memory tells' p e)
+      → (state_seen p.view).broken ≡ false → IsAtRest told faults e → (closes ≡ true → CountsMore (length p.view.seen) → EndsKept p.view.seen)
+      → FolderTold closes (told left.of.channel.0) (at_rest p)
+  folder_left closes p e left whole rests kept =
+      let c = left.of.channel in
+      let all = left.stands in
+      let rest : Shows (StandsOver (told c.0) (faults c.0) c.1) (Rests (told c.0)) = subst (IsAtRest told faults) left.same rests in
+      record { whole = whole; rests = subst (Rests (told c.0)) all.3.state (rest p.view.base all.0 all.1); kept = kept }
 
   module _ (r : Course told faults moment laid pruned memory tells' Drained plans) where
     -- no channel on a disk was left broken
@@ -117,10 +122,15 @@ module _ {D M S C : Type 0} (told : D → Option Told) (faults : D → ℕ) (mom
         (all_go_on r.homes r.settles.drained r.settles.goes_on all place d low) is.keeps (r.settles.mends.each place s d d (Ok false) between).mends
         (subst (λ (h : List Step). CountsMore (length h)) seen counted))
 
-    -- so it is of each folder
-    pub folders_told : FoldersAreApart plans → All (λ (p : Known). HasAll p.view) r.homes → AllByRecursion IsWell r.settled.mends.items → All (IsAtRest told faults) r.settled.closed.items → (sunk last : HostTold)
-        → DisksBack (backs_of told faults r.wishes r.settled.closed.items) sunk last → FoldersTold plans r.before.folders last.folders (map pass_of r.settled.closed.items)
-    folders_told apart full well rests sunk last back place plan final path below named =
+    -- What is so of each closed channel that is on a disk is so of the folder of each channel of the plan.
+    at_folder : FoldersAreApart plans → (sunk last : HostTold) → DisksBack (backs_of told faults r.wishes r.settled.closed.items) sunk last
+        → (place : ℕ) (plan : ChannelPlan) (final : Known) (path : List ℕ) → place < length plans → folder_of (get_or plans place plan).kind ≡ Some path → (P : Limits → Option Told → Known → Type 0)
+        → ((w : ChannelWish) (d : Known) (e : EitherClosed (D × FileState) M) → place < length r.settled.closed.items → ((s : EitherShared (D × FileState) M) → IsDisk (get_or r.shares place s))
+        → BeginsOnDisk (get_or r.wishes place w).limits (r.before.folders.disks path) (get_or r.settles.counted place d).view.base
+        → (left : IsDiskLeft (Stands told faults) (tells_of told) memory tells' (get_or r.settles.counted place d) (get_or r.settled.closed.items place e))
+        → P (get_or r.wishes place w).limits (told left.of.channel.0) (at_rest (get_or r.settles.counted place d)))
+        → P (limits_of (get_or plans place plan)) (last.folders.disks path) (get_or (map pass_of r.settled.closed.items) place final)
+    at_folder apart sunk last back place plan final path below named P each =
         let ends = r.settled.closed.items in
         let few = closed_are_many told faults moment laid pruned memory tells' Drained plans r in
         let under : place < length ends = omega (arith, below, few) in
@@ -149,6 +159,20 @@ module _ {D M S C : Type 0} (told : D → Option Told) (faults : D → ℕ) (mom
         let passes = finals_are (Stands told faults) (tells_of told) memory tells' r.shares r.settles.counted ends r.settles.closed in
         let same : get_or (map pass_of ends) place final ≡ at_rest p =
         ap (λ (l : List Known). get_or l place final) passes ∙ get_or-map at_rest r.settles.counted place d final low in
-        let told_so = folder_left (get_or r.wishes place w).limits (closes (get_or plans place plan).kind) (r.before.folders.disks path) p (get_or ends place e0) left
-        (subst (BeginsOnDisk (get_or r.wishes place w).limits (r.before.folders.disks path)) (sym base) began.0) (whole_left well place d below on) (rests place e0 under) (kept_at full place plan d below on) in
-        subst (λ (x : Limits × Option Told × Known). FolderTold x.0 (closes (get_or plans place plan).kind) (r.before.folders.disks path) x.1 x.2) (λ i. (limits i, sym after i, sym same i)) told_so
+        let begins = subst (BeginsOnDisk (get_or r.wishes place w).limits (r.before.folders.disks path)) (sym base) began.0 in
+        subst (λ (x : Limits × Option Told × Known). P x.0 x.1 x.2) (λ i. (limits i, sym after i, sym same i)) (each w d e0 under on begins left)
+
+    -- so each folder is told of, however the run ended
+    pub folders_ran : FoldersAreApart plans → (sunk last : HostTold) → DisksBack (backs_of told faults r.wishes r.settled.closed.items) sunk last
+        → FoldersRan plans r.before.folders last.folders (map pass_of r.settled.closed.items)
+    folders_ran apart sunk last back place plan final path below named =
+        at_folder apart sunk last back place plan final path below named (λ limits after pass. FolderRan limits (r.before.folders.disks path) after pass)
+        (λ w d e under on begins left. folder_ran (get_or r.wishes place w).limits (r.before.folders.disks path) (get_or r.settles.counted place d) (get_or r.settled.closed.items place e) left begins)
+
+    -- and where it ended well
+    pub folders_told : FoldersAreApart plans → All (λ (p : Known). HasAll p.view) r.homes → AllByRecursion IsWell r.settled.mends.items → All (IsAtRest told faults) r.settled.closed.items → (sunk last : HostTold)
+        → DisksBack (backs_of told faults r.wishes r.settled.closed.items) sunk last → FoldersTold plans last.folders (map pass_of r.settled.closed.items)
+    folders_told apart full well rests sunk last back place plan final path below named =
+        at_folder apart sunk last back place plan final path below named (λ limits after pass. FolderTold (closes (get_or plans place plan).kind) after pass)
+        (λ w d e under on begins left. folder_left (closes (get_or plans place plan).kind) (get_or r.settles.counted place d) (get_or r.settled.closed.items place e) left (whole_left well place d below on)
+        (rests place e under) (kept_at full place plan d below on))

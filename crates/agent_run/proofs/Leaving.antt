@@ -55,7 +55,7 @@ use Rattle.agent_run.specs.DialedTold.{DialsTold}
 use Rattle.agent_run.specs.DrainedTold.{DrainedTold}
 use Rattle.agent_run.specs.Draining.{IsDrainedAt}
 use Rattle.agent_run.specs.Ends.{IsSinkEnded}
-use Rattle.agent_run.specs.FoldersTold.{FoldersAreApart, FoldersTold}
+use Rattle.agent_run.specs.FoldersTold.{FoldersAreApart, FoldersRan, FoldersTold}
 use Rattle.agent_run.specs.Histories.{IsSinkTold}
 use Rattle.agent_run.specs.Joined.{HaveReturned}
 use Rattle.agent_run.specs.Lists.{NamesOf}
@@ -85,7 +85,7 @@ use Rattle.agent_run.proofs.Comeback.{opened_state}
 use Rattle.agent_run.proofs.Course.{Course, Stands, closed_are_many, tells_of}
 use Rattle.agent_run.proofs.Dialing.{IsSameSink, sinks_stay, some_share}
 use Rattle.agent_run.proofs.Emptied.{drained_told}
-use Rattle.agent_run.proofs.Folders.{folders_told}
+use Rattle.agent_run.proofs.Folders.{folders_ran, folders_told}
 use Rattle.agent_run.proofs.Joining.{zips_long}
 use Rattle.agent_run.proofs.Parting.{took_at}
 use Rattle.agent_run.proofs.Reports.{report_told}
@@ -173,10 +173,22 @@ module _ {R D P Q G N I O C K : Type 0} (rolled : R → Option Rolled) (dial : D
         settles = goes.settles;
       }
 
+  -- However a run ended, the folders of its channels are told of.
+  pub run_folders : FoldersAreApart plan.channels.items → (ends : RunEnds) (channels : List ChannelEnd) (a b : HostTold) → Ran ends channels a b
+      → FoldersRan plan.channels.items a.folders b.folders (map (λ (end : ChannelEnd). end.pass) channels)
+  unfolding course
+  run_folders apart ends channels a b ran =
+      let goes = ran.ran.goes in
+      let back = goes.back in
+      let r = course ends channels a b ran in
+      subst (FoldersRan plan.channels.items a.folders b.folders) (sym goes.passes)
+      (subst (λ (f : Folders). FoldersRan plan.channels.items a.folders f (map pass_of goes.settled.closed.items)) (sym back.folders)
+      (folders_ran told faults moment laid pruned memory tells' (IsDrainedAt sink moments) plan.channels.items r apart back.behind_sinks back.behind_disks back.disks))
+
   -- Where the workers that came back are those that ran, a run that ended well left so much.
   pub run_left : ((manned : _) (homes : List Known) (joined : _) (s t : HostState) → Joins manned homes joined s t → Zips IsSameChannel manned.crew.jobs.sinks.items joined.sinks.items)
       → FoldersAreApart plan.channels.items → (ends : RunEnds) (channels : List ChannelEnd) (a b : HostTold) → (ran : Ran ends channels a b) → run_status ends ≡ 0
-      → RunLeft plan ran.rows ends ran.ran.goes.homes ran.ran.goes.behind.output (map (λ (end : ChannelEnd). end.pass) channels) a b
+      → RunLeft plan ran.rows ends ran.ran.goes.homes ran.ran.goes.behind.output (map (λ (end : ChannelEnd). end.pass) channels) b
   unfolding course
   run_left same apart ends channels a b ran good =
       let goes = ran.ran.goes in
@@ -191,10 +203,10 @@ module _ {R D P Q G N I O C K : Type 0} (rolled : R → Option Rolled) (dial : D
       let many : length workers ≡ length rows = zips_long (λ (s : SinkRow) (w : SinkWorker AtHome (Runner (AgentSink R P Q) G) C). w.channel ≡ s.channel) rows workers both in
       let finals = length-map goes.settled.closed.items pass_of ∙ closed_are_many told faults moment laid pruned memory tells' (IsDrainedAt sink moments) plan.channels.items r in
       let well = subst (λ (v : Vec (Result Bool OpenCause) Global). AllByRecursion IsWell v.items) goes.mends (were_mended ends good) in
-      subst (λ (l : List Known). RunLeft plan rows ends goes.homes goes.behind.output l a b) (sym goes.passes)
+      subst (λ (l : List Known). RunLeft plan rows ends goes.homes goes.behind.output l b) (sym goes.passes)
       (record {
         many = finals;
-        folders = subst (λ (f : Folders). FoldersTold plan.channels.items a.folders f (map pass_of goes.settled.closed.items)) (sym back.folders)
+        folders = subst (λ (f : Folders). FoldersTold plan.channels.items f (map pass_of goes.settled.closed.items)) (sym back.folders)
             (folders_told told faults moment laid pruned memory tells' (IsDrainedAt sink moments) plan.channels.items r apart goes.all well back.rests back.behind_sinks back.behind_disks back.disks);
         report = report_told told faults moment laid pruned memory tells' (IsDrainedAt sink moments) plan.channels.items r goes.joined.streams.output_failed ends.report goes.behind.output back.behind_disks.state b.state
             (ap (λ (s : HostState). s.output) back.disks.state ∙ ap (λ (s : HostState). s.output) back.dials.state) (was_reported ends good) back.report;

@@ -41,6 +41,7 @@ use Rattle.agent_run.specs.StagedTold.{StagedTold}
 use Rattle.agent_run.specs.Wholes.{AreBeside, IsSinkWhole, LinesStayTold}
 use Rattle.agent_run.specs.RunDid.{RunDid, Steps, passes_of}
 use Rattle.agent_run.specs.MembersTold.{MembersTold}
+use Rattle.agent_run.specs.FoldersTold.{FoldersRan}
 use Rattle.agent_run.specs.RunLeft.{RunLeft}
 use Rattle.agent_run.specs.declared.homes.AtHome.{AtHome}
 use Rattle.agent_run.specs.declared.opening.Manned.{Manned}
@@ -88,12 +89,13 @@ module _ {R A B S N I O C K : Type 0} (runs : Runs (EitherPort R A B) S N I O C 
 
   -- Where a run ended well, nothing is staged in the channels that are in folders.
   staged_told : (ends : RunEnds) (channels : List ChannelEnd) (a b : HostTold) (ran : Made ends channels a b)
-      → RunLeft plan ran.rows ends ran.ran.goes.homes ran.ran.goes.behind.output (finals_of ran.ran.goes.settled) a b
+      → FoldersRan plan.channels.items a.folders b.folders (finals_of ran.ran.goes.settled)
+      → RunLeft plan ran.rows ends ran.ran.goes.homes ran.ran.goes.behind.output (finals_of ran.ran.goes.settled) b
       → AreTold runs sink Means moments heard (talk_of left read_faults took handed write_faults) ran.ran.goes.manned.crew.shares.items ran.ran.goes.homes ran.ran.goes.manned.crew.jobs ran.ran.goes.joins.returned
       → AreToldInFull sink Means moments heard (talk_of left read_faults took handed write_faults) ran.ran.goes.manned.crew.shares.items ran.ran.goes.homes (finals_of ran.ran.goes.settled)
       ran.ran.goes.manned.crew.jobs ran.ran.goes.joins.returned ran.ran.goes.settled
       → StagedTold plan.channels.items (finals_of ran.ran.goes.settled)
-  staged_told ends channels a b ran well_left told full place one final path low has counted =
+  staged_told ends channels a b ran folders well_left told full place one final path low has counted =
       let o = ran.ran in
       let r = o.goes in
       let is = r.is_manned in
@@ -104,7 +106,8 @@ module _ {R A B S N I O C K : Type 0} (runs : Runs (EitherPort R A B) S N I O C 
       let jobs = r.manned.crew.jobs in
       let finals = finals_of r.settled in
       let wishes = ran.made.wishes.items in
-      let folder = well_left.folders place one final path low has in
+      let folder = folders place one final path low has in
+      let left = well_left.folders place one final path low has in
       let below : place < length firsts = let m = well_left.many in let g = full.goes_on.as_many in let t = r.took.as_many in omega (arith, low, m, g, t) in
       let some = there shares place (let m = is.homes.as_many in omega (arith, below, m)) in
       let homes_of : firsts ≡ map (λ (c : OpenedChannel A B). c.home) ran.channels = is.at_home ∙ ap (map (λ (c : OpenedChannel A B). c.home)) o.same_channels in
@@ -125,7 +128,7 @@ module _ {R A B S N I O C K : Type 0} (runs : Runs (EitherPort R A B) S N I O C 
       let all_away = all_split (IsAway firsts) (keep_owners jobs.keepers.items) _ (recursion_from_All (IsAway firsts) (owners_of jobs) is.alone.away) in
       let away = all_split (IsAway firsts) (sink_owners jobs.sinks.items) _ all_away.1 in
       staged_none sink moments disk tells moment laid pruned memory tells' shares firsts r.homes r.joined.sinks.items r.manned.closes.items r.manned.settled.report.items r.settled r.settles is.homes.as_many r.named r.took fresh
-      (owners_of jobs) is.dealt full.goes_on owned jobs.sinks.items sinks away.0 place final below _ folder.run folder.whole counted
+      (owners_of jobs) is.dealt full.goes_on owned jobs.sinks.items sinks away.0 place final below _ folder.run left.whole counted
 
   -- Steps are told of in all whose sinks took so much by what the workers called, whose status has its causes, and whose folders, report and
   -- drainings are told of at status 0.
@@ -134,8 +137,9 @@ module _ {R A B S N I O C K : Type 0} (runs : Runs (EitherPort R A B) S N I O C 
       ran.ran.goes.settled.ends.items ran.ran.goes.settled.sinks.items
       → MembersTold delivers objects plan.sinks.items ran.rows ran.ran.goes.manned.crew.jobs.sinks.items (passes_of channels) a b)
       → CausesTold plan (run_status ends) (passes_of channels) a.state b.state
-      → (run_status ends ≡ 0 → RunLeft plan ran.rows ends ran.ran.goes.homes ran.ran.goes.behind.output (passes_of channels) a b) → Did delivers objects ends channels a b
-  run_did delivers objects ends channels a b ran members causes after =
+      → FoldersRan plan.channels.items a.folders b.folders (passes_of channels)
+      → (run_status ends ≡ 0 → RunLeft plan ran.rows ends ran.ran.goes.homes ran.ran.goes.behind.output (passes_of channels) b) → Did delivers objects ends channels a b
+  run_did delivers objects ends channels a b ran members causes folders after =
       let o = ran.ran in
       let r = o.goes in
       let j = r.joins in
@@ -156,6 +160,7 @@ module _ {R A B S N I O C K : Type 0} (runs : Runs (EitherPort R A B) S N I O C 
         full = whole;
         members = members whole.sinks;
         causes = causes;
+        folders = folders;
         workers = λ zero. (did zero).0;
         served = λ zero. record {
           dialogue = λ job one.
@@ -163,6 +168,7 @@ module _ {R A B S N I O C K : Type 0} (runs : Runs (EitherPort R A B) S N I O C 
               (did zero).1 (passes_of channels) job lines one;
         };
         staged = λ zero. subst (StagedTold plan.channels.items) (sym r.passes)
-            (staged_told ends channels a b ran (subst (λ (l : List Known). RunLeft plan ran.rows ends r.homes r.behind.output l a b) r.passes (after zero)) (did zero).0 full);
+            (staged_told ends channels a b ran (subst (FoldersRan plan.channels.items a.folders b.folders) r.passes folders)
+            (subst (λ (l : List Known). RunLeft plan ran.rows ends r.homes r.behind.output l b) r.passes (after zero)) (did zero).0 full);
         left_behind = after;
       }

@@ -52,23 +52,31 @@ pub record EndsKept (calls : List Step) : Type 0 where
 
 -- Of a folder the host told this before a run and that after it, by the pass that has seen all calls of the folder's channel. The
 -- channel began with what the folder opened to, and its calls were answered as the machine answers them. Whatever a crash left of the
--- folder at a moment since then opens to something that the calls up to that moment may leave. In the end the channel was not broken,
--- and whatever a crash now leaves opens to just what is settled. Where the plan says so, its calls end with a checkpoint and a removal of
--- old files, as long as they are counted.
-pub record FolderTold (limits : Limits) (closes : Bool) (before after : Option Told) (final : Known) : Type 0 where
+-- folder at a moment since then opens to something that the calls up to that moment may leave.
+pub record FolderRan (limits : Limits) (before after : Option Told) (final : Known) : Type 0 where
   pub begins : BeginsOnDisk limits before final.view.base
   pub tells : is_some_of after ≡ is_some_of before
   pub run : IsRun (is_some_of after) (opening final.view.base) final.view.seen
   pub images : LeavesAtEach after final.view.base final.view.seen
+
+-- So it is of the folder of each channel of the plan, however the run ended.
+abbrev pub FoldersRan : List ChannelPlan → Folders → Folders → List Known → Type 0
+FoldersRan plans before after finals =
+    (place : ℕ) (plan : ChannelPlan) (final : Known) (path : List ℕ) → place < length plans → folder_of (slice_index_or plans place plan).kind ≡ Some path
+    → FolderRan (limits_of (slice_index_or plans place plan)) (before.disks path) (after.disks path) (slice_index_or finals place final)
+
+-- In the end the channel was not broken, and whatever a crash now leaves of its folder opens to just what is settled. Where the plan says
+-- so, its calls end with a checkpoint and a removal of old files, as long as they are counted.
+pub record FolderTold (closes : Bool) (after : Option Told) (final : Known) : Type 0 where
   pub whole : (state_seen final.view).broken ≡ false
   pub rests : Rests after (state_seen final.view)
   pub kept : closes ≡ true → CountsMore (length final.view.seen) → EndsKept final.view.seen
 
--- So it is of the folder of each channel of the plan.
-abbrev pub FoldersTold : List ChannelPlan → Folders → Folders → List Known → Type 0
-FoldersTold plans before after finals =
+-- So it is of the folder of each channel of the plan where the run ended well.
+abbrev pub FoldersTold : List ChannelPlan → Folders → List Known → Type 0
+FoldersTold plans after finals =
     (place : ℕ) (plan : ChannelPlan) (final : Known) (path : List ℕ) → place < length plans → folder_of (slice_index_or plans place plan).kind ≡ Some path
-    → FolderTold (limits_of (slice_index_or plans place plan)) (closes (slice_index_or plans place plan).kind) (before.disks path) (after.disks path) (slice_index_or finals place final)
+    → FolderTold (closes (slice_index_or plans place plan).kind) (after.disks path) (slice_index_or finals place final)
 
 -- no two channels of a plan are in one folder
 abbrev pub FoldersAreApart : List ChannelPlan → Type 0

@@ -30,6 +30,7 @@ use Rattle.agent_run.specs.Causes.{CausesTold}
 use Rattle.agent_run.specs.Dialogue.{IsDialogue}
 use Rattle.agent_run.specs.Draining.{IsDrainedAt}
 use Rattle.agent_run.specs.Finals.{AreToldInFull}
+use Rattle.agent_run.specs.FoldersTold.{FoldersRan}
 use Rattle.agent_run.specs.Joined.{AreTold, HaveReturned, IsJoined}
 use Rattle.agent_run.specs.Labels.{AreLabels, label_of, users_of}
 use Rattle.agent_run.specs.MembersTold.{MembersTold}
@@ -90,8 +91,9 @@ module _ {R A B S N I O C K : Type 0} (runs : Runs (EitherPort R A B) S N I O C 
       -- worker of a channel on a disk, of each row of sinks, of each session and of the worker of lines are all calls with their numbers;
       -- each batch that the calls of a row commit was taken by one of its sinks; the folders of rolled files hold what their sinks took, the
       -- links of Avro sinks took the requests of what these took, and each sink that was handed in was handed what it took. It is told why
-      -- the status is what it is. At status 0 the workers ran, standard input had its dialogue, nothing is staged in a folder's channel, and
-      -- it is told what the channels' folders hold, what the report says, and which sinks emptied their channels.
+      -- the status is what it is, and what a crash at each moment leaves of the channels' folders. At status 0 the workers ran, standard
+      -- input had its dialogue, nothing is staged in a folder's channel, and it is told what these folders hold in the end, what the report
+      -- says, and which sinks emptied their channels.
       pub record RunDid (ends : RunEnds) (channels : List ChannelEnd) (a b : HostTold) : Type 0 where
         pub steps : Steps ends channels a b
         pub labels : AreLabels (users_of plan steps.made.keepers.items steps.rows steps.made.listeners.items steps.made.lines.items) 0 plan.channels.items (map label_of channels)
@@ -101,9 +103,10 @@ module _ {R A B S N I O C K : Type 0} (runs : Runs (EitherPort R A B) S N I O C 
             steps.ran.goes.manned.crew.jobs steps.ran.goes.joins.returned steps.ran.goes.settled
         pub members : MembersTold delivers objects plan.sinks.items steps.rows steps.ran.goes.manned.crew.jobs.sinks.items (passes_of channels) a b
         pub causes : CausesTold plan (run_status ends) (passes_of channels) a.state b.state
+        pub folders : FoldersRan plan.channels.items a.folders b.folders (passes_of channels)
         pub workers : run_status ends ≡ 0
             → AreTold runs sink Means moments heard talk steps.ran.goes.manned.crew.shares.items steps.ran.goes.homes steps.ran.goes.manned.crew.jobs steps.ran.goes.joins.returned
         pub served : run_status ends ≡ 0 → AreServed (passes_of channels) steps.ran.goes.manned.crew.shares.items steps.ran.goes.manned.crew.jobs.lines.items
             steps.ran.between.state steps.ran.goes.joins.behind_lines
         pub staged : run_status ends ≡ 0 → StagedTold plan.channels.items (passes_of channels)
-        pub left_behind : run_status ends ≡ 0 → RunLeft plan steps.rows ends steps.ran.goes.homes steps.ran.goes.behind.output (passes_of channels) a b
+        pub left_behind : run_status ends ≡ 0 → RunLeft plan steps.rows ends steps.ran.goes.homes steps.ran.goes.behind.output (passes_of channels) b

@@ -12,8 +12,8 @@ use Rattle.agent_run.specs.ReportTold.{ReportTold}
 -- A run that ended well left so much, by the passes that saw all calls of its channels, what those at home had seen when the workers were
 -- joined, and what standard output had taken then: it is told what the folders hold, what the report says, and which sinks emptied their
 -- channels.
-pub record RunLeft (plan : Plan) (rows : List SinkRow) (ends : RunEnds) (homes : List Known) (output : Option (List ℕ)) (finals : List Known) (a b : HostTold) : Type 0 where
+pub record RunLeft (plan : Plan) (rows : List SinkRow) (ends : RunEnds) (homes : List Known) (output : Option (List ℕ)) (finals : List Known) (b : HostTold) : Type 0 where
   pub many : length finals ≡ length plan.channels.items
-  pub folders : FoldersTold plan.channels.items a.folders b.folders finals
+  pub folders : FoldersTold plan.channels.items b.folders finals
   pub report : ReportTold plan.channels.items finals output b.state
   pub drained : DrainedTold rows ends.drains.items homes finals

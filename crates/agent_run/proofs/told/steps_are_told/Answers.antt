@@ -7,7 +7,7 @@ use Rattle.avro_ends.specs.declared.sink.AvroSink.{AvroSink}
 use Rattle.agent_run.proofs.Apart.{folders_apart}
 use Rattle.agent_run.proofs.Asking.{agent_asks, agent_stays}
 use Rattle.agent_run.proofs.Boxing.{agent_hands}
-use Rattle.agent_run.proofs.Leaving.{IsSameChannel, returned_channels, run_left, run_members}
+use Rattle.agent_run.proofs.Leaving.{IsSameChannel, returned_channels, run_folders, run_left, run_members}
 use Rattle.agent_run.proofs.Lone.{plan_lone, seats_of}
 use Rattle.agent_run.proofs.Readying.{rows_in_order}
 use Rattle.agent_run.proofs.Reasons.{run_causes}
@@ -64,6 +64,7 @@ returns g c = λ given objects plan ends channels a b planned ran.
     ))
     (λ manned listeners s t is. (ap (λ (s : HostState). s.input) is.back.state, ap (λ (s : HostState). s.faults) is.back.state))
     (gone_back _ _ g.H.Disk.Disk.told g.H.Disk.Disk.faults _) ends channels a b ran)
+    (run_folders _ _ g.H.Disk.Disk.told g.H.Disk.Disk.faults _ _ _ _ _ _ _ plan _ _ _ _ (folders_apart plan planned) ends channels a b ran)
     (λ zero. run_left _ _ g.H.Disk.Disk.told g.H.Disk.Disk.faults _ _ _ _ _ _ _ plan _ _ _ _
     (λ manned homes joined s t is. subst (λ sinks. Zips IsSameChannel manned.crew.jobs.sinks.items sinks.items) (sym is.sinks)
     (returned_channels _ _ _ _ _ _ manned.crew.shares.items homes manned.crew.jobs is.returned is.back)) (folders_apart plan planned) ends channels a b ran zero)
