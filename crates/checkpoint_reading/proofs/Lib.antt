@@ -6,6 +6,7 @@ pub mod Listing
 pub mod Living
 pub mod Naming
 pub mod Opening
+mod Parts
 pub mod Sound
 pub mod Stepping
 pub mod Tabled

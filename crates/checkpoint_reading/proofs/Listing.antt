@@ -18,9 +18,10 @@ use Rattle.channel_log.specs.Pointers.{PutAt}
 use Rattle.checkpoint.specs.Right.{AreOnceAmong, PutOf, number_of}
 use Rattle.checkpoint.specs.Says.{live_at}
 use Rattle.checkpoint.specs.Text.{entry_bytes, pointer_bytes}
+use Rattle.checkpoint_reading.specs.declared.logs.Logs.{Logs}
 use Rattle.checkpoint_reading.specs.declared.draft.Draft.{Draft}
 use Rattle.checkpoint_reading.specs.Fields.{FitsFields, Is64, IsPut}
-use Rattle.checkpoint_reading.specs.Logs.{IsPutIn, IsSized}
+use Rattle.checkpoint_reading.specs.Logs.{IsKnown, IsPutIn, IsSized}
 use Rattle.checkpoint_reading.specs.Opens.{HasPuts, HasTaken, HasTakes, IsListing, Lists, MayList, MayOpen, MayTake, NoEntry, NoList, NoOpen, nothing}
 use Rattle.checkpoint_reading.specs.Reader.{Reader, Takes as Reads, rest}
 use Rattle.checkpoint_reading.proofs.Living.{OnWay, put_of_in}
@@ -196,15 +197,15 @@ entry_read {A} spell told later old mid new txn count items same head list many 
     split t = append_assoc (u64_bytes txn) (u32_bytes (length items) ++ flat_map spell items) (rest t new) ∙ ap (λ (l : List ℕ). u64_bytes txn ++ l) (append_assoc (u32_bytes (length items)) (flat_map spell items) (rest t new))
 
 -- The invariant of the loop over the puts of a transaction.
-pub record PointersOnWay (was told : Option Told) (faulty faults : ℕ) (start now : Reader) (known : Option ℕ) (txn : ℕ) (before d : Draft) (more count : ℕ) : Type 0 where
-  pub way : OnWay was told faulty faults start now known
+pub record PointersOnWay (was told : Option Told) (faulty faults : ℕ) (start now : Reader) (known : Logs) (txn : ℕ) (before d : Draft) (more count : ℕ) : Type 0 where
+  pub way : OnWay was told faulty faults start now (IsKnown told known)
   pub read : List Pointer
   pub has : HasPuts was start now txn before d read
   pub many : length read + more ≡ count
 
 -- The invariant of the loop over the takes of a transaction.
 pub record NumbersOnWay (was told : Option Told) (faulty faults : ℕ) (start now : Reader) (txn : ℕ) (before d : Draft) (more count : ℕ) : Type 0 where
-  pub way : OnWay was told faulty faults start now None
+  pub way : OnWay was told faulty faults start now (Unit {0})
   pub read : List ℕ
   pub has : HasTakes was start now txn before d read
   pub many : length read + more ≡ count

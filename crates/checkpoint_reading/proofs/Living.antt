@@ -17,6 +17,7 @@ use Rattle.checkpoint.specs.Right.{PutIn, PutOf}
 use Rattle.checkpoint.specs.Says.{live_at}
 use Rattle.checkpoint.specs.Text.{CheckText, Rise, live_bytes, pointer_bytes}
 use Rattle.checkpoint_reading.specs.declared.draft.Draft.{Draft}
+use Rattle.checkpoint_reading.specs.declared.logs.Logs.{Logs}
 use Rattle.checkpoint_reading.specs.Draft.{HasLive, IsFresh, IsOf, OpenGive, live_text}
 use Rattle.checkpoint_reading.specs.Fields.{Bad, FitsFields, Is64, IsLive, ListsGive, LiveGive, head_text, with_live}
 use Rattle.checkpoint_reading.specs.Logs.{IsKnown, IsPutIn, IsSized}
@@ -46,13 +47,13 @@ put_of_in files txn p event put = from (files (Log p.file)) put
     from None put' = absurd put'
     from (Some bytes) put' = put'.0
 
--- The state of a reader on its way.
-pub record OnWay (was told : Option Told) (faulty faults : ℕ) (start now : Reader) (known : Option ℕ) : Type 0 where
+-- The state of a reader on its way, and what is known of the log files.
+pub record OnWay (was told : Option Told) (faulty faults : ℕ) (start now : Reader) (Known : Type 0) : Type 0 where
   pub same : told ≡ was
   pub well : faults ≡ faulty
   pub held : Holds told now
   pub file : IsSameFile start now
-  pub known_is : IsKnown told known
+  pub known_is : Known
 
 -- What was read of the events that are left, of which so many are still to come.
 pub record LiveLoop (was : Option Told) (start now : Reader) (place : Place) (next : Next) (d : Draft) (low more : ℕ) : Type 0 where
@@ -123,8 +124,8 @@ pub none_put : (files : Files) (p : Pointer) (txn : Option ℕ) → txn ≡ None
 none_put files p txn same is = subst (λ (o : Option ℕ). IsPutIn files p o) same is
 
 -- The invariant of the loop.
-pub record LiveOnWay (was told : Option Told) (faulty faults : ℕ) (start now : Reader) (known : Option ℕ) (place : Place) (next : Next) (d : Draft) (low more : ℕ) : Type 0 where
-  pub way : OnWay was told faulty faults start now known
+pub record LiveOnWay (was told : Option Told) (faulty faults : ℕ) (start now : Reader) (known : Logs) (place : Place) (next : Next) (d : Draft) (low more : ℕ) : Type 0 where
+  pub way : OnWay was told faulty faults start now (IsKnown told known)
   pub loop : LiveLoop was start now place next d low more
 
 fresh_text : (d : Draft) → IsFresh d.place d.next d → live_text d ≡ head_text d.place d.next

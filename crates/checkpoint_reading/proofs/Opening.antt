@@ -13,10 +13,11 @@ use Rattle.checkpoint.specs.Right.{AreApartFrom, AreOnceAmong, HasSome, all_of, 
 use Rattle.checkpoint.specs.Says.{Says, live_at, puts_at, puts_in, takes_at, takes_in}
 use Rattle.checkpoint.specs.Stands.{Keeps}
 use Rattle.checkpoint.specs.Text.{CheckText, Rise, pointer_bytes}
+use Rattle.checkpoint_reading.specs.declared.logs.Logs.{Logs}
 use Rattle.checkpoint_reading.specs.declared.draft.Draft.{Draft}
 use Rattle.checkpoint_reading.specs.Draft.{HasLive, IsOf, OpenGive, live_text}
 use Rattle.checkpoint_reading.specs.Fields.{Bad, End, IsPut, PutsGive, TakesGive, with_put, with_take}
-use Rattle.checkpoint_reading.specs.Logs.{IsSized}
+use Rattle.checkpoint_reading.specs.Logs.{IsKnown, IsSized}
 use Rattle.checkpoint_reading.specs.Opens.{HasPut, HasRead, HasReadPuts, HasTake, HasTaken, Lists, MayOpen, MayTake, NoEntry, TakenGive, check_of}
 use Rattle.checkpoint_reading.specs.Reader.{Goes, Reader, Takes as Reads, rest}
 use Rattle.checkpoint_reading.proofs.Living.{OnWay}
@@ -214,8 +215,8 @@ pub record PutsLoop (was : Option Told) (start now : Reader) (first d : Draft) (
   pub goes : Goes was start now (λ files o. OpenGive files o (live_text first)) (λ files o. PutsGive files o c low more)
 
 -- The invariant of the loop over open puts.
-pub record PutsOnWay (was told : Option Told) (faulty faults : ℕ) (start now : Reader) (known : Option ℕ) (first d : Draft) (low more : ℕ) : Type 0 where
-  pub way : OnWay was told faulty faults start now known
+pub record PutsOnWay (was told : Option Told) (faulty faults : ℕ) (start now : Reader) (known : Logs) (first d : Draft) (low more : ℕ) : Type 0 where
+  pub way : OnWay was told faulty faults start now (IsKnown told known)
   pub loop : PutsLoop was start now first d low more
 
 some_more : (n : ℕ) → 1 ≤ n → n ≡ suc (n - 1)
@@ -310,7 +311,7 @@ pub record TakesLoop (was : Option Told) (start now : Reader) (first d : Draft) 
 
 -- The state of a reader on its way over the open takes, and the invariant of the loop.
 pub record TakesOnWay (was told : Option Told) (faulty faults : ℕ) (start now : Reader) (first d : Draft) (low more : ℕ) : Type 0 where
-  pub way : OnWay was told faulty faults start now None
+  pub way : OnWay was told faulty faults start now (Unit {0})
   pub loop : TakesLoop was start now first d low more
 
 -- after the count

@@ -1,9 +1,9 @@
 -- What stands at a pointer that a checkpoint lists.
-use Rattle.std.specs.Prelude.{◌≡◌, ◌+◌, ℕ, List, Option, Some, None}
+use Rattle.std.specs.Prelude.{◌≡◌, ◌≤◌, ◌+◌, ◌-◌, ℕ, List, Option, Some, None, length, take, drop}
 use Rattle.flume_host.specs.declared.names.FileName.{FileName}
 use Rattle.flume_host.specs.declared.names.FileName.TheVariants.{Log}
 use Rattle.flume_host.specs.Folder.{Files}
-use Rattle.flume_host.specs.Told.{Told}
+use Rattle.flume_host.specs.Told.{Told, WhereTold}
 use Rattle.event_core.specs.Content.{Content, size}
 use Rattle.record_form.specs.declared.record.Pointer.{Pointer}
 use Rattle.record_form.specs.declared.record.Rec.{Rec}
@@ -11,11 +11,42 @@ use Rattle.record_form.specs.declared.record.Rec.TheVariants.{Put}
 use Rattle.channel_log.specs.Pointers.{PutAt}
 use Rattle.checkpoint.specs.Right.{PutIn, PutOf}
 use Rattle.checkpoint_reading.specs.Reader.{HasLog}
+use Rattle.checkpoint_reading.specs.declared.logs.Logs.{Logs}
 
--- a log file that is known to be there is there
-abbrev pub IsKnown : Option Told → Option ℕ → Type 0
-IsKnown told None = Unit {0}
-IsKnown told (Some file) = HasLog told file
+-- a log file that was found there is there
+abbrev pub IsFound : Option Told → Option ℕ → Type 0
+IsFound told None = Unit {0}
+IsFound told (Some file) = HasLog told file
+
+-- what was read of the file
+abbrev pub held : Logs → List ℕ
+held logs = take logs.filled logs.block.items
+
+-- what was read is what the file has from the offset on, where it is there
+abbrev pub IsPart : Option Told → Option ℕ → ℕ → List ℕ → Type 0
+IsPart told None start part = Unit {0}
+IsPart told (Some file) start part = WhereTold told (λ t. (bytes : List ℕ) → t.reads (Log file) ≡ Some bytes → part ≡ take (length part) (drop start bytes))
+
+-- what was read last of the log files is so
+pub record IsKnown (told : Option Told) (logs : Logs) : Type 0 where
+  pub there : IsFound told logs.file
+  pub filled : logs.filled ≤ length logs.block.items
+  pub part : IsPart told logs.file logs.start (held logs)
+
+-- at most so many bytes from the offset of the file on
+abbrev pub part_of : ℕ → ℕ → Logs → List ℕ
+part_of at size logs = take size (drop (at - logs.start) (held logs))
+
+-- a block was read from the offset on: all of it, or as far as there is
+pub record IsBlock (told : Option Told) (file at : ℕ) (logs : Logs) : Type 0 where
+  pub start : logs.start ≡ at
+  pub part : WhereTold told (λ t. (bytes : List ℕ) → t.reads (Log file) ≡ Some bytes → held logs ≡ take (length logs.block.items) (drop at bytes))
+
+-- so many bytes from the offset on were read, or as many as there are
+pub record HasPart (told : Option Told) (file at size : ℕ) (logs : Logs) : Type 0 where
+  pub from : logs.start ≤ at
+  pub to : at - logs.start ≤ logs.filled
+  pub part : WhereTold told (λ t. (bytes : List ℕ) → t.reads (Log file) ≡ Some bytes → part_of at size logs ≡ take size (drop at bytes))
 
 -- its length is that of an event
 abbrev pub IsSized : Pointer → Type 0

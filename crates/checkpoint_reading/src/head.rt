@@ -4,7 +4,7 @@ ghost use Rattle.checkpoint_reading.specs.Fields.{FormGives, Gives, ListsGive, N
 ghost use Rattle.checkpoint_reading.specs.Logs.{IsKnown};
 ghost use Rattle.checkpoint_reading.specs.Reader.{Faults, Goes, HasLog, Holds, IsHonest, IsSameFile};
 
-use crate::logs::has_log;
+use crate::logs::Logs;
 use crate::reader::CheckReader;
 use crate::refused::CheckReadRefused;
 use checkpoint::{Next, Place};
@@ -56,7 +56,7 @@ fn read_form<D: Disk>(disk: &mut D, reader: &mut CheckReader) -> Result<(), Chec
 fn read_file<D: Disk>(
     disk: &mut D,
     reader: &mut CheckReader,
-    known: &mut Option<u32>,
+    known: &mut Logs,
 ) -> Result<u32, CheckReadRefused>
     requires held { Holds (D.told disk.old) reader.old }
     requires known { IsKnown (D.told disk.old) known.old }
@@ -74,7 +74,7 @@ fn read_file<D: Disk>(
     let Some(number) = reader.next_u32(disk)? else {
         return Err(CheckReadRefused::BadCheck { file, at });
     };
-    let Ok(there) = has_log(disk, known, number) else {
+    let Ok(there) = known.has(disk, number) else {
         return Err(CheckReadRefused::DiskFault);
     };
     if !there {
@@ -172,7 +172,7 @@ fn read_txn<D: Disk>(
 pub(crate) fn read_head<D: Disk>(
     disk: &mut D,
     reader: &mut CheckReader,
-    known: &mut Option<u32>,
+    known: &mut Logs,
 ) -> Result<(Place, Next), CheckReadRefused>
     requires held { Holds (D.told disk.old) reader.old }
     requires known { IsKnown (D.told disk.old) known.old }

@@ -9,7 +9,7 @@ ghost use Rattle.checkpoint_reading.specs.Logs.{IsKnown, IsSized};
 ghost use Rattle.checkpoint_reading.specs.Reader.{Faults, Goes, Holds, IsHonest, IsPlain, IsSameFile, Takes, rest};
 
 use crate::draft::Draft;
-use crate::logs::put_txn;
+use crate::logs::{Logs, put_txn};
 use crate::reader::CheckReader;
 use crate::refused::CheckReadRefused;
 use flume_host::Disk;
@@ -29,7 +29,7 @@ fn next_right<D: Disk>(
     alloc: Global,
     disk: &mut D,
     reader: &mut CheckReader,
-    known: &mut Option<u32>,
+    known: &mut Logs,
     draft: &Draft,
     low: u64,
 ) -> Result<Option<(u64, Pointer)>, CheckReadRefused>
@@ -64,7 +64,7 @@ pub(crate) fn read_live<D: Disk>(
     alloc: Global,
     disk: &mut D,
     reader: &mut CheckReader,
-    known: &mut Option<u32>,
+    known: &mut Logs,
     draft: &mut Draft,
 ) -> Result<(), CheckReadRefused>
     requires held { Holds (D.told disk.old) reader.old }

@@ -1,16 +1,22 @@
 // The PUT that a pointer names, in the log files of a folder.
-ghost use Rattle.std.specs.Prelude.{◌≡◌, ◌↔◌, ℕ, List, take, drop, IfErr, IfOk, IfSome, IsSome, Some, true};
+ghost use Rattle.std.specs.Prelude.{◌≡◌, ◌≤◌, ◌-◌, ◌+◌, ◌↔◌, ℕ, List, Option, length, IfErr, IfOk, IfSome, IsSome, OnOk, Some, true};
 ghost use Rattle.flume_host.specs.Causes.{HasCause};
 ghost use Rattle.flume_host.specs.Told.{WhereTold};
 ghost use Rattle.flume_host.specs.declared.names.FileName.TheVariants.{Log};
 ghost use Rattle.record_form.specs.declared.record.Pointer as pointers;
-ghost use Rattle.checkpoint_reading.specs.Logs.{IsBefore, IsKnown, IsPutAt, IsPutIn, IsPutRec, IsSized};
-ghost use Rattle.checkpoint_reading.specs.Reader.{HasLog, IsHonest, IsPlain};
+ghost use Rattle.checkpoint_reading.specs.Logs.{HasPart, IsBefore, IsBlock, IsKnown, IsPutAt, IsPutIn, IsPutRec, IsSized, part_of};
+ghost use Rattle.checkpoint_reading.specs.Reader.{IsHonest, IsPlain};
 
 use crate::refused::CheckReadRefused;
 use flume_host::{Disk, Failed, FileName};
 use record_form::{MAX_PUT_SIZE, Pointer, Read, Rec, read_record, rec_of};
 use std::alloc::Global;
+
+// How much of a log file is read at once: PUTs that follow one another take one read.
+const BLOCK: usize = 4_096;
+
+// What stands before the event of a PUT: its kind, its transaction and its length.
+const PUT_FRONT: usize = 13;
 
 // The name before that of a log file.
 fn before(file: u32) -> Option<FileName>
@@ -36,51 +42,135 @@ fn is_there<D: Disk>(disk: &mut D, file: u32) -> Result<bool, Failed>
     }
 }
 
-/// Whether there is a log file of this number; the last one that was there is known.
-pub(crate) fn has_log<D: Disk>(
-    disk: &mut D,
-    known: &mut Option<u32>,
-    file: u32,
-) -> Result<bool, Failed>
-    requires { IsKnown (D.told disk.old) known.old }
-    ensures known { IsKnown (D.told disk.new) known.new }
-    ensures there { IfOk result (λ there. WhereTold (D.told disk.old) (λ t. (there ≡ true) ↔ IsSome (t.reads (Log file)))) }
-    ensures same { D.told disk.new ≡ D.told disk.old }
-    ensures cause { HasCause (D.faults disk.old) (D.faults disk.new) result }
-{
-    if *known == Some(file) {
-        return Ok(true);
-    }
-    let there = is_there(disk, file)?;
-    if there {
-        *known = Some(file);
-    }
-    Ok(there)
+/// What was read last of the log files of a folder: a file that is there, and what it has from an offset on.
+#[derive(Drop)]
+pub(crate) struct Logs {
+    // the last file that was found there
+    pub(crate) file: Option<u32>,
+    // where in it the block begins
+    pub(crate) start: u64,
+    // how many bytes of the block are the file's
+    pub(crate) filled: usize,
+    pub(crate) block: Vec<u8>,
 }
 
-// What a log file has from an offset on, so many bytes or as far as there are.
-fn read_block<D: Disk>(
-    alloc: Global,
-    disk: &mut D,
-    file: u32,
-    at: u64,
-    size: usize,
-) -> Result<Vec<u8>, CheckReadRefused>
-    requires { HasLog (D.told disk.old) file }
-    ensures read { IfOk result (λ block. WhereTold (D.told disk.old) (λ t. (bytes : List ℕ) → t.reads (Log file) ≡ Some bytes → block.items ≡ take size (drop at bytes))) }
-    ensures plain { IfErr result IsPlain }
-    ensures same { D.told disk.new ≡ D.told disk.old }
-    ensures cause { IsHonest (D.faults disk.old) (D.faults disk.new) result }
-{
-    let mut block = Vec::new(alloc);
-    if block.resize(size, 0).is_err() {
-        return Err(CheckReadRefused::NoMemory);
+impl Logs {
+    ghost use Rattle.flume_host.specs.Told.{Told};
+    ghost use Rattle.checkpoint_reading.specs.Logs.{IsKnown};
+
+    /// Nothing was read yet.
+    pub(crate) fn new(alloc: Global) -> Logs
+        ensures { (told : Option Told) → IsKnown told result }
+    {
+        Logs {
+            file: None,
+            start: 0,
+            filled: 0,
+            block: Vec::new(alloc),
+        }
     }
-    let Ok(filled) = disk.read(FileName::Log(file), at, &mut block) else {
-        return Err(CheckReadRefused::DiskFault);
-    };
-    block.truncate(filled);
-    Ok(block)
+
+    /// Whether there is a log file of this number. The last one that was there is known.
+    pub(crate) fn has<D: Disk>(&mut self, disk: &mut D, file: u32) -> Result<bool, Failed>
+        requires { IsKnown (D.told disk.old) self.old }
+        ensures known { IsKnown (D.told disk.new) self.new }
+        ensures there { IfOk result (λ there. WhereTold (D.told disk.old) (λ t. (there ≡ true) ↔ IsSome (t.reads (Log file)))) }
+        ensures last { IfOk result (λ there. there ≡ true → self.new.file ≡ Some file) }
+        ensures same { D.told disk.new ≡ D.told disk.old }
+        ensures cause { HasCause (D.faults disk.old) (D.faults disk.new) result }
+    {
+        if self.file == Some(file) {
+            return Ok(true);
+        }
+        let there = is_there(disk, file)?;
+        if there {
+            self.file = Some(file);
+            self.filled = 0;
+        }
+        Ok(there)
+    }
+
+    // Whether the block has so many bytes from an offset of the file on.
+    fn covers(&self, at: u64, size: usize) -> bool
+        ensures { result ≡ true → (self.now.start ≤ at) × (at - self.now.start + size ≤ self.now.filled) }
+    {
+        if at < self.start {
+            return false;
+        }
+        let behind = at - self.start;
+        let filled = self.filled as u64;
+        behind <= filled && size as u64 <= filled - behind
+    }
+
+    // Reads a block of the file from an offset on.
+    fn read<D: Disk>(&mut self, disk: &mut D, file: u32, at: u64) -> Result<(), CheckReadRefused>
+        requires known { IsKnown (D.told disk.old) self.old }
+        requires last { self.old.file ≡ Some file }
+        ensures known { IsKnown (D.told disk.new) self.new }
+        ensures block { OnOk result (IsBlock (D.told disk.old) file at self.new) }
+        ensures rest { (self.new.file ≡ self.old.file) × (length self.new.block.items ≡ length self.old.block.items) }
+        ensures plain { IfErr result IsPlain }
+        ensures same { D.told disk.new ≡ D.told disk.old }
+        ensures cause { IsHonest (D.faults disk.old) (D.faults disk.new) result }
+    {
+        self.filled = 0;
+        let Ok(filled) = disk.read(FileName::Log(file), at, &mut self.block) else {
+            return Err(CheckReadRefused::DiskFault);
+        };
+        self.start = at;
+        self.filled = filled;
+        Ok(())
+    }
+
+    // Makes the block long enough, and forgets what it has.
+    fn widen(&mut self, size: usize) -> Result<(), CheckReadRefused>
+        ensures long { OnOk result (size ≤ length self.new.block.items) }
+        ensures known { (told : Option Told) → IsKnown told self.old → IsKnown told self.new }
+        ensures file { self.new.file ≡ self.old.file }
+        ensures memory { IfErr result (λ e. e ≡ CheckReadRefused.NoMemory) }
+    {
+        let size = size.max(BLOCK);
+        self.filled = 0;
+        if self.block.len() < size && self.block.resize(size, 0).is_err() {
+            return Err(CheckReadRefused::NoMemory);
+        }
+        Ok(())
+    }
+
+    // Makes the block have so many bytes from an offset of the file on, or as far as there are.
+    fn load<D: Disk>(
+        &mut self,
+        disk: &mut D,
+        file: u32,
+        at: u64,
+        size: usize,
+    ) -> Result<(), CheckReadRefused>
+        requires known { IsKnown (D.told disk.old) self.old }
+        requires last { self.old.file ≡ Some file }
+        ensures known { IsKnown (D.told disk.new) self.new }
+        ensures part { OnOk result (HasPart (D.told disk.old) file at size self.new) }
+        ensures plain { IfErr result IsPlain }
+        ensures same { D.told disk.new ≡ D.told disk.old }
+        ensures cause { IsHonest (D.faults disk.old) (D.faults disk.new) result }
+    {
+        if self.covers(at, size) {
+            return Ok(());
+        }
+        self.widen(size)?;
+        self.read(disk, file, at)
+    }
+
+    // What the block has from an offset of the file on, at most so many bytes.
+    fn part(&self, at: u64, size: usize) -> &[u8]
+        requires from { self.now.start ≤ at }
+        requires to { at - self.now.start ≤ self.now.filled }
+        requires filled { self.now.filled ≤ length self.now.block.items }
+        ensures { result.now ≡ part_of at size self.now }
+    {
+        let held = &self.block[..self.filled];
+        let behind = &held[(at - self.start) as usize..];
+        &behind[..size.min(behind.len())]
+    }
 }
 
 // The transaction of a PUT of an event of this length.
@@ -112,7 +202,7 @@ fn txn_in(alloc: Global, bytes: &[u8], length: u32) -> Result<Option<u64>, Check
 pub(crate) fn put_txn<D: Disk>(
     alloc: Global,
     disk: &mut D,
-    known: &mut Option<u32>,
+    known: &mut Logs,
     p: Pointer,
 ) -> Result<Option<u64>, CheckReadRefused>
     requires { IsKnown (D.told disk.old) known.old }
@@ -126,13 +216,14 @@ pub(crate) fn put_txn<D: Disk>(
     if p.length > MAX_PUT_SIZE {
         return Ok(None);
     }
-    let Ok(there) = has_log(disk, known, p.file) else {
+    let Ok(there) = known.has(disk, p.file) else {
         return Err(CheckReadRefused::DiskFault);
     };
     if !there {
         return Ok(None);
     }
-    let block = read_block(alloc, disk, p.file, p.at, p.length as usize + 13)?;
-    let txn = txn_in(alloc, &block, p.length)?;
+    let size = p.length as usize + PUT_FRONT;
+    known.load(disk, p.file, p.at, size)?;
+    let txn = txn_in(alloc, known.part(p.at, size), p.length)?;
     Ok(txn)
 }

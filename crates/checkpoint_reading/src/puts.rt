@@ -12,7 +12,7 @@ ghost use Rattle.checkpoint_reading.specs.Opens.{HasPut, HasPuts, HasReadPuts, I
 ghost use Rattle.checkpoint_reading.specs.Reader.{Faults, Goes, Holds, IsHonest, IsPlain, IsSameFile, Takes, rest};
 
 use crate::draft::Draft;
-use crate::logs::put_txn;
+use crate::logs::{Logs, put_txn};
 use crate::opens::next_open;
 use crate::reader::CheckReader;
 use crate::refused::CheckReadRefused;
@@ -26,7 +26,7 @@ fn next_put<D: Disk>(
     alloc: Global,
     disk: &mut D,
     reader: &mut CheckReader,
-    known: &mut Option<u32>,
+    known: &mut Logs,
     txn: u64,
 ) -> Result<Option<Pointer>, CheckReadRefused>
     requires held { Holds (D.told disk.old) reader.old }
@@ -59,7 +59,7 @@ fn read_pointers<D: Disk>(
     alloc: Global,
     disk: &mut D,
     reader: &mut CheckReader,
-    known: &mut Option<u32>,
+    known: &mut Logs,
     draft: &mut Draft,
     txn: u64,
     count: u32,
@@ -94,7 +94,7 @@ fn read_put<D: Disk>(
     alloc: Global,
     disk: &mut D,
     reader: &mut CheckReader,
-    known: &mut Option<u32>,
+    known: &mut Logs,
     draft: &mut Draft,
     low: u64,
 ) -> Result<Option<u64>, CheckReadRefused>
@@ -132,7 +132,7 @@ pub(crate) fn read_puts<D: Disk>(
     alloc: Global,
     disk: &mut D,
     reader: &mut CheckReader,
-    known: &mut Option<u32>,
+    known: &mut Logs,
     draft: &mut Draft,
 ) -> Result<(), CheckReadRefused>
     requires held { Holds (D.told disk.old) reader.old }

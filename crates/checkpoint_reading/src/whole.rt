@@ -13,6 +13,7 @@ ghost use Rattle.checkpoint_reading.specs.Reader.{Faults, Goes, Holds, IsHonest,
 use crate::draft::Draft;
 use crate::head::read_head;
 use crate::live::read_live;
+use crate::logs::Logs;
 use crate::number::newest_number;
 use crate::puts::read_puts;
 use crate::reader::CheckReader;
@@ -36,7 +37,7 @@ fn read_text<D: Disk>(
     ensures same { D.told disk.new ≡ D.told disk.old }
     ensures cause { IsHonest (D.faults disk.old) (D.faults disk.new) result }
 {
-    let mut known = None;
+    let mut known = Logs::new(alloc);
     let (place, next) = read_head(disk, reader, &mut known)?;
     let Ok(mut draft) = Draft::new(alloc, place, next) else {
         return Err(CheckReadRefused::NoMemory);

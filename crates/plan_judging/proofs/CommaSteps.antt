@@ -4,7 +4,7 @@ use Rattle.std.proofs.lemmas.Bool.{cond-true, cond-false, cond_both}
 use Rattle.std.proofs.lemmas.List.{drop_more, drop_all, append-nil}
 use Rattle.std.proofs.lemmas.Bool.Decides.{Decides-eqb}
 use Rattle.std.specs.List.{flat_map}
-use Rattle.std.specs.Str.{trim}
+use Rattle.prop_text.specs.Pairs.{trim}
 use Rattle.prop_text.specs.Lines.{with_front}
 use Rattle.prop_text.specs.Pairs.{Pair}
 use Rattle.plan_judging.specs.Words.{is_word, comma_pieces, trimmed_names, listed}

@@ -1,9 +1,10 @@
 -- The words, numbers and truth values that a value is.
 use Rattle.std.specs.Prelude.{ℕ, ◌+◌, ◌-◌, ◌*◌, Bool, true, false, ◌||◌, ◌&&◌, List, [], ◌∷◌, length, filter, map, ◌==◌, nat_lt, nat_le, if◌then◌else◌, Option, Some, None, option_and_then, codes}
 use Rattle.std.specs.Char.{is_ascii_digit}
-use Rattle.std.specs.Str.{bytes_eq, str_eq_ignore_ascii_case, trim}
+use Rattle.std.specs.Str.{bytes_eq, str_eq_ignore_ascii_case}
 use Rattle.std.specs.List.{list_any}
 use Rattle.prop_text.specs.Lines.{is_white_space, with_front}
+use Rattle.prop_text.specs.Pairs.{trim}
 
 -- what stands between white space, empty pieces too
 abbrev pub pieces : List ℕ → List (List ℕ)

@@ -8,6 +8,7 @@ ghost use Rattle.plan_judging.specs.Words.{words, listed, trimmed_names, is_word
 ghost use Rattle.plan_judging.specs.Components.{once};
 
 use indexmap::IndexSet;
+use prop_text::trim;
 use std::alloc::{AllocError, Global};
 use std::str;
 
@@ -61,9 +62,8 @@ pub fn words(alloc: Global, text: &str) -> Result<Vec<&str>, AllocError>
 fn push_trimmed(alloc: Global, names: &mut Vec<String>, piece: Vec<u8>) -> Result<(), AllocError>
     ensures { OnOk result (map string_bytes names.new.items ≡ map string_bytes names.old.items ++ trimmed_names (piece.items ∷ [])) }
 {
-    match str::from_utf8(piece.as_slice()) {
-        Ok(piece) => {
-            let name = piece.trim();
+    match str::from_utf8(trim(piece.as_slice())) {
+        Ok(name) => {
             if !name.is_empty() {
                 names.push(String::from_str(alloc, name)?)?;
             }

@@ -8,4 +8,5 @@ mod table;
 mod utf8;
 
 pub use fault::PropRefused;
+pub use pairs::trim;
 pub use table::{Properties, read_properties};

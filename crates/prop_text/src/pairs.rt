@@ -61,8 +61,8 @@ fn past_separator(rest: &[u8]) -> &[u8]
     }
 }
 
-/// The text without the white space at both ends.
-fn trim(text: &[u8]) -> &[u8]
+/// The text without the white space at both ends: spaces, tabs and form feeds.
+pub fn trim(text: &[u8]) -> &[u8]
     ensures { result.now ≡ trim text.now }
 {
     let rest = &text[white_space_len(text)..];

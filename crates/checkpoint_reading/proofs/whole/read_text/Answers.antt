@@ -61,3 +61,6 @@ returns-clause-read g c =
       taken.1,
       goes_then _ _ c.args.reader.now c.read_puts.new.reader c.read_takes.new.reader Gives (λ (files : Files) (o : Outcome). TakenGive files o text) (λ (files : Files) (o : Outcome). End taken.0 o) (c.read_puts.ensures.same ∙ s2) g3 taken.2,
     )
+
+pub read_head-requires-clause-known : goal.read_head-requires-clause-known
+read_head-requires-clause-known g c = c.new-known.ensures _
