@@ -1,6 +1,6 @@
 // Interceptors and sinks that are handed in. `Passer` writes the first letter of each event down that it hands on, `Taker` that of each that
-// it takes, and `Refuser` refuses all; each writes its own first letter down once it is dropped. An object that nothing asks for is dropped at
-// the end, interceptors before sinks, and of several the first first.
+// it takes, and `Refuser` refuses all; each writes its own first letter down once it is dropped. At the line `lack` the `Passer` finds no
+// memory. An object that nothing asks for is dropped at the end, interceptors before sinks, and of several the first first.
 use crate::scenarios::pass;
 use std::test::Fail;
 
@@ -138,6 +138,35 @@ worker c1 sinks.k 0
 worker c1 sources.n 0
 listeners 1
 links 44444 OK\n OK\n OK\n
+rolled 5000-1=x\nz\n
+
+One that finds no memory ends the session of the input behind this answer: the line after it is not answered, and no channel has it.
+use LINES
+use ONE
+a.sources.r.interceptors = i
+a.sources.r.interceptors.i.type = plugin.Passer
+input x\nlack\ny\n
+run agent -n a -f x.conf
+status 5
+said flume: no memory
+objects xPTR
+writes OK\nFAILED: no memory\n{"CHANNEL.c1":{"ChannelCapacity":"100","ChannelSize":"0","EventPutAttemptCount":"1","EventPutSuccessCount":"1","EventTakeAttemptCount":"<2>","EventTakeSuccessCount":"1"}}\n
+rolled 5000-1=x\n
+
+Of a source that listens it ends the session of one link alone: the next link's line is taken, and the run ends well.
+use LISTENING
+a.sources = n
+a.sources.n.interceptors = i
+a.sources.n.interceptors.i.type = plugin.Passer
+listen 44444
+link x\nlack\ny\n
+link z\n sets 1
+input-held 0 1
+run agent -n a -f x.conf
+status 0
+said
+objects xzPTR
+links 44444 OK\nFAILED:\sno\smemory\n OK\n
 rolled 5000-1=x\nz\n"#;
 
 #[test]

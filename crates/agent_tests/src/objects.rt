@@ -50,7 +50,8 @@ impl Notes {
     }
 }
 
-// An interceptor that hands all on, and writes down the first letter of each event. As it is dropped it writes its own letter down.
+// An interceptor that hands all on, and writes down the first letter of each event; at the body `lack` it finds no memory. As it is dropped
+// it writes its own letter down.
 struct Passer {
     notes: Notes,
     letter: u8,
@@ -67,6 +68,9 @@ impl Interceptor for Passer {
     ghost intercepts = { λ _ _ _ _ _. Unit {0} };
 
     fn intercept(&mut self, event: Event, _moment: u64) -> Intercepted {
+        if event.body() == b"lack".as_slice() {
+            return Intercepted::NoMemory;
+        }
         if let Some(letter) = event.body().first() {
             self.notes.add(*letter);
         }
@@ -151,8 +155,8 @@ fn add_step(
         .ok()
 }
 
-/// Runs with these words, with what the program hands in, the interceptor `Passer`, which hands all on, and the sinks `Taker`, which takes
-/// all, and `Refuser`, which refuses all.
+/// Runs with these words, with what the program hands in, the interceptor `Passer`, which hands all on but
+/// `lack`, and the sinks `Taker`, which takes all, and `Refuser`, which refuses all.
 pub fn outcome_of<R: Threads + Wait + Sync>(
     rt: &R,
     alloc: Global,

@@ -17,7 +17,12 @@ use test_fixtures::{disk_after_opening, disk_failing_in_flush, event};
 type OnDisk = Shared<FileChannel<MemDisk>>;
 
 // Stages a transaction with this event.
-fn stage<R: Wait>(rt: &R, shared: &OnDisk, pass: &mut Pass, event: &Event) -> Option<Ticket>
+pub fn stage<C: Channel, R: Wait>(
+    rt: &R,
+    shared: &Shared<C>,
+    pass: &mut Pass,
+    event: &Event,
+) -> Option<Ticket>
     requires { pass.old.table_id ≡ shared.now.turn.table.shared.table_id }
     ensures { pass.new.table_id ≡ pass.old.table_id }
 {
