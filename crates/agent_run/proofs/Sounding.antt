@@ -1,5 +1,5 @@
 -- Each line of a run whose disks counted no fault was answered OK but for limits.
-use Rattle.std.proofs.Common.{◌≡◌, ◌∙◌, ◌<◌, ◌≤◌, ℕ, List, [], ◌∷◌, All, Bool, Option, Result, length, map, refl, sym, ap, subst, arith}
+use Rattle.std.proofs.Common.{◌≡◌, ◌∙◌, ◌<◌, ◌≤◌, ℕ, List, [], ◌∷◌, All, Bool, Option, Result, append-nil, get_or, length, map, refl, sym, ap, subst, true≢false, arith}
 use Rattle.std.specs.List.{AllByRecursion}
 use Rattle.std.proofs.lemmas.List.{length-map}
 use Rattle.std.proofs.lemmas.List.Elements.{All-from_recursion, recursion_from_All}
@@ -44,16 +44,19 @@ use Rattle.sound_lines.specs.Sound.{AreSound}
 use Rattle.agent_run.specs.Dialogue.{IsDialogue}
 use Rattle.agent_run.specs.Ends.{AreLinePorts}
 use Rattle.agent_run.specs.Finals.{AreToldInFull, finals_of}
+use Rattle.agent_run.specs.Labels.{label_of, users_of}
 use Rattle.agent_run.specs.Prepared.{IsPlanned}
 use Rattle.agent_run.specs.Run.{IsGivenBack}
 use Rattle.agent_run.specs.RunDid.{RunDid, passes_of}
 use Rattle.agent_run.specs.Runs.{Runs}
-use Rattle.agent_run.specs.SoundRun.{AreUndisturbed, DialoguesAreSound, IsSoundRun, IsUndisturbedRun, NothingFailed}
+use Rattle.agent_run.specs.SoundRun.{AreUndisturbed, DialoguesAreSound, IsSoundRun, IsUndisturbedRun, IsWellRun, NothingFailed}
 use Rattle.agent_run.specs.declared.opening.Manned.{Manned}
 use Rattle.agent_run.specs.declared.outcome.ChannelEnd.{ChannelEnd}
 use Rattle.agent_run.specs.declared.outside.Outside.{Outside}
 use Rattle.agent_run.specs.declared.prepare.Prepared.{Prepared}
 use Rattle.agent_run.proofs.Comeback.{opened_state}
+use Rattle.agent_run.proofs.Course.{there}
+use Rattle.agent_run.proofs.Labelling.{labels_many}
 use Rattle.agent_run.proofs.Putting.{wishes_some}
 
 -- a worker's channels are among the shared ones
@@ -108,6 +111,22 @@ module _ {R D L A G N I O C K Q : Type 0} (runs : Runs (EitherPort R (D × FileS
       subst (λ (l : List Known). AreToldInFull sink Means moments heard (talk_of left read_faults took handed write_faults) shares r.homes l r.manned.crew.jobs r.joins.returned r.settled) r.passes did.full in
       subst AreUndisturbed (sym r.passes)
       (nothing s.rows o.opening r.manned r.homes r.joined r.joins.returned r.settled a s.behind back.behind_sinks back.behind_disks opened some r.is_manned r.took r.home r.named r.settles full back.disks none)
+
+  -- so the run ended well, or for want of memory
+  pub run_well : (did : Did) → IsWellRun did
+  run_well did steady calm readable =
+      let finals = passes_of channels in
+      let many : length finals ≡ length plan.channels.items =
+      length-map channels (λ (end : ChannelEnd). end.pass) ∙ sym (length-map channels label_of)
+      ∙ labels_many (users_of plan did.steps.made.keepers.items did.steps.rows did.steps.made.listeners.items did.steps.made.lines.items) 0 plan.channels.items (map label_of channels) did.labels in
+      did.causes.well steady
+      (λ some.
+      let below : some.place < length finals = omega (arith, some.below, many) in
+      let final = get_or finals some.place (there finals some.place below) in
+      let whole = final.view.seen in
+      let sound = (run_undisturbed did calm some.place (there finals some.place below) below).unbroken whole ([], append-nil whole) in
+      absurd (true≢false (sym (some.is (there finals some.place below)) ∙ sound)))
+      readable
 
   -- and each line of standard input was answered OK but for limits
   pub run_sound : (did : Did) → IsSoundRun did

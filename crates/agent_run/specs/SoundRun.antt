@@ -1,5 +1,5 @@
 -- What a run answers to lines where nothing failed.
-use Rattle.std.specs.Prelude.{◌≡◌, ◌≤◌, ◌<◌, ℕ, List, [], ◌∷◌, All, Bool, Option, Result, length, slice_index_or}
+use Rattle.std.specs.Prelude.{◌≡◌, ◌⊎◌, ◌≤◌, ◌<◌, ℕ, List, [], ◌∷◌, All, Bool, Option, Result, length, slice_index_or}
 use Rattle.flume_host.specs.Causes.{Rose}
 use Rattle.flume_host.specs.HostState.{HostState}
 use Rattle.flume_host.specs.Told.{Told as DiskTold}
@@ -36,6 +36,7 @@ use Rattle.agent_end.specs.declared.ends.RunEnds.{RunEnds}
 use Rattle.sound_lines.specs.Links.{AreSoundRounds}
 use Rattle.sound_lines.specs.Sound.{AreSound}
 use Rattle.sound_lines.specs.Undisturbed.{IsUndisturbed}
+use Rattle.agent_run.specs.Causes.{IsReadable, line_limit}
 use Rattle.agent_run.specs.Dialogue.{IsDialogue}
 use Rattle.agent_run.specs.Draining.{IsDrainedAt, IsSinkHome}
 use Rattle.agent_run.specs.Finals.{AreToldInFull, finals_of}
@@ -104,6 +105,19 @@ abbrev pub IsUndisturbedRun : {R A B S N I O C K Q : Type 0} {runs : Runs (Eithe
     {delivers : Q → List Content → ℕ → Result (Unit {0}) SinkRefused → Q → Type 0} {objects : List (Option Q)} {ends : RunEnds} {channels : List ChannelEnd} {a b : HostTold}
     → RunDid runs sink Means moments heard left read_faults took handed write_faults disk tells moment laid pruned memory tells' plan Drafted Opens Given Back delivers objects ends channels a b → Type 0
 IsUndisturbedRun {channels = channels} {a = a} {b = b} did = (Rose a.state.disk_faults b.state.disk_faults → ⊥) → AreUndisturbed (passes_of channels)
+
+-- Of what a run did: where neither the host nor a disk counted a fault, and the input can be read, the status is 0 or out of memory.
+abbrev pub IsWellRun : {R A B S N I O C K Q : Type 0} {runs : Runs (EitherPort R A B) S N I O C K} {sink : Told S} {Means : Meaning K} {moments : C → Option (ℕ → ℕ)} {heard : N → Heard}
+    {left : I → Option (List ℕ)} {read_faults : I → ℕ} {took handed : O → Option (List ℕ)} {write_faults : O → ℕ}
+    {disk : A → Opening → List Step → Type 0} {tells : A → Bool} {moment : A → ℕ} {laid : A → State → Type 0} {pruned : A → Type 0} {memory : B → Opening → List Step → Type 0} {tells' : B → Bool}
+    {plan : Plan} {Drafted : Prepared K C → Type 0} {Opens : List SinkRow → Prepared K C → HostTold → HostTold → Outside S N → Type 0}
+    {Given : Manned A B S N I O C K → List N → HostState → HostState → Type 0}
+    {Back : List SinkRow → List ChannelWish → Settled S A B → Bool → Result (Unit {0}) ReportRefused → HostTold → HostTold → Type 0}
+    {delivers : Q → List Content → ℕ → Result (Unit {0}) SinkRefused → Q → Type 0} {objects : List (Option Q)} {ends : RunEnds} {channels : List ChannelEnd} {a b : HostTold}
+    → RunDid runs sink Means moments heard left read_faults took handed write_faults disk tells moment laid pruned memory tells' plan Drafted Opens Given Back delivers objects ends channels a b → Type 0
+IsWellRun {plan = plan} {ends = ends} {a = a} {b = b} did =
+    (Rose a.state.faults b.state.faults → ⊥) → (Rose a.state.disk_faults b.state.disk_faults → ⊥) → IsReadable (line_limit plan.sources.items) a.state.input
+    → (run_status ends ≡ 0) ⊎ (run_status ends ≡ 5)
 
 -- What a run did that ended with the status 0, and whose disks counted no fault: where standard input was a source, each line that it
 -- brought was answered `OK`, unless there was no memory for it, its event grew too large for one, or a channel that it has to reach refused it

@@ -7,7 +7,7 @@ ghost use Rattle.line_worker.specs.Workers.{talk_of};
 ghost use Rattle.sink_worker.specs.Rounds.{told};
 ghost use Rattle.source_worker.specs.Workers.{heard_of};
 ghost use Rattle.agent_run.specs.Prepared.{IsPlanned};
-ghost use Rattle.agent_run.specs.SoundRun.{DialoguesAreSound, IsSoundRun, IsUndisturbedRun, ListenersAreSound, NothingFailed};
+ghost use Rattle.agent_run.specs.SoundRun.{DialoguesAreSound, IsSoundRun, IsUndisturbedRun, IsWellRun, ListenersAreSound, NothingFailed};
 ghost use Rattle.agent_run.specs.declared.outcome.ChannelEnd.{ChannelEnd};
 
 use crate::through::{RunOf, RunnerOf, Runs};
@@ -54,7 +54,8 @@ pub fn nothing_failed<
 {}
 
 /// Of a run as [`run_agent`](crate::run_agent) tells of it: where the host's count of the faults of disks did not rise, nothing failed in
-/// any of its channels. Where it ended with the status 0 too, each line that standard input brought was answered `OK`, but for the causes
+/// any of its channels. Where the host's other count did not rise either, and standard input can be read, the status is 0 or out of
+/// memory. Where it ended with the status 0 too, each line that standard input brought was answered `OK`, but for the causes
 /// of [`dialogues_are_sound`].
 pub fn runs_are_sound<
     'a,
@@ -66,6 +67,9 @@ pub fn runs_are_sound<
     ensures undisturbed { (given : List K) (objects : List (Option B)) (plan : Plan)
         (ends : RunEnds) (channels : List ChannelEnd) (a b : HostTold) → IsPlanned plan
         → (did : ⟦<RunOf<'a, R, H, K, B> as Runs<K, B>>⟧.ran given objects plan ends channels a b) → IsUndisturbedRun did }
+    ensures well { (given : List K) (objects : List (Option B)) (plan : Plan)
+        (ends : RunEnds) (channels : List ChannelEnd) (a b : HostTold) → IsPlanned plan
+        → (did : ⟦<RunOf<'a, R, H, K, B> as Runs<K, B>>⟧.ran given objects plan ends channels a b) → IsWellRun did }
     ensures sound { (given : List K) (objects : List (Option B)) (plan : Plan)
         (ends : RunEnds) (channels : List ChannelEnd) (a b : HostTold) → IsPlanned plan
         → (did : ⟦<RunOf<'a, R, H, K, B> as Runs<K, B>>⟧.ran given objects plan ends channels a b) → IsSoundRun did }

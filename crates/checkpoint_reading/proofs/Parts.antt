@@ -30,19 +30,16 @@ covered told logs file at size known last from to = record { from = from; to = o
         ∙ take_behind size behind (length (held logs)) (drop logs.start bytes) (omega (arith, to, whole))
         ∙ ap (take size) (drop-drop behind logs.start bytes ∙ ap (λ n. drop n bytes) there)
 
--- a block that was read from there on has it, if it is long enough
+-- a block that was filled from there on has it, if it is long enough
 pub block_has : (told : Option Told) (logs : Logs) (file at size : ℕ) → IsBlock told file at logs → size ≤ length logs.block.items → HasPart told file at size logs
-block_has told logs file at size block long = record { from = omega (arith, block.start); to = omega (arith, block.start); part = shows told block.part }
+block_has told logs file at size block long = record { from = omega (arith, block.start); to = omega (arith, block.start); part = shows }
   where
     none : at - logs.start ≡ 0
     none = omega (arith, block.start)
 
-    shows :
-        (told : Option Told)
-        → WhereTold told (λ t. (bytes : List ℕ) → t.reads (Log file) ≡ Some bytes → held logs ≡ take (length logs.block.items) (drop at bytes))
-        → WhereTold told (λ t. (bytes : List ℕ) → t.reads (Log file) ≡ Some bytes → part_of at size logs ≡ take size (drop at bytes))
-    shows told is = λ t same bytes has.
-        ap (λ n. take size (drop n (held logs))) none ∙ ap (take size) (is t same bytes has) ∙ take-take size (length logs.block.items) (drop at bytes) long
+    shows : WhereTold told (λ t. (bytes : List ℕ) → t.reads (Log file) ≡ Some bytes → part_of at size logs ≡ take size (drop at bytes))
+    shows t same bytes has =
+        ap (λ n. take size (drop n (held logs))) none ∙ ap (take size) (block.part t same bytes has) ∙ take-take size (length logs.block.items) (drop at bytes) long
 
 -- what follows of a success follows where there is one
 pub on_ok : {T E A B : Type 0} (r : Result T E) → (A → B) → OnOk r A → OnOk r B

@@ -13,7 +13,7 @@ use Rattle.checkpoint.specs.Right.{PutIn, PutOf}
 use Rattle.checkpoint_reading.specs.Reader.{HasLog}
 use Rattle.checkpoint_reading.specs.declared.logs.Logs.{Logs}
 
--- a log file that was found there is there
+-- the log file that was found, if one was, is there
 abbrev pub IsFound : Option Told → Option ℕ → Type 0
 IsFound told None = Unit {0}
 IsFound told (Some file) = HasLog told file
@@ -27,7 +27,7 @@ abbrev pub IsPart : Option Told → Option ℕ → ℕ → List ℕ → Type 0
 IsPart told None start part = Unit {0}
 IsPart told (Some file) start part = WhereTold told (λ t. (bytes : List ℕ) → t.reads (Log file) ≡ Some bytes → part ≡ take (length part) (drop start bytes))
 
--- what was read last of the log files is so
+-- what is kept of the log files is what they have
 pub record IsKnown (told : Option Told) (logs : Logs) : Type 0 where
   pub there : IsFound told logs.file
   pub filled : logs.filled ≤ length logs.block.items
@@ -37,12 +37,12 @@ pub record IsKnown (told : Option Told) (logs : Logs) : Type 0 where
 abbrev pub part_of : ℕ → ℕ → Logs → List ℕ
 part_of at size logs = take size (drop (at - logs.start) (held logs))
 
--- a block was read from the offset on: all of it, or as far as there is
+-- the block was filled from the offset on, or as far as the file goes
 pub record IsBlock (told : Option Told) (file at : ℕ) (logs : Logs) : Type 0 where
   pub start : logs.start ≡ at
   pub part : WhereTold told (λ t. (bytes : List ℕ) → t.reads (Log file) ≡ Some bytes → held logs ≡ take (length logs.block.items) (drop at bytes))
 
--- so many bytes from the offset on were read, or as many as there are
+-- what is kept has so many bytes from the offset on, or as many as there are
 pub record HasPart (told : Option Told) (file at size : ℕ) (logs : Logs) : Type 0 where
   pub from : logs.start ≤ at
   pub to : at - logs.start ≤ logs.filled

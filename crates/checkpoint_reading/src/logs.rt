@@ -12,10 +12,10 @@ use flume_host::{Disk, Failed, FileName};
 use record_form::{MAX_PUT_SIZE, Pointer, Read, Rec, read_record, rec_of};
 use std::alloc::Global;
 
-// How much of a log file is read at once: PUTs that follow one another take one read.
-const BLOCK: usize = 4_096;
+// How many bytes of a log file are read at least, so that short PUTs that follow one another take one reading.
+const BLOCK: usize = 65_536;
 
-// What stands before the event of a PUT: its kind, its transaction and its length.
+// How many bytes of a PUT stand before its event: its kind, its transaction, and the event's length.
 const PUT_FRONT: usize = 13;
 
 // The name before that of a log file.
@@ -42,7 +42,7 @@ fn is_there<D: Disk>(disk: &mut D, file: u32) -> Result<bool, Failed>
     }
 }
 
-/// What was read last of the log files of a folder: a file that is there, and what it has from an offset on.
+/// The log file that was found last, and the block of it that was read last.
 #[derive(Drop)]
 pub(crate) struct Logs {
     // the last file that was found there
@@ -102,13 +102,27 @@ impl Logs {
         behind <= filled && size as u64 <= filled - behind
     }
 
-    // Reads a block of the file from an offset on.
+    // Makes the block so long, and keeps nothing of what was read.
+    fn widen(&mut self, size: usize) -> Result<(), CheckReadRefused>
+        ensures long { OnOk result (length self.new.block.items ≡ size) }
+        ensures known { (told : Option Told) → IsKnown told self.old → IsKnown told self.new }
+        ensures file { self.new.file ≡ self.old.file }
+        ensures memory { IfErr result (λ e. e ≡ CheckReadRefused.NoMemory) }
+    {
+        self.filled = 0;
+        if self.block.resize(size, 0).is_err() {
+            return Err(CheckReadRefused::NoMemory);
+        }
+        Ok(())
+    }
+
+    // Fills the block from an offset of the file on, or as far as that goes.
     fn read<D: Disk>(&mut self, disk: &mut D, file: u32, at: u64) -> Result<(), CheckReadRefused>
         requires known { IsKnown (D.told disk.old) self.old }
         requires last { self.old.file ≡ Some file }
         ensures known { IsKnown (D.told disk.new) self.new }
         ensures block { OnOk result (IsBlock (D.told disk.old) file at self.new) }
-        ensures rest { (self.new.file ≡ self.old.file) × (length self.new.block.items ≡ length self.old.block.items) }
+        ensures rest { length self.new.block.items ≡ length self.old.block.items }
         ensures plain { IfErr result IsPlain }
         ensures same { D.told disk.new ≡ D.told disk.old }
         ensures cause { IsHonest (D.faults disk.old) (D.faults disk.new) result }
@@ -119,21 +133,6 @@ impl Logs {
         };
         self.start = at;
         self.filled = filled;
-        Ok(())
-    }
-
-    // Makes the block long enough, and forgets what it has.
-    fn widen(&mut self, size: usize) -> Result<(), CheckReadRefused>
-        ensures long { OnOk result (size ≤ length self.new.block.items) }
-        ensures known { (told : Option Told) → IsKnown told self.old → IsKnown told self.new }
-        ensures file { self.new.file ≡ self.old.file }
-        ensures memory { IfErr result (λ e. e ≡ CheckReadRefused.NoMemory) }
-    {
-        let size = size.max(BLOCK);
-        self.filled = 0;
-        if self.block.len() < size && self.block.resize(size, 0).is_err() {
-            return Err(CheckReadRefused::NoMemory);
-        }
         Ok(())
     }
 
@@ -156,7 +155,7 @@ impl Logs {
         if self.covers(at, size) {
             return Ok(());
         }
-        self.widen(size)?;
+        self.widen(size.max(BLOCK))?;
         self.read(disk, file, at)
     }
 

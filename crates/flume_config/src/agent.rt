@@ -94,9 +94,9 @@ fn judged_plan(agent: &Agent<'_>, names: &AgentNames<'_>) -> Result<Plan, PlanRe
 }
 
 /// The plan of an agent, by the pairs of a properties text, or the first that applies: no key begins with the agent's name and a dot;
-/// the fault with the least line, and on one line the first of unknown type, unknown name, bad number, unsupported and clash; the
-/// least key by bytes that is required and not there. Out of memory may come at any time. The components and their keys are those
-/// of the Flume User Guide, as far as this agent has them.
+/// the fault with the least line, and on one line the first of unknown type, unknown name, bad number, bad pattern, unsupported and
+/// clash; the least key by bytes that is required and not there. Out of memory may come at any time. The components and their keys are
+/// those of the Flume User Guide, as far as this agent has them.
 pub fn plan_of(alloc: Global, properties: &Properties, agent: &str) -> Result<Plan, PlanRefused>
     ensures { Plans properties.now agent.now result }
 {

@@ -95,7 +95,7 @@ pub fn truth_at(place: &Place<'_>, default: bool, key: &str) -> Result<bool, All
     }
 }
 
-/// The place of a name among names, from 0.
+/// The place of a name among names, from 0, or their count where it is not there.
 fn place_of(names: &IndexSet<&str>, name: &str) -> usize
     ensures { result ≡ place_of (texts names.now.keys) name.now }
 {
@@ -120,7 +120,7 @@ pub fn places(
     Ok(places)
 }
 
-/// The place of a name among names, from 0.
+/// The same in 32 bits, or out of memory.
 pub fn place_at(names: &IndexSet<&str>, name: &str) -> Result<u32, AllocError>
     ensures { IfOk result (λ place. place ≡ place_of (texts names.now.keys) name.now) }
 {

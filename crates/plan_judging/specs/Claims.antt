@@ -37,7 +37,7 @@ abbrev pub clashes : List Wish → Candidates
 clashes [] = nothing
 clashes (w ∷ ws) = each (clash w) ws ⊕ clashes ws
 
--- a claim that stood on a line before, if it did, and stands on this line
+-- the clash of a claim on this line with the same claims before it, if there are any, whose least line is the first
 abbrev pub clash_with : Option ℕ → ℕ → Candidates
 clash_with None line = nothing
 clash_with (Some first) line = one_fault (max first line) Clash

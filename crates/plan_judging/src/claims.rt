@@ -66,7 +66,7 @@ impl Claim {
     }
 }
 
-// Refuses a claim that stood on a line before, if it did.
+// Refuses a claim that was made before, of which `first` is the least line.
 #[tactic(auto, unfolding(crate::specs::Candidates::adds))]
 fn check_earlier(found: &mut Findings, first: Option<u32>, line: u32)
     ensures { Adds (seen found.old) (seen found.new) (clash_with first line) }
@@ -86,7 +86,7 @@ fn least_with(first: Option<u32>, line: u32) -> u32
     }
 }
 
-/// Two components that claim the same. The least line of each claim is kept, so that each is looked up once.
+/// Refuses two components that claim the same, on the later line. The least line of each claim is kept, so that no two are compared.
 pub fn check_claims(alloc: Global, found: &mut Findings, claims: &[Claim]) -> Result<(), AllocError>
     ensures { OnOk result (Adds (seen found.old) (seen found.new) (clashes (wishes claims.now))) }
 {

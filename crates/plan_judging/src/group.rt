@@ -5,7 +5,7 @@ ghost use Rattle.std.specs.Str.{bytes_eq};
 ghost use Rattle.prop_text.specs.Views.{texts};
 ghost use Rattle.prop_text.specs.Winners.{lookup};
 ghost use Rattle.plan_judging.specs.Candidates.{Adds, seen, each};
-ghost use Rattle.plan_judging.specs.Components.{front_of, names_in, several, priority, failover, group_of, group_by_kind, channel_of, same_channel, other_channel, one_channel, group_at};
+ghost use Rattle.plan_judging.specs.Components.{front_of, names_in, several, priority, failover, group_of, group_by_kind, channel_of, same_channel, one_channel, group_at};
 
 use crate::findings::{FaultKind, Findings};
 use crate::rules::{Place, Row, Rule, check, check_names, check_rows, is_type, joined, value_at};
@@ -217,22 +217,35 @@ fn check_other(
     agent: &Agent<'_>,
     found: &mut Findings,
     sinks: &IndexSet<&str>,
-    first: &str,
+    first: Option<(&str, u32)>,
     other: &str,
 ) -> Result<(), AllocError>
     ensures { OnOk result (Adds (seen found.old) (seen found.new)
-        (same_channel (channel_of agent.now.properties.now agent.now.name.now (texts sinks.now.keys) first.now) (channel_of agent.now.properties.now agent.now.name.now (texts sinks.now.keys) other.now))) }
+        (same_channel (option_map (λ x. (x.0.now, x.1)) first.entry) (channel_of agent.now.properties.now agent.now.name.now (texts sinks.now.keys) other.now))) }
 {
-    match channel_of(agent, sinks, first) {
+    match channel_of(agent, sinks, other) {
         Err(error) => Err(error),
-        Ok(first) => match channel_of(agent, sinks, other) {
-            Err(error) => Err(error),
-            Ok(other) => {
-                check_same(found, first, other);
-                Ok(())
-            }
-        },
+        Ok(other) => {
+            check_same(found, first, other);
+            Ok(())
+        }
     }
+}
+
+fn check_others(
+    agent: &Agent<'_>,
+    found: &mut Findings,
+    sinks: &IndexSet<&str>,
+    first: Option<(&str, u32)>,
+    others: &[&str],
+) -> Result<(), AllocError>
+    ensures { OnOk result (Adds (seen found.old) (seen found.new)
+        (each (λ other. same_channel (option_map (λ x. (x.0.now, x.1)) first.entry) (channel_of agent.now.properties.now agent.now.name.now (texts sinks.now.keys) other)) (texts others.now))) }
+{
+    for other in others {
+        check_other(agent, found, sinks, first, other)?;
+    }
+    Ok(())
 }
 
 /// The sinks of a group take from the channel of the first.
@@ -248,24 +261,11 @@ fn check_one_channel(
 {
     match members {
         [] => Ok(()),
-        [first, others @ ..] => check_others(agent, found, sinks, first, others),
+        [first, others @ ..] => match channel_of(agent, sinks, first) {
+            Err(error) => Err(error),
+            Ok(first) => check_others(agent, found, sinks, first, others),
+        },
     }
-}
-
-fn check_others(
-    agent: &Agent<'_>,
-    found: &mut Findings,
-    sinks: &IndexSet<&str>,
-    first: &str,
-    others: &[&str],
-) -> Result<(), AllocError>
-    ensures { OnOk result (Adds (seen found.old) (seen found.new)
-        (each (other_channel agent.now.properties.now agent.now.name.now (texts sinks.now.keys) first.now) (texts others.now))) }
-{
-    for other in others {
-        check_other(agent, found, sinks, first, other)?;
-    }
-    Ok(())
 }
 
 /// Judges a group of these sinks.

@@ -9,5 +9,5 @@ returns-then-covers-clause-part g c =
 
 pub returns-clause-part : goal.returns-clause-part
 returns-clause-part g c =
-    let long : c.args.size ≤ length c.read.new.self.block.items = omega (arith, c.in_ok-widen.ensures.long, c.read.ensures.rest.1) in
+    let long : c.args.size ≤ length c.read.new.self.block.items = omega (arith, c.max.ensures, c.in_ok-widen.ensures.long, c.read.ensures.rest) in
     on_ok c.read.result (λ block. block_has _ c.read.new.self c.args.file c.args.at c.args.size block long) c.read.ensures.block
