@@ -163,20 +163,27 @@ fn said_of_stage(cause: StageCause) -> Said {
         StageCause::Stale => ("stale", 0),
         StageCause::Broken => ("broken", 0),
         StageCause::Full { count } => ("full", u64::from(count)),
+        StageCause::Spent {
+            counter: Counter::Number,
+        } => ("spent-number", 0),
         StageCause::Spent { .. } => OTHER,
     }
 }
 
-// What was said in place of a ticket. The token of a stage that was refused ends.
-fn put_not_staged(refused: StageRefused<PutTxn>) -> Said {
+// What was said in place of a ticket, where the token that was handed back is that of the call. The token ends.
+fn put_not_staged(refused: StageRefused<PutTxn>, call: Call<'_>) -> Said {
     let StageRefused { txn, cause } = refused;
-    let _ended = txn.into_numbers();
+    if txn.into_numbers() != (call.life, call.number) {
+        return OTHER;
+    }
     said_of_stage(cause)
 }
 
-fn take_not_staged(refused: StageRefused<TakeTxn>) -> Said {
+fn take_not_staged(refused: StageRefused<TakeTxn>, call: Call<'_>) -> Said {
     let StageRefused { txn, cause } = refused;
-    let _ended = txn.into_numbers();
+    if txn.into_numbers() != (call.life, call.number) {
+        return OTHER;
+    }
     said_of_stage(cause)
 }
 
@@ -186,32 +193,32 @@ fn keep(kept: &mut Ticket, ticket: Ticket) -> Said {
     ("first", ticket.first)
 }
 
-fn stage_put<C: Channel>(channel: &mut C, kept: &mut Ticket, txn: PutTxn) -> Said {
-    match channel.stage_put(txn) {
+fn stage_put<C: Channel>(channel: &mut C, kept: &mut Ticket, call: Call<'_>) -> Said {
+    match channel.stage_put(PutTxn::new(call.life, call.number)) {
         Ok(ticket) => keep(kept, ticket),
-        Err(refused) => put_not_staged(refused),
+        Err(refused) => put_not_staged(refused, call),
     }
 }
 
-fn stage_take<C: Channel>(channel: &mut C, kept: &mut Ticket, txn: TakeTxn) -> Said {
-    match channel.stage_take(txn) {
+fn stage_take<C: Channel>(channel: &mut C, kept: &mut Ticket, call: Call<'_>) -> Said {
+    match channel.stage_take(TakeTxn::new(call.life, call.number)) {
         Ok(ticket) => keep(kept, ticket),
-        Err(refused) => take_not_staged(refused),
+        Err(refused) => take_not_staged(refused, call),
     }
 }
 
-fn commit_put<C: Channel>(channel: &mut C, kept: &mut Ticket, txn: PutTxn) -> Said {
-    match channel.commit_put(txn) {
+fn commit_put<C: Channel>(channel: &mut C, kept: &mut Ticket, call: Call<'_>) -> Said {
+    match channel.commit_put(PutTxn::new(call.life, call.number)) {
         Ok(ticket) => keep(kept, ticket),
-        Err(CommitRefused::Stage(refused)) => put_not_staged(refused),
+        Err(CommitRefused::Stage(refused)) => put_not_staged(refused, call),
         Err(CommitRefused::InDoubt) => ("in-doubt", 0),
     }
 }
 
-fn commit_take<C: Channel>(channel: &mut C, kept: &mut Ticket, txn: TakeTxn) -> Said {
-    match channel.commit_take(txn) {
+fn commit_take<C: Channel>(channel: &mut C, kept: &mut Ticket, call: Call<'_>) -> Said {
+    match channel.commit_take(TakeTxn::new(call.life, call.number)) {
         Ok(ticket) => keep(kept, ticket),
-        Err(CommitRefused::Stage(refused)) => take_not_staged(refused),
+        Err(CommitRefused::Stage(refused)) => take_not_staged(refused, call),
         Err(CommitRefused::InDoubt) => ("in-doubt", 0),
     }
 }
@@ -277,10 +284,10 @@ pub fn said<C: Channel>(alloc: Global, channel: &mut C, kept: &mut Ticket, call:
         "put-bytes" => put(alloc, channel, call, u64::from(b'a'), value),
         "take" => take(channel, life, number),
         "take-many" => take_many(channel, call),
-        "stage-put" => stage_put(channel, kept, PutTxn::new(life, number)),
-        "stage-take" => stage_take(channel, kept, TakeTxn::new(life, number)),
-        "commit-put" => commit_put(channel, kept, PutTxn::new(life, number)),
-        "commit-take" => commit_take(channel, kept, TakeTxn::new(life, number)),
+        "stage-put" => stage_put(channel, kept, call),
+        "stage-take" => stage_take(channel, kept, call),
+        "commit-put" => commit_put(channel, kept, call),
+        "commit-take" => commit_take(channel, kept, call),
         "rollback-put" => said_of_end(channel.rollback_put(PutTxn::new(life, number))),
         "rollback-take" => said_of_end(channel.rollback_take(TakeTxn::new(life, number))),
         "flush" => said_of_flush(channel.flush()),

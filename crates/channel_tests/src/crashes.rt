@@ -275,6 +275,9 @@ holds 4 0 FLUMELOG"#;
 // four, so that of two choices that take turns each is of the writes of every other file, where each has one frame.
 const STOOD: [Stood; 4] = [Stood::Old, Stood::New, Stood::Garbage(1), Stood::Front(20)];
 
+// Of an image that a channel opens beside those that are read.
+const BETWEEN: [Stood; 2] = [Stood::New, Stood::Garbage(1)];
+
 /// Two lists of bodies, one of which is found.
 #[derive(Clone, Copy)]
 pub struct Either<'a> {
@@ -351,31 +354,47 @@ fn is_left(
     }
 }
 
-// Opens an image, and tells whether the channel gives one of two lists.
-fn opens_and_gives(scene: &mut Channels, disk: &MemDisk, moment: u64, either: Either<'_>) -> bool {
-    scene.disk = disk
-        .stopped_at(moment, &[Stood::New, Stood::Garbage(1)])
-        .ok();
-    scene.disk.is_some() && is_opened(scene) && has_either(scene, either)
-}
-
 // Whether a channel that opens an image gives one of two lists.
-fn is_given(alloc: Global, disk: &MemDisk, moment: u64, either: Either<'_>) -> bool {
-    opens_and_gives(&mut Channels::begin(alloc), disk, moment, either)
+fn is_given(
+    alloc: Global,
+    disk: &MemDisk,
+    moment: u64,
+    stood: [Stood; 2],
+    either: Either<'_>,
+) -> bool {
+    match disk.stopped_at(moment, &stood) {
+        Ok(image) => gives_either(&mut Channels::begin(alloc), image, either),
+        Err(_) => false,
+    }
 }
 
-// Whether each image of a moment leaves one of two lists. Those that are opened are fewer, since that takes long: of each, what may
-// stand is one for all calls.
+// Whether a folder has a checkpoint.
+fn has_check(disk: &MemDisk) -> bool {
+    for number in 1..10 {
+        if disk.file(FileName::Check(number)).is_some() {
+            return true;
+        }
+    }
+    false
+}
+
+// Whether each image of a moment leaves one of two lists. Once there is a checkpoint, images are opened too, as a channel opens a
+// folder. Those that are opened are fewer, since that takes long: of each, what may stand is one for all calls.
 fn is_always_left(alloc: Global, disk: &MemDisk, moment: u64, either: Either<'_>) -> bool {
     let is_read = is_whole(disk);
+    let is_opened_too = is_read && has_check(disk);
     for (at, one) in STOOD.iter().enumerate() {
         for (beside, other) in STOOD.iter().enumerate() {
-            if (is_read || at == beside) && !is_left(alloc, disk, moment, [*one, *other], either) {
+            let stood = [*one, *other];
+            if (is_read || at == beside) && !is_left(alloc, disk, moment, stood, either) {
+                return false;
+            }
+            if is_opened_too && at == beside && !is_given(alloc, disk, moment, stood, either) {
                 return false;
             }
         }
     }
-    is_given(alloc, disk, moment, either)
+    is_given(alloc, disk, moment, BETWEEN, either)
 }
 
 /// Whether each image of a moment, of which what may stand is one for all calls, leaves one of two lists.
@@ -436,7 +455,7 @@ fn wrong_between(alloc: Global, disk: &MemDisk, from: u64, either: Either<'_>) -
         before: either.after,
         after: either.after,
     };
-    if is_given(alloc, disk, to, settled) {
+    if is_given(alloc, disk, to, BETWEEN, settled) {
         None
     } else {
         Some(to)

@@ -1,5 +1,5 @@
 // A log file and a checkpoint of it: each is cut at each length, and has each byte set to ff. What is read of them is given by rows,
-// each up to a length or an offset, and by a slow reading.
+// each up to a length or an offset, and by a slow reading; a channel that opens the log file has to find the same.
 use crate::logs::leaves;
 use crate::slow::said_by;
 use crate::spelled::spelled;

@@ -155,6 +155,45 @@ checkpoint > broken
 close
 long check-1 none"#;
 
+// The checkpoint of two lines, with another next number of an event.
+const SPENT: &str =
+    r#"No number is left for an event. A put that is not staged is still open, and one of nothing is staged.
+limits 10 10 1000
+log 1 header 1 1 1, gate 1, put 1 a, commit-put 1 0 1, end 2, gate 1, put 2 b, commit-put 2 1 1, end 2, gate 0
+check 1 \x01FLUMECHK\0\0\0\x01\0\0\0\x01\0\0\0\0\0\0\0\x72\xff\xff\xff\xff\xff\xff\xff\xff\0\0\0\0\0\0\0\x03\0\0\0\x02\0\0\0\0\0\0\0\0\0\0\0\x01\0\0\0\0\0\0\0\x11\0\0\0\x09\0\0\0\0\0\0\0\x01\0\0\0\x01\0\0\0\0\0\0\0\x42\0\0\0\x09\0\0\0\0\0\0\0\0
+on-disk
+begin-put > token 3
+put 3 c > done
+stage-put 3 > spent-number
+commit-put 3 > spent-number
+rollback-put 3 > ended
+rollback-put 3 > not-open
+begin-put > token 4
+stage-put 4 > first 18446744073709551615
+gives ab
+
+One is left, and is not enough for two.
+limits 10 10 1000
+log 1 header 1 1 1, gate 1, put 1 a, commit-put 1 0 1, end 2, gate 1, put 2 b, commit-put 2 1 1, end 2, gate 0
+check 1 \x01FLUMECHK\0\0\0\x01\0\0\0\x01\0\0\0\0\0\0\0\x72\xff\xff\xff\xff\xff\xff\xff\xfe\0\0\0\0\0\0\0\x03\0\0\0\x02\0\0\0\0\0\0\0\0\0\0\0\x01\0\0\0\0\0\0\0\x11\0\0\0\x09\0\0\0\0\0\0\0\x01\0\0\0\x01\0\0\0\0\0\0\0\x42\0\0\0\x09\0\0\0\0\0\0\0\0
+on-disk
+begin-put > token 3
+put 3 c > done
+put 3 d > done
+stage-put 3 > spent-number
+rollback-put 3 > ended
+begin-put > token 4
+put 4 e > done
+commit-put 4 > first 18446744073709551614
+begin-put > token 5
+put 5 f > done
+stage-put 5 > spent-number
+rollback-put 5 > ended
+gives abe
+close
+on-disk
+gives abe"#;
+
 #[test]
 fn a_checkpoint_says_what_is_left(rt: HostRuntime) -> Result<(), Fail> {
     pass::<Channels>(rt.alloc(), SPELLED)
@@ -168,6 +207,11 @@ fn transactions_are_open_across_a_checkpoint(rt: HostRuntime) -> Result<(), Fail
 #[test]
 fn checkpoints_have_numbers(rt: HostRuntime) -> Result<(), Fail> {
     pass::<Channels>(rt.alloc(), CALLED)
+}
+
+#[test]
+fn numbers_of_events_end(rt: HostRuntime) -> Result<(), Fail> {
+    pass::<Channels>(rt.alloc(), SPENT)
 }
 
 #[test]

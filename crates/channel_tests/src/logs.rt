@@ -1,15 +1,19 @@
 // Log files, on which the lines of a scenario work, and what they leave. `left 2 3 0:a 1:b` says that 2 and 3 are the numbers of the
 // next event and transaction, and which events are left by their numbers; `bad 1 16` names the file and the offset of the first fault.
-use crate::reading::{Read, read_whole, replayed};
-use crate::slow::left_by;
+use crate::calls::{Call, Said, said};
+use crate::reading::{Read, disk_of, read_whole, replayed};
+use crate::slow::{Left, left_by};
 use crate::spelled::{long_file, spelled};
 use crate::torn::{flushed, stood_of};
+use channel_face::{Limits, OpenCause, Ticket};
 use channel_replay::{RecoverRefused, ReplayRefused, Replayed, WholeFile, recover};
 use event_core::Event;
+use file_channel::FileChannel;
 use flume_host::FileName;
 use host_memory::MemDisk;
 use scenarios::{Scene, is_text, number_of, three_numbers, two_numbers, word_and_rest};
 use std::alloc::Global;
+use test_fixtures::channel_on;
 
 /// Some log files.
 #[derive(Drop)]
@@ -25,6 +29,13 @@ pub struct Logs {
 type Found = Result<Replayed, (u32, u64)>;
 
 const OTHER: (u32, u64) = (u32::MAX, u64::MAX);
+
+// Of a channel that opens some files.
+const OPENED: Limits = Limits {
+    capacity: 100,
+    txn_capacity: 100,
+    max_file: 1000,
+};
 
 fn of_recover(found: Result<Replayed, RecoverRefused>) -> Found {
     match found {
@@ -110,9 +121,55 @@ fn is_recovered(alloc: Global, files: &[WholeFile], want: &str) -> bool {
     is_found(alloc, &found, want) && is_slowly_found(alloc, &found, files)
 }
 
-// Whether so do they all, and the program that replays a folder.
+// What a channel answers to a call of a transaction of its first life.
+fn answer(alloc: Global, channel: &mut FileChannel<MemDisk>, word: &str, number: u64) -> Said {
+    let mut kept = Ticket {
+        life: 0,
+        frame: 0,
+        first: 0,
+        count: 0,
+    };
+    let call = Call {
+        word,
+        life: 1,
+        number,
+        value: 0,
+    };
+    said(alloc, channel, &mut kept, call)
+}
+
+// Whether a channel gives what a slow reading does, and goes on with its next numbers.
+fn has_left(alloc: Global, channel: &mut FileChannel<MemDisk>, left: &Left) -> bool {
+    let (taker, putter) = (left.txn, left.txn.saturating_add(1));
+    if answer(alloc, channel, "begin-take", 0) != ("token", taker) {
+        return false;
+    }
+    for event in left.events.iter() {
+        if answer(alloc, channel, "take", taker) != ("event", event.1) {
+            return false;
+        }
+    }
+    answer(alloc, channel, "take", taker) == ("no-event", 0)
+        && answer(alloc, channel, "begin-put", 0) == ("token", putter)
+        && answer(alloc, channel, "stage-put", putter) == ("first", left.number)
+}
+
+// Whether a channel that opens some files has what a slow reading finds, or is refused for the fault that it finds.
+fn is_opened_so(alloc: Global, files: &[WholeFile]) -> bool {
+    let Some(disk) = disk_of(alloc, files) else {
+        return false;
+    };
+    match (channel_on(alloc, disk, OPENED), left_by(alloc, files)) {
+        (Ok(mut channel), Ok(left)) => has_left(alloc, &mut channel, &left),
+        (Err(OpenCause::BadLog { file, at }), Err(slow)) => (file, at) == slow,
+        _ => false,
+    }
+}
+
+// Whether so do they all, the program that replays a folder, and a channel that opens it.
 fn leave(alloc: Global, files: &[WholeFile], want: &str) -> bool {
     is_recovered(alloc, files, want)
+        && is_opened_so(alloc, files)
         && match replayed(alloc, files, 100) {
             Some(found) => is_found(alloc, &of_replay(found), want),
             None => false,

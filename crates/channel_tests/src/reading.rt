@@ -10,8 +10,8 @@ use std::alloc::Global;
 use std::marker::Brand;
 use std::sync::ledger::{Blank, Ledger};
 
-// A disk with these files.
-fn disk_of(alloc: Global, files: &[WholeFile]) -> Option<MemDisk> {
+/// A disk with these files.
+pub fn disk_of(alloc: Global, files: &[WholeFile]) -> Option<MemDisk> {
     let mut all = Vec::new(alloc);
     for file in files {
         let name = FileName::Log(file.number);
