@@ -1,20 +1,20 @@
 -- Records that are given one after another.
-use Rattle.std.proofs.Common.{◌≡◌, ◌≢◌, ◌≤◌, ◌⊎◌, inl, inr, ℕ, suc, ◌+◌, ◌-◌, List, [], ◌∷◌, ◌++◌, length, take, drop, get_or, append_assoc, refl, sym, ◌∙◌, ap, arith, length-append, length-drop}
+use Rattle.std.proofs.Common.{◌≡◌, ◌≢◌, ◌≤◌, ◌⊎◌, inl, inr, ℕ, suc, ◌+◌, ◌-◌, List, [], ◌∷◌, ◌++◌, length, take, drop, Some, get_or, append_assoc, refl, sym, ◌∙◌, ap, subst, arith, length-append, length-drop}
 use Rattle.std.specs.List.{AllByRecursion}
-use Rattle.std.proofs.lemmas.List.{drop-drop, drop_all, get_or-drop, get_or-append-add, take_all}
+use Rattle.std.proofs.lemmas.List.{drop-drop, drop_all, drop-take, get_or-drop, get_or-append-add, take_rest}
 use Rattle.std.proofs.Math.Seq.{drop-append_seam}
 use Rattle.event_core.specs.Numbers.{u32_bytes}
 use Rattle.event_core.proofs.Sizes.{length-u32_bytes}
 use Rattle.record_form.specs.declared.record.Rec.{Rec}
 use Rattle.record_form.specs.declared.record.Rec.TheVariants.{Put, Take, Rollback, CommitPut, CommitTake, End}
-use Rattle.record_form.specs.declared.record.Read.{Read}
-use Rattle.record_form.specs.declared.record.Read.TheVariants.{Whole}
-use Rattle.record_form.specs.Grammar.{Complete, outcome_of, read_of}
+use Rattle.record_form.specs.declared.record.Outline.{Outline}
+use Rattle.record_form.specs.Grammar.{Complete, IsWhole, as_read, outcome_of, read_of}
+use Rattle.record_form.specs.Outlines.{IsOutlined, outline_of}
 use Rattle.record_form.specs.Record.{record_kind, record_length, spelling}
 use Rattle.record_form.proofs.Again.{length-spelling, record-again}
-use Rattle.channel_log.proofs.ReadOn.{read-again, read_at, some_length, sound}
+use Rattle.channel_log.proofs.ReadOn.{some_length}
 use Rattle.channel_log.specs.Frames.{IsFramed, IsNoEnd, frame_bytes, record_bytes}
-use Rattle.channel_log.specs.Reader.{AreRecords, IsCount, IsFrameBytes, closing, kept, step}
+use Rattle.channel_log.specs.Reader.{AreOutlines, AreRecords, IsCount, IsFrameBytes, IsGiven, Reader, closing, kept, step}
 
 cons_closing : (first : Rec) (records : List Rec) (count : ℕ) → closing (first ∷ records) count ≡ spelling first ++ closing records count
 cons_closing first records count = append_assoc (spelling first) (record_bytes records) (spelling (End count))
@@ -36,32 +36,18 @@ stood_by held (first ∷ records) count each some counted same = record { first 
 pub stood : (held : List ℕ) → AreRecords held → StoodAt held
 stood held are = stood_by held are.0 are.1 are.2 are.3 are.4 are.5
 
-pub read_first : (held : List ℕ) (first : Rec) (records : List Rec) (count : ℕ) → IsFramed first → held ≡ closing (first ∷ records) count → read_of held ≡ Whole (record_kind first) (record_length first)
-read_first held first records count framed same = ap read_of (same ∙ cons_closing first records count) ∙ read-again first (closing records count) (sound first framed)
-
-pub length_first : (held : List ℕ) (first : Rec) (records : List Rec) (count n kind : ℕ) → IsFramed first → held ≡ closing (first ∷ records) count → read_of held ≡ Whole kind n → n ≡ record_length first
-length_first held first records count n kind framed same read = let e : Whole kind n ≡ Whole (record_kind first) (record_length first) = sym read ∙ read_first held first records count framed same in cc
-
-pub some_more : (frame : List ℕ) (place n kind : ℕ) → AreRecords (drop place frame) → read_of (drop place frame) ≡ Whole kind n → 5 ≤ n
-some_more frame place n kind are read =
-    let s = stood (drop place frame) are in
-    omega (arith, length_first (drop place frame) s.first s.records s.count n kind s.framed s.split read, some_length s.first)
+outcome_first : (held : List ℕ) (first : Rec) (records : List Rec) (count : ℕ) → IsFramed first → held ≡ closing (first ∷ records) count → outcome_of held ≡ Complete first (record_length first)
+outcome_first held first records count framed same = ap outcome_of (same ∙ cons_closing first records count) ∙ record-again first (closing records count) framed.fields framed.limits
 
 pub rec_first : (held : List ℕ) (rec first : Rec) (records : List Rec) (count : ℕ) → IsFramed first → held ≡ closing (first ∷ records) count → outcome_of held ≡ Complete rec (record_length rec) → rec ≡ first
 rec_first held rec first records count framed same read =
-    let again : outcome_of held ≡ Complete first (record_length first) = ap outcome_of (same ∙ cons_closing first records count) ∙ record-again first (closing records count) framed.fields framed.limits in
-    let e : Complete rec (record_length rec) ≡ Complete first (record_length first) = sym read ∙ again in cc
+    let e : Complete rec (record_length rec) ≡ Complete first (record_length first) = sym read ∙ outcome_first held first records count framed same in cc
 
 pub length-closing : (records : List Rec) (count : ℕ) → 5 ≤ length (closing records count)
 length-closing records count = omega (arith, length-append (record_bytes records) (6 ∷ u32_bytes count), length-u32_bytes count)
 
 pub length_held : (held : List ℕ) (first : Rec) (records : List Rec) (count : ℕ) → held ≡ closing (first ∷ records) count → length held ≡ record_length first + length (closing records count)
 length_held held first records count same = ap length (same ∙ cons_closing first records count) ∙ length-append (spelling first) (closing records count) ∙ ap (λ (n : ℕ). n + length (closing records count)) (length-spelling first)
-
-pub next_within : (frame : List ℕ) (place n kind : ℕ) → AreRecords (drop place frame) → read_of (drop place frame) ≡ Whole kind n → place + n + 5 ≤ length frame
-next_within frame place n kind are read =
-    let s = stood (drop place frame) are in
-    omega (arith, length_first (drop place frame) s.first s.records s.count n kind s.framed s.split read, length_held (drop place frame) s.first s.records s.count s.split, length-closing s.records s.count, length-drop place frame)
 
 kind_first : (rec : Rec) (rest : List ℕ) → get_or (spelling rec ++ rest) 0 0 ≡ record_kind rec
 kind_first (Put txn event) rest = refl
@@ -108,13 +94,34 @@ given_on frame place n first [] count each same long other = absurd (other (byte
 given_on frame place n first (r ∷ rs) count each same long other = (omega (arith, long), behind frame place n first (r ∷ rs) count same long)
 
 -- of the bytes from a place on
-pub outcome_at : (bytes : List ℕ) (at : ℕ) (rec : Rec) → outcome_of (take (length bytes - at) (drop at bytes)) ≡ Complete rec (record_length rec) → outcome_of (drop at bytes) ≡ Complete rec (record_length rec)
-outcome_at bytes at rec is = ap outcome_of (sym (take_all (length bytes - at) (drop at bytes) (omega (arith, length-drop at bytes)))) ∙ is
+-- The bytes that stand at a place are a record's, of which an outline was read.
+pub record OutlinedAt (held : List ℕ) (outline : Outline) (n : ℕ) (first : Rec) : Type 0 where
+  pub outline_is : outline ≡ outline_of first
+  pub length_is : n ≡ record_length first
 
-pub no_other : (bytes : List ℕ) (at : ℕ) (read : Read) → AreRecords (drop at bytes) → read ≡ read_of (take (length bytes - at) (drop at bytes)) → ((kind n : ℕ) → read ≡ Whole kind n → ⊥) → ⊥
-no_other bytes at read are is other =
+pub outlined_first : (bytes : List ℕ) (at : ℕ) (outline : Outline) (n : ℕ) (first : Rec) (records : List Rec) (count : ℕ) → IsOutlined (take (length bytes - at) (drop at bytes)) outline n → IsFramed first → drop at bytes ≡ closing (first ∷ records) count → OutlinedAt (drop at bytes) outline n first
+outlined_first bytes at outline n first records count outlined framed same =
+    let m = outlined first (record_length first) (ap outcome_of (take_rest bytes at) ∙ outcome_first (drop at bytes) first records count framed same) in
+    record { outline_is = m.0; length_is = m.1 }
+
+-- where a record stands, what is read is whole
+pub whole_first : (held : List ℕ) → AreRecords held → IsWhole (read_of held)
+whole_first held are = let s = stood held are in subst IsWhole (sym (ap as_read (outcome_first held s.first s.records s.count s.framed s.split))) tt
+
+pub whole_at : (bytes : List ℕ) (at : ℕ) → AreRecords (drop at bytes) → IsWhole (read_of (take (length bytes - at) (drop at bytes)))
+whole_at bytes at are = subst (λ (l : List ℕ). IsWhole (read_of l)) (sym (take_rest bytes at)) (whole_first (drop at bytes) are)
+
+-- so many bytes, and the frame's END after them, are there
+pub outline_within : (bytes : List ℕ) (at : ℕ) (outline : Outline) (n : ℕ) → AreRecords (drop at bytes) → IsOutlined (take (length bytes - at) (drop at bytes)) outline n → (5 ≤ n) × (at + n + 5 ≤ length bytes)
+outline_within bytes at outline n are outlined =
     let s = stood (drop at bytes) are in
-    other (record_kind s.first) (record_length s.first) (sym (read_at bytes at read is) ∙ read_first (drop at bytes) s.first s.records s.count s.framed s.split)
+    let m = outlined_first bytes at outline n s.first s.records s.count outlined s.framed s.split in (
+      omega (arith, m.length_is, some_length s.first),
+      omega (arith, m.length_is, length_held (drop at bytes) s.first s.records s.count s.split, length-closing s.records s.count, length-drop at bytes),
+    )
+
+pub outcome_at : (bytes : List ℕ) (at : ℕ) (rec : Rec) → outcome_of (take (length bytes - at) (drop at bytes)) ≡ Complete rec (record_length rec) → outcome_of (drop at bytes) ≡ Complete rec (record_length rec)
+outcome_at bytes at rec is = ap outcome_of (sym (take_rest bytes at)) ∙ is
 
 kept_records : (frame : List ℕ) (next : ℕ) (records : List Rec) (count : ℕ) → next ≤ length frame → AllByRecursion IsFramed records → IsCount count → drop next frame ≡ kept records count → (next ≡ length frame) ⊎ AreRecords (drop next frame)
 kept_records frame next [] count within each counted same = inl (omega (arith, within, ap length same, length-drop next frame))
@@ -130,3 +137,22 @@ next_held frame place next are within gives =
 pub are_records : (held : List ℕ) → IsFrameBytes held → AreRecords held
 unfolding frame_bytes
 are_records held is = (is.0, length is.0, is.1.each, is.1.some, record { some = is.1.some; few = is.1.few }, is.2)
+
+-- what is given by its outline is the outline of a record that stood there
+abbrev pub GivesFirst : Reader → Reader → Outline → ℕ → Type 0
+GivesFirst old new outline at = (first : Rec) (records : List Rec) (count : ℕ) → IsFramed first → AllByRecursion IsFramed records → IsCount count → old.held ≡ closing (first ∷ records) count → (outline ≡ outline_of first) × IsGiven old new (first, at) first records count
+
+pub is_outline : (old new : Reader) (outline : Outline) (at : ℕ) → AreRecords old.held → GivesFirst old new outline at → AreOutlines (Some (outline, at))
+is_outline old new outline at are law = let s = stood old.held are in (s.first, (law s.first s.records s.count s.framed s.each s.counted s.split).0)
+
+-- the one record that stands there
+pub one_first : (held : List ℕ) (are : AreRecords held) (first : Rec) (records : List Rec) (count : ℕ) → IsFramed first → held ≡ closing (first ∷ records) count → first ≡ (stood held are).first
+one_first held are first records count framed same =
+    let s = stood held are in
+    sym (rec_first held s.first first records count framed same (outcome_first held s.first s.records s.count s.framed s.split))
+
+-- what is held, as a part of what was read
+pub held_part : (place stop : ℕ) (read now : List ℕ) → place ≤ stop → now ≡ read → take (stop - place) (drop place now) ≡ drop place (take stop read)
+held_part place stop read now within same =
+    let all : place + (stop - place) ≡ stop = omega (arith, within) in
+    ap (λ (l : List ℕ). take (stop - place) (drop place l)) same ∙ sym (drop-take place (stop - place) read) ∙ ap (λ (n : ℕ). drop place (take n read)) all

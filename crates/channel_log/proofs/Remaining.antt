@@ -3,13 +3,14 @@ use Rattle.std.proofs.Common.{◌≡◌, ◌<◌, ◌≤◌, inl, inr, ℕ, suc,
 use Rattle.std.specs.List.{AllByRecursion}
 use Rattle.std.proofs.lemmas.List.{append_cancel_left, drop-drop}
 use Rattle.std.proofs.Math.Seq.{drop-append_seam}
+use Rattle.record_form.specs.declared.record.Outline.{Outline}
 use Rattle.record_form.specs.declared.record.Rec.{Rec}
 use Rattle.record_form.specs.Record.{record_length}
 use Rattle.channel_log.proofs.Contents.{one_frame, opened-cons, first_of, commits_stops, breaks_stops, tail_of, head_of}
-use Rattle.channel_log.proofs.Given.{length_held, length-closing}
+use Rattle.channel_log.proofs.Given.{GivesFirst, length_held, length-closing, one_first, stood}
 use Rattle.event_core.proofs.Sizes.{length-u32_bytes}
 use Rattle.channel_log.specs.Frames.{IsFrame, IsFramed, frame_bytes, opened}
-use Rattle.channel_log.specs.Reader.{AfterOpen, AreRecords, Goes, Gives, IsAhead, IsBetween, IsCount, IsEntered, IsFront, IsGiven, Opens, OpensNone, Reader, Remains, closing, frame_items, record_items, step}
+use Rattle.channel_log.specs.Reader.{AfterOpen, AreRecords, Goes, Gives, GivesOutline, IsAhead, IsBetween, IsCount, IsEntered, IsFront, IsGiven, Opens, OpensNone, Reader, Remains, closing, frame_items, record_items, step}
 
 -- the reader stands before a commit byte of these frames
 pub between : (r : Reader) (bytes : List ℕ) (items : List (Rec × ℕ)) (fault : Option ℕ) → Remains r bytes items fault → r.held ≡ [] → r.blank ≡ false → IsBetween r bytes items fault
@@ -217,3 +218,13 @@ gives old new bytes items fault given are remains law = elim (remains.stands) [
     | inr i ↦ given_of old new bytes items fault given i.records i.count i.frames remains.long remains.ahead there.0 i.each i.some i.counted i.held i.goes i.items_are law
   ]
 ]
+
+-- and by its outline
+pub gives_outline : (old new : Reader) (bytes : List ℕ) (items : List (Rec × ℕ)) (fault : Option ℕ) (outline : Outline) (at : ℕ) → AreRecords old.held → Remains old bytes items fault → GivesFirst old new outline at → GivesOutline (Some (outline, at)) new bytes items fault
+gives_outline old new bytes items fault outline at are remains law =
+    let s = stood old.held are in (
+      s.first,
+      (law s.first s.records s.count s.framed s.each s.counted s.split).0,
+      gives old new bytes items fault (s.first, at) are remains (λ first records count framed each counted same.
+          subst (λ (rec : Rec). IsGiven old new (rec, at) first records count) (one_first old.held are first records count framed same) (law first records count framed each counted same).1),
+    )

@@ -3,8 +3,10 @@ use Rattle.std.specs.Prelude.{◌≡◌, ◌⊎◌, ◌<◌, ◌≤◌, ◌+◌,
 use Rattle.std.specs.List.{AllByRecursion}
 use Rattle.flume_host.specs.declared.names.FileName.TheVariants.{Log}
 use Rattle.flume_host.specs.Told.{Told, WhereTold}
+use Rattle.record_form.specs.declared.record.Outline.{Outline}
 use Rattle.record_form.specs.declared.record.Rec.{Rec}
 use Rattle.record_form.specs.declared.record.Rec.TheVariants.{End}
+use Rattle.record_form.specs.Outlines.{outline_of}
 use Rattle.record_form.specs.Record.{record_length, spelling}
 use Rattle.channel_log.specs.declared.loading.FrameRefused.{FrameRefused}
 use Rattle.channel_log.specs.declared.loading.FrameRefused.TheVariants as refusals
@@ -159,6 +161,16 @@ Gives None new bytes [] fault = (fault ≡ None) × Remains new bytes [] fault
 Gives None new bytes (item ∷ items) fault = ⊥
 Gives (Some given) new bytes [] fault = ⊥
 Gives (Some given) new bytes (item ∷ items) fault = (given ≡ item) × Remains new bytes items fault
+
+-- what a call gives by the outline alone, of what remained
+abbrev pub GivesOutline : Option (Outline × ℕ) → Reader → List ℕ → List (Rec × ℕ) → Option ℕ → Type 0
+GivesOutline None new bytes items fault = Gives None new bytes items fault
+GivesOutline (Some given) new bytes items fault = (rec : Rec) × (given.0 ≡ outline_of rec) × Gives (Some (rec, given.1)) new bytes items fault
+
+-- what was given is the outline of some record
+abbrev pub AreOutlines : Option (Outline × ℕ) → Type 0
+AreOutlines None = Unit {0}
+AreOutlines (Some given) = (rec : Rec) × (given.0 ≡ outline_of rec)
 
 -- records of a frame, and its END
 abbrev pub AreRecords : List ℕ → Type 0

@@ -3,15 +3,16 @@ ghost use Rattle.std.specs.Prelude.{◌≡◌, ◌≤◌, ◌<◌, ◌+◌, ◌^
 ghost use Rattle.std.specs.List.{AllByRecursion};
 ghost use Rattle.flume_host.specs.Causes.{Rose};
 ghost use Rattle.record_form.specs.declared.record.Rec.{Rec};
+ghost use Rattle.record_form.specs.Outlines.{outline_of};
 ghost use Rattle.channel_log.specs.Frames.{BadHeader, Content, Holds, IsBirth, IsFramed, fault_of, header};
-ghost use Rattle.channel_log.specs.Reader.{AfterOpen, AreRecords, Gives, HasFile, IfTrue, IsCount, IsEntered, IsGiven, IsLoaded, Goes, IsAhead, IsBegun, IsBirthOf, IsSameFile, IsThere, OpensNone, Remains, Stands, WhereBad, closing, content_items, frame_items, kept, step};
+ghost use Rattle.channel_log.specs.Reader.{AfterOpen, AreOutlines, AreRecords, Gives, GivesOutline, HasFile, IfTrue, IsCount, IsEntered, IsGiven, IsLoaded, Goes, IsAhead, IsBegun, IsBirthOf, IsSameFile, IsThere, OpensNone, Remains, Stands, WhereBad, closing, content_items, frame_items, kept, step};
 
 use crate::loading::{FrameRefused, load_frame};
 use crate::window::BLOCK;
 use crate::writer::header_of;
 use event_core::NoMemory;
 use flume_host::{Disk, FileName, Steps};
-use record_form::{Read, Rec, read_record, rec_of};
+use record_form::{Outline, Rec, read_outline, rec_of};
 use std::alloc::Global;
 use std::marker::Model;
 use std::sync::ledger::Ledger;
@@ -20,6 +21,25 @@ use std::sync::ledger::Ledger;
 const END: u8 = 6;
 
 const END_LENGTH: usize = 5;
+
+// The outline of the record at the place of a frame, and the place of the next one, which after the last one is the frame's
+// end.
+fn outline_at(frame: &[u8], place: usize) -> (Outline, usize)
+    requires within { place ≤ length frame.now }
+    requires records { AreRecords (drop place frame.now) }
+    ensures given { (first : Rec) (records : List Rec) (count : ℕ) → IsFramed first → AllByRecursion IsFramed records → IsCount count → drop place frame.now ≡ closing (first ∷ records) count
+        → (result.0 ≡ outline_of first) × (result.1 ≡ place + step first records) × (drop result.1 frame.now ≡ kept records count) }
+    ensures within { result.1 ≤ length frame.now }
+    ensures above { place < result.1 }
+{
+    let (outline, length) = read_outline(&frame[place..]);
+    let next = place + length;
+    if frame[next] == END {
+        (outline, next + END_LENGTH)
+    } else {
+        (outline, next)
+    }
+}
 
 /// The record at the place of a frame, and the place of the next one, which after the last one is the frame's end.
 pub fn record_at(alloc: Global, frame: &[u8], place: usize) -> Result<(Rec, usize), NoMemory>
@@ -30,17 +50,9 @@ pub fn record_at(alloc: Global, frame: &[u8], place: usize) -> Result<(Rec, usiz
     ensures within { IfOk result (λ r. r.1 ≤ length frame.now) }
     ensures above { IfOk result (λ r. place < r.1) }
 {
-    let rest = &frame[place..];
-    let Read::Whole { length, .. } = read_record(rest) else {
-        unreachable!();
-    };
-    let rec = rec_of(alloc, rest)?;
-    let next = place + length as usize;
-    if frame[next] == END {
-        Ok((rec, next + END_LENGTH))
-    } else {
-        Ok((rec, next))
-    }
+    let rec = rec_of(alloc, &frame[place..])?;
+    let (_, next) = outline_at(frame, place);
+    Ok((rec, next))
 }
 
 // The births of a file.
@@ -194,6 +206,21 @@ impl LogReader {
         }
     }
 
+    // Gives the outline of the record that the reader stands before.
+    fn give_outline(&mut self) -> (Outline, u64)
+        requires { AreRecords self.old.held }
+        ensures given { (first : Rec) (records : List Rec) (count : ℕ) → IsFramed first → AllByRecursion IsFramed records → IsCount count → self.old.held ≡ closing (first ∷ records) count
+            → (result.0 ≡ outline_of first) × IsGiven self.old self.new (first, result.1) first records count }
+        ensures file { IsSameFile self.old self.new }
+        ensures rises { (self.old.at < self.new.at) × (self.new.at < 2 ^ 64) }
+    {
+        let (outline, next) = outline_at(&self.read[..self.stop], self.place);
+        let at = self.at;
+        self.at += (next - self.place) as u64;
+        self.place = next;
+        (outline, at)
+    }
+
     // Gives the record that the reader stands before.
     fn give(&mut self) -> Result<(Rec, u64), NoMemory>
         requires { AreRecords self.old.held }
@@ -202,10 +229,8 @@ impl LogReader {
         ensures refused { OnErr result (self.new ≡ self.old) }
         ensures rises { OnOk result ((self.old.at < self.new.at) × (self.new.at < 2 ^ 64)) }
     {
-        let (rec, next) = record_at(self.alloc, &self.read[..self.stop], self.place)?;
-        let at = self.at;
-        self.at += (next - self.place) as u64;
-        self.place = next;
+        let rec = rec_of(self.alloc, &self.read[self.place..self.stop])?;
+        let (_, at) = self.give_outline();
         Ok((rec, at))
     }
 
@@ -316,5 +341,33 @@ impl LogReader {
             }
             Err(_) => Err(FrameRefused::NoMemory),
         }
+    }
+
+    /// As `next`, but of a record's event it gives the length alone: it copies no body, and takes memory only to read on. What
+    /// it gives is always the outline of a record.
+    pub fn next_outline<D: Disk, L: Ledger>(
+        &mut self,
+        disk: &mut D,
+        steps: &mut Steps<L>,
+    ) -> Result<Option<(Outline, u64)>, FrameRefused>
+        requires { IsThere (D.told disk.old) self.old.file }
+        ensures given { IfOk result (λ given. (bytes : List ℕ) (items : List (Rec × ℕ)) (fault : Option ℕ) → HasFile (D.told disk.old) self.old.file bytes → Remains self.old bytes items fault → GivesOutline given self.new bytes items fault) }
+        ensures outlined { IfOk result AreOutlines }
+        ensures bad { IfErr result (λ e. WhereBad e (λ f at. (f ≡ self.old.file) × ((bytes : List ℕ) (items : List (Rec × ℕ)) (fault : Option ℕ) → HasFile (D.told disk.old) self.old.file bytes → Remains self.old bytes items fault → (items ≡ []) × (fault ≡ Some at)))) }
+        ensures refused { OnErr result ((bytes : List ℕ) (items : List (Rec × ℕ)) (fault : Option ℕ) → HasFile (D.told disk.old) self.old.file bytes → Remains self.old bytes items fault → Remains self.new bytes items fault) }
+        ensures file { IsSameFile self.old self.new }
+        ensures rises { IfOk result (λ given. IsSome given → (self.old.at < self.new.at) × (self.new.at < 2 ^ 64)) }
+        ensures ticks { IfOk result (λ given. steps.new ≡ steps.old + (if is_some given then 1 else 0)) }
+        ensures no_ticks { OnErr result (steps.new ≡ steps.old) }
+        ensures same { D.told disk.new ≡ D.told disk.old }
+        ensures fault { IsErrOf result FrameRefused.DiskFault → Rose (D.faults disk.old) (D.faults disk.new) }
+        ensures later { D.faults disk.old ≤ D.faults disk.new }
+        ensures well { (IsErrOf result FrameRefused.DiskFault → ⊥) → D.faults disk.new ≡ D.faults disk.old }
+    {
+        if !self.enter(disk)? {
+            return Ok(None);
+        }
+        steps.tick();
+        Ok(Some(self.give_outline()))
     }
 }

@@ -84,6 +84,7 @@ close
 holds 3 0 FLUMELOG
 long 4 none"#;
 
+/// Takes that are open or staged while the log goes on in further files.
 pub const TAKES: &str =
     r#"One take is open while the log goes on in two further files and ends in a third, and one is staged as it goes on.
 limits 10 10 66
@@ -126,7 +127,7 @@ close
 holds 5 0 FLUMELOG
 long 6 none"#;
 
-// A file has room for two frames of a put.
+/// A file has room for two frames of a put.
 pub const TWO_FRAMES: &str =
     r#"Some files have two frames. A flush of two stages begins the second one, with a take that is still open.
 limits 10 10 115
@@ -196,6 +197,7 @@ close
 holds 4 0 FLUMELOG
 long 5 none"#;
 
+/// Checkpoints while transactions are open or staged.
 pub const CHECKPOINTS: &str =
     r#"Checkpoints are laid while a put and a take are open, and while something is staged.
 limits 10 10 66
@@ -229,6 +231,7 @@ close
 on-disk
 gives cad"#;
 
+/// Old files are removed while a put is open.
 pub const PRUNES: &str =
     r#"Old files are removed while a put is open whose record is in a file that the newest checkpoint needs.
 limits 10 10 66

@@ -5,7 +5,7 @@ use channel_log::LogReader;
 use channel_replay::{ReplayRefused, Replayed, WholeFile, replay};
 use flume_host::{FileName, Steps};
 use host_memory::{MemDisk, MemFile};
-use record_form::Rec;
+use record_form::{Outline, Rec};
 use std::alloc::Global;
 use std::marker::Brand;
 use std::sync::ledger::{Blank, Ledger};
@@ -56,6 +56,13 @@ pub struct Read {
     pub calls: u64,
 }
 
+// By which call of a reader records are given.
+#[derive(Clone, Copy, Debug, PartialEq, Eq)]
+enum By {
+    Records,
+    Outlines,
+}
+
 fn seen(given: &(Rec, u64)) -> (u64, u64, u64) {
     match given {
         (Rec::Put { txn, .. }, at) => (1, *txn, *at),
@@ -64,8 +71,16 @@ fn seen(given: &(Rec, u64)) -> (u64, u64, u64) {
     }
 }
 
+fn outlined(given: &(Outline, u64)) -> (u64, u64, u64) {
+    match given {
+        (Outline::Put { txn, .. }, at) => (1, *txn, *at),
+        (Outline::CommitPut { txn, .. }, at) => (4, *txn, *at),
+        _ => (9, 0, 0),
+    }
+}
+
 // Reads each record of log file 1. The disk tells nothing, so that contracts ask nothing of it.
-fn read_by<L: Ledger>(alloc: Global, blank: Blank, disk: MemDisk) -> Option<Read>
+fn read_by<L: Ledger>(alloc: Global, blank: Blank, disk: MemDisk, by: By) -> Option<Read>
     requires name { blank.name ≡ L.name }
     requires parts { blank.parts ≡ L.parts }
     requires some { 0 < L.parts }
@@ -78,27 +93,51 @@ fn read_by<L: Ledger>(alloc: Global, blank: Blank, disk: MemDisk) -> Option<Read
     };
     let drops = reader.drops();
     for _ in 0..u64::MAX {
-        match reader.next(&mut disk, &mut steps) {
-            Ok(Some(given)) => {
-                if records.push(seen(&given)).is_err() {
+        let given = match by {
+            By::Records => match reader.next(&mut disk, &mut steps) {
+                Ok(Some(given)) => Some(seen(&given)),
+                Ok(None) => None,
+                Err(_) => return None,
+            },
+            By::Outlines => match reader.next_outline(&mut disk, &mut steps) {
+                Ok(Some(given)) => Some(outlined(&given)),
+                Ok(None) => None,
+                Err(_) => return None,
+            },
+        };
+        match given {
+            Some(record) => {
+                if records.push(record).is_err() {
                     return None;
                 }
             }
-            Ok(None) => {
+            None => {
                 return Some(Read {
                     drops,
                     records,
                     calls: disk.calls(),
                 });
             }
-            Err(_) => return None,
         }
     }
     None
 }
 
-/// What a reader gives of log file 1 of these.
-pub fn read_whole(alloc: Global, files: &[WholeFile]) -> Option<Read> {
+fn read_one(alloc: Global, files: &[WholeFile], by: By) -> Option<Read> {
     let disk = disk_of(alloc, files)?;
-    read_by::<Brand>(alloc, Blank::new(1), disk)
+    read_by::<Brand>(alloc, Blank::new(1), disk, by)
+}
+
+/// What a reader gives of log file 1 of these, if it gives the same by outlines as by whole records, in as many calls of the disk.
+pub fn read_whole(alloc: Global, files: &[WholeFile]) -> Option<Read> {
+    let read = read_one(alloc, files, By::Records)?;
+    let outlines = read_one(alloc, files, By::Outlines)?;
+    if outlines.records == read.records
+        && outlines.drops == read.drops
+        && outlines.calls == read.calls
+    {
+        Some(read)
+    } else {
+        None
+    }
 }

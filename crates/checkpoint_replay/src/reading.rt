@@ -11,79 +11,16 @@ ghost use Rattle.ring_replay.specs.Folder.{StopsIn};
 ghost use Rattle.checkpoint_recovery.specs.Reading.{IsInLog};
 ghost use Rattle.checkpoint_replay.specs.Reading.{WhereBehind, WhereFrom, WhereLines};
 
-use channel_log::{FrameRefused, LogReader};
-use channel_replay::{Line, RecoverRefused, ReplayRefused};
+use channel_log::LogReader;
+use channel_replay::{ReplayRefused, of_frame};
 use checkpoint::Place;
 use flume_host::{Disk, FileName, Steps};
-use ring_replay::Indexing;
+use ring_replay::{Indexing, apply_rest, begin_file};
 use std::alloc::Global;
 use std::sync::ledger::Ledger;
 
 // The offset of the first commit byte.
 const FIRST_GATE: u64 = 16;
-
-fn of_frame(refused: FrameRefused) -> ReplayRefused
-    ensures { result ≡ as_frame refused }
-{
-    match refused {
-        FrameRefused::DiskFault => ReplayRefused::DiskFault,
-        FrameRefused::BadLog { file, at } => ReplayRefused::BadLog { file, at },
-        FrameRefused::NoMemory => ReplayRefused::NoMemory,
-    }
-}
-
-fn of_record(refused: RecoverRefused) -> ReplayRefused
-    ensures { result ≡ as_record refused }
-{
-    match refused {
-        RecoverRefused::BadLog { file, at } => ReplayRefused::BadLog { file, at },
-        RecoverRefused::NoMemory => ReplayRefused::NoMemory,
-    }
-}
-
-// Applies the records that a reader has still to give.
-fn apply_rest<D: Disk, L: Ledger>(
-    disk: &mut D,
-    file: u32,
-    reader: &mut LogReader,
-    index: &mut Indexing,
-    steps: &mut Steps<L>,
-) -> Result<(), ReplayRefused>
-    requires there { IsThere (D.told disk.old) file }
-    requires file { reader.old.file ≡ file }
-    requires kept { IsKept index.old }
-    ensures ok { OnOk result ((bytes : List ℕ) (items : List (Rec × ℕ)) (fault : Option ℕ) → HasFile (D.told disk.old) file bytes → Remains reader.old bytes items fault → GoesThrough (record_lines file items ++ fault_lines file fault) index.old index.new) }
-    ensures bad { IfErr result (λ e. WhereBadLog e (λ f at. (bytes : List ℕ) (items : List (Rec × ℕ)) (fault : Option ℕ) → HasFile (D.told disk.old) file bytes → Remains reader.old bytes items fault → StopsIn (record_lines file items ++ fault_lines file fault) index.old f at)) }
-    ensures not_over { IfErr result (λ e. WhereOver e (λ count. ⊥)) }
-    ensures kept { OnOk result (IsKept index.new) }
-    ensures ticks { (bytes : List ℕ) (items : List (Rec × ℕ)) (fault : Option ℕ) → HasFile (D.told disk.old) file bytes → Remains reader.old bytes items fault → steps.new ≤ steps.old + length items }
-    ensures same { D.told disk.new ≡ D.told disk.old }
-    ensures fault { IsErrOf result ReplayRefused.DiskFault → Rose (D.faults disk.old) (D.faults disk.new) }
-    ensures later { D.faults disk.old ≤ D.faults disk.new }
-    ensures well { (IsErrOf result ReplayRefused.DiskFault → ⊥) → D.faults disk.new ≡ D.faults disk.old }
-{
-    loop {
-        match reader.next(disk, steps) {
-            Ok(Some((rec, at))) => match index.apply_line(&Line::Stands { file, at, rec }) {
-                Ok(()) => {}
-                Err(refused) => return Err(of_record(refused)),
-            },
-            Ok(None) => return Ok(()),
-            Err(refused) => return Err(of_frame(refused)),
-        }
-    }
-}
-
-// Drops what is open, if a file is begun so.
-fn begin_file(index: &mut Indexing, drops: bool)
-    requires { IsKept index.old }
-    ensures dropped { GoesThrough (drop_lines drops) index.old index.new }
-    ensures kept { IsKept index.new }
-{
-    if drops {
-        index.drop_open();
-    }
-}
 
 // Applies what a file has from a commit byte on.
 fn apply_file<D: Disk, L: Ledger>(

@@ -9,3 +9,4 @@ pub mod Again
 pub mod Cuts
 pub mod Spelled
 pub mod SpelledPut
+pub mod Outlined

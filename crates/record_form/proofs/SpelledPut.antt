@@ -77,7 +77,7 @@ pub record WholeHeaders (n txn end at : ℕ) (last : Option (List ℕ)) (done : 
   pub long : end ≤ length bytes
   pub is : take (headers_size headers + (4 + length body)) (drop at bytes) ≡ flat_map header_bytes headers ++ counted_bytes body
 
-whole_headers : (n txn end at : ℕ) (last : Option (List ℕ)) (done : List Header) (bytes : List ℕ) (rec : Rec) (stop : ℕ) → AreBytes bytes → at ≤ length bytes → reads (headers_grammar n txn end at last done) (drop at bytes) at ≡ Complete rec stop → WholeHeaders n txn end at last done bytes rec stop
+pub whole_headers : (n txn end at : ℕ) (last : Option (List ℕ)) (done : List Header) (bytes : List ℕ) (rec : Rec) (stop : ℕ) → AreBytes bytes → at ≤ length bytes → reads (headers_grammar n txn end at last done) (drop at bytes) at ≡ Complete rec stop → WholeHeaders n txn end at last done bytes rec stop
 whole_headers zero txn end at last done bytes rec stop are within whole =
     let b = whole_body txn end at done bytes rec stop within (ap (λ g. reads g (drop at bytes) at) (sym (headers-none txn end at last done)) ∙ whole) in
     let n = u32_of (take 4 (drop at bytes)) in

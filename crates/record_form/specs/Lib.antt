@@ -2,3 +2,4 @@ pub mod Answers
 pub mod Grammar
 pub mod Record
 pub mod Laws
+pub mod Outlines

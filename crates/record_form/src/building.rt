@@ -4,27 +4,11 @@ ghost use Rattle.event_core.specs.Content.{content, size};
 ghost use Rattle.record_form.specs.Record.{Spells, record_length};
 ghost use Rattle.record_form.specs.Grammar.{Complete, IsWhole, as_read, kind_grammar, outcome_of, read_of, reads, u32_of, u64_of};
 
-use crate::fields::text_at;
-use crate::record::{
-    COMMIT_PUT, COMMIT_TAKE, EVENT_AT, HEADERS_AT, PUT, ROLLBACK, Rec, SIZE_AT, TAKE,
-};
-use byteorder::{BigEndian, ByteOrder};
+use crate::fields::{text_at, u32_in, u64_in};
+use crate::outlines::read_outline;
+use crate::record::{EVENT_AT, HEADERS_AT, Outline, PUT, Rec, SIZE_AT};
 use event_core::{Event, Headers, NoMemory};
 use std::alloc::Global;
-
-fn u32_in(bytes: &[u8], at: usize) -> u32
-    requires { at + 4 ≤ length bytes.now }
-    ensures { result ≡ u32_of (take 4 (drop at bytes.now)) }
-{
-    BigEndian::read_u32(&bytes[at..at + 4])
-}
-
-fn u64_in(bytes: &[u8], at: usize) -> u64
-    requires { at + 8 ≤ length bytes.now }
-    ensures { result ≡ u64_of (take 8 (drop at bytes.now)) }
-{
-    BigEndian::read_u64(&bytes[at..at + 8])
-}
 
 fn part(bytes: &[u8], start: usize, end: usize) -> &[u8]
     requires ordered { start ≤ end }
@@ -79,27 +63,17 @@ fn kind_of(alloc: Global, bytes: &[u8]) -> Result<Rec, NoMemory>
     requires { IsWhole (read_of bytes.now) }
     ensures { IfOk result (λ rec. (end : ℕ) × (outcome_of bytes.now ≡ Complete rec end)) }
 {
-    match bytes[0] {
-        PUT => put_of(alloc, bytes),
-        TAKE => Ok(Rec::Take {
-            txn: u64_in(bytes, 1),
-            number: u64_in(bytes, 9),
-        }),
-        ROLLBACK => Ok(Rec::Rollback {
-            txn: u64_in(bytes, 1),
-        }),
-        COMMIT_PUT => Ok(Rec::CommitPut {
-            txn: u64_in(bytes, 1),
-            first: u64_in(bytes, 9),
-            count: u32_in(bytes, 17),
-        }),
-        COMMIT_TAKE => Ok(Rec::CommitTake {
-            txn: u64_in(bytes, 1),
-            count: u32_in(bytes, 9),
-        }),
-        _ => Ok(Rec::End {
-            count: u32_in(bytes, 1),
-        }),
+    if bytes[0] == PUT {
+        return put_of(alloc, bytes);
+    }
+    let (outline, _) = read_outline(bytes);
+    match outline {
+        Outline::Put { .. } => unreachable!(),
+        Outline::Take { txn, number } => Ok(Rec::Take { txn, number }),
+        Outline::Rollback { txn } => Ok(Rec::Rollback { txn }),
+        Outline::CommitPut { txn, first, count } => Ok(Rec::CommitPut { txn, first, count }),
+        Outline::CommitTake { txn, count } => Ok(Rec::CommitTake { txn, count }),
+        Outline::End { count } => Ok(Rec::End { count }),
     }
 }
 

@@ -1,7 +1,7 @@
 // The fields of a record, read from some place on.
 ghost use Rattle.std.specs.Prelude.{◌≡◌, ◌<◌, ◌≤◌, ◌^◌, ◌+◌, List, ℕ, length, take, drop, IfOk, IsTrue};
 ghost use Rattle.std.specs.Option.{option_copied};
-ghost use Rattle.record_form.specs.Grammar.{Grammar, reads, text_grammar, is_above, u32_of};
+ghost use Rattle.record_form.specs.Grammar.{Grammar, reads, text_grammar, is_above, u32_of, u64_of};
 ghost use Rattle.record_form.specs.Answers.{Answers, CountsAt, Takes};
 
 use byteorder::{BigEndian, ByteOrder};
@@ -34,6 +34,21 @@ pub(crate) fn u32_at(bytes: &[u8], at: usize) -> Result<u32, Stop>
 {
     let end = skip(bytes, at, 4)?;
     Ok(BigEndian::read_u32(&bytes[at..end]))
+}
+
+// A number whose bytes are there.
+pub(crate) fn u32_in(bytes: &[u8], at: usize) -> u32
+    requires { at + 4 ≤ length bytes.now }
+    ensures { result ≡ u32_of (take 4 (drop at bytes.now)) }
+{
+    BigEndian::read_u32(&bytes[at..at + 4])
+}
+
+pub(crate) fn u64_in(bytes: &[u8], at: usize) -> u64
+    requires { at + 8 ≤ length bytes.now }
+    ensures { result ≡ u64_of (take 8 (drop at bytes.now)) }
+{
+    BigEndian::read_u64(&bytes[at..at + 8])
 }
 
 // The end of a count, which is at least 1.

@@ -41,6 +41,23 @@ pub enum Rec {
     End { count: u32 },
 }
 
+/// What a record says, with the length of its event in place of the event.
+#[derive(Clone, Copy, Debug, PartialEq, Eq)]
+pub enum Outline {
+    /// The length of an event that a transaction puts.
+    Put { txn: u64, length: u32 },
+    /// The number of an event that a transaction takes.
+    Take { txn: u64, number: u64 },
+    /// The end of a transaction without effect.
+    Rollback { txn: u64 },
+    /// The commit of a transaction's puts: the number of the first event, and how many there are.
+    CommitPut { txn: u64, first: u64, count: u32 },
+    /// The commit of a transaction's takes, and how many there are.
+    CommitTake { txn: u64, count: u32 },
+    /// The end of a frame, and how many records stand before it there.
+    End { count: u32 },
+}
+
 /// What the bytes from some place on begin with.
 #[derive(Clone, Copy, Debug, PartialEq, Eq)]
 pub enum Read {

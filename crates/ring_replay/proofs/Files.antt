@@ -2,9 +2,11 @@
 use Rattle.std.proofs.Common.{◌≡◌, ◌≤◌, ◌+◌, ℕ, List, [], ◌∷◌, ◌++◌, length, Option, Some, None, Bool, refl, sym, ◌∙◌, ap, subst, arith, append_assoc, length-append}
 use Rattle.std.proofs.lemmas.List.{append-nil}
 use Rattle.flume_host.specs.Told.{Told}
+use Rattle.record_form.specs.declared.record.Outline.{Outline}
 use Rattle.record_form.specs.declared.record.Rec.{Rec}
+use Rattle.record_form.specs.Outlines.{outline_of}
 use Rattle.channel_log.specs.Frames.{BadHeader, Content, Holds, fault_of}
-use Rattle.channel_log.specs.Reader.{Gives, HasFile, Reader, Remains, WhereBad as FrameBad, content_items}
+use Rattle.channel_log.specs.Reader.{Gives, GivesOutline, HasFile, Reader, Remains, WhereBad as FrameBad, content_items}
 use Rattle.channel_log.specs.declared.loading.FrameRefused.{FrameRefused}
 use Rattle.channel_log.proofs.Contents.{one-content}
 use Rattle.channel_replay.specs.declared.line.Line.{Line}
@@ -17,7 +19,7 @@ use Rattle.channel_replay.specs.Recover.{HasFault, IsAt, begin_lines, fault_line
 use Rattle.channel_replay.specs.Replay.{WhereBadLog, WhereHolds, as_frame, as_record, drop_lines}
 use Rattle.channel_replay.proofs.Lines.{fault_append, past_lines-append, sound_append}
 use Rattle.channel_replay.proofs.Reading.{record_lines-append}
-use Rattle.channel_replay.proofs.Replaying.{GivesOf, StepsOf, frame_bad, frame_maps, record_bad}
+use Rattle.channel_replay.proofs.Replaying.{StepsOf, frame_bad, frame_maps, record_bad}
 use Rattle.ring_replay.specs.declared.indexing.Indexing.{Indexing}
 use Rattle.ring_replay.specs.Indexing.{GoesThrough, IsKept, Keeps, LinesStand, StopsAt}
 use Rattle.ring_replay.specs.Folder.{StopsIn}
@@ -72,34 +74,40 @@ given_none : (rest : List (Rec × ℕ)) (next : Reader) (bytes : List ℕ) (faul
 given_none [] next bytes fault gives = (refl, gives.0)
 given_none (item ∷ more) next bytes fault gives = absurd gives
 
--- the record was applied
-abbrev pub AppliesOne : ℕ → ℕ → Rec → Indexing → Indexing → Type 0
-AppliesOne file at rec old new = GoesThrough (Stands file at rec ∷ []) old new × IsKept new
+-- what the next call gave, of whatever the file has
+abbrev pub OutlinesOf : Option Told → Reader → Option (Outline × ℕ) → Reader → Type 0
+OutlinesOf told reader given next = (bytes : List ℕ) (items : List (Rec × ℕ)) (fault : Option ℕ) → HasFile told reader.file bytes → Remains reader bytes items fault → GivesOutline given next bytes items fault
 
-pub reads_more : (was told after : Option Told) (faulty faults more_faults file : ℕ) (first reader next : Reader) (start now new : Indexing) (none steps more_steps at : ℕ) (rec : Rec)
-    → ReadsOn was told faulty faults file first reader start now none steps → GivesOf told reader (Some (rec, at)) next → next.file ≡ reader.file → more_steps ≡ steps + 1 → AppliesOne file at rec now new → after ≡ told → more_faults ≡ faults
+-- each record of the outline was applied
+abbrev pub AppliesOne : ℕ → ℕ → Outline → Indexing → Indexing → Type 0
+AppliesOne file at outline old new = ((rec : Rec) → outline ≡ outline_of rec → GoesThrough (Stands file at rec ∷ []) old new) × IsKept new
+
+pub reads_more : (was told after : Option Told) (faulty faults more_faults file : ℕ) (first reader next : Reader) (start now new : Indexing) (none steps more_steps at : ℕ) (outline : Outline)
+    → ReadsOn was told faulty faults file first reader start now none steps → OutlinesOf told reader (Some (outline, at)) next → next.file ≡ reader.file → more_steps ≡ steps + 1 → AppliesOne file at outline now new → after ≡ told → more_faults ≡ faults
     → ReadsOn was after faulty more_faults file first next start new none more_steps
-reads_more was told after faulty faults more_faults file first reader next start now new none steps more_steps at rec on gives same_file ticked applies same well = record {
+reads_more was told after faulty faults more_faults file first reader next start now new none steps more_steps at outline on gives same_file ticked applies same well = record {
   same = same ∙ on.same;
   well = well ∙ on.well;
   file_is = same_file ∙ on.file_is;
   kept = applies.1;
   on = λ bytes items fault has remains.
       let u = on.on bytes items fault has remains in
-      let g = given_some u.rest (rec, at) next bytes fault (gives bytes u.rest fault (there was told file reader.file bytes on.same on.file_is has) u.remains) in
+      let m = gives bytes u.rest fault (there was told file reader.file bytes on.same on.file_is has) u.remains in
+      let rec = m.0 in
+      let g = given_some u.rest (rec, at) next bytes fault m.2 in
       record {
         done = u.done ++ (rec, at) ∷ [];
         rest = g.more;
         split = u.split ∙ ap (λ (l : List (Rec × ℕ)). u.done ++ l) g.is ∙ sym (append_assoc u.done ((rec, at) ∷ []) g.more);
         remains = g.remains;
         applies = subst (λ (l : List Line). GoesThrough l start new) (sym (record_lines-append file u.done ((rec, at) ∷ [])))
-            (applies_append (record_lines file u.done) (Stands file at rec ∷ []) start now new u.applies applies.0);
+            (applies_append (record_lines file u.done) (Stands file at rec ∷ []) start now new u.applies (applies.0 rec m.1));
         ticks = omega (arith, ticked, u.ticks, length-append u.done ((rec, at) ∷ []));
       };
 }
 
 pub reads_end : (was told : Option Told) (faulty faults file : ℕ) (first reader next : Reader) (start now : Indexing) (none steps : ℕ)
-    → ReadsOn was told faulty faults file first reader start now none steps → GivesOf told reader None next
+    → ReadsOn was told faulty faults file first reader start now none steps → OutlinesOf told reader None next
     → (bytes : List ℕ) (items : List (Rec × ℕ)) (fault : Option ℕ) → HasFile was file bytes → Remains first bytes items fault → GoesThrough (record_lines file items ++ fault_lines file fault) start now
 reads_end was told faulty faults file first reader next start now none steps on gives bytes items fault has remains =
     let u = on.on bytes items fault has remains in
@@ -137,16 +145,23 @@ reads_fault was told faulty faults file first reader start now none steps e on b
     fault_last : (its gone : List (Rec × ℕ)) (f : Option ℕ) (at : ℕ) → its ≡ gone → f ≡ Some at → record_lines file its ++ fault_lines file f ≡ record_lines file gone ++ Faulty file at ∷ []
     fault_last its gone f at all is = ap (λ (o : Option ℕ). record_lines file its ++ fault_lines file o) is ∙ ap (λ (l : List (Rec × ℕ)). record_lines file l ++ Faulty file at ∷ []) all
 
-pub reads_illegal : (was told : Option Told) (faulty faults file : ℕ) (first reader next : Reader) (start now : Indexing) (none steps at : ℕ) (rec : Rec) (e : RecoverRefused)
-    → ReadsOn was told faulty faults file first reader start now none steps → GivesOf told reader (Some (rec, at)) next
-    → WhereBad e (λ f a. IsAt (Stands file at rec) f a × StopsAt (Stands file at rec) now)
+-- each record of the outline is at fault there
+abbrev pub StopsBy : Outline → ℕ → ℕ → Indexing → ℕ → ℕ → Type 0
+StopsBy outline file at now f a = (rec : Rec) → outline ≡ outline_of rec → IsAt (Stands file at rec) f a × StopsAt (Stands file at rec) now
+
+pub reads_illegal : (was told : Option Told) (faulty faults file : ℕ) (first reader next : Reader) (start now : Indexing) (none steps at : ℕ) (outline : Outline) (e : RecoverRefused)
+    → ReadsOn was told faulty faults file first reader start now none steps → OutlinesOf told reader (Some (outline, at)) next
+    → WhereBad e (λ f a. StopsBy outline file at now f a)
     → WhereBadLog (as_record e) (FaultOf was file first start)
-reads_illegal was told faulty faults file first reader next start now none steps at rec e on gives bad = record_bad e (FaultOf was file first start) (maps e bad)
+reads_illegal was told faulty faults file first reader next start now none steps at outline e on gives bad = record_bad e (FaultOf was file first start) (maps e bad)
   where
-    fault_there : (f a : ℕ) → IsAt (Stands file at rec) f a × StopsAt (Stands file at rec) now → FaultOf was file first start f a
-    fault_there f a h bytes items fault has remains places s past stand keeps =
+    fault_there : (f a : ℕ) → StopsBy outline file at now f a → FaultOf was file first start f a
+    fault_there f a stops bytes items fault has remains places s past stand keeps =
         let u = on.on bytes items fault has remains in
-        let g = given_some u.rest (rec, at) next bytes fault (gives bytes u.rest fault (there was told file reader.file bytes on.same on.file_is has) u.remains) in
+        let m = gives bytes u.rest fault (there was told file reader.file bytes on.same on.file_is has) u.remains in
+        let rec = m.0 in
+        let h = stops rec m.1 in
+        let g = given_some u.rest (rec, at) next bytes fault m.2 in
         let split : record_lines file items ≡ record_lines file u.done ++ Stands file at rec ∷ record_lines file g.more = ap (record_lines file) (u.split ∙ ap (λ (l : List (Rec × ℕ)). u.done ++ l) g.is) ∙ record_lines-append file u.done ((rec, at) ∷ g.more) in
         let behind : List Line = record_lines file g.more ++ fault_lines file fault in
         let all : record_lines file items ++ fault_lines file fault ≡ record_lines file u.done ++ Stands file at rec ∷ behind = ap (λ (l : List Line). l ++ fault_lines file fault) split ∙ append_assoc (record_lines file u.done) (Stands file at rec ∷ record_lines file g.more) (fault_lines file fault) in
@@ -162,7 +177,7 @@ reads_illegal was told faulty faults file first reader next start now none steps
           place = h.0;
         }
 
-    maps : (e : RecoverRefused) → WhereBad e (λ f a. IsAt (Stands file at rec) f a × StopsAt (Stands file at rec) now) → WhereBad e (FaultOf was file first start)
+    maps : (e : RecoverRefused) → WhereBad e (λ f a. StopsBy outline file at now f a) → WhereBad e (FaultOf was file first start)
     maps (records.BadLog f a) h = fault_there f a h
     maps records.NoMemory h = tt
 
@@ -171,11 +186,12 @@ reads_ticks was told faulty faults file first reader start now none steps more o
     let u = on.on bytes items fault has remains in
     omega (arith, is, u.ticks, ap length u.split, length-append u.done u.rest)
 
-pub reads_one_tick : (was told : Option Told) (faulty faults file : ℕ) (first reader next : Reader) (start now : Indexing) (none steps more at : ℕ) (rec : Rec)
-    → ReadsOn was told faulty faults file first reader start now none steps → GivesOf told reader (Some (rec, at)) next → more ≡ steps + 1 → StepsOf was file first none more
-reads_one_tick was told faulty faults file first reader next start now none steps more at rec on gives is bytes items fault has remains =
+pub reads_one_tick : (was told : Option Told) (faulty faults file : ℕ) (first reader next : Reader) (start now : Indexing) (none steps more at : ℕ) (outline : Outline)
+    → ReadsOn was told faulty faults file first reader start now none steps → OutlinesOf told reader (Some (outline, at)) next → more ≡ steps + 1 → StepsOf was file first none more
+reads_one_tick was told faulty faults file first reader next start now none steps more at outline on gives is bytes items fault has remains =
     let u = on.on bytes items fault has remains in
-    let g = given_some u.rest (rec, at) next bytes fault (gives bytes u.rest fault (there was told file reader.file bytes on.same on.file_is has) u.remains) in
+    let m = gives bytes u.rest fault (there was told file reader.file bytes on.same on.file_is has) u.remains in
+    let g = given_some u.rest (m.0, at) next bytes fault m.2 in
     omega (arith, is, u.ticks, ap length u.split, length-append u.done u.rest, ap length g.is)
 
 -- a file from its begin on

@@ -14,3 +14,4 @@ pub mod Standing
 pub mod Files
 pub mod Folders
 pub mod Ends
+pub mod Outlines

@@ -6,8 +6,11 @@ use Rattle.event_core.specs.Content.{Content}
 use Rattle.event_core.specs.Journal.{IsBase, is_among, left, taken_numbers}
 use Rattle.event_core.specs.declared.journal.Entry.{Entry}
 use Rattle.event_core.specs.declared.journal.Entry.TheVariants as entries
+use Rattle.record_form.specs.declared.record.Outline.{Outline}
+use Rattle.record_form.specs.declared.record.Outline.TheVariants as outlines
 use Rattle.record_form.specs.declared.record.Pointer.{Pointer}
 use Rattle.record_form.specs.declared.record.Rec.{Rec}
+use Rattle.record_form.specs.Outlines.{outline_of}
 use Rattle.record_form.specs.declared.record.Rec.TheVariants.{Put, Take, Rollback, CommitPut, CommitTake, End}
 use Rattle.event_ring.specs.Slots.{Index, Left}
 use Rattle.open_table.specs.Tables.{HasAt, Listed, Open, Puts, Table, Takes, is_puts, open_at, size, takes_of}
@@ -102,6 +105,37 @@ Goes false places s past rec new = IsLegal s.base past rec → ⊥
 -- whatever marks it was kept of, the record was applied to these, where it is legal
 abbrev pub GoesOn : Bool → Indexing → Pointer → Rec → Indexing → Type 0
 GoesOn legal old place rec new = (places : Places) (s : Start) (past : Past) → StandsAt places place rec → Keeps places s past old → Goes legal places s past rec new
+
+-- a record of this outline was applied, where it is legal
+abbrev pub GoesBy : Bool → Indexing → Pointer → Outline → Indexing → Type 0
+GoesBy legal old place (outlines.Put txn length) new = (event : Content) → GoesOn legal old place (Put txn event) new
+GoesBy legal old place (outlines.Take txn number) new = GoesOn legal old place (Take txn number) new
+GoesBy legal old place (outlines.Rollback txn) new = GoesOn legal old place (Rollback txn) new
+GoesBy legal old place (outlines.CommitPut txn first count) new = GoesOn legal old place (CommitPut txn first count) new
+GoesBy legal old place (outlines.CommitTake txn count) new = GoesOn legal old place (CommitTake txn count) new
+GoesBy legal old place (outlines.End count) new = GoesOn legal old place (End count) new
+
+-- the outline of some record
+abbrev pub IsSomeOutline : Outline → Type 0
+IsSomeOutline outline = (rec : Rec) × (outline ≡ outline_of rec)
+
+-- the transaction that an outline names
+abbrev pub outline_txn : Outline → ℕ
+outline_txn (outlines.Put txn length) = txn
+outline_txn (outlines.Take txn number) = txn
+outline_txn (outlines.Rollback txn) = txn
+outline_txn (outlines.CommitPut txn first count) = txn
+outline_txn (outlines.CommitTake txn count) = txn
+outline_txn (outlines.End count) = 0
+
+-- the length of the event that an outline names
+abbrev pub outline_length : Outline → ℕ
+outline_length (outlines.Put txn length) = length
+outline_length (outlines.Take txn number) = 0
+outline_length (outlines.Rollback txn) = 0
+outline_length (outlines.CommitPut txn first count) = 0
+outline_length (outlines.CommitTake txn count) = 0
+outline_length (outlines.End count) = 0
 
 -- these numbers are held no longer
 abbrev pub freed : List ℕ → List Left → List Left

@@ -11,7 +11,7 @@ ghost use Rattle.ring_replay.specs.Folder.{AreReplayed, IsReady, StopsIn};
 
 use crate::indexing::Indexing;
 use channel_log::LogReader;
-use channel_replay::{Line, Next, ReplayRefused, of_frame, of_record};
+use channel_replay::{Next, ReplayRefused, of_frame, of_record};
 use event_ring::Ring;
 use flume_host::{Disk, FileName, Steps};
 use std::alloc::Global;
@@ -40,8 +40,8 @@ fn begin(alloc: Global, capacity: u32) -> Result<Indexing, ReplayRefused>
     }
 }
 
-// Applies the records that a reader has still to give.
-fn apply_rest<D: Disk, L: Ledger>(
+/// Applies the records that a reader has still to give, or names the first fault of these.
+pub fn apply_rest<D: Disk, L: Ledger>(
     disk: &mut D,
     file: u32,
     reader: &mut LogReader,
@@ -62,8 +62,8 @@ fn apply_rest<D: Disk, L: Ledger>(
     ensures well { (IsErrOf result ReplayRefused.DiskFault → ⊥) → D.faults disk.new ≡ D.faults disk.old }
 {
     loop {
-        match reader.next(disk, steps) {
-            Ok(Some((rec, at))) => match index.apply_line(&Line::Stands { file, at, rec }) {
+        match reader.next_outline(disk, steps) {
+            Ok(Some((outline, at))) => match index.apply_outline(file, at, outline) {
                 Ok(()) => {}
                 Err(refused) => return Err(of_record(refused)),
             },
@@ -73,8 +73,8 @@ fn apply_rest<D: Disk, L: Ledger>(
     }
 }
 
-// Drops what is open, if a file is begun so.
-fn begin_file(index: &mut Indexing, drops: bool)
+/// Drops what is open, if a file is begun so.
+pub fn begin_file(index: &mut Indexing, drops: bool)
     requires { IsKept index.old }
     ensures dropped { GoesThrough (drop_lines drops) index.old index.new }
     ensures kept { IsKept index.new }

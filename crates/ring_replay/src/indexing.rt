@@ -2,21 +2,24 @@
 ghost use Rattle.std.specs.Prelude.{◌≡◌, ◌<◌, ◌≤◌, ◌+◌, ◌^◌, ◌↔◌, [], ◌∷◌, ℕ, IsTrue, IsSome, IfOk, IfErr, OnErr, OnOk, length, max};
 ghost use Rattle.event_core.specs.Content.{Content};
 ghost use Rattle.record_form.specs.declared.record.Rec.TheVariants.{CommitPut, CommitTake, Put, Rollback, Take};
-ghost use Rattle.ring_replay.specs.Indexing.{GoesOn, GoesThrough, StopsAt, event_length, free_of, HasRoom, IsGivenUp, IsKept, Keeps, Opens, Places, SettlesPuts};
+ghost use Rattle.record_form.specs.declared.record.Rec.{Rec};
+ghost use Rattle.record_form.specs.Outlines.{outline_of};
+ghost use Rattle.ring_replay.specs.Indexing.{GoesBy, GoesOn, GoesThrough, IsSomeOutline, StopsAt, free_of, HasRoom, IsGivenUp, IsKept, Keeps, Opens, Places, SettlesPuts, outline_length, outline_txn};
 ghost use Rattle.event_ring.specs.Slots.{look_at};
 ghost use Rattle.open_table.specs.Tables.{open_at};
-ghost use Rattle.channel_replay.specs.Marks.{Dropped, Past, txn_of};
+ghost use Rattle.channel_replay.specs.declared.line.Line.TheVariants.{Stands};
+ghost use Rattle.channel_replay.specs.Marks.{Dropped, Past};
 ghost use Rattle.channel_replay.specs.Recover.{IsAt, empty_start};
 ghost use Rattle.channel_replay.specs.Plain.{WhereBad};
 ghost use Rattle.channel_replay.specs.Rules.{IsTxn};
 ghost use Rattle.channel_replay.specs.Start.{Start};
 
 use crate::settling::{append, free_all, remove_all};
-use channel_replay::{Line, Next, RecoverRefused};
+use channel_replay::{Next, RecoverRefused};
 use event_core::NoMemory;
 use event_ring::Ring;
 use open_table::{Ended, Item, OpenTable, TableRefused};
-use record_form::{Pointer, Rec};
+use record_form::{Outline, Pointer};
 use std::alloc::Global;
 
 /// What the lines of a log that were applied lead to: a ring of the events that are left, with the place of each one's
@@ -37,25 +40,25 @@ fn is_txn(txn: u64) -> bool
     txn >= 1 && txn <= u64::MAX - 1
 }
 
-fn txn_of(rec: &Rec) -> u64
-    ensures { result ≡ txn_of rec.now }
+fn txn_of(outline: Outline) -> u64
+    ensures { result ≡ outline_txn outline }
 {
-    match rec {
-        Rec::Put { txn, .. } => *txn,
-        Rec::Take { txn, .. } => *txn,
-        Rec::Rollback { txn } => *txn,
-        Rec::CommitPut { txn, .. } => *txn,
-        Rec::CommitTake { txn, .. } => *txn,
-        Rec::End { .. } => 0,
+    match outline {
+        Outline::Put { txn, .. } => txn,
+        Outline::Take { txn, .. } => txn,
+        Outline::Rollback { txn } => txn,
+        Outline::CommitPut { txn, .. } => txn,
+        Outline::CommitTake { txn, .. } => txn,
+        Outline::End { .. } => 0,
     }
 }
 
-// Where a record stands. A record that is no PUT has no event's length.
-fn place_of(file: u32, at: u64, rec: &Rec) -> Pointer
-    ensures { result ≡ record { file = file; at = at; length = event_length rec.now } }
+// Where a record of this outline stands. A record that is no PUT has no event's length.
+fn place_of(file: u32, at: u64, outline: Outline) -> Pointer
+    ensures { result ≡ record { file = file; at = at; length = outline_length outline } }
 {
-    let length = match rec {
-        Rec::Put { event, .. } => event.size() as u32,
+    let length = match outline {
+        Outline::Put { length, .. } => length,
         _ => 0,
     };
     Pointer { file, at, length }
@@ -238,7 +241,11 @@ impl Indexing {
             return Ok(false);
         }
         match self.table.end(txn) {
-            Ended::Puts(places) => self.settle_puts(&places, first, count),
+            Ended::Puts(places) => {
+                let settled = self.settle_puts(&places, first, count);
+                self.table.hand_back(Ended::Puts(places));
+                settled
+            }
             Ended::Takes(_) => Ok(false),
         }
     }
@@ -258,54 +265,48 @@ impl Indexing {
                     return false;
                 }
                 remove_all(&mut self.ring, &numbers);
+                self.table.hand_back(Ended::Takes(numbers));
                 true
             }
             Ended::Puts(_) => false,
         }
     }
 
-    // Applies a record that stands at this place. Whether it is legal.
-    fn apply(&mut self, rec: &Rec, place: Pointer) -> Result<bool, NoMemory>
+    // Applies a record of this outline that stands at this place. Whether it is legal.
+    fn apply(&mut self, outline: Outline, place: Pointer) -> Result<bool, NoMemory>
         requires { IsKept self.old }
-        ensures { IfOk result (λ legal. GoesOn legal self.old place rec.now self.new) }
+        ensures { IfOk result (λ legal. GoesBy legal self.old place outline self.new) }
     {
-        if !is_txn(txn_of(rec)) {
+        if !is_txn(txn_of(outline)) {
             return Ok(false);
         }
-        match rec {
-            Rec::Put { txn, .. } => self.put(*txn, place),
-            Rec::Take { txn, number } => self.take(*txn, *number, place),
-            Rec::Rollback { txn } => Ok(self.roll_back(*txn, place)),
-            Rec::CommitPut { txn, first, count } => self.commit_put(*txn, *first, *count, place),
-            Rec::CommitTake { txn, count } => Ok(self.commit_take(*txn, *count, place)),
-            Rec::End { .. } => Ok(false),
+        match outline {
+            Outline::Put { txn, .. } => self.put(txn, place),
+            Outline::Take { txn, number } => self.take(txn, number, place),
+            Outline::Rollback { txn } => Ok(self.roll_back(txn, place)),
+            Outline::CommitPut { txn, first, count } => self.commit_put(txn, first, count, place),
+            Outline::CommitTake { txn, count } => Ok(self.commit_take(txn, count, place)),
+            Outline::End { .. } => Ok(false),
         }
     }
 
-    /// Applies what stands in a line, or names the fault there.
-    pub fn apply_line(&mut self, line: &Line) -> Result<(), RecoverRefused>
-        requires { IsKept self.old }
-        ensures ok { OnOk result (GoesThrough (line.now ∷ []) self.old self.new) }
+    /// Applies the record of this outline that stands at this offset of a file, or names the fault there.
+    pub fn apply_outline(
+        &mut self,
+        file: u32,
+        at: u64,
+        outline: Outline,
+    ) -> Result<(), RecoverRefused>
+        requires kept { IsKept self.old }
+        requires outlined { IsSomeOutline outline }
+        ensures ok { OnOk result ((rec : Rec) → outline ≡ outline_of rec → GoesThrough (Stands file at rec ∷ []) self.old self.new) }
         ensures kept { OnOk result (IsKept self.new) }
-        ensures bad { IfErr result (λ e. WhereBad e (λ file at. IsAt line.now file at × StopsAt line.now self.old)) }
+        ensures bad { IfErr result (λ e. WhereBad e (λ f a. (rec : Rec) → outline ≡ outline_of rec → IsAt (Stands file at rec) f a × StopsAt (Stands file at rec) self.old)) }
     {
-        match line {
-            Line::Begins => {
-                self.drop_open();
-                Ok(())
-            }
-            Line::Stands { file, at, rec } => match self.apply(rec, place_of(*file, *at, rec)) {
-                Ok(true) => Ok(()),
-                Ok(false) => Err(RecoverRefused::BadLog {
-                    file: *file,
-                    at: *at,
-                }),
-                Err(_) => Err(RecoverRefused::NoMemory),
-            },
-            Line::Faulty { file, at } => Err(RecoverRefused::BadLog {
-                file: *file,
-                at: *at,
-            }),
+        match self.apply(outline, place_of(file, at, outline)) {
+            Ok(true) => Ok(()),
+            Ok(false) => Err(RecoverRefused::BadLog { file, at }),
+            Err(_) => Err(RecoverRefused::NoMemory),
         }
     }
 }

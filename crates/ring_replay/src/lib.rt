@@ -5,5 +5,5 @@ mod folder;
 mod indexing;
 mod settling;
 
-pub use folder::{Replayed, replay, within};
+pub use folder::{Replayed, apply_rest, begin_file, replay, within};
 pub use indexing::Indexing;

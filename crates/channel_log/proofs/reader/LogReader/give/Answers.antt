@@ -1,29 +1,18 @@
-use Rattle.std.proofs.Common.{◌≡◌, ◌≤◌, ◌∷◌, ◌∙◌, drop, take, length, arith, ap, sym, subst}
-use Rattle.std.proofs.lemmas.List.{length-take}
-use Rattle.channel_log.specs.Reader.{AreRecords, Reader, closing}
-use Rattle.channel_log.proofs.Given.{next_held}
-use Rattle.channel_log.proofs.Standing.{ends_or_holds}
+use Rattle.std.proofs.Common.{◌≡◌, ◌-◌, take, drop, ap, sym, subst, ◌∙◌}
+use Rattle.record_form.specs.Grammar.{Complete, outcome_of}
+use Rattle.record_form.specs.Record.{record_length}
+use Rattle.channel_log.specs.Reader.{AreRecords, Reader}
+use Rattle.channel_log.proofs.Given.{held_part, rec_first, whole_first}
 use Rattle.channel_log.proofs.reader.LogReader.give.Goals as goal
 
-pub invariant_of-self : goal.invariant_of-self
-invariant_of-self c =
-    let i = c.self.invariant in
-    let place = c.self.inside.place in
-    let stop = c.self.inside.stop in
-    let read = c.self.inside.read.items in
-    let frame = take stop c.deref.result.now in
-    let same : frame ≡ take stop read = ap (take stop) c.deref.ensures.value in
-    let long : length (take stop read) ≡ stop = omega (arith, i.known, length-take stop read) in
-    let below : c.in_ok-rec.next ≤ length frame = c.in_ok-rec.ensures.within in
-    let within : c.in_ok-rec.next ≤ stop = omega (arith, below, ap length same, long) in
-    let are : AreRecords (drop place (take stop read)) = subst AreRecords (sym (ap (λ (r : Reader). r.held) c.self.view_is)) c.requires in
-    record {
-      within = within;
-      known = i.known;
-      held = ends_or_holds read c.in_ok-rec.next stop i.known (next_held (take stop read) place c.in_ok-rec.next are (omega (arith, within, long)) (λ first records count framed each counted split.
-          let here : drop place frame ≡ closing (first ∷ records) count = ap (drop place) same ∙ split in
-          ap (drop c.in_ok-rec.next) (sym same) ∙ (c.in_ok-rec.ensures.given first records count framed each counted here).2));
-      fits = omega (arith, i.fits, within, c.in_ok-rec.ensures.above);
-      low = i.low;
-      some = i.some;
-    }
+pub rec_of-requires : goal.rec_of-requires
+rec_of-requires c =
+    let part = held_part c.self.inside.place c.self.inside.stop c.self.inside.read.items c.deref.result.now c.self.invariant.within c.deref.ensures.value in
+    whole_first (take (c.self.inside.stop - c.self.inside.place) (drop c.self.inside.place c.deref.result.now)) (subst AreRecords (sym (part ∙ ap (λ (r : Reader). r.held) c.self.view_is)) c.requires)
+
+pub returns-clause-given : goal.returns-clause-given
+returns-clause-given c = λ first records count framed each counted same.
+    let part = held_part c.self.inside.place c.self.inside.stop c.self.inside.read.items c.deref.result.now c.self.invariant.within c.deref.ensures.value in
+    let read : outcome_of c.args.self.now.held ≡ Complete c.in_ok-rec.rec (record_length c.in_ok-rec.rec) = sym (ap outcome_of (part ∙ ap (λ (r : Reader). r.held) c.self.view_is)) ∙ c.in_ok-rec.ensures.read in
+    let is = (c.give_outline-at.ensures.given first records count framed each counted same).1 in
+    record { is = ap (λ x. (x, c.give_outline-at.result.1)) (rec_first c.args.self.now.held c.in_ok-rec.rec first records count framed same read) ∙ is.is; after = is.after }

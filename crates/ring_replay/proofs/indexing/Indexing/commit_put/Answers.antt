@@ -12,10 +12,10 @@ returns-in-Puts c =
     let table : c.see.new.self.table ≡ c.args.self.now.table = ap (λ (r : Indexing). r.table) c.see.ensures in
     let places = c.in-Puts.places.items in
     let mid : Indexing = record c.see.new.self { table = c.end.new.self } in
-    let settles = rw c.deref.ensures.value at c.settle_puts.ensures in
+    let settles = rw c.deref.ensures.value at c.settle_puts-settled.ensures in
     let listed : option_map (λ (o : Open). o.listed) (open_at c.args.self.now.table c.args.txn) ≡ Some (Puts places) = rw table at c.in-Puts.ensures.ended in
-    where_ok c.settle_puts.result (λ ok. SettlesPuts ok places c.args.first c.args.count mid c.settle_puts.new.self) _
-    (λ ok is. puts_commit ok c.args.txn c.args.first c.args.count c.args.place places c.args.self.now mid c.settle_puts.new.self c.requires.txn listed
+    rw c.hand_back.ensures (where_ok c.settle_puts-settled.result (λ ok. SettlesPuts ok places c.args.first c.args.count mid c.settle_puts-settled.new.self) _
+    (λ ok is. puts_commit ok c.args.txn c.args.first c.args.count c.args.place places c.args.self.now mid c.settle_puts-settled.new.self c.requires.txn listed
     (rw table at c.in-Puts.ensures.rest) (c.in-Puts.ensures.count ∙ ap (λ (t : Table). length t) table)
     (ap (λ (r : Indexing). r.ring) c.see.ensures) (ap (λ (r : Indexing). r.next.number) c.see.ensures) (ap (λ (r : Indexing). r.next.txn) c.see.ensures) is)
-    settles
+    settles)

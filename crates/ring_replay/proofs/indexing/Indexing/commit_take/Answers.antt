@@ -21,7 +21,7 @@ returns-in-Takes c =
     let table : c.see.new.self.table ≡ c.args.self.now.table = ap (λ (r : Indexing). r.table) c.see.ensures in
     let ring : c.see.new.self.ring ≡ c.args.self.now.ring = ap (λ (r : Indexing). r.ring) c.see.ensures in
     let listed : option_map (λ (o : Open). o.listed) (open_at c.args.self.now.table c.args.txn) ≡ Some (Takes c.in-Takes.numbers.items) = rw table at c.in-Takes.ensures.ended in
-    takes_commit c.args.txn c.args.count c.args.place c.in-Takes.numbers.items c.args.self.now _ c.requires.txn listed (cc)
+    rw c.hand_back.ensures (takes_commit c.args.txn c.args.count c.args.place c.in-Takes.numbers.items c.args.self.now _ c.requires.txn listed (cc)
     (rw table at c.in-Takes.ensures.rest) (c.in-Takes.ensures.count ∙ ap (λ (t : Table). length t) table)
     (c.remove_all.ensures ∙ (ap (λ (r : Index). record r { live = lacking c.deref.result.now r.live }) ring ∙ ap (λ (l : List ℕ). record c.args.self.now.ring { live = lacking l c.args.self.now.ring.live }) c.deref.ensures.value))
-    (ap (λ (r : Indexing). r.slots) c.see.ensures) (ap (λ (r : Indexing). r.next.number) c.see.ensures) (ap (λ (r : Indexing). r.next.txn) c.see.ensures)
+    (ap (λ (r : Indexing). r.slots) c.see.ensures) (ap (λ (r : Indexing). r.next.number) c.see.ensures) (ap (λ (r : Indexing). r.next.txn) c.see.ensures))

@@ -1,7 +1,7 @@
 use Rattle.std.proofs.Common.{◌≡◌, ◌+◌, ◌-◌, take, drop, arith, ap, ◌∙◌}
 use Rattle.byteorder.specs.Endian.{big_number}
 use Rattle.record_form.proofs.Values.{big_8-take}
-use Rattle.record_form.proofs.building.u64_in.Goals as goal
+use Rattle.record_form.proofs.fields.u64_in.Goals as goal
 
 pub returns : goal.returns
 returns c =
