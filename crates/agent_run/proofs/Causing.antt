@@ -30,10 +30,10 @@ use Rattle.run_tracks.specs.Stops.{IsKept, IsMended}
 use Rattle.agent_run.specs.Causes.{IsLeftBroken, IsSpent, SomeInFolder, SomeIsLeft}
 use Rattle.agent_run.specs.Finals.{finals_of}
 use Rattle.agent_run.specs.FoldersTold.{folder_of}
-use Rattle.agent_run.specs.Settling.{AreSettled}
+use Rattle.run_settling.specs.Settling.{AreSettled}
 use Rattle.agent_run.specs.Wishes.{AreWishes, IsPlaceOf}
-use Rattle.agent_run.specs.declared.homes.AtHome.{AtHome}
-use Rattle.agent_run.specs.declared.settle.Settled.{Settled}
+use Rattle.run_settling.specs.declared.at_home.AtHome.{AtHome}
+use Rattle.run_settling.specs.declared.settling.Settled.{Settled}
 use Rattle.agent_run.proofs.Began.{opened_many}
 use Rattle.agent_run.proofs.Caused.{SomeMend, refused_status}
 use Rattle.agent_run.proofs.Course.{there}

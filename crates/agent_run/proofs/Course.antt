@@ -19,15 +19,15 @@ use Rattle.agent_channels.specs.declared.wish.ChannelWish.{ChannelWish}
 use Rattle.run_tracks.specs.Closes.{IsClosed}
 use Rattle.run_tracks.specs.Homes.{EachTook}
 use Rattle.run_tracks.specs.Stops.{IsKept, IsMended}
-use Rattle.agent_run.specs.Draining.{GoesOn}
+use Rattle.run_settling.specs.Draining.{GoesOn}
 use Rattle.agent_run.specs.Keepers.{closes}
 use Rattle.agent_run.specs.Lists.{NamesOf}
-use Rattle.agent_run.specs.Settling.{AreSettled}
+use Rattle.run_settling.specs.Settling.{AreSettled}
 use Rattle.agent_run.specs.Wishes.{AreWishes}
-use Rattle.agent_run.specs.declared.homes.AtHome.{AtHome}
-use Rattle.agent_run.specs.declared.settle.Settled.{Settled}
+use Rattle.run_settling.specs.declared.at_home.AtHome.{AtHome}
+use Rattle.run_settling.specs.declared.settling.Settled.{Settled}
 use Rattle.agent_run.proofs.Began.{opened_many}
-use Rattle.agent_run.proofs.Chaining.{each_goes_then}
+use Rattle.run_settling.proofs.Chaining.{each_goes_then}
 use Rattle.agent_run.proofs.Left.{closed_long}
 use Rattle.agent_run.proofs.Resting.{names_many}
 use Rattle.agent_run.proofs.Stopping.{counts_silent, keeps_silent, mends_silent}

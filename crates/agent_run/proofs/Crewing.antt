@@ -34,7 +34,7 @@ use Rattle.run_tracks.proofs.Dealing.{ends}
 use Rattle.run_tracks.proofs.Handing.{count_joined}
 use Rattle.agent_run.specs.Alone.{AreAlone}
 use Rattle.agent_run.specs.Assembled.{AreFit, AreUsed, IsCrew, IsStaff}
-use Rattle.agent_run.specs.Draining.{HasOwn}
+use Rattle.run_settling.specs.Draining.{HasOwn}
 use Rattle.agent_run.specs.Keepers.{AreWantedInFolders}
 use Rattle.agent_run.specs.Prepared.{uses_of}
 use Rattle.agent_run.specs.Ends.{AreLinePorts, AreListenPorts, IsKeepPort, IsSinkPort}

@@ -47,21 +47,21 @@ use Rattle.grouped_sinks.specs.declared.row.SinkRow.{SinkRow}
 use Rattle.grouped_sinks.specs.declared.runner.Runner.{Runner}
 use Rattle.run_tracks.proofs.Homing.{zips_length}
 use Rattle.std.proofs.lemmas.Option.{slice_get_within}
-use Rattle.agent_run.specs.Draining.{IsDrainedAt, IsSinkHome}
+use Rattle.run_settling.specs.Draining.{IsDrainedAt, IsSinkHome}
 use Rattle.agent_run.specs.Finals.{RunsAreTold, finals_of}
 use Rattle.agent_run.specs.Joined.{HaveReturned}
 use Rattle.agent_run.specs.Opening.{IsManned}
 use Rattle.agent_run.specs.Outside.{IsOutside}
 use Rattle.agent_run.specs.Runs.{Runs}
-use Rattle.agent_run.specs.Settling.{AreSettled}
+use Rattle.run_settling.specs.Settling.{AreSettled}
 use Rattle.agent_run.specs.Wholes.{AreBeside, IsSinkWhole}
-use Rattle.agent_run.specs.declared.homes.AtHome.{AtHome}
+use Rattle.run_settling.specs.declared.at_home.AtHome.{AtHome}
 use Rattle.agent_run.specs.declared.joined.Joined.{Joined}
 use Rattle.agent_run.specs.declared.opening.Manned.{Manned}
 use Rattle.agent_run.specs.declared.opening.Opening.{Opening}
-use Rattle.agent_run.specs.declared.settle.Settled.{Settled}
+use Rattle.run_settling.specs.declared.settling.Settled.{Settled}
 use Rattle.agent_run.specs.declared.workers.Returned.{Returned}
-use Rattle.agent_run.proofs.Chaining.{drained_ends}
+use Rattle.run_settling.proofs.Chaining.{drained_ends}
 use Rattle.grouped_sinks.specs.Splits.{AllHanded, Handed, RunnersSplit}
 use Rattle.agent_run.proofs.Course.{there}
 use Rattle.agent_run.proofs.Naming.{is_out}

@@ -27,10 +27,10 @@ use Rattle.run_tracks.specs.Drained.{called_in}
 use Rattle.run_tracks.specs.Tracks.{Track}
 use Rattle.channel_lock.proofs.Histories.{begins_self}
 use Rattle.agent_run.specs.DrainedTold.{DrainTold, DrainedTold, PutsEnd}
-use Rattle.agent_run.specs.Draining.{AreDrained, IsDrainedAt, IsDrainedHome, IsSinkHome}
-use Rattle.agent_run.specs.declared.homes.AtHome.{AtHome}
+use Rattle.run_settling.specs.Draining.{AreDrained, IsDrainedAt, IsDrainedHome, IsSinkHome}
+use Rattle.run_settling.specs.declared.at_home.AtHome.{AtHome}
 use Rattle.agent_run.proofs.Bare.{IsBare, stays_bare}
-use Rattle.agent_run.proofs.Chaining.{all_go_on, drained_ends, drained_goes_on, sink_goes_on}
+use Rattle.run_settling.proofs.Chaining.{all_go_on, drained_ends, drained_goes_on, sink_goes_on}
 use Rattle.agent_run.proofs.Course.{Course, Stands, closed_are_many, counted_many, drained_many, homes_many, kept_many, mended_many, names_are_many, shares_many, tells_of, there}
 use Rattle.agent_run.proofs.Left.{at_rest, closed_at, finals_are, left_below, left_run}
 use Rattle.agent_run.proofs.Quiet.{IsQuiet, drained_quiet, kept_if_quiet, mended_quiet, none_puts, quiet_at, quiet_self, quiet_then}

@@ -7,7 +7,7 @@ use Rattle.source_worker.specs.declared.worker.ListenWorker.{ListenWorker}
 use Rattle.line_worker.specs.declared.worker.LineWorker.{LineWorker}
 use Rattle.run_tracks.specs.Homes.{EachTook}
 use Rattle.run_tracks.proofs.Homing.{took_at_later, took_each_later}
-use Rattle.agent_run.specs.declared.homes.AtHome.{AtHome}
+use Rattle.run_settling.specs.declared.at_home.AtHome.{AtHome}
 use Rattle.agent_run.specs.declared.homes.LineEnded.{LineEnded}
 use Rattle.agent_run.specs.Ends.{IsKeepEnded, IsLineEnded, IsListenEnded, IsSinkEnded}
 

@@ -40,7 +40,7 @@ use Rattle.agent_run.specs.Histories.{Checked, IsDiskOf, IsKeepTold, IsLineTold,
 use Rattle.agent_run.specs.Runs.{AreNew, owners_at, owners_of}
 use Rattle.agent_run.specs.Wholes.{AreBeside, AreSilentAt, IsSinkWhole, StaysSilent}
 use Rattle.agent_run.specs.declared.homes.LineEnded.{LineEnded}
-use Rattle.agent_run.specs.declared.settle.Settled.{Settled}
+use Rattle.run_settling.specs.declared.settling.Settled.{Settled}
 use Rattle.agent_run.specs.declared.workers.Returned.{Returned}
 use Rattle.agent_run.specs.declared.workers.Workers.{Workers}
 use Rattle.agent_run.proofs.Unrun.{none_called}

@@ -26,16 +26,16 @@ use Rattle.run_tracks.specs.Homes.{EachTook, IsAt}
 use Rattle.run_tracks.specs.Places.{Zips}
 use Rattle.run_tracks.specs.Stops.{IsKept, IsMended}
 use Rattle.agent_run.specs.Alone.{AreAlone, Differ, IsAway}
-use Rattle.agent_run.specs.Draining.{EachGoesOn, IsDrainedAt, IsSinkHome}
+use Rattle.run_settling.specs.Draining.{EachGoesOn, IsDrainedAt, IsSinkHome}
 use Rattle.agent_run.specs.Ends.{IsLineEnded}
 use Rattle.agent_run.specs.Finals.{AreToldInFull, RunsAreTold, finals_of}
 use Rattle.agent_run.specs.Histories.{IsKeepTold, IsLineTold, IsListenTold, IsSinkTold}
 use Rattle.agent_run.specs.Joined.{AreTold}
 use Rattle.agent_run.specs.Runs.{AreEnded, AreNew, AreWorkers, Runs, owners_at, owners_of}
-use Rattle.agent_run.specs.Settling.{AreSettled}
+use Rattle.run_settling.specs.Settling.{AreSettled}
 use Rattle.agent_run.specs.Wholes.{AreSilentAt, IsNot, IsSilentAt, KeepersStayTold, LinesStayTold, ListenersStayTold, StaysSilent}
-use Rattle.agent_run.specs.declared.homes.AtHome.{AtHome}
-use Rattle.agent_run.specs.declared.settle.Settled.{Settled}
+use Rattle.run_settling.specs.declared.at_home.AtHome.{AtHome}
+use Rattle.run_settling.specs.declared.settling.Settled.{Settled}
 use Rattle.agent_run.specs.declared.workers.Returned.{Returned}
 use Rattle.agent_run.specs.declared.workers.Workers.{Workers}
 use Rattle.agent_run.proofs.Finishing.{all_on, behind_silent}

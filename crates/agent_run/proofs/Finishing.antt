@@ -17,12 +17,12 @@ use Rattle.two_channels.specs.declared.shared.EitherShared.{EitherShared}
 use Rattle.run_tracks.specs.Closes.{AreClosed, IsClosed}
 use Rattle.run_tracks.specs.Dealt.{HasNumber}
 use Rattle.run_tracks.specs.Stops.{IsKept, IsMended}
-use Rattle.agent_run.specs.Draining.{EachGoesOn, GoesOn, IsDrainedAt}
-use Rattle.agent_run.specs.Settling.{AreSettled}
+use Rattle.run_settling.specs.Draining.{EachGoesOn, GoesOn, IsDrainedAt}
+use Rattle.run_settling.specs.Settling.{AreSettled}
 use Rattle.agent_run.specs.Wholes.{IsSilent, StaysSilent}
-use Rattle.agent_run.specs.declared.homes.AtHome.{AtHome}
-use Rattle.agent_run.specs.declared.settle.Settled.{Settled}
-use Rattle.agent_run.proofs.Chaining.{each_goes_then}
+use Rattle.run_settling.specs.declared.at_home.AtHome.{AtHome}
+use Rattle.run_settling.specs.declared.settling.Settled.{Settled}
+use Rattle.run_settling.proofs.Chaining.{each_goes_then}
 use Rattle.agent_run.proofs.Silence.{silent_then}
 use Rattle.agent_run.proofs.Stopping.{counts_silent, keeps_silent, mends_silent}
 

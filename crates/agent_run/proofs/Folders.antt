@@ -33,9 +33,9 @@ use Rattle.agent_run.specs.Keepers.{closes}
 use Rattle.agent_run.specs.RolledTold.{CountsMore}
 use Rattle.agent_run.specs.Run.{IsAtRest}
 use Rattle.agent_run.specs.Wishes.{IsFileOf, IsPlaceOf, IsWish}
-use Rattle.agent_run.specs.declared.homes.AtHome.{AtHome}
+use Rattle.run_settling.specs.declared.at_home.AtHome.{AtHome}
 use Rattle.agent_run.proofs.Began.{IsPlacedIn, began_at}
-use Rattle.agent_run.proofs.Chaining.{all_go_on}
+use Rattle.run_settling.proofs.Chaining.{all_go_on}
 use Rattle.agent_run.proofs.Course.{Course, Stands, base_at, closed_are_many, counted_many, cs_many, drained_many, homes_many, kept_many, mended_many, names_are_many, share_at, shares_many, tells_of, there}
 use Rattle.agent_run.proofs.Kept.{ends_kept}
 use Rattle.agent_run.proofs.Left.{IsDiskLeft, at_rest, closed_at, disk_left, finals_are, told_at}

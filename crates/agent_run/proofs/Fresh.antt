@@ -21,7 +21,7 @@ use Rattle.agent_channels.specs.Openings.{HostTold, IsOpened}
 use Rattle.agent_channels.specs.Several.{AreOpened}
 use Rattle.agent_channels.specs.declared.opened.OpenedChannel.{OpenedChannel}
 use Rattle.agent_channels.specs.declared.wish.ChannelWish.{ChannelWish}
-use Rattle.agent_run.specs.Draining.{HasOwn}
+use Rattle.run_settling.specs.Draining.{HasOwn}
 use Rattle.agent_run.proofs.Owning.{first_own}
 
 -- what holds of each new pass of a channel

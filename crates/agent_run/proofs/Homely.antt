@@ -19,8 +19,8 @@ use Rattle.run_tracks.specs.Dealt.{HasNumber}
 use Rattle.run_tracks.specs.Homes.{EachTook}
 use Rattle.run_tracks.specs.Stops.{AreCounted, AreKept, AreMended, IsKept, IsMended, KeptIf}
 use Rattle.sound_lines.proofs.Homes.{IsFairHome, drained_goes, home_goes, kept_home, mended_home, took_fair}
-use Rattle.agent_run.specs.Draining.{AreDrained, IsDrainedAt, IsDrainedHome, under}
-use Rattle.agent_run.specs.declared.homes.AtHome.{AtHome}
+use Rattle.run_settling.specs.Draining.{AreDrained, IsDrainedAt, IsDrainedHome, under}
+use Rattle.run_settling.specs.declared.at_home.AtHome.{AtHome}
 
 -- The pass carries a number of its own, and its calls with this one are fair.
 pub record IsFairPass (n : ℕ) (p : Known) : Type 0 where

@@ -15,7 +15,7 @@ use Rattle.two_channels.specs.declared.shared.EitherShared.{EitherShared}
 use Rattle.run_tracks.specs.Homes.{TookAt}
 use Rattle.run_tracks.specs.Places.{TookEach, Zips}
 use Rattle.run_tracks.specs.Told.{IsNew}
-use Rattle.agent_run.specs.Draining.{EachGoesOn}
+use Rattle.run_settling.specs.Draining.{EachGoesOn}
 use Rattle.agent_run.specs.Ends.{IsLineEnded, IsListenEnded}
 use Rattle.agent_run.specs.Histories.{IsLineTold, IsListenTold}
 use Rattle.agent_run.specs.Opened.{IsLineOpened, IsListenOpened}

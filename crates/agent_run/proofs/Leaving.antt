@@ -53,7 +53,7 @@ use Rattle.run_tracks.specs.Places.{Zips}
 use Rattle.run_tracks.specs.Stops.{IsKept, IsMended}
 use Rattle.agent_run.specs.DialedTold.{DialsTold}
 use Rattle.agent_run.specs.DrainedTold.{DrainedTold}
-use Rattle.agent_run.specs.Draining.{IsDrainedAt}
+use Rattle.run_settling.specs.Draining.{IsDrainedAt}
 use Rattle.agent_run.specs.Ends.{IsSinkEnded}
 use Rattle.agent_run.specs.FoldersTold.{FoldersAreApart, FoldersRan, FoldersTold}
 use Rattle.agent_run.specs.Histories.{IsSinkTold}
@@ -64,23 +64,23 @@ use Rattle.agent_run.specs.Prepared.{uses_of}
 use Rattle.agent_run.specs.Run.{IsGivenBack}
 use Rattle.agent_run.specs.RunLeft.{RunLeft}
 use Rattle.agent_run.specs.Runs.{Runs}
-use Rattle.agent_run.specs.Settling.{AreSettled}
+use Rattle.run_settling.specs.Settling.{AreSettled}
 use Rattle.agent_run.specs.Staff.{IsSinkOf}
 use Rattle.agent_run.specs.Through.{PlanRan, RanThrough}
 use Rattle.agent_run.specs.Wholes.{AreBeside, IsSinkWhole}
 use Rattle.agent_run.specs.Wishes.{AreWishes}
-use Rattle.agent_run.specs.declared.homes.AtHome.{AtHome}
+use Rattle.run_settling.specs.declared.at_home.AtHome.{AtHome}
 use Rattle.agent_run.specs.declared.joined.Joined.{Joined}
 use Rattle.agent_run.specs.declared.opening.Manned.{Manned}
 use Rattle.agent_run.specs.declared.outcome.ChannelEnd.{ChannelEnd}
 use Rattle.agent_run.specs.declared.outside.Outside.{Outside}
 use Rattle.agent_run.specs.declared.prepare.Prepared.{Prepared}
-use Rattle.agent_run.specs.declared.settle.Settled.{Settled}
+use Rattle.run_settling.specs.declared.settling.Settled.{Settled}
 use Rattle.agent_run.specs.declared.workers.Returned.{Returned}
 use Rattle.agent_run.specs.declared.workers.Workers.{Workers}
 use Rattle.agent_run.proofs.Asking.{AsksOnLinks, ClosesSo, dialed_told}
 use Rattle.agent_run.proofs.Boxing.{HandsOn, boxed_told}
-use Rattle.agent_run.proofs.Chaining.{drained_ends}
+use Rattle.run_settling.proofs.Chaining.{drained_ends}
 use Rattle.agent_run.proofs.Comeback.{opened_state}
 use Rattle.agent_run.proofs.Course.{Course, Stands, closed_are_many, tells_of}
 use Rattle.agent_run.proofs.Dialing.{IsSameSink, sinks_stay, some_share}

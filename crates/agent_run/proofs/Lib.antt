@@ -12,7 +12,6 @@ pub mod Lined
 pub mod Behind
 pub mod Telling
 pub mod Staffing
-pub mod Chaining
 pub mod Owning
 pub mod Widening
 pub mod Silence
@@ -22,7 +21,6 @@ pub mod Talking
 pub mod Stopping
 pub mod Joining
 pub mod Keeping
-pub mod Settled
 pub mod Broken
 pub mod Given
 pub mod Assembling

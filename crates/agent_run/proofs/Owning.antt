@@ -7,9 +7,9 @@ use Rattle.shared_channel.specs.Passes.{Known, new_pass, new_passes}
 use Rattle.sink_worker.specs.declared.worker.SinkWorker.{SinkWorker}
 use Rattle.channel_lock.specs.Calls.{has}
 use Rattle.run_tracks.proofs.Homing.{has_numbers}
-use Rattle.agent_run.specs.Draining.{FirstHasOwn, HasOwn, IsSinkHome, OwnIsKept}
+use Rattle.run_settling.specs.Draining.{FirstHasOwn, HasOwn, IsSinkHome, OwnIsKept}
 use Rattle.agent_run.specs.Ends.{IsSinkEnded}
-use Rattle.agent_run.specs.declared.homes.AtHome.{AtHome}
+use Rattle.run_settling.specs.declared.at_home.AtHome.{AtHome}
 
 own_push : (ps : List Known) (p : Known) → AllByRecursion HasOwn ps → HasOwn p → AllByRecursion HasOwn (ps ++ p ∷ [])
 own_push [] p all one = (one, tt)

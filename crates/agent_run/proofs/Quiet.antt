@@ -28,8 +28,8 @@ use Rattle.run_tracks.specs.Drained.{called_in}
 use Rattle.run_tracks.specs.Stops.{IsKept, KeptIf}
 use Rattle.run_tracks.specs.Tracks.{Track}
 use Rattle.agent_run.specs.DrainedTold.{IsNoPut}
-use Rattle.agent_run.specs.Draining.{IsDrainedAt, IsDrainedHome, IsSinkHome}
-use Rattle.agent_run.specs.declared.homes.AtHome.{AtHome}
+use Rattle.run_settling.specs.Draining.{IsDrainedAt, IsDrainedHome, IsSinkHome}
+use Rattle.run_settling.specs.declared.at_home.AtHome.{AtHome}
 use Rattle.agent_run.proofs.TakesOnly.{PutNone, drain_takes}
 
 -- none of these calls puts

@@ -35,7 +35,7 @@ use Rattle.agent_end.specs.declared.ends.ReportRefused.{ReportRefused}
 use Rattle.agent_end.specs.declared.ends.ReportRefused.TheVariants as report
 use Rattle.agent_end.specs.declared.ends.RunEnds.{RunEnds}
 use Rattle.agent_run.specs.Causes.{CausesTold, IsCutBy, IsReadable, IsTaken, IsSpent, SomeInFolder, SomeIsLeft, line_limit}
-use Rattle.agent_run.specs.Draining.{IsDrainedAt}
+use Rattle.run_settling.specs.Draining.{IsDrainedAt}
 use Rattle.agent_run.specs.Errors.{IsRunStatus}
 use Rattle.agent_run.specs.Prepared.{uses_of}
 use Rattle.agent_run.specs.RunDid.{Steps, passes_of}
@@ -46,7 +46,7 @@ use Rattle.agent_run.specs.declared.outcome.ChannelEnd.{ChannelEnd}
 use Rattle.agent_run.specs.declared.outside.Outside.{Outside}
 use Rattle.agent_run.specs.declared.prepare.Prepared.{Prepared}
 use Rattle.agent_run.specs.declared.seats.Seat.{Seat}
-use Rattle.agent_run.specs.declared.settle.Settled.{Settled}
+use Rattle.run_settling.specs.declared.settling.Settled.{Settled}
 use Rattle.agent_run.specs.declared.streams.StreamsEnded.{StreamsEnded}
 use Rattle.agent_run.proofs.Caused.{SomeMend, by_fault, by_full, by_long, by_mend, disk_fault, is_status, mend_first}
 use Rattle.agent_run.proofs.Causing.{FoldersAre, folders_are, in_some, left_some, some_left}

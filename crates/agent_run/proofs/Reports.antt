@@ -18,7 +18,7 @@ use Rattle.two_channels.specs.Shares.{pass_of}
 use Rattle.agent_run.specs.Lists.{NamesOf}
 use Rattle.agent_run.specs.ReportTold.{ReportTold, counts_seen}
 use Rattle.agent_run.specs.Streams.{IsReported}
-use Rattle.agent_run.specs.declared.homes.AtHome.{AtHome}
+use Rattle.run_settling.specs.declared.at_home.AtHome.{AtHome}
 use Rattle.agent_run.proofs.Course.{Course, Stands, counted_many, mended_many, names_are_many, tells_of, there}
 use Rattle.agent_run.proofs.Left.{at_rest, finals_are}
 use Rattle.std.specs.Prelude.{Ok, Err, true, false}

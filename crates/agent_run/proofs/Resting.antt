@@ -23,7 +23,7 @@ use Rattle.agent_channels.specs.declared.wish.ChannelPlace.{ChannelPlace}
 use Rattle.agent_channels.specs.declared.wish.ChannelPlace.TheVariants.{Memory, Folder}
 use Rattle.agent_channels.specs.declared.wish.ChannelWish.{ChannelWish}
 use Rattle.agent_channels.specs.Several.{ClosedFit}
-use Rattle.agent_run.specs.Draining.{AreDrained}
+use Rattle.run_settling.specs.Draining.{AreDrained}
 use Rattle.agent_run.specs.Lists.{IsEmptyFor, NamesOf}
 use Rattle.agent_run.specs.Opening.{CanBeManned, IsManned}
 use Rattle.agent_run.specs.Outside.{AreFrom}

@@ -25,11 +25,11 @@ use Rattle.run_tracks.specs.Places.{Zips}
 use Rattle.run_tracks.specs.Tracks.{Mended, Turned, ended, track_of}
 use Rattle.run_tracks.proofs.Homing.{prefix_then}
 use Rattle.run_tracks.proofs.Tracking.{own_same}
-use Rattle.agent_run.specs.declared.homes.AtHome.{AtHome}
-use Rattle.agent_run.specs.Draining.{AreDrained, GoesOn, IsDrainedAt, IsDrainedHome, IsSinkHome, under}
+use Rattle.run_settling.specs.declared.at_home.AtHome.{AtHome}
+use Rattle.run_settling.specs.Draining.{AreDrained, GoesOn, IsDrainedAt, IsDrainedHome, IsSinkHome, under}
 use Rattle.agent_run.specs.Histories.{IsSinkTold}
 use Rattle.agent_run.specs.Wholes.{AreBeside, AreOtherJobs, AreOthers, OthersStay, DrainsAreSilent, IsNot, IsOther, IsSilent, IsSilentAt, IsSinkWhole, SinksAreWhole, StaysSilent, WorkedAndDrained}
-use Rattle.agent_run.proofs.Chaining.{drained_goes_on, sink_goes_on}
+use Rattle.run_settling.proofs.Chaining.{drained_goes_on, sink_goes_on}
 use Rattle.agent_run.proofs.Widening.{rounds_wider}
 
 rest_under : (m : ℕ) (b : Bool) (x : Step) (d : List Step) → AreUnder m (keep b x d) → AreUnder m d

@@ -3,40 +3,31 @@ use Rattle.std.proofs.Common.{◌≡◌, ◌<◌, ℕ, List, Bool, Ok, true, fal
 use Rattle.channel_face.specs.History.{Opening, Step}
 use Rattle.channel_face.specs.Machine.{State}
 use Rattle.shared_channel.specs.Passes.{Known}
-use Rattle.shared_channel.specs.Ports.{Later, later_none}
+use Rattle.shared_channel.specs.Ports.{Later}
 use Rattle.channel_lock.specs.Views.{saw}
 use Rattle.channel_lock.proofs.Histories.{begins_self}
-use Rattle.agent_run.specs.Draining.{GoesOn, under}
-use Rattle.run_tracks.specs.Stops.{IsKept, KeptIf}
+use Rattle.run_settling.specs.Draining.{GoesOn, under}
 use Rattle.two_channels.specs.declared.shared.EitherShared.{EitherShared}
 use Rattle.agent_run.specs.Wholes.{CountsAreSilent, IsSilent, KeepsAreSilent, MendsAreSilent}
+use Rattle.run_settling.proofs.GoingOn.{kept_go_on, kept_later, mended_go_on}
 use Rattle.agent_run.proofs.Silence.{silent_under}
-
-later_goes_on : (p q : Known) → Later p q → GoesOn p q
-later_goes_on p q later = record { table = later.table; number = later.number; base = later.base; passes = later.passes; numbers = later.numbers; begins = later.begins }
 
 -- so it is with the number that it carries
 later_under : (p q : Known) → Later p q → Later (under p.number p) (under p.number q)
 later_under p q later = subst (λ (k : Known). Later p k) (λ i. record q { number = later.number i }) later
-
--- the pass of one that is kept, or is not to be, goes on
-kept_later : {A B : Type 0} (disk : A → Opening → List Step → Type 0) (tells : A → Bool) (moment : A → ℕ) (laid : A → State → Type 0) (pruned : A → Type 0)
-    (share : EitherShared A B) (b : Bool) (p q : Known) → KeptIf b (IsKept disk tells moment laid pruned share) p q → Later p q
-kept_later disk tells moment laid pruned share true p q is = is.later
-kept_later disk tells moment laid pruned share false p q same = subst (Later p) (sym same) (later_none p)
 
 pub keeps_silent : (A B : Type 0) (disk : A → Opening → List Step → Type 0) (tells : A → Bool) (moment : A → ℕ) (laid : A → State → Type 0) (pruned : A → Type 0)
     → KeepsAreSilent A B disk tells moment laid pruned
 keeps_silent A B disk tells moment laid pruned share shares closes old new did =
     let later : (place : ℕ) (d : Known) → place < length old → Later (get_or old place d) (get_or new place d) =
     λ place d below. kept_later disk tells moment laid pruned (get_or shares place share) (get_or closes place false) (get_or old place d) (get_or new place d) (did.each place share false d d below) in (
-      record { as_many = did.as_many; each = λ place d below. later_goes_on (get_or old place d) (get_or new place d) (later place d below) },
+      kept_go_on A B disk tells moment laid pruned share shares closes old new did,
       λ place n below mine other d. silent_under n (get_or old place d).number (get_or old place d) (get_or new place d) (mine d) (other d) (later_under (get_or old place d) (get_or new place d) (later place d below)),
     )
 
 pub mends_silent : (A B : Type 0) (disk : A → Opening → List Step → Type 0) (tells : A → Bool) (moment : A → ℕ) → MendsAreSilent A B disk tells moment
 mends_silent A B disk tells moment share shares old new answers did = (
-  record { as_many = did.as_many; each = λ place d below. later_goes_on (get_or old place d) (get_or new place d) (did.each place share d d (Ok false) below).later },
+  mended_go_on A B disk tells moment share shares old new answers did,
   λ place n below mine other d. silent_under n (get_or old place d).number (get_or old place d) (get_or new place d) (mine d) (other d) (later_under (get_or old place d) (get_or new place d) (did.each place share d d (Ok false) below).later),
 )
 

@@ -44,11 +44,11 @@ use Rattle.run_tracks.proofs.Listened.{listened_home}
 use Rattle.run_tracks.proofs.Moving.{mend}
 use Rattle.run_tracks.proofs.Telling.{either_face, either_steady}
 use Rattle.run_tracks.proofs.Tracking.{matches_home, rounds}
-use Rattle.agent_run.specs.Draining.{IsSinkHome}
+use Rattle.run_settling.specs.Draining.{IsSinkHome}
 use Rattle.agent_run.specs.Ends.{IsLineEnded, IsListenEnded, IsSinkEnded}
 use Rattle.agent_run.specs.Histories.{IsDiskOf, IsLineTold, IsListenTold, IsSinkTold, MendedOver, StopsLast}
 use Rattle.agent_run.specs.Opened.{IsLineOpened, IsListenOpened, IsSinkOpened}
-use Rattle.agent_run.specs.declared.homes.AtHome.{AtHome}
+use Rattle.run_settling.specs.declared.at_home.AtHome.{AtHome}
 use Rattle.agent_run.specs.declared.homes.LineEnded.{LineEnded}
 use Rattle.agent_run.proofs.Behind.{LineRuns, ListenRuns, Saws, SinkRuns}
 use Rattle.agent_run.proofs.Going.{sink_later}

@@ -33,11 +33,11 @@ use Rattle.agent_run.specs.Joined.{HaveReturned, IsJoined}
 use Rattle.agent_run.specs.Outside.{AreBack}
 use Rattle.agent_run.specs.Run.{IsGivenBack}
 use Rattle.agent_run.specs.Runs.{Runs}
-use Rattle.agent_run.specs.Settling.{AreSettled}
-use Rattle.agent_run.specs.declared.homes.AtHome.{AtHome}
+use Rattle.run_settling.specs.Settling.{AreSettled}
+use Rattle.run_settling.specs.declared.at_home.AtHome.{AtHome}
 use Rattle.agent_run.specs.declared.homes.LineEnded.{LineEnded}
 use Rattle.agent_run.specs.declared.joined.Joined.{Joined}
-use Rattle.agent_run.specs.declared.settle.Settled.{Settled}
+use Rattle.run_settling.specs.declared.settling.Settled.{Settled}
 use Rattle.agent_run.specs.declared.workers.Returned.{Returned}
 use Rattle.agent_run.specs.declared.workers.Workers.{Workers}
 

@@ -48,17 +48,17 @@ use Rattle.sound_lines.proofs.Fair.{AreFairOwn, fair_of}
 use Rattle.sound_lines.proofs.Faults.{NoneBreaks, none_breaks}
 use Rattle.sound_lines.proofs.Unbroken.{memory_breaks_none, never_broken}
 use Rattle.sound_lines.proofs.Views.{IsFairIn}
-use Rattle.agent_run.specs.Draining.{HasOwn, IsDrainedAt, IsSinkHome}
+use Rattle.run_settling.specs.Draining.{HasOwn, IsDrainedAt, IsSinkHome}
 use Rattle.agent_run.specs.Finals.{AreToldInFull, finals_of}
 use Rattle.agent_run.specs.Opening.{IsManned}
 use Rattle.agent_run.specs.Runs.{owners_of}
-use Rattle.agent_run.specs.Settling.{AreSettled}
+use Rattle.run_settling.specs.Settling.{AreSettled}
 use Rattle.agent_run.specs.SoundRun.{AreUndisturbed, NothingFailed}
-use Rattle.agent_run.specs.declared.homes.AtHome.{AtHome}
+use Rattle.run_settling.specs.declared.at_home.AtHome.{AtHome}
 use Rattle.agent_run.specs.declared.joined.Joined.{Joined}
 use Rattle.agent_run.specs.declared.opening.Manned.{Manned}
 use Rattle.agent_run.specs.declared.opening.Opening.{Opening as Opened}
-use Rattle.agent_run.specs.declared.settle.Settled.{Settled}
+use Rattle.run_settling.specs.declared.settling.Settled.{Settled}
 use Rattle.agent_run.specs.declared.workers.Returned.{Returned}
 use Rattle.agent_run.proofs.Began.{fresh_base}
 use Rattle.agent_run.proofs.Fairly.{IsFairOwner, owners_fair}

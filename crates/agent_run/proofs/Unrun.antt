@@ -19,11 +19,11 @@ use Rattle.run_tracks.specs.Places.{TookEach, Zips}
 use Rattle.run_tracks.specs.Told.{IsNew}
 use Rattle.run_tracks.specs.Tracks.{ended, track_of}
 use Rattle.run_tracks.proofs.Tracking.{own_same}
-use Rattle.agent_run.specs.Draining.{EachGoesOn}
+use Rattle.run_settling.specs.Draining.{EachGoesOn}
 use Rattle.agent_run.specs.Ends.{IsKeepEnded, IsListenEnded, IsSinkEnded}
 use Rattle.agent_run.specs.Histories.{IsKeepTold, IsListenTold, IsSinkTold}
 use Rattle.agent_run.specs.Wholes.{AreSilentAt, StaysSilent}
-use Rattle.agent_run.specs.declared.homes.AtHome.{AtHome}
+use Rattle.run_settling.specs.declared.at_home.AtHome.{AtHome}
 use Rattle.agent_run.proofs.Lasting.{took_each_silent}
 use Rattle.agent_run.proofs.Same.{Same, same_self}
 use Rattle.agent_run.proofs.Silence.{took_silent}

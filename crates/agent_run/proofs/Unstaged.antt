@@ -34,14 +34,14 @@ use Rattle.run_tracks.specs.Stops.{IsKept, IsMended, KeptIf}
 use Rattle.run_tracks.specs.Told.{IsNew}
 use Rattle.run_tracks.specs.Tracks.{Stood}
 use Rattle.agent_run.specs.Alone.{IsAway}
-use Rattle.agent_run.specs.Draining.{EachGoesOn, IsDrainedAt}
+use Rattle.run_settling.specs.Draining.{EachGoesOn, IsDrainedAt}
 use Rattle.agent_run.specs.Finals.{finals_of}
 use Rattle.agent_run.specs.Histories.{IsSinkTold}
 use Rattle.agent_run.specs.RolledTold.{CountsMore}
-use Rattle.agent_run.specs.Settling.{AreSettled}
+use Rattle.run_settling.specs.Settling.{AreSettled}
 use Rattle.agent_run.specs.Wholes.{AreBeside, IsNot, IsSilent, IsSinkWhole}
-use Rattle.agent_run.specs.declared.homes.AtHome.{AtHome}
-use Rattle.agent_run.specs.declared.settle.Settled.{Settled}
+use Rattle.run_settling.specs.declared.at_home.AtHome.{AtHome}
+use Rattle.run_settling.specs.declared.settling.Settled.{Settled}
 use Rattle.agent_run.proofs.Course.{there}
 use Rattle.agent_run.proofs.Ended.{Plain, ends_plain}
 use Rattle.agent_run.proofs.Left.{at_rest, closed_at, closed_long, finals_are, left_below}

@@ -27,7 +27,7 @@ use Rattle.run_tracks.specs.Tracks.{Stood, Track, ended, track_of}
 use Rattle.run_tracks.proofs.Moving.{mend}
 use Rattle.run_tracks.proofs.Telling.{either_face, either_steady}
 use Rattle.run_tracks.proofs.Tracking.{back, matches_back, matches_home, prefix_short, stood}
-use Rattle.agent_run.specs.Draining.{EachGoesOn}
+use Rattle.run_settling.specs.Draining.{EachGoesOn}
 use Rattle.agent_run.specs.Ends.{IsKeepEnded}
 use Rattle.agent_run.specs.Histories.{Checked, IsKeepTold, Pruned}
 use Rattle.agent_run.specs.Opened.{IsKeepOpened}

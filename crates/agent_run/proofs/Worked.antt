@@ -43,12 +43,12 @@ use Rattle.agent_run.specs.RunDid.{RunDid, Steps, passes_of}
 use Rattle.agent_run.specs.MembersTold.{MembersTold}
 use Rattle.agent_run.specs.FoldersTold.{FoldersRan}
 use Rattle.agent_run.specs.RunLeft.{RunLeft}
-use Rattle.agent_run.specs.declared.homes.AtHome.{AtHome}
+use Rattle.run_settling.specs.declared.at_home.AtHome.{AtHome}
 use Rattle.agent_run.specs.declared.opening.Manned.{Manned}
 use Rattle.agent_run.specs.declared.outcome.ChannelEnd.{ChannelEnd}
 use Rattle.agent_run.specs.declared.outside.Outside.{Outside}
 use Rattle.agent_run.specs.declared.prepare.Prepared.{Prepared}
-use Rattle.agent_run.specs.declared.settle.Settled.{Settled}
+use Rattle.run_settling.specs.declared.settling.Settled.{Settled}
 use Rattle.agent_run.specs.declared.streams.StreamsEnded.{StreamsEnded}
 use Rattle.agent_run.proofs.Comeback.{opened_state}
 use Rattle.agent_run.proofs.Course.{there}

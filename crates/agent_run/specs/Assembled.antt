@@ -12,7 +12,7 @@ use Rattle.run_tracks.specs.Homes.{AreHomes}
 use Rattle.run_tracks.specs.Deals.{DealsEach, count_of, hand_at}
 use Rattle.run_tracks.specs.Places.{Zips}
 use Rattle.agent_run.specs.Alone.{AreAlone}
-use Rattle.agent_run.specs.Draining.{HasOwn}
+use Rattle.run_settling.specs.Draining.{HasOwn}
 use Rattle.agent_run.specs.Labels.{numbered}
 use Rattle.agent_run.specs.Lists.{IsEmptyFor}
 use Rattle.agent_run.specs.Prepared.{uses_of}

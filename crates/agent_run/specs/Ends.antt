@@ -8,7 +8,7 @@ use Rattle.source_worker.specs.declared.worker.ListenWorker.{ListenWorker}
 use Rattle.run_tracks.specs.Homes.{IsAt, TookAt}
 use Rattle.run_tracks.specs.Places.{AreAt, TookEach}
 use Rattle.line_worker.specs.declared.worker.LineWorker.{LineWorker}
-use Rattle.agent_run.specs.declared.homes.AtHome.{AtHome}
+use Rattle.run_settling.specs.declared.at_home.AtHome.{AtHome}
 use Rattle.agent_run.specs.declared.homes.LineEnded.{LineEnded}
 
 -- the pass of a port is of the channel that the worker keeps

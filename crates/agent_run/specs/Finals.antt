@@ -16,18 +16,18 @@ use Rattle.run_tracks.specs.Closes.{IsClosed}
 use Rattle.run_tracks.specs.Homes.{EachTook}
 use Rattle.run_tracks.specs.Places.{Zips}
 use Rattle.run_tracks.specs.Stops.{IsKept, IsMended}
-use Rattle.agent_run.specs.Draining.{EachGoesOn, IsDrainedAt, IsSinkHome}
+use Rattle.run_settling.specs.Draining.{EachGoesOn, IsDrainedAt, IsSinkHome}
 use Rattle.agent_run.specs.Ends.{IsLineEnded}
 use Rattle.agent_run.specs.Histories.{IsKeepTold, IsLineTold, IsListenTold}
 use Rattle.agent_run.specs.Joined.{HaveReturned}
 use Rattle.agent_run.specs.Opening.{IsManned}
 use Rattle.agent_run.specs.Runs.{Runs}
-use Rattle.agent_run.specs.Settling.{AreSettled}
+use Rattle.run_settling.specs.Settling.{AreSettled}
 use Rattle.agent_run.specs.Wholes.{AreBeside, AreSilentAt, IsSinkWhole}
 use Rattle.agent_run.specs.declared.joined.Joined.{Joined}
 use Rattle.agent_run.specs.declared.opening.Manned.{Manned}
 use Rattle.agent_run.specs.declared.opening.Opening.{Opening as Opened}
-use Rattle.agent_run.specs.declared.settle.Settled.{Settled}
+use Rattle.run_settling.specs.declared.settling.Settled.{Settled}
 use Rattle.agent_run.specs.declared.workers.Returned.{Returned}
 use Rattle.agent_run.specs.declared.workers.Workers.{Workers}
 

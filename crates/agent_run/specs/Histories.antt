@@ -27,7 +27,7 @@ use Rattle.two_channels.specs.Shares.{IsDisk}
 use Rattle.two_channels.specs.declared.shared.EitherShared.{EitherShared}
 use Rattle.run_tracks.specs.Listening.{MendedInto, MendedPort, home_tracks}
 use Rattle.run_tracks.specs.Tracks.{Calls, Gave, Mended, Track, Turned, ended, track_of}
-use Rattle.agent_run.specs.declared.homes.AtHome.{AtHome}
+use Rattle.run_settling.specs.declared.at_home.AtHome.{AtHome}
 use Rattle.agent_run.specs.declared.homes.LineEnded.{LineEnded}
 
 -- its next calls were a checkpoint, which was answered so

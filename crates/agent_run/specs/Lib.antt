@@ -8,12 +8,10 @@ pub mod Keepers
 pub mod Labels
 pub mod Wishes
 pub mod Lists
-pub mod Draining
 pub mod Wholes
 pub mod Prepared
 pub mod Outside
 pub mod Streams
-pub mod Settling
 pub mod Joined
 pub mod Dialogue
 pub mod Errors

@@ -9,7 +9,7 @@ use Rattle.agent_run.specs.declared.lists.ChannelLists.{ChannelLists}
 use Rattle.agent_run.specs.declared.lists.WorkerLists.{WorkerLists}
 use Rattle.agent_run.specs.declared.opening.Room.{Room}
 use Rattle.flume_config.specs.declared.plan.Plan.{Plan}
-use Rattle.agent_run.specs.declared.settle.Settled.{Settled}
+use Rattle.run_settling.specs.declared.settling.Settled.{Settled}
 
 -- a list is empty, and has room for so many
 abbrev pub IsEmptyFor : {P : Type 0} → ℕ → Vec P Global → Type 0

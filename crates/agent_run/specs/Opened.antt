@@ -43,10 +43,6 @@ pub record IsListenOpened {R A B N C K : Type 0} (shares : List (EitherShared A 
   pub listener : w.listener ≡ job.listener
   pub clock : w.clock ≡ job.clock
 
--- a list is empty and has room for as many
-abbrev pub HasRoom : {A P : Type 0} → List A → Vec P Global → Type 0
-HasRoom jobs room = (room.items ≡ []) × (length jobs ≤ vec_capacity room)
-
 -- it is the same worker, with ports of its channels that have its passes, in order
 pub record IsLineOpened {R A B I O C K : Type 0} (shares : List (EitherShared A B)) (job : LineWorker Known I O C K) (w : LineWorker (EitherPort R A B) I O C K) : Type 0 where
   pub passes : Zips (λ pass port. pass_of port ≡ pass) job.ports.items w.ports.items

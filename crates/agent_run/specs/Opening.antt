@@ -11,7 +11,7 @@ use Rattle.run_tracks.specs.Homes.{AreHomes}
 use Rattle.run_tracks.specs.Places.{Zips}
 use Rattle.agent_run.specs.Alone.{AreAlone}
 use Rattle.agent_run.specs.Assembled.{AreUsed}
-use Rattle.agent_run.specs.Draining.{HasOwn}
+use Rattle.run_settling.specs.Draining.{HasOwn}
 use Rattle.agent_run.specs.Keepers.{AreWantedInFolders}
 use Rattle.agent_run.specs.Labels.{numbered}
 use Rattle.agent_run.specs.Lists.{HaveChannelLists, HaveWorkerLists}

@@ -29,7 +29,7 @@ use Rattle.grouped_sinks.specs.declared.row.SinkRow.{SinkRow}
 use Rattle.grouped_sinks.specs.declared.runner.Runner.{Runner}
 use Rattle.agent_run.specs.Outside.{AreFrom}
 use Rattle.agent_run.specs.Streams.{IsButOutput, IsReported}
-use Rattle.agent_run.specs.declared.settle.Settled.{Settled}
+use Rattle.run_settling.specs.declared.settling.Settled.{Settled}
 
 -- The sources at these places listen, and each listener was handed out for the address and port of its source.
 pub record CanListenAt {N : Type 0} (endpoint : N → Option Endpoint) (sources : List SourcePlan) (places : List ℕ) (listeners : List N)

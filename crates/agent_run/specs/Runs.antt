@@ -18,7 +18,8 @@ use Rattle.run_tracks.specs.Dealt.{Owner}
 use Rattle.run_tracks.specs.Places.{Zips}
 use Rattle.run_tracks.specs.Told.{IsNew}
 use Rattle.agent_run.specs.Ends.{AreLinePorts, AreListenPorts, IsKeepEnded, IsKeepPort, IsLineEnded, IsListenEnded, IsSinkEnded, IsSinkPort}
-use Rattle.agent_run.specs.Opened.{HasRoom, IsKeepOpened, IsLineOpened, IsListenOpened, IsSinkOpened}
+use Rattle.agent_run.specs.Opened.{IsKeepOpened, IsLineOpened, IsListenOpened, IsSinkOpened}
+use Rattle.run_settling.specs.Draining.{HasRoom}
 use Rattle.agent_run.specs.declared.rooms.Rooms.{Rooms}
 use Rattle.agent_run.specs.declared.workers.Returned.{Returned}
 use Rattle.agent_run.specs.declared.workers.Workers.{Workers}

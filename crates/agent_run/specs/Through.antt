@@ -24,7 +24,7 @@ use Rattle.channel_lock.specs.Turns.{HasAll}
 use Rattle.two_channels.specs.Shares.{pass_of}
 use Rattle.two_channels.specs.declared.shared.EitherClosed.{EitherClosed}
 use Rattle.two_channels.specs.declared.shared.EitherShared.{EitherShared}
-use Rattle.agent_run.specs.Draining.{IsSinkHome}
+use Rattle.run_settling.specs.Draining.{IsSinkHome}
 use Rattle.agent_run.specs.Joined.{IsButStreams}
 use Rattle.agent_run.specs.Labels.{label_of}
 use Rattle.agent_run.specs.Lists.{NamesOf}
@@ -32,14 +32,14 @@ use Rattle.agent_run.specs.NotBegun.{DidNotBegin, NotBegun}
 use Rattle.agent_run.specs.Opening.{IsManned}
 use Rattle.agent_run.specs.Prepared.{IsPrepared}
 use Rattle.agent_run.specs.Streams.{IsButTaken}
-use Rattle.agent_run.specs.declared.homes.AtHome.{AtHome}
+use Rattle.run_settling.specs.declared.at_home.AtHome.{AtHome}
 use Rattle.agent_run.specs.declared.joined.Joined.{Joined}
 use Rattle.agent_run.specs.declared.opening.Manned.{Manned}
 use Rattle.agent_run.specs.declared.opening.Opening.{Opening}
 use Rattle.agent_run.specs.declared.outcome.ChannelEnd.{ChannelEnd}
 use Rattle.agent_run.specs.declared.outside.Outside.{Outside}
 use Rattle.agent_run.specs.declared.prepare.Prepared.{Prepared}
-use Rattle.agent_run.specs.declared.settle.Settled.{Settled}
+use Rattle.run_settling.specs.declared.settling.Settled.{Settled}
 
 -- The workers were made of what was opened and of the streams that they took, ran and came back; then each sink emptied its channel,
 -- those channels that are kept at the end were kept, and each was mended, counted and closed; then all was given back, and what the run

@@ -25,8 +25,8 @@ use Rattle.run_tracks.specs.Drained.{Looked}
 use Rattle.run_tracks.specs.Places.{Zips}
 use Rattle.run_tracks.specs.Stops.{AreCounted, AreKept, AreMended, IsKept, IsMended}
 use Rattle.run_tracks.specs.Tracks.{Mended, Track, Turned, ended, track_of}
-use Rattle.agent_run.specs.declared.homes.AtHome.{AtHome}
-use Rattle.agent_run.specs.Draining.{AreDrained, EachGoesOn, IsDrainedAt, IsSinkHome}
+use Rattle.run_settling.specs.declared.at_home.AtHome.{AtHome}
+use Rattle.run_settling.specs.Draining.{AreDrained, EachGoesOn, IsDrainedAt, IsSinkHome}
 use Rattle.agent_run.specs.Histories.{IsKeepTold, IsLineTold, IsListenTold, IsSinkTold}
 use Rattle.agent_run.specs.Runs.{AreNew, HaveRun, Runs}
 use Rattle.agent_run.specs.declared.workers.Returned.{Returned}

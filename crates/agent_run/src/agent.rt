@@ -30,7 +30,6 @@ use crate::outcome::ChannelEnd;
 use crate::outside::{Grouped, group_outside, open_outside};
 use crate::prepare::{Prepared, name_error, prepare};
 use crate::rests::channels_rest;
-use crate::settle::{Settled, settle};
 use crate::streams::{StreamsEnded, report_on};
 use crate::through::{Goes, OpeningOf, RunOf, RunnerOf, Runs, SinkOf, Steps};
 use crate::told::steps_are_told;
@@ -56,6 +55,7 @@ use plan_laws::{
 };
 use plan_objects::{HandedIn, Objects};
 use plug_in::{EventSink, Interceptor};
+use run_settling::{Settled, settle};
 use shared_channel::Pass;
 use std::alloc::{AllocError, Global};
 use std::sync::Wait;

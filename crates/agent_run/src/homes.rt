@@ -8,17 +8,11 @@ ghost use Rattle.agent_run.specs.Ends.{AreListenPorts, AreLinePorts, IsKeepEnded
 use keep_worker::KeepWorker;
 use line_session::SessionEnd;
 use line_worker::LineWorker;
+use run_settling::AtHome;
 use run_tracks::{bring_home, end_ports};
 use shared_channel::{Carries, Joins, Pass};
 use sink_worker::SinkWorker;
 use source_worker::ListenWorker;
-
-/// What a sink has in place of a port once the pass of that is at home.
-#[derive(Clone, Copy, Debug, PartialEq, Eq)]
-pub struct AtHome {
-    /// The number of the pass.
-    pub number: u64,
-}
 
 /// The passes at home take in those of sinks, and the sinks come back in their order, each with the number of its pass. The list
 /// has room for them: so it takes no memory, and no sink is lost.

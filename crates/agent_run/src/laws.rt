@@ -3,7 +3,7 @@ ghost use Rattle.sink_worker.specs.Rounds.{told};
 ghost use Rattle.source_worker.specs.Workers.{heard_of};
 ghost use Rattle.line_worker.specs.Workers.{talk_of};
 ghost use Rattle.agent_run.specs.Dialogue.{EndsAtEnd, EndsWell, LinesAreAnswered, RanUnlessNoMemory};
-ghost use Rattle.agent_run.specs.Draining.{FirstHasOwn, OwnIsKept};
+ghost use Rattle.run_settling.specs.Draining.{FirstHasOwn, OwnIsKept};
 ghost use Rattle.agent_run.specs.Finals.{RunsAreTold};
 ghost use Rattle.agent_run.specs.Runs.{runs};
 ghost use Rattle.agent_run.specs.Wholes.{CountsAreSilent, DrainsAreSilent, KeepersStayTold, KeepsAreSilent, LinesStayTold, ListenersStayTold, MendsAreSilent, OthersStay, SinksAreWhole};

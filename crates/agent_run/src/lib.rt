@@ -3,7 +3,6 @@
 
 mod agent;
 mod assemble;
-mod draining;
 mod homes;
 mod joined;
 mod labels;
@@ -20,7 +19,6 @@ mod rows;
 mod run;
 mod running;
 mod seats;
-mod settle;
 mod sound;
 mod staff;
 mod streams;
@@ -29,8 +27,7 @@ mod told;
 mod wishes;
 mod workers;
 
-pub use draining::drain_sinks;
-pub use homes::{AtHome, LineEnded, end_lines, end_listeners, end_sinks};
+pub use homes::{LineEnded, end_lines, end_listeners, end_sinks};
 pub use laws::{
     keepers_stay_told, lines_are_answered, lines_stay_told, listeners_stay_told,
     own_numbers_are_kept, runs_are_told, silence_is_kept, sinks_are_whole, workers_ran,

@@ -4,11 +4,11 @@ ghost use Rattle.agent_run.specs.Lists.{HasSettleRoom, HaveChannelLists, HaveWor
 
 use crate::homes::LineEnded;
 use crate::outcome::ChannelEnd;
-use crate::settle::Settled;
 use crate::workers::{Returned, Workers};
 use agent_outside::SourceListener;
 use channel_face::{Channel, Counts};
 use flume_config::ChannelPlan;
+use run_settling::Settled;
 use shared_channel::Pass;
 use std::alloc::{AllocError, Global};
 use two_channels::EitherShared;

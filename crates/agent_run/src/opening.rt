@@ -12,7 +12,6 @@ use crate::lists::{ChannelLists, WorkerLists, channel_lists, settle_room, worker
 use crate::outcome::ChannelEnd;
 use crate::outside::Outside;
 use crate::prepare::Prepared;
-use crate::settle::Settled;
 use crate::streams::take_talks;
 use crate::workers::{Returned, Workers};
 use agent_channels::{ChannelWish, OpenedChannel};
@@ -22,6 +21,7 @@ use crew::DrainWorker;
 use flume_config::Plan;
 use flume_host::Host;
 use grouped_sinks::SinkRow;
+use run_settling::Settled;
 use shared_channel::Pass;
 use std::alloc::{AllocError, Global};
 

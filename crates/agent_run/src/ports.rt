@@ -4,7 +4,8 @@ ghost use Rattle.std.specs.Vec.{vec_capacity};
 ghost use Rattle.two_channels.specs.Shares.{table_of};
 ghost use Rattle.run_tracks.specs.Places.{Zips};
 ghost use Rattle.agent_run.specs.Ends.{AreLinePorts, AreListenPorts, IsKeepPort, IsSinkPort};
-ghost use Rattle.agent_run.specs.Opened.{HasRoom, IsKeepOpened, IsLineOpened, IsListenOpened, IsSinkOpened};
+ghost use Rattle.agent_run.specs.Opened.{IsKeepOpened, IsLineOpened, IsListenOpened, IsSinkOpened};
+ghost use Rattle.run_settling.specs.Draining.{HasRoom};
 
 use channel_face::Channel;
 use keep_worker::KeepWorker;

@@ -1,7 +1,7 @@
 // Room for the ports of a run, and for the workers that have them.
 ghost use Rattle.std.specs.Prelude.{◌≤◌, [], IfOk, length};
 ghost use Rattle.run_tracks.specs.Places.{Zips};
-ghost use Rattle.agent_run.specs.Opened.{HasRoom};
+ghost use Rattle.run_settling.specs.Draining.{HasRoom};
 ghost use Rattle.agent_run.specs.Runs.{HaveRooms};
 
 use crate::workers::Workers;

@@ -6,7 +6,7 @@ ghost use Rattle.channel_lock.specs.Turns.{HasAll};
 ghost use Rattle.two_channels.specs.Shares.{table_of};
 ghost use Rattle.sink_worker.specs.Rounds.{told};
 ghost use Rattle.run_tracks.specs.Places.{Zips};
-ghost use Rattle.agent_run.specs.Draining.{IsSinkHome};
+ghost use Rattle.run_settling.specs.Draining.{IsSinkHome};
 ghost use Rattle.agent_run.specs.Histories.{IsLineTold, IsListenTold, IsSinkTold};
 ghost use Rattle.source_worker.specs.Workers.{heard_of};
 ghost use Rattle.line_worker.specs.Workers.{talk_of};

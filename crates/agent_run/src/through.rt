@@ -88,12 +88,12 @@ impl<
     K: Interceptor + Send + Drop,
     B: EventSink + Send,
 > Goes<OpeningOf<H, K, B>> for RunOf<'a, R, H, K, B> {
-    ghost use Rattle.agent_run.specs.Draining.{IsDrainedAt};
+    ghost use Rattle.run_settling.specs.Draining.{IsDrainedAt};
     ghost use Rattle.agent_run.specs.Joined.{HaveReturned, IsJoined};
     ghost use Rattle.agent_run.specs.Outside.{AreBack};
     ghost use Rattle.agent_run.specs.Run.{IsGivenBack};
     ghost use Rattle.agent_run.specs.Runs.{runs};
-    ghost use Rattle.agent_run.specs.Settling.{AreSettled};
+    ghost use Rattle.run_settling.specs.Settling.{AreSettled};
     ghost use Rattle.agent_run.specs.Staff.{own_talk};
     ghost use Rattle.agent_run.specs.Streams.{AreTaken, DrainKept, TalkKept};
     ghost use Rattle.agent_run.specs.Through.{RanThrough};

@@ -1,8 +1,9 @@
 // The workers of a run, and what comes back of them.
-use crate::homes::{AtHome, LineEnded};
+use crate::homes::LineEnded;
 use crew::DrainWorker;
 use keep_worker::KeepWorker;
 use line_worker::LineWorker;
+use run_settling::AtHome;
 use sink_worker::SinkWorker;
 use source_worker::ListenWorker;
 

@@ -20,13 +20,13 @@ use Rattle.two_channels.specs.Shares.{table_of}
 use Rattle.two_channels.specs.declared.shared.EitherShared.{EitherShared}
 use Rattle.file_channel.specs.Stands.{FileState}
 use Rattle.memory_channel.specs.declared.channel.MemoryChannel.{MemoryChannel}
-use Rattle.agent_run.specs.Draining.{HasOwn, IsSinkHome}
+use Rattle.run_settling.specs.Draining.{HasOwn, IsSinkHome}
 use Rattle.agent_run.specs.Lists.{IsEmptyFor}
-use Rattle.agent_run.specs.Opened.{HasRoom}
+use Rattle.run_settling.specs.Draining.{HasRoom}
 use Rattle.agent_run.specs.Outside.{AreFrom}
 use Rattle.agent_run.specs.Runs.{AreOnDisks, AreWorkers, owners_of}
 use Rattle.agent_run.specs.declared.labels.ChannelLabel.{ChannelLabel}
-use Rattle.agent_run.specs.declared.settle.Settled.{Settled}
+use Rattle.run_settling.specs.declared.settling.Settled.{Settled}
 use Rattle.agent_run.specs.Run.{MayReturn, StandInRows}
 use Rattle.agent_run.proofs.Closing.{closed_of}
 use Rattle.agent_run.proofs.Asking.{agent_stays}

@@ -2,7 +2,7 @@ use Rattle.std.proofs.Common.{rules, ◌≡◌, ◌∙◌, ◌+◌, List, [], �
 use Rattle.std.proofs.lemmas.List.{length-append}
 use Rattle.shared_channel.specs.Passes.{Known}
 use Rattle.sink_worker.specs.declared.worker.SinkWorker.{SinkWorker}
-use Rattle.agent_run.specs.declared.homes.AtHome.{AtHome}
+use Rattle.run_settling.specs.declared.at_home.AtHome.{AtHome}
 use Rattle.run_tracks.specs.Homes.{TookAt}
 use Rattle.run_tracks.specs.Places.{Zips}
 use Rattle.run_tracks.proofs.Homing.{each_took_then, zips_length, zips_push}

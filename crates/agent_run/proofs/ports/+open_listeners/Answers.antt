@@ -11,7 +11,8 @@ use Rattle.two_channels.specs.declared.port.EitherPort.{EitherPort}
 use Rattle.run_tracks.specs.Places.{Zips}
 use Rattle.run_tracks.proofs.Homing.{zips-append, zips_length, zips_none, zips_push}
 use Rattle.agent_run.specs.Ends.{AreListenPorts}
-use Rattle.agent_run.specs.Opened.{HasRoom, IsListenOpened}
+use Rattle.agent_run.specs.Opened.{IsListenOpened}
+use Rattle.run_settling.specs.Draining.{HasRoom}
 use Rattle.agent_run.proofs.ports.+open_listeners.Goals as goal
 
 pub open_listeners-requires : goal.open_listeners-requires

@@ -6,7 +6,7 @@ use Rattle.source_worker.specs.declared.worker.ListenWorker.{ListenWorker}
 use Rattle.line_worker.specs.declared.worker.LineWorker.{LineWorker}
 use Rattle.two_channels.specs.declared.port.EitherPort.{EitherPort}
 use Rattle.run_tracks.specs.Places.{Zips}
-use Rattle.agent_run.specs.Opened.{HasRoom}
+use Rattle.run_settling.specs.Draining.{HasRoom}
 use Rattle.agent_run.proofs.rooms.rooms_of.Goals as goal
 
 pub returns : goal.returns

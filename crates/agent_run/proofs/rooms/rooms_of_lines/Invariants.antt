@@ -1,6 +1,6 @@
 use Rattle.std.proofs.Common.{take}
 use Rattle.run_tracks.specs.Places.{Zips}
-use Rattle.agent_run.specs.Opened.{HasRoom}
+use Rattle.run_settling.specs.Draining.{HasRoom}
 use Rattle.agent_run.proofs.rooms.rooms_of_lines.Given as goal
 
 abbrev pub invariant-loop-job : goal.invariant-loop-job

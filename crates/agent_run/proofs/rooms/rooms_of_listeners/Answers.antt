@@ -7,7 +7,7 @@ use Rattle.source_worker.specs.declared.worker.ListenWorker.{ListenWorker}
 use Rattle.two_channels.specs.declared.port.EitherPort.{EitherPort}
 use Rattle.run_tracks.specs.Places.{Zips}
 use Rattle.run_tracks.proofs.Homing.{zips_push}
-use Rattle.agent_run.specs.Opened.{HasRoom}
+use Rattle.run_settling.specs.Draining.{HasRoom}
 use Rattle.agent_run.proofs.rooms.rooms_of_listeners.Goals as goal
 
 pub loop-job-preserved : goal.loop-job-preserved

@@ -16,8 +16,8 @@ use Rattle.sink_worker.specs.declared.worker.SinkWorker.{SinkWorker}
 use Rattle.source_worker.specs.declared.worker.ListenWorker.{ListenWorker}
 use Rattle.line_worker.specs.declared.worker.LineWorker.{LineWorker}
 use Rattle.run_tracks.specs.Told.{IsNew}
-use Rattle.agent_run.specs.Draining.{IsSinkHome}
-use Rattle.agent_run.specs.declared.homes.AtHome.{AtHome}
+use Rattle.run_settling.specs.Draining.{IsSinkHome}
+use Rattle.run_settling.specs.declared.at_home.AtHome.{AtHome}
 use Rattle.agent_run.specs.Ends.{IsKeepPort, IsLineEnded, IsListenEnded, IsSinkEnded}
 use Rattle.agent_run.specs.Histories.{IsLineTold, IsListenTold, IsSinkTold}
 use Rattle.agent_run.specs.Opened.{IsKeepOpened, IsLineOpened, IsListenOpened, IsSinkOpened}

@@ -2,7 +2,7 @@ use Rattle.run_tracks.proofs.Telling.{number_home}
 use Rattle.shared_channel.specs.Passes.{Known}
 use Rattle.sink_worker.specs.declared.worker.SinkWorker.{SinkWorker}
 use Rattle.run_tracks.specs.Told.{IsNew}
-use Rattle.agent_run.specs.Draining.{IsSinkHome}
+use Rattle.run_settling.specs.Draining.{IsSinkHome}
 use Rattle.agent_run.specs.Ends.{IsSinkEnded}
 use Rattle.agent_run.specs.Runs.{owners_of}
 use Rattle.agent_run.proofs.Behind.{same_idle}

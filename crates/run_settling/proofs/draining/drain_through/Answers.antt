@@ -2,9 +2,9 @@ use Rattle.std.proofs.Common.{◌≡◌, ◌∙◌, ℕ, List, ap, subst, sym, t
 use Rattle.shared_channel.specs.Passes.{Known}
 use Rattle.sink_worker.specs.Rounds.{told}
 use Rattle.channel_lock.specs.Calls.{has}
-use Rattle.agent_run.specs.Draining.{under}
-use Rattle.agent_run.proofs.Chaining.{drained_under, turned_to}
-use Rattle.agent_run.proofs.draining.drain_through.Goals as goal
+use Rattle.run_settling.specs.Draining.{under}
+use Rattle.run_settling.proofs.Chaining.{drained_under, turned_to}
+use Rattle.run_settling.proofs.draining.drain_through.Goals as goal
 
 pub returns : goal.returns
 returns g c =

@@ -1,5 +1,8 @@
 -- Sinks that empty their channels through the passes at home.
-use Rattle.std.specs.Prelude.{◌≡◌, ◌<◌, ℕ, List, [], ◌∷◌, All, Option, true, length, slice_index_or}
+use Rattle.std.specs.Prelude.{◌≡◌, ◌<◌, ◌≤◌, ℕ, List, [], ◌∷◌, All, Option, true, length, slice_index_or}
+use Rattle.std.specs.Vec.{vec_capacity}
+use Rattle.std.specs.declared.alloc.Global.{Global}
+use Rattle.std.specs.declared.vec.Vec.{Vec}
 use mathlib.Core.List.{IsPrefix}
 use Rattle.agent_end.specs.declared.draining.ChannelDrain.{ChannelDrain}
 use Rattle.agent_end.specs.declared.draining.ChannelDrain.TheVariants.{Emptied}
@@ -14,7 +17,7 @@ use Rattle.channel_lock.specs.Calls.{has}
 use Rattle.run_tracks.specs.Dealt.{HasNumber}
 use Rattle.run_tracks.specs.Drained.{IsDrainedInTrack}
 use Rattle.run_tracks.specs.Homes.{EachTook, StayElsewhere}
-use Rattle.agent_run.specs.declared.homes.AtHome.{AtHome}
+use Rattle.run_settling.specs.declared.at_home.AtHome.{AtHome}
 
 -- the number that its next call carries is one of its own
 abbrev pub HasOwn : Known → Type 0
@@ -79,3 +82,7 @@ AreDrained Drained [] old [] [] new = new ≡ old
 AreDrained Drained (w ∷ ws) old (end ∷ ends) (back ∷ backs) new =
     (between : List Known) × Drained w old end back between × AreDrained Drained ws between ends backs new
 AreDrained Drained ws old ends backs new = ⊥
+
+-- a list is empty and has room for as many
+abbrev pub HasRoom : {A P : Type 0} → List A → Vec P Global → Type 0
+HasRoom jobs room = (room.items ≡ []) × (length jobs ≤ vec_capacity room)

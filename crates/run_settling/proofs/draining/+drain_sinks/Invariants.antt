@@ -1,5 +1,5 @@
 use Rattle.std.proofs.Common.{length}
-use Rattle.agent_run.proofs.draining.+drain_sinks.Given as goal
+use Rattle.run_settling.proofs.draining.+drain_sinks.Given as goal
 
 abbrev pub decreases-drain_sinks : goal.decreases-drain_sinks
 decreases-drain_sinks g l = length l.sinks.items

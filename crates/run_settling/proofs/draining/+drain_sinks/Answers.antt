@@ -5,11 +5,11 @@ use Rattle.agent_end.specs.declared.draining.ChannelDrain.{ChannelDrain}
 use Rattle.sink_worker.specs.Rounds.{told}
 use Rattle.sink_worker.specs.declared.worker.SinkWorker.{SinkWorker}
 use Rattle.two_channels.specs.Shares.{table_of}
-use Rattle.agent_run.specs.declared.homes.AtHome.{AtHome}
-use Rattle.agent_run.specs.Draining.{AreDrained, IsDrainedAt, IsSinkHome}
-use Rattle.agent_run.specs.Opened.{HasRoom}
-use Rattle.agent_run.proofs.Chaining.{all_go_on, drained_ends, drained_goes_on, drained_push, each_goes_then, homes_go_on, own_go_on, sink_goes_on}
-use Rattle.agent_run.proofs.draining.+drain_sinks.Goals as goal
+use Rattle.run_settling.specs.declared.at_home.AtHome.{AtHome}
+use Rattle.run_settling.specs.Draining.{AreDrained, IsDrainedAt, IsSinkHome}
+use Rattle.run_settling.specs.Draining.{HasRoom}
+use Rattle.run_settling.proofs.Chaining.{all_go_on, drained_ends, drained_goes_on, drained_push, each_goes_then, homes_go_on, own_go_on, sink_goes_on}
+use Rattle.run_settling.proofs.draining.+drain_sinks.Goals as goal
 
 pub drain_sinks-requires : goal.drain_sinks-requires
 drain_sinks-requires g t c κs within =

@@ -1,6 +1,6 @@
 use Rattle.two_channels.specs.Shares.{table_of}
-use Rattle.agent_run.proofs.Settled.{mended_all}
-use Rattle.agent_run.proofs.settle.mend_and_count.Goals as goal
+use Rattle.run_settling.proofs.GoingOn.{mended_all}
+use Rattle.run_settling.proofs.settling.mend_and_count.Goals as goal
 
 pub count_all-requires-clause-all : goal.count_all-requires-clause-all
 count_all-requires-clause-all g c =

@@ -5,14 +5,13 @@ ghost use Rattle.run_tracks.specs.Homes.{AreHomes};
 ghost use Rattle.sink_worker.specs.Rounds.{told};
 ghost use Rattle.channel_lock.specs.Turns.{HasAll};
 ghost use Rattle.two_channels.specs.Shares.{table_of};
-ghost use Rattle.agent_run.specs.Draining.{HasOwn, IsDrainedAt, IsSinkHome};
-ghost use Rattle.agent_run.specs.Opened.{HasRoom};
-ghost use Rattle.agent_run.specs.Settling.{AreMendedAndCounted, AreSettled};
+ghost use Rattle.run_settling.specs.Draining.{HasOwn, HasRoom, IsDrainedAt, IsSinkHome};
+ghost use Rattle.run_settling.specs.Settling.{AreMendedAndCounted, AreSettled};
 ghost use Rattle.run_tracks.specs.Closes.{IsClosed};
 ghost use Rattle.run_tracks.specs.Stops.{IsKept, IsMended};
 
+use crate::at_home::AtHome;
 use crate::draining::drain_sinks;
-use crate::homes::AtHome;
 use agent_end::ChannelDrain;
 use channel_face::{Channel, Counts, Durable, OpenCause, Reopen};
 use flume_host::Clock;
@@ -25,7 +24,7 @@ use two_channels::{EitherClosed, EitherShared};
 
 /// What the settling of a run's channels leaves: each list is of the channels, or of the sinks, in order.
 #[derive(Drop)]
-pub(crate) struct Settled<S, A, B> {
+pub struct Settled<S, A, B> {
     /// How each sink's draining ended.
     pub ends: Vec<ChannelDrain>,
     /// The sinks.
@@ -62,13 +61,7 @@ fn mend_and_count<R: Wait, A: Reopen, B: Channel>(
 /// After the join of the workers each sink empties its channel, one after the other; then each channel of which it is said so lays a
 /// checkpoint and removes old files; then each channel is mended, counted and closed. The lists of `room` have room, and one mend and one
 /// entry of the report for each channel: so it takes no memory but that of the sinks' runs, of the checkpoints and of the mends.
-pub(crate) fn settle<
-    R: Wait,
-    A: Durable + Drop,
-    B: Channel + Drop,
-    S: EventSink + Drop,
-    C: Clock + Drop,
->(
+pub fn settle<R: Wait, A: Durable + Drop, B: Channel + Drop, S: EventSink + Drop, C: Clock + Drop>(
     rt: &R,
     shares: Vec<EitherShared<A, B>>,
     homes: Vec<Pass>,

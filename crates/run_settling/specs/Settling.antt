@@ -10,9 +10,9 @@ use Rattle.two_channels.specs.declared.shared.EitherClosed.{EitherClosed}
 use Rattle.two_channels.specs.declared.shared.EitherShared.{EitherShared}
 use Rattle.run_tracks.specs.Closes.{AreClosed}
 use Rattle.run_tracks.specs.Stops.{AreCounted, AreKept, AreMended}
-use Rattle.agent_run.specs.Draining.{AreDrained, EachGoesOn}
-use Rattle.agent_run.specs.declared.homes.AtHome.{AtHome}
-use Rattle.agent_run.specs.declared.settle.Settled.{Settled}
+use Rattle.run_settling.specs.Draining.{AreDrained, EachGoesOn}
+use Rattle.run_settling.specs.declared.at_home.AtHome.{AtHome}
+use Rattle.run_settling.specs.declared.settling.Settled.{Settled}
 
 -- Each channel was mended through its pass at home, and then counted.
 pub record AreMendedAndCounted {Z : Type 0} (Mended : Z → Known → Result Bool OpenCause → Known → Type 0) (shares : List Z) (homes : List Known)

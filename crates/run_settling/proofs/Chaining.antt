@@ -17,8 +17,8 @@ use Rattle.channel_lock.specs.Turns.{HasAll}
 use Rattle.run_tracks.specs.Drained.{IsDrainedInTrack}
 use Rattle.run_tracks.specs.Homes.{AreHomes}
 use Rattle.run_tracks.proofs.Homing.{prefix_then, set_elsewhere}
-use Rattle.agent_run.specs.declared.homes.AtHome.{AtHome}
-use Rattle.agent_run.specs.Draining.{AreDrained, EachGoesOn, GoesOn, HasOwn, IsDrainedAt, IsDrainedHome, IsSinkHome, under}
+use Rattle.run_settling.specs.declared.at_home.AtHome.{AtHome}
+use Rattle.run_settling.specs.Draining.{AreDrained, EachGoesOn, GoesOn, HasOwn, IsDrainedAt, IsDrainedHome, IsSinkHome, under}
 
 -- what was taken out of a list is put in again at its place
 pub put_back : {X : Type 0} (xs : List X) (i : ℕ) (x : X) → i < length xs → insert (remove xs i) i x ≡ set xs i x

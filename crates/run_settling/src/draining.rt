@@ -6,10 +6,9 @@ ghost use Rattle.channel_lock.specs.Calls.{has};
 ghost use Rattle.channel_lock.specs.Turns.{HasAll};
 ghost use Rattle.two_channels.specs.Shares.{table_of};
 ghost use Rattle.run_tracks.specs.Homes.{AreHomes};
-ghost use Rattle.agent_run.specs.Draining.{AreDrained, EachGoesOn, HasOwn, IsDrainedAt, IsDrainedHome, IsSinkHome};
-ghost use Rattle.agent_run.specs.Opened.{HasRoom};
+ghost use Rattle.run_settling.specs.Draining.{AreDrained, EachGoesOn, HasOwn, IsDrainedAt, IsDrainedHome, IsSinkHome, HasRoom};
 
-use crate::homes::AtHome;
+use crate::at_home::AtHome;
 use agent_end::ChannelDrain;
 use channel_face::{Channel, Reopen};
 use flume_host::Clock;

@@ -11,8 +11,8 @@ use Rattle.two_channels.specs.declared.shared.EitherShared.{EitherShared}
 use Rattle.run_tracks.specs.Closes.{AreClosed, IsClosed}
 use Rattle.run_tracks.specs.Homes.{AreHomes}
 use Rattle.run_tracks.specs.Stops.{AreCounted, AreKept, AreMended, IsKept, IsMended}
-use Rattle.agent_run.proofs.Settled.{kept_all}
-use Rattle.agent_run.proofs.settle.settle.Goals as goal
+use Rattle.run_settling.proofs.GoingOn.{kept_all}
+use Rattle.run_settling.proofs.settling.settle.Goals as goal
 
 pub drain_sinks-requires-clause-homes : goal.drain_sinks-requires-clause-homes
 drain_sinks-requires-clause-homes g c =

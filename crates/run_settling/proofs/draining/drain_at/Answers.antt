@@ -5,9 +5,9 @@ use Rattle.shared_channel.specs.Passes.{Known}
 use Rattle.sink_worker.specs.Rounds.{told}
 use Rattle.channel_lock.specs.Calls.{has}
 use Rattle.two_channels.specs.Shares.{table_of}
-use Rattle.agent_run.specs.Draining.{IsDrainedAt, IsDrainedHome}
-use Rattle.agent_run.proofs.Chaining.{drained_set, put_back}
-use Rattle.agent_run.proofs.draining.drain_at.Goals as goal
+use Rattle.run_settling.specs.Draining.{IsDrainedAt, IsDrainedHome}
+use Rattle.run_settling.proofs.Chaining.{drained_set, put_back}
+use Rattle.run_settling.proofs.draining.drain_at.Goals as goal
 
 pub drain_through-end-requires-clause-table : goal.drain_through-end-requires-clause-table
 drain_through-end-requires-clause-table g c =
