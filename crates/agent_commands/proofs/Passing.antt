@@ -17,7 +17,7 @@ use Rattle.shared_channel.specs.Calls.{Left}
 use Rattle.shared_channel.specs.Counting.{StandsAgreeing}
 use Rattle.shared_channel.specs.Passes.{Known, new_pass}
 use Rattle.shared_channel.specs.Ports.{Later, Saw, Stood, later_none, later_then, own_calls, owned}
-use Rattle.shared_channel.proofs.Fronts.{front_few, front_then, stood}
+use Rattle.channel_laws.proofs.Prefixes.{front_few, front_then, stood}
 use Rattle.channel_lock.specs.Calls.{Below, has}
 use Rattle.channel_lock.specs.Turns.{HasAll}
 use Rattle.channel_lock.specs.Views.{View}

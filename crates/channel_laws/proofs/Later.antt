@@ -10,7 +10,7 @@ use Rattle.channel_face.specs.History.{Opening, Step, commits, journal, opening,
 use Rattle.channel_face.specs.Faces.{Own}
 use Rattle.channel_face.proofs.Fronts.{batch_on, commit_on, rolled_on}
 use Rattle.shared_channel.specs.Ports.{Saw, Stood}
-use Rattle.shared_channel.proofs.Fronts.{front_few, stood}
+use Rattle.channel_laws.proofs.Prefixes.{front_few, stood}
 use Rattle.channel_laws.specs.Tickets.{HasBehind}
 use Rattle.channel_laws.specs.Transactions.{ArePutInJournal, AreTakenInJournal}
 use Rattle.channel_laws.specs.Fronts.{BatchIsOfTheEnd, CommitIsOfTheEnd, RollbackIsOfTheEnd, PutStaysInJournal, TakenStaysInJournal}

@@ -6,6 +6,7 @@ pub mod Numbering
 pub mod Transactions
 pub mod Meeting
 pub mod Worked
+pub mod Prefixes
 pub mod Later
 pub mod Until
 pub mod Owned

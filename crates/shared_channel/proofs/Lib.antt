@@ -4,4 +4,3 @@ mod Turning
 pub mod Porting
 mod Mending
 mod Durables
-pub mod Fronts

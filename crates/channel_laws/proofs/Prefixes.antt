@@ -18,7 +18,3 @@ front_few a b x = omega (arith, length-append a x.0, ap (λ (l : List Step). len
 -- the state in which a pass left the channel is one at a front of what begins with what the pass has seen
 pub stood : {C : Type 0} (stands : C → Opening → List Step → Type 0) (v : View) (h : List Step) → IsPrefix v.seen h → (own : List Own) (s : State) → Saw stands v own s → Stood v.base h v.numbers own s
 stood stands v h begins own s saw = (v.seen, begins, saw.own_all, saw.state)
-
--- and so it is of a longer history
-pub stood_on : (o : Opening) (h later : List Step) (numbers : List ℕ) → IsPrefix h later → (own : List Own) (s : State) → Stood o h numbers own s → Stood o later numbers own s
-stood_on o h later numbers begins own s at = (at.0, front_then at.0 h later at.1 begins, at.2, at.3)
