@@ -71,7 +71,7 @@ fn give_unused<H: Host, R: Wait>(
     let _ = give_back(host, place, closed);
 }
 
-// Closes channels that made no call, and gives their disks back, the last first.
+/// Closes channels that made no call, and gives their disks back, the last first.
 pub fn give_all_unused<H: Host, R: Wait>(
     rt: &R,
     host: &mut H,

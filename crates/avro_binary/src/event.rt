@@ -9,7 +9,7 @@ use crate::value::{read_bytes, text_at};
 use event_core::{Batch, Event, Headers, MAX_EVENT_SIZE};
 use std::alloc::Global;
 
-// A whole event, or the size of one that is too large.
+/// A whole event, or the size of one that is too large.
 #[derive(Drop)]
 pub enum Found {
     Event(Event),

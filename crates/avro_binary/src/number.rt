@@ -7,7 +7,7 @@ ghost use Rattle.avro_binary.specs.Sign.{signed_value};
 
 use crate::refused::ValueRefused;
 
-// What groups stand at the front of the bytes.
+/// What groups stand at the front of the bytes.
 #[derive(Clone, Copy)]
 pub enum Groups {
     Whole { number: u64, used: usize },
@@ -80,7 +80,7 @@ fn with_sign(n: u64) -> i64
     if n % 2 == 0 { half } else { -1 - half }
 }
 
-// A long by its sign.
+/// A long by its sign.
 #[derive(Clone, Copy)]
 pub enum Signed {
     Natural(u64),
@@ -88,7 +88,7 @@ pub enum Signed {
     Negative(u64),
 }
 
-// A long, by its sign.
+/// A long, by its sign.
 pub fn signed_at(bytes: &[u8], at: usize) -> Result<(Signed, usize), ValueRefused>
     requires { at ≤ length bytes.now }
     ensures { Reads signed_value IsLong LongFault bytes.now at result }

@@ -71,7 +71,7 @@ pub fn read_fixed(bytes: &[u8], at: usize) -> Result<(usize, usize), ValueRefuse
     Ok((at, at + 16))
 }
 
-// The text itself.
+/// The text itself.
 pub fn text_at(bytes: &[u8], at: usize) -> Result<(&str, usize), ValueRefused>
     requires { at ≤ length bytes.now }
     ensures { Reads (λ s. s.now) IsText TextFault bytes.now at result }

@@ -5,8 +5,8 @@ ghost use Rattle.flume_host.specs.Listens.{Endpoint, LinksTold, IsOwed, fresh_fr
 
 use flume_host::{Dialer, Failed, Link};
 
-// A dialer, with its links as a parameter. The kit's borrow checker refuses, within an impl of a trait, a call whose bound has
-// an associated type that is `Send`, as the links of `Dialer` are.
+/// A dialer, with its links as a parameter. The kit's borrow checker refuses, within an impl of a trait, a call whose bound has
+/// an associated type that is `Send`, as the links of `Dialer` are.
 pub trait Dials<L: Link> {
     // The links that it gave and took back, where it shows them.
     ghost told: { Self → Option LinksTold };

@@ -13,7 +13,7 @@ use flume_host::{Link, write_all};
 use hop_core::{Attempt, Decision};
 use std::alloc::Global;
 
-// The pack of a request, with no copy of its payload. One that fits no pack is out of memory.
+/// The pack of a request, with no copy of its payload. One that fits no pack is out of memory.
 pub fn request_of(alloc: Global, serial: u32, batch: &Batch) -> Result<Vec<u8>, NoMemory>
     ensures { IfOk result (λ bytes. bytes.items ≡ request_pack serial batch.now) }
 {
@@ -77,7 +77,7 @@ fn answer_to<L: Link>(
     }
 }
 
-// Writes a request, and reads its reply.
+/// Writes a request, and reads its reply.
 pub fn exchange<L: Link>(
     alloc: Global,
     link: &mut L,

@@ -10,7 +10,7 @@ use avro_frame::{Message, PackRefused, Packs, no_pack_within};
 use flume_host::{Link, LinkRead};
 use std::alloc::Global;
 
-// What one read brought.
+/// What one read brought.
 #[derive(Drop)]
 pub enum Piece {
     // The last bytes of the reply, and whether more stand after it.
@@ -76,7 +76,7 @@ const TURNS: u64 = 1 << 40;
 // The most quiet reads of a delivery.
 const QUIETS: u32 = 100;
 
-// Reads a whole pack, and tells whether bytes stand after it.
+/// Reads a whole pack, and tells whether bytes stand after it.
 pub fn hear<L: Link>(alloc: Global, link: &mut L) -> Result<(Message, bool), DeliverRefused>
     ensures hears { HearsReply result (L.told link.old) (L.told link.new) }
     ensures fault { IsErrOf result DeliverRefused.LinkFault → Rose (L.faults link.old)

@@ -1,6 +1,6 @@
 // The open link of a sink.
 
-// A link on which each request was answered OK, with no byte after its reply.
+/// A link on which each request was answered OK, with no byte after its reply.
 #[derive(Drop)]
 pub struct Open<L> {
     pub link: L,

@@ -10,7 +10,7 @@ use event_core::NoMemory;
 use source_put::Verdict;
 use std::alloc::Global;
 
-// The pack of a payload.
+/// The pack of a payload.
 pub fn packed(alloc: Global, serial: u32, payload: &[u8]) -> Result<Vec<u8>, NoMemory>
     requires { length payload.now ≤ max_bytes }
     ensures { IfOk result (λ bytes. bytes.items ≡ pack serial (payload.now ∷ [])) }
@@ -22,7 +22,7 @@ pub fn packed(alloc: Global, serial: u32, payload: &[u8]) -> Result<Vec<u8>, NoM
     }
 }
 
-// The pack of a call's reply.
+/// The pack of a call's reply.
 pub fn answered(
     alloc: Global,
     serial: u32,
@@ -42,7 +42,7 @@ pub fn answered(
     }
 }
 
-// What a verdict is answered; out of memory is not answered.
+/// What a verdict is answered; out of memory is not answered.
 pub fn status_of(verdict: &Verdict) -> Option<Status>
     ensures { result ≡ status_of verdict.now }
 {

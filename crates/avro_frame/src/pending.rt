@@ -16,7 +16,7 @@ pub const MAX_BYTES: u64 = 67_108_864;
 // The most bytes of room that are kept between packs.
 const ROOM_KEPT: usize = 65_536;
 
-// What stands at the end of the bytes that the next step needs.
+/// What stands at the end of the bytes that the next step needs.
 #[derive(Clone, Copy)]
 pub enum Due {
     // the serial and the number of buffers
@@ -27,6 +27,7 @@ pub enum Due {
     End,
 }
 
+/// How far a pack was read: what is due next, and the lengths so far.
 #[derive(Clone, Copy)]
 pub struct Cursor {
     // how many bytes are held when the next step is due
@@ -36,6 +37,7 @@ pub struct Cursor {
     pub due: Due,
 }
 
+/// Whether a pack goes on, ends here, or is refused.
 #[derive(Clone, Copy)]
 pub enum Step {
     More,
@@ -43,6 +45,7 @@ pub enum Step {
     Passes(PackRefused),
 }
 
+/// The cursor before the first byte of a pack.
 pub fn at_start() -> Cursor
     ensures { (bytes : List ℕ) → length bytes < 8 → IsAt bytes result × IsBehind bytes result.need result.due }
 {
@@ -53,7 +56,7 @@ pub fn at_start() -> Cursor
     }
 }
 
-// The number in the four bytes at `at`.
+/// The number in the four bytes at `at`.
 pub fn number_at(bytes: &[u8], at: usize) -> u32
     requires { at + 4 ≤ length bytes.now }
     ensures { u32_bytes result ≡ take 4 (drop at bytes.now) }
@@ -117,7 +120,7 @@ fn read_number(cursor: &mut Cursor, held: &[u8]) -> Step
     }
 }
 
-// Adds bytes for which room is there.
+/// Adds bytes for which room is there.
 pub fn put(held: &mut Vec<u8>, bytes: &[u8])
     requires { vec_len held.old + length bytes.now ≤ vec_capacity held.old }
     ensures items { held.new.items ≡ held.old.items ++ bytes.now }
@@ -129,7 +132,7 @@ pub fn put(held: &mut Vec<u8>, bytes: &[u8])
     }
 }
 
-// Takes the front of a piece, up to the pack's end.
+/// Takes the front of a piece, up to the pack's end.
 pub fn fill(held: &mut Vec<u8>, cursor: &mut Cursor, piece: &[u8]) -> (usize, Step)
     requires here { IsAt held.old.items cursor.old }
     requires behind { IsBehind held.old.items cursor.old.need cursor.old.due }

@@ -22,7 +22,7 @@ fn name_at(bytes: &[u8], at: usize) -> Result<(&str, usize), ValueRefused>
     text_at(bytes, behind)
 }
 
-// Why no events are handed on.
+/// Why no events are handed on.
 #[derive(Clone, Copy)]
 pub enum Unread {
     // The bytes are no such value from this offset on.

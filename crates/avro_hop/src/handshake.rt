@@ -30,7 +30,7 @@ pub enum Match {
     Stranger,
 }
 
-// What a client tells.
+/// What a client tells.
 #[derive(Clone, Copy)]
 pub struct Told<'a> {
     pub hash: &'a [u8],
@@ -38,7 +38,7 @@ pub struct Told<'a> {
     pub server_hash: &'a [u8],
 }
 
-// Where a field is that is not whole or at fault.
+/// Where a field is that is not whole or at fault.
 pub fn place_of(e: ValueRefused) -> u64
     requires { (at : ℕ) × IsPlaceOf e at }
     ensures { IsPlaceOf e result }
@@ -50,7 +50,7 @@ pub fn place_of(e: ValueRefused) -> u64
     }
 }
 
-// The index of a union of null and a value: whether the value follows.
+/// The index of a union of null and a value: whether the value follows.
 pub fn index_at(bytes: &[u8], at: usize) -> Result<(bool, usize), ValueRefused>
     requires { at ≤ length bytes.now }
     ensures { ReadsIndex bytes.now at result }
@@ -65,7 +65,7 @@ pub fn index_at(bytes: &[u8], at: usize) -> Result<(bool, usize), ValueRefused>
     }
 }
 
-// The 16 bytes themselves.
+/// The 16 bytes themselves.
 pub fn fixed_at(bytes: &[u8], at: usize) -> Result<(&[u8], usize), ValueRefused>
     requires { at ≤ length bytes.now }
     ensures { Reads (λ s. s.now) IsFixed FixedFault bytes.now at result }
@@ -74,7 +74,7 @@ pub fn fixed_at(bytes: &[u8], at: usize) -> Result<(&[u8], usize), ValueRefused>
     Ok((&bytes[start..end], end))
 }
 
-// The text itself.
+/// The text itself.
 pub fn text_at(bytes: &[u8], at: usize) -> Result<(&str, usize), ValueRefused>
     requires { at ≤ length bytes.now }
     ensures { Reads (λ s. s.now) IsText TextFault bytes.now at result }
@@ -86,6 +86,7 @@ pub fn text_at(bytes: &[u8], at: usize) -> Result<(&str, usize), ValueRefused>
     }
 }
 
+/// A text or null at the offset, and the offset after it.
 pub fn text_option_at(bytes: &[u8], at: usize) -> Result<(Option<&str>, usize), ValueRefused>
     requires { at ≤ length bytes.now }
     ensures { Reads (option_map (λ s. s.now)) (IsOption IsText) (OptionFault TextFault) bytes.now at result }
@@ -98,6 +99,7 @@ pub fn text_option_at(bytes: &[u8], at: usize) -> Result<(Option<&str>, usize), 
     Ok((Some(text), end))
 }
 
+/// The offset after a map of metadata or null at the offset.
 pub fn meta_option_at(bytes: &[u8], at: usize) -> Result<usize, ValueRefused>
     requires { at ≤ length bytes.now }
     ensures { ReadsOver (IsOption IsMeta) (OptionFault MetaFault) bytes.now at result }
@@ -118,7 +120,7 @@ fn tail_at(bytes: &[u8], at: usize) -> Result<(&[u8], usize), ValueRefused>
     Ok((hash, end))
 }
 
-// The request at the front, and the offset after it.
+/// The request at the front, and the offset after it.
 pub fn request_at(bytes: &[u8]) -> Result<(Told<'_>, usize), ValueRefused>
     ensures { Reads told IsRequest RequestFault bytes.now 0 result }
 {

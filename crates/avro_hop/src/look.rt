@@ -6,20 +6,21 @@ ghost use Rattle.avro_hop.specs.Accepted as spec;
 
 use serde_json::{Map, Value};
 
-// The member of this name.
+/// The member of this name.
 pub fn member<'a>(d: &'a Value, name: &str) -> Option<&'a Value>
     ensures { MatchOption result (get name.now (view d.now) ≡ None) (λ v. get name.now (view d.now) ≡ Some (view v.now)) }
 {
     d.get(name)
 }
 
-// The item at this place.
+/// The item at this place.
 pub fn item_at(d: &Value, i: usize) -> Option<&Value>
     ensures { MatchOption result (at i (view d.now) ≡ None) (λ v. at i (view d.now) ≡ Some (view v.now)) }
 {
     d.get(i)
 }
 
+/// Whether the value is this text.
 pub fn is_text(d: &Value, text: &str) -> bool
     ensures { result ≡ spec.is_text text.now (view d.now) }
 {
@@ -29,6 +30,7 @@ pub fn is_text(d: &Value, text: &str) -> bool
     }
 }
 
+/// Whether the member of this name is this text.
 pub fn has_text(d: &Value, name: &str, text: &str) -> bool
     ensures { result ≡ spec.has name.now (spec.is_text text.now) (view d.now) }
 {
@@ -38,6 +40,7 @@ pub fn has_text(d: &Value, name: &str, text: &str) -> bool
     }
 }
 
+/// Whether the item at this place is this text.
 pub fn has_text_at(d: &Value, i: usize, text: &str) -> bool
     ensures { result ≡ spec.has_at i (spec.is_text text.now) (view d.now) }
 {
@@ -47,6 +50,7 @@ pub fn has_text_at(d: &Value, i: usize, text: &str) -> bool
     }
 }
 
+/// Whether the value is an array of so many items.
 #[tactic(auto, using(crate::proofs::Items::lengths))]
 pub fn is_array_of(d: &Value, n: usize) -> bool
     ensures { result ≡ spec.is_array_of n (view d.now) }
@@ -57,6 +61,7 @@ pub fn is_array_of(d: &Value, n: usize) -> bool
     }
 }
 
+/// The items of an array.
 pub fn items_of(d: &Value) -> Option<&Vec<Value>>
     ensures { MatchOption result (as_array (view d.now) ≡ None) (λ v. as_array (view d.now) ≡ Some (items_view v.now.items)) }
 {
@@ -69,6 +74,7 @@ fn members_of(d: &Value) -> Option<&Map<String, Value>>
     d.as_object()
 }
 
+/// Whether the value is an object of so many members.
 #[tactic(auto, using(crate::proofs::Items::lengths))]
 pub fn is_object_of(d: &Value, n: usize) -> bool
     ensures { result ≡ spec.is_object_of n (view d.now) }
@@ -93,6 +99,7 @@ fn is_named(name: &str, text: &str) -> bool
     }
 }
 
+/// Whether the value is this name, with or without a namespace.
 pub fn is_name(d: &Value, text: &str) -> bool
     ensures { result ≡ spec.is_name text.now (view d.now) }
 {
@@ -102,6 +109,7 @@ pub fn is_name(d: &Value, text: &str) -> bool
     }
 }
 
+/// Whether the member `name` is this name, with or without a namespace.
 pub fn has_name(d: &Value, text: &str) -> bool
     ensures { result ≡ spec.has (codes "name") (spec.is_name text.now) (view d.now) }
 {

@@ -35,6 +35,7 @@ pub fn write_response(status: Status, into: &mut Vec<u8>) -> Result<(), NoMemory
     Ok(())
 }
 
+/// Adds the response to a call: no metadata, no error, and the status (Avro specification, "Call Format").
 pub fn add_response(status: Status, out: &mut Vec<u8>) -> Result<(), NoMemory>
     ensures { OnOk result (out.new.items ≡ out.old.items ++ response status) }
 {
@@ -43,7 +44,7 @@ pub fn add_response(status: Status, out: &mut Vec<u8>) -> Result<(), NoMemory>
     write_int(index_of(status), out)
 }
 
-// The response to a message of unknown name.
+/// The response to a message of unknown name.
 pub fn add_unknown(out: &mut Vec<u8>) -> Result<(), NoMemory>
     ensures { OnOk result (out.new.items ≡ out.old.items ++ unknown_message) }
 {

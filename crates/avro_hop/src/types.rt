@@ -48,6 +48,7 @@ fn has_symbols(d: &Value) -> bool
     }
 }
 
+/// Whether the value declares the enum `Status`.
 pub fn is_status(d: &Value) -> bool
     ensures { result ≡ spec.is_status (view d.now) }
 {
@@ -90,24 +91,28 @@ fn has_fields(d: &Value) -> bool
     }
 }
 
+/// Whether the value declares the record `AvroFlumeEvent`.
 pub fn is_event(d: &Value) -> bool
     ensures { result ≡ spec.is_event (view d.now) }
 {
     has_text(d, "type", "record") && has_name(d, "AvroFlumeEvent") && has_fields(d)
 }
 
+/// Whether the value names `Status` or declares it.
 pub fn is_status_type(d: &Value) -> bool
     ensures { result ≡ spec.is_status_type (view d.now) }
 {
     is_name(d, "Status") || is_status(d)
 }
 
+/// Whether the value names `AvroFlumeEvent` or declares it.
 pub fn is_event_type(d: &Value) -> bool
     ensures { result ≡ spec.is_event_type (view d.now) }
 {
     is_name(d, "AvroFlumeEvent") || is_event(d)
 }
 
+/// Whether the value is the type of an array of events.
 pub fn is_events_type(d: &Value) -> bool
     ensures { result ≡ spec.is_events_type (view d.now) }
 {
@@ -145,7 +150,7 @@ fn is_other(d: &Value) -> bool
     (defines(d, "Status") && !is_status(d)) || (defines(d, "AvroFlumeEvent") && !is_event(d))
 }
 
-// A type that is looked for.
+/// A type that is looked for.
 #[derive(Clone, Copy)]
 pub enum Sought {
     // the enum Status
@@ -187,7 +192,7 @@ fn is_typing(key: &str) -> bool
     key == "type"
 }
 
-// Whether the type, or one within it, is the one that is looked for.
+/// Whether the type, or one within it, is the one that is looked for.
 #[cycle(has_type)]
 pub fn has_type(d: &Value, sought: Sought) -> bool
     ensures { result ≡ spec.has_type (is_sought sought) (view d.now) }
@@ -228,7 +233,7 @@ fn has_type_in_members(members: &Map<String, Value>, sought: Sought) -> bool
     false
 }
 
-// Whether the type of one of these fields or parameters, or one within it, is the one that is looked for.
+/// Whether the type of one of these fields or parameters, or one within it, is the one that is looked for.
 #[cycle(has_type)]
 pub fn has_field_type(d: &Value, sought: Sought) -> bool
     ensures { result ≡ spec.has_field_type (is_sought sought) (view d.now) }

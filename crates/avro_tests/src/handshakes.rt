@@ -11,7 +11,7 @@ use event_core::NoMemory;
 use std::alloc::{AllocError, Global};
 use std::test::Fail;
 
-// RFC 1321 of this agent's text, by another program.
+/// RFC 1321 of this agent's text, by another program.
 pub const HASH: [u8; 16] = [
     0x30, 0xda, 0x54, 0x05, 0x9d, 0xf7, 0x2d, 0x95, 0x84, 0xb8, 0x67, 0xd5, 0x20, 0x2e, 0x20, 0x69,
 ];

@@ -57,7 +57,7 @@ org.apache.flume.source.avro=>some.other.space
 "response":"Status"=>"response":"Nothing","response":"Status"
 "#;
 
-// A client's text: with docs, and with keys, types and messages in an order of its own.
+/// A client's text: with docs, and with keys, types and messages in an order of its own.
 pub const OWN_ORDER: &str =
     "{\"doc\":\"events of a client\",\"namespace\":\"org.apache.flume.source.avro\",\"protocol\":\"AvroSourceProtocol\",\"messages\":{\"appendBatch\":{\"doc\":\"many\",\"request\":[{\"doc\":\"in order\",\"name\":\"events\",\"type\":{\"type\":\"array\",\"items\":\"org.apache.flume.source.avro.AvroFlumeEvent\"}}],\"response\":\"Status\"},\"append\":{\"doc\":\"one\",\"request\":[{\"name\":\"event\",\"type\":\"AvroFlumeEvent\"}],\"response\":\"org.apache.flume.source.avro.Status\"}},\"types\":[{\"doc\":\"an event\",\"name\":\"AvroFlumeEvent\",\"type\":\"record\",\"fields\":[{\"doc\":\"texts\",\"name\":\"headers\",\"type\":{\"type\":\"map\",\"values\":\"string\"}},{\"name\":\"body\",\"type\":\"bytes\",\"doc\":\"all else\"}],\"namespace\":\"org.apache.flume.source.avro\"},{\"doc\":\"what became of them\",\"namespace\":\"org.apache.flume.source.avro\",\"name\":\"Status\",\"type\":\"enum\",\"symbols\":[\"OK\",\"FAILED\",\"UNKNOWN\"]}]}";
 

@@ -8,9 +8,10 @@ use crate::view::SeatView;
 use atomic_table::{Badge, Join, Play, Split, TableRule};
 use std::marker::PhantomData;
 
-// The opening that the history began with, and the number of passes.
+/// The opening that the history began with, and the number of passes.
 pub type Told = (Badge<Opened>, u64);
 
+/// The rule of the table behind the lock: what each holder leaves fits what the others know.
 pub struct Turns<C> {
     guarded: PhantomData<C>,
 }
@@ -21,18 +22,21 @@ impl<C: Guarded> TableRule<Option<C>, SeatView, Told> for Turns<C> {
     ghost first = { λ k. dealer (first_opening k.0.views) k.1 };
 }
 
+/// A seat takes the lock, and the value with it.
 pub struct Take;
 
 impl<C: Guarded> Play<Option<C>, SeatView> for Take {
     ghost then = { Takes C.stands };
 }
 
+/// Who holds the lock learns the history.
 pub struct Read;
 
 impl<C> Play<Option<C>, SeatView> for Read {
     ghost then = { Reads };
 }
 
+/// Who holds the lock adds a named call to the history.
 pub struct Count<E> {
     entry: PhantomData<E>,
 }
@@ -41,6 +45,7 @@ impl<C, E: Named> Play<Option<C>, SeatView> for Count<E> {
     ghost then = { Counts E.entry };
 }
 
+/// Who holds the lock adds one call of those that were picked.
 pub struct CountOne<P> {
     picked: PhantomData<P>,
 }
@@ -49,18 +54,21 @@ impl<C, P: Picked> Play<Option<C>, SeatView> for CountOne<P> {
     ghost then = { CountsOne P.picks };
 }
 
+/// Who holds the lock gives the value back.
 pub struct Leave;
 
 impl<C> Play<Option<C>, SeatView> for Leave {
     ghost then = { Leaves };
 }
 
+/// Whoever has all seats sees the whole history.
 pub struct LookJoined;
 
 impl<C> Play<Option<C>, SeatView> for LookJoined {
     ghost then = { LooksJoined };
 }
 
+/// One seat more is dealt.
 pub struct Deal;
 
 impl Split<SeatView> for Deal {
@@ -69,6 +77,7 @@ impl Split<SeatView> for Deal {
     ghost right = { newcomer };
 }
 
+/// Two seats become one.
 pub struct Both;
 
 impl Join<SeatView> for Both {

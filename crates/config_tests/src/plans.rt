@@ -528,7 +528,7 @@ a1.sinks.k.type=plugin.x
 > r@4 stdin 512 true [0];c@6 memory 100 100;k@11 plugin x 0 100;
 ";
 
-// What is told of a case's lines.
+/// What is told of a case's lines.
 #[derive(Clone, Copy)]
 pub enum Part {
     // the plan of the lines above and those of the case, or the fault
@@ -555,7 +555,7 @@ fn add_line(lines: &mut String, line: &str) -> Result<(), Fail> {
     Ok(lines.push_str(line)?)
 }
 
-// Looks at each case of a table, and counts them. A case that is wrong is named.
+/// Looks at each case of a table, and counts them. A case that is wrong is named.
 pub fn count_cases(alloc: Global, part: Part, table: &str) -> Result<usize, Fail> {
     let mut count = 0usize;
     let mut name = String::new(alloc);

@@ -155,6 +155,7 @@ Z.s.type=org.apache.flume.interceptor.RegexExtractorInterceptorMillisSerializer
 > line 15: bad pattern
 "#;
 
+/// Whether the plan of an interceptor's lines has these steps.
 pub fn has_steps(alloc: Global, lines: &str, want: &str) -> Result<bool, Fail> {
     let told = told_of_source(alloc, lines)?;
     let text = told.as_str();
@@ -206,6 +207,7 @@ S.default=k
 > line 13: unknown name
 "#;
 
+/// Whether the plan of a selector's lines has this selector.
 pub fn has_selector(alloc: Global, lines: &str, want: &str) -> Result<bool, Fail> {
     let mut all = String::from_str(alloc, "I.type=static\n")?;
     all.push_str(lines)?;

@@ -1,6 +1,7 @@
 // A clock that counts the milliseconds of its pauses.
 use flume_host::Clock;
 
+/// A clock that counts the milliseconds of its pauses.
 #[derive(Drop)]
 pub struct PausingClock {
     pub paused: u64,

@@ -5,6 +5,7 @@ use flume_host::Steps;
 use memory_channel::MemoryChannel;
 use std::sync::ledger::Ledger;
 
+/// A face over a channel in memory, which needs no mend.
 #[derive(Drop)]
 pub struct SilentFace {
     pub face: OwnFace<MemoryChannel>,

@@ -4,6 +4,7 @@ use event_core::Batch;
 use flume_host::Steps;
 use std::sync::ledger::Ledger;
 
+/// A port that answers by a script.
 #[derive(Drop)]
 pub struct ScriptPort {
     /// The put of this number is left in doubt, and breaks the channel.

@@ -11,7 +11,7 @@ use sink_worker::SinkWorker;
 use std::alloc::Global;
 use std::test::Fail;
 
-// Refuses its first deliveries, and counts the events of the others.
+/// Refuses its first deliveries, and counts the events of the others.
 #[derive(Drop)]
 pub struct CountingSink {
     pub refuses: u64,
@@ -45,7 +45,7 @@ const LIMITS: Limits = Limits {
     max_file: 0,
 };
 
-// A channel of three events.
+/// A channel of three events.
 pub fn channel_of_three(alloc: Global) -> Result<SilentFace, Fail> {
     let mut face = OwnFace::new(MemoryChannel::new(alloc, LIMITS)?);
     for byte in [b'a', b'b', b'c'] {
@@ -58,7 +58,7 @@ pub fn channel_of_three(alloc: Global) -> Result<SilentFace, Fail> {
     Ok(SilentFace { face })
 }
 
-// The worker of this port, which takes two events at a time. Each moment of its clock is the number of the run.
+/// The worker of this port, which takes two events at a time. Each moment of its clock is the number of the run.
 pub fn worker_over(
     alloc: Global,
     port: SilentFace,
@@ -75,7 +75,7 @@ pub fn worker_over(
     }
 }
 
-// A sink that refuses so many deliveries.
+/// A sink that refuses so many deliveries.
 pub fn refusing(refuses: u64) -> CountingSink {
     CountingSink {
         refuses,

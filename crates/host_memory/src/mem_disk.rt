@@ -19,7 +19,7 @@ pub struct DiskFault {
     pub part: Part,
 }
 
-// The calls that are to fail, and the number of the next call.
+/// The calls that are to fail, and the number of the next call.
 #[derive(Drop)]
 pub struct DiskScript {
     faults: Vec<DiskFault>,

@@ -43,12 +43,14 @@ pub enum Outcome {
     Nothing,
 }
 
+/// A call that was made, and how it ended.
 #[derive(Drop)]
 pub struct MemCall {
     pub change: Recorded,
     pub outcome: Outcome,
 }
 
+/// Whether two names are the same.
 pub fn is_same(a: FileName, b: FileName) -> bool
     ensures { result ≡ same_name a b }
 {
@@ -121,6 +123,7 @@ pub fn read_bytes(bytes: &[u8], at: usize, into: &mut [u8]) -> usize
     count
 }
 
+/// Whether a name comes before another: logs first, each kind by its numbers.
 pub fn is_below(a: FileName, b: FileName) -> bool
     ensures { result ≡ name_below a b }
 {

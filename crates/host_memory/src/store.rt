@@ -8,6 +8,7 @@ use crate::parts::{
 use flume_host::{Failed, FileName};
 use std::alloc::{AllocError, Global};
 
+/// The files of a disk in memory, and each call that was made of it.
 #[derive(Drop)]
 pub struct Store {
     pub alloc: Global,
@@ -24,6 +25,7 @@ impl Store {
     ghost use Rattle.host_memory.specs.Parts.{call_of, front_of, place, start, step_by};
     ghost use Rattle.host_memory.specs.Words.{replayed};
 
+    /// A disk without files.
     pub fn new(alloc: Global) -> Self
         ensures { replayed result ≡ start [] }
     {
@@ -35,6 +37,7 @@ impl Store {
         }
     }
 
+    /// A disk that has these files at first.
     pub fn with_files(alloc: Global, first: Vec<MemFile>) -> Result<Self, AllocError>
         ensures { IfOk result (λ store. replayed store ≡ start first.items) }
     {

@@ -72,7 +72,7 @@ fn file_path(rt: &HostRuntime, folder: &str, name: FileName) -> io::Result<Strin
     Ok(path)
 }
 
-// Makes the names of a folder stable.
+/// Makes the names of a folder stable.
 pub fn sync_folder(rt: &HostRuntime, folder: &str) -> io::Result<()> {
     File::open(rt, folder)?.sync_all()
 }
@@ -102,7 +102,7 @@ fn make_one_folder(rt: &HostRuntime, path: &str) -> io::Result<()> {
     sync_folder(rt, parent_of(path))
 }
 
-// Makes a folder and those above it where they aren't there, and their names stable.
+/// Makes a folder and those above it where they aren't there, and their names stable.
 pub fn make_folder(rt: &HostRuntime, path: &str) -> io::Result<()> {
     for end in 1..path.len() {
         if let Some((above, rest)) = path.split_at_checked(end)

@@ -16,6 +16,7 @@ pub struct RealSource {
 }
 
 impl RealSource {
+    /// Standard input.
     pub fn new(rt: HostRuntime) -> Self
         ensures { result.faults ≡ 0 }
     {
@@ -68,6 +69,7 @@ pub struct RealSink {
 }
 
 impl RealSink {
+    /// Standard output.
     pub fn new(rt: HostRuntime) -> Self
         ensures { result.faults ≡ 0 }
     {

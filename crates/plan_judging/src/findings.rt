@@ -57,6 +57,7 @@ pub struct Findings {
 impl Findings {
     ghost use Rattle.plan_judging.specs.Candidates.{rank, precedes, adds, seen};
 
+    /// Nothing found yet.
     pub fn new() -> Findings
         ensures { seen result ≡ record { fault = None; missing = None } }
     {

@@ -14,6 +14,7 @@ pub struct LogicalLine {
     pub text: String,
 }
 
+/// Whether a byte is a space, a tab or a form feed.
 pub fn is_white_space(byte: u8) -> bool
     ensures { result ≡ is_white_space byte }
 {

@@ -32,6 +32,7 @@ impl Field {
         }
     }
 
+    /// Whether it is this field.
     pub fn is(self, other: Field) -> bool
         ensures { result ≡ same self other }
     {
@@ -85,6 +86,7 @@ impl CivilTime {
         millisecond: 0,
     };
 
+    /// Sets a field to a number.
     pub fn set(&mut self, field: Field, number: u16)
         ensures { self.new ≡ with_value self.old field number }
     {

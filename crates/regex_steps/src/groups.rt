@@ -9,6 +9,7 @@ use regex::{Captures, bytes};
 use std::alloc::Global;
 use std::str;
 
+/// What the groups of a pattern matched, in a text or in bytes.
 pub trait Groups {
     /// What a group matched, where it took part.
     ghost group: { Self → ℕ → Option (List ℕ) };
@@ -99,7 +100,7 @@ fn set_group(
     }
 }
 
-// Sets the headers of the groups, the first to group 1.
+/// Sets the headers of the groups, the first to group 1.
 pub fn set_groups<F: Groups>(
     found: &F,
     serializers: &[Serializer],

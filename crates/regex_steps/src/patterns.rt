@@ -14,7 +14,7 @@ use regex::{Error, Regex, Template, bytes};
 use std::alloc::{AllocError, Global};
 use std::str;
 
-// A body that is a text is searched as one, and any other as bytes.
+/// A body that is a text is searched as one, and any other as bytes.
 #[derive(Drop)]
 pub struct Patterns {
     pub texts: Regex,
@@ -32,6 +32,7 @@ fn refused(e: Error) -> BuildRefused
 }
 
 impl Patterns {
+    /// Compiles a pattern for texts and for bytes. `BadPattern` comes only where the source is no pattern.
     pub fn build(alloc: Global, source: &str) -> Result<Patterns, BuildRefused>
         ensures ok { IfOk result (AreBuilt source.now) }
         ensures err { IfErr result (λ e. e ≡ BuildRefused.BadPattern → IsNoPattern source.now) }

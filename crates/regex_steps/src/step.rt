@@ -10,7 +10,7 @@ use crate::patterns::Patterns;
 use event_core::{Event, EventRefused, MAX_EVENT_SIZE};
 use std::alloc::Global;
 
-// What is done where the pattern is found.
+/// What is done where the pattern is found.
 #[derive(Drop)]
 pub enum Does {
     Filter { exclude: bool },

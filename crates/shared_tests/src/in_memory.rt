@@ -23,7 +23,7 @@ fn share_machine(alloc: Global, channel: Machine, limits: Limits, passes: u32) -
     }
 }
 
-// A plain channel, with the cases of one on a disk.
+/// A plain channel, with the cases of one on a disk.
 pub fn plain(alloc: Global, passes: u32) -> Opened<Machine>
     ensures { IfSome result (λ r. All (λ p. p.table_id ≡ r.0.turn.table.shared.table_id) r.1.items) }
 {
@@ -50,7 +50,7 @@ fn share_in_memory(
     }
 }
 
-// A channel in memory.
+/// A channel in memory.
 pub fn in_memory(alloc: Global, passes: u32) -> Opened<MemoryChannel>
     ensures { IfSome result (λ r. All (λ p. p.table_id ≡ r.0.turn.table.shared.table_id) r.1.items) }
 {

@@ -88,7 +88,7 @@ fn four<C: Channel + Drop + Send, R: Threads + Wait + Sync>(
     both(shared, a, b)
 }
 
-// The last pass of those that are left.
+/// The last pass of those that are left.
 pub fn last<C: Channel>(shared: &Shared<C>, passes: &mut Vec<Pass>) -> Option<Pass>
     requires { All (λ p. p.table_id ≡ shared.now.turn.table.shared.table_id) passes.old.items }
     ensures { All (λ p. p.table_id ≡ shared.now.turn.table.shared.table_id) passes.new.items × IfSome result (λ p. p.table_id ≡ shared.now.turn.table.shared.table_id) }
@@ -97,7 +97,7 @@ pub fn last<C: Channel>(shared: &Shared<C>, passes: &mut Vec<Pass>) -> Option<Pa
     passes.pop()
 }
 
-// Two passes of those that are left.
+/// Two passes of those that are left.
 pub fn pair<C: Channel>(shared: &Shared<C>, passes: &mut Vec<Pass>) -> Option<(Pass, Pass)>
     requires { All (λ p. p.table_id ≡ shared.now.turn.table.shared.table_id) passes.old.items }
     ensures left { All (λ p. p.table_id ≡ shared.now.turn.table.shared.table_id) passes.new.items }

@@ -13,12 +13,14 @@ use std::marker::Brand;
 use std::snapshot::Snapshot;
 use std::sync::ledger::{Blank, Ledger};
 
+/// Limits that no test of threads reaches.
 pub const LIMITS: Limits = Limits {
     capacity: 100_000,
     txn_capacity: 1000,
     max_file: 1_000_000,
 };
 
+/// A channel that several threads share, with a pass for each.
 pub type Opened<C> = Option<(Shared<C>, Vec<Pass>)>;
 
 // Shares a channel that was opened in a folder that was so before.
@@ -41,6 +43,7 @@ fn share_opened<D: Disk + Drop>(
     }
 }
 
+/// Opens a channel on this disk and shares it, counting by this blank.
 pub fn on_disk_by<D: Disk + Drop, L: Ledger>(
     alloc: Global,
     blank: Blank,
@@ -61,7 +64,7 @@ pub fn on_disk_by<D: Disk + Drop, L: Ledger>(
     }
 }
 
-// One in a folder of this disk.
+/// One in a folder of this disk.
 pub fn on_disk(alloc: Global, disk: MemDisk, passes: u32) -> Opened<FileChannel<MemDisk>>
     ensures { IfSome result (λ r. All (λ p. p.table_id ≡ r.0.turn.table.shared.table_id) r.1.items) }
 {

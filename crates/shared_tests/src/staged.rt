@@ -16,7 +16,7 @@ use test_fixtures::{disk_after_opening, disk_failing_in_flush, event};
 
 type OnDisk = Shared<FileChannel<MemDisk>>;
 
-// Stages a transaction with this event.
+/// Stages a transaction with this event.
 pub fn stage<C: Channel, R: Wait>(
     rt: &R,
     shared: &Shared<C>,
@@ -81,7 +81,7 @@ fn syncs_of<R: Wait>(rt: &R, shared: OnDisk, a: Pass, b: Pass) -> u64
     shared.close(rt, a).channel.close().syncs()
 }
 
-// Puts an event by a port.
+/// Puts an event by a port.
 pub fn put_by_port<C: Channel, R: Wait>(
     rt: &R,
     alloc: Global,

@@ -8,7 +8,7 @@ use std::alloc::Global;
 use std::sync::Wait;
 use test_fixtures::{event, one};
 
-// What was done through a pass: the numbers in the bodies that were put, and in those that were taken for good.
+/// What was done through a pass: the numbers in the bodies that were put, and in those that were taken for good.
 #[derive(Drop)]
 pub struct Work {
     pub pass: Pass,
@@ -16,7 +16,7 @@ pub struct Work {
     pub taken: Vec<u64>,
 }
 
-// The number in a body.
+/// The number in a body.
 pub fn number_in(event: &Event) -> u64 {
     let mut number = 0u64;
     for byte in event.body() {
@@ -25,7 +25,7 @@ pub fn number_in(event: &Event) -> u64 {
     number
 }
 
-// A batch of one event with this number.
+/// A batch of one event with this number.
 pub fn batch_of(alloc: Global, number: u64) -> Result<Batch, EventRefused>
     ensures { IfOk result (λ batch. length batch ≡ 1) }
 {
@@ -87,7 +87,7 @@ fn put_then_take<C: Channel, R: Wait>(
     }
 }
 
-// Puts so many events, whose numbers begin with this one, and takes after each; each third one is given back.
+/// Puts so many events, whose numbers begin with this one, and takes after each; each third one is given back.
 pub fn put_and_take<C: Channel, R: Wait>(
     rt: &R,
     alloc: Global,

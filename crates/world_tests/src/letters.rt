@@ -2,9 +2,10 @@
 use event_core::{Batch, Event, Headers, NoMemory};
 use std::alloc::Global;
 
-/// The letters that there are.
+/// One letter of the two that there are.
 pub const A: u64 = 97;
 
+/// The other letter.
 pub const B: u64 = 98;
 
 /// An event without headers whose body is this letter: `b`, or `a` for any other.
