@@ -9,7 +9,7 @@ use Rattle.plan_refused.specs.declared.refused.PlanRefused.TheVariants as plan
 use Rattle.agent_words.specs.Statuses.{status_of}
 use Rattle.agent_words.specs.declared.error.RunError.{RunError}
 use Rattle.agent_words.specs.declared.error.RunError.TheVariants.{Usage, FileTooLarge, Text, NoAgent, Plan as Plan', Fault, BadCheckpoint, BadLog, OverCapacity, Spent, Damaged, NoMemory, InputTooLong, LineTooLong}
-use Rattle.agent_end.specs.Writes.{Fronts}
+use Rattle.flume_host.specs.Writes.{Fronts}
 use Rattle.agent_commands.specs.Checked.{IsConfigFault, IsPlanOf, IsAtFault, IsBeside, Checked, Judges, Lacking, PlansAgent, Unplanned, end_of, plan_line}
 use Rattle.agent_commands.specs.declared.check.Planned.{Planned}
 

@@ -16,7 +16,7 @@ use Rattle.agent_words.specs.declared.error.RunError.{RunError}
 use Rattle.agent_words.specs.declared.error.RunError.TheVariants as errors
 use Rattle.flume_host.specs.Causes.{Rose}
 use Rattle.flume_host.specs.HostState.{HostState, file_limit}
-use Rattle.agent_end.specs.Writes.{Fronts}
+use Rattle.flume_host.specs.Writes.{Fronts}
 use Rattle.agent_commands.specs.declared.check.Planned.{Planned}
 
 -- the least line of a plan at which something is asked for that was not handed in, if there is one

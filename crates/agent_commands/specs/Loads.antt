@@ -27,7 +27,7 @@ use Rattle.load_gen.specs.declared.refused.LoadRefused.TheVariants as load
 use Rattle.shared_channel.specs.Calls.{state_seen}
 use Rattle.shared_channel.specs.Passes.{Known}
 use Rattle.shared_channel.specs.Ports.{AreUnder}
-use Rattle.agent_end.specs.Writes.{Fronts}
+use Rattle.flume_host.specs.Writes.{Fronts}
 use Rattle.agent_commands.specs.Piped.{cause_status}
 use Rattle.agent_commands.specs.Puts.{BeginsOver}
 use Rattle.agent_commands.specs.Stored.{IsOfFolder, IsRefusedFolder, IsUnopened, default_limits}

@@ -2,15 +2,14 @@
 ghost use Rattle.std.specs.Prelude.{◌≡◌, IfOk, OnOk, string_bytes};
 ghost use Rattle.std.specs.Io.KnownBytes.{Appends};
 ghost use Rattle.flume_host.specs.Causes.{HasCause};
-ghost use Rattle.agent_end.specs.Writes.{Fronts};
+ghost use Rattle.flume_host.specs.Writes.{Fronts};
 ghost use Rattle.plan_objects.specs.Asks.{lacking};
 ghost use Rattle.agent_commands.specs.Checked.{Checked, HasItsObjects, IsBeside, IsCheckStatus};
 ghost use Rattle.agent_commands.specs.Checked.{Judges, PlansAgent, PlansWhole, end_of, plan_line};
 
-use agent_end::write_all;
 use agent_words::RunError;
 use flume_config::{Plan, PlanRefused, plan_of};
-use flume_host::{Failed, FileRefused, Host, Sink};
+use flume_host::{Failed, FileRefused, Host, Sink, write_out};
 use plan_objects::{ClaimRefused, HandedIn, Objects, claim_objects};
 use prop_text::{Properties, read_properties};
 use std::alloc::{AllocError, Global};
@@ -91,7 +90,7 @@ pub(crate) fn print<H: Host>(host: &mut H, text: &str) -> Result<(), Failed>
     ensures folders { H.folders host.new ≡ H.folders host.old }
 {
     let mut sink = host.take_output();
-    let done = match write_all(&mut sink, text.as_bytes()) {
+    let done = match write_out(&mut sink, text.as_bytes()) {
         Ok(()) => sink.flush(),
         Err(failed) => Err(failed),
     };

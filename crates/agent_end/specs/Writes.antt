@@ -1,15 +1,10 @@
 -- A text that was written to a sink, or a front of it.
-use Rattle.std.specs.Prelude.{◌≡◌, ◌≤◌, ◌⊎◌, ℕ, List, length, take, Option, Result, Ok, Err}
+use Rattle.std.specs.Prelude.{◌≡◌, ℕ, List, Option, Result, Ok, Err}
 use Rattle.std.specs.Io.KnownBytes.{Appends}
 use Rattle.flume_host.specs.Causes.{Rose}
+use Rattle.flume_host.specs.Writes.{Fronts}
 use Rattle.agent_end.specs.declared.ends.ReportRefused.{ReportRefused}
 use Rattle.agent_end.specs.declared.ends.ReportRefused.TheVariants.{Fault, NoMemory}
-
--- a front of the bytes was written: all of them, unless the count of faults rose
-pub record Fronts (old new : Option (List ℕ)) (before now : ℕ) (bytes : List ℕ) : Type 0 where
-  pub sent : ℕ
-  pub wrote : Appends old new (take sent bytes)
-  pub whole : (length bytes ≤ sent) ⊎ Rose before now
 
 module _ {K : Type 0} (took handed : K → Option (List ℕ)) (faults : K → ℕ) where
   -- The whole text was written and handed on; or the sink failed, and a front of the text was written; or there was no memory

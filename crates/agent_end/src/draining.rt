@@ -34,12 +34,10 @@ pub fn drain_channel<R: Wait, F: TakeFace + MendFace, S: EventSink, C: Clock>(
 ) -> ChannelDrain
     ensures drained { Drains
         (TurnsOnce
-        (face ⟦<F as TakeFace>⟧.own ⟦<F as TakeFace>⟧.saw
-        ⟦<F as TakeFace>⟧.seen ⟦<F as TakeFace>⟧.kept)
+        (face F.own F.saw F.seen F.kept)
         (told S.delivers S.faults) worker.old.batch)
         (LooksOnce
-        (face ⟦<F as MendFace>⟧.own ⟦<F as MendFace>⟧.saw
-        ⟦<F as MendFace>⟧.seen ⟦<F as MendFace>⟧.kept))
+        (face F.own F.saw F.seen F.kept))
         result (taking C.moments worker.old) (taking C.moments worker.new) }
     ensures same { (worker.new.channel ≡ worker.old.channel)
         × (worker.new.batch ≡ worker.old.batch) }

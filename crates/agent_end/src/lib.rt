@@ -4,9 +4,7 @@
 mod draining;
 mod ends;
 mod reporting;
-mod write;
 
 pub use draining::{ChannelDrain, drain_channel};
 pub use ends::{InputEnd, ReportRefused, RunEnds};
 pub use reporting::write_report;
-pub use write::write_all;

@@ -4,10 +4,9 @@ ghost use Rattle.agent_end.specs.Writes.{IsWritten};
 ghost use Rattle.agent_words.specs.Report.{report_text};
 
 use crate::ends::ReportRefused;
-use crate::write::write_all;
 use agent_words::report;
 use channel_face::Counts;
-use flume_host::Sink;
+use flume_host::{Sink, write_out};
 use std::alloc::Global;
 
 /// Writes the report of some channels, each by its name and its counts, and has it handed on.
@@ -22,7 +21,7 @@ pub fn write_report<K: Sink>(
     let Ok(text) = report(alloc, channels) else {
         return Err(ReportRefused::NoMemory);
     };
-    let Ok(()) = write_all(output, text.as_bytes()) else {
+    let Ok(()) = write_out(output, text.as_bytes()) else {
         return Err(ReportRefused::Fault);
     };
     let Ok(()) = output.flush() else {

@@ -8,7 +8,7 @@ use Rattle.crew.specs.declared.draining.DrainEnd.{DrainEnd}
 use Rattle.line_session.specs.declared.session.SessionEnd.{SessionEnd}
 use Rattle.line_session.specs.declared.session.SessionEnd.TheVariants as session
 use Rattle.agent_end.specs.Statuses.{input_of}
-use Rattle.agent_end.specs.Writes.{Fronts}
+use Rattle.flume_host.specs.Writes.{Fronts}
 use Rattle.agent_end.specs.declared.ends.InputEnd.{InputEnd}
 use Rattle.agent_end.specs.declared.ends.InputEnd.TheVariants as input
 use Rattle.agent_end.specs.declared.ends.ReportRefused.{ReportRefused}

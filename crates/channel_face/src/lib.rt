@@ -11,7 +11,7 @@ mod replies;
 mod tokens;
 
 pub use channel::{Channel, Durable, Reopen};
-pub use face::{PutFace, TakeFace};
+pub use face::{Face, PutFace, TakeFace};
 pub use keep_face::KeepFace;
 pub use laws::{
     commits_are_well_formed, count_stays_within, counts_one_call, numbers_rise, stands_for_journal,
@@ -24,4 +24,4 @@ pub use replies::{
     Limits, OpenCause, PruneRefused, Put, PutRefused, Settled, StageCause, StageRefused,
     TakeRefused, Taken, Ticket,
 };
-pub use tokens::{PutTxn, TakeTxn};
+pub use tokens::{OfPuts, OfTakes, PutTxn, TakeTxn, Txn};

@@ -4,8 +4,8 @@ ghost use Rattle.channel_face.specs.Faces.{picked_events, ArePutUpTo, Ends, IsPu
 ghost use Rattle.channel_face.specs.OwnCalls.{Continues, Goes, Was};
 
 use crate::{
-    Channel, FaceRefused, PutFace, PutRefused, PutTxn, Settled, StageRefused, TakeFace, TakeTxn,
-    Ticket,
+    Channel, Face, FaceRefused, PutFace, PutRefused, PutTxn, Settled, StageRefused, TakeFace,
+    TakeTxn, Ticket,
 };
 use event_core::{Batch, Event};
 
@@ -99,7 +99,7 @@ impl<C: Channel> OwnFace<C> {
     }
 }
 
-impl<C: Channel> PutFace for OwnFace<C> {
+impl<C: Channel> Face for OwnFace<C> {
     ghost use Rattle.channel_face.specs.OwnCalls.{Continues, HasMade, Was, continues_none, continues_then};
 
     ghost own = { λ f. HasMade (C.stands f.channel) };
@@ -113,7 +113,9 @@ impl<C: Channel> PutFace for OwnFace<C> {
     ghost kept_none = { λ f. continues_none (C.stands f.channel) };
 
     ghost kept_then = { λ f g h. continues_then (C.stands f.channel) (C.stands g.channel) (C.stands h.channel) };
+}
 
+impl<C: Channel> PutFace for OwnFace<C> {
     fn put_batch(&mut self, batch: &Batch, picked: &[u32]) -> Result<u64, FaceRefused> {
         let mut txn = match self.channel.begin_put() {
             Ok(txn) => txn,
@@ -130,20 +132,6 @@ impl<C: Channel> PutFace for OwnFace<C> {
 }
 
 impl<C: Channel> TakeFace for OwnFace<C> {
-    ghost use Rattle.channel_face.specs.OwnCalls.{Continues, HasMade, Was, continues_none, continues_then};
-
-    ghost own = { λ f. HasMade (C.stands f.channel) };
-
-    ghost saw = { λ f. Was (C.stands f.channel) };
-
-    ghost seen = { λ _. 0 };
-
-    ghost kept = { λ f g. Continues (C.stands f.channel) (C.stands g.channel) };
-
-    ghost kept_none = { λ f. continues_none (C.stands f.channel) };
-
-    ghost kept_then = { λ f g h. continues_then (C.stands f.channel) (C.stands g.channel) (C.stands h.channel) };
-
     fn begin(&mut self) -> Result<TakeTxn, FaceRefused> {
         match self.channel.begin_take() {
             Ok(txn) => Ok(txn),

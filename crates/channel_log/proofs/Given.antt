@@ -9,12 +9,12 @@ use Rattle.record_form.specs.declared.record.Rec.{Rec}
 use Rattle.record_form.specs.declared.record.Rec.TheVariants.{Put, Take, Rollback, CommitPut, CommitTake, End}
 use Rattle.record_form.specs.declared.record.Outline.{Outline}
 use Rattle.record_form.specs.Grammar.{Complete, IsWhole, as_read, outcome_of, read_of}
-use Rattle.record_form.specs.Outlines.{IsOutlined, outline_of}
+use Rattle.record_form.specs.Outlines.{IsOutlined, IsSomeOutline, outline_of}
 use Rattle.record_form.specs.Record.{record_kind, record_length, spelling}
 use Rattle.record_form.proofs.Again.{length-spelling, record-again}
 use Rattle.channel_log.proofs.ReadOn.{some_length}
 use Rattle.channel_log.specs.Frames.{IsFramed, IsNoEnd, frame_bytes, record_bytes}
-use Rattle.channel_log.specs.Reader.{AreOutlines, AreRecords, IsCount, IsFrameBytes, IsGiven, Reader, closing, kept, step}
+use Rattle.channel_log.specs.Reader.{AreRecords, IsCount, IsFrameBytes, IsGiven, Reader, closing, kept, step}
 
 cons_closing : (first : Rec) (records : List Rec) (count : ℕ) → closing (first ∷ records) count ≡ spelling first ++ closing records count
 cons_closing first records count = append_assoc (spelling first) (record_bytes records) (spelling (End count))
@@ -93,7 +93,6 @@ pub given_on : (frame : List ℕ) (place n : ℕ) (first : Rec) (records : List 
 given_on frame place n first [] count each same long other = absurd (other (byte_behind frame place n first [] count same long))
 given_on frame place n first (r ∷ rs) count each same long other = (omega (arith, long), behind frame place n first (r ∷ rs) count same long)
 
--- of the bytes from a place on
 -- The bytes that stand at a place are a record's, of which an outline was read.
 pub record OutlinedAt (held : List ℕ) (outline : Outline) (n : ℕ) (first : Rec) : Type 0 where
   pub outline_is : outline ≡ outline_of first
@@ -142,7 +141,7 @@ are_records held is = (is.0, length is.0, is.1.each, is.1.some, record { some = 
 abbrev pub GivesFirst : Reader → Reader → Outline → ℕ → Type 0
 GivesFirst old new outline at = (first : Rec) (records : List Rec) (count : ℕ) → IsFramed first → AllByRecursion IsFramed records → IsCount count → old.held ≡ closing (first ∷ records) count → (outline ≡ outline_of first) × IsGiven old new (first, at) first records count
 
-pub is_outline : (old new : Reader) (outline : Outline) (at : ℕ) → AreRecords old.held → GivesFirst old new outline at → AreOutlines (Some (outline, at))
+pub is_outline : (old new : Reader) (outline : Outline) (at : ℕ) → AreRecords old.held → GivesFirst old new outline at → IsSomeOutline outline
 is_outline old new outline at are law = let s = stood old.held are in (s.first, (law s.first s.records s.count s.framed s.each s.counted s.split).0)
 
 -- the one record that stands there

@@ -167,11 +167,6 @@ abbrev pub GivesOutline : Option (Outline × ℕ) → Reader → List ℕ → Li
 GivesOutline None new bytes items fault = Gives None new bytes items fault
 GivesOutline (Some given) new bytes items fault = (rec : Rec) × (given.0 ≡ outline_of rec) × Gives (Some (rec, given.1)) new bytes items fault
 
--- what was given is the outline of some record
-abbrev pub AreOutlines : Option (Outline × ℕ) → Type 0
-AreOutlines None = Unit {0}
-AreOutlines (Some given) = (rec : Rec) × (given.0 ≡ outline_of rec)
-
 -- records of a frame, and its END
 abbrev pub AreRecords : List ℕ → Type 0
 AreRecords held = (records : List Rec) × (count : ℕ) × AllByRecursion IsFramed records × (1 ≤ length records) × IsCount count × (held ≡ closing records count)

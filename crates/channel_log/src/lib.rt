@@ -17,4 +17,4 @@ pub use loading::FrameRefused;
 pub use pointers::{ReadRefused, read_put};
 pub use reader::{LogReader, birth_of, record_at};
 pub use scan::{Scan, scan_frame};
-pub use writer::{LogBeginRefused, LogFlushRefused, LogRollRefused, LogWriter};
+pub use writer::{LAST_FILE, LogBeginRefused, LogFlushRefused, LogRollRefused, LogWriter};

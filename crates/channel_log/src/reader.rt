@@ -1,11 +1,11 @@
 // Reads the records of a log file's frames.
-ghost use Rattle.std.specs.Prelude.{◌≡◌, ◌≤◌, ◌<◌, ◌+◌, ◌^◌, [], ◌∷◌, ℕ, List, ◌↔◌, length, take, drop, true, false, Option, Some, IsTrue, MatchOption, IfOk, IfErr, OnOk, OnErr, IsErrOf, IsSome, is_some, if◌then◌else◌};
+ghost use Rattle.std.specs.Prelude.{◌≡◌, ◌≤◌, ◌<◌, ◌+◌, ◌^◌, [], ◌∷◌, ℕ, List, ◌↔◌, length, take, drop, true, false, Option, Some, IsTrue, MatchOption, IfOk, IfErr, IfSome, OnOk, OnErr, IsErrOf, IsSome, is_some, if◌then◌else◌};
 ghost use Rattle.std.specs.List.{AllByRecursion};
 ghost use Rattle.flume_host.specs.Causes.{Rose};
 ghost use Rattle.record_form.specs.declared.record.Rec.{Rec};
-ghost use Rattle.record_form.specs.Outlines.{outline_of};
+ghost use Rattle.record_form.specs.Outlines.{IsSomeOutline, outline_of};
 ghost use Rattle.channel_log.specs.Frames.{BadHeader, Content, Holds, IsBirth, IsFramed, fault_of, header};
-ghost use Rattle.channel_log.specs.Reader.{AfterOpen, AreOutlines, AreRecords, Gives, GivesOutline, HasFile, IfTrue, IsCount, IsEntered, IsGiven, IsLoaded, Goes, IsAhead, IsBegun, IsBirthOf, IsSameFile, IsThere, OpensNone, Remains, Stands, WhereBad, closing, content_items, frame_items, kept, step};
+ghost use Rattle.channel_log.specs.Reader.{AfterOpen, AreRecords, Gives, GivesOutline, HasFile, IfTrue, IsCount, IsEntered, IsGiven, IsLoaded, Goes, IsAhead, IsBegun, IsBirthOf, IsSameFile, IsThere, OpensNone, Remains, Stands, WhereBad, closing, content_items, frame_items, kept, step};
 
 use crate::loading::{FrameRefused, load_frame};
 use crate::window::BLOCK;
@@ -352,7 +352,7 @@ impl LogReader {
     ) -> Result<Option<(Outline, u64)>, FrameRefused>
         requires { IsThere (D.told disk.old) self.old.file }
         ensures given { IfOk result (λ given. (bytes : List ℕ) (items : List (Rec × ℕ)) (fault : Option ℕ) → HasFile (D.told disk.old) self.old.file bytes → Remains self.old bytes items fault → GivesOutline given self.new bytes items fault) }
-        ensures outlined { IfOk result AreOutlines }
+        ensures outlined { IfOk result (λ found. IfSome found (λ given. IsSomeOutline given.0)) }
         ensures bad { IfErr result (λ e. WhereBad e (λ f at. (f ≡ self.old.file) × ((bytes : List ℕ) (items : List (Rec × ℕ)) (fault : Option ℕ) → HasFile (D.told disk.old) self.old.file bytes → Remains self.old bytes items fault → (items ≡ []) × (fault ≡ Some at)))) }
         ensures refused { OnErr result ((bytes : List ℕ) (items : List (Rec × ℕ)) (fault : Option ℕ) → HasFile (D.told disk.old) self.old.file bytes → Remains self.old bytes items fault → Remains self.new bytes items fault) }
         ensures file { IsSameFile self.old self.new }

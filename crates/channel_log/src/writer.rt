@@ -98,8 +98,8 @@ fn write_frame<D: Disk>(disk: &mut D, number: u32, gate: u64, piece: &[u8]) -> R
     Ok(())
 }
 
-// The last number of a log file.
-const LAST_FILE: u32 = u32::MAX;
+/// The last number of a log file.
+pub const LAST_FILE: u32 = u32::MAX;
 
 // The birth of a file that follows a full one.
 const ROLLED: u16 = 2;

@@ -1,11 +1,10 @@
 // Applies the log of a folder from a place on: the rest of the place's file, and the files after it.
-ghost use Rattle.std.specs.Prelude.{◌≡◌, ◌<◌, ◌≤◌, ◌+◌, ◌^◌, ◌++◌, ℕ, List, Option, length, OnOk, IfErr, IsErrOf};
+ghost use Rattle.std.specs.Prelude.{◌≡◌, ◌<◌, ◌≤◌, ◌+◌, ◌^◌, OnOk, IfErr, IsErrOf};
 ghost use Rattle.flume_host.specs.Causes.{Rose};
 ghost use Rattle.flume_host.specs.Told.{WhereTold};
-ghost use Rattle.record_form.specs.declared.record.Rec.{Rec};
-ghost use Rattle.channel_log.specs.Reader.{HasFile, IsThere, Remains};
-ghost use Rattle.channel_replay.specs.Recover.{LogFile, fault_lines, lines, record_lines};
-ghost use Rattle.channel_replay.specs.Replay.{WhereBadLog, WhereOver, as_frame, as_record, drop_lines, record_count};
+ghost use Rattle.channel_log.specs.Reader.{IsThere};
+ghost use Rattle.channel_replay.specs.Recover.{lines};
+ghost use Rattle.channel_replay.specs.Replay.{WhereBadLog, WhereOver, record_count};
 ghost use Rattle.ring_replay.specs.Indexing.{GoesThrough, IsKept};
 ghost use Rattle.ring_replay.specs.Folder.{StopsIn};
 ghost use Rattle.checkpoint_recovery.specs.Reading.{IsInLog};
@@ -45,9 +44,9 @@ fn apply_file<D: Disk, L: Ledger>(
     ensures well { (IsErrOf result ReplayRefused.DiskFault → ⊥) → D.faults disk.new ≡ D.faults disk.old }
 {
     match LogReader::begin(alloc, disk, file, at) {
-        Ok(mut reader) => {
+        Ok(reader) => {
             begin_file(index, reader.drops());
-            apply_rest(disk, file, &mut reader, index, steps)
+            apply_rest(disk, file, reader, index, steps)
         }
         Err(refused) => Err(of_frame(refused)),
     }

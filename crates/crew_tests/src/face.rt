@@ -1,5 +1,5 @@
 // A face over a channel in memory, which needs no mend. It tells nothing of its calls.
-use channel_face::{Channel, FaceRefused, MendFace, OpenCause, OwnFace, TakeFace, TakeTxn};
+use channel_face::{Channel, Face, FaceRefused, MendFace, OpenCause, OwnFace, TakeFace, TakeTxn};
 use event_core::Event;
 use flume_host::Steps;
 use memory_channel::MemoryChannel;
@@ -11,7 +11,7 @@ pub struct SilentFace {
     pub face: OwnFace<MemoryChannel>,
 }
 
-impl TakeFace for SilentFace {
+impl Face for SilentFace {
     ghost own = { λ _ _ _ _. ⊥ };
 
     ghost saw = { λ _ _ _. ⊥ };
@@ -23,7 +23,9 @@ impl TakeFace for SilentFace {
     ghost kept_none = { λ _. tt };
 
     ghost kept_then = { λ _ _ _ _ _. tt };
+}
 
+impl TakeFace for SilentFace {
     fn begin(&mut self) -> Result<TakeTxn, FaceRefused> {
         self.face.begin()
     }
@@ -42,19 +44,7 @@ impl TakeFace for SilentFace {
 }
 
 impl MendFace for SilentFace {
-    ghost own = { λ _ _ _ _. ⊥ };
-
-    ghost saw = { λ _ _ _. ⊥ };
-
-    ghost seen = { λ _. 0 };
-
-    ghost kept = { λ _ _. Unit {0} };
-
     ghost on_disk = { λ _. Unit {0} };
-
-    ghost kept_none = { λ _. tt };
-
-    ghost kept_then = { λ _ _ _ _ _. tt };
 
     fn mend<L: Ledger>(&mut self, _steps: &mut Steps<L>) -> Result<bool, OpenCause> {
         Ok(false)

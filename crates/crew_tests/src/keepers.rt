@@ -1,6 +1,6 @@
 // The worker of a channel on a disk.
 use crate::clock::PausingClock;
-use channel_face::{CheckRefused, Counter, KeepFace, MendFace, OpenCause, PruneRefused};
+use channel_face::{CheckRefused, Counter, Face, KeepFace, MendFace, OpenCause, PruneRefused};
 use crew::{Stop, Work};
 use flume_host::Steps;
 use host_memory::MemHalt;
@@ -32,7 +32,7 @@ impl KeptPort {
     }
 }
 
-impl MendFace for KeptPort {
+impl Face for KeptPort {
     ghost own = { λ _ _ _ _. ⊥ };
 
     ghost saw = { λ _ _ _. ⊥ };
@@ -41,11 +41,13 @@ impl MendFace for KeptPort {
 
     ghost kept = { λ _ _. Unit {0} };
 
-    ghost on_disk = { λ _. Unit {0} };
-
     ghost kept_none = { λ _. tt };
 
     ghost kept_then = { λ _ _ _ _ _. tt };
+}
+
+impl MendFace for KeptPort {
+    ghost on_disk = { λ _. Unit {0} };
 
     fn mend<L: Ledger>(&mut self, _steps: &mut Steps<L>) -> Result<bool, OpenCause> {
         self.note(b'm');

@@ -1,5 +1,5 @@
 // A port whose puts follow a script, and which is mended. It tells nothing of its calls.
-use channel_face::{FaceRefused, MendFace, OpenCause, PutFace, PutRefused};
+use channel_face::{Face, FaceRefused, MendFace, OpenCause, PutFace, PutRefused};
 use event_core::Batch;
 use flume_host::Steps;
 use std::sync::ledger::Ledger;
@@ -19,7 +19,7 @@ pub struct ScriptPort {
     pub mends: u64,
 }
 
-impl PutFace for ScriptPort {
+impl Face for ScriptPort {
     ghost own = { λ _ _ _ _. ⊥ };
 
     ghost saw = { λ _ _ _. ⊥ };
@@ -31,7 +31,9 @@ impl PutFace for ScriptPort {
     ghost kept_none = { λ _. tt };
 
     ghost kept_then = { λ _ _ _ _ _. tt };
+}
 
+impl PutFace for ScriptPort {
     fn put_batch(&mut self, _batch: &Batch, _picked: &[u32]) -> Result<u64, FaceRefused> {
         if self.broken {
             return Err(FaceRefused::Put(PutRefused::Broken));
@@ -46,19 +48,7 @@ impl PutFace for ScriptPort {
 }
 
 impl MendFace for ScriptPort {
-    ghost own = { λ _ _ _ _. ⊥ };
-
-    ghost saw = { λ _ _ _. ⊥ };
-
-    ghost seen = { λ _. 0 };
-
-    ghost kept = { λ _ _. Unit {0} };
-
     ghost on_disk = { λ _. Unit {0} };
-
-    ghost kept_none = { λ _. tt };
-
-    ghost kept_then = { λ _ _ _ _ _. tt };
 
     fn mend<L: Ledger>(&mut self, _steps: &mut Steps<L>) -> Result<bool, OpenCause> {
         if !self.broken {

@@ -4,7 +4,7 @@ ghost use Rattle.flume_host.specs.Causes.{HasCause};
 ghost use Rattle.flume_host.specs.Told.{WhereTold};
 ghost use Rattle.file_channel.specs.Laid.{IsNextCheck, check_name};
 
-use crate::logged::LAST_FILE;
+use channel_log::LAST_FILE;
 use checkpoint_opening::NewestCheck;
 use flume_host::{Disk, Failed, FileName};
 use std::alloc::{AllocError, Global};

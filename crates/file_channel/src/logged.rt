@@ -24,15 +24,12 @@ use channel_face::{
     BeginRefused, Counter, FlushRefused, Put, PutRefused, PutTxn, Settled, StageRefused,
     TakeRefused, TakeTxn, Taken, Ticket,
 };
-use channel_log::LogWriter;
+use channel_log::{LAST_FILE, LogWriter};
 use channel_places::Held;
 use channel_writing::Writing;
 use event_core::Event;
 use flume_host::Disk;
 use std::marker::Model;
-
-/// The last number of a log file.
-pub(crate) const LAST_FILE: u32 = u32::MAX;
 
 /// The places of a channel's events, and the log in which each of them has its record.
 #[derive(Drop)]

@@ -23,9 +23,9 @@ ghost use Rattle.file_channel.specs.Stepped.{ShowsOf, StepsOn};
 
 use crate::channel::OpenRefused;
 use crate::checks::{Checks, next_check};
-use crate::logged::{LAST_FILE, LoggedPlaces};
+use crate::logged::LoggedPlaces;
 use channel_face::{Counter, Limits, OpenCause};
-use channel_log::{LogBeginRefused, LogWriter};
+use channel_log::{LAST_FILE, LogBeginRefused, LogWriter};
 use channel_places::Held;
 use channel_writing::{Writing, last_log, of_opening};
 use checkpoint_opening::{NewestCheck, Opened, open_newest};

@@ -7,3 +7,4 @@ pub mod Rolled
 pub mod Links
 pub mod Listens
 pub mod HandedOut
+pub mod Writes

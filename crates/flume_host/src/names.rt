@@ -1,4 +1,9 @@
 // The names of a disk's files, and what the outside refuses.
+ghost use Rattle.std.specs.Prelude.{◌≡◌};
+ghost use Rattle.flume_host.specs.Folder.{name_below, same_name};
+
+/// A file that is read whole has at most this many bytes.
+pub const FILE_LIMIT: u64 = 1_048_576;
 
 /// A fault of the outside, which the object that met it has counted.
 #[derive(Clone, Copy, Debug, PartialEq, Eq)]
@@ -15,6 +20,31 @@ pub enum FileName {
     Log(u32),
     /// A checkpoint.
     Check(u32),
+}
+
+impl FileName {
+    /// Whether two names are the same.
+    pub fn is_same(self, other: FileName) -> bool
+        ensures { result ≡ same_name self other }
+    {
+        match (self, other) {
+            (FileName::Log(m), FileName::Log(n)) => m == n,
+            (FileName::Check(m), FileName::Check(n)) => m == n,
+            _ => false,
+        }
+    }
+
+    /// Whether a name comes before another: logs first, each kind by its numbers.
+    pub fn is_below(self, other: FileName) -> bool
+        ensures { result ≡ name_below self other }
+    {
+        match (self, other) {
+            (FileName::Log(m), FileName::Log(n)) => m < n,
+            (FileName::Log(_), FileName::Check(_)) => true,
+            (FileName::Check(_), FileName::Log(_)) => false,
+            (FileName::Check(m), FileName::Check(n)) => m < n,
+        }
+    }
 }
 
 /// Why an object could not be opened by its name.

@@ -14,11 +14,8 @@ use crate::script::Script;
 use crate::{
     MemClock, MemDialer, MemDisk, MemListener, MemRandom, MemRoll, MemSink, MemSource, Named,
 };
-use flume_host::{FileRefused, Host, NameRefused, NoMemory};
+use flume_host::{FILE_LIMIT, FileRefused, Host, NameRefused, NoMemory};
 use std::alloc::Global;
-
-// The most bytes of a file that is read whole.
-const FILE_LIMIT: u64 = 1_048_576;
 
 /// A host in memory. A folder of a path that it does not have is empty, and opening makes it.
 #[derive(Drop)]

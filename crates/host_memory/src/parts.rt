@@ -1,6 +1,6 @@
 // What a disk in memory is made of.
 ghost use Rattle.std.specs.Prelude.{◌≡◌, ◌≤◌, ◌-◌, ◌++◌, length, min, take, drop, IfOk, IfSome};
-ghost use Rattle.flume_host.specs.Folder.{same_name, name_below, over, IsAbove, IsNext};
+ghost use Rattle.flume_host.specs.Folder.{over, IsAbove, IsNext};
 ghost use Rattle.host_memory.specs.Parts.{place, files_of, better_of, front_of};
 
 use flume_host::FileName;
@@ -50,23 +50,12 @@ pub struct MemCall {
     pub outcome: Outcome,
 }
 
-/// Whether two names are the same.
-pub fn is_same(a: FileName, b: FileName) -> bool
-    ensures { result ≡ same_name a b }
-{
-    match (a, b) {
-        (FileName::Log(m), FileName::Log(n)) => m == n,
-        (FileName::Check(m), FileName::Check(n)) => m == n,
-        _ => false,
-    }
-}
-
 /// Where the first file of this name is.
 pub fn place_of(files: &[MemFile], name: FileName) -> Option<usize>
     ensures { result ≡ place files.now name }
 {
     for i in 0..files.len() {
-        if is_same(name, files[i].name) {
+        if name.is_same(files[i].name) {
             return Some(i);
         }
     }
@@ -123,18 +112,6 @@ pub fn read_bytes(bytes: &[u8], at: usize, into: &mut [u8]) -> usize
     count
 }
 
-/// Whether a name comes before another: logs first, each kind by its numbers.
-pub fn is_below(a: FileName, b: FileName) -> bool
-    ensures { result ≡ name_below a b }
-{
-    match (a, b) {
-        (FileName::Log(m), FileName::Log(n)) => m < n,
-        (FileName::Log(_), FileName::Check(_)) => true,
-        (FileName::Check(_), FileName::Log(_)) => false,
-        (FileName::Check(m), FileName::Check(n)) => m < n,
-    }
-}
-
 /// The least name above another, or the least of all.
 pub fn least_above(files: &[MemFile], after: Option<FileName>) -> Option<FileName>
     ensures next { IsNext (files_of files.now) after result }
@@ -152,7 +129,7 @@ fn better(name: FileName, after: Option<FileName>, best: Option<FileName>) -> Op
     ensures { result ≡ better_of name after best }
 {
     let above = match after {
-        Some(after) => is_below(after, name),
+        Some(after) => after.is_below(name),
         None => true,
     };
     if !above {
@@ -160,7 +137,7 @@ fn better(name: FileName, after: Option<FileName>, best: Option<FileName>) -> Op
     }
     match best {
         Some(least) => {
-            if is_below(name, least) {
+            if name.is_below(least) {
                 Some(name)
             } else {
                 Some(least)

@@ -5,9 +5,7 @@ ghost use Rattle.flume_host.specs.Told.{IsLeftAt, Make, Write, file_after, read_
 ghost use Rattle.host_memory.specs.Parts.{call_of, files_of, part_after, part_read, told_of};
 ghost use Rattle.host_memory.specs.Stops.{chosen, image_by, image_chosen, image_kept, image_torn, reads_by, stood_of};
 
-use crate::parts::{
-    MemCall, MemFile, Outcome, Recorded, copy_files, is_same, over_bytes, place_of,
-};
+use crate::parts::{MemCall, MemFile, Outcome, Recorded, copy_files, over_bytes, place_of};
 use flume_host::FileName;
 use std::alloc::{AllocError, Global};
 
@@ -44,7 +42,7 @@ fn put_file(
 fn drop_file(files: &mut Vec<MemFile>, name: FileName)
     ensures { files_of files.new.items ≡ with_at (files_of files.old.items) name None }
 {
-    files.retain(|file| !is_same(name, file.name));
+    files.retain(|file| !name.is_same(file.name));
 }
 
 // Writes over a file, if it is there.

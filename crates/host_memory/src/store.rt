@@ -2,9 +2,7 @@
 ghost use Rattle.std.specs.Prelude.{◌≡◌};
 ghost use Rattle.host_memory.specs.Parts.{told_of, files_of};
 
-use crate::parts::{
-    MemCall, MemFile, Outcome, Recorded, copy_files, front, is_same, over_bytes, place_of,
-};
+use crate::parts::{MemCall, MemFile, Outcome, Recorded, copy_files, front, over_bytes, place_of};
 use flume_host::{Failed, FileName};
 use std::alloc::{AllocError, Global};
 
@@ -172,7 +170,7 @@ impl Store {
             change: Recorded::Removed(name),
             outcome,
         })?;
-        self.files.retain(|file| !is_same(name, file.name));
+        self.files.retain(|file| !name.is_same(file.name));
         Ok(())
     }
 

@@ -1,7 +1,7 @@
 // A folder of the file system as a disk.
 ghost use Rattle.std.specs.Prelude.{◌≡◌, ◌≤◌, ◌<◌, ◌+◌, ◌^◌, None, IfOk, OnOk, IfSome, length};
 ghost use Rattle.flume_host.specs.Causes.{HasCause};
-ghost use Rattle.flume_host.specs.Folder.{IsAbove, name_below};
+ghost use Rattle.flume_host.specs.Folder.{IsAbove};
 
 use crate::teller::Teller;
 use flume_host::{Disk, Failed, FileName};
@@ -30,17 +30,6 @@ pub struct RealDisk {
     // the folder, locked for as long as the disk is open
     lock: File,
     pub faults: u64,
-}
-
-fn is_below(a: FileName, b: FileName) -> bool
-    ensures { result ≡ name_below a b }
-{
-    match (a, b) {
-        (FileName::Log(m), FileName::Log(n)) => m < n,
-        (FileName::Log(_), FileName::Check(_)) => true,
-        (FileName::Check(_), FileName::Log(_)) => false,
-        (FileName::Check(m), FileName::Check(n)) => m < n,
-    }
 }
 
 // A number in decimal without leading zeros.
@@ -120,11 +109,11 @@ fn better(name: FileName, after: Option<FileName>, best: Option<FileName>) -> Op
     ensures { IfSome result (λ n. IsAbove after n) }
 {
     let is_above = match after {
-        Some(low) => is_below(low, name),
+        Some(low) => low.is_below(name),
         None => true,
     };
     let is_least = match best {
-        Some(least) => is_below(name, least),
+        Some(least) => name.is_below(least),
         None => true,
     };
     if is_above && is_least {

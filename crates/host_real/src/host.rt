@@ -10,7 +10,7 @@ use crate::sockets::Sockets;
 use crate::stream::{RealSink, RealSource};
 use crate::teller::Teller;
 use crate::times::{RealClock, RealRandom};
-use flume_host::{FileRefused, Host, NameRefused, NoMemory};
+use flume_host::{FILE_LIMIT, FileRefused, Host, NameRefused, NoMemory};
 use std::fs::File;
 use std::io;
 use std::io::{ErrorKind, Read};
@@ -38,9 +38,6 @@ impl RealHost {
         }
     }
 }
-
-// The most bytes of a file that is read whole.
-const FILE_LIMIT: usize = 1_048_576;
 
 // Fills `into` from the front of a file, and tells how many bytes the file has.
 fn read_front(rt: &HostRuntime, path: &str, into: &mut [u8]) -> io::Result<u64> {
@@ -181,7 +178,7 @@ impl Host for RealHost {
     }
 
     fn read_file(&mut self, path: &str) -> Result<Vec<u8>, FileRefused> {
-        let Ok(mut bytes) = vec![in self.teller.rt.alloc(); 0u8; FILE_LIMIT + 1] else {
+        let Ok(mut bytes) = vec![in self.teller.rt.alloc(); 0u8; FILE_LIMIT as usize + 1] else {
             return Err(FileRefused::NoMemory);
         };
         let size = match read_front(&self.teller.rt, path, &mut bytes) {
@@ -192,7 +189,7 @@ impl Host for RealHost {
                 return Err(FileRefused::Failed);
             }
         };
-        if size > FILE_LIMIT as u64 {
+        if size > FILE_LIMIT {
             return Err(FileRefused::TooLarge { size });
         }
         bytes.truncate(size as usize);

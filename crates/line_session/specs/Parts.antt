@@ -1,6 +1,7 @@
 -- Parts of a session: what its functions say of themselves.
 use Rattle.std.specs.Prelude.{◌≡◌, ◌≤◌, ℕ, Bool, true, List, [], ◌++◌, flat_map, take, length, All, Option}
 use Rattle.std.specs.Io.KnownBytes.{Appends, Consumes, IsAtEnd}
+use Rattle.flume_host.specs.Writes.{WritesFront}
 use Rattle.netcat_source.specs.Lines.{IsLine, TooLong, joined}
 use Rattle.netcat_source.specs.Replies.{reply, end_reply}
 use Rattle.netcat_source.specs.declared.replies.LineVerdict.{LineVerdict}
@@ -9,10 +10,6 @@ use Rattle.line_session.specs.declared.session.SessionEnd.TheVariants.{End, TooL
 use Rattle.line_session.specs.declared.session.SessionEnd.TheVariants.{NoMemory, ReadFault, WriteFault}
 use Rattle.line_session.specs.Handled.{Handled, GoesOn, TakesAll, lines_of, verdicts_of}
 use Rattle.line_session.specs.Sessions.{EndsBy}
-
--- a front of the bytes was written
-abbrev pub WritesFront : Option (List ℕ) → Option (List ℕ) → List ℕ → Type 0
-WritesFront old new bytes = (count : ℕ) × Appends old new (take count bytes)
 
 -- some bytes were read, at most so many
 abbrev pub Reads : ℕ → Option (List ℕ) → Option (List ℕ) → List ℕ → Type 0

@@ -3,7 +3,6 @@
 
 mod session;
 mod store;
-mod write;
 
 pub use session::{SessionEnd, serve_lines};
 pub use store::LineStore;

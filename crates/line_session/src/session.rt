@@ -9,8 +9,7 @@ ghost use Rattle.line_session.specs.Sessions.{HasCauseOf, Served, ends_of};
 ghost use Rattle.line_session.specs.Parts.{AnswerEnds, Breaks, EndsByLine, EndsByRead, Goes, LongEnds, ReadEnds, Reads, TakesOne, sides};
 
 use crate::store::LineStore;
-use crate::write::write_all;
-use flume_host::{Sink, Source};
+use flume_host::{Sink, Source, write_out};
 use netcat_source::{Cut, LineRules, LineVerdict, Lines, TOO_LONG_REPLY, reply_to};
 use std::alloc::Global;
 
@@ -53,7 +52,7 @@ fn serve_line<K: Sink, L: LineStore>(
         (K.faults sink.new) }
 {
     let verdict = store.take_line(line);
-    if write_all(sink, reply_to(verdict, ack)).is_err() {
+    if write_out(sink, reply_to(verdict, ack)).is_err() {
         return Err(SessionEnd::WriteFault);
     }
     if store.is_last(verdict) {
@@ -69,7 +68,7 @@ fn refuse_long<K: Sink>(sink: &mut K) -> SessionEnd
     ensures fault { RisesWhere (result ≡ SessionEnd.WriteFault) (K.faults sink.old)
         (K.faults sink.new) }
 {
-    match write_all(sink, TOO_LONG_REPLY) {
+    match write_out(sink, TOO_LONG_REPLY) {
         Ok(()) => SessionEnd::TooLongLine,
         Err(_) => SessionEnd::WriteFault,
     }

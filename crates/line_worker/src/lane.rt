@@ -40,8 +40,7 @@ impl<F: PutFace + MendFace + Drop, B: Interceptor, C: Clock, H: Halt> Lane<F, B,
     // Pauses, and mends the channels again, where a mend was refused.
     fn mend_again(&mut self)
         ensures mends { (answers : List Answer) × MendsWhere
-            (MendsInto (MendsPort ⟦<F as MendFace>⟧.own ⟦<F as MendFace>⟧.saw ⟦<F as MendFace>⟧.seen
-            ⟦<F as MendFace>⟧.kept ⟦<F as MendFace>⟧.on_disk))
+            (MendsInto (MendsPort F.own F.saw F.seen F.kept F.on_disk))
             self.old.due (into_of self.old.intake (C.moments self.old.clock)) answers
             (into_of self.new.intake (C.moments self.new.clock))
             × (self.new.due ≡ any_refused answers) }
@@ -57,8 +56,7 @@ impl<F: PutFace + MendFace + Drop, B: Interceptor, C: Clock, H: Halt> Lane<F, B,
     // Mends the channels after a line, where its verdict asks for it.
     fn mend_behind(&mut self, verdict: &Verdict)
         ensures mends { (answers : List Answer) × MendsWhere
-            (MendsInto (MendsPort ⟦<F as MendFace>⟧.own ⟦<F as MendFace>⟧.saw ⟦<F as MendFace>⟧.seen
-            ⟦<F as MendFace>⟧.kept ⟦<F as MendFace>⟧.on_disk))
+            (MendsInto (MendsPort F.own F.saw F.seen F.kept F.on_disk))
             (is_due self.old.due verdict.now)
             (into_of self.old.intake (C.moments self.old.clock)) answers
             (into_of self.new.intake (C.moments self.new.clock))
@@ -75,11 +73,9 @@ impl<F: PutFace + MendFace + Drop, B: Interceptor, C: Clock, H: Halt> Lane<F, B,
 impl<F: PutFace + MendFace + Drop, B: Interceptor, C: Clock, H: Halt> LineStore
     for Lane<F, B, C, H> {
     ghost takes = { λ old line said new. TakesTurn
-        (TakesLine (Puts ⟦<F as PutFace>⟧.own ⟦<F as PutFace>⟧.saw ⟦<F as PutFace>⟧.seen
-        ⟦<F as PutFace>⟧.kept)
+        (TakesLine (Puts F.own F.saw F.seen F.kept)
         old.intake.selector B.intercepts old.intake.host)
-        (MendsInto (MendsPort ⟦<F as MendFace>⟧.own ⟦<F as MendFace>⟧.saw ⟦<F as MendFace>⟧.seen
-        ⟦<F as MendFace>⟧.kept ⟦<F as MendFace>⟧.on_disk))
+        (MendsInto (MendsPort F.own F.saw F.seen F.kept F.on_disk))
         (fed old.intake (C.moments old.clock) old.due) line said
         (fed new.intake (C.moments new.clock) new.due)
         × (new.intake.selector ≡ old.intake.selector) × (new.intake.host ≡ old.intake.host) };

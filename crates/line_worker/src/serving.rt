@@ -26,11 +26,9 @@ impl<F: PutFace + MendFace + Drop, B: Interceptor, C: Clock, H: Halt> Lane<F, B,
         requires { IsLineLimit rules.now.max }
         ensures served { Served rules.now.max rules.now.ack ends_session
             (TakesTurn (TakesLine
-            (Puts ⟦<F as PutFace>⟧.own ⟦<F as PutFace>⟧.saw ⟦<F as PutFace>⟧.seen
-            ⟦<F as PutFace>⟧.kept)
+            (Puts F.own F.saw F.seen F.kept)
             self.old.intake.selector B.intercepts self.old.intake.host)
-            (MendsInto (MendsPort ⟦<F as MendFace>⟧.own ⟦<F as MendFace>⟧.saw ⟦<F as MendFace>⟧.seen
-            ⟦<F as MendFace>⟧.kept ⟦<F as MendFace>⟧.on_disk)))
+            (MendsInto (MendsPort F.own F.saw F.seen F.kept F.on_disk)))
             (ends_of (I.left input.old)
             (fed self.old.intake (C.moments self.old.clock) self.old.due)
             (O.took output.old))
@@ -56,11 +54,9 @@ impl<F: PutFace + MendFace + Drop, B: Interceptor, C: Clock, H: Halt> Lane<F, B,
         requires { IsLineLimit rules.now.max }
         ensures session { Session rules.now.max rules.now.ack
             (TakesTurn (TakesLine
-            (Puts ⟦<F as PutFace>⟧.own ⟦<F as PutFace>⟧.saw ⟦<F as PutFace>⟧.seen
-            ⟦<F as PutFace>⟧.kept)
+            (Puts F.own F.saw F.seen F.kept)
             self.old.intake.selector B.intercepts self.old.intake.host)
-            (MendsInto (MendsPort ⟦<F as MendFace>⟧.own ⟦<F as MendFace>⟧.saw ⟦<F as MendFace>⟧.seen
-            ⟦<F as MendFace>⟧.kept ⟦<F as MendFace>⟧.on_disk)))
+            (MendsInto (MendsPort F.own F.saw F.seen F.kept F.on_disk)))
             built result
             (fed self.old.intake (C.moments self.old.clock) self.old.due)
             (fed self.new.intake (C.moments self.new.clock) self.new.due)

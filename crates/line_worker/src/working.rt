@@ -26,10 +26,9 @@ fn serve_once<
     requires { CanServe worker.old }
     ensures { LineRan
         (TakesTurn (TakesLine
-        (Puts ⟦<F as PutFace>⟧.own ⟦<F as PutFace>⟧.saw ⟦<F as PutFace>⟧.seen ⟦<F as PutFace>⟧.kept)
+        (Puts F.own F.saw F.seen F.kept)
         worker.old.selector B.intercepts worker.old.host)
-        (MendsInto (MendsPort ⟦<F as MendFace>⟧.own ⟦<F as MendFace>⟧.saw ⟦<F as MendFace>⟧.seen
-        ⟦<F as MendFace>⟧.kept ⟦<F as MendFace>⟧.on_disk)))
+        (MendsInto (MendsPort F.own F.saw F.seen F.kept F.on_disk)))
         C.moments (talk_of I.left I.faults O.took O.handed O.faults) worker.old worker.new }
 {
     let Begun { intake, built } = worker.begin();
@@ -66,10 +65,9 @@ impl<F: PutFace + MendFace + Drop, I: Source, O: Sink, C: Clock + Drop, B: Inter
 
     ghost ran = { λ old new. LineRan
         (TakesTurn (TakesLine
-        (Puts ⟦<F as PutFace>⟧.own ⟦<F as PutFace>⟧.saw ⟦<F as PutFace>⟧.seen ⟦<F as PutFace>⟧.kept)
+        (Puts F.own F.saw F.seen F.kept)
         old.selector B.intercepts old.host)
-        (MendsInto (MendsPort ⟦<F as MendFace>⟧.own ⟦<F as MendFace>⟧.saw ⟦<F as MendFace>⟧.seen
-        ⟦<F as MendFace>⟧.kept ⟦<F as MendFace>⟧.on_disk)))
+        (MendsInto (MendsPort F.own F.saw F.seen F.kept F.on_disk)))
         C.moments (talk_of I.left I.faults O.took O.handed O.faults) old new };
 
     fn work<R: Wait>(&mut self, _rt: &R, stop: &Stop) {

@@ -19,3 +19,7 @@ outline_of (End count) = outlines.End count
 -- of whichever record the bytes begin with, this is the outline, and there it ends
 abbrev pub IsOutlined : List ℕ → Outline → ℕ → Type 0
 IsOutlined bytes outline end = (rec : Rec) (stop : ℕ) → outcome_of bytes ≡ Complete rec stop → (outline ≡ outline_of rec) × (end ≡ stop)
+
+-- some record has it
+abbrev pub IsSomeOutline : Outline → Type 0
+IsSomeOutline outline = (rec : Rec) × (outline ≡ outline_of rec)

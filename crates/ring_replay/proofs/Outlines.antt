@@ -4,10 +4,10 @@ use Rattle.record_form.specs.declared.record.Outline.{Outline}
 use Rattle.record_form.specs.declared.record.Pointer.{Pointer}
 use Rattle.record_form.specs.declared.record.Rec.{Rec}
 use Rattle.record_form.specs.declared.record.Rec.TheVariants.{CommitPut, CommitTake, End, Put, Rollback, Take}
-use Rattle.record_form.specs.Outlines.{outline_of}
+use Rattle.record_form.specs.Outlines.{IsSomeOutline, outline_of}
 use Rattle.channel_replay.specs.declared.line.Line.TheVariants.{Stands}
 use Rattle.ring_replay.specs.declared.indexing.Indexing.{Indexing}
-use Rattle.ring_replay.specs.Indexing.{GoesBy, GoesOn, GoesThrough, IsKept, IsSomeOutline, StopsAt, event_length, outline_length}
+use Rattle.ring_replay.specs.Indexing.{GoesBy, GoesOn, GoesThrough, IsKept, StopsAt, outline_length}
 use Rattle.ring_replay.proofs.Wider.{rec_kept}
 
 by_rec : (legal : Bool) (old new : Indexing) (place : Pointer) (rec : Rec) → GoesBy legal old place (outline_of rec) new → GoesOn legal old place rec new
@@ -21,14 +21,6 @@ by_rec legal old new place (End count) goes = goes
 -- each record of the outline was applied
 pub goes_on : (legal : Bool) (old new : Indexing) (place : Pointer) (outline : Outline) (rec : Rec) → outline ≡ outline_of rec → GoesBy legal old place outline new → GoesOn legal old place rec new
 goes_on legal old new place outline rec same goes = by_rec legal old new place rec (subst (λ (m : Outline). GoesBy legal old place m new) same goes)
-
-length_by : (rec : Rec) → outline_length (outline_of rec) ≡ event_length rec
-length_by (Put txn event) = refl
-length_by (Take txn number) = refl
-length_by (Rollback txn) = refl
-length_by (CommitPut txn first count) = refl
-length_by (CommitTake txn count) = refl
-length_by (End count) = refl
 
 -- the place of a record of the outline
 abbrev pub placed_by : ℕ → ℕ → Outline → Pointer
@@ -65,5 +57,5 @@ outline_stops true file at old new place outline legal is goes rec same = absurd
 -- what a legal record leads to is kept of some marks again
 pub outline_kept : (legal : Bool) (file at : ℕ) (old new : Indexing) (place : Pointer) (outline : Outline) → legal ≡ true → IsKept old → IsSomeOutline outline → place ≡ placed_by file at outline → GoesBy legal old place outline new → IsKept new
 outline_kept legal file at old new place outline is kept some placed goes =
-    let long : place.length ≡ event_length some.0 = ap (λ (p : Pointer). p.length) placed ∙ (ap outline_length some.1 ∙ length_by some.0) in
+    let long : place.length ≡ outline_length (outline_of some.0) = ap (λ (p : Pointer). p.length) placed ∙ ap outline_length some.1 in
     rec_kept legal place some.0 old new kept long (goes_on legal old new place outline some.0 some.1 goes) is

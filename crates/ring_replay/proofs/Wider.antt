@@ -7,12 +7,13 @@ use Rattle.event_core.specs.declared.journal.Entry.TheVariants as entries
 use Rattle.record_form.specs.declared.record.Pointer.{Pointer}
 use Rattle.record_form.specs.declared.record.Rec.{Rec}
 use Rattle.record_form.specs.declared.record.Rec.TheVariants.{CommitPut, CommitTake, End, Put, Rollback, Take}
+use Rattle.record_form.specs.Outlines.{outline_of}
 use Rattle.event_ring.specs.Slots.{Left}
 use Rattle.open_table.specs.Tables.{Listed, Open, Puts, Takes, open_at}
 use Rattle.channel_replay.specs.Marks.{Past, journal, opened}
 use Rattle.channel_replay.specs.Start.{Start}
 use Rattle.ring_replay.specs.declared.indexing.Indexing.{Indexing}
-use Rattle.ring_replay.specs.Indexing.{ArePlaced, AreSized, GoesOn, HasEntry, HasItems, IsKept, IsListed, Keeps, Places, StandsAt, event_length}
+use Rattle.ring_replay.specs.Indexing.{ArePlaced, AreSized, GoesOn, HasEntry, HasItems, IsKept, IsListed, Keeps, Places, StandsAt, outline_length}
 
 are_wider : (q : Pointer × Content) (places : Places) (pointers : List Pointer) (events : List Content) → ArePlaced places pointers events → ArePlaced (q ∷ places) pointers events
 are_wider q places [] [] are = tt
@@ -59,7 +60,7 @@ record HasPlace (P : Places → Type 0) (s : Start) (past : Past) (r : Indexing)
   pub stands : P places
   pub sized : AreSized places
 
-rec_stands : (place : Pointer) (rec : Rec) (places : Places) (s : Start) (past : Past) (r : Indexing) → Keeps places s past r → AreSized places → place.length ≡ event_length rec → HasPlace (λ more. StandsAt more place rec) s past r
+rec_stands : (place : Pointer) (rec : Rec) (places : Places) (s : Start) (past : Past) (r : Indexing) → Keeps places s past r → AreSized places → place.length ≡ outline_length (outline_of rec) → HasPlace (λ more. StandsAt more place rec) s past r
 rec_stands place (Put txn event) places s past r keeps sized long = record { places = (place, event) ∷ places; keeps = keeps_wider (place, event) places s past r keeps; stands = inl (refl, refl); sized = (sym long, sized) }
 rec_stands place (Take txn number) places s past r keeps sized long = record { places = places; keeps = keeps; stands = tt; sized = sized }
 rec_stands place (Rollback txn) places s past r keeps sized long = record { places = places; keeps = keeps; stands = tt; sized = sized }
@@ -68,7 +69,7 @@ rec_stands place (CommitTake txn count) places s past r keeps sized long = recor
 rec_stands place (End count) places s past r keeps sized long = record { places = places; keeps = keeps; stands = tt; sized = sized }
 
 -- What a legal record leads to is kept of some marks again.
-pub rec_kept : (legal : Bool) (place : Pointer) (rec : Rec) (old new : Indexing) → IsKept old → place.length ≡ event_length rec → GoesOn legal old place rec new → legal ≡ true → IsKept new
+pub rec_kept : (legal : Bool) (place : Pointer) (rec : Rec) (old new : Indexing) → IsKept old → place.length ≡ outline_length (outline_of rec) → GoesOn legal old place rec new → legal ≡ true → IsKept new
 rec_kept true place rec old new kept long goes is =
     let h = rec_stands place rec kept.0 kept.1 kept.2 old kept.3 kept.4 long in
     (h.places, kept.1, _, (goes h.places kept.1 kept.2 h.stands h.keeps).1, h.sized)

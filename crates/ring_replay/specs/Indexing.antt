@@ -10,7 +10,6 @@ use Rattle.record_form.specs.declared.record.Outline.{Outline}
 use Rattle.record_form.specs.declared.record.Outline.TheVariants as outlines
 use Rattle.record_form.specs.declared.record.Pointer.{Pointer}
 use Rattle.record_form.specs.declared.record.Rec.{Rec}
-use Rattle.record_form.specs.Outlines.{outline_of}
 use Rattle.record_form.specs.declared.record.Rec.TheVariants.{Put, Take, Rollback, CommitPut, CommitTake, End}
 use Rattle.event_ring.specs.Slots.{Index, Left}
 use Rattle.open_table.specs.Tables.{HasAt, Listed, Open, Puts, Table, Takes, is_puts, open_at, size, takes_of}
@@ -115,10 +114,6 @@ GoesBy legal old place (outlines.CommitPut txn first count) new = GoesOn legal o
 GoesBy legal old place (outlines.CommitTake txn count) new = GoesOn legal old place (CommitTake txn count) new
 GoesBy legal old place (outlines.End count) new = GoesOn legal old place (End count) new
 
--- the outline of some record
-abbrev pub IsSomeOutline : Outline → Type 0
-IsSomeOutline outline = (rec : Rec) × (outline ≡ outline_of rec)
-
 -- the transaction that an outline names
 abbrev pub outline_txn : Outline → ℕ
 outline_txn (outlines.Put txn length) = txn
@@ -177,15 +172,6 @@ GoesThrough found old new = (places : Places) (s : Start) (past : Past) → Line
 -- whatever marks it was kept of, the line is at fault after these
 abbrev pub StopsAt : Line → Indexing → Type 0
 StopsAt line old = (places : Places) (s : Start) (past : Past) → LinesStand places (line ∷ []) → Keeps places s past old → IsSound s.base past line → ⊥
-
--- the length of a PUT's event
-abbrev pub event_length : Rec → ℕ
-event_length (Put txn event) = contents.size event
-event_length (Take txn number) = 0
-event_length (Rollback txn) = 0
-event_length (CommitPut txn first count) = 0
-event_length (CommitTake txn count) = 0
-event_length (End count) = 0
 
 -- an event that was looked at is there and free
 abbrev pub free_of : Option (Pointer × Bool) → Bool

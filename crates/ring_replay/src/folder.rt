@@ -44,23 +44,24 @@ fn begin(alloc: Global, capacity: u32) -> Result<Indexing, ReplayRefused>
 pub fn apply_rest<D: Disk, L: Ledger>(
     disk: &mut D,
     file: u32,
-    reader: &mut LogReader,
+    reader: LogReader,
     index: &mut Indexing,
     steps: &mut Steps<L>,
 ) -> Result<(), ReplayRefused>
     requires there { IsThere (D.told disk.old) file }
-    requires file { reader.old.file ≡ file }
+    requires file { reader.file ≡ file }
     requires kept { IsKept index.old }
-    ensures ok { OnOk result ((bytes : List ℕ) (items : List (Rec × ℕ)) (fault : Option ℕ) → HasFile (D.told disk.old) file bytes → Remains reader.old bytes items fault → GoesThrough (record_lines file items ++ fault_lines file fault) index.old index.new) }
-    ensures bad { IfErr result (λ e. WhereBadLog e (λ f at. (bytes : List ℕ) (items : List (Rec × ℕ)) (fault : Option ℕ) → HasFile (D.told disk.old) file bytes → Remains reader.old bytes items fault → StopsIn (record_lines file items ++ fault_lines file fault) index.old f at)) }
+    ensures ok { OnOk result ((bytes : List ℕ) (items : List (Rec × ℕ)) (fault : Option ℕ) → HasFile (D.told disk.old) file bytes → Remains reader bytes items fault → GoesThrough (record_lines file items ++ fault_lines file fault) index.old index.new) }
+    ensures bad { IfErr result (λ e. WhereBadLog e (λ f at. (bytes : List ℕ) (items : List (Rec × ℕ)) (fault : Option ℕ) → HasFile (D.told disk.old) file bytes → Remains reader bytes items fault → StopsIn (record_lines file items ++ fault_lines file fault) index.old f at)) }
     ensures not_over { IfErr result (λ e. WhereOver e (λ count. ⊥)) }
     ensures kept { OnOk result (IsKept index.new) }
-    ensures ticks { (bytes : List ℕ) (items : List (Rec × ℕ)) (fault : Option ℕ) → HasFile (D.told disk.old) file bytes → Remains reader.old bytes items fault → steps.new ≤ steps.old + length items }
+    ensures ticks { (bytes : List ℕ) (items : List (Rec × ℕ)) (fault : Option ℕ) → HasFile (D.told disk.old) file bytes → Remains reader bytes items fault → steps.new ≤ steps.old + length items }
     ensures same { D.told disk.new ≡ D.told disk.old }
     ensures fault { IsErrOf result ReplayRefused.DiskFault → Rose (D.faults disk.old) (D.faults disk.new) }
     ensures later { D.faults disk.old ≤ D.faults disk.new }
     ensures well { (IsErrOf result ReplayRefused.DiskFault → ⊥) → D.faults disk.new ≡ D.faults disk.old }
 {
+    let mut reader = reader;
     loop {
         match reader.next_outline(disk, steps) {
             Ok(Some((outline, at))) => match index.apply_outline(file, at, outline) {
@@ -106,9 +107,9 @@ fn apply_file<D: Disk, L: Ledger>(
     ensures well { (IsErrOf result ReplayRefused.DiskFault → ⊥) → D.faults disk.new ≡ D.faults disk.old }
 {
     match LogReader::begin(alloc, disk, file, FIRST_GATE) {
-        Ok(mut reader) => {
+        Ok(reader) => {
             begin_file(index, reader.drops());
-            apply_rest(disk, file, &mut reader, index, steps)
+            apply_rest(disk, file, reader, index, steps)
         }
         Err(refused) => Err(of_frame(refused)),
     }

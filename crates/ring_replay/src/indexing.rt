@@ -3,8 +3,8 @@ ghost use Rattle.std.specs.Prelude.{◌≡◌, ◌<◌, ◌≤◌, ◌+◌, ◌^
 ghost use Rattle.event_core.specs.Content.{Content};
 ghost use Rattle.record_form.specs.declared.record.Rec.TheVariants.{CommitPut, CommitTake, Put, Rollback, Take};
 ghost use Rattle.record_form.specs.declared.record.Rec.{Rec};
-ghost use Rattle.record_form.specs.Outlines.{outline_of};
-ghost use Rattle.ring_replay.specs.Indexing.{GoesBy, GoesOn, GoesThrough, IsSomeOutline, StopsAt, free_of, HasRoom, IsGivenUp, IsKept, Keeps, Opens, Places, SettlesPuts, outline_length, outline_txn};
+ghost use Rattle.record_form.specs.Outlines.{IsSomeOutline, outline_of};
+ghost use Rattle.ring_replay.specs.Indexing.{GoesBy, GoesOn, GoesThrough, StopsAt, free_of, HasRoom, IsGivenUp, IsKept, Keeps, Opens, Places, SettlesPuts, outline_length, outline_txn};
 ghost use Rattle.event_ring.specs.Slots.{look_at};
 ghost use Rattle.open_table.specs.Tables.{open_at};
 ghost use Rattle.channel_replay.specs.declared.line.Line.TheVariants.{Stands};

@@ -26,22 +26,7 @@ impl<'a, R: Wait, C: Channel> Port<'a, R, C> {
 }
 
 impl<'a, R: Wait, C: Reopen> MendFace for Port<'a, R, C> {
-    ghost use Rattle.std.specs.Prelude.{length};
-    ghost use Rattle.shared_channel.specs.Ports.{AreOwned, Later, Saw, later_none, later_then};
-
-    ghost own = { λ p. AreOwned p.pass.view };
-
-    ghost saw = { λ p. Saw C.stands p.pass.view };
-
-    ghost seen = { λ p. length p.pass.view.seen };
-
-    ghost kept = { λ p q. Later p.pass q.pass };
-
     ghost on_disk = { λ p. Unit {0} };
-
-    ghost kept_none = { λ p. later_none p.pass };
-
-    ghost kept_then = { λ p q r. later_then p.pass q.pass r.pass };
 
     fn mend<L: Ledger>(&mut self, steps: &mut Steps<L>) -> Result<bool, OpenCause>
         ensures seen { length self.old.pass.view.seen ≤ length self.new.pass.view.seen }

@@ -6,7 +6,7 @@ ghost use Rattle.shared_channel.specs.Ports.{AreOwned, Later, Saw, SawAll};
 
 use crate::pass::Pass;
 use crate::shared::Shared;
-use channel_face::{Channel, FaceRefused, OpenCause, PutFace, Reopen, TakeFace, TakeTxn};
+use channel_face::{Channel, Face, FaceRefused, OpenCause, PutFace, Reopen, TakeFace, TakeTxn};
 use event_core::{Batch, Event};
 use flume_host::Steps;
 use std::sync::Wait;
@@ -58,7 +58,7 @@ impl<'a, R: Wait, C: Reopen> Port<'a, R, C> {
     }
 }
 
-impl<'a, R: Wait, C: Channel> PutFace for Port<'a, R, C> {
+impl<'a, R: Wait, C: Channel> Face for Port<'a, R, C> {
     ghost use Rattle.std.specs.Prelude.{length};
     ghost use Rattle.shared_channel.specs.Ports.{AreOwned, Later, Saw, later_none, later_then};
 
@@ -73,7 +73,9 @@ impl<'a, R: Wait, C: Channel> PutFace for Port<'a, R, C> {
     ghost kept_none = { λ p. later_none p.pass };
 
     ghost kept_then = { λ p q r. later_then p.pass q.pass r.pass };
+}
 
+impl<'a, R: Wait, C: Channel> PutFace for Port<'a, R, C> {
     fn put_batch(&mut self, batch: &Batch, picked: &[u32]) -> Result<u64, FaceRefused>
         requires { All (λ place. place < length batch.now) picked.now }
         ensures seen { length self.old.pass.view.seen ≤ length self.new.pass.view.seen }
@@ -89,21 +91,6 @@ impl<'a, R: Wait, C: Channel> PutFace for Port<'a, R, C> {
 }
 
 impl<'a, R: Wait, C: Channel> TakeFace for Port<'a, R, C> {
-    ghost use Rattle.std.specs.Prelude.{length};
-    ghost use Rattle.shared_channel.specs.Ports.{AreOwned, Later, Saw, later_none, later_then};
-
-    ghost own = { λ p. AreOwned p.pass.view };
-
-    ghost saw = { λ p. Saw C.stands p.pass.view };
-
-    ghost seen = { λ p. length p.pass.view.seen };
-
-    ghost kept = { λ p q. Later p.pass q.pass };
-
-    ghost kept_none = { λ p. later_none p.pass };
-
-    ghost kept_then = { λ p q r. later_then p.pass q.pass r.pass };
-
     fn begin(&mut self) -> Result<TakeTxn, FaceRefused>
         ensures seen { length self.old.pass.view.seen ≤ length self.new.pass.view.seen }
         ensures calls { Gains (AreOwned self.old.pass.view) (AreOwned self.new.pass.view)

@@ -14,8 +14,7 @@ impl<F: TakeFace + MendFace, S: EventSink, C: Clock> SinkWorker<F, S, C> {
     /// One run of the sink at the next moment.
     pub fn run_once(&mut self) -> Turn
         ensures turns { TurnsOnce
-            (face ⟦<F as TakeFace>⟧.own ⟦<F as TakeFace>⟧.saw
-            ⟦<F as TakeFace>⟧.seen ⟦<F as TakeFace>⟧.kept)
+            (face F.own F.saw F.seen F.kept)
             (told S.delivers S.faults) self.old.batch
             (taking C.moments self.old) result (taking C.moments self.new) }
         ensures same { (self.new.channel ≡ self.old.channel) × (self.new.batch ≡ self.old.batch) }
@@ -35,13 +34,11 @@ impl<F: TakeFace + MendFace, S: EventSink, C: Clock> SinkWorker<F, S, C> {
     pub(crate) fn round(&mut self) -> Turn
         ensures round { Round
             (TurnsOnce
-            (face ⟦<F as TakeFace>⟧.own ⟦<F as TakeFace>⟧.saw
-            ⟦<F as TakeFace>⟧.seen ⟦<F as TakeFace>⟧.kept)
+            (face F.own F.saw F.seen F.kept)
             (told S.delivers S.faults) self.old.batch)
             (MendsOnce
-            (face ⟦<F as MendFace>⟧.own ⟦<F as MendFace>⟧.saw
-            ⟦<F as MendFace>⟧.seen ⟦<F as MendFace>⟧.kept)
-            ⟦<F as MendFace>⟧.on_disk)
+            (face F.own F.saw F.seen F.kept)
+            F.on_disk)
             (taking C.moments self.old) result (taking C.moments self.new) }
         ensures same { (self.new.channel ≡ self.old.channel) × (self.new.batch ≡ self.old.batch) }
     {

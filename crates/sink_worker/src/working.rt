@@ -18,13 +18,11 @@ impl<F: TakeFace + MendFace, S: EventSink, C: Clock> SinkWorker<F, S, C> {
     pub fn work_until<R: Wait, H: Halt>(&mut self, rt: &R, halt: &mut H)
         ensures ran { SinkRan
             (TurnsOnce
-            (face ⟦<F as TakeFace>⟧.own ⟦<F as TakeFace>⟧.saw
-            ⟦<F as TakeFace>⟧.seen ⟦<F as TakeFace>⟧.kept)
+            (face F.own F.saw F.seen F.kept)
             (told S.delivers S.faults) self.old.batch)
             (MendsOnce
-            (face ⟦<F as MendFace>⟧.own ⟦<F as MendFace>⟧.saw
-            ⟦<F as MendFace>⟧.seen ⟦<F as MendFace>⟧.kept)
-            ⟦<F as MendFace>⟧.on_disk)
+            (face F.own F.saw F.seen F.kept)
+            F.on_disk)
             C.moments self.old self.new }
         ensures stop { Rose (H.yes halt.old) (H.yes halt.new) }
     {
@@ -47,13 +45,11 @@ impl<F: TakeFace + MendFace, S: EventSink, C: Clock> Work for SinkWorker<F, S, C
 
     ghost ran = { λ old new. SinkRan
         (TurnsOnce
-        (face ⟦<F as TakeFace>⟧.own ⟦<F as TakeFace>⟧.saw
-        ⟦<F as TakeFace>⟧.seen ⟦<F as TakeFace>⟧.kept)
+        (face F.own F.saw F.seen F.kept)
         (told S.delivers S.faults) old.batch)
         (MendsOnce
-        (face ⟦<F as MendFace>⟧.own ⟦<F as MendFace>⟧.saw
-        ⟦<F as MendFace>⟧.seen ⟦<F as MendFace>⟧.kept)
-        ⟦<F as MendFace>⟧.on_disk)
+        (face F.own F.saw F.seen F.kept)
+        F.on_disk)
         C.moments old new };
 
     fn work<R: Wait>(&mut self, rt: &R, stop: &Stop) {

@@ -9,8 +9,7 @@ use source_put::Intake;
 /// Mends each channel, in order, and says whether one was refused.
 pub fn mend_all<F: PutFace + MendFace + Drop, B: Interceptor>(intake: &mut Intake<F, B>) -> bool
     ensures mends { (answers : List Answer) × MendsEach
-        (MendsPort ⟦<F as MendFace>⟧.own ⟦<F as MendFace>⟧.saw ⟦<F as MendFace>⟧.seen
-        ⟦<F as MendFace>⟧.kept ⟦<F as MendFace>⟧.on_disk)
+        (MendsPort F.own F.saw F.seen F.kept F.on_disk)
         intake.old.ports answers intake.new.ports × (result ≡ any_refused answers) }
     ensures same { intake.new ≡ record intake.old { ports = intake.new.ports } }
 {

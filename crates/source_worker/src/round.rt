@@ -104,11 +104,9 @@ impl<F: PutFace + MendFace + Drop, B: Interceptor> Service<F, B> {
         requires { HasLimit rules.now }
         ensures makes { (answers : List Answer) × Makes
             (Session rules.now
-            (Puts ⟦<F as PutFace>⟧.own ⟦<F as PutFace>⟧.saw ⟦<F as PutFace>⟧.seen
-            ⟦<F as PutFace>⟧.kept)
+            (Puts F.own F.saw F.seen F.kept)
             self.old.intake.selector B.intercepts self.old.intake.host)
-            (MendsInto (MendsPort ⟦<F as MendFace>⟧.own ⟦<F as MendFace>⟧.saw ⟦<F as MendFace>⟧.seen
-            ⟦<F as MendFace>⟧.kept ⟦<F as MendFace>⟧.on_disk))
+            (MendsInto (MendsPort F.own F.saw F.seen F.kept F.on_disk))
             (record { found = result; mends = answers })
             (stood self.old.intake (C.moments clock.old)
             (heard_of N.told N.faults N.waits listener.old) self.old.due)

@@ -32,11 +32,9 @@ impl<F: PutFace + MendFace + Drop, B: Interceptor> Service<F, B> {
         requires { HasLimit rules.now }
         ensures works { WorksBy
             (Session rules.now
-            (Puts ⟦<F as PutFace>⟧.own ⟦<F as PutFace>⟧.saw ⟦<F as PutFace>⟧.seen
-            ⟦<F as PutFace>⟧.kept)
+            (Puts F.own F.saw F.seen F.kept)
             self.old.intake.selector B.intercepts self.old.intake.host)
-            (MendsInto (MendsPort ⟦<F as MendFace>⟧.own ⟦<F as MendFace>⟧.saw ⟦<F as MendFace>⟧.seen
-            ⟦<F as MendFace>⟧.kept ⟦<F as MendFace>⟧.on_disk))
+            (MendsInto (MendsPort F.own F.saw F.seen F.kept F.on_disk))
             self.old.built
             (stood self.old.intake (C.moments clock.old)
             (heard_of N.told N.faults N.waits listener.old) self.old.due)
@@ -75,10 +73,9 @@ fn listen_until<
     requires { CanListen worker.old }
     ensures ran { ListenRan
         (Session worker.old.rules
-        (Puts ⟦<F as PutFace>⟧.own ⟦<F as PutFace>⟧.saw ⟦<F as PutFace>⟧.seen ⟦<F as PutFace>⟧.kept)
+        (Puts F.own F.saw F.seen F.kept)
         worker.old.selector B.intercepts worker.old.host)
-        (MendsInto (MendsPort ⟦<F as MendFace>⟧.own ⟦<F as MendFace>⟧.saw ⟦<F as MendFace>⟧.seen
-        ⟦<F as MendFace>⟧.kept ⟦<F as MendFace>⟧.on_disk))
+        (MendsInto (MendsPort F.own F.saw F.seen F.kept F.on_disk))
         C.moments (heard_of N.told N.faults N.waits) N.endpoint worker.old worker.new }
     ensures stop { Rose (H.yes halt.old) (H.yes halt.new) }
 {
@@ -107,11 +104,9 @@ impl<F: PutFace + MendFace + Drop, N: Listener, C: Clock, B: Interceptor> Listen
         requires { CanListen self.old }
         ensures ran { ListenRan
             (Session self.old.rules
-            (Puts ⟦<F as PutFace>⟧.own ⟦<F as PutFace>⟧.saw ⟦<F as PutFace>⟧.seen
-            ⟦<F as PutFace>⟧.kept)
+            (Puts F.own F.saw F.seen F.kept)
             self.old.selector B.intercepts self.old.host)
-            (MendsInto (MendsPort ⟦<F as MendFace>⟧.own ⟦<F as MendFace>⟧.saw ⟦<F as MendFace>⟧.seen
-            ⟦<F as MendFace>⟧.kept ⟦<F as MendFace>⟧.on_disk))
+            (MendsInto (MendsPort F.own F.saw F.seen F.kept F.on_disk))
             C.moments (heard_of N.told N.faults N.waits) N.endpoint self.old self.new }
         ensures stop { Rose (H.yes halt.old) (H.yes halt.new) }
     {
@@ -126,10 +121,9 @@ impl<F: PutFace + MendFace + Drop, N: Listener, C: Clock, B: Interceptor> Work
 
     ghost ran = { λ old new. ListenRan
         (Session old.rules
-        (Puts ⟦<F as PutFace>⟧.own ⟦<F as PutFace>⟧.saw ⟦<F as PutFace>⟧.seen ⟦<F as PutFace>⟧.kept)
+        (Puts F.own F.saw F.seen F.kept)
         old.selector B.intercepts old.host)
-        (MendsInto (MendsPort ⟦<F as MendFace>⟧.own ⟦<F as MendFace>⟧.saw ⟦<F as MendFace>⟧.seen
-        ⟦<F as MendFace>⟧.kept ⟦<F as MendFace>⟧.on_disk))
+        (MendsInto (MendsPort F.own F.saw F.seen F.kept F.on_disk))
         C.moments (heard_of N.told N.faults N.waits) N.endpoint old new };
 
     fn work<R: Wait>(&mut self, rt: &R, stop: &Stop) {

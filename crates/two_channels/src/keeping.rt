@@ -8,21 +8,9 @@ use std::sync::Wait;
 use std::sync::ledger::Ledger;
 
 impl<'a, R: Wait, A: Reopen, B: Channel> MendFace for EitherPort<'a, R, A, B> {
-    ghost use Rattle.two_channels.specs.Ports.{IsOnDisk, LaterPort, SawIn, later_port_none, later_port_then, own_of, seen_of};
-
-    ghost own = { λ p. own_of p };
-
-    ghost saw = { λ p. SawIn A.stands B.stands p };
-
-    ghost seen = { λ p. seen_of p };
-
-    ghost kept = { λ p q. LaterPort p q };
+    ghost use Rattle.two_channels.specs.Ports.{IsOnDisk};
 
     ghost on_disk = { λ p. IsOnDisk p };
-
-    ghost kept_none = { λ p. later_port_none p };
-
-    ghost kept_then = { λ p q r. later_port_then p q r };
 
     fn mend<L: Ledger>(&mut self, steps: &mut Steps<L>) -> Result<bool, OpenCause> {
         match self {

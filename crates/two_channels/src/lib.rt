@@ -2,12 +2,11 @@
 //! on a disk or not.
 #![tactic(auto)]
 
+mod faces;
 mod keeping;
 mod mending;
 mod port;
-mod putting;
 mod shared;
-mod taking;
 mod upkeep;
 
 pub use port::EitherPort;

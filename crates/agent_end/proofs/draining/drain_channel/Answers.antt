@@ -7,7 +7,7 @@ use Rattle.agent_end.proofs.draining.drain_channel.Goals as goal
 
 pub returns-then-size-eq0-clause-drained : goal.returns-then-size-eq0-clause-drained
 returns-then-size-eq0-clause-drained g c =
-    let Looks = LooksOnce (face g.F.MendFace.own g.F.MendFace.saw g.F.MendFace.seen g.F.MendFace.kept) {S = g.row.S.Denot} in
+    let Looks = LooksOnce (face g.F.Face.own g.F.Face.saw g.F.Face.seen g.F.Face.kept) {S = g.row.S.Denot} in
     let none : c.size.result ≡ 0 = omega (arith, c.if-size-eq0.true) in
     let m = g.C.Clock.moments in
     let last : Looks (taking m c.loop.worker) 0 (taking m (record c.loop.worker { port = c.size.new.self })) =
@@ -17,8 +17,8 @@ returns-then-size-eq0-clause-drained g c =
 
 pub returns-then-not-is_delivery-clause-drained : goal.returns-then-not-is_delivery-clause-drained
 returns-then-not-is_delivery-clause-drained g c =
-    let Turns = TurnsOnce (face g.F.TakeFace.own g.F.TakeFace.saw g.F.TakeFace.seen g.F.TakeFace.kept) {S = g.row.S.Denot} (told g.S.EventSink.delivers g.S.EventSink.faults) in
-    let Looks = LooksOnce (face g.F.MendFace.own g.F.MendFace.saw g.F.MendFace.seen g.F.MendFace.kept) {S = g.row.S.Denot} in
+    let Turns = TurnsOnce (face g.F.Face.own g.F.Face.saw g.F.Face.seen g.F.Face.kept) {S = g.row.S.Denot} (told g.S.EventSink.delivers g.S.EventSink.faults) in
+    let Looks = LooksOnce (face g.F.Face.own g.F.Face.saw g.F.Face.seen g.F.Face.kept) {S = g.row.S.Denot} in
     let m = g.C.Clock.moments in
     let turn = c.run_once-turn.result in
     let old = taking m c.loop.worker in
@@ -31,8 +31,8 @@ returns-then-not-is_delivery-clause-drained g c =
 
 pub loop-preserved : goal.loop-preserved
 loop-preserved g c =
-    let Turns = TurnsOnce (face g.F.TakeFace.own g.F.TakeFace.saw g.F.TakeFace.seen g.F.TakeFace.kept) {S = g.row.S.Denot} (told g.S.EventSink.delivers g.S.EventSink.faults) in
-    let Looks = LooksOnce (face g.F.MendFace.own g.F.MendFace.saw g.F.MendFace.seen g.F.MendFace.kept) {S = g.row.S.Denot} in
+    let Turns = TurnsOnce (face g.F.Face.own g.F.Face.saw g.F.Face.seen g.F.Face.kept) {S = g.row.S.Denot} (told g.S.EventSink.delivers g.S.EventSink.faults) in
+    let Looks = LooksOnce (face g.F.Face.own g.F.Face.saw g.F.Face.seen g.F.Face.kept) {S = g.row.S.Denot} in
     let m = g.C.Clock.moments in
     let turn = c.run_once-turn.result in
     let old = taking m c.loop.worker in

@@ -8,4 +8,4 @@ abbrev pub invariant-loop : goal.invariant-loop
 invariant-loop g l =
     (goal.iterator-loop g).can_next l.iterator' × (goal.iterator-loop g).is_finite l.iterator'
     × ((l.worker.channel ≡ l.initial.worker.channel) × (l.worker.batch ≡ l.initial.worker.batch))
-    × ((counts : List ℕ) × Deliveries (TurnsOnce (face g.F.TakeFace.own g.F.TakeFace.saw g.F.TakeFace.seen g.F.TakeFace.kept) (told g.S.EventSink.delivers g.S.EventSink.faults) l.initial.worker.batch) (LooksOnce (face g.F.MendFace.own g.F.MendFace.saw g.F.MendFace.seen g.F.MendFace.kept)) counts (taking g.C.Clock.moments l.initial.worker) (taking g.C.Clock.moments l.worker))
+    × ((counts : List ℕ) × Deliveries (TurnsOnce (face g.F.Face.own g.F.Face.saw g.F.Face.seen g.F.Face.kept) (told g.S.EventSink.delivers g.S.EventSink.faults) l.initial.worker.batch) (LooksOnce (face g.F.Face.own g.F.Face.saw g.F.Face.seen g.F.Face.kept)) counts (taking g.C.Clock.moments l.initial.worker) (taking g.C.Clock.moments l.worker))

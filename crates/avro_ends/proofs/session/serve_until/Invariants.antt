@@ -13,7 +13,7 @@ invariant-loop-turns g l = record {
   halts : g.H.Halt.yes l.halt ≡ g.H.Halt.yes l.initial.halt;
   selector : l.intake.selector ≡ l.initial.intake.selector;
   host : l.intake.host ≡ l.initial.intake.host;
-  goes : (bytes : List ℕ) × Goes (TakesBatch (Puts g.F.PutFace.own g.F.PutFace.saw g.F.PutFace.seen g.F.PutFace.kept) l.initial.intake.selector g.B.Interceptor.intercepts l.initial.intake.host)
+  goes : (bytes : List ℕ) × Goes (TakesBatch (Puts g.F.Face.own g.F.Face.saw g.F.Face.seen g.F.Face.kept) l.initial.intake.selector g.B.Interceptor.intercepts l.initial.intake.host)
       (into_of l.initial.intake (g.C.Clock.moments l.initial.clock)) (into_of l.intake (g.C.Clock.moments l.clock))
       (g.L.Link.told l.initial.link) (g.L.Link.told l.link) l.initial.hop l.hop (held_in l.initial.packs.packing) bytes (held_in l.packs.packing) bytes l.turns;
 }

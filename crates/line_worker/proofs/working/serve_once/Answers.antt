@@ -11,8 +11,8 @@ use Rattle.line_worker.proofs.working.serve_once.Goals as goal
 
 pub returns : goal.returns
 returns g c =
-    let Turns = λ (s : Selector) (h : HostNames). TakesTurn (TakesLine (Puts g.F.PutFace.own g.F.PutFace.saw g.F.PutFace.seen g.F.PutFace.kept) s g.B.Interceptor.intercepts h)
-    (MendsInto (MendsPort g.F.MendFace.own g.F.MendFace.saw g.F.MendFace.seen g.F.MendFace.kept g.F.MendFace.on_disk)) in
+    let Turns = λ (s : Selector) (h : HostNames). TakesTurn (TakesLine (Puts g.F.Face.own g.F.Face.saw g.F.Face.seen g.F.Face.kept) s g.B.Interceptor.intercepts h)
+    (MendsInto (MendsPort g.F.Face.own g.F.Face.saw g.F.Face.seen g.F.Face.kept g.F.MendFace.on_disk)) in
     let begun = c.begin-intake in
     let lane = c.session-end.new.self in
     ran_so Turns g.C.Clock.moments (talk_of g.I.Source.left g.I.Source.faults g.O.Sink.took g.O.Sink.handed g.O.Sink.faults)

@@ -14,7 +14,7 @@ invariant-loop-turns g l = record {
   halts : g.H.Halt.yes l.halt ≡ g.H.Halt.yes l.initial.halt;
   selector : l.intake.selector ≡ l.initial.intake.selector;
   host : l.intake.host ≡ l.initial.intake.host;
-  goes : (bytes : List ℕ) × Goes l.initial.lines.max l.ack (TakesLine (Puts g.F.PutFace.own g.F.PutFace.saw g.F.PutFace.seen g.F.PutFace.kept) l.initial.intake.selector g.B.Interceptor.intercepts l.initial.intake.host)
+  goes : (bytes : List ℕ) × Goes l.initial.lines.max l.ack (TakesLine (Puts g.F.Face.own g.F.Face.saw g.F.Face.seen g.F.Face.kept) l.initial.intake.selector g.B.Interceptor.intercepts l.initial.intake.host)
       (sides l.initial.intake (g.C.Clock.moments l.initial.clock) (g.L.Link.told l.initial.link)) (sides l.intake (g.C.Clock.moments l.clock) (g.L.Link.told l.link))
       (held_by l.initial.lines) bytes (held_by l.lines) bytes l.turns;
 }

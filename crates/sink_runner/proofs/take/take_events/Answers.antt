@@ -11,7 +11,7 @@ use Rattle.sink_runner.proofs.take.take_events.Goals as goal
 
 pub loop-from-preserved : goal.loop-from-preserved
 loop-from-preserved g c =
-    let face = g.T.TakeFace in
+    let face = g.T.Face in
     let before = c.loop-from.from in
     let after = c.take.new.self in
     let taken = c.loop-from.taken in
@@ -20,7 +20,7 @@ loop-from-preserved g c =
     let given = rw (c.in-Ok-Some.field-0-is, c.loop-from.invariant.same) at c.in-Ok-Some.ensures.calls in
     record {
       seen = omega (arith, c.loop-from.invariant.seen, c.in-Ok-Some.ensures.seen);
-      kept = g.met.T.TakeFace.kept_then c.args.from.now before after c.loop-from.invariant.kept c.in-Ok-Some.ensures.kept;
+      kept = g.T.Face.kept_then c.args.from.now before after c.loop-from.invariant.kept c.in-Ok-Some.ensures.kept;
       same = c.in-Ok-Some.ensures.same ∙ c.loop-from.invariant.same;
       size = rw c.in-Ok.ensures.ok (omega (arith, sum_by-append content.size taken (event ∷ []), c.size-size.ensures.size, c.loop-from.invariant.size));
       had = rw c.in-Ok.ensures.ok (room_more c.args.most taken event c.loop-from.invariant.had room);
@@ -29,7 +29,7 @@ loop-from-preserved g c =
 
 pub returns-in-Ok-None-clause-calls : goal.returns-in-Ok-None-clause-calls
 returns-in-Ok-None-clause-calls g c =
-    let face = g.T.TakeFace in
+    let face = g.T.Face in
     let before = c.loop-from.from in
     let after = c.take.new.self in
     let taken = c.loop-from.taken in
@@ -40,7 +40,7 @@ returns-in-Ok-None-clause-calls g c =
 
 pub returns-in-Err-clause-calls : goal.returns-in-Err-clause-calls
 returns-in-Err-clause-calls g c =
-    let face = g.T.TakeFace in
+    let face = g.T.Face in
     let before = c.loop-from.from in
     let after = c.take.new.self in
     let taken = c.loop-from.taken in
@@ -54,7 +54,7 @@ returns-in-Err-clause-calls g c =
 
 pub returns-in_default-clause-calls : goal.returns-in_default-clause-calls
 returns-in_default-clause-calls g c =
-    let face = g.T.TakeFace in
+    let face = g.T.Face in
     let before = c.loop-from.from in
     let after = c.take.new.self in
     let taken = c.loop-from.taken in

@@ -6,7 +6,7 @@ use Rattle.sink_runner.proofs.turn.drain_turn.Goals as goal
 
 pub returns-in-Ok-take_events-clause-calls : goal.returns-in-Ok-take_events-clause-calls
 returns-in-Ok-take_events-clause-calls g c =
-    let face = g.T.TakeFace in
+    let face = g.T.Face in
     let token = c.in-Ok.txn in
     let delivers = g.S.EventSink.delivers in
     let begun = c.begin.new.self in
@@ -26,7 +26,7 @@ returns-in-Ok-take_events-clause-calls g c =
 
 pub returns-clause-calls : goal.returns-clause-calls
 returns-clause-calls g c =
-    let face = g.T.TakeFace in
+    let face = g.T.Face in
     let token = c.in-Ok.txn in
     let delivers = g.S.EventSink.delivers in
     let begun = c.begin.new.self in

@@ -8,7 +8,7 @@ use Rattle.source_worker.proofs.mending.mend_all.Goals.{then-is_err, else-is_err
 pub loop-place-init : goal.loop-place-init
 loop-place-init g c = record {
   answers = [];
-  left = mends_all (MendsPort g.F.MendFace.own g.F.MendFace.saw g.F.MendFace.seen g.F.MendFace.kept g.F.MendFace.on_disk) c.args.intake.now.ports;
+  left = mends_all (MendsPort g.F.Face.own g.F.Face.saw g.F.Face.seen g.F.Face.kept g.F.MendFace.on_disk) c.args.intake.now.ports;
   refused = refl;
   as_many = refl;
   same = refl;
@@ -30,7 +30,7 @@ loop-place-preserved g c =
     ] in
     record {
       answers = i.answers ++ c.mend.result ∷ [];
-      left = one_mended (MendsPort g.F.MendFace.own g.F.MendFace.saw g.F.MendFace.seen g.F.MendFace.kept g.F.MendFace.on_disk) c.args.intake.now.ports c.loop-place.intake.ports c.loop-place.place c.port.result.now c.mend.new.face
+      left = one_mended (MendsPort g.F.Face.own g.F.Face.saw g.F.Face.seen g.F.Face.kept g.F.MendFace.on_disk) c.args.intake.now.ports c.loop-place.intake.ports c.loop-place.place c.port.result.now c.mend.new.face
           (omega (arith, c.loop-place-test.true, c.port_count-place-end.ensures, same)) c.port.ensures.value i.answers c.mend.result i.left (record { later = c.mend.ensures.seen; same = c.mend.ensures.kept; calls = c.mend.ensures.calls });
       refused = is;
       as_many = length-set c.loop-place.intake.ports c.loop-place.place c.mend.new.face ∙ same;
@@ -42,7 +42,7 @@ returns-clause-mends g c =
     let i = c.loop-place.invariant in
     let same : length c.loop-place.intake.ports ≡ length c.args.intake.now.ports = i.as_many in (
       i.answers,
-      all_mended (MendsPort g.F.MendFace.own g.F.MendFace.saw g.F.MendFace.seen g.F.MendFace.kept g.F.MendFace.on_disk) c.args.intake.now.ports c.loop-place.intake.ports c.loop-place.place i.answers (omega (arith, c.loop-place-test.false, c.port_count-place-end.ensures, same)) i.left,
+      all_mended (MendsPort g.F.Face.own g.F.Face.saw g.F.Face.seen g.F.Face.kept g.F.MendFace.on_disk) c.args.intake.now.ports c.loop-place.intake.ports c.loop-place.place i.answers (omega (arith, c.loop-place-test.false, c.port_count-place-end.ensures, same)) i.left,
       i.refused,
     )
 

@@ -6,7 +6,7 @@ use Rattle.source_worker.proofs.mending.mend_all.Given as goal
 abbrev pub invariant-loop-place : goal.invariant-loop-place
 invariant-loop-place g l = record {
   answers : List Answer;
-  left : AreMended (MendsPort g.F.MendFace.own g.F.MendFace.saw g.F.MendFace.seen g.F.MendFace.kept g.F.MendFace.on_disk) l.fn.intake.ports answers (take l.place l.intake.ports) (drop l.place l.intake.ports);
+  left : AreMended (MendsPort g.F.Face.own g.F.Face.saw g.F.Face.seen g.F.Face.kept g.F.MendFace.on_disk) l.fn.intake.ports answers (take l.place l.intake.ports) (drop l.place l.intake.ports);
   refused : l.refused ≡ any_refused answers;
   as_many : length l.intake.ports ≡ length l.fn.intake.ports;
   same : l.intake ≡ record l.fn.intake { ports = l.intake.ports };

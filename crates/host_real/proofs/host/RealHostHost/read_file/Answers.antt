@@ -7,7 +7,7 @@ returns-clause-state c = (
   refl,
   record {
     whole = λ told is. cc;
-    few = omega (arith, c.truncate.ensures.len, c.truncate.new.self.ok.0, c.if-size.false);
+    few = omega (arith, c.truncate.ensures.len, c.truncate.new.self.ok.0, c.if-size-gt-FILE_LIMIT.false);
     well = refl;
   },
 )

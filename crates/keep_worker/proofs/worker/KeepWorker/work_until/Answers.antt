@@ -8,7 +8,7 @@ pub loop-preserved : goal.loop-preserved
 loop-preserved g c = (
   tt,
   tt,
-  goes_on (face g.F.MendFace.own g.F.MendFace.saw g.F.MendFace.seen g.F.MendFace.kept g.F.MendFace.on_disk g.F.KeepFace.saw_laid g.F.KeepFace.saw_pruned) c.args.self.now c.loop.self c.round-upkeep.new.self c.round-upkeep.result c.loop.invariant.2 c.round-upkeep.ensures.round c.round-upkeep.ensures.same,
+  goes_on (face g.F.Face.own g.F.Face.saw g.F.Face.seen g.F.Face.kept g.F.MendFace.on_disk g.F.KeepFace.saw_laid g.F.KeepFace.saw_pruned) c.args.self.now c.loop.self c.round-upkeep.new.self c.round-upkeep.result c.loop.invariant.2 c.round-upkeep.ensures.round c.round-upkeep.ensures.same,
   c.rest.ensures.still c.if-rest.false ∙ c.loop.invariant.3,
   c.round-upkeep.ensures.can,
 )

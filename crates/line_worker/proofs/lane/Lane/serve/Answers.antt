@@ -13,8 +13,8 @@ use Rattle.line_worker.proofs.lane.Lane.serve.Goals as goal
 pub returns-clause-served : goal.returns-clause-served
 returns-clause-served g c =
     let L = Lane g.row.F.Denot g.row.B.Denot g.row.C.Denot g.row.H.Denot in
-    let Turns = λ (s : Selector) (h : HostNames). TakesTurn (TakesLine (Puts g.F.PutFace.own g.F.PutFace.saw g.F.PutFace.seen g.F.PutFace.kept) s g.B.Interceptor.intercepts h)
-    (MendsInto (MendsPort g.F.MendFace.own g.F.MendFace.saw g.F.MendFace.seen g.F.MendFace.kept g.F.MendFace.on_disk)) in
+    let Turns = λ (s : Selector) (h : HostNames). TakesTurn (TakesLine (Puts g.F.Face.own g.F.Face.saw g.F.Face.seen g.F.Face.kept) s g.B.Interceptor.intercepts h)
+    (MendsInto (MendsPort g.F.Face.own g.F.Face.saw g.F.Face.seen g.F.Face.kept g.F.MendFace.on_disk)) in
     served_view (λ (l : L). fed l.intake (g.C.Clock.moments l.clock) l.due) (λ (l : L). l.intake.selector) (λ (l : L). l.intake.host) Turns
     c.args.rules.now.max c.args.rules.now.ack ends_session
     (ends_of (g.I.Source.left c.args.input.now) c.args.self.now (g.O.Sink.took c.args.output.now))

@@ -1,13 +1,16 @@
-use Rattle.std.proofs.Common.{◌∙◌, ℕ, refl, subst}
+use Rattle.std.proofs.Common.{◌∙◌, [], ℕ, refl, subst}
 use Rattle.flume_host.specs.Causes.{Rose}
 use Rattle.sink_worker.specs.Rounds.{MendsOnce, TurnsOnce, face, told}
 use Rattle.sink_worker.proofs.Going.{goes_on}
 use Rattle.sink_worker.proofs.worker.SinkWorker.work_until.Goals as goal
 
+pub loop-init : goal.loop-init
+loop-init g c = (tt, tt, record { turns = []; rounds = refl; channel = refl; batch = refl }, refl)
+
 pub loop-preserved : goal.loop-preserved
 loop-preserved g c =
-    let Turns = TurnsOnce (face g.F.TakeFace.own g.F.TakeFace.saw g.F.TakeFace.seen g.F.TakeFace.kept) (told g.S.EventSink.delivers g.S.EventSink.faults) in
-    let Mends = MendsOnce (face g.F.MendFace.own g.F.MendFace.saw g.F.MendFace.seen g.F.MendFace.kept) g.F.MendFace.on_disk in (
+    let Turns = TurnsOnce (face g.F.Face.own g.F.Face.saw g.F.Face.seen g.F.Face.kept) (told g.S.EventSink.delivers g.S.EventSink.faults) in
+    let Mends = MendsOnce (face g.F.Face.own g.F.Face.saw g.F.Face.seen g.F.Face.kept) g.F.MendFace.on_disk in (
       tt,
       tt,
       goes_on Turns Mends g.C.Clock.moments c.args.self.now c.loop.self c.round-turn.new.self _ c.round-turn.result c.loop.invariant.2 c.round-turn.ensures.round c.round-turn.ensures.same refl refl c.rest.ensures.moments refl refl,
@@ -23,8 +26,8 @@ returns-then-asked-clause-stop g c =
 
 pub returns-then-rest-clause-ran : goal.returns-then-rest-clause-ran
 returns-then-rest-clause-ran g c =
-    let Turns = TurnsOnce (face g.F.TakeFace.own g.F.TakeFace.saw g.F.TakeFace.seen g.F.TakeFace.kept) (told g.S.EventSink.delivers g.S.EventSink.faults) in
-    let Mends = MendsOnce (face g.F.MendFace.own g.F.MendFace.saw g.F.MendFace.seen g.F.MendFace.kept) g.F.MendFace.on_disk in
+    let Turns = TurnsOnce (face g.F.Face.own g.F.Face.saw g.F.Face.seen g.F.Face.kept) (told g.S.EventSink.delivers g.S.EventSink.faults) in
+    let Mends = MendsOnce (face g.F.Face.own g.F.Face.saw g.F.Face.seen g.F.Face.kept) g.F.MendFace.on_disk in
     goes_on Turns Mends g.C.Clock.moments c.args.self.now c.loop.self c.round-turn.new.self _ c.round-turn.result c.loop.invariant.2 c.round-turn.ensures.round c.round-turn.ensures.same refl refl c.rest.ensures.moments refl refl
 
 pub returns-then-rest-clause-stop : goal.returns-then-rest-clause-stop

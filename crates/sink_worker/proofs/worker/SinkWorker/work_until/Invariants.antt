@@ -6,5 +6,5 @@ use Rattle.sink_worker.proofs.worker.SinkWorker.work_until.Given as goal
 abbrev pub invariant-loop : goal.invariant-loop
 invariant-loop g l =
     (goal.iterator-loop g).can_next l.iterator' × (goal.iterator-loop g).is_finite l.iterator'
-    × SinkRan (TurnsOnce (face g.F.TakeFace.own g.F.TakeFace.saw g.F.TakeFace.seen g.F.TakeFace.kept) (told g.S.EventSink.delivers g.S.EventSink.faults) l.initial.self.batch) (MendsOnce (face g.F.MendFace.own g.F.MendFace.saw g.F.MendFace.seen g.F.MendFace.kept) g.F.MendFace.on_disk) g.C.Clock.moments l.initial.self l.self
+    × SinkRan (TurnsOnce (face g.F.Face.own g.F.Face.saw g.F.Face.seen g.F.Face.kept) (told g.S.EventSink.delivers g.S.EventSink.faults) l.initial.self.batch) (MendsOnce (face g.F.Face.own g.F.Face.saw g.F.Face.seen g.F.Face.kept) g.F.MendFace.on_disk) g.C.Clock.moments l.initial.self l.self
     × (g.H.Halt.yes l.halt ≡ g.H.Halt.yes l.initial.halt)

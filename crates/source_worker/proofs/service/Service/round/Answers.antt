@@ -9,8 +9,8 @@ pub returns-else-is_due-clause-makes : goal.returns-else-is_due-clause-makes
 returns-else-is_due-clause-makes g c =
     let old = c.args.self.now in
     let heard = heard_of g.N.Listens.told g.N.Listens.faults g.N.Listens.waits in
-    not_due (Session c.args.rules.now (Puts g.F.PutFace.own g.F.PutFace.saw g.F.PutFace.seen g.F.PutFace.kept) old.intake.selector g.B.Interceptor.intercepts old.intake.host)
-    (MendsInto (MendsPort g.F.MendFace.own g.F.MendFace.saw g.F.MendFace.seen g.F.MendFace.kept g.F.MendFace.on_disk))
+    not_due (Session c.args.rules.now (Puts g.F.Face.own g.F.Face.saw g.F.Face.seen g.F.Face.kept) old.intake.selector g.B.Interceptor.intercepts old.intake.host)
+    (MendsInto (MendsPort g.F.Face.own g.F.Face.saw g.F.Face.seen g.F.Face.kept g.F.MendFace.on_disk))
     (stood old.intake (g.C.Clock.moments c.args.clock.now) (heard c.args.listener.now) old.due)
     (stood c.serve-found.new.self.intake (g.C.Clock.moments c.serve-found.new.clock) (heard c.serve-found.new.listener) c.serve-found.new.self.due)
     c.serve-found.result c.serve-found.ensures.serves (sym c.is_due.ensures ∙ c.if-is_due.false)

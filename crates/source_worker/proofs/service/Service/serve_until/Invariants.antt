@@ -11,8 +11,8 @@ invariant-loop g l =
     let old = l.initial.self in
     let heard = heard_of g.N.Listens.told g.N.Listens.faults g.N.Listens.waits in
     (goal.iterator-loop g).can_next l.iterator' × (goal.iterator-loop g).is_finite l.iterator'
-    × WorkedSo (Session l.rules (Puts g.F.PutFace.own g.F.PutFace.saw g.F.PutFace.seen g.F.PutFace.kept) old.intake.selector g.B.Interceptor.intercepts old.intake.host)
-    (MendsInto (MendsPort g.F.MendFace.own g.F.MendFace.saw g.F.MendFace.seen g.F.MendFace.kept g.F.MendFace.on_disk)) old.built
+    × WorkedSo (Session l.rules (Puts g.F.Face.own g.F.Face.saw g.F.Face.seen g.F.Face.kept) old.intake.selector g.B.Interceptor.intercepts old.intake.host)
+    (MendsInto (MendsPort g.F.Face.own g.F.Face.saw g.F.Face.seen g.F.Face.kept g.F.MendFace.on_disk)) old.built
     (stood old.intake (g.C.Clock.moments l.initial.clock) (heard l.initial.listener) old.due)
     (stood l.self.intake (g.C.Clock.moments l.clock) (heard l.listener) l.self.due)
     × (l.self.intake.selector ≡ old.intake.selector) × (l.self.intake.host ≡ old.intake.host) × (l.self.built ≡ old.built)
