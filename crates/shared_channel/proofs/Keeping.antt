@@ -3,7 +3,7 @@ use Rattle.std.proofs.Common.{◌≡◌, ◌≤◌, ◌<◌, ◌+◌, ◌-◌, �
 use Rattle.std.proofs.lemmas.List.{append-nil}
 use Rattle.event_core.specs.Journal.{put_events, taken_numbers}
 use Rattle.channel_face.specs.Token.{Token}
-use Rattle.channel_face.specs.Machine.{State, Call, RollbackPut, RollbackTake, Admits, after, puts_of, takes_of, is_some_of}
+use Rattle.channel_face.specs.Machine.{State, Call, RollbackPut, RollbackTake, Admits, after}
 use Rattle.channel_face.specs.History.{Opening, opening, Step, AddsOne, IsRun, Shows, state_after, settled_by, kept_by, journal}
 use Rattle.channel_face.specs.Counters.{tally, counts_of, counts_with, put_calls, take_calls, put_attempts, take_attempts, put_successes, take_successes, capped}
 use Rattle.channel_face.specs.declared.replies.Counts.{Counts}
@@ -11,7 +11,8 @@ use Rattle.channel_face.proofs.Adding.{state-push, run-last}
 use Rattle.channel_lock.specs.Calls.{keep}
 use Rattle.shared_channel.specs.Counting.{is_counted, counted_calls, Agree, StandsAgreeing, StandsCounting, Keeps}
 use Rattle.shared_channel.specs.Calls.{step}
-use Rattle.shared_channel.proofs.Rooms.{few_after, put_ends, take_ends}
+use Rattle.shared_channel.specs.Kinds.{IsRollback}
+use Rattle.shared_channel.proofs.Rooms.{few_after}
 
 keep_append : (b : Bool) (e : Step) (xs ys : List Step) → keep b e (xs ++ ys) ≡ keep b e xs ++ ys
 keep_append true e xs ys = refl
@@ -79,22 +80,6 @@ agrees start all h is = record {
 
 pub stands_agreeing : {C : Type 0} (stands : C → Opening → List Step → Type 0) (c : C) (start : Opening) (h : List Step) → StandsCounting stands c start h → StandsAgreeing stands c start h
 stands_agreeing stands c start h k = (k.0, k.1, k.2, agrees start k.0 h k.2)
-
--- What rollbacks of puts and of takes have in common: one that is counted closed a transaction, and the token of any other is stale.
-pub record IsRollback (rollback : Bool → Call) (IsStale : State → Type 0) : Type 0 where
-  pub counted : (ended : Bool) → is_counted (rollback ended) ≡ ended
-  pub ends : (tells : Bool) (s : State) → Admits tells s (rollback true) → length (after s (rollback true)).opened + 1 ≡ length s.opened
-  pub stale : (tells : Bool) (s : State) → Admits tells s (rollback false) → IsStale s
-
-none_of : {A : Type 0} (o : Option A) → false ≡ is_some_of o → o ≡ None
-none_of None is = refl
-none_of (Some x) is = absurd (cc)
-
-pub puts_back : (token : Token) → IsRollback (RollbackPut token) (λ s. puts_of s token ≡ None)
-puts_back token = record { counted = λ ended. refl; ends = λ tells s may. put_ends s token may; stale = λ tells s may. none_of _ may }
-
-pub takes_back : (token : Token) → IsRollback (RollbackTake token) (λ s. takes_of s token ≡ None)
-takes_back token = record { counted = λ ended. refl; ends = λ tells s may. take_ends s token may; stale = λ tells s may. none_of _ may }
 
 module _ {C : Type 0} (stands : C → Opening → List Step → Type 0) (tells : C → Bool) where
   abbrev pub Law : Type 0

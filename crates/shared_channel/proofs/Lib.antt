@@ -1,4 +1,5 @@
 mod Rooms
+mod Sparing
 pub mod Keeping
 mod Turning
 pub mod Porting

@@ -4,3 +4,4 @@ pub mod Calls
 pub mod Holding
 pub mod Durables
 pub mod Ports
+pub mod Kinds

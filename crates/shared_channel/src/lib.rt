@@ -1,19 +1,17 @@
 //! A channel that threads share: any channel behind one lock, many callers, one legal history.
 #![tactic(auto)]
 
+mod calls;
 mod carries;
 mod durable;
-mod group;
 mod home;
 mod keeper;
+mod kinds;
 mod looks;
-mod making;
 mod pass;
 mod port;
-mod puts;
 mod reopening;
 mod shared;
-mod takes;
 
 pub use carries::{Carries, Joins};
 pub use looks::Look;

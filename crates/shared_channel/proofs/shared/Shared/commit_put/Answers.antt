@@ -2,7 +2,7 @@ use Rattle.shared_channel.proofs.Turning.{commit_makes, commits, pass_kept}
 use Rattle.shared_channel.proofs.shared.Shared.commit_put.Goals as goal
 
 pub invariant_of-pass : goal.invariant_of-pass
-invariant_of-pass g c = pass_kept g.C.Channel.stands g.C.Channel.tells _ _ _ c.pass.inside.badge.views _ _ c.pass.view_is c.pass.invariant.0.3 _ _ c.hold-holder.ensures.by c.hold-holder.ensures.making _ c.release-pass-inside.ensures.released _ _ _ c.pass.invariant (commit_makes g.C.Channel.stands g.C.Channel.tells _ g.C.Channel.moment _ _ _ _ _ _ c.make_commit_put-reply.ensures).1
+invariant_of-pass g c = pass_kept g.C.Channel.stands g.C.Channel.tells _ _ _ c.pass.inside.badge.views _ _ c.pass.view_is c.pass.invariant.0.3 _ _ c.hold-holder.ensures.by c.hold-holder.ensures.making _ c.release-pass-inside.ensures.released _ _ _ c.pass.invariant (commit_makes g.C.Channel.stands g.C.Channel.tells _ g.C.Channel.moment _ _ _ _ _ _ c.make_commit-reply.ensures).1
 
 pub returns-clause-call : goal.returns-clause-call
-returns-clause-call g c = commits g.C.Channel.stands g.C.Channel.tells _ _ _ c.pass.inside.badge.views _ _ c.pass.view_is c.pass.invariant.0.3 _ _ c.hold-holder.ensures.by c.hold-holder.ensures.making _ c.release-pass-inside.ensures.released _ _ _ _ c.make_commit_put-reply.ensures
+returns-clause-call g c = commits g.C.Channel.stands g.C.Channel.tells _ _ _ c.pass.inside.badge.views _ _ c.pass.view_is c.pass.invariant.0.3 _ _ c.hold-holder.ensures.by c.hold-holder.ensures.making _ c.release-pass-inside.ensures.released _ _ _ _ c.make_commit-reply.ensures
