@@ -35,8 +35,8 @@ use Rattle.channel_writing.specs.Touches.{Flushed, IsSpentLog, Rests, flushes}
 use Rattle.channel_writing.specs.Written.{MayRecover}
 use Rattle.channel_writing.proofs.Opening.{joined, only_more}
 use Rattle.agent_commands.specs.Stored.{default_limits}
-use Rattle.netcat_source.specs.declared.replies.LineVerdict.{LineVerdict as Verdict}
-use Rattle.netcat_source.specs.declared.replies.LineVerdict.TheVariants as LineVerdict
+use Rattle.netcat_source.specs.declared.lines.LineVerdict.{LineVerdict as Verdict}
+use Rattle.netcat_source.specs.declared.lines.LineVerdict.TheVariants as LineVerdict
 use Rattle.agent_commands.specs.Handled.{GoesOn}
 use Rattle.agent_commands.specs.Puts.{begin_verdict, put_verdict}
 use Rattle.agent_commands.proofs.Idle.{HasSpentLog, IsFull, IsIdle, Keeps, LeavesState, MayGain, PutsOne, one_put}

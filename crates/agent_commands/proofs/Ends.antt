@@ -9,8 +9,8 @@ use Rattle.std.proofs.Math.Seq.{take-append-add}
 use Rattle.flume_host.specs.Causes.{Rose}
 use Rattle.netcat_source.specs.Lines.{IsEnd, LinesEnd, Rest, TooLong, ended, joined}
 use Rattle.netcat_source.specs.Replies.{end_reply, replies, reply}
-use Rattle.netcat_source.specs.declared.replies.LineVerdict.{LineVerdict}
-use Rattle.netcat_source.specs.declared.replies.LineVerdict.TheVariants as said
+use Rattle.netcat_source.specs.declared.lines.LineVerdict.{LineVerdict}
+use Rattle.netcat_source.specs.declared.lines.LineVerdict.TheVariants as said
 use Rattle.line_session.specs.Handled.{Handled, lines_of, verdicts_of, GoesOn as Continues}
 use Rattle.line_session.specs.Sessions.{AllAnswered, Ends, EndsAt, EndsBy, Served as ServedLines}
 use Rattle.line_session.specs.declared.session.SessionEnd.{SessionEnd}

@@ -11,8 +11,8 @@ use Rattle.channel_face.specs.Machine.{State, base_of}
 use Rattle.channel_face.specs.declared.replies.Kind.TheVariants.{File as OnFile}
 use Rattle.channel_writing.specs.Folders.{OpensTo}
 use Rattle.channel_writing.specs.Touches.{IsSpentLog}
-use Rattle.netcat_source.specs.declared.replies.LineVerdict.{LineVerdict}
-use Rattle.netcat_source.specs.declared.replies.LineVerdict.TheVariants.{Accepted, Refused, InDoubt, NoMemory}
+use Rattle.netcat_source.specs.declared.lines.LineVerdict.{LineVerdict}
+use Rattle.netcat_source.specs.declared.lines.LineVerdict.TheVariants.{Accepted, Refused, InDoubt, NoMemory}
 use Rattle.line_session.specs.Handled.{Handled, verdicts_of}
 use Rattle.agent_commands.specs.Handled.{GoesOn, doubted}
 use Rattle.agent_commands.specs.Stored.{Holds, behind, default_limits, lines_in}

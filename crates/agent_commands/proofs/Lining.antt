@@ -25,8 +25,8 @@ use Rattle.channel_face.specs.declared.replies.StageCause.{StageCause}
 use Rattle.channel_face.specs.declared.replies.Ticket.{Ticket}
 use Rattle.channel_writing.specs.Stands.{is_fault}
 use Rattle.channel_writing.specs.Touches.{Rests}
-use Rattle.netcat_source.specs.declared.replies.LineVerdict.{LineVerdict}
-use Rattle.netcat_source.specs.declared.replies.LineVerdict.TheVariants.{Accepted, Refused, InDoubt, NoMemory}
+use Rattle.netcat_source.specs.declared.lines.LineVerdict.{LineVerdict}
+use Rattle.netcat_source.specs.declared.lines.LineVerdict.TheVariants.{Accepted, Refused, InDoubt, NoMemory}
 use Rattle.shared_channel.specs.Ports.{Stood}
 use Rattle.agent_commands.specs.Handled.{GoesOn, is_accepted, is_in_doubt}
 use Rattle.agent_commands.specs.Puts.{begin_verdict, put_verdict, verdict_of}

@@ -17,8 +17,8 @@ use Rattle.channel_face.specs.declared.replies.OpenCause.{OpenCause}
 use Rattle.channel_face.specs.declared.replies.OpenCause.TheVariants as causes
 use Rattle.channel_writing.specs.Folders.{AreSame, IsAsBefore, IsRefused, OpensFrom, OpensOver, StaysAs}
 use Rattle.netcat_source.specs.Lines.{IsLine, LinesEnd, Rest, TooLong}
-use Rattle.netcat_source.specs.declared.replies.LineVerdict.{LineVerdict}
-use Rattle.netcat_source.specs.declared.replies.LineVerdict.TheVariants as verdict
+use Rattle.netcat_source.specs.declared.lines.LineVerdict.{LineVerdict}
+use Rattle.netcat_source.specs.declared.lines.LineVerdict.TheVariants as verdict
 use Rattle.line_session.specs.Handled.{Handled, verdicts_of}
 use Rattle.line_session.specs.Sessions.{Ends, HasCauseOf, Served as ServedLines, ends_of}
 use Rattle.line_session.specs.declared.session.SessionEnd.{SessionEnd}

@@ -24,7 +24,7 @@ use Rattle.channel_lock.specs.Views.{View}
 use Rattle.channel_lock.proofs.Histories.{begins_self}
 use Rattle.agent_commands.specs.Handled.{GoesOn, has_doubt}
 use Rattle.agent_commands.specs.Puts.{ArePutsOf, BeginsOver, IsPutOf, PutsLine, PutsLines}
-use Rattle.agent_commands.specs.Stored.{event_of}
+use Rattle.netcat_source.specs.Judged.{event_of}
 use Rattle.agent_commands.specs.Trails.{StandsTraced, Trail}
 use Rattle.agent_commands.proofs.Beginning.{idle_at_first, stands_at_first}
 use Rattle.agent_commands.proofs.Idle.{Stands}

@@ -17,11 +17,12 @@ use Rattle.channel_face.proofs.Numbers.{numbered-append, without_none}
 use Rattle.channel_face.proofs.Within.{length-numbered}
 use Rattle.channel_writing.specs.Folders.{OpensTo}
 use Rattle.channel_writing.specs.Touches.{IsSpentLog, Rests}
-use Rattle.netcat_source.specs.declared.replies.LineVerdict.{LineVerdict}
-use Rattle.netcat_source.specs.declared.replies.LineVerdict.TheVariants.{Accepted, Refused, InDoubt, NoMemory}
+use Rattle.netcat_source.specs.declared.lines.LineVerdict.{LineVerdict}
+use Rattle.netcat_source.specs.declared.lines.LineVerdict.TheVariants.{Accepted, Refused, InDoubt, NoMemory}
 use Rattle.line_session.specs.Handled.{Handled, verdicts_of}
 use Rattle.agent_commands.specs.Handled.{GoesOn, all_with, and_then, doubted}
-use Rattle.agent_commands.specs.Stored.{Acknowledged, GivesFront, GivesLines, Holds, IsAtEnd, behind, by, default_limits, event_of, lines_in}
+use Rattle.netcat_source.specs.Judged.{event_of}
+use Rattle.agent_commands.specs.Stored.{Acknowledged, GivesFront, GivesLines, Holds, IsAtEnd, behind, by, default_limits, lines_in}
 use Rattle.agent_commands.proofs.Idle.{Follows, IsFull, IsIdle, Keeps, MayGain, PutsOne, Stands, one_put}
 
 -- one line more after a base

@@ -18,12 +18,12 @@ use Rattle.channel_face.specs.declared.replies.StageCause.{StageCause}
 use Rattle.channel_face.specs.declared.replies.Ticket.{Ticket}
 use Rattle.channel_writing.specs.Touches.{Rests}
 use Rattle.netcat_source.specs.Lines.{IsLine}
-use Rattle.netcat_source.specs.declared.replies.LineVerdict.{LineVerdict}
+use Rattle.netcat_source.specs.declared.lines.LineVerdict.{LineVerdict}
 use Rattle.line_session.specs.Handled.{Handled, lines_of, verdicts_of}
 use Rattle.shared_channel.specs.Ports.{Stood}
 use Rattle.agent_commands.specs.Handled.{GoesOn, and_then, has_doubt, is_in_doubt}
 use Rattle.agent_commands.specs.Puts.{ArePutsOf, IsPutOf, entries_of}
-use Rattle.agent_commands.specs.Stored.{event_of}
+use Rattle.netcat_source.specs.Judged.{event_of}
 use Rattle.agent_commands.specs.Trails.{Trail}
 use Rattle.agent_commands.proofs.Committing.{still_idle}
 use Rattle.agent_commands.proofs.Idle.{IsIdle, Stands}

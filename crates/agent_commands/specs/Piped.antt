@@ -5,7 +5,7 @@ use Rattle.flume_host.specs.Causes.{Rose}
 use Rattle.flume_host.specs.HostState.{HostState}
 use Rattle.flume_host.specs.Told.{Told, Tells}
 use Rattle.netcat_source.specs.Lines.{Rest, TooLong}
-use Rattle.netcat_source.specs.declared.replies.LineVerdict.TheVariants as verdict
+use Rattle.netcat_source.specs.declared.lines.LineVerdict.TheVariants as verdict
 use Rattle.line_session.specs.Handled.{Handled, verdicts_of}
 use Rattle.shared_channel.specs.Passes.{Known}
 use Rattle.agent_commands.specs.Handled.{GoesOn, doubted}

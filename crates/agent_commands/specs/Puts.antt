@@ -14,8 +14,8 @@ use Rattle.channel_face.specs.declared.replies.Kind.TheVariants.{File as OnFile}
 use Rattle.channel_face.specs.declared.replies.PutRefused.{PutRefused}
 use Rattle.channel_face.specs.declared.replies.PutRefused.TheVariants as PutNo
 use Rattle.channel_writing.specs.Folders.{Opens}
-use Rattle.netcat_source.specs.declared.replies.LineVerdict.{LineVerdict}
-use Rattle.netcat_source.specs.declared.replies.LineVerdict.TheVariants.{Accepted, Refused, InDoubt, NoMemory}
+use Rattle.netcat_source.specs.declared.lines.LineVerdict.{LineVerdict}
+use Rattle.netcat_source.specs.declared.lines.LineVerdict.TheVariants.{Accepted, Refused, InDoubt, NoMemory}
 use Rattle.line_session.specs.Handled.{Handled}
 use Rattle.atomic_table.specs.Seated.{TableId}
 use Rattle.shared_channel.specs.Passes.{Known, new_pass}
@@ -23,7 +23,8 @@ use Rattle.shared_channel.specs.Ports.{AreOwned, AreUnder, Later, Saw, Stood, ow
 use Rattle.channel_face.specs.Faces.{Gains}
 use Rattle.channel_lock.specs.Calls.{has}
 use Rattle.agent_commands.specs.Handled.{is_accepted}
-use Rattle.agent_commands.specs.Stored.{default_limits, event_of}
+use Rattle.netcat_source.specs.Judged.{event_of}
+use Rattle.agent_commands.specs.Stored.{default_limits}
 
 -- what is said of an event whose transaction was not begun, and of one that was not put
 abbrev pub begin_verdict : BeginRefused → LineVerdict

@@ -2,24 +2,20 @@
 use Rattle.std.specs.Prelude.{◌≡◌, ◌⊎◌, ℕ, ◌+◌, ◌-◌, ◌^◌, ◌<◌, ◌≤◌, nat_le, if◌then◌else◌, List, [], ◌∷◌, ◌++◌, length, map}
 use Rattle.flume_host.specs.Folder.{Files, IsImage}
 use Rattle.flume_host.specs.Told.{EachMoment, Told, clock}
-use Rattle.event_core.specs.Content.{Content, content}
 use Rattle.event_core.specs.Journal.{Base, numbered}
 use Rattle.channel_face.specs.declared.replies.Limits.{Limits}
 use Rattle.channel_face.specs.declared.replies.OpenCause.{OpenCause}
 use Rattle.channel_face.specs.declared.replies.OpenCause.TheVariants as causes
 use Rattle.channel_writing.specs.Folders.{AreSame, IsAsBefore, Opens, OpensFrom, OpensOver, OpensTo, Refuses}
 use Rattle.channel_writing.specs.Touches.{IsSpentLog}
-use Rattle.netcat_source.specs.declared.replies.LineVerdict.TheVariants.{Accepted, Refused}
+use Rattle.netcat_source.specs.Judged.{event_of}
+use Rattle.netcat_source.specs.declared.lines.LineVerdict.TheVariants.{Accepted, Refused}
 use Rattle.line_session.specs.Handled.{Handled}
 use Rattle.agent_commands.specs.Handled.{all_with}
 
 -- the limits of a file channel of which nothing is said
 abbrev pub default_limits : Limits
 default_limits = record { capacity = 1000000; txn_capacity = 10000; max_file = 2146435071 }
-
--- the event of a line: no headers, and the line as its body
-abbrev pub event_of : List ℕ → Content
-event_of line = content [] line
 
 -- a base, and after it the events of these lines, in order
 abbrev pub behind : Base → List (List ℕ) → Base

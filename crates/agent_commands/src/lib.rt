@@ -4,13 +4,11 @@
 mod check;
 mod ending;
 mod load;
-mod pass_lines;
 mod pipe;
 mod traced;
 
 pub use check::{Planned, plan_agent};
 pub use ending::{LoadEnded, PipeEnded, run_check, run_load, run_pipe, say_error, unopened};
 pub use load::LoadCause;
-pub use pass_lines::PassLines;
-pub use pipe::PipeEnd;
+pub use pipe::{PassLines, PipeEnd};
 pub use traced::TracedChannel;

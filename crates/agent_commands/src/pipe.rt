@@ -1,21 +1,20 @@
 // `pipe DIR`: standard input is one session into the file channel of a folder.
-ghost use Rattle.std.specs.Prelude.{◌≡◌, ◌≢◌, ◌≤◌, ◌∷◌, [], IfErr, IfOk, None, length, true};
+ghost use Rattle.std.specs.Prelude.{◌≡◌, ◌≢◌, ◌≤◌, ◌∷◌, [], IfErr, IfOk, None, length, true, ◌<◌};
 ghost use Rattle.flume_host.specs.HostState.{ButDisk};
 ghost use Rattle.channel_face.specs.History.{Opening};
 ghost use Rattle.file_channel.specs.Stands.{opened_as};
 ghost use Rattle.line_session.specs.Sessions.{Served, ends_of};
 ghost use Rattle.agent_commands.specs.Handled.{ends_run};
 ghost use Rattle.agent_commands.specs.Piped.{HostCause, Piped, IsPipeStatus, pipe_status};
-ghost use Rattle.agent_commands.specs.Puts.{BeginsOver, IsFirstPass, PutsLine};
+ghost use Rattle.agent_commands.specs.Puts.{BeginsOver, IsFirstPass, PutsLine, begin_verdict, put_verdict, verdict_of};
 ghost use Rattle.agent_commands.specs.Trails.{StandsTraced, traced_by};
 
-use crate::pass_lines::PassLines;
 use crate::traced::TracedChannel;
-use channel_face::OpenCause;
+use channel_face::{BeginRefused, Channel, FaceRefused, OpenCause, PutFace, PutRefused};
 use file_channel::OpenRefused;
 use flume_host::{Disk, Host, NameRefused};
-use line_session::{SessionEnd, serve_lines};
-use netcat_source::LineRules;
+use line_session::{LineStore, SessionEnd, serve_lines};
+use netcat_source::{LineRules, LineVerdict, batch_of};
 use shared_channel::{Closed, Pass, Port, Shared, Unshared};
 use std::alloc::Global;
 use std::snapshot::Snapshot;
@@ -258,5 +257,81 @@ pub fn pipe<R: Wait, H: Host>(rt: &R, alloc: Global, dir: &str, host: &mut H) ->
         }
         Err(NameRefused::Failed) => PipeRun::unopened(OpenCause::DiskFault),
         Err(NameRefused::NoMemory) => PipeRun::unopened(OpenCause::NoMemory),
+    }
+}
+
+// What is said of an event whose transaction was not begun.
+fn begin_verdict(refused: BeginRefused) -> LineVerdict
+    ensures { result ≡ begin_verdict refused }
+{
+    match refused {
+        BeginRefused::Broken | BeginRefused::TooManyOpen { .. } | BeginRefused::Spent { .. } => {
+            LineVerdict::Refused
+        }
+        BeginRefused::NoMemory => LineVerdict::NoMemory,
+    }
+}
+
+// What is said of an event that was not put. After a fault of the disk the channel is broken, so it counts as in doubt.
+fn put_verdict(refused: PutRefused) -> LineVerdict
+    ensures { result ≡ put_verdict refused }
+{
+    match refused {
+        PutRefused::Stale
+        | PutRefused::Broken
+        | PutRefused::Spent { .. }
+        | PutRefused::TxnFull { .. }
+        | PutRefused::TooLarge { .. }
+        | PutRefused::Full { .. } => LineVerdict::Refused,
+        PutRefused::DiskFault => LineVerdict::InDoubt,
+        PutRefused::NoMemory => LineVerdict::NoMemory,
+    }
+}
+
+// What is said of a line, by what its transaction was answered.
+fn verdict_of(answer: Result<u64, FaceRefused>) -> LineVerdict
+    ensures { result ≡ verdict_of answer }
+{
+    match answer {
+        Ok(_) => LineVerdict::Accepted,
+        Err(FaceRefused::Begin(refused)) => begin_verdict(refused),
+        Err(FaceRefused::Put(refused)) => put_verdict(refused),
+        Err(FaceRefused::Take(_) | FaceRefused::Stage(_)) => LineVerdict::Refused,
+        Err(FaceRefused::InDoubt) => LineVerdict::InDoubt,
+    }
+}
+
+/// The lines of a session go through a port into its channel, each as one event and in a transaction of its own. A line in doubt
+/// ends the session, and so does one for which there was no memory.
+#[derive(Drop)]
+pub struct PassLines<'a, R, C: Channel> {
+    /// Where memory comes from.
+    pub alloc: Global,
+    /// Takes the lines.
+    pub port: Port<'a, R, C>,
+}
+
+impl<'a, R: Wait, C: Channel> LineStore for PassLines<'a, R, C> {
+    ghost use Rattle.agent_commands.specs.Handled.{ends_run};
+    ghost use Rattle.agent_commands.specs.Puts.{PutsLine};
+
+    ghost takes = { λ old line said new. PutsLine C.stands old.port.pass line said new.port.pass };
+
+    ghost ready = { λ lines. Unit {0} };
+
+    ghost stops = { ends_run };
+
+    fn take_line(&mut self, line: &[u8]) -> LineVerdict {
+        let Ok(batch) = batch_of(self.alloc, line) else {
+            return LineVerdict::NoMemory;
+        };
+        verdict_of(self.port.put_batch(&batch, &[0]))
+    }
+
+    fn is_last(&self, verdict: LineVerdict) -> bool {
+        match verdict {
+            LineVerdict::Accepted | LineVerdict::Refused => false,
+            LineVerdict::InDoubt | LineVerdict::NoMemory => true,
+        }
     }
 }

@@ -18,7 +18,7 @@ use Rattle.source_put.specs.Into.{Into}
 use Rattle.source_put.specs.declared.intake.Verdict.{Verdict}
 use Rattle.source_worker.specs.Rounds.{Answer, Heard}
 use Rattle.source_worker.specs.declared.worker.ListenWorker.{ListenWorker}
-use Rattle.netcat_source.specs.declared.replies.LineVerdict.{LineVerdict}
+use Rattle.netcat_source.specs.declared.lines.LineVerdict.{LineVerdict}
 use Rattle.line_session.specs.Handled.{Handled, TakesAll}
 use Rattle.line_worker.specs.Turns.{Feeding, MendsWhere, TakesTurn}
 use Rattle.line_worker.specs.Workers.{Talk}

@@ -10,7 +10,7 @@ use Rattle.source_put.specs.Chains.{Meaning}
 use Rattle.source_put.specs.Into.{Into}
 use Rattle.source_put.specs.declared.chain.HostNames.{HostNames}
 use Rattle.netcat_source.specs.Into.{TakesLine}
-use Rattle.netcat_source.specs.declared.replies.LineVerdict.{LineVerdict}
+use Rattle.netcat_source.specs.declared.lines.LineVerdict.{LineVerdict}
 use Rattle.source_worker.specs.Rounds.{Answer, MendsEach, MendsInto, any_refused}
 use Rattle.line_session.specs.Handled.{Handled, TakesAll}
 use Rattle.line_session.specs.declared.session.SessionEnd.{SessionEnd}

@@ -19,7 +19,7 @@ use Rattle.source_put.specs.Chains.{Meaning}
 use Rattle.source_put.specs.Into.{Into}
 use Rattle.source_put.specs.declared.chain.HostNames.{HostNames}
 use Rattle.netcat_source.specs.Into.{TakesLine}
-use Rattle.netcat_source.specs.declared.replies.LineVerdict.{LineVerdict}
+use Rattle.netcat_source.specs.declared.lines.LineVerdict.{LineVerdict}
 use Rattle.source_worker.specs.Rounds.{Answer, Heard, MendsEach, MendsIf, MendsInto, Round, Rounds, Serving, Session, any_refused, is_due as is_round_due}
 use Rattle.source_worker.specs.declared.ends.LinkEnd.{LinkEnd}
 use Rattle.source_worker.specs.declared.worker.ListenWorker.{ListenWorker}

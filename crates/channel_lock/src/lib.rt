@@ -1,14 +1,12 @@
 //! One value that threads share, one at a time, whose calls have one history.
 #![tactic(auto)]
 
-mod gather;
 mod guarded;
 mod lock;
 mod named;
 mod plays;
 mod view;
 
-pub use gather::Gather;
 pub use guarded::{Guarded, Named, Picked};
-pub use lock::{ChannelLock, Place, Unshared};
+pub use lock::{ChannelLock, Gather, Place, Unshared};
 pub use view::SeatView;

@@ -14,11 +14,10 @@ ghost use Rattle.open_table.specs.declared.opened.Item.TheVariants.{Put, Take};
 ghost use Rattle.record_form.specs.declared.record.Pointer as pointers;
 ghost use Rattle.channel_places.specs.Looks.{IsFewOpen, IsFree, IsOpenFor, KeepsPuts, Known, LookLeft, Looks, MayPut, MayStage, MayTake, Moves, Steps, eventless, puts_in, puts_of_open, with_begun};
 
-use crate::moving::move_staged;
 use crate::settling::{
-    append_staged, end_all, free_takes, hand_back_all, one_if_staged, remove_staged,
+    append_staged, count_takes, end_all, free_takes, hand_back_all, move_staged, one_if_staged,
+    push_ended, put_count, remove_staged,
 };
-use crate::staging::{count_takes, push_ended, put_count};
 use channel_face::{
     BeginRefused, Counter, Limits, PutRefused, PutTxn, Settled, StageCause, TakeRefused, TakeTxn,
     Ticket,

@@ -1,7 +1,11 @@
-// What the end of transactions does to a ring. Nothing here takes memory.
-ghost use Rattle.std.specs.Prelude.{◌≡◌, ◌<◌, ◌≤◌, ◌+◌, ◌^◌, [], length, map, vec_capacity};
-ghost use Rattle.open_table.specs.Tables.{listed_of, puts_of, takes_of};
+// What becomes of transactions that ended: what is staged of them, moved with its file, and settled in the ring. Nothing here takes
+// memory.
+ghost use Rattle.std.specs.Prelude.{◌≡◌, ◌<◌, ◌≤◌, ◌+◌, ◌^◌, [], length, map, vec_capacity, ◌++◌, vec_len};
+ghost use Rattle.open_table.specs.Tables.{listed_of, puts_of, takes_of, MayMove, moved};
 ghost use Rattle.channel_places.specs.Ends.{AreApart, AreLive, IsAppended, freed, lacking, one_if_staged, pointers_in, takes_in};
+ghost use Rattle.channel_face.specs.Counters.{capped};
+ghost use Rattle.channel_places.specs.Looks.{staged_of};
+ghost use Rattle.std.specs.List.{AllByRecursion};
 
 use event_ring::Ring;
 use open_table::{Ended, OpenTable};
@@ -127,4 +131,67 @@ pub(crate) fn end_all(table: &mut OpenTable)
         let ended = table.end(txn);
         table.hand_back(ended);
     }
+}
+
+// How many puts it had.
+pub(crate) fn put_count(ended: &Ended) -> usize
+    ensures { result ≡ length (puts_of (listed_of ended.now)) }
+{
+    match ended {
+        Ended::Puts(pointers) => pointers.len(),
+        Ended::Takes(_) => 0,
+    }
+}
+
+// Adds it to what is staged, unless it had nothing. It takes no memory.
+pub(crate) fn push_ended(staged: &mut Vec<Ended>, ended: Ended)
+    requires { vec_len staged.old < vec_capacity staged.old }
+    ensures items { map listed_of staged.new.items ≡ map listed_of staged.old.items ++ staged_of (listed_of ended) }
+    ensures room { vec_capacity staged.old ≤ vec_capacity staged.new }
+{
+    match &ended {
+        Ended::Puts(pointers) if pointers.is_empty() => {}
+        Ended::Takes(numbers) if numbers.is_empty() => {}
+        _ => staged.push_reserved(ended),
+    }
+}
+
+// How many takes it had.
+fn take_count(ended: &Ended) -> usize
+    ensures { result ≡ length (takes_of (listed_of ended.now)) }
+{
+    match ended {
+        Ended::Puts(_) => 0,
+        Ended::Takes(numbers) => numbers.len(),
+    }
+}
+
+// How many takes staged transactions had, up to 2^64 - 1.
+pub(crate) fn count_takes(staged: &[Ended]) -> u64
+    ensures { result ≡ capped (length (takes_in (map listed_of staged.now))) }
+{
+    let mut count = 0u64;
+    for place in 0..staged.len() {
+        count = count.saturating_add(take_count(&staged[place]) as u64);
+    }
+    count
+}
+
+// Moves the puts of transactions.
+fn move_all(staged: &mut [Ended], file: u32, at: u64, to_file: u32, to_at: u64)
+    requires { AllByRecursion (λ listed. MayMove file at to_at listed) (map listed_of staged.old) }
+    ensures { map listed_of staged.new ≡ map (moved file at to_file to_at) (map listed_of staged.old) }
+{
+    for ended in staged.iter_mut() {
+        ended.move_puts(file, at, to_file, to_at);
+    }
+}
+
+// Moves the puts of staged transactions. It takes no memory.
+pub(crate) fn move_staged(staged: &mut Vec<Ended>, file: u32, at: u64, to_file: u32, to_at: u64)
+    requires { AllByRecursion (λ listed. MayMove file at to_at listed) (map listed_of staged.old.items) }
+    ensures items { map listed_of staged.new.items ≡ map (moved file at to_file to_at) (map listed_of staged.old.items) }
+    ensures room { vec_capacity staged.new ≡ vec_capacity staged.old }
+{
+    move_all(staged, file, at, to_file, to_at);
 }

@@ -7,43 +7,9 @@ ghost use Rattle.checkpoint.specs.Says.{puts_at, puts_in, takes_at, takes_in};
 ghost use Rattle.checkpoint.specs.Text.{head_bytes, live_bytes, pointer_bytes};
 
 use crate::place::{Next, Place};
-use byteorder::{BigEndian, ByteOrder};
+use event_core::put;
 use open_table::OpenTable;
-use record_form::Pointer;
-
-// Adds bytes for which there is room.
-fn put(into: &mut Vec<u8>, bytes: &[u8])
-    requires { vec_len into.old + length bytes.now ≤ vec_capacity into.old }
-    ensures items { into.new.items ≡ into.old.items ++ bytes.now }
-    ensures len { vec_len into.new ≡ vec_len into.old + length bytes.now }
-    ensures room { vec_capacity into.old ≤ vec_capacity into.new }
-{
-    if into.extend_from_slice(bytes).is_err() {
-        unreachable!();
-    }
-}
-
-pub(crate) fn put_u32(into: &mut Vec<u8>, number: u32)
-    requires { vec_len into.old + 4 ≤ vec_capacity into.old }
-    ensures items { into.new.items ≡ into.old.items ++ u32_bytes number }
-    ensures len { vec_len into.new ≡ vec_len into.old + 4 }
-    ensures room { vec_capacity into.old ≤ vec_capacity into.new }
-{
-    let mut bytes = [0u8; 4];
-    BigEndian::write_u32(&mut bytes, number);
-    put(into, &bytes);
-}
-
-pub(crate) fn put_u64(into: &mut Vec<u8>, number: u64)
-    requires { vec_len into.old + 8 ≤ vec_capacity into.old }
-    ensures items { into.new.items ≡ into.old.items ++ u64_bytes number }
-    ensures len { vec_len into.new ≡ vec_len into.old + 8 }
-    ensures room { vec_capacity into.old ≤ vec_capacity into.new }
-{
-    let mut bytes = [0u8; 8];
-    BigEndian::write_u64(&mut bytes, number);
-    put(into, &bytes);
-}
+use record_form::{Pointer, put_u32, put_u64};
 
 // Adds what stands before the lists.
 pub(crate) fn put_head(into: &mut Vec<u8>, place: Place, next: Next)

@@ -13,11 +13,11 @@ ghost use Rattle.checkpoint.specs.Text.{CheckText, FitCounts, Rise, check_bytes,
 
 use crate::file::{LayRefused, make_closed, seal};
 use crate::place::{Next, Place};
-use crate::text::{Item, put_head, put_live, put_u32, put_u64};
+use crate::text::{Item, put_head, put_live};
 use event_ring::Ring;
 use flume_host::{Disk, Failed, FileName};
 use open_table::OpenTable;
-use record_form::Pointer;
+use record_form::{Pointer, put_u32, put_u64};
 
 // How many bytes are written at a time.
 const PIECE: usize = 65_536;

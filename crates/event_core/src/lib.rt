@@ -5,8 +5,10 @@ mod event;
 mod headers;
 mod journal;
 mod refused;
+mod room;
 
 pub use event::{Event, MAX_EVENT_SIZE};
 pub use headers::{HeaderPairs, Headers};
 pub use journal::{Batch, Entry, Numbers};
 pub use refused::{EventRefused, NoMemory};
+pub use room::put;

@@ -19,8 +19,7 @@ ghost use Rattle.file_channel.specs.Placed.{IsStateOf};
 ghost use Rattle.file_channel.specs.Stepped.{ShowsOf, StepsOn};
 
 use crate::checks::Checks;
-use crate::logged::LoggedPlaces;
-use crate::records::settle_staged;
+use crate::logged::{LoggedPlaces, settle_staged};
 use channel_face::{CheckRefused, Counter};
 use channel_laying::lay_checkpoint;
 use channel_places::Held;

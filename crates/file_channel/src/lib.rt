@@ -11,7 +11,6 @@ mod mending;
 mod opening;
 mod pruning;
 mod reading;
-mod records;
 
 pub use channel::{FileChannel, OpenRefused, open_channel};
 pub use laws::an_event_stands_in_each_image;

@@ -1,6 +1,6 @@
 -- A session over one kind of store is a session over another.
 use Rattle.std.proofs.Common.{ℕ, Bool, List, [], ◌∷◌, sym, subst, refl}
-use Rattle.netcat_source.specs.declared.replies.LineVerdict.{LineVerdict}
+use Rattle.netcat_source.specs.declared.lines.LineVerdict.{LineVerdict}
 use Rattle.line_session.specs.declared.session.SessionEnd.{SessionEnd}
 use Rattle.line_session.specs.Handled.{Handled, TakesAll}
 use Rattle.line_session.specs.Sessions.{Ends, Served, ends_of}

@@ -6,7 +6,7 @@ use Rattle.std.proofs.lemmas.List.{take_at}
 use Rattle.std.proofs.lemmas.List.Elements.{All-nil, All-cons}
 use Rattle.netcat_source.specs.Lines.{IsLine, IsTooLong, IsUnbroken, TooLong, joined}
 use Rattle.netcat_source.specs.Replies.{reply, end_reply}
-use Rattle.netcat_source.specs.declared.replies.LineVerdict.{LineVerdict}
+use Rattle.netcat_source.specs.declared.lines.LineVerdict.{LineVerdict}
 use Rattle.line_session.specs.declared.session.SessionEnd.{SessionEnd}
 use Rattle.line_session.specs.declared.session.SessionEnd.TheVariants.{End, TooLongLine, Full, Line, NoMemory, ReadFault, WriteFault}
 use Rattle.line_session.specs.Handled.{GoesOn}

@@ -8,7 +8,7 @@ use Rattle.std.proofs.lemmas.List.Elements.{All-append, All-nil}
 use Rattle.flume_host.specs.Causes.{Rose}
 use Rattle.netcat_source.specs.Lines.{IsLine, LinesEnd, Rest, TooLong, joined, ended}
 use Rattle.netcat_source.specs.Replies.{reply, replies, end_reply}
-use Rattle.netcat_source.specs.declared.replies.LineVerdict.{LineVerdict}
+use Rattle.netcat_source.specs.declared.lines.LineVerdict.{LineVerdict}
 use Rattle.line_session.specs.declared.session.SessionEnd.{SessionEnd}
 use Rattle.line_session.specs.declared.session.SessionEnd.TheVariants.{End, TooLongLine, Full, Line, NoMemory, ReadFault, WriteFault}
 use Rattle.line_session.specs.Handled.{Handled, GoesOn, TakesAll, lines_of, verdicts_of}

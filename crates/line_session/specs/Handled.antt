@@ -1,6 +1,6 @@
 -- The lines of a session, and what became of them.
 use Rattle.std.specs.Prelude.{◌≡◌, ℕ, List, [], ◌∷◌, map, Bool, false}
-use Rattle.netcat_source.specs.declared.replies.LineVerdict.{LineVerdict}
+use Rattle.netcat_source.specs.declared.lines.LineVerdict.{LineVerdict}
 
 pub record Handled : Type 0 where
   pub line : List ℕ

@@ -5,7 +5,7 @@ use Rattle.std.specs.Io.KnownBytes.{Appends, Consumes, IsAtEnd}
 use Rattle.flume_host.specs.Causes.{Rose}
 use Rattle.netcat_source.specs.Lines.{IsLine, IsTooLong, LinesEnd, Rest, TooLong, joined}
 use Rattle.netcat_source.specs.Replies.{reply, replies, end_reply}
-use Rattle.netcat_source.specs.declared.replies.LineVerdict.{LineVerdict}
+use Rattle.netcat_source.specs.declared.lines.LineVerdict.{LineVerdict}
 use Rattle.line_session.specs.declared.session.SessionEnd.{SessionEnd}
 use Rattle.line_session.specs.declared.session.SessionEnd.TheVariants.{End, TooLongLine, Full, Line}
 use Rattle.line_session.specs.declared.session.SessionEnd.TheVariants.{NoMemory, ReadFault, WriteFault}

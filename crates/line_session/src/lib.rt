@@ -2,7 +2,5 @@
 #![tactic(auto)]
 
 mod session;
-mod store;
 
-pub use session::{SessionEnd, serve_lines};
-pub use store::LineStore;
+pub use session::{LineStore, SessionEnd, serve_lines};

@@ -1,5 +1,5 @@
-// One session of lines.
-ghost use Rattle.std.specs.Prelude.{◌≡◌, ◌≢◌, ◌<◌, ◌≤◌, [], List, ℕ, false, length, take, IfOk, OnOk, IfErr, IsErrOf};
+// One session of lines, and where its lines go.
+ghost use Rattle.std.specs.Prelude.{◌≡◌, ◌≢◌, ◌<◌, ◌≤◌, [], List, ℕ, false, length, take, IfOk, OnOk, IfErr, IsErrOf, Bool};
 ghost use Rattle.std.specs.Io.KnownBytes.{Appends};
 ghost use Rattle.flume_host.specs.Causes.{RisesWhere};
 ghost use Rattle.netcat_source.specs.Lines.{IsLine, IsLineLimit};
@@ -7,8 +7,8 @@ ghost use Rattle.netcat_source.specs.Parts.{held_by};
 ghost use Rattle.netcat_source.specs.Replies.{reply};
 ghost use Rattle.line_session.specs.Sessions.{HasCauseOf, Served, ends_of};
 ghost use Rattle.line_session.specs.Parts.{AnswerEnds, Breaks, EndsByLine, EndsByRead, Goes, LongEnds, ReadEnds, Reads, TakesOne, sides};
+ghost use Rattle.netcat_source.specs.declared.lines.LineVerdict.{LineVerdict};
 
-use crate::store::LineStore;
 use flume_host::{Sink, Source, write_out};
 use netcat_source::{Cut, LineRules, LineVerdict, Lines, TOO_LONG_REPLY, reply_to};
 use std::alloc::Global;
@@ -278,4 +278,27 @@ pub fn serve_lines<S: Source, K: Sink, L: LineStore>(
         Ok(()) => end,
         Err(_) => SessionEnd::WriteFault,
     }
+}
+
+/// Where the lines of a session go, one after another.
+pub trait LineStore {
+    /// It takes a line, and this becomes of it.
+    ghost takes: { Self → List ℕ → LineVerdict → Self → Type 0 };
+
+    /// A line can be handed to it.
+    ghost ready: { Self → Type 0 };
+
+    /// A session ends after a line with this verdict.
+    ghost stops: { LineVerdict → Bool };
+
+    /// Takes a line, and says what became of it.
+    fn take_line(&mut self, line: &[u8]) -> LineVerdict
+        requires ready { ready self.old }
+        requires short { length line.now < 1_048_568 }
+        ensures takes { takes self.old line.now result self.new }
+        ensures ready { stops result ≡ false → ready self.new };
+
+    /// Whether a session ends after a line with this verdict.
+    fn is_last(&self, verdict: LineVerdict) -> bool
+        ensures { result ≡ stops verdict };
 }

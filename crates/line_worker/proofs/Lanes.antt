@@ -5,7 +5,7 @@ use Rattle.std.proofs.lemmas.List.Elements.{All-nil}
 use Rattle.selectors.specs.declared.selector.Selector.{Selector}
 use Rattle.source_put.specs.declared.chain.HostNames.{HostNames}
 use Rattle.netcat_source.specs.Lines.{IsLine}
-use Rattle.netcat_source.specs.declared.replies.LineVerdict.{LineVerdict}
+use Rattle.netcat_source.specs.declared.lines.LineVerdict.{LineVerdict}
 use Rattle.line_session.specs.Sessions.{Ends, Served, ends_of}
 use Rattle.line_session.specs.declared.session.SessionEnd.{SessionEnd}
 use Rattle.line_session.specs.declared.session.SessionEnd.TheVariants.{NoMemory}

@@ -6,7 +6,7 @@ use Rattle.source_put.specs.declared.chain.HostNames.{HostNames}
 use Rattle.source_put.specs.declared.intake.Intake.{Intake}
 use Rattle.chain_plan.specs.Builds.{AreBuilt}
 use Rattle.netcat_source.specs.declared.session.LineRules.{LineRules}
-use Rattle.netcat_source.specs.declared.replies.LineVerdict.{LineVerdict}
+use Rattle.netcat_source.specs.declared.lines.LineVerdict.{LineVerdict}
 use Rattle.line_session.specs.declared.session.SessionEnd.{SessionEnd}
 use Rattle.line_worker.specs.Turns.{Feeding}
 use Rattle.line_worker.specs.Workers.{LineRan, Session, Talk, fed, told_by}

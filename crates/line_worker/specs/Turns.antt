@@ -9,7 +9,7 @@ use Rattle.channel_face.specs.declared.replies.FaceRefused.TheVariants.{Begin, P
 use Rattle.source_put.specs.declared.intake.Verdict.{Verdict}
 use Rattle.source_put.specs.declared.intake.Verdict.TheVariants.{Refused}
 use Rattle.netcat_source.specs.Judged.{said_of}
-use Rattle.netcat_source.specs.declared.replies.LineVerdict.{LineVerdict}
+use Rattle.netcat_source.specs.declared.lines.LineVerdict.{LineVerdict}
 use Rattle.source_worker.specs.Rounds.{Answer, any_refused}
 
 -- a call found the channel broken

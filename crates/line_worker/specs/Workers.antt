@@ -1,8 +1,8 @@
 -- What a worker of lines does.
 use Rattle.std.specs.Prelude.{◌≡◌, ◌≢◌, ◌<◌, ◌^◌, ℕ, List, length, Bool, true, false, Option, Some, None}
 use Rattle.netcat_source.specs.Lines.{IsLineLimit}
-use Rattle.netcat_source.specs.declared.replies.LineVerdict.{LineVerdict}
-use Rattle.netcat_source.specs.declared.replies.LineVerdict.TheVariants as verdicts
+use Rattle.netcat_source.specs.declared.lines.LineVerdict.{LineVerdict}
+use Rattle.netcat_source.specs.declared.lines.LineVerdict.TheVariants as verdicts
 use Rattle.source_put.specs.Accepts.{NamesBelow}
 use Rattle.source_put.specs.Into.{Into, into_of}
 use Rattle.source_put.specs.declared.intake.Intake.{Intake}

@@ -8,7 +8,7 @@ use Rattle.flume_host.proofs.Talking.{talks_none}
 use Rattle.source_put.specs.declared.intake.Verdict.{Verdict}
 use Rattle.netcat_source.specs.Lines.{IsLine, IsTooLong, IsUnbroken, TooLong, joined}
 use Rattle.netcat_source.specs.Replies.{reply, end_reply}
-use Rattle.netcat_source.specs.declared.replies.LineVerdict.{LineVerdict}
+use Rattle.netcat_source.specs.declared.lines.LineVerdict.{LineVerdict}
 use Rattle.netcat_source.specs.declared.session.SessionEnd.{SessionEnd}
 use Rattle.netcat_source.specs.declared.session.SessionEnd.TheVariants.{End, Stopped, TooLongLine, LinkFault, Turns, NoMemory}
 use Rattle.netcat_source.specs.Judged.{said_of, GoesOn}

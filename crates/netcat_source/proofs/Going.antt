@@ -9,8 +9,8 @@ use Rattle.flume_host.proofs.Talking.{failed_behind, talks_then, talks_to}
 use Rattle.source_put.specs.declared.intake.Verdict.{Verdict}
 use Rattle.netcat_source.specs.Lines.{IsLine, LinesEnd, Rest, TooLong, joined, ended}
 use Rattle.netcat_source.specs.Replies.{reply, replies, end_reply}
-use Rattle.netcat_source.specs.declared.replies.LineVerdict.{LineVerdict}
-use Rattle.netcat_source.specs.declared.replies.LineVerdict.TheVariants as says
+use Rattle.netcat_source.specs.declared.lines.LineVerdict.{LineVerdict}
+use Rattle.netcat_source.specs.declared.lines.LineVerdict.TheVariants as says
 use Rattle.netcat_source.specs.declared.session.SessionEnd.{SessionEnd}
 use Rattle.netcat_source.specs.declared.session.SessionEnd.TheVariants.{End, Stopped, TooLongLine, LinkFault, Turns, NoMemory}
 use Rattle.netcat_source.specs.Judged.{Judged, lines_of, verdicts_of, said_of, GoesOn}

@@ -4,8 +4,8 @@ use Rattle.event_core.specs.Content.{Content, content}
 use Rattle.channel_face.specs.declared.replies.FaceRefused.TheVariants as face
 use Rattle.source_put.specs.declared.intake.Verdict.{Verdict}
 use Rattle.source_put.specs.declared.intake.Verdict.TheVariants as verdict
-use Rattle.netcat_source.specs.declared.replies.LineVerdict.{LineVerdict}
-use Rattle.netcat_source.specs.declared.replies.LineVerdict.TheVariants.{Accepted, Refused, InDoubt, NoMemory}
+use Rattle.netcat_source.specs.declared.lines.LineVerdict.{LineVerdict}
+use Rattle.netcat_source.specs.declared.lines.LineVerdict.TheVariants.{Accepted, Refused, InDoubt, NoMemory}
 
 -- the event of a line: no headers, and the line as its body
 abbrev pub event_of : List ℕ → Content

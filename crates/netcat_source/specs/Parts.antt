@@ -7,8 +7,8 @@ use Rattle.source_put.specs.declared.intake.Verdict.{Verdict}
 use Rattle.netcat_source.specs.Feed.{LineState, begun}
 use Rattle.netcat_source.specs.Lines.{IsLine, TooLong, joined}
 use Rattle.netcat_source.specs.Replies.{reply, end_reply}
-use Rattle.netcat_source.specs.declared.replies.LineVerdict.{LineVerdict}
-use Rattle.netcat_source.specs.declared.replies.LineVerdict.TheVariants as says
+use Rattle.netcat_source.specs.declared.lines.LineVerdict.{LineVerdict}
+use Rattle.netcat_source.specs.declared.lines.LineVerdict.TheVariants as says
 use Rattle.netcat_source.specs.declared.session.SessionEnd.{SessionEnd}
 use Rattle.netcat_source.specs.declared.session.SessionEnd.TheVariants.{End, Stopped, TooLongLine, LinkFault}
 use Rattle.netcat_source.specs.declared.session.SessionEnd.TheVariants.{Turns, NoMemory}

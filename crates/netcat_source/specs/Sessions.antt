@@ -6,8 +6,8 @@ use Rattle.flume_host.specs.Links.{FailedLast, LinkTold, TalksTo, most_turns}
 use Rattle.source_put.specs.declared.intake.Verdict.{Verdict}
 use Rattle.netcat_source.specs.Lines.{IsLine, IsTooLong, LinesEnd, Rest, TooLong, joined}
 use Rattle.netcat_source.specs.Replies.{reply, replies, end_reply}
-use Rattle.netcat_source.specs.declared.replies.LineVerdict.{LineVerdict}
-use Rattle.netcat_source.specs.declared.replies.LineVerdict.TheVariants as says
+use Rattle.netcat_source.specs.declared.lines.LineVerdict.{LineVerdict}
+use Rattle.netcat_source.specs.declared.lines.LineVerdict.TheVariants as says
 use Rattle.netcat_source.specs.declared.session.SessionEnd.{SessionEnd}
 use Rattle.netcat_source.specs.declared.session.SessionEnd.TheVariants.{End, Stopped, TooLongLine, LinkFault}
 use Rattle.netcat_source.specs.declared.session.SessionEnd.TheVariants.{Turns, NoMemory}

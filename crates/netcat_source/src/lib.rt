@@ -4,14 +4,12 @@
 
 mod laws;
 mod lines;
-mod replies;
 mod session;
 mod take;
 mod worker;
 
 pub use laws::{one_cut, pieces_cut};
-pub use lines::{Cut, Lines};
-pub use replies::{LineVerdict, TOO_LONG_REPLY, reply_to};
+pub use lines::{Cut, LineVerdict, Lines, TOO_LONG_REPLY, reply_to};
 pub use session::{LineRules, SessionEnd, serve_netcat};
-pub use take::{said_of, take_line};
+pub use take::{batch_of, said_of, take_line};
 pub use worker::serve_link;

@@ -1,9 +1,10 @@
-// Cuts a text into lines, however it comes.
+// Lines, and the replies to them.
 ghost use Rattle.std.specs.Prelude.{◌≡◌, ◌<◌, ◌≤◌, ◌^◌, ◌+◌, ◌++◌, [], List, ℕ, length, take, IfOk, MatchOption, slice_index, vec_len, vec_capacity};
 ghost use Rattle.netcat_source.specs.Lines.{IsUnbroken};
 ghost use Rattle.netcat_source.specs.Feed.{LineState, StandsWhole, begun, Takes, Feeds, HoldsLine};
+ghost use Rattle.netcat_source.specs.Replies.{reply};
 
-use event_core::NoMemory;
+use event_core::{NoMemory, put};
 use std::alloc::Global;
 use std::marker::Model;
 
@@ -48,17 +49,6 @@ fn newline_in(bytes: &[u8]) -> Option<usize>
         }
     }
     None
-}
-
-// Adds bytes for which room is there.
-fn put(line: &mut Vec<u8>, bytes: &[u8])
-    requires { vec_len line.old + length bytes.now ≤ vec_capacity line.old }
-    ensures items { line.new.items ≡ line.old.items ++ bytes.now }
-    ensures room { vec_capacity line.old ≤ vec_capacity line.new }
-{
-    if line.extend_from_slice(bytes).is_err() {
-        unreachable!();
-    }
 }
 
 // Takes the front of a piece, up to the line's end.
@@ -134,5 +124,35 @@ impl Lines {
         ensures { result.now ≡ self.now.line }
     {
         &self.line
+    }
+}
+
+/// What became of a line's event.
+#[derive(Clone, Copy, Debug, PartialEq, Eq)]
+pub enum LineVerdict {
+    /// Every required channel has it for good.
+    Accepted,
+    /// A required channel refused it.
+    Refused,
+    /// A device failed in the commit: nobody knows whether the event will be there.
+    InDoubt,
+    /// There was no memory for it.
+    NoMemory,
+}
+
+/// The reply to a line that is too long.
+pub const TOO_LONG_REPLY: &[u8] = b"FAILED: line too long\n";
+
+/// The reply to a line. Without `ack`, an accepted one has none (`ack-every-event` of the Flume User Guide's NetCat TCP
+/// Source).
+pub fn reply_to(verdict: LineVerdict, ack: bool) -> &'static [u8]
+    ensures { result.now ≡ reply ack verdict }
+{
+    match verdict {
+        LineVerdict::Accepted if ack => b"OK\n",
+        LineVerdict::Accepted => b"",
+        LineVerdict::Refused => b"FAILED: channel refused\n",
+        LineVerdict::InDoubt => b"FAILED: channel in doubt\n",
+        LineVerdict::NoMemory => b"FAILED: no memory\n",
     }
 }

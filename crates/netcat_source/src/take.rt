@@ -5,7 +5,7 @@ ghost use Rattle.netcat_source.specs.Judged.{event_of, said_of};
 ghost use Rattle.netcat_source.specs.Into.{TakesLine};
 ghost use Rattle.source_put.specs.Into.{into_of};
 
-use crate::replies::LineVerdict;
+use crate::lines::LineVerdict;
 use channel_face::{FaceRefused, PutFace};
 use event_core::{Batch, Event, Headers, NoMemory};
 use flume_host::Clock;
@@ -28,8 +28,8 @@ fn event_of(alloc: Global, line: &[u8]) -> Result<Event, NoMemory>
     }
 }
 
-// A batch of the event of a line.
-fn batch_of(alloc: Global, line: &[u8]) -> Result<Batch, NoMemory>
+/// A batch of the event of a line: one without headers, whose body is the line. Only memory can be missing.
+pub fn batch_of(alloc: Global, line: &[u8]) -> Result<Batch, NoMemory>
     requires { length line.now < 1_048_568 }
     ensures { IfOk result (λ batch. batch ≡ event_of line.now ∷ []) }
 {

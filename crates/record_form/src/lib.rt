@@ -14,4 +14,4 @@ pub use laws::{cut_is_part, lengths, one_spelling, read_is_spelled, written_is_r
 pub use outlines::read_outline;
 pub use reading::read_record;
 pub use record::{MAX_PUT_SIZE, Outline, Pointer, Read, Rec};
-pub use writing::{write_put, write_record};
+pub use writing::{put_u32, put_u64, write_put, write_record};

@@ -8,21 +8,10 @@ ghost use Rattle.record_form.specs.declared.record.TheConstants.{MAX_PUT_SIZE};
 
 use crate::record::{COMMIT_PUT, COMMIT_TAKE, END, MAX_PUT_SIZE, PUT, ROLLBACK, Rec, TAKE};
 use byteorder::{BigEndian, ByteOrder};
-use event_core::{Event, Headers};
+use event_core::{Event, Headers, put};
 
-// Adds bytes for which there is room.
-fn put(into: &mut Vec<u8>, bytes: &[u8])
-    requires { vec_len into.old + length bytes.now ≤ vec_capacity into.old }
-    ensures items { into.new.items ≡ into.old.items ++ bytes.now }
-    ensures len { vec_len into.new ≡ vec_len into.old + length bytes.now }
-    ensures room { vec_capacity into.old ≤ vec_capacity into.new }
-{
-    if into.extend_from_slice(bytes).is_err() {
-        unreachable!();
-    }
-}
-
-fn put_u32(into: &mut Vec<u8>, number: u32)
+/// Adds a number of four bytes, the greatest byte first, for which there is room.
+pub fn put_u32(into: &mut Vec<u8>, number: u32)
     requires { vec_len into.old + 4 ≤ vec_capacity into.old }
     ensures items { into.new.items ≡ into.old.items ++ u32_bytes number }
     ensures len { vec_len into.new ≡ vec_len into.old + 4 }
@@ -33,7 +22,8 @@ fn put_u32(into: &mut Vec<u8>, number: u32)
     put(into, &bytes);
 }
 
-fn put_u64(into: &mut Vec<u8>, number: u64)
+/// Adds a number of eight bytes, the greatest byte first, for which there is room.
+pub fn put_u64(into: &mut Vec<u8>, number: u64)
     requires { vec_len into.old + 8 ≤ vec_capacity into.old }
     ensures items { into.new.items ≡ into.old.items ++ u64_bytes number }
     ensures len { vec_len into.new ≡ vec_len into.old + 8 }

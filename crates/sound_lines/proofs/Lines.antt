@@ -31,7 +31,7 @@ use Rattle.plug_in.specs.declared.step.Intercepted.{Intercepted}
 use Rattle.plug_in.specs.declared.step.Intercepted.TheVariants as gives
 use Rattle.netcat_source.specs.Into.{TakesLine}
 use Rattle.netcat_source.specs.Judged.{event_of}
-use Rattle.netcat_source.specs.declared.replies.LineVerdict.{LineVerdict}
+use Rattle.netcat_source.specs.declared.lines.LineVerdict.{LineVerdict}
 use Rattle.line_session.specs.Handled.{Handled, TakesAll}
 use Rattle.line_worker.specs.Turns.{Feeding, MendsWhere, TakesTurn, is_due}
 use Rattle.source_worker.specs.Rounds.{Answer, any_refused}

@@ -12,7 +12,7 @@ use Rattle.source_put.specs.Into.{Into}
 use Rattle.source_put.specs.declared.chain.HostNames.{HostNames}
 use Rattle.source_put.specs.declared.intake.Verdict.{Verdict}
 use Rattle.netcat_source.specs.Into.{TakesLine}
-use Rattle.netcat_source.specs.declared.replies.LineVerdict.{LineVerdict}
+use Rattle.netcat_source.specs.declared.lines.LineVerdict.{LineVerdict}
 use Rattle.line_session.specs.Handled.{Handled, TakesAll}
 use Rattle.line_worker.specs.Turns.{Feeding, MendsWhere, TakesTurn, is_due as is_line_due}
 use Rattle.source_worker.specs.Rounds.{Answer, Makes, MendsIf, Round, Rounds, Serving, Session, any_refused, is_due}

@@ -2,7 +2,7 @@ use Rattle.line_session.specs.Sessions.{ends_of}
 use Rattle.agent_commands.specs.Handled.{ends_run}
 use Rattle.agent_commands.specs.Puts.{PutsLine}
 use Rattle.agent_commands.specs.Trails.{traced_by}
-use Rattle.agent_commands.specs.declared.pass_lines.PassLines.{PassLines}
+use Rattle.agent_commands.specs.declared.pipe.PassLines.{PassLines}
 use Rattle.agent_commands.specs.declared.traced.TracedChannel.{TracedChannel}
 use Rattle.agent_commands.proofs.Outcomes.{host_cause, host_handed, host_later, host_served, viewed}
 use Rattle.agent_commands.proofs.pipe.serve.Goals as goal

@@ -9,7 +9,7 @@ use Rattle.channel_writing.specs.Written.{IsLogged}
 use Rattle.channel_writing.proofs.Freeing.{take_in}
 use Rattle.file_channel.specs.Placed.{Fits, Logged}
 use Rattle.file_channel.proofs.Adding.{take_fits}
-use Rattle.file_channel.proofs.records.add_take.Goals as goal
+use Rattle.file_channel.proofs.logged.add_take.Goals as goal
 
 pub returns-clause-fits : goal.returns-clause-fits
 returns-clause-fits g c = λ s numbers event rest fits list first first_is.

@@ -8,7 +8,7 @@ use Rattle.channel_writing.proofs.Flushing.{none_waits}
 use Rattle.channel_writing.proofs.Rolling.{fills_begun, fills_here, fills_then, writes_begun, writes_here, writes_next}
 use Rattle.file_channel.specs.Placed.{Logged}
 use Rattle.file_channel.proofs.Adding.{failed_state, flushed_both, goes_over, goes_then, ok_then}
-use Rattle.file_channel.proofs.records.settle_staged.Goals as goal
+use Rattle.file_channel.proofs.logged.settle_staged.Goals as goal
 
 pub returns-then-not-must_roll-clause-any_moment : goal.returns-then-not-must_roll-clause-any_moment
 returns-then-not-must_roll-clause-any_moment g c = λ s is still.

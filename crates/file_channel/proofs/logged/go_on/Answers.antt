@@ -4,7 +4,7 @@ use Rattle.open_table.specs.Tables.{moved_open, open_at}
 use Rattle.channel_places.specs.Looks.{Moves}
 use Rattle.file_channel.specs.Placed.{Logged}
 use Rattle.file_channel.proofs.Going.{goes_on_state}
-use Rattle.file_channel.proofs.records.go_on.Goals as goal
+use Rattle.file_channel.proofs.logged.go_on.Goals as goal
 
 pub roll-requires-clause-logged : goal.roll-requires-clause-logged
 roll-requires-clause-logged g c = (c.requires.state.0, c.requires.state.1.whole.logged c.requires.state.2, c.requires.state.2)

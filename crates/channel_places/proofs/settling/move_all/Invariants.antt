@@ -1,6 +1,6 @@
 use Rattle.std.proofs.Common.{◌≡◌, take, drop, map}
 use Rattle.open_table.specs.Tables.{listed_of, moved}
-use Rattle.channel_places.proofs.moving.move_all.Given as goal
+use Rattle.channel_places.proofs.settling.move_all.Given as goal
 
 abbrev pub invariant-loop-ended : goal.invariant-loop-ended
 invariant-loop-ended l =

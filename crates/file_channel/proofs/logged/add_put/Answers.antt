@@ -12,7 +12,7 @@ use Rattle.channel_writing.proofs.Putting.{put_in}
 use Rattle.file_channel.specs.Placed.{Fits, Logged}
 use Rattle.file_channel.proofs.Adding.{put_fits}
 use Rattle.file_channel.proofs.Placing.{next_place, place_is}
-use Rattle.file_channel.proofs.records.add_put.Goals as goal
+use Rattle.file_channel.proofs.logged.add_put.Goals as goal
 
 pub returns-clause-fits : goal.returns-clause-fits
 returns-clause-fits g c = λ s events fits list first_is.

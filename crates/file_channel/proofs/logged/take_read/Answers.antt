@@ -9,7 +9,7 @@ use Rattle.channel_writing.proofs.Putting.{busy_few}
 use Rattle.channel_writing.proofs.Whole.{had_no_room}
 use Rattle.file_channel.specs.Placed.{Fits, Logged}
 use Rattle.file_channel.proofs.Calls.{MayBeTaken, may_be_taken, room_is, state_fits, take_steps}
-use Rattle.file_channel.proofs.records.take_read.Goals as goal
+use Rattle.file_channel.proofs.logged.take_read.Goals as goal
 
 pub has_room-requires : goal.has_room-requires
 has_room-requires g c =

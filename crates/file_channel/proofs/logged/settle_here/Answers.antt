@@ -1,7 +1,7 @@
 use Rattle.channel_writing.proofs.Whole.{staged_below}
 use Rattle.file_channel.specs.Placed.{Logged}
 use Rattle.file_channel.proofs.Adding.{failed_state, flush_file, flush_grows, settle_fits}
-use Rattle.file_channel.proofs.records.settle_here.Goals as goal
+use Rattle.file_channel.proofs.logged.settle_here.Goals as goal
 
 pub flush-requires : goal.flush-requires
 flush-requires g c = (c.requires.0, c.requires.1.whole.logged c.requires.2, c.requires.2)

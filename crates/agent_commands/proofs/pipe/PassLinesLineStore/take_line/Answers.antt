@@ -2,8 +2,8 @@ use Rattle.std.proofs.Common.{◌≡◌, List, [], ◌∷◌, length, inl, ap, s
 use Rattle.event_core.specs.Content.{Content}
 use Rattle.channel_face.specs.Faces.{Gains, IsPutBatch, picked_events}
 use Rattle.shared_channel.specs.Ports.{AreOwned, Saw}
-use Rattle.agent_commands.specs.Stored.{event_of}
-use Rattle.agent_commands.proofs.pass_lines.PassLinesLineStore.take_line.Goals as goal
+use Rattle.netcat_source.specs.Judged.{event_of}
+use Rattle.agent_commands.proofs.pipe.PassLinesLineStore.take_line.Goals as goal
 
 pub returns-clause-takes : goal.returns-clause-takes
 returns-clause-takes g c =

@@ -2,7 +2,7 @@ use Rattle.std.proofs.Common.{◌<◌, ℕ, subst, sym}
 use Rattle.open_table.specs.Tables.{Listed, MayMove, listed_of, moved}
 use Rattle.open_table.specs.declared.opened.Ended.{Ended}
 use Rattle.channel_places.proofs.Moved.{all_here, front_more, rest_more, same_here}
-use Rattle.channel_places.proofs.moving.move_all.Goals as goal
+use Rattle.channel_places.proofs.settling.move_all.Goals as goal
 
 pub move_puts-requires : goal.move_puts-requires
 move_puts-requires c =

@@ -4,7 +4,7 @@ use Rattle.open_table.specs.Tables.{Listed, listed_of, takes_of}
 use Rattle.open_table.specs.declared.opened.Ended.{Ended}
 use Rattle.channel_places.specs.Ends.{takes_in}
 use Rattle.channel_places.proofs.Batches.{staged_from}
-use Rattle.channel_places.proofs.staging.count_takes.Goals as goal
+use Rattle.channel_places.proofs.settling.count_takes.Goals as goal
 
 pub loop-place-preserved : goal.loop-place-preserved
 loop-place-preserved c =

@@ -1,9 +1,0 @@
-use Rattle.std.proofs.Common.{◌++◌, List, ℕ, ap, ◌∙◌}
-use Rattle.std.proofs.lemmas.List.{append-nil}
-use Rattle.byteorder.specs.Endian.{big_bytes}
-use Rattle.event_core.specs.Numbers.{u64_bytes}
-use Rattle.checkpoint.proofs.text.put_u64.Goals as goal
-
-pub returns-clause-items : goal.returns-clause-items
-unfolding u64_bytes
-returns-clause-items c = c.put.ensures.items ∙ ap (λ (b : List ℕ). c.args.into.now.items ++ b) (c.write_u64.ensures ∙ append-nil (big_bytes 8 c.args.number))
