@@ -70,7 +70,8 @@ pub(crate) fn share_on_disk<D: Disk + Drop>(
     requires stands { StandsOver (D.told channel.0) (D.faults channel.0) channel.1 start [] }
     ensures kind { IfOk result (λ c. IsDisk c.share) }
     ensures fresh { IfOk result
-        (λ c. c.home ∷ c.others.items ≡ new_passes (table_of c.share) start (users + 1) (users + 1)) }
+        (λ c. c.home ∷ c.others.items ≡ new_passes (table_of c.share) start (users + 1)
+        (users + 1)) }
     ensures back { IfErr result
         (λ refused. (refused.disk ≡ channel.0) × (refused.cause ≡ OpenCause.NoMemory)) }
 {
@@ -105,7 +106,8 @@ pub(crate) fn share_in_memory<D: Disk + Drop>(
     requires stands { StandsAs channel start [] }
     ensures kind { IfOk result (λ c. IsDisk c.share → ⊥) }
     ensures fresh { IfOk result
-        (λ c. c.home ∷ c.others.items ≡ new_passes (table_of c.share) start (users + 1) (users + 1)) }
+        (λ c. c.home ∷ c.others.items ≡ new_passes (table_of c.share) start (users + 1)
+        (users + 1)) }
     ensures back { IfErr result (λ cause. cause ≡ OpenCause.NoMemory) }
 {
     match share(alloc, channel, users) {

@@ -82,8 +82,10 @@ fn summary(alloc: Global, agent: &str, plan: &Plan) -> Result<String, AllocError
 
 // Writes a text to standard output.
 pub(crate) fn print<H: Host>(host: &mut H, text: &str) -> Result<(), Failed>
-    ensures whole { OnOk result (Appends (H.state host.old).output (H.state host.new).output text.now) }
-    ensures front { Fronts (H.state host.old).output (H.state host.new).output (H.state host.old).faults (H.state host.new).faults text.now }
+    ensures whole { OnOk result (Appends (H.state host.old).output (H.state host.new).output
+        text.now) }
+    ensures front { Fronts (H.state host.old).output (H.state host.new).output
+        (H.state host.old).faults (H.state host.new).faults text.now }
     ensures cause { HasCause (H.state host.old).faults (H.state host.new).faults result }
     ensures handed { OnOk result ((H.state host.new).handed ≡ (H.state host.new).output) }
     ensures rest { IsBeside (H.state host.old) (H.state host.new) }

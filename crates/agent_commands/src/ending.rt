@@ -47,7 +47,8 @@ pub fn say_error<H: Host>(alloc: Global, host: &mut H, error: &RunError)
 
 // Why a run of `pipe` did not end well, if it did not.
 fn pipe_error(alloc: Global, dir: &str, end: PipeEnd) -> Result<Option<RunError>, AllocError>
-    ensures { IfOk result (λ error. MatchOption error (pipe_status end ≡ 0) (λ e. status_of e ≡ pipe_status end)) }
+    ensures { IfOk result (λ error. MatchOption error (pipe_status end ≡ 0)
+        (λ e. status_of e ≡ pipe_status end)) }
 {
     let error = match end {
         PipeEnd::Served(SessionEnd::End) => return Ok(None),

@@ -52,7 +52,8 @@ pub fn copied_step(alloc: Global, step: &Step) -> Result<Step, AllocError>
 
 // The same pattern of dates once more.
 fn copied_date(date: &Option<String>) -> Result<Option<String>, AllocError>
-    ensures { IfOk result (λ copy. option_map string_bytes copy ≡ option_map string_bytes date.now) }
+    ensures { IfOk result (λ copy. option_map string_bytes copy ≡ option_map string_bytes
+        date.now) }
 {
     match date {
         None => Ok(None),

@@ -84,9 +84,11 @@ fn draft_at<B: Drop>(
     requires sources { at < length sources.now }
     requires names { at < length names.now }
     requires enough { many_at sources.now at ≤ length objects.old.items }
-    ensures draft { (all : List B) → take (many_at sources.now at) objects.old.items ≡ objects_at sources.now at all
+    ensures draft { (all : List B) → take (many_at sources.now at) objects.old.items ≡ objects_at
+        sources.now at all
         → IfOk result (IsDraftAt sources.now all names.now) }
-    ensures rest { OnOk result (objects.new.items ≡ drop (many_at sources.now at) objects.old.items) }
+    ensures rest { OnOk result (objects.new.items ≡ drop (many_at sources.now at)
+        objects.old.items) }
     ensures source { IfOk result (λ draft. draft.source ≡ at) }
     ensures place { IfOk result (λ draft. draft.place ≡ place) }
 {
@@ -113,7 +115,8 @@ fn add_drafts<B: Drop>(
     ensures turns { OnOk result (map (λ draft. draft.place) drafts.new.items
         ≡ map (λ draft. draft.place) drafts.old.items ++ places_below count) }
     ensures each { (all : List B)
-        → (1 ≤ count → take (many_at sources.now at) objects.old.items ≡ objects_at sources.now at all)
+        → (1 ≤ count → take (many_at sources.now at) objects.old.items ≡ objects_at sources.now at
+        all)
         → All (IsDraftAt sources.now all names.now) drafts.old.items
         → OnOk result (All (IsDraftAt sources.now all names.now) drafts.new.items) }
     ensures rest { OnOk result (objects.new.items
@@ -177,7 +180,8 @@ pub fn draft_sources<B: Drop>(
         objects.items names.now drafts.listeners.items) }
     ensures lines { IfOk result (λ drafts. AreDrafts inputs_of plan.now.sources.items
         objects.items names.now drafts.lines.items) }
-    ensures lined { IfOk result (λ drafts. All (λ draft. TakesLines draft.rules) drafts.lines.items) }
+    ensures lined { IfOk result (λ drafts. All (λ draft. TakesLines draft.rules)
+        drafts.lines.items) }
 {
     let drafts = draft_all(alloc, plan.sources.as_slice(), names, objects)?;
     Ok(drafts)

@@ -39,7 +39,8 @@ pub fn links<B: Drop>(
 ) -> Result<Vec<LinkPlan<B>>, AllocError>
     requires { length (flat_map asks_of_step steps.now) ≤ length objects.old.items }
     ensures { IfOk result (λ links. (given : List B)
-        × (objects.old.items ≡ given ++ objects.new.items) × Deals IsLink steps.now given links.items) }
+        × (objects.old.items ≡ given ++ objects.new.items) × Deals IsLink steps.now given
+        links.items) }
 {
     let mut links = Vec::new(alloc);
     for step in steps {

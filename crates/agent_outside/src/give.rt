@@ -23,8 +23,10 @@ pub(crate) fn give_back_sink<H: Host, B: Drop>(
     requires dialed { IsDialed ⟦<AvroSink<H::Dialer> as HasDialer>⟧.dial plan.now.kind sink }
     requires out { AreOut (ends_of (dial_back ⟦<AvroSink<H::Dialer> as HasDialer>⟧.dial
         plan.now.kind sink)) (H.state host.old).dialers }
-    ensures folders { RollsBack (back_of H.Roll.rolled plan.now.kind sink) (H.folders host.old) (H.folders host.new) }
-    ensures dials { DialersBack (dial_back ⟦<AvroSink<H::Dialer> as HasDialer>⟧.dial plan.now.kind sink)
+    ensures folders { RollsBack (back_of H.Roll.rolled plan.now.kind sink) (H.folders host.old)
+        (H.folders host.new) }
+    ensures dials { DialersBack (dial_back ⟦<AvroSink<H::Dialer> as HasDialer>⟧.dial plan.now.kind
+        sink)
         (H.state host.old) (H.state host.new) }
 {
     match sink {
@@ -57,8 +59,10 @@ pub fn give_back_sinks<H: Host, B: Drop>(
     requires dialed { AreDialed ⟦<AvroSink<H::Dialer> as HasDialer>⟧.dial plans.now sinks.items }
     requires out { AreOut (ends_of (dials_back ⟦<AvroSink<H::Dialer> as HasDialer>⟧.dial
         plans.now sinks.items)) (H.state host.old).dialers }
-    ensures folders { RollsBack (backs_of H.Roll.rolled plans.now sinks.items) (H.folders host.old) (H.folders host.new) }
-    ensures dials { DialersBack (dials_back ⟦<AvroSink<H::Dialer> as HasDialer>⟧.dial plans.now sinks.items)
+    ensures folders { RollsBack (backs_of H.Roll.rolled plans.now sinks.items) (H.folders host.old)
+        (H.folders host.new) }
+    ensures dials { DialersBack (dials_back ⟦<AvroSink<H::Dialer> as HasDialer>⟧.dial plans.now
+        sinks.items)
         (H.state host.old) (H.state host.new) }
 {
     let mut left = sinks;
@@ -70,10 +74,13 @@ pub fn give_back_sinks<H: Host, B: Drop>(
 // Gives a listener back, for the address and port of a source of this kind.
 pub(crate) fn give_back_end<H: Host>(host: &mut H, kind: &SourceKind, listener: H::Listener)
     requires listens { Listens kind.now }
-    requires from { IsFrom (end_of kind.now).host (end_of kind.now).port (H.Listener.endpoint listener) }
-    requires out { IsOut (end_of kind.now).host (end_of kind.now).port (H.state host.old).listeners }
+    requires from { IsFrom (end_of kind.now).host (end_of kind.now).port
+        (H.Listener.endpoint listener) }
+    requires out { IsOut (end_of kind.now).host (end_of kind.now).port
+        (H.state host.old).listeners }
     ensures back { ListenersBack
-        (end_back H.Listener.told H.Listener.waits H.Listener.faults (end_of kind.now) listener ∷ [])
+        (end_back H.Listener.told H.Listener.waits H.Listener.faults (end_of kind.now) listener ∷
+        [])
         (H.state host.old) (H.state host.new) }
     ensures folders { H.folders host.new ≡ H.folders host.old }
 {

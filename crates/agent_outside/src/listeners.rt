@@ -14,8 +14,10 @@ fn open_end<H: Host>(host: &mut H, kind: &SourceKind) -> Result<H::Listener, Nam
     requires { Listens kind.now }
     ensures fresh { IfOk result (IsFresh H.Listener.told H.Listener.endpoint H.Listener.waits
         H.Listener.faults (end_of kind.now) (H.state host.old).listeners) }
-    ensures out { OnOk result (ListenersOut (end_of kind.now ∷ []) (H.state host.old) (H.state host.new)) }
-    ensures refused { IfErr result (λ refused. ListensRefused refused [] (H.state host.old) (H.state host.new)) }
+    ensures out { OnOk result (ListenersOut (end_of kind.now ∷ []) (H.state host.old)
+        (H.state host.new)) }
+    ensures refused { IfErr result (λ refused. ListensRefused refused [] (H.state host.old)
+        (H.state host.new)) }
     ensures folders { H.folders host.new ≡ H.folders host.old }
 {
     match kind {

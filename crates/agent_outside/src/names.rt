@@ -67,8 +67,10 @@ pub fn source_names<H: Host>(
     host: &mut H,
     source: &SourcePlan,
 ) -> Result<HostNames, NameRefused>
-    ensures told { IfOk result (AreTold (H.state host.old).name (H.state host.old).address source.now) }
-    ensures asked { IfErr result (λ refused. IsTrue (wants false source.now || wants true source.now)) }
+    ensures told { IfOk result (AreTold (H.state host.old).name (H.state host.old).address
+        source.now) }
+    ensures asked { IfErr result (λ refused. IsTrue (wants false source.now || wants true
+        source.now)) }
     ensures state { (n : ℕ) × (H.state host.new ≡ record (H.state host.old) { faults = n })
         × FaultsBy result (H.state host.old).faults n }
     ensures folders { H.folders host.new ≡ H.folders host.old }

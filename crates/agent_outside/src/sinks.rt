@@ -39,12 +39,15 @@ fn open_sink<H: Host, B: Drop>(
     ensures boxed { IfOk result (λ sink.
         IsBoxed plan.now.kind (first_of (reverse objects.old.items)) sink) }
     ensures rest { reverse objects.new.items ≡ rest_of (reverse objects.old.items) }
-    ensures out { IfOk result (λ sink. RollsOut (back_of H.Roll.rolled plan.now.kind sink) (H.folders host.old) (H.folders host.new)) }
+    ensures out { IfOk result (λ sink. RollsOut (back_of H.Roll.rolled plan.now.kind sink)
+        (H.folders host.old) (H.folders host.new)) }
     ensures dialed { IfOk result (λ sink. HasNewDial ⟦<AvroSink<H::Dialer> as HasDialer>⟧.dial
         (H.state host.old).dialers plan.now.kind sink) }
-    ensures dials { OnOk result (DialersOut (dial_of plan.now.kind) (H.state host.old) (H.state host.new)) }
+    ensures dials { OnOk result (DialersOut (dial_of plan.now.kind) (H.state host.old)
+        (H.state host.new)) }
     ensures folders { OnErr result (H.folders host.new ≡ H.folders host.old) }
-    ensures refused { IfErr result (λ refused. DialsRefused refused [] (H.state host.old) (H.state host.new)) }
+    ensures refused { IfErr result (λ refused. DialsRefused refused [] (H.state host.old)
+        (H.state host.new)) }
 {
     let object = next_object(objects);
     match &plan.kind {
@@ -83,7 +86,8 @@ fn add_sink<H: Host, B: Drop>(
     ensures added { OnOk result (SinkAdded H.Roll.rolled H.Roll.faults ⟦<AvroSink<H::Dialer> as HasDialer>⟧.dial
         plan.now (first_of (reverse objects.old.items)) (H.state host.old).dialers
         (H.folders host.old) (H.folders host.new) sinks.old.items sinks.new.items) }
-    ensures dials { OnOk result (DialersOut (dial_of plan.now.kind) (H.state host.old) (H.state host.new)) }
+    ensures dials { OnOk result (DialersOut (dial_of plan.now.kind) (H.state host.old)
+        (H.state host.new)) }
     ensures same { OnErr result (sinks.new.items ≡ sinks.old.items) }
     ensures refused { IfErr result (λ refused. SinkUnopened plan.now refused
         (H.folders host.old) (H.folders host.new) (H.state host.old) (H.state host.new)) }
@@ -112,7 +116,8 @@ pub fn open_sinks<H: Host, B: Drop>(
 ) -> Result<Vec<AgentSink<H::Roll, AvroSink<H::Dialer>, B>>, NameRefused>
     requires { HaveObjects plans.now (reverse objects.items) }
     ensures many { IfOk result (λ sinks. length sinks.items ≡ length plans.now) }
-    ensures opened { IfOk result (λ sinks. SinksOpened H.Roll.rolled H.Roll.faults plans.now (H.folders host.old) (H.folders host.new) sinks.items) }
+    ensures opened { IfOk result (λ sinks. SinksOpened H.Roll.rolled H.Roll.faults plans.now
+        (H.folders host.old) (H.folders host.new) sinks.items) }
     ensures dialed { IfOk result (λ sinks. DialsOpened ⟦<AvroSink<H::Dialer> as HasDialer>⟧.dial
         plans.now (H.state host.old) (H.state host.new) sinks.items) }
     ensures boxed { IfOk result (λ sinks. AreBoxed plans.now (reverse objects.items) sinks.items) }

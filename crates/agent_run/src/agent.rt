@@ -207,7 +207,8 @@ fn give_rest<H: Host, B: EventSink>(
     ensures drains { result.drains ≡ settled.ends }
     ensures mends { result.mends ≡ settled.mends }
     ensures back { IsGivenBack H.Roll.rolled
-        ⟦<AvroSink<H::Dialer> as HasDialer>⟧.dial H.Disk.told H.Disk.faults plans.now rows.now wishes.items settled
+        ⟦<AvroSink<H::Dialer> as HasDialer>⟧.dial H.Disk.told H.Disk.faults plans.now rows.now
+        wishes.items settled
         streams.output_failed result.report
         (record { state = H.state host.old; folders = H.folders host.old })
         (record { state = H.state host.new; folders = H.folders host.new }) }
@@ -268,7 +269,8 @@ fn run_channels<
     requires have { HaveObjects plan.now.sinks.items (reverse objects.items) }
     requires opened { WereOpened prepared.wishes.items opened.items }
     requires out { AreOut (H.folders host.old) prepared.wishes.items }
-    requires room { HasRoomFor plan.now (length prepared.keepers.items) (length rows.now) (length prepared.listeners.items) (length prepared.lines.items) room }
+    requires room { HasRoomFor plan.now (length prepared.keepers.items) (length rows.now)
+        (length prepared.listeners.items) (length prepared.lines.items) room }
     ensures refused { IfErr result (λ error. IsRefusedOutside plan.now prepared.places.items
         prepared.wishes.items opened.items error
         (record { state = H.state host.old; folders = H.folders host.old })
@@ -277,7 +279,8 @@ fn run_channels<
         (λ old new outside. HasRunners (λ sinks. IsOutside H.Roll.rolled H.Roll.faults
         ⟦<AvroSink<H::Dialer> as HasDialer>⟧.dial
         (IsFresh H.Listener.told H.Listener.endpoint H.Listener.waits H.Listener.faults)
-        plan.now (reverse objects.items) prepared.places.items old new sinks outside.listeners.items)
+        plan.now (reverse objects.items) prepared.places.items old new sinks
+        outside.listeners.items)
         plan.now.groups.items rows.now outside.sinks.items)
         (⟦<RunOf<'a, R, H, K, B> as Goes<OpeningOf<H, K, B>>>⟧.goes plan.now rows.now)
         run.ends run.channels.items
@@ -473,7 +476,8 @@ fn end_plan<
     requires steps { length objects.steps.items ≡ length (step_asks plan.now.sources.items) }
     requires have { HaveObjects plan.now.sinks.items (reverse objects.sinks.items) }
     ensures ends { IsRunStatus result.status }
-    ensures ran { EndsAs (⟦<RunOf<'a, R, H, K, B> as Runs<K, B>>⟧.ran objects.steps.items (reverse objects.sinks.items))
+    ensures ran { EndsAs (⟦<RunOf<'a, R, H, K, B> as Runs<K, B>>⟧.ran objects.steps.items
+        (reverse objects.sinks.items))
         plan.now result.status result.channels.items
         (record { state = H.state host.old; folders = H.folders host.old })
         (record { state = H.state host.new; folders = H.folders host.new }) }

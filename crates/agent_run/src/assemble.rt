@@ -113,7 +113,8 @@ pub(crate) fn crew_of<
 ) -> Crew<A, B, S, N, I, O, C, K>
     requires opened { WereOpened wishes.now opened.items }
     requires parts { ArePartsOf plans.now parts }
-    requires used { AreUsed wishes.now (uses_of parts.keepers.items plans.now parts.listeners.items parts.lines.items) }
+    requires used { AreUsed wishes.now (uses_of parts.keepers.items plans.now parts.listeners.items
+        parts.lines.items) }
     requires folders { AreWantedInFolders wishes.now parts.keepers.items }
     requires fit { AreFit (length wishes.now) parts }
     requires shares { IsEmptyFor (length opened.items) shares }

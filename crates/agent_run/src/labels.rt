@@ -137,7 +137,8 @@ fn users_of<K, C>(
     listeners: &[Seat<K, C>],
     lines: &[Seat<K, C>],
 ) -> Result<Vec<User>, AllocError>
-    ensures { IfOk result (λ users. map user_of users.items ≡ users_of plan.now keepers.now rows.now listeners.now lines.now) }
+    ensures { IfOk result (λ users. map user_of users.items ≡ users_of plan.now keepers.now rows.now
+        listeners.now lines.now) }
 {
     let mut users = Vec::new(alloc);
     let sources = plan.sources.as_slice();
@@ -151,7 +152,8 @@ fn users_of<K, C>(
 // Adds those of them that use the channel at a place: the last of them first, as it gets the first number.
 fn add_entries(users: &[User], place: usize, workers: &mut Vec<Worker>) -> Result<(), AllocError>
     requires none { workers.old.items ≡ [] }
-    ensures { OnOk result (map entry_of workers.new.items ≡ entries_at place (map user_of users.now)) }
+    ensures { OnOk result (map entry_of workers.new.items ≡ entries_at place
+        (map user_of users.now)) }
 {
     let Some((user, others)) = users.split_first() else {
         return Ok(());
@@ -199,7 +201,8 @@ pub(crate) fn labels_of<K, C>(
     listeners: &[Seat<K, C>],
     lines: &[Seat<K, C>],
 ) -> Result<Vec<ChannelLabel>, AllocError>
-    ensures { IfOk result (λ labels. AreLabels (users_of plan.now keepers.now rows.now listeners.now lines.now) 0
+    ensures { IfOk result (λ labels. AreLabels (users_of plan.now keepers.now rows.now listeners.now
+        lines.now) 0
         plan.now.channels.items labels.items) }
 {
     let users = users_of(alloc, plan, keepers, rows, listeners, lines)?;

@@ -20,7 +20,8 @@ fn rooms_of_listeners<'a, R: Wait + 'a, A: Channel + 'a, B: Channel + 'a, N, C, 
     alloc: Global,
     jobs: &[ListenWorker<Pass, N, C, K>],
 ) -> Result<Vec<Vec<EitherPort<'a, R, A, B>>>, AllocError>
-    ensures { IfOk result (λ rooms. Zips (λ job room. HasRoom job.ports.items room) jobs.now rooms.items) }
+    ensures { IfOk result (λ rooms. Zips (λ job room. HasRoom job.ports.items room) jobs.now
+        rooms.items) }
 {
     let mut rooms = Vec::with_capacity(alloc, jobs.len())?;
     for job in jobs {
@@ -35,7 +36,8 @@ fn rooms_of_lines<'a, R: Wait + 'a, A: Channel + 'a, B: Channel + 'a, I, O, C, K
     alloc: Global,
     jobs: &[LineWorker<Pass, I, O, C, K>],
 ) -> Result<Vec<Vec<EitherPort<'a, R, A, B>>>, AllocError>
-    ensures { IfOk result (λ rooms. Zips (λ job room. HasRoom job.ports.items room) jobs.now rooms.items) }
+    ensures { IfOk result (λ rooms. Zips (λ job room. HasRoom job.ports.items room) jobs.now
+        rooms.items) }
 {
     let mut rooms = Vec::with_capacity(alloc, jobs.len())?;
     for job in jobs {

@@ -28,11 +28,13 @@ fn run_four<
         rt,
         &mut ||
             requires { All A.ready first.now × All B.ready second.now }
-            ensures { EachRan A.ran first.entry.now first.exit.now × EachRan B.ran second.entry.now second.exit.now }
+            ensures { EachRan A.ran first.entry.now first.exit.now × EachRan B.ran second.entry.now
+                second.exit.now }
         { run_rows(rt, stop, first, second) },
         &mut ||
             requires { All D.ready third.now × All L.ready last.now }
-            ensures { EachRan D.ran third.entry.now third.exit.now × EachRan L.ran last.entry.now last.exit.now }
+            ensures { EachRan D.ran third.entry.now third.exit.now × EachRan L.ran last.entry.now
+                last.exit.now }
         { run_rows(rt, stop, third, last) },
     );
 }
@@ -72,9 +74,12 @@ fn run_five<
             ensures { EachRan E.ran kept.entry.now kept.exit.now }
         { run_row(rt, stop, kept) },
         &mut ||
-            requires { (All A.ready first.now × All B.ready second.now) × (All D.ready third.now × All L.ready last.now) }
-            ensures { (EachRan A.ran first.entry.now first.exit.now × EachRan B.ran second.entry.now second.exit.now)
-                × (EachRan D.ran third.entry.now third.exit.now × EachRan L.ran last.entry.now last.exit.now) }
+            requires { (All A.ready first.now × All B.ready second.now) ×
+                (All D.ready third.now × All L.ready last.now) }
+            ensures { (EachRan A.ran first.entry.now first.exit.now × EachRan B.ran second.entry.now
+                second.exit.now)
+                × (EachRan D.ran third.entry.now third.exit.now × EachRan L.ran last.entry.now
+                last.exit.now) }
         { run_four(rt, stop, first, second, third, last) },
     );
 }

@@ -160,7 +160,8 @@ pub fn run_agent<
     ensures usage { result.status ≡ 1 → IsNoCommand (texts words.now) }
     ensures no_command { IsNoCommand (texts words.now) → (result.status ≡ 1) ⊎ (result.status ≡ 5) }
     ensures nothing { IsNoCommand (texts words.now) → H.state host.new ≡ H.state host.old }
-    ensures nothing_opened { IsNoCommand (texts words.now) → H.folders host.new ≡ H.folders host.old }
+    ensures nothing_opened { IsNoCommand (texts words.now) → H.folders host.new ≡ H.folders
+        host.old }
 
     // What `pipe` read, wrote and stored, and when each status comes; and the folder's channel, once it was opened and shared, with
     // the lines' put transactions in the history of its pass.
@@ -168,15 +169,19 @@ pub fn run_agent<
         → PipeRan dir result.status result.channels.items
         (record { state = H.state host.old; folders = H.folders host.old })
         (record { state = H.state host.new; folders = H.folders host.new }) }
-    ensures pipe_statuses { (dir : List ℕ) → IsPipe (texts words.now) dir → IsPipeStatus result.status }
-    ensures others { (dir : List ℕ) → IsPipe (texts words.now) dir → ButDisk dir (H.folders host.old) (H.folders host.new) }
+    ensures pipe_statuses { (dir : List ℕ) → IsPipe (texts words.now) dir → IsPipeStatus
+        result.status }
+    ensures others { (dir : List ℕ) → IsPipe (texts words.now) dir → ButDisk dir
+        (H.folders host.old) (H.folders host.new) }
 
     // What `check` found in the file and wrote, and when each status comes.
     ensures checked { (agent file : List ℕ) → IsCheck (texts words.now) agent file
         → Checked (lacking plugins)
         ((H.state host.old).files file) agent (H.state host.old) (H.state host.new) result.status }
-    ensures check_statuses { (agent file : List ℕ) → IsCheck (texts words.now) agent file → IsCheckStatus result.status }
-    ensures unopened { (agent file : List ℕ) → IsCheck (texts words.now) agent file → H.folders host.new ≡ H.folders host.old }
+    ensures check_statuses { (agent file : List ℕ) → IsCheck (texts words.now) agent file →
+        IsCheckStatus result.status }
+    ensures unopened { (agent file : List ℕ) → IsCheck (texts words.now) agent file → H.folders
+        host.new ≡ H.folders host.old }
 
     // What `load` called, wrote and left of its folder, and when each status comes; and the folder's channel, once it was opened and shared,
     // with the generator's calls as the history of its pass.
@@ -184,8 +189,10 @@ pub fn run_agent<
         → LoadRan n dir result.status result.channels.items
         (record { state = H.state host.old; folders = H.folders host.old })
         (record { state = H.state host.new; folders = H.folders host.new }) }
-    ensures load_statuses { (n : ℕ) (dir : List ℕ) → IsLoad (texts words.now) n dir → IsLoadStatus result.status }
-    ensures load_others { (n : ℕ) (dir : List ℕ) → IsLoad (texts words.now) n dir → ButDisk dir (H.folders host.old) (H.folders host.new) }
+    ensures load_statuses { (n : ℕ) (dir : List ℕ) → IsLoad (texts words.now) n dir → IsLoadStatus
+        result.status }
+    ensures load_others { (n : ℕ) (dir : List ℕ) → IsLoad (texts words.now) n dir → ButDisk dir
+        (H.folders host.old) (H.folders host.new) }
 
     // What the configuration file of `agent` holds where the status is 2, and which statuses come.
     ensures agent { (name file : List ℕ) → IsAgent (texts words.now) name file
@@ -212,7 +219,8 @@ pub fn run_agent<
 
     // But by `agent` no folder of rolled files was opened, and each is as before.
     ensures rolls { ((name file : List ℕ) → ¬ IsAgent (texts words.now) name file)
-        → ((H.folders host.new).rolls ≡ (H.folders host.old).rolls) × ((H.folders host.new).roll_opened ≡ (H.folders host.old).roll_opened) }
+        → ((H.folders host.new).rolls ≡ (H.folders host.old).rolls) ×
+        ((H.folders host.new).roll_opened ≡ (H.folders host.old).roll_opened) }
 {
     let mut handed = plugins;
     match read_words(alloc, words) {

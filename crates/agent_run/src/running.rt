@@ -151,7 +151,8 @@ fn run_in<
     ensures home { All (IsSinkHome homes.new) returned.new.sinks.items }
     ensures listeners { Zips (IsListenTold K.intercepts C.moments (heard_of N.told N.faults N.waits)
         shares.now homes.new) jobs.listeners.items returned.new.listeners.items }
-    ensures lines { Zips (IsLineTold K.intercepts C.moments (talk_of I.left I.faults O.took O.handed O.faults)
+    ensures lines { Zips (IsLineTold K.intercepts C.moments
+        (talk_of I.left I.faults O.took O.handed O.faults)
         shares.now homes.new) jobs.lines.items returned.new.lines.items }
 {
     let Workers {
@@ -222,9 +223,11 @@ pub fn run_workers<
         ⟦<DrainWorker<I> as Work>⟧.ran
         ⟦<LineWorker<EitherPort<'a, R, A, B>, I, O, C, K> as Work>⟧.ran)
         shares.now homes.new jobs returned.new) }
-    ensures sinks { OnOk result (Zips (IsSinkTold (told S.delivers S.faults) C.moments shares.now homes.new)
+    ensures sinks { OnOk result (Zips (IsSinkTold (told S.delivers S.faults) C.moments shares.now
+        homes.new)
         jobs.sinks.items returned.new.sinks.items) }
-    ensures listeners { OnOk result (Zips (IsListenTold K.intercepts C.moments (heard_of N.told N.faults N.waits)
+    ensures listeners { OnOk result (Zips (IsListenTold K.intercepts C.moments
+        (heard_of N.told N.faults N.waits)
         shares.now homes.new) jobs.listeners.items returned.new.listeners.items) }
     ensures lines { OnOk result (Zips (IsLineTold K.intercepts C.moments
         (talk_of I.left I.faults O.took O.handed O.faults)

@@ -48,9 +48,11 @@ pub fn nothing_failed<
     K: Interceptor,
 >()
     ensures { NothingFailed (told S.delivers S.faults) K.intercepts C.moments
-        (heard_of N.told N.faults N.waits) (talk_of I.left I.faults O.took O.handed O.faults) D.told D.faults
+        (heard_of N.told N.faults N.waits) (talk_of I.left I.faults O.took O.handed O.faults) D.told
+        D.faults
         ⟦<FileChannel<D> as Channel>⟧.tells ⟦<FileChannel<D> as Channel>⟧.moment
-        ⟦<FileChannel<D> as Durable>⟧.is_laid ⟦<FileChannel<D> as Durable>⟧.is_pruned M.stands M.tells }
+        ⟦<FileChannel<D> as Durable>⟧.is_laid ⟦<FileChannel<D> as Durable>⟧.is_pruned M.stands
+        M.tells }
 {}
 
 /// Of a run as [`run_agent`](crate::run_agent) tells of it: where the host's count of the faults of disks did not rise, nothing failed in
@@ -66,13 +68,16 @@ pub fn runs_are_sound<
 >()
     ensures undisturbed { (given : List K) (objects : List (Option B)) (plan : Plan)
         (ends : RunEnds) (channels : List ChannelEnd) (a b : HostTold) → IsPlanned plan
-        → (did : ⟦<RunOf<'a, R, H, K, B> as Runs<K, B>>⟧.ran given objects plan ends channels a b) → IsUndisturbedRun did }
+        → (did : ⟦<RunOf<'a, R, H, K, B> as Runs<K, B>>⟧.ran given objects plan ends channels a b) →
+        IsUndisturbedRun did }
     ensures well { (given : List K) (objects : List (Option B)) (plan : Plan)
         (ends : RunEnds) (channels : List ChannelEnd) (a b : HostTold) → IsPlanned plan
-        → (did : ⟦<RunOf<'a, R, H, K, B> as Runs<K, B>>⟧.ran given objects plan ends channels a b) → IsWellRun did }
+        → (did : ⟦<RunOf<'a, R, H, K, B> as Runs<K, B>>⟧.ran given objects plan ends channels a b) →
+        IsWellRun did }
     ensures sound { (given : List K) (objects : List (Option B)) (plan : Plan)
         (ends : RunEnds) (channels : List ChannelEnd) (a b : HostTold) → IsPlanned plan
-        → (did : ⟦<RunOf<'a, R, H, K, B> as Runs<K, B>>⟧.ran given objects plan ends channels a b) → IsSoundRun did }
+        → (did : ⟦<RunOf<'a, R, H, K, B> as Runs<K, B>>⟧.ran given objects plan ends channels a b) →
+        IsSoundRun did }
 {
     dialogues_are_sound::<FileChannel<H::Disk>, MemoryChannel, H::Source, H::Sink, H::Clock, K>();
     nothing_failed::<

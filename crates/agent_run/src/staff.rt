@@ -29,7 +29,8 @@ pub(crate) fn staff_keepers<C: Drop>(
     requires enough { Suffice (hands_of hands.old) (map (λ seat. seat.channel) seats.items) }
     requires none { jobs.old.items ≡ [] }
     requires room { length seats.items ≤ vec_capacity jobs.old }
-    ensures dealt { DealsEach keep_channels keep_ports (hands_of hands.old) jobs.new.items (hands_of hands.new) }
+    ensures dealt { DealsEach keep_channels keep_ports (hands_of hands.old) jobs.new.items
+        (hands_of hands.new) }
     ensures of { Zips IsKeepOf seats.items jobs.new.items }
     ensures room { vec_capacity jobs.old ≤ vec_capacity jobs.new }
 {
@@ -68,7 +69,8 @@ pub(crate) fn staff_sinks<S: Drop, C: Drop>(
     requires enough { Suffice (hands_of hands.old) (map (λ plan. plan.channel) plans.now) }
     requires none { jobs.old.items ≡ [] }
     requires room { length plans.now ≤ vec_capacity jobs.old }
-    ensures dealt { DealsEach sink_channels sink_ports (hands_of hands.old) jobs.new.items (hands_of hands.new) }
+    ensures dealt { DealsEach sink_channels sink_ports (hands_of hands.old) jobs.new.items
+        (hands_of hands.new) }
     ensures of { Zips IsSinkOf plans.now jobs.new.items }
     ensures sinks { map (λ job. job.sink) jobs.new.items ≡ sinks.items }
     ensures room { vec_capacity jobs.old ≤ vec_capacity jobs.new }
@@ -105,7 +107,8 @@ fn staff_listener<N: Drop, C: Drop, K: Drop>(
 ) -> ListenWorker<Pass, N, C, K>
     requires room { IsRoomy seat }
     requires enough { Suffice (hands_of hands.old) (seat_channels seat) }
-    ensures dealt { Deals (hands_of hands.old) (listen_channels result) (listen_ports result) (hands_of hands.new) }
+    ensures dealt { Deals (hands_of hands.old) (listen_channels result) (listen_ports result)
+        (hands_of hands.new) }
     ensures of { IsListenOf seat result }
     ensures listener { result.listener ≡ listener }
 {
@@ -153,7 +156,8 @@ pub(crate) fn staff_listeners<N: Drop, C: Drop, K: Drop>(
     requires enough { Suffice (hands_of hands.old) (flat_map seat_channels seats.items) }
     requires none { jobs.old.items ≡ [] }
     requires room { length seats.items ≤ vec_capacity jobs.old }
-    ensures dealt { DealsEach listen_channels listen_ports (hands_of hands.old) jobs.new.items (hands_of hands.new) }
+    ensures dealt { DealsEach listen_channels listen_ports (hands_of hands.old) jobs.new.items
+        (hands_of hands.new) }
     ensures of { Zips IsListenOf seats.items jobs.new.items }
     ensures listeners { map (λ job. job.listener) jobs.new.items ≡ listeners.items }
     ensures room { vec_capacity jobs.old ≤ vec_capacity jobs.new }
@@ -180,7 +184,8 @@ fn staff_line<I: Drop, O: Drop, C: Drop, K: Drop>(
     requires room { IsRoomy seat }
     requires lines { TakesLines seat.draft.rules }
     requires enough { Suffice (hands_of hands.old) (seat_channels seat) }
-    ensures dealt { Deals (hands_of hands.old) (line_channels result) (line_ports result) (hands_of hands.new) }
+    ensures dealt { Deals (hands_of hands.old) (line_channels result) (line_ports result)
+        (hands_of hands.new) }
     ensures of { IsLineOf seat result }
     ensures talk { own_talk result ≡ talk }
 {
@@ -235,7 +240,8 @@ pub(crate) fn staff_lines<I: Drop, O: Drop, C: Drop, K: Drop>(
     requires enough { Suffice (hands_of hands.old) (flat_map seat_channels seats.items) }
     requires none { jobs.old.items ≡ [] }
     requires room { length seats.items ≤ vec_capacity jobs.old }
-    ensures dealt { DealsEach line_channels line_ports (hands_of hands.old) jobs.new.items (hands_of hands.new) }
+    ensures dealt { DealsEach line_channels line_ports (hands_of hands.old) jobs.new.items
+        (hands_of hands.new) }
     ensures of { Zips IsLineOf seats.items jobs.new.items }
     ensures talks { map (λ job. own_talk job) jobs.new.items ≡ talks.items }
     ensures room { vec_capacity jobs.old ≤ vec_capacity jobs.new }

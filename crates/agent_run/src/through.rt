@@ -48,7 +48,8 @@ pub trait Steps<K, B> {
 /// How a run goes on once all of it is opened, `P`.
 pub(crate) trait Goes<P> {
     /// The run of this plan, with these rows of sinks, went on from what was opened to these ends and channels.
-    ghost goes: { Plan → List SinkRow → P → RunEnds → List ChannelEnd → HostTold → HostTold → Type 0 };
+    ghost goes: { Plan → List SinkRow → P → RunEnds → List ChannelEnd → HostTold → HostTold → Type
+        0 };
 }
 
 /// Runs over a runtime and a host, with interceptors and sinks of these types that were handed in. There is none of it: it names what their
@@ -129,7 +130,8 @@ impl<
         ⟦<FileChannel<H::Disk> as Channel>⟧.tells
         ⟦<MemoryChannel as Channel>⟧.stands ⟦<MemoryChannel as Channel>⟧.tells))
         (IsGivenBack H.Roll.rolled
-        ⟦<AvroSink<H::Dialer> as HasDialer>⟧.dial H.Disk.told H.Disk.faults plan.sinks.items rows) };
+        ⟦<AvroSink<H::Dialer> as HasDialer>⟧.dial H.Disk.told H.Disk.faults plan.sinks.items
+        rows) };
 }
 
 impl<

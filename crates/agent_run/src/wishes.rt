@@ -31,7 +31,8 @@ pub(crate) fn uses_of<K, C>(
     listeners: &[Seat<K, C>],
     lines: &[Seat<K, C>],
 ) -> Result<Vec<u32>, AllocError>
-    ensures { IfOk result (λ uses. uses.items ≡ uses_of keepers.now sinks.now listeners.now lines.now) }
+    ensures { IfOk result (λ uses. uses.items ≡ uses_of keepers.now sinks.now listeners.now
+        lines.now) }
 {
     let mut uses = Vec::new(alloc);
     for keeper in keepers {

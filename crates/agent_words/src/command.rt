@@ -68,7 +68,9 @@ fn load(alloc: Global, words: &[String]) -> Result<Option<Command>, NoMemory>
 
 /// The name and the file that the options give, as texts of their own.
 fn asked(alloc: Global, words: &[String]) -> Result<Option<(String, String)>, NoMemory>
-    ensures { IfOk result (λ found. MatchOption found ((name file : List ℕ) → ¬ AreOptions (texts words.now) name file) (λ both. AreOptions (texts words.now) (string_bytes both.0) (string_bytes both.1))) }
+    ensures { IfOk result (λ found. MatchOption found ((name file : List ℕ) → ¬ AreOptions
+        (texts words.now) name file) (λ both. AreOptions (texts words.now) (string_bytes both.0)
+        (string_bytes both.1))) }
 {
     match options(words) {
         Some((name, file)) => Ok(Some((

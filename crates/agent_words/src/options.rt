@@ -29,8 +29,11 @@ impl<'a> Asked<'a> {
     /// Takes a value.
     fn with(self, flag: Flag, value: &'a str, rest: &'a [String]) -> Option<Asked<'a>>
         ensures { (word : List ℕ) → flag_of word ≡ Some flag → flag ≢ flags.Define
-            → MatchOption result ((name file : List ℕ) → ¬ GoOn (held self.entry.name) (held self.entry.file) (word ∷ value.now ∷ texts rest.now) name file)
-            (λ next. ((name file : List ℕ) → GoOn (held self.entry.name) (held self.entry.file) (word ∷ value.now ∷ texts rest.now) name file ↔ Asks next name file) × (next.rest.now ≡ rest.now)) }
+            → MatchOption result ((name file : List ℕ) → ¬ GoOn (held self.entry.name)
+            (held self.entry.file) (word ∷ value.now ∷ texts rest.now) name file)
+            (λ next. ((name file : List ℕ) → GoOn (held self.entry.name) (held self.entry.file)
+            (word ∷ value.now ∷ texts rest.now) name file ↔ Asks next name file) ×
+            (next.rest.now ≡ rest.now)) }
     {
         match flag {
             Flag::Name if self.name.is_none() && is_name(value) => Some(Asked {
@@ -52,7 +55,8 @@ impl<'a> Asked<'a> {
     fn step(self) -> Option<Asked<'a>>
         requires { self.rest.now ≢ [] }
         ensures { MatchOption result ((name file : List ℕ) → ¬ Asks self.entry name file)
-            (λ next. ((name file : List ℕ) → Asks self.entry name file ↔ Asks next name file) × (length next.rest.now < length self.entry.rest.now)) }
+            (λ next. ((name file : List ℕ) → Asks self.entry name file ↔ Asks next name file) ×
+            (length next.rest.now < length self.entry.rest.now)) }
     {
         let flag = flag_of(self.rest[0].as_str())?;
         if flag == Flag::Define {
@@ -71,7 +75,8 @@ impl<'a> Asked<'a> {
 
 /// The name and the file that the options give.
 pub fn options(words: &[String]) -> Option<(&str, &str)>
-    ensures { MatchOption result ((name file : List ℕ) → ¬ AreOptions (texts words.now) name file) (λ found. AreOptions (texts words.now) found.0.now found.1.now) }
+    ensures { MatchOption result ((name file : List ℕ) → ¬ AreOptions (texts words.now) name file)
+        (λ found. AreOptions (texts words.now) found.0.now found.1.now) }
 {
     let mut asked = Asked {
         name: None,

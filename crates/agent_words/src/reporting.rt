@@ -37,7 +37,8 @@ fn add(
     name: &str,
     counts: &Counts,
 ) -> Result<(), NoMemory>
-    ensures { OnOk result (members_view members.new.entries ≡ put (codes "CHANNEL." ++ name.now) (counters counts.now) (members_view members.old.entries)) }
+    ensures { OnOk result (members_view members.new.entries ≡ put (codes "CHANNEL." ++ name.now)
+        (counters counts.now) (members_view members.old.entries)) }
 {
     let key = format!(in alloc; "CHANNEL.{name}")?;
     let value = counters(alloc, counts)?;

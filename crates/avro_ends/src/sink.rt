@@ -85,7 +85,8 @@ fn leave<L: Link + Drop, D: Dials<L>>(
 )
     requires owed { IsOwed (D.told dialer.old) }
     requires none { opened.old ≡ None }
-    ensures leaves { StaysOrWentBack D.told D.faults L.told L.faults (stays answer serial) serial dialer.old
+    ensures leaves { StaysOrWentBack D.told D.faults L.told L.faults (stays answer serial) serial
+        dialer.old
         link (record { dialer = dialer.new; opened = opened.new }) }
     ensures stands { Stands (D.told dialer.new) opened.new }
     ensures back { IsOut (D.told dialer.old) → HasBack (D.told dialer.new) opened.new }
@@ -201,7 +202,8 @@ impl<D: Dialer + Drop> AvroSink<D> {
     /// Hands the dialer back, which has the open link back.
     #[tactic(auto, using(crate::proofs::Closing::closed_tells, crate::proofs::Closing::closed_counts))]
     pub fn close(self) -> D
-        ensures shuts { OpenWentBack D.told D.faults D.Link.told D.Link.faults self.dialer self.opened
+        ensures shuts { OpenWentBack D.told D.faults D.Link.told D.Link.faults self.dialer
+            self.opened
             (record { dialer = result; opened = None }) }
         ensures told { D.told result ≡ closed_links D.told D.Link.told self.dialer self.opened }
         ensures count { D.faults result ≡ D.faults self.dialer }

@@ -87,7 +87,8 @@ fn is_batch_request(d: &Value) -> bool
 }
 
 fn has_append_request(d: &Value) -> bool
-    ensures { result ≡ spec.has (codes "request") (spec.is_request (codes "event") spec.is_event_type) (view d.now) }
+    ensures { result ≡ spec.has (codes "request") (spec.is_request (codes "event")
+        spec.is_event_type) (view d.now) }
 {
     match member(d, "request") {
         Some(request) => is_append_request(request),
@@ -96,7 +97,8 @@ fn has_append_request(d: &Value) -> bool
 }
 
 fn has_batch_request(d: &Value) -> bool
-    ensures { result ≡ spec.has (codes "request") (spec.is_request (codes "events") spec.is_events_type) (view d.now) }
+    ensures { result ≡ spec.has (codes "request") (spec.is_request (codes "events")
+        spec.is_events_type) (view d.now) }
 {
     match member(d, "request") {
         Some(request) => is_batch_request(request),
@@ -158,7 +160,8 @@ fn has_type_at(d: &Value, name: &str, sought: Sought) -> bool
 }
 
 fn has_parameter_type(d: &Value, sought: Sought) -> bool
-    ensures { result ≡ spec.has (codes "request") (spec.has_field_type (is_sought sought)) (view d.now) }
+    ensures { result ≡ spec.has (codes "request") (spec.has_field_type (is_sought sought))
+        (view d.now) }
 {
     match member(d, "request") {
         Some(request) => has_field_type(request, sought),
@@ -176,7 +179,8 @@ fn has_in_message(d: &Value, name: &str, sought: Sought) -> bool
 }
 
 fn has_in_messages(d: &Value, sought: Sought) -> bool
-    ensures { result ≡ spec.has (codes "messages") (spec.has_in_messages (is_sought sought)) (view d.now) }
+    ensures { result ≡ spec.has (codes "messages") (spec.has_in_messages (is_sought sought))
+        (view d.now) }
 {
     match member(d, "messages") {
         Some(messages) => {

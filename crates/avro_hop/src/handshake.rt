@@ -89,7 +89,8 @@ pub fn text_at(bytes: &[u8], at: usize) -> Result<(&str, usize), ValueRefused>
 /// A text or null at the offset, and the offset after it.
 pub fn text_option_at(bytes: &[u8], at: usize) -> Result<(Option<&str>, usize), ValueRefused>
     requires { at ≤ length bytes.now }
-    ensures { Reads (option_map (λ s. s.now)) (IsOption IsText) (OptionFault TextFault) bytes.now at result }
+    ensures { Reads (option_map (λ s. s.now)) (IsOption IsText) (OptionFault TextFault) bytes.now at
+        result }
 {
     let (some, behind) = index_at(bytes, at)?;
     if !some {
@@ -175,7 +176,8 @@ fn add_own(hash: &[u8; 16], out: &mut Vec<u8>) -> Result<(), NoMemory>
 }
 
 fn add_nulls(out: &mut Vec<u8>) -> Result<(), NoMemory>
-    ensures { OnOk result (out.new.items ≡ out.old.items ++ (written_null ++ (written_null ++ written_null))) }
+    ensures { OnOk result (out.new.items ≡ out.old.items ++
+        (written_null ++ (written_null ++ written_null))) }
 {
     write_int(0, out)?;
     write_int(0, out)?;

@@ -8,14 +8,16 @@ use serde_json::{Map, Value};
 
 /// The member of this name.
 pub fn member<'a>(d: &'a Value, name: &str) -> Option<&'a Value>
-    ensures { MatchOption result (get name.now (view d.now) ≡ None) (λ v. get name.now (view d.now) ≡ Some (view v.now)) }
+    ensures { MatchOption result (get name.now (view d.now) ≡ None)
+        (λ v. get name.now (view d.now) ≡ Some (view v.now)) }
 {
     d.get(name)
 }
 
 /// The item at this place.
 pub fn item_at(d: &Value, i: usize) -> Option<&Value>
-    ensures { MatchOption result (at i (view d.now) ≡ None) (λ v. at i (view d.now) ≡ Some (view v.now)) }
+    ensures { MatchOption result (at i (view d.now) ≡ None)
+        (λ v. at i (view d.now) ≡ Some (view v.now)) }
 {
     d.get(i)
 }
@@ -63,13 +65,15 @@ pub fn is_array_of(d: &Value, n: usize) -> bool
 
 /// The items of an array.
 pub fn items_of(d: &Value) -> Option<&Vec<Value>>
-    ensures { MatchOption result (as_array (view d.now) ≡ None) (λ v. as_array (view d.now) ≡ Some (items_view v.now.items)) }
+    ensures { MatchOption result (as_array (view d.now) ≡ None)
+        (λ v. as_array (view d.now) ≡ Some (items_view v.now.items)) }
 {
     d.as_array()
 }
 
 fn members_of(d: &Value) -> Option<&Map<String, Value>>
-    ensures { MatchOption result (as_object (view d.now) ≡ None) (λ m. as_object (view d.now) ≡ Some (members_view m.now.entries)) }
+    ensures { MatchOption result (as_object (view d.now) ≡ None)
+        (λ m. as_object (view d.now) ≡ Some (members_view m.now.entries)) }
 {
     d.as_object()
 }

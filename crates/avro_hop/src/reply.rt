@@ -27,7 +27,8 @@ fn agreed_at(bytes: &[u8], at: usize) -> Result<(Match, usize), ValueRefused>
 
 fn hash_option_at(bytes: &[u8], at: usize) -> Result<(Option<&[u8]>, usize), ValueRefused>
     requires { at ≤ length bytes.now }
-    ensures { Reads (option_map (λ s. s.now)) (IsOption IsFixed) (OptionFault FixedFault) bytes.now at result }
+    ensures { Reads (option_map (λ s. s.now)) (IsOption IsFixed) (OptionFault FixedFault) bytes.now
+        at result }
 {
     let (some, behind) = index_at(bytes, at)?;
     if !some {

@@ -65,7 +65,8 @@ fn has_headers_type(d: &Value) -> bool
 }
 
 fn has_headers_field(d: &Value) -> bool
-    ensures { result ≡ spec.has_at 0 (spec.is_field (codes "headers") spec.is_headers_type) (view d.now) }
+    ensures { result ≡ spec.has_at 0 (spec.is_field (codes "headers") spec.is_headers_type)
+        (view d.now) }
 {
     match item_at(d, 0) {
         Some(field) => has_text(field, "name", "headers") && has_headers_type(field),
@@ -74,7 +75,8 @@ fn has_headers_field(d: &Value) -> bool
 }
 
 fn has_body_field(d: &Value) -> bool
-    ensures { result ≡ spec.has_at 1 (spec.is_field (codes "body") (spec.is_text (codes "bytes"))) (view d.now) }
+    ensures { result ≡ spec.has_at 1 (spec.is_field (codes "body") (spec.is_text (codes "bytes")))
+        (view d.now) }
 {
     match item_at(d, 1) {
         Some(field) => has_text(field, "name", "body") && has_text(field, "type", "bytes"),
@@ -221,7 +223,8 @@ fn has_type_in_items(items: &Vec<Value>, sought: Sought) -> bool
 
 #[cycle(has_type)]
 fn has_type_in_members(members: &Map<String, Value>, sought: Sought) -> bool
-    ensures { result ≡ spec.has_type_in_members (is_sought sought) (members_view members.now.entries) }
+    ensures { result ≡ spec.has_type_in_members (is_sought sought)
+        (members_view members.now.entries) }
 {
     'types: for (key, member) in members.iter() {
         if (is_nesting(key) && has_type(member, sought))
@@ -276,7 +279,8 @@ fn has_own_type(field: &Value, sought: Sought) -> bool
 
 #[cycle(has_type)]
 fn has_type_of_field(members: &Map<String, Value>, sought: Sought) -> bool
-    ensures { result ≡ spec.has_type_of_field (is_sought sought) (members_view members.now.entries) }
+    ensures { result ≡ spec.has_type_of_field (is_sought sought)
+        (members_view members.now.entries) }
 {
     'types: for (key, member) in members.iter() {
         if is_typing(key) && has_type(member, sought) {

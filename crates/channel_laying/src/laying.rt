@@ -31,23 +31,31 @@ pub fn lay_checkpoint<D: Disk + Drop>(
     buffer: &mut Vec<u8>,
 ) -> Result<(), Failed>
     requires may { (s : State) × (c : CheckText) × (start : Start)
-        × MayLay (D.told writing.old.disk) writing.old.log writing.old.busy number next ring.now table.now s c start }
+        × MayLay (D.told writing.old.disk) writing.old.log writing.old.busy number next ring.now
+        table.now s c start }
     requires empty { buffer.old.items ≡ [] }
     requires room { 65_536 ≤ vec_capacity buffer.old }
     ensures any_moment { (s : State) (c : CheckText) (start : Start)
-        → MayLay (D.told writing.old.disk) writing.old.log writing.old.busy number next ring.now table.now s c start
-        → Tells (D.told writing.old.disk) (D.told writing.new.disk) (λ t u. LeavesOnly t u (RecoversSettled s)) }
+        → MayLay (D.told writing.old.disk) writing.old.log writing.old.busy number next ring.now
+        table.now s c start
+        → Tells (D.told writing.old.disk) (D.told writing.new.disk)
+        (λ t u. LeavesOnly t u (RecoversSettled s)) }
     ensures logged { (s : State) (c : CheckText) (start : Start)
-        → MayLay (D.told writing.old.disk) writing.old.log writing.old.busy number next ring.now table.now s c start
+        → MayLay (D.told writing.old.disk) writing.old.log writing.old.busy number next ring.now
+        table.now s c start
         → IsLogged (D.told writing.new.disk) writing.new.log writing.new.busy s }
     ensures changes { (s : State) (c : CheckText) (start : Start)
-        → MayLay (D.told writing.old.disk) writing.old.log writing.old.busy number next ring.now table.now s c start
-        → Tells (D.told writing.old.disk) (D.told writing.new.disk) (Changes (Check number) (IsLaying c) 3) }
+        → MayLay (D.told writing.old.disk) writing.old.log writing.old.busy number next ring.now
+        table.now s c start
+        → Tells (D.told writing.old.disk) (D.told writing.new.disk)
+        (Changes (Check number) (IsLaying c) 3) }
     // After Ok it is the newest of whatever a crash leaves, with the place of the log's end.
     ensures laid { OnOk result ((s : State) (c : CheckText) (start : Start)
-        → MayLay (D.told writing.old.disk) writing.old.log writing.old.busy number next ring.now table.now s c start
+        → MayLay (D.told writing.old.disk) writing.old.log writing.old.busy number next ring.now
+        table.now s c start
         → WhereTold (D.told writing.new.disk) (λ t. IsKept t number (1 ∷ check_bytes c)
-        × ((image : Files) → IsImage t.now image → IsNewest image (Some number) × IsCheck image number c start))) }
+        × ((image : Files) → IsImage t.now image → IsNewest image (Some number) × IsCheck image
+        number c start))) }
     ensures log { writing.new.log ≡ writing.old.log }
     ensures busy { writing.new.busy ≡ writing.old.busy }
     ensures empty { buffer.new.items ≡ [] }

@@ -22,12 +22,15 @@ pub fn prune_log<D: Disk + Drop>(
 ) -> Result<u64, Failed>
     requires low { WhereTold (D.told writing.old.disk) (λ t. least ≤ writing.old.log.file) }
     requires needs { WhereTold (D.told writing.old.disk) (λ t. AreNeeded t least laid) }
-    ensures any_moment { (s : State) → IsLogged (D.told writing.old.disk) writing.old.log writing.old.busy s
+    ensures any_moment { (s : State) → IsLogged (D.told writing.old.disk) writing.old.log
+        writing.old.busy s
         → s.broken ≡ false → Tells (D.told writing.old.disk) (D.told writing.new.disk)
         (λ t u. LeavesOnly t u (RecoversSettled s)) }
-    ensures logged { (s : State) → IsLogged (D.told writing.old.disk) writing.old.log writing.old.busy s
+    ensures logged { (s : State) → IsLogged (D.told writing.old.disk) writing.old.log
+        writing.old.busy s
         → IsLogged (D.told writing.new.disk) writing.new.log writing.new.busy s }
-    ensures kept { Tells (D.told writing.old.disk) (D.told writing.new.disk) (KeepsFrom least laid) }
+    ensures kept { Tells (D.told writing.old.disk) (D.told writing.new.disk)
+        (KeepsFrom least laid) }
     ensures checks_gone { OnOk result (WhereTold (D.told writing.new.disk)
         (λ t. (n : ℕ) → n < laid → t.reads (Check n) ≡ None)) }
     ensures logs_gone { OnOk result (WhereTold (D.told writing.new.disk)

@@ -68,7 +68,8 @@ impl<C: Guarded> ChannelLock<C> {
     ) -> Result<(ChannelLock<C>, Place<C>), Unshared<C>>
         ghost opening: { Opening }
         requires { C.stands value opening [] }
-        ensures shared { IfOk result (λ r. (r.1.table_id ≡ r.0.table.shared.table_id) × (r.1.me ≡ (dealer opening passes, []))) }
+        ensures shared { IfOk result (λ r. (r.1.table_id ≡ r.0.table.shared.table_id) ×
+            (r.1.me ≡ (dealer opening passes, []))) }
         ensures back { IfErr result (λ r. r.value ≡ value) }
     {
         let Ok(opened) = named::<Brand>(alloc) else {
@@ -106,10 +107,13 @@ impl<C: Guarded> ChannelLock<C> {
     /// A seat with the next number, which has made no call.
     pub fn deal(&self, dealer: &mut Place<C>) -> Place<C>
         requires table { dealer.old.table_id ≡ self.now.table.shared.table_id }
-        requires deals { (dealer.old.me.0.deals ≡ true) × (dealer.old.me.0.turn ≡ false) × (dealer.old.me.0.live ≡ true) × (dealer.old.me.1 ≡ []) }
+        requires deals { (dealer.old.me.0.deals ≡ true) × (dealer.old.me.0.turn ≡ false) ×
+            (dealer.old.me.0.live ≡ true) × (dealer.old.me.1 ≡ []) }
         requires room { dealer.old.me.0.dealt < dealer.old.me.0.passes }
-        ensures dealer { (dealer.new.table_id ≡ dealer.old.table_id) × (dealer.new.me ≡ (dealing dealer.old.me.0, [])) }
-        ensures pass { (result.table_id ≡ dealer.old.table_id) × (result.me ≡ (newcomer dealer.old.me.0, [])) }
+        ensures dealer { (dealer.new.table_id ≡ dealer.old.table_id) ×
+            (dealer.new.me ≡ (dealing dealer.old.me.0, [])) }
+        ensures pass { (result.table_id ≡ dealer.old.table_id) ×
+            (result.me ≡ (newcomer dealer.old.me.0, [])) }
     {
         self.table.shared.split_seat::<Deal>(dealer)
     }
@@ -117,11 +121,16 @@ impl<C: Guarded> ChannelLock<C> {
     /// Takes another seat in. What either has seen is seen, and the numbers of both are its own. Both are seats of one history
     /// and of as many passes, and no number was with both.
     pub fn join(&self, into: &mut Place<C>, from: Place<C>)
-        requires into { (into.old.table_id ≡ self.now.table.shared.table_id) × (into.old.me.0.live ≡ true) × (into.old.me.1 ≡ []) }
-        requires from { (from.table_id ≡ self.now.table.shared.table_id) × (from.me.0.turn ≡ false) × (from.me.1 ≡ []) }
-        ensures same { (into.new.table_id ≡ into.old.table_id) × (into.new.me ≡ (joined (both into.old.me.0 from.me.0), [])) }
-        ensures seen { Has into.new.me.0.seen (part into.old.me.0) × Has into.new.me.0.seen (part from.me.0) }
-        ensures one { from.me.0.live ≡ true → (from.me.0.base ≡ into.old.me.0.base) × (from.me.0.passes ≡ into.old.me.0.passes) }
+        requires into { (into.old.table_id ≡ self.now.table.shared.table_id) ×
+            (into.old.me.0.live ≡ true) × (into.old.me.1 ≡ []) }
+        requires from { (from.table_id ≡ self.now.table.shared.table_id) × (from.me.0.turn ≡ false)
+            × (from.me.1 ≡ []) }
+        ensures same { (into.new.table_id ≡ into.old.table_id) ×
+            (into.new.me ≡ (joined (both into.old.me.0 from.me.0), [])) }
+        ensures seen { Has into.new.me.0.seen (part into.old.me.0) × Has into.new.me.0.seen
+            (part from.me.0) }
+        ensures one { from.me.0.live ≡ true → (from.me.0.base ≡ into.old.me.0.base) ×
+            (from.me.0.passes ≡ into.old.me.0.passes) }
         ensures apart { AreApart into.old.me.0.numbers from.me.0.numbers }
         ensures numbers { (n : ℕ) → has into.new.me.0.numbers n ≡ true → n < into.new.me.0.passes }
     {
@@ -131,9 +140,11 @@ impl<C: Guarded> ChannelLock<C> {
 
     fn try_enter(&self, seat: &mut Place<C>) -> Option<C>
         requires table { seat.old.table_id ≡ self.now.table.shared.table_id }
-        requires idle { (seat.old.me.0.turn ≡ false) × (seat.old.me.1 ≡ []) × (seat.old.me.0.live ≡ true) }
+        requires idle { (seat.old.me.0.turn ≡ false) × (seat.old.me.1 ≡ []) ×
+            (seat.old.me.0.live ≡ true) }
         ensures same { (seat.new.table_id ≡ seat.old.table_id) × (seat.new.id ≡ seat.old.id) }
-        ensures turn { MatchOption result (seat.new.me ≡ seat.old.me) (λ c. (seat.new.me.1 ≡ (0, None) ∷ []) × Knows C.stands seat.old.me.0 c seat.new.me.0) }
+        ensures turn { MatchOption result (seat.new.me ≡ seat.old.me)
+            (λ c. (seat.new.me.1 ≡ (0, None) ∷ []) × Knows C.stands seat.old.me.0 c seat.new.me.0) }
     {
         if self.table.shared.compare_exchange::<Take>(seat, 1, 0, 1) != 0 {
             return None;
@@ -156,9 +167,11 @@ impl<C: Guarded> ChannelLock<C> {
     // holds the lock.
     fn try_often(&self, seat: &mut Place<C>, tries: u32) -> Option<C>
         requires table { seat.old.table_id ≡ self.now.table.shared.table_id }
-        requires idle { (seat.old.me.0.turn ≡ false) × (seat.old.me.1 ≡ []) × (seat.old.me.0.live ≡ true) }
+        requires idle { (seat.old.me.0.turn ≡ false) × (seat.old.me.1 ≡ []) ×
+            (seat.old.me.0.live ≡ true) }
         ensures same { (seat.new.table_id ≡ seat.old.table_id) × (seat.new.id ≡ seat.old.id) }
-        ensures turn { MatchOption result (seat.new.me ≡ seat.old.me) (λ c. (seat.new.me.1 ≡ (0, None) ∷ []) × Knows C.stands seat.old.me.0 c seat.new.me.0) }
+        ensures turn { MatchOption result (seat.new.me ≡ seat.old.me)
+            (λ c. (seat.new.me.1 ≡ (0, None) ∷ []) × Knows C.stands seat.old.me.0 c seat.new.me.0) }
     {
         for _ in 0..tries {
             if self.looks_free() {
@@ -190,9 +203,11 @@ impl<C: Guarded> ChannelLock<C> {
     // Takes the lock in the queue: who is next there tries some times, and then sleeps until the lock is released.
     fn enter_in_line<R: Wait>(&self, rt: &R, seat: &mut Place<C>) -> C
         requires table { seat.old.table_id ≡ self.now.table.shared.table_id }
-        requires idle { (seat.old.me.0.turn ≡ false) × (seat.old.me.1 ≡ []) × (seat.old.me.0.live ≡ true) }
+        requires idle { (seat.old.me.0.turn ≡ false) × (seat.old.me.1 ≡ []) ×
+            (seat.old.me.0.live ≡ true) }
         ensures same { (seat.new.table_id ≡ seat.old.table_id) × (seat.new.id ≡ seat.old.id) }
-        ensures turn { (seat.new.me.1 ≡ (0, None) ∷ []) × Knows C.stands seat.old.me.0 result seat.new.me.0 }
+        ensures turn { (seat.new.me.1 ≡ (0, None) ∷ []) × Knows C.stands seat.old.me.0 result
+            seat.new.me.0 }
         ensures making { Making seat.old.me.0 [] seat.new.me.0 }
     {
         self.waiting.fetch_add(1, SeqCst);
@@ -218,9 +233,11 @@ impl<C: Guarded> ChannelLock<C> {
     /// begins to overtake.
     pub fn enter<R: Wait>(&self, rt: &R, seat: &mut Place<C>) -> C
         requires table { seat.old.table_id ≡ self.now.table.shared.table_id }
-        requires idle { (seat.old.me.0.turn ≡ false) × (seat.old.me.1 ≡ []) × (seat.old.me.0.live ≡ true) }
+        requires idle { (seat.old.me.0.turn ≡ false) × (seat.old.me.1 ≡ []) ×
+            (seat.old.me.0.live ≡ true) }
         ensures same { (seat.new.table_id ≡ seat.old.table_id) × (seat.new.id ≡ seat.old.id) }
-        ensures turn { (seat.new.me.1 ≡ (0, None) ∷ []) × Knows C.stands seat.old.me.0 result seat.new.me.0 }
+        ensures turn { (seat.new.me.1 ≡ (0, None) ∷ []) × Knows C.stands seat.old.me.0 result
+            seat.new.me.0 }
         ensures making { Making seat.old.me.0 [] seat.new.me.0 }
     {
         if self.starved.load(SeqCst) < LOST {
@@ -251,7 +268,8 @@ impl<C: Guarded> ChannelLock<C> {
     pub fn calls(&self, seat: &mut Place<C>) -> u64
         requires table { seat.old.table_id ≡ self.now.table.shared.table_id }
         requires turn { seat.old.me.0.turn ≡ true }
-        ensures same { (seat.new.table_id ≡ seat.old.table_id) × (seat.new.id ≡ seat.old.id) × (seat.new.me ≡ seat.old.me) }
+        ensures same { (seat.new.table_id ≡ seat.old.table_id) × (seat.new.id ≡ seat.old.id) ×
+            (seat.new.me ≡ seat.old.me) }
         ensures calls { result ≡ length seat.old.me.0.seen }
     {
         self.table.shared.load::<Read>(seat, 0)
@@ -260,11 +278,13 @@ impl<C: Guarded> ChannelLock<C> {
     /// Counts the call that E names. What a caller's pick of E names is in `said`.
     pub fn count<E: Named, T>(&self, seat: &mut Place<C>, by: u64, said: &T)
         requires table { seat.old.table_id ≡ self.now.table.shared.table_id }
-        requires turn { (seat.old.me.0.turn ≡ true) × (length seat.old.me.0.seen + 1 < 2 ^ 64) × (seat.old.me.0.live ≡ true) }
+        requires turn { (seat.old.me.0.turn ≡ true) × (length seat.old.me.0.seen + 1 < 2 ^ 64) ×
+            (seat.old.me.0.live ≡ true) }
         requires own { has seat.old.me.0.numbers E.entry.pass ≡ true }
         ensures same { (seat.new.table_id ≡ seat.old.table_id) × (seat.new.id ≡ seat.old.id) }
         ensures call { seat.new.me ≡ (with_call E.entry seat.old.me.0, seat.old.me.1) }
-        ensures making { (v : View) (es : List Step) → Making v es seat.old.me.0 → has v.numbers E.entry.pass ≡ true → Making v (es ++ E.entry ∷ []) seat.new.me.0 }
+        ensures making { (v : View) (es : List Step) → Making v es seat.old.me.0 → has v.numbers
+            E.entry.pass ≡ true → Making v (es ++ E.entry ∷ []) seat.new.me.0 }
     {
         let _ = by;
         let _ = said;
@@ -275,10 +295,14 @@ impl<C: Guarded> ChannelLock<C> {
     /// is in `said`.
     pub fn count_one<P: Picked, T>(&self, seat: &mut Place<C>, by: u64, said: &T)
         requires table { seat.old.table_id ≡ self.now.table.shared.table_id }
-        requires turn { (seat.old.me.0.turn ≡ true) × (length seat.old.me.0.seen + 1 < 2 ^ 64) × (seat.old.me.0.live ≡ true) }
+        requires turn { (seat.old.me.0.turn ≡ true) × (length seat.old.me.0.seen + 1 < 2 ^ 64) ×
+            (seat.old.me.0.live ≡ true) }
         requires some { (e : Step) × P.picks e × (has seat.old.me.0.numbers e.pass ≡ true) }
         ensures same { (seat.new.table_id ≡ seat.old.table_id) × (seat.new.id ≡ seat.old.id) }
-        ensures call { (e : Step) × P.picks e × (seat.new.me ≡ (with_call e seat.old.me.0, seat.old.me.1)) × ((v : View) (es : List Step) → Making v es seat.old.me.0 → has v.numbers e.pass ≡ true → Making v (es ++ e ∷ []) seat.new.me.0) }
+        ensures call { (e : Step) × P.picks e × (seat.new.me ≡
+            (with_call e seat.old.me.0, seat.old.me.1)) ×
+            ((v : View) (es : List Step) → Making v es seat.old.me.0 → has v.numbers e.pass ≡ true →
+            Making v (es ++ e ∷ []) seat.new.me.0) }
     {
         let _ = by;
         let _ = said;
@@ -288,11 +312,13 @@ impl<C: Guarded> ChannelLock<C> {
     /// Brings the value home, and releases the lock.
     pub fn leave(&self, seat: &mut Place<C>, value: C)
         requires table { seat.old.table_id ≡ self.now.table.shared.table_id }
-        requires turn { (seat.old.me.0.turn ≡ true) × (seat.old.me.1 ≡ (0, None) ∷ []) × (seat.old.me.0.live ≡ true) }
+        requires turn { (seat.old.me.0.turn ≡ true) × (seat.old.me.1 ≡ (0, None) ∷ []) ×
+            (seat.old.me.0.live ≡ true) }
         requires value { C.stands value seat.old.me.0.base seat.old.me.0.seen }
         ensures same { (seat.new.table_id ≡ seat.old.table_id) × (seat.new.id ≡ seat.old.id) }
         ensures turn { seat.new.me ≡ (idle seat.old.me.0, []) }
-        ensures made { (v : View) (es : List Step) → Making v es seat.old.me.0 → MadeInTurn v es seat.new.me.0 }
+        ensures made { (v : View) (es : List Step) → Making v es seat.old.me.0 → MadeInTurn v es
+            seat.new.me.0 }
     {
         let before = self.table.shared.exchange(seat, 0, Some(value));
         let None = before else { unreachable!() };
@@ -306,7 +332,8 @@ impl<C: Guarded> ChannelLock<C> {
         requires turn { (seat.old.me.0.turn ≡ true) × (seat.old.me.1 ≡ (0, None) ∷ []) }
         ensures same { (seat.new.table_id ≡ seat.old.table_id) × (seat.new.id ≡ seat.old.id) }
         ensures turn { seat.new.me ≡ (idle seat.old.me.0, []) }
-        ensures made { (v : View) (es : List Step) → Making v es seat.old.me.0 → MadeInTurn v es seat.new.me.0 }
+        ensures made { (v : View) (es : List Step) → Making v es seat.old.me.0 → MadeInTurn v es
+            seat.new.me.0 }
     {
         self.table.shared.store::<Leave>(seat, 1, 2);
     }

@@ -32,15 +32,24 @@ fn apply_rest<D: Disk, L: Ledger>(
 ) -> Result<(), ReplayRefused>
     requires there { IsThere (D.told disk.old) file }
     requires file { reader.old.file ≡ file }
-    ensures ok { OnOk result ((bytes : List ℕ) (items : List (Rec × ℕ)) (fault : Option ℕ) → HasFile (D.told disk.old) file bytes → Remains reader.old bytes items fault → AppliesAll (record_lines file items ++ fault_lines file fault) recovery.old recovery.new) }
-    ensures bad { IfErr result (λ e. WhereBadLog e (λ f at. (bytes : List ℕ) (items : List (Rec × ℕ)) (fault : Option ℕ) → HasFile (D.told disk.old) file bytes → Remains reader.old bytes items fault → (base : Base) (past : Past) → Agrees base past recovery.old → HasFault base past (record_lines file items ++ fault_lines file fault) f at)) }
+    ensures ok { OnOk result ((bytes : List ℕ) (items : List (Rec × ℕ)) (fault : Option ℕ) → HasFile
+        (D.told disk.old) file bytes → Remains reader.old bytes items fault → AppliesAll
+        (record_lines file items ++ fault_lines file fault) recovery.old recovery.new) }
+    ensures bad { IfErr result (λ e. WhereBadLog e (λ f at. (bytes : List ℕ)
+        (items : List (Rec × ℕ)) (fault : Option ℕ) → HasFile (D.told disk.old) file bytes → Remains
+        reader.old bytes items fault → (base : Base) (past : Past) → Agrees base past recovery.old →
+        HasFault base past (record_lines file items ++ fault_lines file fault) f at)) }
     ensures not_over { IfErr result (λ e. WhereOver e (λ count. ⊥)) }
     ensures reached { OnOk result (IsReached recovery.old → IsReached recovery.new) }
-    ensures ticks { (bytes : List ℕ) (items : List (Rec × ℕ)) (fault : Option ℕ) → HasFile (D.told disk.old) file bytes → Remains reader.old bytes items fault → steps.new ≤ steps.old + length items }
+    ensures ticks { (bytes : List ℕ) (items : List (Rec × ℕ)) (fault : Option ℕ) → HasFile
+        (D.told disk.old) file bytes → Remains reader.old bytes items fault → steps.new ≤ steps.old
+        + length items }
     ensures same { D.told disk.new ≡ D.told disk.old }
-    ensures fault { IsErrOf result ReplayRefused.DiskFault → Rose (D.faults disk.old) (D.faults disk.new) }
+    ensures fault { IsErrOf result ReplayRefused.DiskFault → Rose (D.faults disk.old)
+        (D.faults disk.new) }
     ensures later { D.faults disk.old ≤ D.faults disk.new }
-    ensures well { (IsErrOf result ReplayRefused.DiskFault → ⊥) → D.faults disk.new ≡ D.faults disk.old }
+    ensures well { (IsErrOf result ReplayRefused.DiskFault → ⊥) → D.faults disk.new ≡ D.faults
+        disk.old }
 {
     loop {
         match reader.next(disk, steps) {
@@ -73,15 +82,21 @@ fn apply_file<D: Disk, L: Ledger>(
 ) -> Result<(), ReplayRefused>
     requires { IsThere (D.told disk.old) file }
     ensures number { file < 2 ^ 32 }
-    ensures ok { OnOk result (WhereHolds (D.told disk.old) file (λ content. AppliesAll (file_lines file content) recovery.old recovery.new)) }
-    ensures bad { IfErr result (λ e. WhereBadLog e (λ f at. WhereHolds (D.told disk.old) file (λ content. (base : Base) (past : Past) → Agrees base past recovery.old → HasFault base past (file_lines file content) f at))) }
+    ensures ok { OnOk result (WhereHolds (D.told disk.old) file
+        (λ content. AppliesAll (file_lines file content) recovery.old recovery.new)) }
+    ensures bad { IfErr result (λ e. WhereBadLog e (λ f at. WhereHolds (D.told disk.old) file
+        (λ content. (base : Base) (past : Past) → Agrees base past recovery.old → HasFault base past
+        (file_lines file content) f at))) }
     ensures not_over { IfErr result (λ e. WhereOver e (λ count. ⊥)) }
     ensures reached { OnOk result (IsReached recovery.old → IsReached recovery.new) }
-    ensures ticks { WhereHolds (D.told disk.old) file (λ content. steps.new ≤ steps.old + record_count (file_lines file content)) }
+    ensures ticks { WhereHolds (D.told disk.old) file (λ content. steps.new ≤ steps.old +
+        record_count (file_lines file content)) }
     ensures same { D.told disk.new ≡ D.told disk.old }
-    ensures fault { IsErrOf result ReplayRefused.DiskFault → Rose (D.faults disk.old) (D.faults disk.new) }
+    ensures fault { IsErrOf result ReplayRefused.DiskFault → Rose (D.faults disk.old)
+        (D.faults disk.new) }
     ensures later { D.faults disk.old ≤ D.faults disk.new }
-    ensures well { (IsErrOf result ReplayRefused.DiskFault → ⊥) → D.faults disk.new ≡ D.faults disk.old }
+    ensures well { (IsErrOf result ReplayRefused.DiskFault → ⊥) → D.faults disk.new ≡ D.faults
+        disk.old }
 {
     match LogReader::begin(alloc, disk, file, FIRST_GATE) {
         Ok(mut reader) => {
@@ -100,15 +115,21 @@ fn apply_files<D: Disk, L: Ledger>(
     steps: &mut Steps<L>,
 ) -> Result<(), ReplayRefused>
     requires { Agrees empty_base [] recovery.old }
-    ensures ok { OnOk result (WhereTold (D.told disk.old) (λ t. WhereLogs t.reads (λ logs. AreSound empty_base [] (lines logs) × Agrees empty_base (past_lines [] (lines logs)) recovery.new))) }
-    ensures bad { IfErr result (λ e. WhereBadLog e (λ file at. WhereTold (D.told disk.old) (λ t. IsBadLog t.reads file at))) }
+    ensures ok { OnOk result (WhereTold (D.told disk.old)
+        (λ t. WhereLogs t.reads (λ logs. AreSound empty_base [] (lines logs) × Agrees empty_base
+        (past_lines [] (lines logs)) recovery.new))) }
+    ensures bad { IfErr result (λ e. WhereBadLog e (λ file at. WhereTold (D.told disk.old)
+        (λ t. IsBadLog t.reads file at))) }
     ensures not_over { IfErr result (λ e. WhereOver e (λ count. ⊥)) }
     ensures reached { OnOk result (IsReached recovery.new) }
-    ensures ticks { WhereTold (D.told disk.old) (λ t. WhereLogs t.reads (λ logs. steps.new ≤ steps.old + record_count (lines logs))) }
+    ensures ticks { WhereTold (D.told disk.old) (λ t. WhereLogs t.reads
+        (λ logs. steps.new ≤ steps.old + record_count (lines logs))) }
     ensures same { D.told disk.new ≡ D.told disk.old }
-    ensures fault { IsErrOf result ReplayRefused.DiskFault → Rose (D.faults disk.old) (D.faults disk.new) }
+    ensures fault { IsErrOf result ReplayRefused.DiskFault → Rose (D.faults disk.old)
+        (D.faults disk.new) }
     ensures later { D.faults disk.old ≤ D.faults disk.new }
-    ensures well { (IsErrOf result ReplayRefused.DiskFault → ⊥) → D.faults disk.new ≡ D.faults disk.old }
+    ensures well { (IsErrOf result ReplayRefused.DiskFault → ⊥) → D.faults disk.new ≡ D.faults
+        disk.old }
 {
     let mut after = None;
     loop {
@@ -127,7 +148,8 @@ fn apply_files<D: Disk, L: Ledger>(
 // Refuses more events than the capacity.
 fn within(replayed: Replayed, capacity: u32) -> Result<Replayed, ReplayRefused>
     ensures ok { IfOk result (λ r. (r ≡ replayed) × (vec_len r.items ≤ capacity)) }
-    ensures over { IfErr result (λ e. WhereOver e (λ count. (count ≡ vec_len replayed.items) × (capacity < count))) }
+    ensures over { IfErr result (λ e. WhereOver e (λ count. (count ≡ vec_len replayed.items) ×
+        (capacity < count))) }
     ensures not_bad { IfErr result (λ e. WhereBadLog e (λ file at. ⊥)) }
     ensures not_fault { IsErrOf result ReplayRefused.DiskFault → ⊥ }
 {
@@ -148,19 +170,25 @@ pub fn replay<D: Disk, L: Ledger>(
     capacity: u32,
     steps: &mut Steps<L>,
 ) -> Result<Replayed, ReplayRefused>
-    ensures ok { IfOk result (λ r. WhereTold (D.told disk.old) (λ t. Recovers t.reads (base_of r) r.next.txn)) }
+    ensures ok { IfOk result (λ r. WhereTold (D.told disk.old)
+        (λ t. Recovers t.reads (base_of r) r.next.txn)) }
     ensures within { IfOk result (λ r. vec_len r.items ≤ capacity) }
 
     // Also where the disk shows nothing, numbers rise, and transactions have numbers from 1 on.
     ensures base { IfOk result (λ r. IsBase (base_of r)) }
     ensures txn { IfOk result (λ r. 1 ≤ r.next.txn) }
-    ensures bad { IfErr result (λ e. WhereBadLog e (λ file at. WhereTold (D.told disk.old) (λ t. IsBadLog t.reads file at))) }
-    ensures over { IfErr result (λ e. WhereOver e (λ count. (capacity < count) × WhereTold (D.told disk.old) (λ t. WhereLogs t.reads (λ logs. LeavesCount logs count)))) }
-    ensures ticks { WhereTold (D.told disk.old) (λ t. WhereLogs t.reads (λ logs. steps.new ≤ steps.old + record_count (lines logs))) }
+    ensures bad { IfErr result (λ e. WhereBadLog e (λ file at. WhereTold (D.told disk.old)
+        (λ t. IsBadLog t.reads file at))) }
+    ensures over { IfErr result (λ e. WhereOver e (λ count. (capacity < count) × WhereTold
+        (D.told disk.old) (λ t. WhereLogs t.reads (λ logs. LeavesCount logs count)))) }
+    ensures ticks { WhereTold (D.told disk.old) (λ t. WhereLogs t.reads
+        (λ logs. steps.new ≤ steps.old + record_count (lines logs))) }
     ensures same { D.told disk.new ≡ D.told disk.old }
-    ensures fault { IsErrOf result ReplayRefused.DiskFault → Rose (D.faults disk.old) (D.faults disk.new) }
+    ensures fault { IsErrOf result ReplayRefused.DiskFault → Rose (D.faults disk.old)
+        (D.faults disk.new) }
     ensures later { D.faults disk.old ≤ D.faults disk.new }
-    ensures well { (IsErrOf result ReplayRefused.DiskFault → ⊥) → D.faults disk.new ≡ D.faults disk.old }
+    ensures well { (IsErrOf result ReplayRefused.DiskFault → ⊥) → D.faults disk.new ≡ D.faults
+        disk.old }
 {
     let mut recovery = Recovery::new(alloc);
     match apply_files(alloc, disk, &mut recovery, steps) {

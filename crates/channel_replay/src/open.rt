@@ -50,7 +50,8 @@ fn begin_put(
     txn: u64,
     event: Event,
 ) -> Result<bool, NoMemory>
-    ensures { IfOk result (λ ok. Begins ok opened.old.items (txn, Puts (event ∷ [])) opened.new.items) }
+    ensures { IfOk result (λ ok. Begins ok opened.old.items (txn, Puts (event ∷ []))
+        opened.new.items) }
 {
     let mut batch = Batch::new(alloc);
     if batch.push(event).is_err() {
@@ -65,7 +66,8 @@ fn begin_take(
     txn: u64,
     number: u64,
 ) -> Result<bool, NoMemory>
-    ensures { IfOk result (λ ok. Begins ok opened.old.items (txn, Takes (number ∷ [])) opened.new.items) }
+    ensures { IfOk result (λ ok. Begins ok opened.old.items (txn, Takes (number ∷ []))
+        opened.new.items) }
 {
     let mut numbers = Numbers::new(alloc);
     numbers.push(number)?;
@@ -75,9 +77,12 @@ fn begin_take(
 // Adds an event to the entry at this place, if it is of puts.
 fn push_put(opened: &mut Vec<Open>, place: usize, event: Event) -> Result<bool, NoMemory>
     requires { place < length opened.old.items }
-    ensures puts { IfOk result (λ ok. (txn : ℕ) (events : List Content) → slice_get opened.old.items place ≡ Some (txn, Puts events) →
-        (ok ≡ true) × (opened.new.items ≡ slice_set opened.old.items place (txn, Puts (events ++ event ∷ [])))) }
-    ensures takes { IfOk result (λ ok. (txn : ℕ) (numbers : List ℕ) → slice_get opened.old.items place ≡ Some (txn, Takes numbers) → ok ≡ false) }
+    ensures puts { IfOk result (λ ok. (txn : ℕ) (events : List Content) → slice_get opened.old.items
+        place ≡ Some (txn, Puts events) →
+        (ok ≡ true) × (opened.new.items ≡ slice_set opened.old.items place
+        (txn, Puts (events ++ event ∷ [])))) }
+    ensures takes { IfOk result (λ ok. (txn : ℕ) (numbers : List ℕ) → slice_get opened.old.items
+        place ≡ Some (txn, Takes numbers) → ok ≡ false) }
 {
     match &mut opened[place].1 {
         Entry::Puts(batch) => match batch.push(event) {
@@ -91,9 +96,12 @@ fn push_put(opened: &mut Vec<Open>, place: usize, event: Event) -> Result<bool, 
 // Adds a number to the entry at this place, if it is of takes.
 fn push_take(opened: &mut Vec<Open>, place: usize, number: u64) -> Result<bool, NoMemory>
     requires { place < length opened.old.items }
-    ensures takes { IfOk result (λ ok. (txn : ℕ) (numbers : List ℕ) → slice_get opened.old.items place ≡ Some (txn, Takes numbers) →
-        (ok ≡ true) × (opened.new.items ≡ slice_set opened.old.items place (txn, Takes (numbers ++ number ∷ [])))) }
-    ensures puts { IfOk result (λ ok. (txn : ℕ) (events : List Content) → slice_get opened.old.items place ≡ Some (txn, Puts events) → ok ≡ false) }
+    ensures takes { IfOk result (λ ok. (txn : ℕ) (numbers : List ℕ) → slice_get opened.old.items
+        place ≡ Some (txn, Takes numbers) →
+        (ok ≡ true) × (opened.new.items ≡ slice_set opened.old.items place
+        (txn, Takes (numbers ++ number ∷ [])))) }
+    ensures puts { IfOk result (λ ok. (txn : ℕ) (events : List Content) → slice_get opened.old.items
+        place ≡ Some (txn, Puts events) → ok ≡ false) }
 {
     match &mut opened[place].1 {
         Entry::Takes(numbers) => match numbers.push(number) {
@@ -111,7 +119,8 @@ pub fn add_put(
     txn: u64,
     event: Event,
 ) -> Result<bool, NoMemory>
-    ensures { IfOk result (λ ok. GoesOn ok opened.old.items txn IsPut (λ entry. Puts (events_of entry ++ event ∷ [])) opened.new.items) }
+    ensures { IfOk result (λ ok. GoesOn ok opened.old.items txn IsPut
+        (λ entry. Puts (events_of entry ++ event ∷ [])) opened.new.items) }
 {
     match place_of(opened, txn) {
         Some(place) => push_put(opened, place, event),
@@ -126,7 +135,8 @@ pub fn add_take(
     txn: u64,
     number: u64,
 ) -> Result<bool, NoMemory>
-    ensures { IfOk result (λ ok. GoesOn ok opened.old.items txn IsTake (λ entry. Takes (numbers_of entry ++ number ∷ [])) opened.new.items) }
+    ensures { IfOk result (λ ok. GoesOn ok opened.old.items txn IsTake
+        (λ entry. Takes (numbers_of entry ++ number ∷ [])) opened.new.items) }
 {
     match place_of(opened, txn) {
         Some(place) => push_take(opened, place, number),
@@ -137,8 +147,10 @@ pub fn add_take(
 // Takes the transaction at this place out.
 fn remove_at(opened: &mut Vec<Open>, place: usize) -> Entry
     requires { place < length opened.old.items }
-    ensures entry { (txn : ℕ) (entry : Entry) → IsAt opened.old.items txn place entry → result ≡ entry }
-    ensures rest { (txn : ℕ) (entry : Entry) → IsAt opened.old.items txn place entry → opened.new.items ≡ without_entry txn opened.old.items }
+    ensures entry { (txn : ℕ) (entry : Entry) → IsAt opened.old.items txn place entry → result ≡
+        entry }
+    ensures rest { (txn : ℕ) (entry : Entry) → IsAt opened.old.items txn place entry →
+        opened.new.items ≡ without_entry txn opened.old.items }
 {
     let (_, entry) = opened.remove(place);
     entry

@@ -21,7 +21,8 @@ pub struct WholeFile {
 
 // What stands in these files, in order.
 fn lines_of(alloc: Global, files: &[WholeFile]) -> Result<VecDeque<Line>, NoMemory>
-    ensures { IfOk result (λ found. (logs : List LogFile) × AreOf files.now logs × (found.items ≡ lines logs)) }
+    ensures { IfOk result (λ found. (logs : List LogFile) × AreOf files.now logs ×
+        (found.items ≡ lines logs)) }
 {
     let mut lines = VecDeque::new(alloc);
     for file in files {
@@ -33,7 +34,8 @@ fn lines_of(alloc: Global, files: &[WholeFile]) -> Result<VecDeque<Line>, NoMemo
 // Applies the lines up to the first fault.
 fn apply_all(alloc: Global, mut lines: VecDeque<Line>) -> Result<Replayed, RecoverRefused>
     ensures ok { IfOk result (λ r. IsRecovered lines.items r) }
-    ensures bad { IfErr result (λ e. WhereBad e (λ file at. HasFault empty_base [] lines.items file at)) }
+    ensures bad { IfErr result (λ e. WhereBad e (λ file at. HasFault empty_base [] lines.items file
+        at)) }
 {
     let mut recovery = Recovery::new(alloc);
     while let Some(line) = lines.pop_front() {
@@ -46,8 +48,10 @@ fn apply_all(alloc: Global, mut lines: VecDeque<Line>) -> Result<Replayed, Recov
 /// with the next event number and the next transaction number; or the first fault. It holds all files and all their
 /// records in memory, so it is for tests and small folders.
 pub fn recover(alloc: Global, files: &[WholeFile]) -> Result<Replayed, RecoverRefused>
-    ensures ok { IfOk result (λ r. (logs : List LogFile) × AreOf files.now logs × StandsFor logs (base_of r) r.next.txn) }
-    ensures bad { IfErr result (λ e. WhereBad e (λ file at. (logs : List LogFile) × AreOf files.now logs × IsBad logs file at)) }
+    ensures ok { IfOk result (λ r. (logs : List LogFile) × AreOf files.now logs × StandsFor logs
+        (base_of r) r.next.txn) }
+    ensures bad { IfErr result (λ e. WhereBad e (λ file at. (logs : List LogFile) × AreOf files.now
+        logs × IsBad logs file at)) }
 {
     match lines_of(alloc, files) {
         Ok(lines) => apply_all(alloc, lines),

@@ -77,7 +77,8 @@ impl Recovery {
 
     // Drops all open transactions.
     pub(crate) fn drop_open(&mut self)
-        ensures { (base : Base) (past : Past) → Agrees base past self.old → Agrees base (Dropped ∷ past) self.new }
+        ensures { (base : Base) (past : Past) → Agrees base past self.old → Agrees base
+            (Dropped ∷ past) self.new }
     {
         self.opened.clear();
     }
@@ -136,7 +137,8 @@ impl Recovery {
 
     fn commit_put(&mut self, txn: u64, first: u64, count: u32) -> Result<bool, NoMemory>
         requires { IsTxn txn }
-        ensures { IfOk result (λ legal. AppliesTo legal self.old (CommitPut txn first count) self.new) }
+        ensures { IfOk result (λ legal. AppliesTo legal self.old (CommitPut txn first count)
+            self.new) }
     {
         self.see(txn);
         match end(&mut self.opened, txn) {
@@ -188,8 +190,11 @@ impl Recovery {
 
     // Applies what stands in a line, or names the fault there.
     pub(crate) fn apply_line(&mut self, line: Line) -> Result<(), RecoverRefused>
-        ensures ok { OnOk result ((base : Base) (past : Past) → Agrees base past self.old → IsSound base past line × Agrees base (past_line past line) self.new) }
-        ensures bad { IfErr result (λ e. WhereBad e (λ file at. IsAt line file at × ((base : Base) (past : Past) → Agrees base past self.old → IsSound base past line → ⊥))) }
+        ensures ok { OnOk result ((base : Base) (past : Past) → Agrees base past self.old → IsSound
+            base past line × Agrees base (past_line past line) self.new) }
+        ensures bad { IfErr result (λ e. WhereBad e (λ file at. IsAt line file at ×
+            ((base : Base) (past : Past) → Agrees base past self.old → IsSound base past line →
+            ⊥))) }
     {
         match line {
             Line::Begins => {

@@ -93,7 +93,8 @@ fn add_frames(
 
 // Adds the begin of a file of this birth, if it drops open transactions.
 fn add_begin(birth: u16, lines: &mut VecDeque<Line>) -> Result<(), NoMemory>
-    ensures { OnOk result (lines.new.items ≡ lines.old.items ++ (if birth == 1 then Line.Begins ∷ [] else [])) }
+    ensures { OnOk result (lines.new.items ≡ lines.old.items ++
+        (if birth == 1 then Line.Begins ∷ [] else [])) }
 {
     if birth == BEGUN {
         return add(lines, Line::Begins);

@@ -198,7 +198,8 @@ impl<D: Disk + Drop> Writing<D> {
             → IsPending self.old.log waits → 1 ≤ length waits
             → Tells (D.told self.old.disk) (D.told self.new.disk)
             (Changes (Log self.old.log.file) (LacksOrHas birth self.old.log.file frames waits) 2) }
-        ensures flushed { OnOk result ((birth : ℕ) (frames : List (List recs.Rec)) (waits : List recs.Rec)
+        ensures flushed { OnOk result ((birth : ℕ) (frames : List (List recs.Rec))
+            (waits : List recs.Rec)
             → IsReady (D.told self.old.disk) birth self.old.log.file self.old.log.gate frames
             → IsPending self.old.log waits → 1 ≤ length waits
             → IsReady (D.told self.new.disk) birth self.old.log.file self.new.log.gate

@@ -81,14 +81,21 @@ pub fn open_newest<D: Disk, L: Ledger>(
     ensures opened { IfOk result (λ o. WhereTold (D.told disk.old) (λ t. IsOpened t.reads o)) }
     // Also where the disk shows nothing.
     ensures ready { IfOk result (λ o. IsReady capacity o.replayed) }
-    ensures bad_check { IfErr result (λ e. WhereBadCheck e (λ file at. WhereTold (D.told disk.old) (λ t. IsNewest t.reads (Some file) × IsFault t.reads file at))) }
-    ensures bad_log { IfErr result (λ e. WhereBadLog e (λ file at. WhereTold (D.told disk.old) (λ t. IsBadLogFrom t.reads file at))) }
-    ensures over { IfErr result (λ e. WhereOver e (λ count. (capacity < count) × WhereTold (D.told disk.old) (λ t. Leaves t.reads count))) }
-    ensures ticks { WhereTold (D.told disk.old) (λ t. (steps.new ≡ steps.old) ⊎ HasSteps t.reads steps.old steps.new) }
+    ensures bad_check { IfErr result (λ e. WhereBadCheck e
+        (λ file at. WhereTold (D.told disk.old) (λ t. IsNewest t.reads (Some file) × IsFault t.reads
+        file at))) }
+    ensures bad_log { IfErr result (λ e. WhereBadLog e (λ file at. WhereTold (D.told disk.old)
+        (λ t. IsBadLogFrom t.reads file at))) }
+    ensures over { IfErr result (λ e. WhereOver e (λ count. (capacity < count) × WhereTold
+        (D.told disk.old) (λ t. Leaves t.reads count))) }
+    ensures ticks { WhereTold (D.told disk.old) (λ t. (steps.new ≡ steps.old) ⊎ HasSteps t.reads
+        steps.old steps.new) }
     ensures same { D.told disk.new ≡ D.told disk.old }
-    ensures fault { IsErrOf result OpeningRefused.DiskFault → Rose (D.faults disk.old) (D.faults disk.new) }
+    ensures fault { IsErrOf result OpeningRefused.DiskFault → Rose (D.faults disk.old)
+        (D.faults disk.new) }
     ensures later { D.faults disk.old ≤ D.faults disk.new }
-    ensures well { (IsErrOf result OpeningRefused.DiskFault → ⊥) → D.faults disk.new ≡ D.faults disk.old }
+    ensures well { (IsErrOf result OpeningRefused.DiskFault → ⊥) → D.faults disk.new ≡ D.faults
+        disk.old }
 {
     let check = match newest(alloc, disk) {
         Ok(check) => check,

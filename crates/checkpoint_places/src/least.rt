@@ -17,7 +17,8 @@ use record_form::Pointer;
 fn least_of(puts: &[Pointer], most: u32) -> u32
     ensures below { result ≤ most }
     ensures each { AllByRecursion (λ (p : pointers.Pointer). result ≤ p.file) puts.now }
-    ensures least { (other : ℕ) → other ≤ most → AllByRecursion (λ (p : pointers.Pointer). other ≤ p.file) puts.now → other ≤ result }
+    ensures least { (other : ℕ) → other ≤ most → AllByRecursion
+        (λ (p : pointers.Pointer). other ≤ p.file) puts.now → other ≤ result }
 {
     let mut least = most;
     for pointer in puts {
@@ -31,8 +32,10 @@ fn least_of(puts: &[Pointer], most: u32) -> u32
 fn least_put(table: &OpenTable, txn: u64, most: u32) -> u32
     requires { IsSome (open_at table.now txn) }
     ensures below { result ≤ most }
-    ensures each { AllByRecursion (λ (p : pointers.Pointer). result ≤ p.file) (puts_at table.now txn) }
-    ensures least { (other : ℕ) → other ≤ most → AllByRecursion (λ (p : pointers.Pointer). other ≤ p.file) (puts_at table.now txn) → other ≤ result }
+    ensures each { AllByRecursion (λ (p : pointers.Pointer). result ≤ p.file)
+        (puts_at table.now txn) }
+    ensures least { (other : ℕ) → other ≤ most → AllByRecursion
+        (λ (p : pointers.Pointer). other ≤ p.file) (puts_at table.now txn) → other ≤ result }
     ensures fits { txn < 2 ^ 64 }
 {
     least_of(table.puts(txn), most)
@@ -51,8 +54,11 @@ fn least_one(event: u64, pointer: Pointer, most: u32) -> u32
 // The least of a number and the files of the events that are left.
 fn least_left(ring: &Ring, most: u32) -> u32
     ensures below { result ≤ most }
-    ensures each { (high : ℕ) → Rise 0 high (map live_at ring.now.live) → AllByRecursion (λ (l : ℕ × pointers.Pointer). result ≤ l.1.file) (map live_at ring.now.live) }
-    ensures least { (other : ℕ) → other ≤ most → AllByRecursion (λ (l : ℕ × pointers.Pointer). other ≤ l.1.file) (map live_at ring.now.live) → other ≤ result }
+    ensures each { (high : ℕ) → Rise 0 high (map live_at ring.now.live) → AllByRecursion
+        (λ (l : ℕ × pointers.Pointer). result ≤ l.1.file) (map live_at ring.now.live) }
+    ensures least { (other : ℕ) → other ≤ most → AllByRecursion
+        (λ (l : ℕ × pointers.Pointer). other ≤ l.1.file) (map live_at ring.now.live) → other ≤
+        result }
 {
     let mut least = most;
     let mut after = None;
@@ -66,8 +72,10 @@ fn least_left(ring: &Ring, most: u32) -> u32
 // The least of a number and the files of open puts.
 fn least_open(table: &OpenTable, most: u32) -> u32
     ensures below { result ≤ most }
-    ensures each { (txn : ℕ) → AllByRecursion (λ (p : pointers.Pointer). result ≤ p.file) (puts_at table.now txn) }
-    ensures least { (other : ℕ) → other ≤ most → ((txn : ℕ) → AllByRecursion (λ (p : pointers.Pointer). other ≤ p.file) (puts_at table.now txn)) → other ≤ result }
+    ensures each { (txn : ℕ) → AllByRecursion (λ (p : pointers.Pointer). result ≤ p.file)
+        (puts_at table.now txn) }
+    ensures least { (other : ℕ) → other ≤ most → ((txn : ℕ) → AllByRecursion
+        (λ (p : pointers.Pointer). other ≤ p.file) (puts_at table.now txn)) → other ≤ result }
 {
     let mut least = most;
     let mut after = None;
@@ -80,8 +88,10 @@ fn least_open(table: &OpenTable, most: u32) -> u32
 
 /// The least log file that a checkpoint of this ring and this table at this place names. It takes no memory.
 pub fn least_named(place: Place, ring: &Ring, table: &OpenTable) -> u32
-    ensures names { (next : Next) (c : CheckText) → Says place next ring.now table.now c → Rise 0 next.number c.live → NamesFrom result c }
-    ensures least { (next : Next) (c : CheckText) (other : ℕ) → Says place next ring.now table.now c → NamesFrom other c → other ≤ result }
+    ensures names { (next : Next) (c : CheckText) → Says place next ring.now table.now c → Rise 0
+        next.number c.live → NamesFrom result c }
+    ensures least { (next : Next) (c : CheckText) (other : ℕ) → Says place next ring.now table.now c
+        → NamesFrom other c → other ≤ result }
 {
     let left = least_left(ring, place.file);
     least_open(table, left)

@@ -31,7 +31,8 @@ fn before_log(low: u32) -> Option<FileName>
 
 // The least number of a checkpoint from this one on.
 fn next_check<D: Disk>(disk: &mut D, low: u32) -> Result<Option<u32>, Failed>
-    ensures next { IfOk result (λ next. WhereTold (D.told disk.old) (λ t. IsNextOf (λ n. t.reads (Check n)) low next)) }
+    ensures next { IfOk result (λ next. WhereTold (D.told disk.old)
+        (λ t. IsNextOf (λ n. t.reads (Check n)) low next)) }
     ensures above { IfOk result (λ next. IfSome next (λ number. low ≤ number)) }
     ensures same { D.told disk.new ≡ D.told disk.old }
     ensures cause { HasCause (D.faults disk.old) (D.faults disk.new) result }
@@ -44,7 +45,8 @@ fn next_check<D: Disk>(disk: &mut D, low: u32) -> Result<Option<u32>, Failed>
 
 // The least number of a log file from this one on.
 fn next_log<D: Disk>(disk: &mut D, low: u32) -> Result<Option<u32>, Failed>
-    ensures next { IfOk result (λ next. WhereTold (D.told disk.old) (λ t. IsNextOf (λ n. t.reads (Log n)) low next)) }
+    ensures next { IfOk result (λ next. WhereTold (D.told disk.old)
+        (λ t. IsNextOf (λ n. t.reads (Log n)) low next)) }
     ensures above { IfOk result (λ next. IfSome next (λ number. low ≤ number)) }
     ensures same { D.told disk.new ≡ D.told disk.old }
     ensures cause { HasCause (D.faults disk.old) (D.faults disk.new) result }
@@ -58,8 +60,10 @@ fn next_log<D: Disk>(disk: &mut D, low: u32) -> Result<Option<u32>, Failed>
 // Removes each checkpoint below a number, and counts them.
 fn remove_checks<D: Disk>(disk: &mut D, laid: u32) -> Result<u64, Failed>
     ensures kept { Tells (D.told disk.old) (D.told disk.new) (KeepsFrom 0 laid) }
-    ensures gone { OnOk result (WhereTold (D.told disk.new) (λ t. (n : ℕ) → n < laid → t.reads (Check n) ≡ None)) }
-    ensures count { IfOk result (λ count. WhereTold (D.told disk.old) (λ t. count ≡ count_below (checks_in t.reads) laid)) }
+    ensures gone { OnOk result (WhereTold (D.told disk.new)
+        (λ t. (n : ℕ) → n < laid → t.reads (Check n) ≡ None)) }
+    ensures count { IfOk result (λ count. WhereTold (D.told disk.old)
+        (λ t. count ≡ count_below (checks_in t.reads) laid)) }
     ensures few { IfOk result (λ count. count ≤ laid) }
     ensures cause { HasCause (D.faults disk.old) (D.faults disk.new) result }
 {
@@ -80,8 +84,10 @@ fn remove_checks<D: Disk>(disk: &mut D, laid: u32) -> Result<u64, Failed>
 // Removes each log file below a number, and counts them.
 fn remove_logs<D: Disk>(disk: &mut D, least: u32) -> Result<u64, Failed>
     ensures kept { Tells (D.told disk.old) (D.told disk.new) (KeepsFrom least 0) }
-    ensures gone { OnOk result (WhereTold (D.told disk.new) (λ t. (n : ℕ) → n < least → t.reads (Log n) ≡ None)) }
-    ensures count { IfOk result (λ count. WhereTold (D.told disk.old) (λ t. count ≡ count_below (logs_in t.reads) least)) }
+    ensures gone { OnOk result (WhereTold (D.told disk.new)
+        (λ t. (n : ℕ) → n < least → t.reads (Log n) ≡ None)) }
+    ensures count { IfOk result (λ count. WhereTold (D.told disk.old)
+        (λ t. count ≡ count_below (logs_in t.reads) least)) }
     ensures few { IfOk result (λ count. count ≤ least) }
     ensures cause { HasCause (D.faults disk.old) (D.faults disk.new) result }
 {
@@ -103,9 +109,12 @@ fn remove_logs<D: Disk>(disk: &mut D, least: u32) -> Result<u64, Failed>
 /// files went. A crash at any moment leaves the other files as they were. It takes no memory.
 pub fn prune<D: Disk>(disk: &mut D, laid: u32, least: u32) -> Result<u64, Failed>
     ensures kept { Tells (D.told disk.old) (D.told disk.new) (KeepsFrom least laid) }
-    ensures checks_gone { OnOk result (WhereTold (D.told disk.new) (λ t. (n : ℕ) → n < laid → t.reads (Check n) ≡ None)) }
-    ensures logs_gone { OnOk result (WhereTold (D.told disk.new) (λ t. (n : ℕ) → n < least → t.reads (Log n) ≡ None)) }
-    ensures count { IfOk result (λ count. WhereTold (D.told disk.old) (λ t. count ≡ count_below (checks_in t.reads) laid + count_below (logs_in t.reads) least)) }
+    ensures checks_gone { OnOk result (WhereTold (D.told disk.new)
+        (λ t. (n : ℕ) → n < laid → t.reads (Check n) ≡ None)) }
+    ensures logs_gone { OnOk result (WhereTold (D.told disk.new)
+        (λ t. (n : ℕ) → n < least → t.reads (Log n) ≡ None)) }
+    ensures count { IfOk result (λ count. WhereTold (D.told disk.old)
+        (λ t. count ≡ count_below (checks_in t.reads) laid + count_below (logs_in t.reads) least)) }
     ensures cause { HasCause (D.faults disk.old) (D.faults disk.new) result }
 {
     let checks = remove_checks(disk, laid)?;

@@ -64,7 +64,17 @@ impl Draft {
         requires within { length self.old.ring.live ≤ self.old.slots }
         requires above { self.old.ring.top ≤ number }
         requires low { number < 2 ^ 64 - 1 }
-        ensures ring { OnOk result (self.new.ring ≡ record { slots = self.new.slots; top = number + 1; live = self.old.ring.live ++ record { number = number; pointer = pointer; held = false } ∷ [] }) }
+        ensures ring { OnOk result (self.new.ring ≡ record {
+          slots = self.new.slots;
+          top = number +
+              1;
+          live = self.old.ring.live ++ record {
+            number = number;
+            pointer = pointer;
+            held =
+                false;
+          } ∷ [];
+        }) }
         ensures within { OnOk result (length self.old.ring.live + 1 ≤ self.new.slots) }
         ensures rest { self.new ≡ record self.old { ring = self.new.ring; slots = self.new.slots } }
     {
@@ -76,7 +86,8 @@ impl Draft {
     /// Begins an open transaction that has nothing yet. Whether it may be one more: 1,024 are open where it may not.
     pub(crate) fn begin(&mut self, txn: u64, puts: bool) -> Result<bool, NoMemory>
         requires { open_at self.old.table txn ≡ None }
-        ensures begun { IfOk result (λ few. few ≡ true → Lists txn (nothing puts) self.old.table self.new.table × (length self.old.table < 1024)) }
+        ensures begun { IfOk result (λ few. few ≡ true → Lists txn (nothing puts) self.old.table
+            self.new.table × (length self.old.table < 1024)) }
         ensures many { IfOk result (λ few. few ≡ false → 1024 ≤ length self.old.table) }
         ensures rest { self.new ≡ record self.old { table = self.new.table } }
     {
@@ -90,8 +101,10 @@ impl Draft {
     /// Adds a put or a take to an open transaction. Its room grows with what is read.
     pub(crate) fn add(&mut self, txn: u64, item: Item) -> Result<(), NoMemory>
         requires { MayList item (open_at self.old.table txn) }
-        ensures added { OnOk result ((base : Table) (listed : Listed) → Lists txn listed base self.old.table → Lists txn (with_item item listed) base self.new.table) }
-        ensures here { OnOk result ((listed : Listed) → IsListing txn listed self.old.table → IsListing txn (with_item item listed) self.new.table) }
+        ensures added { OnOk result ((base : Table) (listed : Listed) → Lists txn listed base
+            self.old.table → Lists txn (with_item item listed) base self.new.table) }
+        ensures here { OnOk result ((listed : Listed) → IsListing txn listed self.old.table →
+            IsListing txn (with_item item listed) self.new.table) }
         ensures rest { self.new ≡ record self.old { table = self.new.table } }
     {
         self.table.widen(txn)?;
@@ -101,10 +114,15 @@ impl Draft {
 
     /// Holds an event, if it is left and no open transaction takes it.
     pub(crate) fn hold(&mut self, number: u64) -> bool
-        ensures held { result ≡ true → (taken : List ℕ) → HasTaken taken self.old.ring.live → HasTaken (taken ++ number ∷ []) self.new.ring.live }
-        ensures other { result ≡ false → (taken behind : List ℕ) → HasTaken taken self.old.ring.live → MayTake self.old.ring.live taken (number ∷ behind) → ⊥ }
+        ensures held { result ≡ true → (taken : List ℕ) → HasTaken taken self.old.ring.live →
+            HasTaken (taken ++ number ∷ []) self.new.ring.live }
+        ensures other { result ≡ false → (taken behind : List ℕ) → HasTaken taken self.old.ring.live
+            → MayTake self.old.ring.live taken (number ∷ behind) → ⊥ }
         ensures events { map live_at self.new.ring.live ≡ map live_at self.old.ring.live }
-        ensures rest { self.new ≡ record self.old { ring = record self.old.ring { live = self.new.ring.live } } }
+        ensures rest { self.new ≡ record self.old {
+          ring = record self.old.ring
+              { live = self.new.ring.live };
+        } }
     {
         let Some((_, held)) = self.ring.look(number) else {
             return false;

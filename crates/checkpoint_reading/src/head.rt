@@ -64,7 +64,8 @@ fn read_file<D: Disk>(
     ensures known { IsKnown (D.told disk.new) known.new }
     ensures there { IfOk result (λ number. HasLog (D.told disk.new) number) }
     ensures file { IsSameFile reader.old reader.new }
-    ensures goes { IfOk result (λ number. Goes (D.told disk.old) reader.old reader.new PlaceGives (λ files o. OffsetGives files o number)) }
+    ensures goes { IfOk result (λ number. Goes (D.told disk.old) reader.old reader.new PlaceGives
+        (λ files o. OffsetGives files o number)) }
     ensures bad { IfErr result (λ e. Faults (D.told disk.old) reader.old PlaceGives e) }
     ensures same { D.told disk.new ≡ D.told disk.old }
     ensures cause { IsHonest (D.faults disk.old) (D.faults disk.new) result }
@@ -99,8 +100,10 @@ fn read_offset<D: Disk>(
     requires there { HasLog (D.told disk.old) number }
     ensures held { OnOk result (Holds (D.told disk.new) reader.new) }
     ensures file { IsSameFile reader.old reader.new }
-    ensures goes { IfOk result (λ place. Goes (D.told disk.old) reader.old reader.new (λ files o. OffsetGives files o number) (λ files o. NumbersGive files o place)) }
-    ensures bad { IfErr result (λ e. Faults (D.told disk.old) reader.old (λ files o. OffsetGives files o number) e) }
+    ensures goes { IfOk result (λ place. Goes (D.told disk.old) reader.old reader.new
+        (λ files o. OffsetGives files o number) (λ files o. NumbersGive files o place)) }
+    ensures bad { IfErr result (λ e. Faults (D.told disk.old) reader.old
+        (λ files o. OffsetGives files o number) e) }
     ensures same { D.told disk.new ≡ D.told disk.old }
     ensures cause { IsHonest (D.faults disk.old) (D.faults disk.new) result }
 {
@@ -129,8 +132,10 @@ fn read_number<D: Disk>(
     requires { Holds (D.told disk.old) reader.old }
     ensures held { OnOk result (Holds (D.told disk.new) reader.new) }
     ensures file { IsSameFile reader.old reader.new }
-    ensures goes { IfOk result (λ number. Goes (D.told disk.old) reader.old reader.new (λ files o. NumbersGive files o place) (λ files o. TxnGives files o place number)) }
-    ensures bad { IfErr result (λ e. Faults (D.told disk.old) reader.old (λ files o. NumbersGive files o place) e) }
+    ensures goes { IfOk result (λ number. Goes (D.told disk.old) reader.old reader.new
+        (λ files o. NumbersGive files o place) (λ files o. TxnGives files o place number)) }
+    ensures bad { IfErr result (λ e. Faults (D.told disk.old) reader.old
+        (λ files o. NumbersGive files o place) e) }
     ensures same { D.told disk.new ≡ D.told disk.old }
     ensures cause { IsHonest (D.faults disk.old) (D.faults disk.new) result }
 {
@@ -152,8 +157,10 @@ fn read_txn<D: Disk>(
     ensures held { OnOk result (Holds (D.told disk.new) reader.new) }
     ensures some { IfOk result (λ next. 1 ≤ next.txn) }
     ensures file { IsSameFile reader.old reader.new }
-    ensures goes { IfOk result (λ next. Goes (D.told disk.old) reader.old reader.new (λ files o. TxnGives files o place number) (λ files o. ListsGive files o place next)) }
-    ensures bad { IfErr result (λ e. Faults (D.told disk.old) reader.old (λ files o. TxnGives files o place number) e) }
+    ensures goes { IfOk result (λ next. Goes (D.told disk.old) reader.old reader.new
+        (λ files o. TxnGives files o place number) (λ files o. ListsGive files o place next)) }
+    ensures bad { IfErr result (λ e. Faults (D.told disk.old) reader.old
+        (λ files o. TxnGives files o place number) e) }
     ensures same { D.told disk.new ≡ D.told disk.old }
     ensures cause { IsHonest (D.faults disk.old) (D.faults disk.new) result }
 {
@@ -180,7 +187,8 @@ pub(crate) fn read_head<D: Disk>(
     ensures known { IsKnown (D.told disk.new) known.new }
     ensures some { IfOk result (λ head. 1 ≤ head.1.txn) }
     ensures file { IsSameFile reader.old reader.new }
-    ensures goes { IfOk result (λ head. Goes (D.told disk.old) reader.old reader.new Gives (λ files o. ListsGive files o head.0 head.1)) }
+    ensures goes { IfOk result (λ head. Goes (D.told disk.old) reader.old reader.new Gives
+        (λ files o. ListsGive files o head.0 head.1)) }
     ensures bad { IfErr result (λ e. Faults (D.told disk.old) reader.old Gives e) }
     ensures same { D.told disk.new ≡ D.told disk.old }
     ensures cause { IsHonest (D.faults disk.old) (D.faults disk.new) result }

@@ -39,9 +39,12 @@ fn next_right<D: Disk>(
     ensures known { IsKnown (D.told disk.new) known.new }
     ensures file { IsSameFile reader.old reader.new }
     ensures right { IfOk result (λ next. MatchOption next
-        (WhereTold (D.told disk.old) (λ t. (l : ℕ × pointers.Pointer) (more : List ℕ) → rest t reader.old ≡ live_bytes l ++ more → IsLive t.reads (live_text draft.now) low l → ⊥))
-        (λ l. Takes (D.told disk.old) reader.old reader.new (live_bytes l) × WhereTold (D.told disk.old) (λ t. IsLive t.reads (live_text draft.now) low l))) }
-    ensures between { IfOk result (λ next. MatchOption next (0 ≤ low) (λ l. (low ≤ l.0) × (l.0 < draft.now.next.number) × (draft.now.next.number < 2 ^ 64))) }
+        (WhereTold (D.told disk.old) (λ t. (l : ℕ × pointers.Pointer) (more : List ℕ) → rest t
+        reader.old ≡ live_bytes l ++ more → IsLive t.reads (live_text draft.now) low l → ⊥))
+        (λ l. Takes (D.told disk.old) reader.old reader.new (live_bytes l) × WhereTold
+        (D.told disk.old) (λ t. IsLive t.reads (live_text draft.now) low l))) }
+    ensures between { IfOk result (λ next. MatchOption next (0 ≤ low)
+        (λ l. (low ≤ l.0) × (l.0 < draft.now.next.number) × (draft.now.next.number < 2 ^ 64))) }
     ensures sized { IfOk result (λ next. IfSome next (λ l. IsSized l.1)) }
     ensures plain { IfErr result IsPlain }
     ensures same { D.told disk.new ≡ D.told disk.old }
@@ -73,10 +76,13 @@ pub(crate) fn read_live<D: Disk>(
     ensures held { OnOk result (Holds (D.told disk.new) reader.new) }
     ensures known { IsKnown (D.told disk.new) known.new }
     ensures file { IsSameFile reader.old reader.new }
-    ensures goes { OnOk result (Goes (D.told disk.old) reader.old reader.new (λ files o. ListsGive files o draft.old.place draft.old.next) (λ files o. OpenGive files o (live_text draft.new))) }
+    ensures goes { OnOk result (Goes (D.told disk.old) reader.old reader.new
+        (λ files o. ListsGive files o draft.old.place draft.old.next)
+        (λ files o. OpenGive files o (live_text draft.new))) }
     ensures live { OnOk result (HasLive draft.new draft.new.next.number) }
     ensures of { IsOf draft.old.place draft.old.next draft.new }
-    ensures bad { IfErr result (λ e. Faults (D.told disk.old) reader.old (λ files o. ListsGive files o draft.old.place draft.old.next) e) }
+    ensures bad { IfErr result (λ e. Faults (D.told disk.old) reader.old
+        (λ files o. ListsGive files o draft.old.place draft.old.next) e) }
     ensures same { D.told disk.new ≡ D.told disk.old }
     ensures cause { IsHonest (D.faults disk.old) (D.faults disk.new) result }
 {

@@ -31,7 +31,8 @@ fn before(file: u32) -> Option<FileName>
 
 // Whether there is a log file of this number.
 fn is_there<D: Disk>(disk: &mut D, file: u32) -> Result<bool, Failed>
-    ensures there { IfOk result (λ there. WhereTold (D.told disk.old) (λ t. (there ≡ true) ↔ IsSome (t.reads (Log file)))) }
+    ensures there { IfOk result (λ there. WhereTold (D.told disk.old)
+        (λ t. (there ≡ true) ↔ IsSome (t.reads (Log file)))) }
     ensures same { D.told disk.new ≡ D.told disk.old }
     ensures cause { HasCause (D.faults disk.old) (D.faults disk.new) result }
 {
@@ -74,7 +75,8 @@ impl Logs {
     pub(crate) fn has<D: Disk>(&mut self, disk: &mut D, file: u32) -> Result<bool, Failed>
         requires { IsKnown (D.told disk.old) self.old }
         ensures known { IsKnown (D.told disk.new) self.new }
-        ensures there { IfOk result (λ there. WhereTold (D.told disk.old) (λ t. (there ≡ true) ↔ IsSome (t.reads (Log file)))) }
+        ensures there { IfOk result (λ there. WhereTold (D.told disk.old)
+            (λ t. (there ≡ true) ↔ IsSome (t.reads (Log file)))) }
         ensures last { IfOk result (λ there. there ≡ true → self.new.file ≡ Some file) }
         ensures same { D.told disk.new ≡ D.told disk.old }
         ensures cause { HasCause (D.faults disk.old) (D.faults disk.new) result }
@@ -92,7 +94,8 @@ impl Logs {
 
     // Whether the block has so many bytes from an offset of the file on.
     fn covers(&self, at: u64, size: usize) -> bool
-        ensures { result ≡ true → (self.now.start ≤ at) × (at - self.now.start + size ≤ self.now.filled) }
+        ensures { result ≡ true → (self.now.start ≤ at) ×
+            (at - self.now.start + size ≤ self.now.filled) }
     {
         if at < self.start {
             return false;
@@ -184,7 +187,8 @@ fn txn_of(rec: Rec, length: u32) -> Option<u64>
 
 // The transaction of the PUT that a front of the bytes spells, if its event has this length.
 fn txn_in(alloc: Global, bytes: &[u8], length: u32) -> Result<Option<u64>, CheckReadRefused>
-    ensures put { IfOk result (λ txn. (p : pointers.Pointer) → p.at ≡ 0 → p.length ≡ length → IsPutAt bytes.now p txn) }
+    ensures put { IfOk result (λ txn. (p : pointers.Pointer) → p.at ≡ 0 → p.length ≡ length →
+        IsPutAt bytes.now p txn) }
     ensures memory { IfErr result (λ e. e ≡ CheckReadRefused.NoMemory) }
 {
     let Read::Whole { .. } = read_record(bytes) else {

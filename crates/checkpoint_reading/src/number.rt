@@ -13,8 +13,10 @@ const OPEN: u8 = 1;
 // Whether a checkpoint's commit byte is open, and a byte is after it.
 fn counts<D: Disk>(disk: &mut D, number: u32) -> Result<bool, Failed>
     requires { WhereTold (D.told disk.old) (λ t. IsSome (t.reads (Check number))) }
-    ensures counts { IfOk result (λ counts. counts ≡ true → WhereTold (D.told disk.old) (λ t. IsSomeAnd (t.reads (Check number)) (λ bytes. IsPassed bytes → ⊥))) }
-    ensures passed { IfOk result (λ counts. counts ≡ false → WhereTold (D.told disk.old) (λ t. IsPassedFile (t.reads (Check number)))) }
+    ensures counts { IfOk result (λ counts. counts ≡ true → WhereTold (D.told disk.old)
+        (λ t. IsSomeAnd (t.reads (Check number)) (λ bytes. IsPassed bytes → ⊥))) }
+    ensures passed { IfOk result (λ counts. counts ≡ false → WhereTold (D.told disk.old)
+        (λ t. IsPassedFile (t.reads (Check number)))) }
     ensures number { number < 2 ^ 32 }
     ensures same { D.told disk.new ≡ D.told disk.old }
     ensures cause { HasCause (D.faults disk.old) (D.faults disk.new) result }
@@ -41,7 +43,8 @@ fn log_name(number: u32) -> FileName
 /// The number of a folder's newest checkpoint: the greatest one whose commit byte is open and has a byte after it. None
 /// where the folder has no such checkpoint. It takes no memory.
 pub fn newest_number<D: Disk>(disk: &mut D) -> Result<Option<u32>, Failed>
-    ensures newest { IfOk result (λ newest. WhereTold (D.told disk.old) (λ t. IsNewest t.reads newest)) }
+    ensures newest { IfOk result (λ newest. WhereTold (D.told disk.old)
+        (λ t. IsNewest t.reads newest)) }
     ensures same { D.told disk.new ≡ D.told disk.old }
     ensures cause { HasCause (D.faults disk.old) (D.faults disk.new) result }
 {

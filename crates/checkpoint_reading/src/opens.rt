@@ -23,7 +23,8 @@ pub(crate) fn next_open<D: Disk>(
     ensures file { IsSameFile reader.old reader.new }
     ensures begins { IfOk result (λ next. MatchOption next
         (WhereTold (D.told disk.old) (λ t. NoOpen low high (rest t reader.old)))
-        (λ o. Takes (D.told disk.old) reader.old reader.new (u64_bytes o.0 ++ u32_bytes o.1) × MayOpen low high o.0 o.1)) }
+        (λ o. Takes (D.told disk.old) reader.old reader.new (u64_bytes o.0 ++ u32_bytes o.1) ×
+        MayOpen low high o.0 o.1)) }
     ensures plain { IfErr result IsPlain }
     ensures same { D.told disk.new ≡ D.told disk.old }
     ensures cause { IsHonest (D.faults disk.old) (D.faults disk.new) result }

@@ -35,9 +35,12 @@ fn next_put<D: Disk>(
     ensures known { IsKnown (D.told disk.new) known.new }
     ensures file { IsSameFile reader.old reader.new }
     ensures right { IfOk result (λ next. MatchOption next
-        (WhereTold (D.told disk.old) (λ t. (p : pointers.Pointer) (more : List ℕ) → rest t reader.old ≡ pointer_bytes p ++ more → IsPut t.reads txn p → ⊥))
-        (λ p. Takes (D.told disk.old) reader.old reader.new (pointer_bytes p) × WhereTold (D.told disk.old) (λ t. IsPut t.reads txn p))) }
-    ensures sized { IfOk result (λ next. MatchOption next (0 ≤ txn) (λ p. FitsFields p × IsSized p)) }
+        (WhereTold (D.told disk.old) (λ t. (p : pointers.Pointer) (more : List ℕ) → rest t
+        reader.old ≡ pointer_bytes p ++ more → IsPut t.reads txn p → ⊥))
+        (λ p. Takes (D.told disk.old) reader.old reader.new (pointer_bytes p) × WhereTold
+        (D.told disk.old) (λ t. IsPut t.reads txn p))) }
+    ensures sized { IfOk result (λ next. MatchOption next (0 ≤ txn)
+        (λ p. FitsFields p × IsSized p)) }
     ensures plain { IfErr result IsPlain }
     ensures same { D.told disk.new ≡ D.told disk.old }
     ensures cause { IsHonest (D.faults disk.old) (D.faults disk.new) result }
@@ -70,8 +73,12 @@ fn read_pointers<D: Disk>(
     ensures held { OnOk result (Holds (D.told disk.new) reader.new) }
     ensures known { IsKnown (D.told disk.new) known.new }
     ensures file { IsSameFile reader.old reader.new }
-    ensures right { IfOk result (λ right. right ≡ true → (read : List pointers.Pointer) × HasPuts (D.told disk.old) reader.old reader.new txn draft.old draft.new read × (length read ≡ count)) }
-    ensures wrong { IfOk result (λ right. right ≡ false → WhereTold (D.told disk.old) (λ t. NoList pointer_bytes (AllByRecursion (IsPut t.reads txn)) count (rest t reader.old))) }
+    ensures right { IfOk result (λ right. right ≡ true → (read : List pointers.Pointer) × HasPuts
+        (D.told disk.old) reader.old reader.new txn draft.old draft.new read ×
+        (length read ≡ count)) }
+    ensures wrong { IfOk result (λ right. right ≡ false → WhereTold (D.told disk.old)
+        (λ t. NoList pointer_bytes (AllByRecursion (IsPut t.reads txn)) count
+        (rest t reader.old))) }
     ensures plain { IfErr result IsPlain }
     ensures same { D.told disk.new ≡ D.told disk.old }
     ensures cause { IsHonest (D.faults disk.old) (D.faults disk.new) result }
@@ -105,8 +112,11 @@ fn read_put<D: Disk>(
     ensures known { IsKnown (D.told disk.new) known.new }
     ensures file { IsSameFile reader.old reader.new }
     ensures right { IfOk result (λ next. MatchOption next
-        (WhereTold (D.told disk.old) (λ t. NoEntry pointer_bytes (λ txn puts. AllByRecursion (IsPut t.reads txn) puts) low draft.old.next.txn (length draft.old.table) (rest t reader.old)))
-        (λ txn. HasPut (D.told disk.old) reader.old reader.new low txn draft.old draft.new × (draft.old.next.txn < 2 ^ 64))) }
+        (WhereTold (D.told disk.old) (λ t. NoEntry pointer_bytes
+        (λ txn puts. AllByRecursion (IsPut t.reads txn) puts) low draft.old.next.txn
+        (length draft.old.table) (rest t reader.old)))
+        (λ txn. HasPut (D.told disk.old) reader.old reader.new low txn draft.old draft.new ×
+        (draft.old.next.txn < 2 ^ 64))) }
     ensures plain { IfErr result IsPlain }
     ensures same { D.told disk.new ≡ D.told disk.old }
     ensures cause { IsHonest (D.faults disk.old) (D.faults disk.new) result }
@@ -143,9 +153,11 @@ pub(crate) fn read_puts<D: Disk>(
     ensures known { IsKnown (D.told disk.new) known.new }
     ensures file { IsSameFile reader.old reader.new }
     ensures read { OnOk result ((c : CheckText) × HasReadPuts draft.new c
-        × Goes (D.told disk.old) reader.old reader.new (λ files o. OpenGive files o (live_text draft.old)) (λ files o. TakenGive files o c)) }
+        × Goes (D.told disk.old) reader.old reader.new (λ files o. OpenGive files o
+        (live_text draft.old)) (λ files o. TakenGive files o c)) }
     ensures of { OnOk result (IsOf draft.old.place draft.old.next draft.new) }
-    ensures bad { IfErr result (λ e. Faults (D.told disk.old) reader.old (λ files o. OpenGive files o (live_text draft.old)) e) }
+    ensures bad { IfErr result (λ e. Faults (D.told disk.old) reader.old
+        (λ files o. OpenGive files o (live_text draft.old)) e) }
     ensures same { D.told disk.new ≡ D.told disk.old }
     ensures cause { IsHonest (D.faults disk.old) (D.faults disk.new) result }
 {

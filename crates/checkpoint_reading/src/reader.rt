@@ -37,7 +37,13 @@ impl Model for CheckReader {
 
     ghost Value = { Reader };
 
-    ghost view = { λ r. record { number = r.number; size = r.size; at = r.at; held = take (r.filled - r.place) (drop r.place r.piece.items) } };
+    ghost view = { λ r. record {
+      number = r.number;
+      size = r.size;
+      at = r.at;
+      held = take
+          (r.filled - r.place) (drop r.place r.piece.items);
+    } };
 
     ghost invariant = { λ r. IsReader r.size r.at r.place r.filled r.piece.items };
 }
@@ -132,7 +138,8 @@ impl CheckReader {
         ensures held { OnOk result (Holds (D.told disk.new) self.new) }
         ensures place { self.new.at ≡ self.old.at }
         ensures file { IsSameFile self.old self.new }
-        ensures much { OnOk result (WhereTold (D.told disk.old) (λ t. min 65_536 (length (rest t self.old)) ≤ length self.new.held)) }
+        ensures much { OnOk result (WhereTold (D.told disk.old)
+            (λ t. min 65_536 (length (rest t self.old)) ≤ length self.new.held)) }
         ensures same { D.told disk.new ≡ D.told disk.old }
         ensures cause { HasCause (D.faults disk.old) (D.faults disk.new) result }
     {
@@ -150,7 +157,8 @@ impl CheckReader {
         ensures place { self.new.at ≡ self.old.at }
         ensures file { IsSameFile self.old self.new }
         ensures enough { IfOk result (λ has. has ≡ true → want ≤ length self.new.held) }
-        ensures short { IfOk result (λ has. has ≡ false → want ≤ 65_536 → IsShort (D.told disk.old) self.old want) }
+        ensures short { IfOk result (λ has. has ≡ false → want ≤ 65_536 → IsShort (D.told disk.old)
+            self.old want) }
         ensures same { D.told disk.new ≡ D.told disk.old }
         ensures plain { IfErr result IsPlain }
         ensures cause { IsHonest (D.faults disk.old) (D.faults disk.new) result }
@@ -204,7 +212,8 @@ impl CheckReader {
     fn take_text(&mut self, text: &[u8; 8]) -> bool
         requires { 8 ≤ length self.old.held }
         ensures taken { IfTrue result (IsTaken self.old self.new text.now) }
-        ensures other { result ≡ false → (take 8 self.old.held ≡ text.now → ⊥) × (self.new ≡ self.old) }
+        ensures other { result ≡ false → (take 8 self.old.held ≡ text.now → ⊥) ×
+            (self.new ≡ self.old) }
     {
         if !begins(&self.piece[self.place..self.filled], text) {
             return false;
@@ -221,7 +230,8 @@ impl CheckReader {
     ) -> Result<Option<u32>, CheckReadRefused>
         requires { Holds (D.told disk.old) self.old }
         ensures held { OnOk result (Holds (D.told disk.new) self.new) }
-        ensures taken { IfOk result (λ next. MatchOption next (IsShort (D.told disk.old) self.old 4) (λ n. Takes (D.told disk.old) self.old self.new (u32_bytes n))) }
+        ensures taken { IfOk result (λ next. MatchOption next (IsShort (D.told disk.old) self.old 4)
+            (λ n. Takes (D.told disk.old) self.old self.new (u32_bytes n))) }
         ensures file { IsSameFile self.old self.new }
         ensures same { D.told disk.new ≡ D.told disk.old }
         ensures plain { IfErr result IsPlain }
@@ -241,7 +251,8 @@ impl CheckReader {
     ) -> Result<Option<u64>, CheckReadRefused>
         requires { Holds (D.told disk.old) self.old }
         ensures held { OnOk result (Holds (D.told disk.new) self.new) }
-        ensures taken { IfOk result (λ next. MatchOption next (IsShort (D.told disk.old) self.old 8) (λ n. Takes (D.told disk.old) self.old self.new (u64_bytes n))) }
+        ensures taken { IfOk result (λ next. MatchOption next (IsShort (D.told disk.old) self.old 8)
+            (λ n. Takes (D.told disk.old) self.old self.new (u64_bytes n))) }
         ensures file { IsSameFile self.old self.new }
         ensures same { D.told disk.new ≡ D.told disk.old }
         ensures plain { IfErr result IsPlain }
@@ -261,7 +272,9 @@ impl CheckReader {
     ) -> Result<Option<Pointer>, CheckReadRefused>
         requires { Holds (D.told disk.old) self.old }
         ensures held { OnOk result (Holds (D.told disk.new) self.new) }
-        ensures taken { IfOk result (λ next. MatchOption next (IsShort (D.told disk.old) self.old 16) (λ p. Takes (D.told disk.old) self.old self.new (pointer_bytes p))) }
+        ensures taken { IfOk result (λ next. MatchOption next
+            (IsShort (D.told disk.old) self.old 16) (λ p. Takes (D.told disk.old) self.old self.new
+            (pointer_bytes p))) }
         ensures fits { IfOk result (λ next. IfSome next FitsFields) }
         ensures file { IsSameFile self.old self.new }
         ensures same { D.told disk.new ≡ D.told disk.old }
@@ -282,7 +295,9 @@ impl CheckReader {
     ) -> Result<Option<(u64, Pointer)>, CheckReadRefused>
         requires { Holds (D.told disk.old) self.old }
         ensures held { OnOk result (Holds (D.told disk.new) self.new) }
-        ensures taken { IfOk result (λ next. MatchOption next (IsShort (D.told disk.old) self.old 24) (λ l. Takes (D.told disk.old) self.old self.new (live_bytes l))) }
+        ensures taken { IfOk result (λ next. MatchOption next
+            (IsShort (D.told disk.old) self.old 24) (λ l. Takes (D.told disk.old) self.old self.new
+            (live_bytes l))) }
         ensures fits { IfOk result (λ next. IfSome next (λ l. (l.0 < 2 ^ 64) × FitsFields l.1)) }
         ensures file { IsSameFile self.old self.new }
         ensures same { D.told disk.new ≡ D.told disk.old }
@@ -304,7 +319,9 @@ impl CheckReader {
     ) -> Result<Option<(u64, u32)>, CheckReadRefused>
         requires { Holds (D.told disk.old) self.old }
         ensures held { OnOk result (Holds (D.told disk.new) self.new) }
-        ensures taken { IfOk result (λ next. MatchOption next (IsShort (D.told disk.old) self.old 12) (λ e. Takes (D.told disk.old) self.old self.new (u64_bytes e.0 ++ u32_bytes e.1))) }
+        ensures taken { IfOk result (λ next. MatchOption next
+            (IsShort (D.told disk.old) self.old 12) (λ e. Takes (D.told disk.old) self.old self.new
+            (u64_bytes e.0 ++ u32_bytes e.1))) }
         ensures fits { IfOk result (λ next. IfSome next (λ e. (e.0 < 2 ^ 64) × (e.1 < 2 ^ 32))) }
         ensures file { IsSameFile self.old self.new }
         ensures same { D.told disk.new ≡ D.told disk.old }
@@ -327,8 +344,10 @@ impl CheckReader {
     ) -> Result<bool, CheckReadRefused>
         requires { Holds (D.told disk.old) self.old }
         ensures held { OnOk result (Holds (D.told disk.new) self.new) }
-        ensures taken { IfOk result (λ is. is ≡ true → Takes (D.told disk.old) self.old self.new text.now) }
-        ensures other { IfOk result (λ is. is ≡ false → WhereTold (D.told disk.old) (λ t. (more : List ℕ) → rest t self.old ≡ text.now ++ more → ⊥)) }
+        ensures taken { IfOk result (λ is. is ≡ true → Takes (D.told disk.old) self.old self.new
+            text.now) }
+        ensures other { IfOk result (λ is. is ≡ false → WhereTold (D.told disk.old)
+            (λ t. (more : List ℕ) → rest t self.old ≡ text.now ++ more → ⊥)) }
         ensures file { IsSameFile self.old self.new }
         ensures same { D.told disk.new ≡ D.told disk.old }
         ensures plain { IfErr result IsPlain }

@@ -30,8 +30,12 @@ fn read_numbers<D: Disk>(
     requires begun { IsListing txn (tables.Takes []) draft.old.table }
     ensures held { OnOk result (Holds (D.told disk.new) reader.new) }
     ensures file { IsSameFile reader.old reader.new }
-    ensures right { IfOk result (λ right. right ≡ true → (read : List ℕ) × HasTakes (D.told disk.old) reader.old reader.new txn draft.old draft.new read × (length read ≡ count)) }
-    ensures wrong { IfOk result (λ right. right ≡ false → WhereTold (D.told disk.old) (λ t. (taken : List ℕ) → HasTaken taken draft.old.ring.live → NoList u64_bytes (MayTake draft.old.ring.live taken) count (rest t reader.old))) }
+    ensures right { IfOk result (λ right. right ≡ true → (read : List ℕ) × HasTakes
+        (D.told disk.old) reader.old reader.new txn draft.old draft.new read ×
+        (length read ≡ count)) }
+    ensures wrong { IfOk result (λ right. right ≡ false → WhereTold (D.told disk.old)
+        (λ t. (taken : List ℕ) → HasTaken taken draft.old.ring.live → NoList u64_bytes
+        (MayTake draft.old.ring.live taken) count (rest t reader.old))) }
     ensures plain { IfErr result IsPlain }
     ensures same { D.told disk.new ≡ D.told disk.old }
     ensures cause { IsHonest (D.faults disk.old) (D.faults disk.new) result }
@@ -61,12 +65,17 @@ fn read_take<D: Disk>(
     low: u64,
 ) -> Result<Option<u64>, CheckReadRefused>
     requires held { Holds (D.told disk.old) reader.old }
-    requires closed { (txn : ℕ) → low ≤ txn → is_open true (open_at draft.old.table txn) ≡ false → open_at draft.old.table txn ≡ None }
+    requires closed { (txn : ℕ) → low ≤ txn → is_open true (open_at draft.old.table txn) ≡ false →
+        open_at draft.old.table txn ≡ None }
     ensures held { OnOk result (Holds (D.told disk.new) reader.new) }
     ensures file { IsSameFile reader.old reader.new }
     ensures right { IfOk result (λ next. MatchOption next
-        (WhereTold (D.told disk.old) (λ t. (taken : List ℕ) → HasTaken taken draft.old.ring.live → NoEntry u64_bytes (λ txn numbers. (is_open true (open_at draft.old.table txn) ≡ false) × MayTake draft.old.ring.live taken numbers) low draft.old.next.txn (length draft.old.table) (rest t reader.old)))
-        (λ txn. HasTake (D.told disk.old) reader.old reader.new low txn draft.old draft.new × (draft.old.next.txn < 2 ^ 64))) }
+        (WhereTold (D.told disk.old) (λ t. (taken : List ℕ) → HasTaken taken draft.old.ring.live →
+        NoEntry u64_bytes (λ txn numbers. (is_open true (open_at draft.old.table txn) ≡ false) ×
+        MayTake draft.old.ring.live taken numbers) low draft.old.next.txn (length draft.old.table)
+        (rest t reader.old)))
+        (λ txn. HasTake (D.told disk.old) reader.old reader.new low txn draft.old draft.new ×
+        (draft.old.next.txn < 2 ^ 64))) }
     ensures plain { IfErr result IsPlain }
     ensures same { D.told disk.new ≡ D.told disk.old }
     ensures cause { IsHonest (D.faults disk.old) (D.faults disk.new) result }
@@ -101,10 +110,13 @@ pub(crate) fn read_takes<D: Disk>(
     requires puts { (c : CheckText) × HasReadPuts draft.old c }
     ensures held { OnOk result (Holds (D.told disk.new) reader.new) }
     ensures file { IsSameFile reader.old reader.new }
-    ensures read { OnOk result ((c : CheckText) → HasReadPuts draft.old c → (d : CheckText) × HasRead draft.new d
-        × Goes (D.told disk.old) reader.old reader.new (λ files o. TakenGive files o c) (λ files o. End d o)) }
+    ensures read { OnOk result ((c : CheckText) → HasReadPuts draft.old c → (d : CheckText) ×
+        HasRead draft.new d
+        × Goes (D.told disk.old) reader.old reader.new (λ files o. TakenGive files o c)
+        (λ files o. End d o)) }
     ensures of { OnOk result (IsOf draft.old.place draft.old.next draft.new) }
-    ensures bad { IfErr result (λ e. (c : CheckText) → HasReadPuts draft.old c → Faults (D.told disk.old) reader.old (λ files o. TakenGive files o c) e) }
+    ensures bad { IfErr result (λ e. (c : CheckText) → HasReadPuts draft.old c → Faults
+        (D.told disk.old) reader.old (λ files o. TakenGive files o c) e) }
     ensures same { D.told disk.new ≡ D.told disk.old }
     ensures cause { IsHonest (D.faults disk.old) (D.faults disk.new) result }
 {

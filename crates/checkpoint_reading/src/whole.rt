@@ -32,7 +32,8 @@ fn read_text<D: Disk>(
     requires { Holds (D.told disk.old) reader.old }
     ensures held { OnOk result (Holds (D.told disk.new) reader.new) }
     ensures file { IsSameFile reader.old reader.new }
-    ensures read { IfOk result (λ d. (c : CheckText) × HasRead d c × Goes (D.told disk.old) reader.old reader.new Gives (λ files o. End c o)) }
+    ensures read { IfOk result (λ d. (c : CheckText) × HasRead d c × Goes (D.told disk.old)
+        reader.old reader.new Gives (λ files o. End c o)) }
     ensures bad { IfErr result (λ e. Faults (D.told disk.old) reader.old Gives e) }
     ensures same { D.told disk.new ≡ D.told disk.old }
     ensures cause { IsHonest (D.faults disk.old) (D.faults disk.new) result }
@@ -52,8 +53,10 @@ fn read_text<D: Disk>(
 fn read_check<D: Disk>(alloc: Global, disk: &mut D, number: u32) -> Result<Check, CheckReadRefused>
     requires { WhereTold (D.told disk.old) (λ t. IsNewest t.reads (Some number)) }
     ensures read { IfOk result (λ check. IsRead check) }
-    ensures newest { IfOk result (λ check. WhereTold (D.told disk.old) (λ t. IsNewestOf t.reads (Some check))) }
-    ensures bad { IfErr result (λ e. WhereBad e (λ file at. WhereTold (D.told disk.old) (λ t. IsNewest t.reads (Some file) × IsFault t.reads file at))) }
+    ensures newest { IfOk result (λ check. WhereTold (D.told disk.old)
+        (λ t. IsNewestOf t.reads (Some check))) }
+    ensures bad { IfErr result (λ e. WhereBad e (λ file at. WhereTold (D.told disk.old)
+        (λ t. IsNewest t.reads (Some file) × IsFault t.reads file at))) }
     ensures same { D.told disk.new ≡ D.told disk.old }
     ensures cause { IsHonest (D.faults disk.old) (D.faults disk.new) result }
 {
@@ -83,8 +86,10 @@ pub fn newest<D: Disk>(alloc: Global, disk: &mut D) -> Result<Option<Check>, Che
     // Ring and table are those of a text whose numbers are in order, also where the disk shows nothing.
     ensures read { IfOk result (λ check. IfSome check IsRead) }
     // It is the newest one, and right for the folder.
-    ensures newest { IfOk result (λ check. WhereTold (D.told disk.old) (λ t. IsNewestOf t.reads check)) }
-    ensures bad { IfErr result (λ e. WhereBad e (λ file at. WhereTold (D.told disk.old) (λ t. IsNewest t.reads (Some file) × IsFault t.reads file at))) }
+    ensures newest { IfOk result (λ check. WhereTold (D.told disk.old)
+        (λ t. IsNewestOf t.reads check)) }
+    ensures bad { IfErr result (λ e. WhereBad e (λ file at. WhereTold (D.told disk.old)
+        (λ t. IsNewest t.reads (Some file) × IsFault t.reads file at))) }
     ensures same { D.told disk.new ≡ D.told disk.old }
     ensures cause { IsHonest (D.faults disk.old) (D.faults disk.new) result }
 {

@@ -46,17 +46,25 @@ fn replay_from<D: Disk, L: Ledger>(
     steps: &mut Steps<L>,
 ) -> Result<Replayed, ReplayRefused>
     requires kept { HasEvents check }
-    requires right { WhereTold (D.told disk.old) (λ t. (start : Start) × IsStartOf t.reads check start) }
-    ensures ok { IfOk result (λ r. WhereStarts (D.told disk.old) (Some check) (λ files start found. IsReplayedFrom files start found r)) }
-    ensures elsewhere { IfOk result (λ r. WhereStarts (D.told disk.old) (Some check) (λ files start found. StandElsewhere (Some check) start found r)) }
+    requires right { WhereTold (D.told disk.old) (λ t. (start : Start) × IsStartOf t.reads check
+        start) }
+    ensures ok { IfOk result (λ r. WhereStarts (D.told disk.old) (Some check)
+        (λ files start found. IsReplayedFrom files start found r)) }
+    ensures elsewhere { IfOk result (λ r. WhereStarts (D.told disk.old) (Some check)
+        (λ files start found. StandElsewhere (Some check) start found r)) }
     ensures ready { IfOk result (λ r. IsReady capacity r) }
-    ensures bad { IfErr result (λ e. WhereBadLog e (λ file at. WhereStarts (D.told disk.old) (Some check) (λ files start found. IsBadFrom start found file at))) }
-    ensures over { IfErr result (λ e. WhereOver e (λ count. (capacity < count) × WhereStarts (D.told disk.old) (Some check) (λ files start found. LeavesFrom start found count))) }
-    ensures ticks { WhereStarts (D.told disk.old) (Some check) (λ files start found. steps.new ≤ steps.old + record_count found) }
+    ensures bad { IfErr result (λ e. WhereBadLog e (λ file at. WhereStarts (D.told disk.old)
+        (Some check) (λ files start found. IsBadFrom start found file at))) }
+    ensures over { IfErr result (λ e. WhereOver e (λ count. (capacity < count) × WhereStarts
+        (D.told disk.old) (Some check) (λ files start found. LeavesFrom start found count))) }
+    ensures ticks { WhereStarts (D.told disk.old) (Some check)
+        (λ files start found. steps.new ≤ steps.old + record_count found) }
     ensures same { D.told disk.new ≡ D.told disk.old }
-    ensures fault { IsErrOf result ReplayRefused.DiskFault → Rose (D.faults disk.old) (D.faults disk.new) }
+    ensures fault { IsErrOf result ReplayRefused.DiskFault → Rose (D.faults disk.old)
+        (D.faults disk.new) }
     ensures later { D.faults disk.old ≤ D.faults disk.new }
-    ensures well { (IsErrOf result ReplayRefused.DiskFault → ⊥) → D.faults disk.new ≡ D.faults disk.old }
+    ensures well { (IsErrOf result ReplayRefused.DiskFault → ⊥) → D.faults disk.new ≡ D.faults
+        disk.old }
 {
     let place = check.place;
     let mut index = begin(check, capacity)?;
@@ -85,18 +93,25 @@ pub fn replay<D: Disk, L: Ledger>(
     requires kept { IfSome check HasEvents }
     // The checkpoint is right for the folder.
     requires right { WhereTold (D.told disk.old) (λ t. IsRightFor t.reads check) }
-    ensures ok { IfOk result (λ r. WhereStarts (D.told disk.old) check (λ files start found. IsReplayedFrom files start found r)) }
+    ensures ok { IfOk result (λ r. WhereStarts (D.told disk.old) check
+        (λ files start found. IsReplayedFrom files start found r)) }
     // No other record is pointed to: the same pointers are right for a folder that has the checkpoint and these lines alone.
-    ensures elsewhere { IfOk result (λ r. WhereStarts (D.told disk.old) check (λ files start found. StandElsewhere check start found r)) }
+    ensures elsewhere { IfOk result (λ r. WhereStarts (D.told disk.old) check
+        (λ files start found. StandElsewhere check start found r)) }
     // Also where the disk shows nothing.
     ensures ready { IfOk result (λ r. IsReady capacity r) }
-    ensures bad { IfErr result (λ e. WhereBadLog e (λ file at. WhereStarts (D.told disk.old) check (λ files start found. IsBadFrom start found file at))) }
-    ensures over { IfErr result (λ e. WhereOver e (λ count. (capacity < count) × WhereStarts (D.told disk.old) check (λ files start found. LeavesFrom start found count))) }
-    ensures ticks { WhereStarts (D.told disk.old) check (λ files start found. steps.new ≤ steps.old + record_count found) }
+    ensures bad { IfErr result (λ e. WhereBadLog e (λ file at. WhereStarts (D.told disk.old) check
+        (λ files start found. IsBadFrom start found file at))) }
+    ensures over { IfErr result (λ e. WhereOver e (λ count. (capacity < count) × WhereStarts
+        (D.told disk.old) check (λ files start found. LeavesFrom start found count))) }
+    ensures ticks { WhereStarts (D.told disk.old) check
+        (λ files start found. steps.new ≤ steps.old + record_count found) }
     ensures same { D.told disk.new ≡ D.told disk.old }
-    ensures fault { IsErrOf result ReplayRefused.DiskFault → Rose (D.faults disk.old) (D.faults disk.new) }
+    ensures fault { IsErrOf result ReplayRefused.DiskFault → Rose (D.faults disk.old)
+        (D.faults disk.new) }
     ensures later { D.faults disk.old ≤ D.faults disk.new }
-    ensures well { (IsErrOf result ReplayRefused.DiskFault → ⊥) → D.faults disk.new ≡ D.faults disk.old }
+    ensures well { (IsErrOf result ReplayRefused.DiskFault → ⊥) → D.faults disk.new ≡ D.faults
+        disk.old }
 {
     match check {
         Some(check) => replay_from(alloc, disk, check, capacity, steps),

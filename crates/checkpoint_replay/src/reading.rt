@@ -33,15 +33,20 @@ fn apply_file<D: Disk, L: Ledger>(
     requires there { IsThere (D.told disk.old) file }
     requires kept { IsKept index.old }
     ensures number { file < 2 ^ 32 }
-    ensures ok { OnOk result (WhereFrom (D.told disk.old) file at (λ own. GoesThrough own index.old index.new)) }
-    ensures bad { IfErr result (λ e. WhereBadLog e (λ f a. WhereFrom (D.told disk.old) file at (λ own. StopsIn own index.old f a))) }
+    ensures ok { OnOk result (WhereFrom (D.told disk.old) file at
+        (λ own. GoesThrough own index.old index.new)) }
+    ensures bad { IfErr result (λ e. WhereBadLog e (λ f a. WhereFrom (D.told disk.old) file at
+        (λ own. StopsIn own index.old f a))) }
     ensures not_over { IfErr result (λ e. WhereOver e (λ count. ⊥)) }
     ensures kept { OnOk result (IsKept index.new) }
-    ensures ticks { WhereFrom (D.told disk.old) file at (λ own. steps.new ≤ steps.old + record_count own) }
+    ensures ticks { WhereFrom (D.told disk.old) file at
+        (λ own. steps.new ≤ steps.old + record_count own) }
     ensures same { D.told disk.new ≡ D.told disk.old }
-    ensures fault { IsErrOf result ReplayRefused.DiskFault → Rose (D.faults disk.old) (D.faults disk.new) }
+    ensures fault { IsErrOf result ReplayRefused.DiskFault → Rose (D.faults disk.old)
+        (D.faults disk.new) }
     ensures later { D.faults disk.old ≤ D.faults disk.new }
-    ensures well { (IsErrOf result ReplayRefused.DiskFault → ⊥) → D.faults disk.new ≡ D.faults disk.old }
+    ensures well { (IsErrOf result ReplayRefused.DiskFault → ⊥) → D.faults disk.new ≡ D.faults
+        disk.old }
 {
     match LogReader::begin(alloc, disk, file, at) {
         Ok(reader) => {
@@ -61,15 +66,20 @@ fn apply_behind<D: Disk, L: Ledger>(
     steps: &mut Steps<L>,
 ) -> Result<(), ReplayRefused>
     requires { IsKept index.old }
-    ensures ok { OnOk result (WhereBehind (D.told disk.old) file (λ logs. GoesThrough (lines logs) index.old index.new)) }
-    ensures bad { IfErr result (λ e. WhereBadLog e (λ f at. WhereBehind (D.told disk.old) file (λ logs. StopsIn (lines logs) index.old f at))) }
+    ensures ok { OnOk result (WhereBehind (D.told disk.old) file
+        (λ logs. GoesThrough (lines logs) index.old index.new)) }
+    ensures bad { IfErr result (λ e. WhereBadLog e (λ f at. WhereBehind (D.told disk.old) file
+        (λ logs. StopsIn (lines logs) index.old f at))) }
     ensures not_over { IfErr result (λ e. WhereOver e (λ count. ⊥)) }
     ensures kept { OnOk result (IsKept index.new) }
-    ensures ticks { WhereBehind (D.told disk.old) file (λ logs. steps.new ≤ steps.old + record_count (lines logs)) }
+    ensures ticks { WhereBehind (D.told disk.old) file (λ logs. steps.new ≤ steps.old + record_count
+        (lines logs)) }
     ensures same { D.told disk.new ≡ D.told disk.old }
-    ensures fault { IsErrOf result ReplayRefused.DiskFault → Rose (D.faults disk.old) (D.faults disk.new) }
+    ensures fault { IsErrOf result ReplayRefused.DiskFault → Rose (D.faults disk.old)
+        (D.faults disk.new) }
     ensures later { D.faults disk.old ≤ D.faults disk.new }
-    ensures well { (IsErrOf result ReplayRefused.DiskFault → ⊥) → D.faults disk.new ≡ D.faults disk.old }
+    ensures well { (IsErrOf result ReplayRefused.DiskFault → ⊥) → D.faults disk.new ≡ D.faults
+        disk.old }
 {
     let mut after = Some(FileName::Log(file));
     loop {
@@ -100,15 +110,20 @@ pub fn apply_log<D: Disk, L: Ledger>(
 ) -> Result<(), ReplayRefused>
     requires place { WhereTold (D.told disk.old) (λ t. IsInLog t.reads place) }
     requires kept { IsKept index.old }
-    ensures ok { OnOk result (WhereLines (D.told disk.old) place (λ found. GoesThrough found index.old index.new)) }
-    ensures bad { IfErr result (λ e. WhereBadLog e (λ file at. WhereLines (D.told disk.old) place (λ found. StopsIn found index.old file at))) }
+    ensures ok { OnOk result (WhereLines (D.told disk.old) place
+        (λ found. GoesThrough found index.old index.new)) }
+    ensures bad { IfErr result (λ e. WhereBadLog e (λ file at. WhereLines (D.told disk.old) place
+        (λ found. StopsIn found index.old file at))) }
     ensures not_over { IfErr result (λ e. WhereOver e (λ count. ⊥)) }
     ensures kept { OnOk result (IsKept index.new) }
-    ensures ticks { WhereLines (D.told disk.old) place (λ found. steps.new ≤ steps.old + record_count found) }
+    ensures ticks { WhereLines (D.told disk.old) place (λ found. steps.new ≤ steps.old +
+        record_count found) }
     ensures same { D.told disk.new ≡ D.told disk.old }
-    ensures fault { IsErrOf result ReplayRefused.DiskFault → Rose (D.faults disk.old) (D.faults disk.new) }
+    ensures fault { IsErrOf result ReplayRefused.DiskFault → Rose (D.faults disk.old)
+        (D.faults disk.new) }
     ensures later { D.faults disk.old ≤ D.faults disk.new }
-    ensures well { (IsErrOf result ReplayRefused.DiskFault → ⊥) → D.faults disk.new ≡ D.faults disk.old }
+    ensures well { (IsErrOf result ReplayRefused.DiskFault → ⊥) → D.faults disk.new ≡ D.faults
+        disk.old }
 {
     match apply_file(alloc, disk, place.file, place.at, index, steps) {
         Ok(()) => apply_behind(alloc, disk, place.file, index, steps),

@@ -71,7 +71,8 @@ fn number_after(last: Option<u32>) -> u64
 
 /// The number of the checkpoint after those that are there: one above the greatest, or 1.
 pub(crate) fn next_check<D: Disk>(disk: &mut D) -> Result<u64, Failed>
-    ensures next { IfOk result (λ next. WhereTold (D.told disk.old) (λ t. IsNextCheck t.reads next)) }
+    ensures next { IfOk result (λ next. WhereTold (D.told disk.old)
+        (λ t. IsNextCheck t.reads next)) }
     ensures same { D.told disk.new ≡ D.told disk.old }
     ensures cause { HasCause (D.faults disk.old) (D.faults disk.new) result }
 {

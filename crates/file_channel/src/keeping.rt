@@ -55,7 +55,8 @@ impl<D: Disk + Drop> FileChannel<D> {
         // A crash at any moment of the call leaves what is settled, or that with what is staged.
         ensures any_moment { Shows (StandsOver (D.told self.old.0) (D.faults self.old.0) self.old.1)
             (λ s. is_tried result ≡ true → (s.broken ≡ false)
-            × Tells (D.told self.old.0) (D.told self.new.0) (λ t u. LeavesOnly t u (MayRecover s))) }
+            × Tells (D.told self.old.0) (D.told self.new.0)
+            (λ t u. LeavesOnly t u (MayRecover s))) }
         // The flush writes log files alone, and after it that one checkpoint alone is written.
         ensures fills { Shows (StandsOver (D.told self.old.0) (D.faults self.old.0) self.old.1)
             (λ s. IsErrOf result CheckRefused.DiskFault
@@ -72,7 +73,8 @@ impl<D: Disk + Drop> FileChannel<D> {
             (λ s. is_made result ≡ true
             → WhereTold (D.told self.new.0) (MayBeLaid self.old.1.checks.next (settle s))) }
         ensures laid { Shows (StandsOver (D.told self.old.0) (D.faults self.old.0) self.old.1)
-            (λ s. OnOk result (WhereTold (D.told self.new.0) (IsLaid self.old.1.checks.next (settle s)))) }
+            (λ s. OnOk result (WhereTold (D.told self.new.0)
+            (IsLaid self.old.1.checks.next (settle s)))) }
         ensures later { D.faults self.old.0 ≤ D.faults self.new.0 }
         ensures well { is_fault (Checkpoint result) ≡ false
             → D.faults self.new.0 ≡ D.faults self.old.0 }

@@ -107,7 +107,8 @@ impl<D: Disk + Drop> LoggedPlaces<D> {
         ensures step { StepsOn (D.told self.old.0) (D.told self.new.0) self.old.1 self.new.1
             (Checkpoint result) }
         ensures spent { ShowsOf (D.told self.old.0) self.old.1 (λ s. s.broken ≡ false
-            → (result ≡ Err (CheckRefused.Spent counters.Check)) ↔ (4_294_967_295 < checks.old.next)) }
+            → (result ≡ Err (CheckRefused.Spent counters.Check)) ↔
+            (4_294_967_295 < checks.old.next)) }
         ensures quiet { is_tried result ≡ false → self.new.0 ≡ self.old.0 }
         ensures any_moment { ShowsOf (D.told self.old.0) self.old.1 (λ s. is_tried result ≡ true
             → (s.broken ≡ false) × Tells (D.told self.old.0) (D.told self.new.0)

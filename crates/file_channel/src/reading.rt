@@ -22,9 +22,11 @@ pub(crate) fn read_event<D: Disk + Drop>(
     writing: &mut Writing<D>,
     pointer: &Pointer,
 ) -> Result<Event, ReadRefused>
-    requires own { WhereTold (D.told writing.old.disk) (λ t. IsSome (t.reads (Log writing.old.log.file))) }
+    requires own { WhereTold (D.told writing.old.disk) (λ t. IsSome
+        (t.reads (Log writing.old.log.file))) }
     requires known { (settled : Known) × (known : Known) × (event : Content)
-        × ArePlaced (D.told writing.old.disk) writing.old.log settled known × StandsIn known pointer.now event }
+        × ArePlaced (D.told writing.old.disk) writing.old.log settled known × StandsIn known
+        pointer.now event }
     ensures gives { (settled known : Known) (event : Content)
         → ArePlaced (D.told writing.old.disk) writing.old.log settled known
         → StandsIn known pointer.now event

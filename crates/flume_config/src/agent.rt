@@ -33,7 +33,8 @@ fn agent_names<'a>(agent: &Agent<'a>) -> Result<AgentNames<'a>, AllocError>
 /// What is at fault in the agent's configuration.
 fn judged(agent: &Agent<'_>, names: &AgentNames<'_>) -> Result<Findings, AllocError>
     requires { Names agent.now.properties.now agent.now.name.now names.now }
-    ensures { IfOk result (λ found. IsJudged agent.now.properties.now agent.now.name.now (seen found)) }
+    ensures { IfOk result (λ found. IsJudged agent.now.properties.now agent.now.name.now
+        (seen found)) }
 {
     judge(
         agent,

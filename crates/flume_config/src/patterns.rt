@@ -59,7 +59,8 @@ fn ask(
     line: u32,
     is_date: bool,
 ) -> Result<(), AllocError>
-    ensures { OnOk result (Asks (seen found.old) (seen found.new) (record { text = text.now; line = line; is_date = is_date } ∷ [])) }
+    ensures { OnOk result (Asks (seen found.old) (seen found.new)
+        (record { text = text.now; line = line; is_date = is_date } ∷ [])) }
 {
     let bad = is_bad(alloc, text, is_date)?;
     if bad {
@@ -75,7 +76,8 @@ fn ask_at(
     is_date: bool,
     key: &str,
 ) -> Result<(), AllocError>
-    ensures { OnOk result (Asks (seen found.old) (seen found.new) (asked_at is_date (lookup (place.now.front.now ++ key.now) place.now.properties.now))) }
+    ensures { OnOk result (Asks (seen found.old) (seen found.new)
+        (asked_at is_date (lookup (place.now.front.now ++ key.now) place.now.properties.now))) }
 {
     match value_at(place, key)? {
         None => Ok(()),
@@ -86,7 +88,8 @@ fn ask_at(
 #[tactic(auto, using(crate::proofs::Asking::ask_none))]
 fn ask_date(place: &Place<'_>, found: &mut Findings) -> Result<(), AllocError>
     ensures { OnOk result (Asks (seen found.old) (seen found.new)
-        (asked_of_date place.now.properties.now place.now.front.now (lookup (place.now.front.now ++ codes "type") place.now.properties.now))) }
+        (asked_of_date place.now.properties.now place.now.front.now
+        (lookup (place.now.front.now ++ codes "type") place.now.properties.now))) }
 {
     match value_at(place, "type")? {
         Some((kind, _)) if is_millis(kind) => ask_at(place, found, true, "pattern"),
@@ -95,7 +98,8 @@ fn ask_date(place: &Place<'_>, found: &mut Findings) -> Result<(), AllocError>
 }
 
 fn ask_serializer(place: &Place<'_>, found: &mut Findings, name: &str) -> Result<(), AllocError>
-    ensures { OnOk result (Asks (seen found.old) (seen found.new) (asked_of_serializer place.now.properties.now place.now.front.now name.now)) }
+    ensures { OnOk result (Asks (seen found.old) (seen found.new)
+        (asked_of_serializer place.now.properties.now place.now.front.now name.now)) }
 {
     let front = front_of(place.alloc, place.front, "serializers.", name)?;
     let place = Place {
@@ -111,7 +115,9 @@ fn ask_serializers(
     found: &mut Findings,
     names: &[&str],
 ) -> Result<(), AllocError>
-    ensures { OnOk result (Asks (seen found.old) (seen found.new) (flat_map (asked_of_serializer place.now.properties.now place.now.front.now) (texts names.now))) }
+    ensures { OnOk result (Asks (seen found.old) (seen found.new)
+        (flat_map (asked_of_serializer place.now.properties.now place.now.front.now)
+        (texts names.now))) }
 {
     for name in names {
         ask_serializer(place, found, name)?;
@@ -120,7 +126,8 @@ fn ask_serializers(
 }
 
 fn ask_extractor(place: &Place<'_>, found: &mut Findings) -> Result<(), AllocError>
-    ensures { OnOk result (Asks (seen found.old) (seen found.new) (asked_of_extractor place.now.properties.now place.now.front.now)) }
+    ensures { OnOk result (Asks (seen found.old) (seen found.new)
+        (asked_of_extractor place.now.properties.now place.now.front.now)) }
 {
     ask_at(place, found, false, "regex")?;
     let names = names_at(place, "serializers")?;
@@ -129,7 +136,8 @@ fn ask_extractor(place: &Place<'_>, found: &mut Findings) -> Result<(), AllocErr
 
 #[tactic(auto, using(crate::proofs::Asking::ask_none))]
 fn ask_kind(place: &Place<'_>, found: &mut Findings, kind: &str) -> Result<(), AllocError>
-    ensures { OnOk result (Asks (seen found.old) (seen found.new) (asked_of_kind place.now.properties.now place.now.front.now kind.now)) }
+    ensures { OnOk result (Asks (seen found.old) (seen found.new)
+        (asked_of_kind place.now.properties.now place.now.front.now kind.now)) }
 {
     if is_type(kind, "regex_filter") {
         return ask_at(place, found, false, "regex");
@@ -146,7 +154,8 @@ fn ask_kind(place: &Place<'_>, found: &mut Findings, kind: &str) -> Result<(), A
 #[tactic(auto, using(crate::proofs::Asking::ask_none))]
 fn ask_by_kind(place: &Place<'_>, found: &mut Findings) -> Result<(), AllocError>
     ensures { OnOk result (Asks (seen found.old) (seen found.new)
-        (asked_by_kind place.now.properties.now place.now.front.now (lookup (place.now.front.now ++ codes "type") place.now.properties.now))) }
+        (asked_by_kind place.now.properties.now place.now.front.now
+        (lookup (place.now.front.now ++ codes "type") place.now.properties.now))) }
 {
     match value_at(place, "type")? {
         None => Ok(()),
@@ -155,7 +164,8 @@ fn ask_by_kind(place: &Place<'_>, found: &mut Findings) -> Result<(), AllocError
 }
 
 fn ask_step(place: &Place<'_>, found: &mut Findings, name: &str) -> Result<(), AllocError>
-    ensures { OnOk result (Asks (seen found.old) (seen found.new) (asked_of_step place.now.properties.now place.now.front.now name.now)) }
+    ensures { OnOk result (Asks (seen found.old) (seen found.new)
+        (asked_of_step place.now.properties.now place.now.front.now name.now)) }
 {
     let front = front_of(place.alloc, place.front, "interceptors.", name)?;
     let place = Place {
@@ -167,7 +177,8 @@ fn ask_step(place: &Place<'_>, found: &mut Findings, name: &str) -> Result<(), A
 }
 
 fn ask_steps(place: &Place<'_>, found: &mut Findings, names: &[&str]) -> Result<(), AllocError>
-    ensures { OnOk result (Asks (seen found.old) (seen found.new) (flat_map (asked_of_step place.now.properties.now place.now.front.now) (texts names.now))) }
+    ensures { OnOk result (Asks (seen found.old) (seen found.new)
+        (flat_map (asked_of_step place.now.properties.now place.now.front.now) (texts names.now))) }
 {
     for name in names {
         ask_step(place, found, name)?;
@@ -176,7 +187,8 @@ fn ask_steps(place: &Place<'_>, found: &mut Findings, names: &[&str]) -> Result<
 }
 
 fn ask_source(agent: &Agent<'_>, found: &mut Findings, name: &str) -> Result<(), AllocError>
-    ensures { OnOk result (Asks (seen found.old) (seen found.new) (asked_of_source agent.now.properties.now agent.now.name.now name.now)) }
+    ensures { OnOk result (Asks (seen found.old) (seen found.new)
+        (asked_of_source agent.now.properties.now agent.now.name.now name.now)) }
 {
     let front = front_of(agent.alloc, agent.name, ".sources.", name)?;
     let place = Place {
@@ -190,7 +202,8 @@ fn ask_source(agent: &Agent<'_>, found: &mut Findings, name: &str) -> Result<(),
 
 /// Judges the patterns of the interceptors of all sources.
 fn ask_sources(agent: &Agent<'_>, found: &mut Findings, names: &[&str]) -> Result<(), AllocError>
-    ensures { OnOk result (Asks (seen found.old) (seen found.new) (asked_of agent.now.properties.now agent.now.name.now (texts names.now))) }
+    ensures { OnOk result (Asks (seen found.old) (seen found.new)
+        (asked_of agent.now.properties.now agent.now.name.now (texts names.now))) }
 {
     for name in names {
         ask_source(agent, found, name)?;
@@ -206,7 +219,9 @@ pub fn judge(
     sinks: &IndexSet<&str>,
     groups: &IndexSet<&str>,
 ) -> Result<Findings, AllocError>
-    ensures { IfOk result (λ found. IsSeen agent.now.properties.now agent.now.name.now (texts sources.now.keys) (texts channels.now.keys) (texts sinks.now.keys) (texts groups.now.keys) (seen found)) }
+    ensures { IfOk result (λ found. IsSeen agent.now.properties.now agent.now.name.now
+        (texts sources.now.keys) (texts channels.now.keys) (texts sinks.now.keys)
+        (texts groups.now.keys) (seen found)) }
 {
     let mut found = plan_judging::judge(agent, sources, channels, sinks, groups)?;
     ask_sources(agent, &mut found, sources.as_slice())?;

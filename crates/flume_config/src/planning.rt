@@ -85,7 +85,9 @@ fn source_kind(place: &Place<'_>, kind: &str) -> Result<SourceKind, AllocError>
 
 // The interceptors of a source.
 fn steps_at(place: &Place<'_>) -> Result<Vec<StepPlan>, AllocError>
-    ensures { IfOk result (λ found. Match (StepNamed place.now.properties.now place.now.front.now) (names_in place.now.properties.now (place.now.front.now ++ codes "interceptors")) found.items) }
+    ensures { IfOk result (λ found. Match (StepNamed place.now.properties.now place.now.front.now)
+        (names_in place.now.properties.now (place.now.front.now ++ codes "interceptors"))
+        found.items) }
 {
     let names = names_at(place, "interceptors")?;
     steps(place, names.as_slice())
@@ -93,7 +95,8 @@ fn steps_at(place: &Place<'_>) -> Result<Vec<StepPlan>, AllocError>
 
 // The selector of a source with these channels.
 fn selector_at(place: &Place<'_>, channels: &IndexSet<&str>) -> Result<Selector, AllocError>
-    ensures { IfOk result (IsSelector place.now.properties.now (place.now.front.now ++ codes "selector.") (texts channels.now.keys)) }
+    ensures { IfOk result (IsSelector place.now.properties.now
+        (place.now.front.now ++ codes "selector.") (texts channels.now.keys)) }
 {
     let front = joined(place.alloc, place.front, "selector.")?;
     let place = Place {
@@ -106,7 +109,8 @@ fn selector_at(place: &Place<'_>, channels: &IndexSet<&str>) -> Result<Selector,
 
 // The keys of a source's type.
 fn kind_at(place: &Place<'_>) -> Result<SourceKind, AllocError>
-    ensures { IfOk result (IsSourceKind place.now.properties.now place.now.front.now (text_at place.now.properties.now (place.now.front.now ++ codes "type"))) }
+    ensures { IfOk result (IsSourceKind place.now.properties.now place.now.front.now
+        (text_at place.now.properties.now (place.now.front.now ++ codes "type"))) }
 {
     source_kind(place, str_at(place, "type")?)
 }
@@ -121,11 +125,16 @@ fn source_with(
     kind: SourceKind,
     steps: Vec<StepPlan>,
 ) -> Result<SourcePlan, AllocError>
-    requires chosen { texts chosen.now.keys ≡ names_in place.now.properties.now (place.now.front.now ++ codes "channels") }
+    requires chosen { texts chosen.now.keys ≡ names_in place.now.properties.now
+        (place.now.front.now ++ codes "channels") }
     requires line { line ≡ line_at place.now.properties.now (place.now.front.now ++ codes "type") }
-    requires kind { IsSourceKind place.now.properties.now place.now.front.now (text_at place.now.properties.now (place.now.front.now ++ codes "type")) kind }
-    requires steps { Match (StepNamed place.now.properties.now place.now.front.now) (names_in place.now.properties.now (place.now.front.now ++ codes "interceptors")) steps.items }
-    ensures { IfOk result (IsSource place.now.properties.now place.now.front.now (texts channels.now.keys) name.now) }
+    requires kind { IsSourceKind place.now.properties.now place.now.front.now
+        (text_at place.now.properties.now (place.now.front.now ++ codes "type")) kind }
+    requires steps { Match (StepNamed place.now.properties.now place.now.front.now)
+        (names_in place.now.properties.now (place.now.front.now ++ codes "interceptors"))
+        steps.items }
+    ensures { IfOk result (IsSource place.now.properties.now place.now.front.now
+        (texts channels.now.keys) name.now) }
 {
     Ok(SourcePlan {
         line,
@@ -143,8 +152,10 @@ fn source_at(
     chosen: &IndexSet<&str>,
     name: &str,
 ) -> Result<SourcePlan, AllocError>
-    requires { texts chosen.now.keys ≡ names_in place.now.properties.now (place.now.front.now ++ codes "channels") }
-    ensures { IfOk result (IsSource place.now.properties.now place.now.front.now (texts channels.now.keys) name.now) }
+    requires { texts chosen.now.keys ≡ names_in place.now.properties.now
+        (place.now.front.now ++ codes "channels") }
+    ensures { IfOk result (IsSource place.now.properties.now place.now.front.now
+        (texts channels.now.keys) name.now) }
 {
     let line = line_at(place, "type")?;
     let kind = kind_at(place)?;
@@ -157,7 +168,8 @@ fn source(
     channels: &IndexSet<&str>,
     name: &str,
 ) -> Result<SourcePlan, AllocError>
-    ensures { IfOk result (SourceNamed agent.now.properties.now agent.now.name.now (texts channels.now.keys) name.now) }
+    ensures { IfOk result (SourceNamed agent.now.properties.now agent.now.name.now
+        (texts channels.now.keys) name.now) }
 {
     let front = front_of(agent.alloc, agent.name, ".sources.", name)?;
     let place = Place {
@@ -170,7 +182,8 @@ fn source(
 }
 
 fn memory_channel(place: &Place<'_>, name: &str) -> Result<ChannelPlan, AllocError>
-    requires { is_type (codes "memory") (text_at place.now.properties.now (place.now.front.now ++ codes "type")) ≡ true }
+    requires { is_type (codes "memory") (text_at place.now.properties.now
+        (place.now.front.now ++ codes "type")) ≡ true }
     ensures { IfOk result (IsChannel place.now.properties.now place.now.front.now name.now) }
 {
     Ok(ChannelPlan {
@@ -183,7 +196,8 @@ fn memory_channel(place: &Place<'_>, name: &str) -> Result<ChannelPlan, AllocErr
 }
 
 fn file_channel(place: &Place<'_>, name: &str) -> Result<ChannelPlan, AllocError>
-    requires { is_type (codes "memory") (text_at place.now.properties.now (place.now.front.now ++ codes "type")) ≡ false }
+    requires { is_type (codes "memory") (text_at place.now.properties.now
+        (place.now.front.now ++ codes "type")) ≡ false }
     ensures { IfOk result (IsChannel place.now.properties.now place.now.front.now name.now) }
 {
     Ok(ChannelPlan {
@@ -228,7 +242,8 @@ pub fn sources(
     channels: &IndexSet<&str>,
     names: &[&str],
 ) -> Result<Vec<SourcePlan>, AllocError>
-    ensures { IfOk result (λ plans. Match (SourceNamed agent.now.properties.now agent.now.name.now (texts channels.now.keys)) (texts names.now) plans.items) }
+    ensures { IfOk result (λ plans. Match (SourceNamed agent.now.properties.now agent.now.name.now
+        (texts channels.now.keys)) (texts names.now) plans.items) }
 {
     let mut plans = Vec::new(agent.alloc);
     for name in names {
@@ -239,7 +254,8 @@ pub fn sources(
 
 /// The channels of an agent.
 pub fn channels(agent: &Agent<'_>, names: &[&str]) -> Result<Vec<ChannelPlan>, AllocError>
-    ensures { IfOk result (λ plans. Match (ChannelNamed agent.now.properties.now agent.now.name.now) (texts names.now) plans.items) }
+    ensures { IfOk result (λ plans. Match (ChannelNamed agent.now.properties.now agent.now.name.now)
+        (texts names.now) plans.items) }
 {
     let mut plans = Vec::new(agent.alloc);
     for name in names {
@@ -249,8 +265,10 @@ pub fn channels(agent: &Agent<'_>, names: &[&str]) -> Result<Vec<ChannelPlan>, A
 }
 
 fn avro_sink(place: &Place<'_>, channel: u32, name: &str) -> Result<SinkPlan, AllocError>
-    requires kind { is_type (codes "avro") (text_at place.now.properties.now (place.now.front.now ++ codes "type")) ≡ true }
-    ensures { IfOk result (λ sink. SinkWith place.now.properties.now place.now.front.now channel name.now sink) }
+    requires kind { is_type (codes "avro") (text_at place.now.properties.now
+        (place.now.front.now ++ codes "type")) ≡ true }
+    ensures { IfOk result (λ sink. SinkWith place.now.properties.now place.now.front.now channel
+        name.now sink) }
 {
     Ok(SinkPlan {
         line: line_at(place, "type")?,
@@ -265,9 +283,12 @@ fn avro_sink(place: &Place<'_>, channel: u32, name: &str) -> Result<SinkPlan, Al
 }
 
 fn roll_sink(place: &Place<'_>, channel: u32, name: &str) -> Result<SinkPlan, AllocError>
-    requires other { is_type (codes "avro") (text_at place.now.properties.now (place.now.front.now ++ codes "type")) ≡ false }
-    requires kind { is_type (codes "file_roll") (text_at place.now.properties.now (place.now.front.now ++ codes "type")) ≡ true }
-    ensures { IfOk result (λ sink. SinkWith place.now.properties.now place.now.front.now channel name.now sink) }
+    requires other { is_type (codes "avro") (text_at place.now.properties.now
+        (place.now.front.now ++ codes "type")) ≡ false }
+    requires kind { is_type (codes "file_roll") (text_at place.now.properties.now
+        (place.now.front.now ++ codes "type")) ≡ true }
+    ensures { IfOk result (λ sink. SinkWith place.now.properties.now place.now.front.now channel
+        name.now sink) }
 {
     Ok(SinkPlan {
         line: line_at(place, "type")?,
@@ -287,11 +308,13 @@ fn plugin_sink(
     name: &str,
     kind: &str,
 ) -> Result<SinkPlan, AllocError>
-    requires same { kind.now ≡ text_at place.now.properties.now (place.now.front.now ++ codes "type") }
+    requires same { kind.now ≡ text_at place.now.properties.now
+        (place.now.front.now ++ codes "type") }
     requires avro { is_type (codes "avro") kind.now ≡ false }
     requires roll { is_type (codes "file_roll") kind.now ≡ false }
     requires kind { is_plugin kind.now ≡ true }
-    ensures { IfOk result (λ sink. SinkWith place.now.properties.now place.now.front.now channel name.now sink) }
+    ensures { IfOk result (λ sink. SinkWith place.now.properties.now place.now.front.now channel
+        name.now sink) }
 {
     Ok(SinkPlan {
         line: line_at(place, "type")?,
@@ -305,10 +328,14 @@ fn plugin_sink(
 }
 
 fn null_sink(place: &Place<'_>, channel: u32, name: &str) -> Result<SinkPlan, AllocError>
-    requires avro { is_type (codes "avro") (text_at place.now.properties.now (place.now.front.now ++ codes "type")) ≡ false }
-    requires roll { is_type (codes "file_roll") (text_at place.now.properties.now (place.now.front.now ++ codes "type")) ≡ false }
-    requires plugin { is_plugin (text_at place.now.properties.now (place.now.front.now ++ codes "type")) ≡ false }
-    ensures { IfOk result (λ sink. SinkWith place.now.properties.now place.now.front.now channel name.now sink) }
+    requires avro { is_type (codes "avro") (text_at place.now.properties.now
+        (place.now.front.now ++ codes "type")) ≡ false }
+    requires roll { is_type (codes "file_roll") (text_at place.now.properties.now
+        (place.now.front.now ++ codes "type")) ≡ false }
+    requires plugin { is_plugin (text_at place.now.properties.now
+        (place.now.front.now ++ codes "type")) ≡ false }
+    ensures { IfOk result (λ sink. SinkWith place.now.properties.now place.now.front.now channel
+        name.now sink) }
 {
     Ok(SinkPlan {
         line: line_at(place, "type")?,
@@ -320,7 +347,8 @@ fn null_sink(place: &Place<'_>, channel: u32, name: &str) -> Result<SinkPlan, Al
 }
 
 fn sink_at(place: &Place<'_>, channel: u32, name: &str) -> Result<SinkPlan, AllocError>
-    ensures { IfOk result (λ sink. SinkWith place.now.properties.now place.now.front.now channel name.now sink) }
+    ensures { IfOk result (λ sink. SinkWith place.now.properties.now place.now.front.now channel
+        name.now sink) }
 {
     let kind = str_at(place, "type")?;
     if is_type(kind, "avro") {
@@ -336,7 +364,8 @@ fn sink_at(place: &Place<'_>, channel: u32, name: &str) -> Result<SinkPlan, Allo
 }
 
 fn sink(agent: &Agent<'_>, channels: &IndexSet<&str>, name: &str) -> Result<SinkPlan, AllocError>
-    ensures { IfOk result (λ sink. SinkNamed agent.now.properties.now agent.now.name.now (texts channels.now.keys) name.now sink) }
+    ensures { IfOk result (λ sink. SinkNamed agent.now.properties.now agent.now.name.now
+        (texts channels.now.keys) name.now sink) }
 {
     let front = front_of(agent.alloc, agent.name, ".sinks.", name)?;
     let place = Place {
@@ -355,7 +384,8 @@ pub fn sinks(
     channels: &IndexSet<&str>,
     names: &[&str],
 ) -> Result<Vec<SinkPlan>, AllocError>
-    ensures { IfOk result (λ plans. Match (SinkNamed agent.now.properties.now agent.now.name.now (texts channels.now.keys)) (texts names.now) plans.items) }
+    ensures { IfOk result (λ plans. Match (SinkNamed agent.now.properties.now agent.now.name.now
+        (texts channels.now.keys)) (texts names.now) plans.items) }
 {
     let mut plans = Vec::new(agent.alloc);
     for name in names {
@@ -365,7 +395,8 @@ pub fn sinks(
 }
 
 fn processor(place: &Place<'_>, kind: &str) -> Result<Processor, AllocError>
-    ensures { IfOk result (λ processor. processor ≡ processor_of place.now.properties.now place.now.front.now kind.now) }
+    ensures { IfOk result (λ processor. processor ≡ processor_of place.now.properties.now
+        place.now.front.now kind.now) }
 {
     if is_type(kind, "failover") {
         return Ok(Processor::Failover);
@@ -381,7 +412,8 @@ fn processor(place: &Place<'_>, kind: &str) -> Result<Processor, AllocError>
 }
 
 fn penalty(place: &Place<'_>, kind: &str) -> Result<u64, AllocError>
-    ensures { IfOk result (λ penalty. penalty ≡ penalty_of place.now.properties.now place.now.front.now kind.now) }
+    ensures { IfOk result (λ penalty. penalty ≡ penalty_of place.now.properties.now
+        place.now.front.now kind.now) }
 {
     if is_type(kind, "failover") {
         return number_at(place, 0, u64::MAX, 30_000, "processor.maxpenalty");
@@ -393,7 +425,8 @@ fn penalty(place: &Place<'_>, kind: &str) -> Result<u64, AllocError>
 }
 
 fn backoff(place: &Place<'_>, kind: &str) -> Result<bool, AllocError>
-    ensures { IfOk result (λ on. on ≡ backoff_of place.now.properties.now place.now.front.now kind.now) }
+    ensures { IfOk result (λ on. on ≡ backoff_of place.now.properties.now place.now.front.now
+        kind.now) }
 {
     if is_type(kind, "load_balance") {
         truth_at(place, false, "processor.backoff")
@@ -403,7 +436,8 @@ fn backoff(place: &Place<'_>, kind: &str) -> Result<bool, AllocError>
 }
 
 fn priority(place: &Place<'_>, kind: &str, member: &str) -> Result<u32, AllocError>
-    ensures { IfOk result (λ priority. priority ≡ priority_of place.now.properties.now place.now.front.now kind.now member.now) }
+    ensures { IfOk result (λ priority. priority ≡ priority_of place.now.properties.now
+        place.now.front.now kind.now member.now) }
 {
     if !is_type(kind, "failover") {
         return Ok(0);
@@ -418,7 +452,8 @@ fn priority(place: &Place<'_>, kind: &str, member: &str) -> Result<u32, AllocErr
 }
 
 fn priorities(place: &Place<'_>, kind: &str, members: &[&str]) -> Result<Vec<u32>, AllocError>
-    ensures { IfOk result (λ found. found.items ≡ map (priority_of place.now.properties.now place.now.front.now kind.now) (texts members.now)) }
+    ensures { IfOk result (λ found. found.items ≡ map (priority_of place.now.properties.now
+        place.now.front.now kind.now) (texts members.now)) }
 {
     let mut found = Vec::new(place.alloc);
     for member in members {
@@ -435,8 +470,10 @@ fn group_with(
     name: &str,
     kind: &str,
 ) -> Result<GroupPlan, AllocError>
-    requires { kind.now ≡ text_at place.now.properties.now (place.now.front.now ++ codes "processor.type") }
-    ensures { IfOk result (GroupWith place.now.properties.now place.now.front.now (texts sinks.now.keys) (texts members.now) name.now) }
+    requires { kind.now ≡ text_at place.now.properties.now
+        (place.now.front.now ++ codes "processor.type") }
+    ensures { IfOk result (GroupWith place.now.properties.now place.now.front.now
+        (texts sinks.now.keys) (texts members.now) name.now) }
 {
     Ok(GroupPlan {
         processor: processor(place, kind)?,
@@ -454,14 +491,16 @@ fn group_at(
     members: &[&str],
     name: &str,
 ) -> Result<GroupPlan, AllocError>
-    ensures { IfOk result (GroupWith place.now.properties.now place.now.front.now (texts sinks.now.keys) (texts members.now) name.now) }
+    ensures { IfOk result (GroupWith place.now.properties.now place.now.front.now
+        (texts sinks.now.keys) (texts members.now) name.now) }
 {
     let kind = str_at(place, "processor.type")?;
     group_with(place, sinks, members, name, kind)
 }
 
 fn group(agent: &Agent<'_>, sinks: &IndexSet<&str>, name: &str) -> Result<GroupPlan, AllocError>
-    ensures { IfOk result (λ group. GroupNamed agent.now.properties.now agent.now.name.now (texts sinks.now.keys) name.now group) }
+    ensures { IfOk result (λ group. GroupNamed agent.now.properties.now agent.now.name.now
+        (texts sinks.now.keys) name.now group) }
 {
     let front = front_of(agent.alloc, agent.name, ".sinkgroups.", name)?;
     let place = Place {
@@ -479,7 +518,8 @@ pub fn groups(
     sinks: &IndexSet<&str>,
     names: &[&str],
 ) -> Result<Vec<GroupPlan>, AllocError>
-    ensures { IfOk result (λ plans. Match (GroupNamed agent.now.properties.now agent.now.name.now (texts sinks.now.keys)) (texts names.now) plans.items) }
+    ensures { IfOk result (λ plans. Match (GroupNamed agent.now.properties.now agent.now.name.now
+        (texts sinks.now.keys)) (texts names.now) plans.items) }
 {
     let mut plans = Vec::new(agent.alloc);
     for name in names {

@@ -21,7 +21,8 @@ fn places_at(
     channels: &IndexSet<&str>,
     key: &str,
 ) -> Result<Vec<u32>, AllocError>
-    ensures { IfOk result (λ found. found.items ≡ places_at place.now.properties.now (texts channels.now.keys) (place.now.front.now ++ key.now)) }
+    ensures { IfOk result (λ found. found.items ≡ places_at place.now.properties.now
+        (texts channels.now.keys) (place.now.front.now ++ key.now)) }
 {
     let names = names_at(place, key)?;
     places(place.alloc, channels, names.as_slice())
@@ -29,7 +30,8 @@ fn places_at(
 
 // The places of the channels in a list.
 fn places_in(alloc: Global, channels: &IndexSet<&str>, value: &str) -> Result<Vec<u32>, AllocError>
-    ensures { IfOk result (λ found. found.items ≡ map (place_of (texts channels.now.keys)) (once (words value.now))) }
+    ensures { IfOk result (λ found. found.items ≡ map (place_of (texts channels.now.keys))
+        (once (words value.now))) }
 {
     let names = words(alloc, value)?;
     let names = once(alloc, names.as_slice())?;
@@ -46,7 +48,12 @@ fn push_mapped(
     value: &str,
     line: u32,
 ) -> Result<(), AllocError>
-    ensures { OnOk result (map seen_pair found.new.items ≡ map seen_pair found.old.items ++ mapped_at (texts channels.now.keys) front.now (record { key = key.now; value = value.now; line = line })) }
+    ensures { OnOk result (map seen_pair found.new.items ≡ map seen_pair found.old.items ++
+        mapped_at (texts channels.now.keys) front.now (record {
+          key = key.now;
+          value = value.now;
+          line = line;
+        })) }
 {
     match key.strip_prefix(front) {
         None => Ok(()),
@@ -65,7 +72,8 @@ fn mapped(
     channels: &IndexSet<&str>,
     key: &str,
 ) -> Result<Vec<(String, Vec<u32>)>, AllocError>
-    ensures { IfOk result (λ found. map seen_pair found.items ≡ mapped place.now.properties.now (texts channels.now.keys) (place.now.front.now ++ key.now)) }
+    ensures { IfOk result (λ found. map seen_pair found.items ≡ mapped place.now.properties.now
+        (texts channels.now.keys) (place.now.front.now ++ key.now)) }
 {
     let front = joined(place.alloc, place.front, key)?;
     let mut found = Vec::new(place.alloc);
@@ -85,8 +93,10 @@ fn mapped(
 }
 
 fn multiplexing(place: &Place<'_>, channels: &IndexSet<&str>) -> Result<Selector, AllocError>
-    requires { is_type (codes "multiplexing") (text_at place.now.properties.now (place.now.front.now ++ codes "type")) ≡ true }
-    ensures { IfOk result (IsSelector place.now.properties.now place.now.front.now (texts channels.now.keys)) }
+    requires { is_type (codes "multiplexing") (text_at place.now.properties.now
+        (place.now.front.now ++ codes "type")) ≡ true }
+    ensures { IfOk result (IsSelector place.now.properties.now place.now.front.now
+        (texts channels.now.keys)) }
 {
     Ok(Selector::Multiplexing {
         header: text_else(place, "flume.selector.header", "header")?,
@@ -97,8 +107,10 @@ fn multiplexing(place: &Place<'_>, channels: &IndexSet<&str>) -> Result<Selector
 }
 
 fn replicating(place: &Place<'_>, channels: &IndexSet<&str>) -> Result<Selector, AllocError>
-    requires { is_type (codes "multiplexing") (text_at place.now.properties.now (place.now.front.now ++ codes "type")) ≡ false }
-    ensures { IfOk result (IsSelector place.now.properties.now place.now.front.now (texts channels.now.keys)) }
+    requires { is_type (codes "multiplexing") (text_at place.now.properties.now
+        (place.now.front.now ++ codes "type")) ≡ false }
+    ensures { IfOk result (IsSelector place.now.properties.now place.now.front.now
+        (texts channels.now.keys)) }
 {
     let Ok(count) = u32::try_from(channels.len()) else {
         return Err(AllocError);
@@ -111,7 +123,8 @@ fn replicating(place: &Place<'_>, channels: &IndexSet<&str>) -> Result<Selector,
 
 /// The selector of a source with these channels.
 pub fn selector(place: &Place<'_>, channels: &IndexSet<&str>) -> Result<Selector, AllocError>
-    ensures { IfOk result (IsSelector place.now.properties.now place.now.front.now (texts channels.now.keys)) }
+    ensures { IfOk result (IsSelector place.now.properties.now place.now.front.now
+        (texts channels.now.keys)) }
 {
     if is_type(str_at(place, "type")?, "multiplexing") {
         multiplexing(place, channels)

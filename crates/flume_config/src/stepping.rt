@@ -19,7 +19,8 @@ use std::alloc::AllocError;
 
 /// The text at a key, or a default.
 pub fn text_else(place: &Place<'_>, default: &str, key: &str) -> Result<String, AllocError>
-    ensures { IfOk result (λ text. string_bytes text ≡ text_else place.now.properties.now default.now (place.now.front.now ++ key.now)) }
+    ensures { IfOk result (λ text. string_bytes text ≡ text_else place.now.properties.now
+        default.now (place.now.front.now ++ key.now)) }
 {
     match value_at(place, key)? {
         None => String::from_str(place.alloc, default),
@@ -29,7 +30,8 @@ pub fn text_else(place: &Place<'_>, default: &str, key: &str) -> Result<String, 
 
 // The line of a pattern, or of the type.
 fn pattern_line(place: &Place<'_>, key: &str) -> Result<u32, AllocError>
-    ensures { IfOk result (λ line. line ≡ pattern_line place.now.properties.now place.now.front.now key.now) }
+    ensures { IfOk result (λ line. line ≡ pattern_line place.now.properties.now place.now.front.now
+        key.now) }
 {
     match value_at(place, key)? {
         None => line_at(place, "type"),
@@ -71,7 +73,8 @@ fn static_step(place: &Place<'_>, kind: &str) -> Result<Step, AllocError>
 
 // Adds the names of a list with commas.
 fn push_from_list(place: &Place<'_>, names: &mut Vec<String>) -> Result<(), AllocError>
-    ensures { OnOk result (map string_bytes names.new.items ≡ map string_bytes names.old.items ++ names_listed (lookup (place.now.front.now ++ codes "fromList") place.now.properties.now)) }
+    ensures { OnOk result (map string_bytes names.new.items ≡ map string_bytes names.old.items ++
+        names_listed (lookup (place.now.front.now ++ codes "fromList") place.now.properties.now)) }
 {
     match value_at(place, "fromList")? {
         None => Ok(()),
@@ -81,7 +84,8 @@ fn push_from_list(place: &Place<'_>, names: &mut Vec<String>) -> Result<(), Allo
 
 // The keys of the headers that are removed.
 fn removed(place: &Place<'_>) -> Result<Vec<String>, AllocError>
-    ensures { IfOk result (λ names. map string_bytes names.items ≡ removed place.now.properties.now place.now.front.now) }
+    ensures { IfOk result (λ names. map string_bytes names.items ≡ removed place.now.properties.now
+        place.now.front.now) }
 {
     let mut names = Vec::new(place.alloc);
     if let Some((name, _)) = value_at(place, "withName")? {
@@ -102,7 +106,8 @@ fn remove_step(place: &Place<'_>, kind: &str) -> Result<Step, AllocError>
 // The pattern of dates of a serializer.
 fn date_of(place: &Place<'_>) -> Result<Option<String>, AllocError>
     ensures { IfOk result (λ date. option_map string_bytes date
-        ≡ date_of place.now.properties.now place.now.front.now (lookup (place.now.front.now ++ codes "type") place.now.properties.now)) }
+        ≡ date_of place.now.properties.now place.now.front.now
+        (lookup (place.now.front.now ++ codes "type") place.now.properties.now)) }
 {
     match value_at(place, "type")? {
         Some((kind, _)) if is_millis(kind) => {
@@ -129,7 +134,8 @@ fn group(place: &Place<'_>, name: &str) -> Result<Group, AllocError>
 }
 
 fn groups(place: &Place<'_>, names: &[&str]) -> Result<Vec<Group>, AllocError>
-    ensures { IfOk result (λ groups. Match (IsGroup place.now.properties.now place.now.front.now) (texts names.now) groups.items) }
+    ensures { IfOk result (λ groups. Match (IsGroup place.now.properties.now place.now.front.now)
+        (texts names.now) groups.items) }
 {
     let mut groups = Vec::new(place.alloc);
     for name in names {
@@ -140,14 +146,17 @@ fn groups(place: &Place<'_>, names: &[&str]) -> Result<Vec<Group>, AllocError>
 
 // The groups of an extractor, by its serializers.
 fn groups_at(place: &Place<'_>) -> Result<Vec<Group>, AllocError>
-    ensures { IfOk result (λ groups. Match (IsGroup place.now.properties.now place.now.front.now) (names_in place.now.properties.now (place.now.front.now ++ codes "serializers")) groups.items) }
+    ensures { IfOk result (λ groups. Match (IsGroup place.now.properties.now place.now.front.now)
+        (names_in place.now.properties.now (place.now.front.now ++ codes "serializers"))
+        groups.items) }
 {
     let names = names_at(place, "serializers")?;
     groups(place, names.as_slice())
 }
 
 fn filter_plan(place: &Place<'_>, kind: &str) -> Result<StepPlan, AllocError>
-    requires same { kind.now ≡ text_at place.now.properties.now (place.now.front.now ++ codes "type") }
+    requires same { kind.now ≡ text_at place.now.properties.now
+        (place.now.front.now ++ codes "type") }
     requires kind { is_type (codes "regex_filter") kind.now ≡ true }
     ensures { IfOk result (IsStepPlan place.now.properties.now place.now.front.now) }
 {
@@ -160,7 +169,8 @@ fn filter_plan(place: &Place<'_>, kind: &str) -> Result<StepPlan, AllocError>
 }
 
 fn extract_plan(place: &Place<'_>, kind: &str) -> Result<StepPlan, AllocError>
-    requires same { kind.now ≡ text_at place.now.properties.now (place.now.front.now ++ codes "type") }
+    requires same { kind.now ≡ text_at place.now.properties.now
+        (place.now.front.now ++ codes "type") }
     requires kind { is_type (codes "regex_extractor") kind.now ≡ true }
     ensures { IfOk result (IsStepPlan place.now.properties.now place.now.front.now) }
 {
@@ -173,7 +183,8 @@ fn extract_plan(place: &Place<'_>, kind: &str) -> Result<StepPlan, AllocError>
 }
 
 fn replace_plan(place: &Place<'_>, kind: &str) -> Result<StepPlan, AllocError>
-    requires same { kind.now ≡ text_at place.now.properties.now (place.now.front.now ++ codes "type") }
+    requires same { kind.now ≡ text_at place.now.properties.now
+        (place.now.front.now ++ codes "type") }
     requires kind { is_other kind.now ≡ false }
     ensures { IfOk result (IsStepPlan place.now.properties.now place.now.front.now) }
 {
@@ -186,7 +197,8 @@ fn replace_plan(place: &Place<'_>, kind: &str) -> Result<StepPlan, AllocError>
 }
 
 fn plugin_plan(place: &Place<'_>, kind: &str) -> Result<StepPlan, AllocError>
-    requires same { kind.now ≡ text_at place.now.properties.now (place.now.front.now ++ codes "type") }
+    requires same { kind.now ≡ text_at place.now.properties.now
+        (place.now.front.now ++ codes "type") }
     requires kind { is_plugin kind.now ≡ true }
     ensures { IfOk result (IsStepPlan place.now.properties.now place.now.front.now) }
 {
@@ -198,8 +210,10 @@ fn plugin_plan(place: &Place<'_>, kind: &str) -> Result<StepPlan, AllocError>
 
 // An interceptor over headers, if it is one.
 fn header_step(place: &Place<'_>, kind: &str) -> Result<Option<Step>, AllocError>
-    ensures some { IfOk result (λ found. IfSome found (IsStep place.now.properties.now place.now.front.now kind.now)) }
-    ensures none { IfOk result (λ found. IfNone found ((is_timestamp kind.now || is_host kind.now || is_type (codes "static") kind.now || is_type (codes "remove_header") kind.now) ≡ false)) }
+    ensures some { IfOk result (λ found. IfSome found (IsStep place.now.properties.now
+        place.now.front.now kind.now)) }
+    ensures none { IfOk result (λ found. IfNone found ((is_timestamp kind.now || is_host kind.now ||
+        is_type (codes "static") kind.now || is_type (codes "remove_header") kind.now) ≡ false)) }
 {
     if is_timestamp(kind) {
         return Ok(Some(timestamp_step(place, kind)?));
@@ -218,8 +232,10 @@ fn header_step(place: &Place<'_>, kind: &str) -> Result<Option<Step>, AllocError
 
 // An interceptor that is none over headers.
 fn other_plan(place: &Place<'_>, kind: &str) -> Result<StepPlan, AllocError>
-    requires same { kind.now ≡ text_at place.now.properties.now (place.now.front.now ++ codes "type") }
-    requires kind { (is_timestamp kind.now || is_host kind.now || is_type (codes "static") kind.now || is_type (codes "remove_header") kind.now) ≡ false }
+    requires same { kind.now ≡ text_at place.now.properties.now
+        (place.now.front.now ++ codes "type") }
+    requires kind { (is_timestamp kind.now || is_host kind.now || is_type (codes "static") kind.now
+        || is_type (codes "remove_header") kind.now) ≡ false }
     ensures { IfOk result (IsStepPlan place.now.properties.now place.now.front.now) }
 {
     if is_type(kind, "regex_filter") {
@@ -258,7 +274,8 @@ fn step_named(place: &Place<'_>, name: &str) -> Result<StepPlan, AllocError>
 
 /// The interceptors of a source, which have these names.
 pub fn steps(place: &Place<'_>, names: &[&str]) -> Result<Vec<StepPlan>, AllocError>
-    ensures { IfOk result (λ steps. Match (StepNamed place.now.properties.now place.now.front.now) (texts names.now) steps.items) }
+    ensures { IfOk result (λ steps. Match (StepNamed place.now.properties.now place.now.front.now)
+        (texts names.now) steps.items) }
 {
     let mut steps = Vec::new(place.alloc);
     for name in names {

@@ -21,14 +21,16 @@ pub fn str_at<'a>(place: &Place<'a>, key: &str) -> Result<&'a str, AllocError>
 
 /// The text at a key.
 pub fn text_at(place: &Place<'_>, key: &str) -> Result<String, AllocError>
-    ensures { IfOk result (λ text. string_bytes text ≡ text_at place.now.properties.now (place.now.front.now ++ key.now)) }
+    ensures { IfOk result (λ text. string_bytes text ≡ text_at place.now.properties.now
+        (place.now.front.now ++ key.now)) }
 {
     String::from_str(place.alloc, str_at(place, key)?)
 }
 
 /// The line of a key.
 pub fn line_at(place: &Place<'_>, key: &str) -> Result<u32, AllocError>
-    ensures { IfOk result (λ line. line ≡ line_at place.now.properties.now (place.now.front.now ++ key.now)) }
+    ensures { IfOk result (λ line. line ≡ line_at place.now.properties.now
+        (place.now.front.now ++ key.now)) }
 {
     match value_at(place, key)? {
         None => Ok(0),
@@ -45,7 +47,8 @@ pub fn number_at(
     key: &str,
 ) -> Result<u64, AllocError>
     requires { default ≤ high }
-    ensures value { IfOk result (λ number. number ≡ number_at place.now.properties.now low high default (place.now.front.now ++ key.now)) }
+    ensures value { IfOk result (λ number. number ≡ number_at place.now.properties.now low high
+        default (place.now.front.now ++ key.now)) }
     ensures bound { IfOk result (λ number. number ≤ high) }
 {
     match value_at(place, key)? {
@@ -84,7 +87,8 @@ pub fn port_at(place: &Place<'_>) -> Result<u16, AllocError>
 
 /// The truth value at a key, or a default.
 pub fn truth_at(place: &Place<'_>, default: bool, key: &str) -> Result<bool, AllocError>
-    ensures { IfOk result (λ on. on ≡ truth_at place.now.properties.now default (place.now.front.now ++ key.now)) }
+    ensures { IfOk result (λ on. on ≡ truth_at place.now.properties.now default
+        (place.now.front.now ++ key.now)) }
 {
     match value_at(place, key)? {
         None => Ok(default),
@@ -111,7 +115,8 @@ pub fn places(
     names: &IndexSet<&str>,
     chosen: &[&str],
 ) -> Result<Vec<u32>, AllocError>
-    ensures { IfOk result (λ places. places.items ≡ map (place_of (texts names.now.keys)) (texts chosen.now)) }
+    ensures { IfOk result (λ places. places.items ≡ map (place_of (texts names.now.keys))
+        (texts chosen.now)) }
 {
     let mut places = Vec::new(alloc);
     for name in chosen {

@@ -20,7 +20,8 @@ impl Attempt {
     /// Commit exactly where the reply has the serial of the request, and the status 0.
     pub fn on_reply(self, serial: u32, status: u8) -> Decision
         ensures { result
-            ≡ (if (serial == self.serial) && (status == 0) then Decision.Commit else Decision.Rollback) }
+            ≡ (if (serial == self.serial) && (status == 0) then Decision.Commit else
+            Decision.Rollback) }
     {
         if serial == self.serial && status == 0 {
             Decision::Commit

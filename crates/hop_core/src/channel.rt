@@ -121,7 +121,8 @@ impl NodeChannel {
         events: &Batch,
     ) -> Result<Vec<Option<Delivery>>, NoMemory>
         ensures { IfOk result (λ names. names.items
-            ≡ (if is_empty events.now then self.now.named else self.now.named ++ Some delivery ∷ [])) }
+            ≡ (if is_empty events.now then self.now.named else self.now.named ++ Some delivery ∷
+            [])) }
     {
         let mut names = self.names()?;
         if events.is_empty() {
@@ -247,7 +248,8 @@ impl NodeChannel {
         events: &Batch,
     ) -> Result<Option<NodeChannel>, NoMemory>
         ensures { IfOk result (λ new.
-            new ≡ committed (record { life = life; number = number }) delivery events.now self.now) }
+            new ≡ committed (record { life = life; number = number }) delivery events.now
+            self.now) }
     {
         let mut machine = self.machine.copy()?;
         match machine.stage_take(TakeTxn::new(life, number)) {

@@ -177,7 +177,8 @@ pub(crate) fn set_tag(attempts: &mut [Option<OpenAttempt>], number: u64, tag: Ta
 /// The attempt of this number has this delivery.
 pub(crate) fn set_delivery(attempts: &mut [Option<OpenAttempt>], number: u64, delivery: Delivery)
     ensures { (a : Face.Attempt) → live attempts.old number ≡ Some a
-        → attempts.new ≡ slice_set attempts.old number (Some (record a { delivery = Some delivery })) }
+        → attempts.new ≡ slice_set attempts.old number (Some
+        (record a { delivery = Some delivery })) }
 {
     let place = number as usize;
     if place < attempts.len() {

@@ -62,7 +62,8 @@ pub fn take_at<T: Drop>(objects: &mut Vec<Placed<T>>, at: &Address) -> Option<T>
 /// Where the first of these addresses is that is this one.
 pub fn first_at(out: &[Address], host: &str, port: u16) -> Option<usize>
     ensures { MatchOption result (count_by (is_at host.now port) out.now ≡ 0)
-        (λ i. (i < length out.now) × ((d : Address) → is_at host.now port (get_or out.now i d) ≡ true)) }
+        (λ i. (i < length out.now) × ((d : Address) → is_at host.now port (get_or out.now i d) ≡
+        true)) }
 {
     for i in 0..out.len() {
         if out[i].is(host, port) {

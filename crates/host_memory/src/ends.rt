@@ -49,8 +49,10 @@ impl<T: Drop> Ends<T> {
     /// One more of this address is out. Where there is no memory for it, all is as before.
     pub fn hand_out(&mut self, alloc: Global, host: &str, port: u16) -> Result<(), AllocError>
         ensures out { OnOk result ((told : T → Option LinksTold) (waits faults : T → ℕ)
-            → GoesOut host.now port (handed_out told waits faults self.old) (handed_out told waits faults self.new)) }
-        ensures same { OnErr result ((self.new.out.items ≡ self.old.out.items) × (self.new.back.items ≡ self.old.back.items)) }
+            → GoesOut host.now port (handed_out told waits faults self.old)
+            (handed_out told waits faults self.new)) }
+        ensures same { OnErr result ((self.new.out.items ≡ self.old.out.items) ×
+            (self.new.back.items ≡ self.old.back.items)) }
     {
         let host = String::from_str(alloc, host)?;
         self.back.reserve(self.out.len() + 1)?;
@@ -62,7 +64,14 @@ impl<T: Drop> Ends<T> {
     pub fn take_back(&mut self, host: &str, port: u16, object: T)
         requires { 0 < count_by (is_at host.now port) self.old.out.items }
         ensures { (told : T → Option LinksTold) (waits faults : T → ℕ)
-            → ComesBack (record { host = host.now; port = port; told = told object; waits = waits object; faults = faults object })
+            → ComesBack (record {
+              host = host.now;
+              port = port;
+              told = told object;
+              waits = waits
+                  object;
+              faults = faults object;
+            })
             (handed_out told waits faults self.old) (handed_out told waits faults self.new) }
     {
         let Some(index) = first_at(&self.out, host, port) else {

@@ -68,7 +68,8 @@ impl Given {
     /// Gives a link, of which nothing was asked yet. Where there is no memory, or the count stands at its last value,
     /// nothing is told.
     pub fn give(&mut self, link: MemLink) -> Result<MemLink, Failed>
-        ensures told { IfOk result (λ given. (link_told given ≡ fresh_from (given_told self.old)) × IsFreshCopy link given) }
+        ensures told { IfOk result (λ given. (link_told given ≡ fresh_from (given_told self.old)) ×
+            IsFreshCopy link given) }
         ensures given { OnOk result (given_told self.new ≡ gave_one (given_told self.old)) }
         ensures owed { OnOk result (IsOwed (given_told self.new)) }
         ensures refused { OnErr result (given_told self.new ≡ given_told self.old) }

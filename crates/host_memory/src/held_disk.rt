@@ -72,7 +72,8 @@ impl Disk for HeldDisk {
 
     ghost faults = { λ d. disk_faults d.disk };
 
-    ghost reads_are_left = { λ d t is. sound d.disk.tells d.disk.store.first.items d.disk.store.calls.items t is };
+    ghost reads_are_left = { λ d t is. sound d.disk.tells d.disk.store.first.items
+        d.disk.store.calls.items t is };
 
     fn faults(&self) -> u64 {
         self.disk.faults()

@@ -17,7 +17,11 @@ impl MemClock {
     /// The moment, after which the clock goes on.
     pub fn tick(&mut self) -> u64
         ensures moment { result ≡ self.old.moment }
-        ensures next { self.new ≡ record { moment = min (self.old.moment + self.old.step) (2 ^ 64 - 1); step = self.old.step } }
+        ensures next { self.new ≡ record {
+          moment = min (self.old.moment + self.old.step)
+              (2 ^ 64 - 1);
+          step = self.old.step;
+        } }
     {
         let moment = self.moment;
         self.moment = moment.saturating_add(self.step);
@@ -48,7 +52,10 @@ impl MemRandom {
     /// The number, after which the next one comes.
     pub fn turn(&mut self) -> u64
         ensures number { result ≡ self.old.number }
-        ensures next { self.new ≡ record { number = (self.old.number + self.old.step) % (2 ^ 64); step = self.old.step } }
+        ensures next { self.new ≡ record {
+          number = (self.old.number + self.old.step) % (2 ^ 64);
+          step = self.old.step;
+        } }
     {
         let number = self.number;
         self.number = number.wrapping_add(self.step);

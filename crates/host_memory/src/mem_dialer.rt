@@ -74,7 +74,8 @@ impl MemDialer {
     // A dial that fails.
     fn fail(&mut self) -> Result<MemLink, Failed>
         ensures told { dialer_told self.new ≡ refused_link (dialer_told self.old) }
-        ensures same { (self.new.at ≡ self.old.at) × (self.new.links ≡ self.old.links) × (self.new.next ≡ self.old.next) }
+        ensures same { (self.new.at ≡ self.old.at) × (self.new.links ≡ self.old.links) ×
+            (self.new.next ≡ self.old.next) }
         ensures err { IsErr result }
         ensures cause { HasCause self.old.faults self.new.faults result }
     {
@@ -94,9 +95,11 @@ impl Dialer for MemDialer {
     ghost faults = { λ d. d.faults };
 
     fn dial(&mut self) -> Result<MemLink, Failed>
-        ensures given { IfOk result (λ link. (dialer_told self.new ≡ gave_one (dialer_told self.old)) × (link_told link ≡ fresh_from (dialer_told self.old))) }
+        ensures given { IfOk result (λ link. (dialer_told self.new ≡ gave_one
+            (dialer_told self.old)) × (link_told link ≡ fresh_from (dialer_told self.old))) }
         ensures owed { OnOk result (IsOwed (dialer_told self.new)) }
-        ensures refused { OnErr result (dialer_told self.new ≡ refused_link (dialer_told self.old)) }
+        ensures refused { OnErr result (dialer_told self.new ≡ refused_link
+            (dialer_told self.old)) }
         ensures endpoint { dialer_endpoint self.new ≡ dialer_endpoint self.old }
         ensures cause { HasCause self.old.faults self.new.faults result }
         ensures follows { FollowsDials self.old self.new result }

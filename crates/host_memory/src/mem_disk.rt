@@ -66,7 +66,8 @@ impl DiskScript {
 
     // Counts a call that only reads, and says whether it is to fail.
     fn next_fails(&mut self) -> bool
-        ensures due { IsTrue result ↔ (outcome_at self.old.faults.items self.old.calls ≢ Outcome.Whole) }
+        ensures due { IsTrue result ↔ (outcome_at self.old.faults.items self.old.calls ≢
+            Outcome.Whole) }
         ensures counted { self.new.calls ≡ min (self.old.calls + 1) (2 ^ 64 - 1) }
         ensures same { self.new.faults.items ≡ self.old.faults.items }
     {
@@ -123,7 +124,8 @@ impl MemDisk {
 
     /// What the file of this name holds, if it is there, also where the disk shows nothing.
     pub fn file(&self, name: FileName) -> Option<&[u8]>
-        ensures { MatchOption result (reads_in self.now name ≡ None) (λ bytes. reads_in self.now name ≡ Some bytes.now) }
+        ensures { MatchOption result (reads_in self.now name ≡ None)
+            (λ bytes. reads_in self.now name ≡ Some bytes.now) }
     {
         match place_of(&self.store.files, name) {
             Some(index) => Some(&self.store.files[index].bytes),
@@ -141,8 +143,11 @@ impl MemDisk {
     /// A disk as a crash at a moment may have left this one, its files stable, no call of which is to fail: moment m is within the recorded call
     /// number m, or after the last. Each recorded call has a choice of what stands of it, and the choices go round.
     pub fn stopped_at(&self, moment: u64, choices: &[Stood]) -> Result<Self, AllocError>
-        ensures left { IfOk result (λ disk. (files : List MemFile) × (told_in disk ≡ Some (start files)) × IsLeftAt (record_in self.now) moment (files_of files)
-            × (files_of files ≡ image_chosen (chosen choices.now) (files_first self.now) (calls_made self.now) moment)) }
+        ensures left { IfOk result (λ disk. (files : List MemFile) ×
+            (told_in disk ≡ Some (start files)) × IsLeftAt (record_in self.now) moment
+            (files_of files)
+            × (files_of files ≡ image_chosen (chosen choices.now) (files_first self.now)
+            (calls_made self.now) moment)) }
         ensures script { IfOk result (λ disk. (disk_script disk ≡ []) × (disk_calls disk ≡ 0)) }
         ensures count { IfOk result (λ disk. disk_faults disk ≡ 0) }
     {
@@ -161,7 +166,8 @@ impl MemDisk {
     /// These calls are to fail.
     pub fn failing_at(mut self, faults: Vec<DiskFault>) -> Self
         ensures told { told_in result ≡ told_in self }
-        ensures script { (disk_script result ≡ faults.items) × (disk_calls result ≡ disk_calls self) }
+        ensures script { (disk_script result ≡ faults.items) ×
+            (disk_calls result ≡ disk_calls self) }
         ensures count { disk_faults result ≡ disk_faults self }
     {
         self.script.faults = faults;
@@ -171,7 +177,8 @@ impl MemDisk {
     /// A disk that shows nothing.
     pub fn silent(mut self) -> Self
         ensures told { told_in result ≡ None }
-        ensures script { (disk_script result ≡ disk_script self) × (disk_calls result ≡ disk_calls self) }
+        ensures script { (disk_script result ≡ disk_script self) ×
+            (disk_calls result ≡ disk_calls self) }
         ensures count { disk_faults result ≡ disk_faults self }
     {
         self.tells = false;
@@ -219,7 +226,8 @@ impl Disk for MemDisk {
     fn make(&mut self, name: FileName) -> Result<(), Failed>
         ensures done { Does (On name Make) result (told_in self.old) (told_in self.new) }
         ensures cause { HasCause (disk_faults self.old) (disk_faults self.new) result }
-        ensures follows { Follows (next_outcome self.old) (On name Make) (record_in self.old) (record_in self.new) result }
+        ensures follows { Follows (next_outcome self.old) (On name Make) (record_in self.old)
+            (record_in self.new) result }
         ensures counted { IsCounted self.old self.new }
     {
         let outcome = self.script.next_outcome();
@@ -228,11 +236,13 @@ impl Disk for MemDisk {
     }
 
     fn len(&mut self, name: FileName) -> Result<u64, Failed>
-        ensures length { IfOk result (λ n. WhereTold (told_in self.old) (λ t. (bytes : List ℕ) × (t.reads name ≡ Some bytes) × (n ≡ length bytes))) }
+        ensures length { IfOk result (λ n. WhereTold (told_in self.old)
+            (λ t. (bytes : List ℕ) × (t.reads name ≡ Some bytes) × (n ≡ length bytes))) }
         ensures bounded { IfOk result (λ n. n < 2 ^ 63) }
         ensures same { told_in self.new ≡ told_in self.old }
         ensures cause { HasCause (disk_faults self.old) (disk_faults self.new) result }
-        ensures listed { IsErr result ↔ ((next_outcome self.old ≢ Outcome.Whole) ⊎ (reads_in self.old name ≡ None)) }
+        ensures listed { IsErr result ↔ ((next_outcome self.old ≢ Outcome.Whole) ⊎
+            (reads_in self.old name ≡ None)) }
         ensures counted { IsCounted self.old self.new }
     {
         if self.script.next_fails() {
@@ -245,12 +255,15 @@ impl Disk for MemDisk {
     }
 
     fn read(&mut self, name: FileName, at: u64, into: &mut [u8]) -> Result<usize, Failed>
-        ensures bytes { IfOk result (λ n. WhereTold (told_in self.old) (λ t. (bytes : List ℕ) × (t.reads name ≡ Some bytes)
-            × (n ≡ min (length into.old) (length bytes - at)) × (into.new ≡ take n (drop at bytes) ++ drop n into.old))) }
+        ensures bytes { IfOk result (λ n. WhereTold (told_in self.old)
+            (λ t. (bytes : List ℕ) × (t.reads name ≡ Some bytes)
+            × (n ≡ min (length into.old) (length bytes - at)) ×
+            (into.new ≡ take n (drop at bytes) ++ drop n into.old))) }
         ensures filled { IfOk result (λ n. n ≤ length into.old) }
         ensures same { told_in self.new ≡ told_in self.old }
         ensures cause { HasCause (disk_faults self.old) (disk_faults self.new) result }
-        ensures listed { IsErr result ↔ ((next_outcome self.old ≢ Outcome.Whole) ⊎ (reads_in self.old name ≡ None)) }
+        ensures listed { IsErr result ↔ ((next_outcome self.old ≢ Outcome.Whole) ⊎
+            (reads_in self.old name ≡ None)) }
         ensures counted { IsCounted self.old self.new }
     {
         if self.script.next_fails() {
@@ -263,10 +276,12 @@ impl Disk for MemDisk {
     }
 
     fn write_at(&mut self, name: FileName, at: u64, bytes: &[u8]) -> Result<(), Failed>
-        ensures done { Does (On name (Write at bytes.now)) result (told_in self.old) (told_in self.new) }
+        ensures done { Does (On name (Write at bytes.now)) result (told_in self.old)
+            (told_in self.new) }
         ensures bounded { OnOk result (at + length bytes.now < 2 ^ 63) }
         ensures cause { HasCause (disk_faults self.old) (disk_faults self.new) result }
-        ensures follows { Follows (next_outcome self.old) (On name (Write at bytes.now)) (record_in self.old) (record_in self.new) result }
+        ensures follows { Follows (next_outcome self.old) (On name (Write at bytes.now))
+            (record_in self.old) (record_in self.new) result }
         ensures counted { IsCounted self.old self.new }
     {
         let outcome = self.script.next_outcome();
@@ -277,7 +292,8 @@ impl Disk for MemDisk {
     fn sync(&mut self, name: FileName) -> Result<(), Failed>
         ensures done { Does (On name Sync) result (told_in self.old) (told_in self.new) }
         ensures cause { HasCause (disk_faults self.old) (disk_faults self.new) result }
-        ensures follows { Follows (next_outcome self.old) (On name Sync) (record_in self.old) (record_in self.new) result }
+        ensures follows { Follows (next_outcome self.old) (On name Sync) (record_in self.old)
+            (record_in self.new) result }
         ensures counted { IsCounted self.old self.new }
     {
         let outcome = self.script.next_outcome();
@@ -288,7 +304,8 @@ impl Disk for MemDisk {
     fn settle(&mut self) -> Result<(), Failed>
         ensures done { Does Settle result (told_in self.old) (told_in self.new) }
         ensures cause { HasCause (disk_faults self.old) (disk_faults self.new) result }
-        ensures follows { Follows (next_outcome self.old) Settle (record_in self.old) (record_in self.new) result }
+        ensures follows { Follows (next_outcome self.old) Settle (record_in self.old)
+            (record_in self.new) result }
         ensures counted { IsCounted self.old self.new }
     {
         let outcome = self.script.next_outcome();
@@ -299,7 +316,8 @@ impl Disk for MemDisk {
     fn remove(&mut self, name: FileName) -> Result<(), Failed>
         ensures done { Does (On name Remove) result (told_in self.old) (told_in self.new) }
         ensures cause { HasCause (disk_faults self.old) (disk_faults self.new) result }
-        ensures follows { Follows (next_outcome self.old) (On name Remove) (record_in self.old) (record_in self.new) result }
+        ensures follows { Follows (next_outcome self.old) (On name Remove) (record_in self.old)
+            (record_in self.new) result }
         ensures counted { IsCounted self.old self.new }
     {
         let outcome = self.script.next_outcome();
@@ -309,7 +327,8 @@ impl Disk for MemDisk {
 
     fn next_name(&mut self, after: Option<FileName>) -> Result<Option<FileName>, Failed>
         ensures above { IfOk result (λ next. IfSome next (λ n. IsAbove after n)) }
-        ensures next { IfOk result (λ next. WhereTold (told_in self.old) (λ t. IsNext t.reads after next)) }
+        ensures next { IfOk result (λ next. WhereTold (told_in self.old)
+            (λ t. IsNext t.reads after next)) }
         ensures same { told_in self.new ≡ told_in self.old }
         ensures cause { HasCause (disk_faults self.old) (disk_faults self.new) result }
         ensures listed { IsErr result ↔ (next_outcome self.old ≢ Outcome.Whole) }

@@ -58,8 +58,25 @@ impl MemHost {
         output: MemSink,
         folders: Vec<Named<MemDisk>>,
     ) -> Self
-        ensures state { state_in result ≡ record { input = left_in input; output = took_in output; handed = handed_in output; files = file_of []; moments = Some (moments_of (record { moment = 0; step = 0 })); draws = Some (draws_of (record { number = 0; step = 0 })); listeners = Some none_out; dialers = Some none_out; name = Some []; address = Some []; faults = 0; disk_faults = 0 } }
-        ensures folders { (folder_in result ≡ folder_of folders.items) × (roll_in result ≡ roll_of []) }
+        ensures state { state_in result ≡ record {
+          input = left_in input;
+          output = took_in output;
+          handed = handed_in output;
+          files = file_of [];
+          moments = Some
+              (moments_of (record { moment = 0; step = 0 }));
+          draws = Some
+              (draws_of (record { number = 0; step = 0 }));
+          listeners = Some none_out;
+          dialers = Some
+              none_out;
+          name = Some [];
+          address = Some [];
+          faults = 0;
+          disk_faults = 0;
+        } }
+        ensures folders { (folder_in result ≡ folder_of folders.items) ×
+            (roll_in result ≡ roll_of []) }
     {
         MemHost {
             alloc,
@@ -88,7 +105,8 @@ impl MemHost {
     pub fn with_files(mut self, files: Vec<Named<Vec<u8>>>) -> Self
         ensures state { state_in result ≡ record (state_in self) { files = file_of files.items } }
         ensures folders { (folder_in result ≡ folder_in self) × (roll_in result ≡ roll_in self) }
-        ensures script { (open_fails result ≡ open_fails self) × (open_calls result ≡ open_calls self) }
+        ensures script { (open_fails result ≡ open_fails self) ×
+            (open_calls result ≡ open_calls self) }
     {
         self.files = files;
         self
@@ -97,8 +115,10 @@ impl MemHost {
     /// With these folders of rolled files. Where a path stands twice, its first folder counts.
     pub fn with_rolls(mut self, rolls: Vec<Named<MemRoll>>) -> Self
         ensures state { state_in result ≡ state_in self }
-        ensures folders { (folder_in result ≡ folder_in self) × (roll_in result ≡ roll_of rolls.items) }
-        ensures script { (open_fails result ≡ open_fails self) × (open_calls result ≡ open_calls self) }
+        ensures folders { (folder_in result ≡ folder_in self) ×
+            (roll_in result ≡ roll_of rolls.items) }
+        ensures script { (open_fails result ≡ open_fails self) ×
+            (open_calls result ≡ open_calls self) }
     {
         self.rolls = rolls;
         self
@@ -106,9 +126,11 @@ impl MemHost {
 
     /// Each clock and each chance that is handed out begins as this one.
     pub fn with_times(mut self, clock: MemClock, random: MemRandom) -> Self
-        ensures state { state_in result ≡ record (state_in self) { moments = Some (moments_of clock); draws = Some (draws_of random) } }
+        ensures state { state_in result ≡ record (state_in self)
+            { moments = Some (moments_of clock); draws = Some (draws_of random) } }
         ensures folders { (folder_in result ≡ folder_in self) × (roll_in result ≡ roll_in self) }
-        ensures script { (open_fails result ≡ open_fails self) × (open_calls result ≡ open_calls self) }
+        ensures script { (open_fails result ≡ open_fails self) ×
+            (open_calls result ≡ open_calls self) }
     {
         self.clock = clock;
         self.random = random;
@@ -120,7 +142,8 @@ impl MemHost {
     pub fn with_listeners(mut self, listeners: Vec<Placed<MemListener>>) -> Self
         ensures state { state_in result ≡ state_in self }
         ensures folders { (folder_in result ≡ folder_in self) × (roll_in result ≡ roll_in self) }
-        ensures script { (open_fails result ≡ open_fails self) × (open_calls result ≡ open_calls self) }
+        ensures script { (open_fails result ≡ open_fails self) ×
+            (open_calls result ≡ open_calls self) }
     {
         self.new_listeners = listeners;
         self
@@ -131,7 +154,8 @@ impl MemHost {
     pub fn with_dialers(mut self, dialers: Vec<Placed<MemDialer>>) -> Self
         ensures state { state_in result ≡ state_in self }
         ensures folders { (folder_in result ≡ folder_in self) × (roll_in result ≡ roll_in self) }
-        ensures script { (open_fails result ≡ open_fails self) × (open_calls result ≡ open_calls self) }
+        ensures script { (open_fails result ≡ open_fails self) ×
+            (open_calls result ≡ open_calls self) }
     {
         self.new_dialers = dialers;
         self
@@ -139,9 +163,11 @@ impl MemHost {
 
     /// With this name and this address.
     pub fn named(mut self, name: String, address: String) -> Self
-        ensures state { state_in result ≡ record (state_in self) { name = Some (string_bytes name); address = Some (string_bytes address) } }
+        ensures state { state_in result ≡ record (state_in self)
+            { name = Some (string_bytes name); address = Some (string_bytes address) } }
         ensures folders { (folder_in result ≡ folder_in self) × (roll_in result ≡ roll_in self) }
-        ensures script { (open_fails result ≡ open_fails self) × (open_calls result ≡ open_calls self) }
+        ensures script { (open_fails result ≡ open_fails self) ×
+            (open_calls result ≡ open_calls self) }
     {
         self.name = name;
         self.address = address;
@@ -163,7 +189,8 @@ impl MemHost {
     pub fn lacking_opens(mut self, calls: Vec<u64>) -> Self
         ensures state { state_in result ≡ state_in self }
         ensures folders { (folder_in result ≡ folder_in self) × (roll_in result ≡ roll_in self) }
-        ensures script { (open_fails result ≡ open_fails self) × (open_calls result ≡ open_calls self) }
+        ensures script { (open_fails result ≡ open_fails self) ×
+            (open_calls result ≡ open_calls self) }
     {
         self.lacking = calls;
         self
@@ -199,7 +226,8 @@ impl MemHost {
     /// The disk of a folder, where the folder is there and not handed out.
     pub fn disk(&self, path: &str) -> Option<&MemDisk>
         ensures told { IfSome result (λ disk. told_in disk.now ≡ folder_in self.now path.now) }
-        ensures there { HasFolder self.now path.now → IsSome (folder_in self.now path.now) → IsSome result }
+        ensures there { HasFolder self.now path.now → IsSome (folder_in self.now path.now) → IsSome
+            result }
     {
         match place_of(&self.folders, path) {
             Some(index) => self.folders[index].object.as_ref(),
@@ -210,7 +238,8 @@ impl MemHost {
     /// The rolled files of a folder, where the folder is there and not handed out.
     pub fn roll(&self, path: &str) -> Option<&MemRoll>
         ensures told { IfSome result (λ roll. rolled_in roll.now ≡ roll_in self.now path.now) }
-        ensures there { HasRoll self.now path.now → IsSome (roll_in self.now path.now) → IsSome result }
+        ensures there { HasRoll self.now path.now → IsSome (roll_in self.now path.now) → IsSome
+            result }
     {
         match place_of(&self.rolls, path) {
             Some(index) => self.rolls[index].object.as_ref(),
@@ -234,7 +263,8 @@ impl MemHost {
 
     // The bytes of the first file of a path.
     fn bytes_of(&self, path: &str) -> Option<&[u8]>
-        ensures { MatchOption result (file_of self.now.files.items path.now ≡ None) (λ bytes. file_of self.now.files.items path.now ≡ Some bytes.now) }
+        ensures { MatchOption result (file_of self.now.files.items path.now ≡ None)
+            (λ bytes. file_of self.now.files.items path.now ≡ Some bytes.now) }
     {
         let index = place_of(&self.files, path)?;
         match &self.files[index].object {

@@ -60,7 +60,8 @@ impl MemLink {
     pub fn new(alloc: Global, steps: Vec<LinkStep>) -> MemLink
         ensures told { link_told result ≡ Some unused }
         ensures script { (link_steps result ≡ steps.items) × (link_place result ≡ start_place) }
-        ensures sends { (send_fails result ≡ []) × (send_calls result ≡ 0) × (send_pieces result ≡ []) }
+        ensures sends { (send_fails result ≡ []) × (send_calls result ≡ 0) ×
+            (send_pieces result ≡ []) }
     {
         MemLink {
             steps,
@@ -84,8 +85,10 @@ impl MemLink {
     /// The writes of these numbers fail. The first write has the number 0.
     pub fn failing_at(mut self, calls: Vec<u64>) -> MemLink
         ensures told { link_told result ≡ link_told self }
-        ensures script { (link_steps result ≡ link_steps self) × (link_place result ≡ link_place self) }
-        ensures sends { (send_fails result ≡ calls.items) × (send_calls result ≡ send_calls self) × (send_pieces result ≡ send_pieces self) }
+        ensures script { (link_steps result ≡ link_steps self) ×
+            (link_place result ≡ link_place self) }
+        ensures sends { (send_fails result ≡ calls.items) × (send_calls result ≡ send_calls self) ×
+            (send_pieces result ≡ send_pieces self) }
     {
         self.script.fails = calls;
         self
@@ -94,8 +97,10 @@ impl MemLink {
     /// Write number n takes at most the n-th of these numbers. They go round, and a 0 counts as 1.
     pub fn in_pieces(mut self, most: Vec<usize>) -> MemLink
         ensures told { link_told result ≡ link_told self }
-        ensures script { (link_steps result ≡ link_steps self) × (link_place result ≡ link_place self) }
-        ensures sends { (send_fails result ≡ send_fails self) × (send_calls result ≡ send_calls self) × (send_pieces result ≡ most.items) }
+        ensures script { (link_steps result ≡ link_steps self) ×
+            (link_place result ≡ link_place self) }
+        ensures sends { (send_fails result ≡ send_fails self) ×
+            (send_calls result ≡ send_calls self) × (send_pieces result ≡ most.items) }
     {
         self.most = most;
         self
@@ -104,8 +109,10 @@ impl MemLink {
     /// Sets this flag at its first write.
     pub fn setting(mut self, flag: Flag) -> MemLink
         ensures told { link_told result ≡ link_told self }
-        ensures script { (link_steps result ≡ link_steps self) × (link_place result ≡ link_place self) }
-        ensures sends { (send_fails result ≡ send_fails self) × (send_calls result ≡ send_calls self) × (send_pieces result ≡ send_pieces self) }
+        ensures script { (link_steps result ≡ link_steps self) ×
+            (link_place result ≡ link_place self) }
+        ensures sends { (send_fails result ≡ send_fails self) ×
+            (send_calls result ≡ send_calls self) × (send_pieces result ≡ send_pieces self) }
     {
         self.flag = Some(flag);
         self
@@ -114,8 +121,10 @@ impl MemLink {
     /// A link that shows nothing.
     pub fn silent(mut self) -> MemLink
         ensures told { link_told result ≡ None }
-        ensures script { (link_steps result ≡ link_steps self) × (link_place result ≡ link_place self) }
-        ensures sends { (send_fails result ≡ send_fails self) × (send_calls result ≡ send_calls self) × (send_pieces result ≡ send_pieces self) }
+        ensures script { (link_steps result ≡ link_steps self) ×
+            (link_place result ≡ link_place self) }
+        ensures sends { (send_fails result ≡ send_fails self) ×
+            (send_calls result ≡ send_calls self) × (send_pieces result ≡ send_pieces self) }
     {
         self.tells = false;
         self
@@ -132,7 +141,8 @@ impl MemLink {
     pub(crate) fn fresh(mut self, tells: bool) -> MemLink
         ensures told { link_told result ≡ where_tells tells unused }
         ensures script { (link_steps result ≡ link_steps self) × (link_place result ≡ start_place) }
-        ensures sends { (send_fails result ≡ send_fails self) × (send_calls result ≡ 0) × (send_pieces result ≡ send_pieces self) }
+        ensures sends { (send_fails result ≡ send_fails self) × (send_calls result ≡ 0) ×
+            (send_pieces result ≡ send_pieces self) }
         ensures counts { (result.faults ≡ 0) × (result.waits ≡ 0) }
     {
         self.step = 0;
@@ -166,8 +176,10 @@ impl MemLink {
 
     // A call that fails.
     fn fail<T>(&mut self) -> Result<T, Failed>
-        ensures told { link_told self.new ≡ where_tells self.old.tells (broke (link_record self.old)) }
-        ensures same { IsUnread self.old self.new × (self.new.waits ≡ self.old.waits) × (send_calls self.new ≡ send_calls self.old) }
+        ensures told { link_told self.new ≡ where_tells self.old.tells
+            (broke (link_record self.old)) }
+        ensures same { IsUnread self.old self.new × (self.new.waits ≡ self.old.waits) ×
+            (send_calls self.new ≡ send_calls self.old) }
         ensures err { OnOk result (⊥) }
         ensures cause { HasCause self.old.faults self.new.faults result }
     {
@@ -193,7 +205,8 @@ fn copy_front(bytes: &[u8], at: usize, into: &mut [u8]) -> usize
 fn due_of(bytes: &[u8], step: usize, at: usize, into: &mut [u8]) -> Due
     requires room { 0 < length into.old }
     requires step { step < 2 ^ 64 - 1 }
-    ensures due { IfOk result.answer (ReadsPiece bytes.now (record { step = step; at = at }) (record { step = result.step; at = result.at }) into.new) }
+    ensures due { IfOk result.answer (ReadsPiece bytes.now (record { step = step; at = at })
+        (record { step = result.step; at = result.at }) into.new) }
     ensures fits { IfOk result.answer (λ read. FitsIn read (length into.new)) }
     ensures ok { IsOk result.answer }
     ensures room { length into.new ≡ length into.old }
@@ -224,7 +237,8 @@ impl MemLink {
     // What the next read is to answer. Its bytes are copied, and nothing is noted yet.
     fn due(&self, into: &mut [u8]) -> Due
         requires { 0 < length into.old }
-        ensures due { Reads self.now.steps.items (link_place self.now) (record { step = result.step; at = result.at }) into.new result.answer }
+        ensures due { Reads self.now.steps.items (link_place self.now)
+            (record { step = result.step; at = result.at }) into.new result.answer }
         ensures fits { IfOk result.answer (λ read. FitsIn read (length into.new)) }
         ensures room { length into.new ≡ length into.old }
     {
@@ -275,7 +289,8 @@ impl MemLink {
 
     // Notes a read that waits in vain.
     fn rest(&mut self) -> Result<LinkRead, Failed>
-        ensures told { (into : List ℕ) → Hears result into (link_told self.old) (link_told self.new) }
+        ensures told { (into : List ℕ) → Hears result into (link_told self.old)
+            (link_told self.new) }
         ensures ok { IfOk result (λ read. read ≡ LinkRead.Quiet) }
         ensures err { OnErr result (2 ^ 64 - 1 ≤ self.old.quiets) }
         ensures same { IsUnread self.old self.new }
@@ -350,7 +365,8 @@ impl Link for MemLink {
         ensures waits { self.old.waits ≤ self.new.waits }
         ensures cause { HasCause self.old.faults self.new.faults result }
         ensures listed { Contains (send_fails self.old) (send_calls self.old) → IsErr result }
-        ensures most { IfOk result (λ n. n ≡ min (length bytes.now) (piece_of (send_pieces self.old) (send_calls self.old))) }
+        ensures most { IfOk result (λ n. n ≡ min (length bytes.now)
+            (piece_of (send_pieces self.old) (send_calls self.old))) }
         ensures counted { send_calls self.new ≡ min (send_calls self.old + 1) (2 ^ 64 - 1) }
     {
         if let Some(flag) = &self.flag {

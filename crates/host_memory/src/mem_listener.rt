@@ -91,7 +91,8 @@ impl MemListener {
     // An accept that fails.
     fn fail(&mut self) -> Result<Option<MemLink>, Failed>
         ensures told { listener_told self.new ≡ refused_link (listener_told self.old) }
-        ensures same { (self.new.at ≡ self.old.at) × (self.new.offers ≡ self.old.offers) × (self.new.next ≡ self.old.next) × (self.new.waits ≡ self.old.waits) }
+        ensures same { (self.new.at ≡ self.old.at) × (self.new.offers ≡ self.old.offers) ×
+            (self.new.next ≡ self.old.next) × (self.new.waits ≡ self.old.waits) }
         ensures err { IsErr result }
         ensures cause { HasCause self.old.faults self.new.faults result }
     {
@@ -104,7 +105,8 @@ impl MemListener {
     fn rest(&mut self) -> Result<Option<MemLink>, Failed>
         ensures told { listener_told self.new ≡ gave_none (listener_told self.old) }
         ensures none { result ≡ Ok None }
-        ensures same { (self.new.at ≡ self.old.at) × (self.new.offers ≡ self.old.offers) × (self.new.next ≡ self.old.next) }
+        ensures same { (self.new.at ≡ self.old.at) × (self.new.offers ≡ self.old.offers) ×
+            (self.new.next ≡ self.old.next) }
         ensures waited { Rose self.old.waits self.new.waits × (self.old.waits ≤ self.new.waits) }
         ensures cause { HasCause self.old.faults self.new.faults result }
     {
@@ -115,15 +117,20 @@ impl MemListener {
 
     // An accept by an offer.
     fn take(&mut self, offer: Offer) -> Result<Option<MemLink>, Failed>
-        ensures given { IfOk result (λ found. MatchOption found (listener_told self.new ≡ gave_none (listener_told self.old))
-            (λ link. (listener_told self.new ≡ gave_one (listener_told self.old)) × (link_told link ≡ fresh_from (listener_told self.old)))) }
-        ensures refused { OnErr result (listener_told self.new ≡ refused_link (listener_told self.old)) }
-        ensures owed { IfOk result (λ found. MatchOption found (Unit {0}) (λ _. IsOwed (listener_told self.new))) }
+        ensures given { IfOk result (λ found. MatchOption found
+            (listener_told self.new ≡ gave_none (listener_told self.old))
+            (λ link. (listener_told self.new ≡ gave_one (listener_told self.old)) ×
+            (link_told link ≡ fresh_from (listener_told self.old)))) }
+        ensures refused { OnErr result (listener_told self.new ≡ refused_link
+            (listener_told self.old)) }
+        ensures owed { IfOk result (λ found. MatchOption found (Unit {0})
+            (λ _. IsOwed (listener_told self.new))) }
         ensures waited { IfOk result (λ found. IfNone found (Rose self.old.waits self.new.waits)) }
         ensures waits { self.old.waits ≤ self.new.waits }
         ensures cause { HasCause self.old.faults self.new.faults result }
         ensures follows { AnswersOffer offer result }
-        ensures same { (self.new.at ≡ self.old.at) × (self.new.offers ≡ self.old.offers) × (self.new.next ≡ self.old.next) }
+        ensures same { (self.new.at ≡ self.old.at) × (self.new.offers ≡ self.old.offers) ×
+            (self.new.next ≡ self.old.next) }
     {
         match offer {
             Offer::Link(link) => match self.given.give(link) {
@@ -155,10 +162,14 @@ impl Listener for MemListener {
     ghost waits = { λ l. l.waits };
 
     fn accept(&mut self) -> Result<Option<MemLink>, Failed>
-        ensures given { IfOk result (λ found. MatchOption found (listener_told self.new ≡ gave_none (listener_told self.old))
-            (λ link. (listener_told self.new ≡ gave_one (listener_told self.old)) × (link_told link ≡ fresh_from (listener_told self.old)))) }
-        ensures refused { OnErr result (listener_told self.new ≡ refused_link (listener_told self.old)) }
-        ensures owed { IfOk result (λ found. MatchOption found (Unit {0}) (λ _. IsOwed (listener_told self.new))) }
+        ensures given { IfOk result (λ found. MatchOption found
+            (listener_told self.new ≡ gave_none (listener_told self.old))
+            (λ link. (listener_told self.new ≡ gave_one (listener_told self.old)) ×
+            (link_told link ≡ fresh_from (listener_told self.old)))) }
+        ensures refused { OnErr result (listener_told self.new ≡ refused_link
+            (listener_told self.old)) }
+        ensures owed { IfOk result (λ found. MatchOption found (Unit {0})
+            (λ _. IsOwed (listener_told self.new))) }
         ensures waited { IfOk result (λ found. IfNone found (Rose self.old.waits self.new.waits)) }
         ensures waits { self.old.waits ≤ self.new.waits }
         ensures endpoint { listener_endpoint self.new ≡ listener_endpoint self.old }

@@ -44,7 +44,8 @@ impl MemRoll {
     /// there already.
     pub fn new(alloc: Global) -> Self
         ensures rolled { rolled_in result ≡ Some no_files }
-        ensures script { (roll_fails result ≡ []) × (roll_calls result ≡ 0) × (roll_pieces result ≡ []) }
+        ensures script { (roll_fails result ≡ []) × (roll_calls result ≡ 0) ×
+            (roll_pieces result ≡ []) }
         ensures count { roll_faults result ≡ 0 }
     {
         MemRoll {
@@ -64,7 +65,8 @@ impl MemRoll {
     /// Sets this flag at its first flush that goes well.
     pub fn setting(mut self, flag: Flag) -> Self
         ensures rolled { rolled_in result ≡ rolled_in self }
-        ensures script { (roll_fails result ≡ roll_fails self) × (roll_calls result ≡ roll_calls self) × (roll_pieces result ≡ roll_pieces self) }
+        ensures script { (roll_fails result ≡ roll_fails self) ×
+            (roll_calls result ≡ roll_calls self) × (roll_pieces result ≡ roll_pieces self) }
         ensures count { roll_faults result ≡ roll_faults self }
     {
         self.flag = Some(flag);
@@ -75,7 +77,8 @@ impl MemRoll {
     pub fn in_pieces(mut self, pieces: Vec<usize>) -> Self
         ensures rolled { rolled_in result ≡ rolled_in self }
         ensures pieces { roll_pieces result ≡ pieces.items }
-        ensures script { (roll_fails result ≡ roll_fails self) × (roll_calls result ≡ roll_calls self) }
+        ensures script { (roll_fails result ≡ roll_fails self) ×
+            (roll_calls result ≡ roll_calls self) }
         ensures count { roll_faults result ≡ roll_faults self }
     {
         self.pieces = pieces;
@@ -96,7 +99,8 @@ impl MemRoll {
     /// A folder that shows nothing.
     pub fn silent(mut self) -> Self
         ensures rolled { rolled_in result ≡ None }
-        ensures script { (roll_fails result ≡ roll_fails self) × (roll_calls result ≡ roll_calls self) × (roll_pieces result ≡ roll_pieces self) }
+        ensures script { (roll_fails result ≡ roll_fails self) ×
+            (roll_calls result ≡ roll_calls self) × (roll_pieces result ≡ roll_pieces self) }
         ensures count { roll_faults result ≡ roll_faults self }
     {
         self.tells = false;
@@ -132,7 +136,8 @@ fn is_new_name(files: &[RolledFile], name: &str) -> bool
 
 // A new file, which stands last.
 fn add_file(alloc: Global, files: &mut Vec<RolledFile>, name: &str) -> Result<(), AllocError>
-    ensures added { OnOk result (files_by files.new.items ≡ files_by files.old.items ++ record { name = name.now; bytes = [] } ∷ []) }
+    ensures added { OnOk result (files_by files.new.items ≡ files_by files.old.items ++
+        record { name = name.now; bytes = [] } ∷ []) }
     ensures same { OnErr result (files_by files.new.items ≡ files_by files.old.items) }
 {
     let name = String::from_str(alloc, name)?;
@@ -145,7 +150,8 @@ fn add_file(alloc: Global, files: &mut Vec<RolledFile>, name: &str) -> Result<()
 
 // Bytes for the last file, if there is one.
 fn add_bytes(files: &mut Vec<RolledFile>, bytes: &[u8]) -> Result<(), Failed>
-    ensures { MatchResult result (λ _. GrewBy bytes.now (files_by files.old.items) (files_by files.new.items)) (λ _. files_by files.new.items ≡ files_by files.old.items) }
+    ensures { MatchResult result (λ _. GrewBy bytes.now (files_by files.old.items)
+        (files_by files.new.items)) (λ _. files_by files.new.items ≡ files_by files.old.items) }
 {
     let Some(last) = files.len().checked_sub(1) else {
         return Err(Failed);
@@ -157,7 +163,13 @@ fn add_bytes(files: &mut Vec<RolledFile>, bytes: &[u8]) -> Result<(), Failed>
 }
 
 impl RollDir for MemRoll {
-    ghost rolled = { λ r. rolled_by r.tells (record { files = files_by r.files.items; flushed = r.flushed; begun = r.begun; failed = r.failed }) };
+    ghost rolled = { λ r. rolled_by r.tells (record {
+      files = files_by r.files.items;
+      flushed =
+          r.flushed;
+      begun = r.begun;
+      failed = r.failed;
+    }) };
 
     ghost faults = { λ r. r.faults };
 

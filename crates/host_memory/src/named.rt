@@ -29,7 +29,8 @@ pub fn place_of<T: Drop>(objects: &[Named<T>], path: &str) -> Option<usize>
 /// Hands an object out, if it is there.
 pub fn take_out<T: Drop>(objects: &mut Vec<Named<T>>, index: usize) -> Option<T>
     requires { index < length objects.old.items }
-    ensures { (was : Named T) × IsAt objects.old.items index was × (result ≡ was.object) × (objects.new.items ≡ set objects.old.items index (with_object was None)) }
+    ensures { (was : Named T) × IsAt objects.old.items index was × (result ≡ was.object) ×
+        (objects.new.items ≡ set objects.old.items index (with_object was None)) }
 {
     objects[index].object.take()
 }
@@ -37,7 +38,8 @@ pub fn take_out<T: Drop>(objects: &mut Vec<Named<T>>, index: usize) -> Option<T>
 /// Gives an object back.
 pub fn give_back<T: Drop>(objects: &mut Vec<Named<T>>, index: usize, object: T)
     requires { index < length objects.old.items }
-    ensures { (was : Named T) × IsAt objects.old.items index was × (objects.new.items ≡ set objects.old.items index (with_object was (Some object))) }
+    ensures { (was : Named T) × IsAt objects.old.items index was ×
+        (objects.new.items ≡ set objects.old.items index (with_object was (Some object))) }
 {
     objects[index].object = Some(object);
 }
@@ -48,7 +50,8 @@ pub fn add_room<T: Drop>(
     objects: &mut Vec<Named<T>>,
     path: &str,
 ) -> Result<(), AllocError>
-    ensures added { OnOk result ((named : Named T) × (string_bytes named.path ≡ path.now) × (named.object ≡ None)
+    ensures added { OnOk result ((named : Named T) × (string_bytes named.path ≡ path.now) ×
+        (named.object ≡ None)
         × (objects.new.items ≡ objects.old.items ++ named ∷ [])) }
     ensures same { OnErr result (objects.new.items ≡ objects.old.items) }
 {

@@ -29,7 +29,8 @@ fn put_file(
     name: FileName,
     bytes: &[u8],
 ) -> Result<(), AllocError>
-    ensures { OnOk result (files_of files.new.items ≡ with_at (files_of files.old.items) name (Some bytes.now)) }
+    ensures { OnOk result (files_of files.new.items ≡ with_at (files_of files.old.items) name
+        (Some bytes.now)) }
 {
     let bytes = bytes.to_vec(alloc)?;
     match place_of(files, name) {
@@ -53,7 +54,8 @@ fn write_file(
     at: u64,
     bytes: &[u8],
 ) -> Result<(), AllocError>
-    ensures { OnOk result (files_of files.new.items ≡ with_at (files_of files.old.items) name (file_after (Write at bytes.now) (files_of files.old.items name))) }
+    ensures { OnOk result (files_of files.new.items ≡ with_at (files_of files.old.items) name
+        (file_after (Write at bytes.now) (files_of files.old.items name))) }
 {
     if let Some(index) = place_of(files, name) {
         let was = &files[index].bytes;
@@ -77,7 +79,8 @@ fn stood_bytes(alloc: Global, stood: Stood, bytes: &[u8]) -> Result<Vec<u8>, All
 
 // Makes an empty file, if none is there.
 fn make_if_absent(alloc: Global, files: &mut Vec<MemFile>, name: FileName) -> Result<(), AllocError>
-    ensures { OnOk result (files_of files.new.items ≡ with_at (files_of files.old.items) name (part_after 0 Make (files_of files.old.items name))) }
+    ensures { OnOk result (files_of files.new.items ≡ with_at (files_of files.old.items) name
+        (part_after 0 Make (files_of files.old.items name))) }
 {
     match place_of(files, name) {
         Some(_) => Ok(()),
@@ -92,7 +95,8 @@ fn tear(
     change: &Recorded,
     stood: Stood,
 ) -> Result<(), AllocError>
-    ensures { OnOk result (files_of image.new.items ≡ image_torn stood (call_of change.now) (files_of image.old.items)) }
+    ensures { OnOk result (files_of image.new.items ≡ image_torn stood (call_of change.now)
+        (files_of image.old.items)) }
 {
     match change {
         Recorded::Wrote(name, at, bytes) => {
@@ -123,7 +127,8 @@ fn keep(
     change: &Recorded,
     stood: Stood,
 ) -> Result<(), AllocError>
-    ensures { OnOk result (files_of image.new.items ≡ image_kept stood (call_of change.now) (files_of files.now.items) (files_of image.old.items)) }
+    ensures { OnOk result (files_of image.new.items ≡ image_kept stood (call_of change.now)
+        (files_of files.now.items) (files_of image.old.items)) }
 {
     match change {
         Recorded::Made(name) => put_file(alloc, image, *name, &[]),
@@ -148,7 +153,8 @@ fn keep(
 
 // What reads give after a change that was done.
 fn redo(alloc: Global, files: &mut Vec<MemFile>, change: &Recorded) -> Result<(), AllocError>
-    ensures { OnOk result (files_of files.new.items ≡ read_by (call_of change.now) (files_of files.old.items)) }
+    ensures { OnOk result (files_of files.new.items ≡ read_by (call_of change.now)
+        (files_of files.old.items)) }
 {
     match change {
         Recorded::Made(name) => put_file(alloc, files, *name, &[]),
@@ -169,7 +175,8 @@ fn redo_part(
     change: &Recorded,
     count: usize,
 ) -> Result<(), AllocError>
-    ensures { OnOk result (files_of files.new.items ≡ part_read count (call_of change.now) (files_of files.old.items)) }
+    ensures { OnOk result (files_of files.new.items ≡ part_read count (call_of change.now)
+        (files_of files.old.items)) }
 {
     match change {
         Recorded::Made(name) => make_if_absent(alloc, files, *name),
@@ -187,7 +194,8 @@ fn redo_part(
 
 // What reads give after a recorded call.
 fn reread(alloc: Global, files: &mut Vec<MemFile>, call: &MemCall) -> Result<(), AllocError>
-    ensures { OnOk result (files_of files.new.items ≡ reads_by call.now.outcome (call_of call.now.change) (files_of files.old.items)) }
+    ensures { OnOk result (files_of files.new.items ≡ reads_by call.now.outcome
+        (call_of call.now.change) (files_of files.old.items)) }
 {
     match call.outcome {
         Outcome::Whole => redo(alloc, files, &call.change),
@@ -204,7 +212,8 @@ fn leave(
     call: &MemCall,
     stood: Stood,
 ) -> Result<(), AllocError>
-    ensures { OnOk result (files_of image.new.items ≡ image_by call.now.outcome stood (call_of call.now.change) (files_of files.now.items) (files_of image.old.items)) }
+    ensures { OnOk result (files_of image.new.items ≡ image_by call.now.outcome stood
+        (call_of call.now.change) (files_of files.now.items) (files_of image.old.items)) }
 {
     match call.outcome {
         Outcome::Whole => keep(alloc, image, files, &call.change, stood),
@@ -233,8 +242,10 @@ pub fn image_at(
     moment: u64,
     choices: &[Stood],
 ) -> Result<Vec<MemFile>, AllocError>
-    ensures left { IfOk result (λ image. IsLeftAt (told_of first.now calls.now) moment (files_of image.items)) }
-    ensures chosen { IfOk result (λ image. files_of image.items ≡ image_chosen (chosen choices.now) first.now calls.now moment) }
+    ensures left { IfOk result (λ image. IsLeftAt (told_of first.now calls.now) moment
+        (files_of image.items)) }
+    ensures chosen { IfOk result (λ image. files_of image.items ≡ image_chosen (chosen choices.now)
+        first.now calls.now moment) }
 {
     let mut files = copy_files(alloc, first)?;
     let mut image = copy_files(alloc, first)?;

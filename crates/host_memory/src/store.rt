@@ -63,8 +63,10 @@ impl Store {
 
     // Records a call that changes nothing that reads give.
     fn note(&mut self, change: Recorded, outcome: Outcome) -> Result<(), Failed>
-        requires { (step_by outcome (call_of change) (replayed self.old)).reads ≡ (replayed self.old).reads }
-        ensures done { OnOk result (replayed self.new ≡ step_by outcome (call_of change) (replayed self.old)) }
+        requires { (step_by outcome (call_of change) (replayed self.old)).reads ≡
+            (replayed self.old).reads }
+        ensures done { OnOk result (replayed self.new ≡ step_by outcome (call_of change)
+            (replayed self.old)) }
         ensures same { OnErr result (replayed self.new ≡ replayed self.old) }
     {
         if self.calls.push(MemCall { change, outcome }).is_err() {
@@ -77,7 +79,8 @@ impl Store {
     fn make_file(&mut self, name: FileName, outcome: Outcome) -> Result<(), AllocError>
         requires absent { place self.old.files.items name ≡ None }
         requires some { outcome ≢ Outcome.Nothing }
-        ensures done { OnOk result (replayed self.new ≡ step_by outcome (On name Make) (replayed self.old)) }
+        ensures done { OnOk result (replayed self.new ≡ step_by outcome (On name Make)
+            (replayed self.old)) }
         ensures same { OnErr result (replayed self.new ≡ replayed self.old) }
     {
         self.files.reserve(1)?;
@@ -94,7 +97,8 @@ impl Store {
 
     /// Makes a file as far as the outcome says. It is done so far exactly where this answers Ok.
     pub fn make(&mut self, name: FileName, outcome: Outcome) -> Result<(), Failed>
-        ensures done { OnOk result (replayed self.new ≡ step_by outcome (On name Make) (replayed self.old)) }
+        ensures done { OnOk result (replayed self.new ≡ step_by outcome (On name Make)
+            (replayed self.old)) }
         ensures same { OnErr result (replayed self.new ≡ replayed self.old) }
     {
         if let Outcome::Nothing = outcome {
@@ -119,8 +123,10 @@ impl Store {
         outcome: Outcome,
     ) -> Result<(), AllocError>
         requires placed { place self.old.files.items name ≡ Some index }
-        requires within { (was : List ℕ) × (files_of self.old.files.items name ≡ Some was) × (at ≤ length was) }
-        ensures done { OnOk result (replayed self.new ≡ step_by outcome (On name (Write at bytes.now)) (replayed self.old)) }
+        requires within { (was : List ℕ) × (files_of self.old.files.items name ≡ Some was) ×
+            (at ≤ length was) }
+        ensures done { OnOk result (replayed self.new ≡ step_by outcome
+            (On name (Write at bytes.now)) (replayed self.old)) }
         ensures same { OnErr result (replayed self.new ≡ replayed self.old) }
         ensures bounded { OnOk result (at + length (front_of outcome bytes.now) < 2 ^ 63) }
     {
@@ -144,7 +150,8 @@ impl Store {
         bytes: &[u8],
         outcome: Outcome,
     ) -> Result<(), Failed>
-        ensures done { OnOk result (replayed self.new ≡ step_by outcome (On name (Write at bytes.now)) (replayed self.old)) }
+        ensures done { OnOk result (replayed self.new ≡ step_by outcome
+            (On name (Write at bytes.now)) (replayed self.old)) }
         ensures same { OnErr result (replayed self.new ≡ replayed self.old) }
         ensures bounded { OnOk result (at + length (front_of outcome bytes.now) < 2 ^ 63) }
     {
@@ -163,7 +170,8 @@ impl Store {
     // Removes all files of this name.
     fn remove_file(&mut self, name: FileName, outcome: Outcome) -> Result<(), AllocError>
         requires some { outcome ≢ Outcome.Nothing }
-        ensures done { OnOk result (replayed self.new ≡ step_by outcome (On name Remove) (replayed self.old)) }
+        ensures done { OnOk result (replayed self.new ≡ step_by outcome (On name Remove)
+            (replayed self.old)) }
         ensures same { OnErr result (replayed self.new ≡ replayed self.old) }
     {
         self.calls.push(MemCall {
@@ -176,7 +184,8 @@ impl Store {
 
     /// Removes a file as far as the outcome says. It is done so far exactly where this answers Ok.
     pub fn remove(&mut self, name: FileName, outcome: Outcome) -> Result<(), Failed>
-        ensures done { OnOk result (replayed self.new ≡ step_by outcome (On name Remove) (replayed self.old)) }
+        ensures done { OnOk result (replayed self.new ≡ step_by outcome (On name Remove)
+            (replayed self.old)) }
         ensures same { OnErr result (replayed self.new ≡ replayed self.old) }
     {
         if let Outcome::Nothing = outcome {
@@ -193,7 +202,8 @@ impl Store {
 
     /// Makes a file stable. It is done exactly where this answers Ok and the outcome is whole.
     pub fn sync(&mut self, name: FileName, outcome: Outcome) -> Result<(), Failed>
-        ensures done { OnOk result (replayed self.new ≡ step_by outcome (On name Sync) (replayed self.old)) }
+        ensures done { OnOk result (replayed self.new ≡ step_by outcome (On name Sync)
+            (replayed self.old)) }
         ensures same { OnErr result (replayed self.new ≡ replayed self.old) }
     {
         if place_of(&self.files, name).is_none() {
@@ -204,7 +214,8 @@ impl Store {
 
     /// Makes all stable. It is done exactly where this answers Ok and the outcome is whole.
     pub fn settle(&mut self, outcome: Outcome) -> Result<(), Failed>
-        ensures done { OnOk result (replayed self.new ≡ step_by outcome Settle (replayed self.old)) }
+        ensures done { OnOk result (replayed self.new ≡ step_by outcome Settle
+            (replayed self.old)) }
         ensures same { OnErr result (replayed self.new ≡ replayed self.old) }
     {
         self.note(Recorded::Settled, outcome)

@@ -28,7 +28,8 @@ impl MemSource {
     /// A source that shows its contents, gives all that is asked for, and never fails.
     pub fn new(alloc: Global, bytes: Vec<u8>) -> Self
         ensures left { left_in result ≡ Some bytes.items }
-        ensures script { (source_fails result ≡ []) × (source_calls result ≡ 0) × (source_pieces result ≡ []) }
+        ensures script { (source_fails result ≡ []) × (source_calls result ≡ 0) ×
+            (source_pieces result ≡ []) }
         ensures count { source_faults result ≡ 0 }
     {
         MemSource {
@@ -46,7 +47,9 @@ impl MemSource {
     /// the read fails.
     pub fn held(mut self, begun: Flag, until: Flag) -> Self
         ensures left { left_in result ≡ left_in self }
-        ensures script { (source_fails result ≡ source_fails self) × (source_calls result ≡ source_calls self) × (source_pieces result ≡ source_pieces self) }
+        ensures script { (source_fails result ≡ source_fails self) ×
+            (source_calls result ≡ source_calls self) ×
+            (source_pieces result ≡ source_pieces self) }
         ensures count { source_faults result ≡ source_faults self }
     {
         self.held = Some(Held { begun, until });
@@ -57,7 +60,8 @@ impl MemSource {
     pub fn in_pieces(mut self, pieces: Vec<usize>) -> Self
         ensures left { left_in result ≡ left_in self }
         ensures pieces { source_pieces result ≡ pieces.items }
-        ensures script { (source_fails result ≡ source_fails self) × (source_calls result ≡ source_calls self) }
+        ensures script { (source_fails result ≡ source_fails self) ×
+            (source_calls result ≡ source_calls self) }
         ensures count { source_faults result ≡ source_faults self }
     {
         self.pieces = pieces;
@@ -68,7 +72,8 @@ impl MemSource {
     pub fn failing_at(mut self, calls: Vec<u64>) -> Self
         ensures left { left_in result ≡ left_in self }
         ensures pieces { source_pieces result ≡ source_pieces self }
-        ensures script { (source_fails result ≡ calls.items) × (source_calls result ≡ source_calls self) }
+        ensures script { (source_fails result ≡ calls.items) ×
+            (source_calls result ≡ source_calls self) }
         ensures count { source_faults result ≡ source_faults self }
     {
         self.script.fails = calls;
@@ -78,7 +83,9 @@ impl MemSource {
     /// A source that shows nothing.
     pub fn silent(mut self) -> Self
         ensures left { left_in result ≡ None }
-        ensures script { (source_fails result ≡ source_fails self) × (source_calls result ≡ source_calls self) × (source_pieces result ≡ source_pieces self) }
+        ensures script { (source_fails result ≡ source_fails self) ×
+            (source_calls result ≡ source_calls self) ×
+            (source_pieces result ≡ source_pieces self) }
         ensures count { source_faults result ≡ source_faults self }
     {
         self.tells = false;
@@ -133,7 +140,8 @@ impl MemSink {
     /// An empty sink that shows its contents, takes all that it is given, and fails only when out of memory.
     pub fn new(alloc: Global) -> Self
         ensures took { (took_in result ≡ Some []) × (handed_in result ≡ Some []) }
-        ensures script { (sink_fails result ≡ []) × (sink_calls result ≡ 0) × (sink_pieces result ≡ []) }
+        ensures script { (sink_fails result ≡ []) × (sink_calls result ≡ 0) ×
+            (sink_pieces result ≡ []) }
         ensures count { sink_faults result ≡ 0 }
     {
         MemSink {
@@ -150,7 +158,8 @@ impl MemSink {
     pub fn in_pieces(mut self, pieces: Vec<usize>) -> Self
         ensures took { (took_in result ≡ took_in self) × (handed_in result ≡ handed_in self) }
         ensures pieces { sink_pieces result ≡ pieces.items }
-        ensures script { (sink_fails result ≡ sink_fails self) × (sink_calls result ≡ sink_calls self) }
+        ensures script { (sink_fails result ≡ sink_fails self) ×
+            (sink_calls result ≡ sink_calls self) }
         ensures count { sink_faults result ≡ sink_faults self }
     {
         self.pieces = pieces;
@@ -171,7 +180,8 @@ impl MemSink {
     /// A sink that shows nothing.
     pub fn silent(mut self) -> Self
         ensures took { (took_in result ≡ None) × (handed_in result ≡ None) }
-        ensures script { (sink_fails result ≡ sink_fails self) × (sink_calls result ≡ sink_calls self) × (sink_pieces result ≡ sink_pieces self) }
+        ensures script { (sink_fails result ≡ sink_fails self) ×
+            (sink_calls result ≡ sink_calls self) × (sink_pieces result ≡ sink_pieces self) }
         ensures count { sink_faults result ≡ sink_faults self }
     {
         self.tells = false;

@@ -132,9 +132,27 @@ impl Host for RealHost {
 
     type Random = RealRandom;
 
-    ghost state = { λ h. record { input = None; output = None; handed = None; files = λ _. None; moments = None; draws = None; listeners = None; dialers = None; name = None; address = None; faults = h.faults; disk_faults = h.disk_faults } };
+    ghost state = { λ h. record {
+      input = None;
+      output = None;
+      handed = None;
+      files = λ _. None;
+      moments = None;
+      draws = None;
+      listeners = None;
+      dialers = None;
+      name = None;
+      address = None;
+      faults = h.faults;
+      disk_faults = h.disk_faults;
+    } };
 
-    ghost folders = { λ _. record { disks = λ _. None; rolls = λ _. None; disk_opened = λ _. true; roll_opened = λ _. true } };
+    ghost folders = { λ _. record {
+      disks = λ _. None;
+      rolls = λ _. None;
+      disk_opened = λ _. true;
+      roll_opened = λ _. true;
+    } };
 
     fn take_input(&mut self) -> RealSource {
         RealSource::new(self.teller.rt)

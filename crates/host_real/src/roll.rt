@@ -62,7 +62,8 @@ impl RealRoll {
 
     // A failure, counted and told.
     fn fail<T>(&mut self, error: &io::Error) -> Result<T, Failed>
-        ensures counted { Rose self.old.faults self.new.faults × (self.old.faults ≤ self.new.faults) }
+        ensures counted { Rose self.old.faults self.new.faults ×
+            (self.old.faults ≤ self.new.faults) }
         ensures failed { IsErr result }
     {
         self.teller.fails(self.path.as_str(), error);

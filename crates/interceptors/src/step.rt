@@ -45,7 +45,8 @@ pub enum Step {
 // Sets a header, unless it is there and stays.
 fn set(event: Event, key: &str, value: &str, preserve: bool) -> Result<Event, EventRefused>
     ensures ok { IfOk result (λ e. e ≡ set_unless preserve event key.now value.now) }
-    ensures fits { OnOk result (size (set_unless preserve event key.now value.now) ≤ MAX_EVENT_SIZE) }
+    ensures fits { OnOk result (size (set_unless preserve event key.now value.now) ≤
+        MAX_EVENT_SIZE) }
     ensures err { IfErr result (IsRefusalOfEvent (set_unless preserve event key.now value.now)) }
 {
     if preserve && event.headers().get(key).is_some() {
@@ -58,8 +59,10 @@ fn set(event: Event, key: &str, value: &str, preserve: bool) -> Result<Event, Ev
 // Removes the headers of these keys.
 fn remove(event: Event, names: &[String]) -> Result<Event, EventRefused>
     ensures ok { IfOk result (λ e. e ≡ content (without_all names.now event.headers) event.body) }
-    ensures fits { OnOk result (size (content (without_all names.now event.headers) event.body) ≤ MAX_EVENT_SIZE) }
-    ensures err { IfErr result (IsTooLarge (content (without_all names.now event.headers) event.body)) }
+    ensures fits { OnOk result (size (content (without_all names.now event.headers) event.body) ≤
+        MAX_EVENT_SIZE) }
+    ensures err { IfErr result (IsTooLarge (content (without_all names.now event.headers)
+        event.body)) }
 {
     let (mut headers, body) = event.into_parts();
     for name in names {

@@ -19,7 +19,8 @@ fn say(
     left: u64,
     digest: &str,
 ) -> Result<String, AllocError>
-    ensures { IfOk result (λ text. string_bytes text ≡ said n batches committed taken left digest.now) }
+    ensures { IfOk result (λ text. string_bytes text ≡ said n batches committed taken left
+        digest.now) }
 {
     let front = format!(in alloc; "events {n}\nbatches {batches}\ncommitted takes {committed}\n")?;
     let text = format!(in alloc; "{front}taken {taken}\nleft {left}\ndigest {digest}\n")?;
@@ -50,7 +51,8 @@ impl Tally {
     /// Adds the body of an event to the digest, as a line.
     pub(crate) fn add_line(&mut self, body: &[u8])
         ensures same { CountsSame self.old self.new }
-        ensures digest { (m : List ℕ) → Holds self.old.digest m → Holds self.new.digest (m ++ (body.now ++ 10 ∷ [])) }
+        ensures digest { (m : List ℕ) → Holds self.old.digest m → Holds self.new.digest
+            (m ++ (body.now ++ 10 ∷ [])) }
     {
         self.digest.update(body);
         self.digest.update(b"\n");
@@ -71,7 +73,8 @@ impl Tally {
 
     /// What is said of a run of `n` events, which left so many.
     pub(crate) fn summary(self, alloc: Global, n: u32, left: u64) -> Result<String, AllocError>
-        ensures { IfOk result (λ text. (takes : List (List Content)) → Tells takes self → string_bytes text ≡ summary n takes left) }
+        ensures { IfOk result (λ text. (takes : List (List Content)) → Tells takes self →
+            string_bytes text ≡ summary n takes left) }
     {
         let Tally {
             batches,

@@ -41,7 +41,8 @@ impl Model for Lines {
 // The place of the first newline.
 fn newline_in(bytes: &[u8]) -> Option<usize>
     ensures { MatchOption result (IsUnbroken bytes.now)
-        (λ i. (i < length bytes.now) × IsUnbroken (take i bytes.now) × (slice_index bytes.now i ≡ 10)) }
+        (λ i. (i < length bytes.now) × IsUnbroken (take i bytes.now) ×
+        (slice_index bytes.now i ≡ 10)) }
 {
     for (i, b) in bytes.iter().enumerate() {
         if *b == b'\n' {

@@ -46,7 +46,8 @@ pub enum SessionEnd {
 fn answer<L: Link>(link: &mut L, verdict: LineVerdict, ack: bool) -> Result<(), SessionEnd>
     ensures ok { OnOk result (Answers ack verdict (L.told link.old) (L.told link.new)) }
     ensures ends { IfErr result (AnswerEnds ack verdict (L.told link.old) (L.told link.new)) }
-    ensures fault { RisesWhere (IsErrOf result SessionEnd.LinkFault) (L.faults link.old) (L.faults link.new) }
+    ensures fault { RisesWhere (IsErrOf result SessionEnd.LinkFault) (L.faults link.old)
+        (L.faults link.new) }
 {
     match write_all(link, reply_to(verdict, ack)) {
         Ok(()) => match verdict {
@@ -67,12 +68,20 @@ fn serve_line<L: Link, F: PutFace + Drop, B: Interceptor, C: Clock>(
     line: &[u8],
 ) -> Result<(), SessionEnd>
     requires { length line.now < 1_048_568 }
-    ensures goes { OnOk result (TakesOne (TakesLine (Puts F.own F.saw F.seen F.kept) intake.old.selector B.intercepts intake.old.host)
-        (into_of intake.old (C.moments clock.old)) line.now (into_of intake.new (C.moments clock.new)) (λ said. Answers ack said (L.told link.old) (L.told link.new))) }
-    ensures ends { IfErr result (λ end. TakesOne (TakesLine (Puts F.own F.saw F.seen F.kept) intake.old.selector B.intercepts intake.old.host)
-        (into_of intake.old (C.moments clock.old)) line.now (into_of intake.new (C.moments clock.new)) (λ said. AnswerEnds ack said (L.told link.old) (L.told link.new) end)) }
-    ensures fault { RisesWhere (IsErrOf result SessionEnd.LinkFault) (L.faults link.old) (L.faults link.new) }
-    ensures same { (intake.new.selector ≡ intake.old.selector) × (intake.new.host ≡ intake.old.host) }
+    ensures goes { OnOk result (TakesOne (TakesLine (Puts F.own F.saw F.seen F.kept)
+        intake.old.selector B.intercepts intake.old.host)
+        (into_of intake.old (C.moments clock.old)) line.now
+        (into_of intake.new (C.moments clock.new)) (λ said. Answers ack said (L.told link.old)
+        (L.told link.new))) }
+    ensures ends { IfErr result (λ end. TakesOne (TakesLine (Puts F.own F.saw F.seen F.kept)
+        intake.old.selector B.intercepts intake.old.host)
+        (into_of intake.old (C.moments clock.old)) line.now
+        (into_of intake.new (C.moments clock.new)) (λ said. AnswerEnds ack said (L.told link.old)
+        (L.told link.new) end)) }
+    ensures fault { RisesWhere (IsErrOf result SessionEnd.LinkFault) (L.faults link.old)
+        (L.faults link.new) }
+    ensures same { (intake.new.selector ≡ intake.old.selector) ×
+        (intake.new.host ≡ intake.old.host) }
 {
     let verdict = take_line(alloc, intake, clock, line);
     answer(link, said_of(&verdict), ack)
@@ -81,7 +90,8 @@ fn serve_line<L: Link, F: PutFace + Drop, B: Interceptor, C: Clock>(
 // Says of a line that it is too long.
 fn refuse_long<L: Link>(link: &mut L) -> SessionEnd
     ensures ends { LongEnds (L.told link.old) (L.told link.new) result }
-    ensures fault { RisesWhere (result ≡ SessionEnd.LinkFault) (L.faults link.old) (L.faults link.new) }
+    ensures fault { RisesWhere (result ≡ SessionEnd.LinkFault) (L.faults link.old)
+        (L.faults link.new) }
 {
     match write_all(link, TOO_LONG_REPLY) {
         Ok(()) => SessionEnd::TooLongLine,
@@ -104,16 +114,25 @@ fn serve_front<L: Link, F: PutFace + Drop, B: Interceptor, C: Clock>(
     ensures max { lines.new.max ≡ lines.old.max }
     ensures n { IfOk result (λ n. (1 ≤ n) × (n ≤ length rest.now)) }
     ensures partial { OnOk result (IsLine lines.new.max (held_by lines.new)) }
-    ensures goes { IfOk result (λ n. Goes lines.old.max ack (TakesLine (Puts F.own F.saw F.seen F.kept) intake.old.selector B.intercepts intake.old.host)
-        (sides intake.old (C.moments clock.old) (L.told link.old)) (sides intake.new (C.moments clock.new) (L.told link.new))
+    ensures goes { IfOk result (λ n. Goes lines.old.max ack
+        (TakesLine (Puts F.own F.saw F.seen F.kept) intake.old.selector B.intercepts
+        intake.old.host)
+        (sides intake.old (C.moments clock.old) (L.told link.old))
+        (sides intake.new (C.moments clock.new) (L.told link.new))
         (held_by lines.old) (take n rest.now) (held_by lines.new) [] 0) }
-    ensures breaks { IfErr result (Breaks lines.old.max ack (TakesLine (Puts F.own F.saw F.seen F.kept) intake.old.selector B.intercepts intake.old.host)
-        (sides intake.old (C.moments clock.old) (L.told link.old)) (sides intake.new (C.moments clock.new) (L.told link.new)) (held_by lines.old) rest.now [] 0) }
+    ensures breaks { IfErr result (Breaks lines.old.max ack
+        (TakesLine (Puts F.own F.saw F.seen F.kept) intake.old.selector B.intercepts
+        intake.old.host)
+        (sides intake.old (C.moments clock.old) (L.told link.old))
+        (sides intake.new (C.moments clock.new) (L.told link.new)) (held_by lines.old) rest.now []
+        0) }
     ensures turn { ¬ IsErrOf result SessionEnd.Turns }
     ensures end { ¬ IsErrOf result SessionEnd.End }
     ensures stop { ¬ IsErrOf result SessionEnd.Stopped }
-    ensures fault { RisesWhere (IsErrOf result SessionEnd.LinkFault) (L.faults link.old) (L.faults link.new) }
-    ensures same { (intake.new.selector ≡ intake.old.selector) × (intake.new.host ≡ intake.old.host) }
+    ensures fault { RisesWhere (IsErrOf result SessionEnd.LinkFault) (L.faults link.old)
+        (L.faults link.new) }
+    ensures same { (intake.new.selector ≡ intake.old.selector) ×
+        (intake.new.host ≡ intake.old.host) }
 {
     if let Some(line) = lines.whole(rest) {
         return match serve_line(alloc, link, ack, intake, clock, line) {
@@ -147,16 +166,25 @@ fn serve_piece<L: Link, F: PutFace + Drop, B: Interceptor, C: Clock, H: Halt>(
     requires partial { IsLine lines.old.max (held_by lines.old) }
     ensures max { lines.new.max ≡ lines.old.max }
     ensures partial { OnOk result (IsLine lines.new.max (held_by lines.new)) }
-    ensures goes { OnOk result (Goes lines.old.max ack (TakesLine (Puts F.own F.saw F.seen F.kept) intake.old.selector B.intercepts intake.old.host)
-        (sides intake.old (C.moments clock.old) (L.told link.old)) (sides intake.new (C.moments clock.new) (L.told link.new))
+    ensures goes { OnOk result (Goes lines.old.max ack (TakesLine (Puts F.own F.saw F.seen F.kept)
+        intake.old.selector B.intercepts intake.old.host)
+        (sides intake.old (C.moments clock.old) (L.told link.old))
+        (sides intake.new (C.moments clock.new) (L.told link.new))
         (held_by lines.old) piece.now (held_by lines.new) [] 0) }
-    ensures breaks { IfErr result (Breaks lines.old.max ack (TakesLine (Puts F.own F.saw F.seen F.kept) intake.old.selector B.intercepts intake.old.host)
-        (sides intake.old (C.moments clock.old) (L.told link.old)) (sides intake.new (C.moments clock.new) (L.told link.new)) (held_by lines.old) piece.now [] 0) }
+    ensures breaks { IfErr result (Breaks lines.old.max ack
+        (TakesLine (Puts F.own F.saw F.seen F.kept) intake.old.selector B.intercepts
+        intake.old.host)
+        (sides intake.old (C.moments clock.old) (L.told link.old))
+        (sides intake.new (C.moments clock.new) (L.told link.new)) (held_by lines.old) piece.now []
+        0) }
     ensures turn { ¬ IsErrOf result SessionEnd.Turns }
     ensures end { ¬ IsErrOf result SessionEnd.End }
-    ensures fault { RisesWhere (IsErrOf result SessionEnd.LinkFault) (L.faults link.old) (L.faults link.new) }
-    ensures stop { RisesWhere (IsErrOf result SessionEnd.Stopped) (H.yes halt.old) (H.yes halt.new) }
-    ensures same { (intake.new.selector ≡ intake.old.selector) × (intake.new.host ≡ intake.old.host) }
+    ensures fault { RisesWhere (IsErrOf result SessionEnd.LinkFault) (L.faults link.old)
+        (L.faults link.new) }
+    ensures stop { RisesWhere (IsErrOf result SessionEnd.Stopped) (H.yes halt.old)
+        (H.yes halt.new) }
+    ensures same { (intake.new.selector ≡ intake.old.selector) ×
+        (intake.new.host ≡ intake.old.host) }
 {
     let mut at = 0;
     while at < piece.len() {
@@ -188,17 +216,26 @@ fn serve_turn<L: Link, F: PutFace + Drop, B: Interceptor, C: Clock, H: Halt>(
     requires partial { IsLine lines.old.max (held_by lines.old) }
     ensures max { lines.new.max ≡ lines.old.max }
     ensures partial { OnOk result (IsLine lines.new.max (held_by lines.new)) }
-    ensures goes { OnOk result ((bytes : List ℕ) × Goes lines.old.max ack (TakesLine (Puts F.own F.saw F.seen F.kept) intake.old.selector B.intercepts intake.old.host)
-        (sides intake.old (C.moments clock.old) (L.told link.old)) (sides intake.new (C.moments clock.new) (L.told link.new))
+    ensures goes { OnOk result ((bytes : List ℕ) × Goes lines.old.max ack
+        (TakesLine (Puts F.own F.saw F.seen F.kept) intake.old.selector B.intercepts
+        intake.old.host)
+        (sides intake.old (C.moments clock.old) (L.told link.old))
+        (sides intake.new (C.moments clock.new) (L.told link.new))
         (held_by lines.old) bytes (held_by lines.new) bytes 1) }
-    ensures breaks { IfErr result (λ end. (bytes : List ℕ) × (turns : ℕ) × IsTurnsOf end turns × Breaks lines.old.max ack
-        (TakesLine (Puts F.own F.saw F.seen F.kept) intake.old.selector B.intercepts intake.old.host)
-        (sides intake.old (C.moments clock.old) (L.told link.old)) (sides intake.new (C.moments clock.new) (L.told link.new))
+    ensures breaks { IfErr result (λ end. (bytes : List ℕ) × (turns : ℕ) × IsTurnsOf end turns ×
+        Breaks lines.old.max ack
+        (TakesLine (Puts F.own F.saw F.seen F.kept) intake.old.selector B.intercepts
+        intake.old.host)
+        (sides intake.old (C.moments clock.old) (L.told link.old))
+        (sides intake.new (C.moments clock.new) (L.told link.new))
         (held_by lines.old) bytes bytes turns end) }
     ensures turn { ¬ IsErrOf result SessionEnd.Turns }
-    ensures fault { RisesWhere (IsErrOf result SessionEnd.LinkFault) (L.faults link.old) (L.faults link.new) }
-    ensures stop { RisesWhere (IsErrOf result SessionEnd.Stopped) (H.yes halt.old) (H.yes halt.new) }
-    ensures same { (intake.new.selector ≡ intake.old.selector) × (intake.new.host ≡ intake.old.host) }
+    ensures fault { RisesWhere (IsErrOf result SessionEnd.LinkFault) (L.faults link.old)
+        (L.faults link.new) }
+    ensures stop { RisesWhere (IsErrOf result SessionEnd.Stopped) (H.yes halt.old)
+        (H.yes halt.new) }
+    ensures same { (intake.new.selector ≡ intake.old.selector) ×
+        (intake.new.host ≡ intake.old.host) }
 {
     if halt.asked() {
         return Err(SessionEnd::Stopped);
@@ -232,11 +269,15 @@ fn serve_until<L: Link, F: PutFace + Drop, B: Interceptor, C: Clock, H: Halt>(
 ) -> SessionEnd
     requires max { IsLineLimit lines.old.max }
     requires held { held_by lines.old ≡ [] }
-    ensures served { Served lines.old.max ack (TakesLine (Puts F.own F.saw F.seen F.kept) intake.old.selector B.intercepts intake.old.host)
-        (sides intake.old (C.moments clock.old) (L.told link.old)) (sides intake.new (C.moments clock.new) (L.told link.new)) result }
-    ensures fault { RisesWhere (result ≡ SessionEnd.LinkFault) (L.faults link.old) (L.faults link.new) }
+    ensures served { Served lines.old.max ack (TakesLine (Puts F.own F.saw F.seen F.kept)
+        intake.old.selector B.intercepts intake.old.host)
+        (sides intake.old (C.moments clock.old) (L.told link.old))
+        (sides intake.new (C.moments clock.new) (L.told link.new)) result }
+    ensures fault { RisesWhere (result ≡ SessionEnd.LinkFault) (L.faults link.old)
+        (L.faults link.new) }
     ensures stop { RisesWhere (result ≡ SessionEnd.Stopped) (H.yes halt.old) (H.yes halt.new) }
-    ensures same { (intake.new.selector ≡ intake.old.selector) × (intake.new.host ≡ intake.old.host) }
+    ensures same { (intake.new.selector ≡ intake.old.selector) ×
+        (intake.new.host ≡ intake.old.host) }
 {
     let mut turns = 0;
     while turns < TURNS {
@@ -260,12 +301,18 @@ pub fn serve_netcat<L: Link, F: PutFace + Drop, B: Interceptor, C: Clock, H: Hal
     halt: &mut H,
 ) -> SessionEnd
     requires { IsLineLimit rules.now.max }
-    ensures served { Served rules.now.max rules.now.ack (TakesLine (Puts F.own F.saw F.seen F.kept) intake.old.selector B.intercepts intake.old.host)
-        (sides intake.old (C.moments clock.old) (L.told link.old)) (sides intake.new (C.moments clock.new) (L.told link.new)) result
-        ⊎ ((result ≡ SessionEnd.NoMemory) × (L.told link.new ≡ L.told link.old) × (intake.new ≡ intake.old) × (C.moments clock.new ≡ C.moments clock.old)) }
-    ensures fault { RisesWhere (result ≡ SessionEnd.LinkFault) (L.faults link.old) (L.faults link.new) }
+    ensures served { Served rules.now.max rules.now.ack
+        (TakesLine (Puts F.own F.saw F.seen F.kept) intake.old.selector B.intercepts
+        intake.old.host)
+        (sides intake.old (C.moments clock.old) (L.told link.old))
+        (sides intake.new (C.moments clock.new) (L.told link.new)) result
+        ⊎ ((result ≡ SessionEnd.NoMemory) × (L.told link.new ≡ L.told link.old) ×
+        (intake.new ≡ intake.old) × (C.moments clock.new ≡ C.moments clock.old)) }
+    ensures fault { RisesWhere (result ≡ SessionEnd.LinkFault) (L.faults link.old)
+        (L.faults link.new) }
     ensures stop { RisesWhere (result ≡ SessionEnd.Stopped) (H.yes halt.old) (H.yes halt.new) }
-    ensures same { (intake.new.selector ≡ intake.old.selector) × (intake.new.host ≡ intake.old.host) }
+    ensures same { (intake.new.selector ≡ intake.old.selector) ×
+        (intake.new.host ≡ intake.old.host) }
 {
     let Ok(mut lines) = Lines::new(alloc, rules.max) else {
         return SessionEnd::NoMemory;

@@ -50,9 +50,12 @@ pub fn take_line<F: PutFace + Drop, B: Interceptor, C: Clock>(
     line: &[u8],
 ) -> Verdict
     requires { length line.now < 1_048_568 }
-    ensures takes { TakesLine (Puts F.own F.saw F.seen F.kept) intake.old.selector B.intercepts intake.old.host
-        (into_of intake.old (C.moments clock.old)) line.now result (into_of intake.new (C.moments clock.new)) }
-    ensures same { (intake.new.selector ≡ intake.old.selector) × (intake.new.host ≡ intake.old.host) }
+    ensures takes { TakesLine (Puts F.own F.saw F.seen F.kept) intake.old.selector B.intercepts
+        intake.old.host
+        (into_of intake.old (C.moments clock.old)) line.now result
+        (into_of intake.new (C.moments clock.new)) }
+    ensures same { (intake.new.selector ≡ intake.old.selector) ×
+        (intake.new.host ≡ intake.old.host) }
 {
     let Ok(batch) = batch_of(alloc, line) else {
         return Verdict::NoMemory;

@@ -26,18 +26,28 @@ pub fn serve_link<N: Listener, F: PutFace + Drop, B: Interceptor, C: Clock, H: H
 ) -> Result<Option<SessionEnd>, Failed>
     requires { IsLineLimit rules.now.max }
     ensures settled { IsSettled (N.told listener.old) → IsSettled (N.told listener.new) }
-    ensures served { IfOk result (λ found. MatchOption found (N.told listener.new ≡ gave_none (N.told listener.old))
-        (λ end. (now : Option LinkTold) × (N.told listener.new ≡ kept_in (gave_one (N.told listener.old)) now)
-        × (Served rules.now.max rules.now.ack (TakesLine (Puts F.own F.saw F.seen F.kept) intake.old.selector B.intercepts intake.old.host)
-        (sides intake.old (C.moments clock.old) (fresh_from (N.told listener.old))) (sides intake.new (C.moments clock.new) now) end
-        ⊎ ((end ≡ SessionEnd.NoMemory) × (now ≡ fresh_from (N.told listener.old)) × (intake.new ≡ intake.old) × (C.moments clock.new ≡ C.moments clock.old))))) }
-    ensures none { IfOk result (λ found. IfNone found ((intake.new ≡ intake.old) × (C.moments clock.new ≡ C.moments clock.old) × Rose (N.waits listener.old) (N.waits listener.new))) }
-    ensures refused { OnErr result ((N.told listener.new ≡ refused_link (N.told listener.old)) × (intake.new ≡ intake.old) × (C.moments clock.new ≡ C.moments clock.old)) }
-    ensures stop { RisesWhere (result ≡ Ok (Some SessionEnd.Stopped)) (H.yes halt.old) (H.yes halt.new) }
+    ensures served { IfOk result (λ found. MatchOption found
+        (N.told listener.new ≡ gave_none (N.told listener.old))
+        (λ end. (now : Option LinkTold) × (N.told listener.new ≡ kept_in
+        (gave_one (N.told listener.old)) now)
+        × (Served rules.now.max rules.now.ack (TakesLine (Puts F.own F.saw F.seen F.kept)
+        intake.old.selector B.intercepts intake.old.host)
+        (sides intake.old (C.moments clock.old) (fresh_from (N.told listener.old)))
+        (sides intake.new (C.moments clock.new) now) end
+        ⊎ ((end ≡ SessionEnd.NoMemory) × (now ≡ fresh_from (N.told listener.old)) ×
+        (intake.new ≡ intake.old) × (C.moments clock.new ≡ C.moments clock.old))))) }
+    ensures none { IfOk result (λ found. IfNone found ((intake.new ≡ intake.old) ×
+        (C.moments clock.new ≡ C.moments clock.old) × Rose (N.waits listener.old)
+        (N.waits listener.new))) }
+    ensures refused { OnErr result ((N.told listener.new ≡ refused_link (N.told listener.old)) ×
+        (intake.new ≡ intake.old) × (C.moments clock.new ≡ C.moments clock.old)) }
+    ensures stop { RisesWhere (result ≡ Ok (Some SessionEnd.Stopped)) (H.yes halt.old)
+        (H.yes halt.new) }
     ensures cause { HasCause (N.faults listener.old) (N.faults listener.new) result }
     ensures waits { N.waits listener.old ≤ N.waits listener.new }
     ensures endpoint { N.endpoint listener.new ≡ N.endpoint listener.old }
-    ensures same { (intake.new.selector ≡ intake.old.selector) × (intake.new.host ≡ intake.old.host) }
+    ensures same { (intake.new.selector ≡ intake.old.selector) ×
+        (intake.new.host ≡ intake.old.host) }
 {
     match listener.accept() {
         Ok(Some(link)) => {

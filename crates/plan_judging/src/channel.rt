@@ -82,7 +82,8 @@ const FILE: [Row; 7] = [
 ];
 
 fn check_kind(place: &Place<'_>, found: &mut Findings, kind: &str) -> Result<(), AllocError>
-    ensures { OnOk result (Adds (seen found.old) (seen found.new) (channel_of_kind place.now.properties.now place.now.front.now kind.now)) }
+    ensures { OnOk result (Adds (seen found.old) (seen found.new)
+        (channel_of_kind place.now.properties.now place.now.front.now kind.now)) }
 {
     if is_type(kind, "memory") {
         return check_rows(place, found, &MEMORY);
@@ -95,7 +96,8 @@ fn check_kind(place: &Place<'_>, found: &mut Findings, kind: &str) -> Result<(),
 
 /// Judges a channel.
 pub fn check_channel(place: &Place<'_>, found: &mut Findings) -> Result<(), AllocError>
-    ensures { OnOk result (Adds (seen found.old) (seen found.new) (channel place.now.properties.now place.now.front.now)) }
+    ensures { OnOk result (Adds (seen found.old) (seen found.new)
+        (channel place.now.properties.now place.now.front.now)) }
 {
     check_rows(place, found, &KIND)?;
     match type_at(place)? {

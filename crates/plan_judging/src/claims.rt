@@ -108,7 +108,8 @@ fn push(
     number: u64,
     line: u32,
 ) -> Result<(), AllocError>
-    ensures { OnOk result (Claims (wishes claims.old.items) (wishes claims.new.items) (record { what = what; text = text.now; number = number; line = line } ∷ [])) }
+    ensures { OnOk result (Claims (wishes claims.old.items) (wishes claims.new.items)
+        (record { what = what; text = text.now; number = number; line = line } ∷ [])) }
 {
     let text = String::from_str(alloc, text)?;
     claims.push(Claim {
@@ -122,7 +123,8 @@ fn push(
 
 fn claim_listener(place: &Place<'_>, claims: &mut Vec<Claim>) -> Result<(), AllocError>
     ensures { OnOk result (Claims (wishes claims.old.items) (wishes claims.new.items)
-        (listener (lookup (place.now.front.now ++ codes "bind") place.now.properties.now) (lookup (place.now.front.now ++ codes "port") place.now.properties.now))) }
+        (listener (lookup (place.now.front.now ++ codes "bind") place.now.properties.now)
+        (lookup (place.now.front.now ++ codes "port") place.now.properties.now))) }
 {
     let Some((bind, _)) = value_at(place, "bind")? else {
         return Ok(());
@@ -153,7 +155,8 @@ fn claim_source_of(
     kind: &str,
     line: u32,
 ) -> Result<(), AllocError>
-    ensures { OnOk result (Claims (wishes claims.old.items) (wishes claims.new.items) (source_of_wish place.now.properties.now place.now.front.now kind.now line)) }
+    ensures { OnOk result (Claims (wishes claims.old.items) (wishes claims.new.items)
+        (source_of_wish place.now.properties.now place.now.front.now kind.now line)) }
 {
     if is_type(kind, "netcat") || is_type(kind, "avro") {
         return claim_listener(place, claims);
@@ -167,7 +170,8 @@ fn claim_source_of(
 /// The claims of a source.
 pub fn claim_source(place: &Place<'_>, claims: &mut Vec<Claim>) -> Result<(), AllocError>
     ensures { OnOk result (Claims (wishes claims.old.items) (wishes claims.new.items)
-        (source_wish place.now.properties.now place.now.front.now (lookup (place.now.front.now ++ codes "type") place.now.properties.now))) }
+        (source_wish place.now.properties.now place.now.front.now
+        (lookup (place.now.front.now ++ codes "type") place.now.properties.now))) }
 {
     match type_at(place)? {
         None => Ok(()),
@@ -188,7 +192,8 @@ fn claim_folder(place: &Place<'_>, claims: &mut Vec<Claim>) -> Result<(), AllocE
 // The claim of an object that is handed in.
 fn claim_plugin(place: &Place<'_>, claims: &mut Vec<Claim>, what: Claimed) -> Result<(), AllocError>
     ensures { OnOk result (Claims (wishes claims.old.items) (wishes claims.new.items)
-        (plugin_wish what (lookup (place.now.front.now ++ codes "type") place.now.properties.now))) }
+        (plugin_wish what (lookup (place.now.front.now ++ codes "type")
+        place.now.properties.now))) }
 {
     match type_at(place)? {
         Some((kind, line)) if is_plugin(kind) => {
@@ -200,7 +205,8 @@ fn claim_plugin(place: &Place<'_>, claims: &mut Vec<Claim>, what: Claimed) -> Re
 
 // The claim of an interceptor.
 fn claim_step(place: &Place<'_>, claims: &mut Vec<Claim>, name: &str) -> Result<(), AllocError>
-    ensures { OnOk result (Claims (wishes claims.old.items) (wishes claims.new.items) (step_claims place.now.properties.now place.now.front.now name.now)) }
+    ensures { OnOk result (Claims (wishes claims.old.items) (wishes claims.new.items)
+        (step_claims place.now.properties.now place.now.front.now name.now)) }
 {
     let front = front_of(place.alloc, place.front, "interceptors.", name)?;
     let place = Place {
@@ -212,7 +218,8 @@ fn claim_step(place: &Place<'_>, claims: &mut Vec<Claim>, name: &str) -> Result<
 }
 
 fn claim_each(place: &Place<'_>, claims: &mut Vec<Claim>, names: &[&str]) -> Result<(), AllocError>
-    ensures { OnOk result (Claims (wishes claims.old.items) (wishes claims.new.items) (flat_map (step_claims place.now.properties.now place.now.front.now) (texts names.now))) }
+    ensures { OnOk result (Claims (wishes claims.old.items) (wishes claims.new.items)
+        (flat_map (step_claims place.now.properties.now place.now.front.now) (texts names.now))) }
 {
     for name in names {
         claim_step(place, claims, name)?;
@@ -223,7 +230,8 @@ fn claim_each(place: &Place<'_>, claims: &mut Vec<Claim>, names: &[&str]) -> Res
 /// The claims of a source's interceptors.
 pub fn claim_steps(place: &Place<'_>, claims: &mut Vec<Claim>) -> Result<(), AllocError>
     ensures { OnOk result (Claims (wishes claims.old.items) (wishes claims.new.items)
-        (flat_map (step_claims place.now.properties.now place.now.front.now) (names_in place.now.properties.now (place.now.front.now ++ codes "interceptors")))) }
+        (flat_map (step_claims place.now.properties.now place.now.front.now)
+        (names_in place.now.properties.now (place.now.front.now ++ codes "interceptors")))) }
 {
     let names = names_at(place, "interceptors")?;
     claim_each(place, claims, names.as_slice())
@@ -232,7 +240,8 @@ pub fn claim_steps(place: &Place<'_>, claims: &mut Vec<Claim>) -> Result<(), All
 /// The claims of a channel.
 pub fn claim_channel(place: &Place<'_>, claims: &mut Vec<Claim>) -> Result<(), AllocError>
     ensures { OnOk result (Claims (wishes claims.old.items) (wishes claims.new.items)
-        (channel_wish place.now.properties.now place.now.front.now (lookup (place.now.front.now ++ codes "type") place.now.properties.now))) }
+        (channel_wish place.now.properties.now place.now.front.now
+        (lookup (place.now.front.now ++ codes "type") place.now.properties.now))) }
 {
     match type_at(place)? {
         Some((kind, _)) if is_type(kind, "file") => claim_folder(place, claims),
@@ -262,7 +271,8 @@ fn claim_members(
     line: u32,
     members: &[&str],
 ) -> Result<(), AllocError>
-    ensures { OnOk result (Claims (wishes claims.old.items) (wishes claims.new.items) (map (member_wish line) (texts members.now))) }
+    ensures { OnOk result (Claims (wishes claims.old.items) (wishes claims.new.items)
+        (map (member_wish line) (texts members.now))) }
 {
     for member in members {
         push(alloc, claims, Claimed::Sink, member, 0, line)?;
@@ -277,7 +287,8 @@ pub fn claim_group(
     members: &[&str],
 ) -> Result<(), AllocError>
     ensures { OnOk result (Claims (wishes claims.old.items) (wishes claims.new.items)
-        (group_wish (lookup (place.now.front.now ++ codes "sinks") place.now.properties.now) (texts members.now))) }
+        (group_wish (lookup (place.now.front.now ++ codes "sinks") place.now.properties.now)
+        (texts members.now))) }
 {
     match value_at(place, "sinks")? {
         None => Ok(()),

@@ -70,7 +70,11 @@ impl Findings {
     /// A line is refused.
     #[tactic(auto, unfolding(crate::specs::Candidates::adds))]
     pub fn refuse(&mut self, line: u32, kind: FaultKind)
-        ensures { seen self.new ≡ adds (seen self.old) (record { faults = record { line = line; kind = kind } ∷ []; missing = [] }) }
+        ensures { seen self.new ≡ adds (seen self.old) (record {
+          faults =
+              record { line = line; kind = kind } ∷ [];
+          missing = [];
+        }) }
     {
         let fault = Fault { line, kind };
         match self.fault {
@@ -82,7 +86,11 @@ impl Findings {
     /// A required key is not there.
     #[tactic(auto, unfolding(crate::specs::Candidates::adds))]
     pub fn lacks(&mut self, key: String)
-        ensures { seen self.new ≡ adds (seen self.old) (record { faults = []; missing = string_bytes key ∷ [] }) }
+        ensures { seen self.new ≡ adds (seen self.old) (record {
+          faults = [];
+          missing = string_bytes
+              key ∷ [];
+        }) }
     {
         match &self.missing {
             Some(least) if key.as_str() >= least.as_str() => {}

@@ -78,7 +78,8 @@ pub fn names_in<'a>(
 
 /// The names in the list at a component's key, each once, where it stands first.
 pub fn names_at<'a>(place: &Place<'a>, key: &str) -> Result<IndexSet<&'a str>, AllocError>
-    ensures { IfOk result (λ names. texts names.keys ≡ names_in place.now.properties.now (place.now.front.now ++ key.now)) }
+    ensures { IfOk result (λ names. texts names.keys ≡ names_in place.now.properties.now
+        (place.now.front.now ++ key.now)) }
 {
     let key = joined(place.alloc, place.front, key)?;
     names_in(place.alloc, place.properties, key.as_str())
@@ -92,7 +93,8 @@ fn check_several(
     members: &[&str],
 ) -> Result<(), AllocError>
     ensures { OnOk result (Adds (seen found.old) (seen found.new)
-        (several (texts members.now) (lookup (place.now.front.now ++ codes "sinks") place.now.properties.now))) }
+        (several (texts members.now) (lookup (place.now.front.now ++ codes "sinks")
+        place.now.properties.now))) }
 {
     if let Some((_, line)) = value_at(place, "sinks")? {
         if members.len() > 1 {
@@ -127,7 +129,8 @@ fn check_failover(
     found: &mut Findings,
     members: &[&str],
 ) -> Result<(), AllocError>
-    ensures { OnOk result (Adds (seen found.old) (seen found.new) (failover place.now.properties.now place.now.front.now (texts members.now))) }
+    ensures { OnOk result (Adds (seen found.old) (seen found.new)
+        (failover place.now.properties.now place.now.front.now (texts members.now))) }
 {
     check_priorities(place, found, members)?;
     check_rows(place, found, &FAILOVER)
@@ -139,7 +142,8 @@ fn check_kind(
     members: &[&str],
     kind: &str,
 ) -> Result<(), AllocError>
-    ensures { OnOk result (Adds (seen found.old) (seen found.new) (group_of place.now.properties.now place.now.front.now (texts members.now) kind.now)) }
+    ensures { OnOk result (Adds (seen found.old) (seen found.new)
+        (group_of place.now.properties.now place.now.front.now (texts members.now) kind.now)) }
 {
     if is_type(kind, "failover") {
         return check_failover(place, found, members);
@@ -160,7 +164,8 @@ fn check_by_kind(
     members: &[&str],
 ) -> Result<(), AllocError>
     ensures { OnOk result (Adds (seen found.old) (seen found.new)
-        (group_by_kind place.now.properties.now place.now.front.now (texts members.now) (lookup (place.now.front.now ++ codes "processor.type") place.now.properties.now))) }
+        (group_by_kind place.now.properties.now place.now.front.now (texts members.now)
+        (lookup (place.now.front.now ++ codes "processor.type") place.now.properties.now))) }
 {
     match value_at(place, "processor.type")? {
         None => check_several(place, found, members),
@@ -189,7 +194,8 @@ fn channel_of<'a>(
     sinks: &IndexSet<&str>,
     name: &str,
 ) -> Result<Option<(&'a str, u32)>, AllocError>
-    ensures { IfOk result (λ channel. option_map (λ x. (x.0.now, x.1)) channel ≡ channel_of agent.now.properties.now agent.now.name.now (texts sinks.now.keys) name.now) }
+    ensures { IfOk result (λ channel. option_map (λ x. (x.0.now, x.1)) channel ≡ channel_of
+        agent.now.properties.now agent.now.name.now (texts sinks.now.keys) name.now) }
 {
     if !is_among(name, sinks) {
         return Ok(None);
@@ -202,7 +208,8 @@ fn channel_of<'a>(
 #[tactic(auto, unfolding(crate::specs::Candidates::adds))]
 fn check_same(found: &mut Findings, first: Option<(&str, u32)>, other: Option<(&str, u32)>)
     ensures { Adds (seen found.old) (seen found.new)
-        (same_channel (option_map (λ x. (x.0.now, x.1)) first.entry) (option_map (λ x. (x.0.now, x.1)) other.entry)) }
+        (same_channel (option_map (λ x. (x.0.now, x.1)) first.entry)
+        (option_map (λ x. (x.0.now, x.1)) other.entry)) }
 {
     if let (Some((channel, _)), Some((other, line))) = (first, other) {
         if channel != other {
@@ -221,7 +228,9 @@ fn check_other(
     other: &str,
 ) -> Result<(), AllocError>
     ensures { OnOk result (Adds (seen found.old) (seen found.new)
-        (same_channel (option_map (λ x. (x.0.now, x.1)) first.entry) (channel_of agent.now.properties.now agent.now.name.now (texts sinks.now.keys) other.now))) }
+        (same_channel (option_map (λ x. (x.0.now, x.1)) first.entry)
+        (channel_of agent.now.properties.now agent.now.name.now (texts sinks.now.keys)
+        other.now))) }
 {
     match channel_of(agent, sinks, other) {
         Err(error) => Err(error),
@@ -240,7 +249,9 @@ fn check_others(
     others: &[&str],
 ) -> Result<(), AllocError>
     ensures { OnOk result (Adds (seen found.old) (seen found.new)
-        (each (λ other. same_channel (option_map (λ x. (x.0.now, x.1)) first.entry) (channel_of agent.now.properties.now agent.now.name.now (texts sinks.now.keys) other)) (texts others.now))) }
+        (each (λ other. same_channel (option_map (λ x. (x.0.now, x.1)) first.entry)
+        (channel_of agent.now.properties.now agent.now.name.now (texts sinks.now.keys) other))
+        (texts others.now))) }
 {
     for other in others {
         check_other(agent, found, sinks, first, other)?;
@@ -257,7 +268,8 @@ fn check_one_channel(
     members: &[&str],
 ) -> Result<(), AllocError>
     ensures { OnOk result (Adds (seen found.old) (seen found.new)
-        (one_channel agent.now.properties.now agent.now.name.now (texts sinks.now.keys) (texts members.now))) }
+        (one_channel agent.now.properties.now agent.now.name.now (texts sinks.now.keys)
+        (texts members.now))) }
 {
     match members {
         [] => Ok(()),
@@ -278,7 +290,8 @@ pub fn check_group_at(
 ) -> Result<(), AllocError>
     requires { place.now.properties.now ≡ agent.now.properties.now }
     ensures { OnOk result (Adds (seen found.old) (seen found.new)
-        (group_at place.now.properties.now agent.now.name.now (texts sinks.now.keys) place.now.front.now (texts members.now))) }
+        (group_at place.now.properties.now agent.now.name.now (texts sinks.now.keys)
+        place.now.front.now (texts members.now))) }
 {
     check_names(place, found, "sinks", sinks)?;
     check_rows(place, found, &KIND)?;

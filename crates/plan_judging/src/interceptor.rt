@@ -93,7 +93,8 @@ const REPLACE: [Row; 1] = [SEARCH];
 #[tactic(auto, unfolding(crate::specs::Candidates::adds))]
 fn check_date(place: &Place<'_>, found: &mut Findings) -> Result<(), AllocError>
     ensures { OnOk result (Adds (seen found.old) (seen found.new)
-        (date_by_kind place.now.properties.now place.now.front.now (lookup (place.now.front.now ++ codes "type") place.now.properties.now))) }
+        (date_by_kind place.now.properties.now place.now.front.now
+        (lookup (place.now.front.now ++ codes "type") place.now.properties.now))) }
 {
     match type_at(place)? {
         Some((kind, _)) if is_millis(kind) => check_rows(place, found, &DATE),
@@ -102,7 +103,8 @@ fn check_date(place: &Place<'_>, found: &mut Findings) -> Result<(), AllocError>
 }
 
 fn check_serializer(place: &Place<'_>, found: &mut Findings) -> Result<(), AllocError>
-    ensures { OnOk result (Adds (seen found.old) (seen found.new) (serializer place.now.properties.now place.now.front.now)) }
+    ensures { OnOk result (Adds (seen found.old) (seen found.new)
+        (serializer place.now.properties.now place.now.front.now)) }
 {
     check_rows(place, found, &SERIALIZER)?;
     check_date(place, found)
@@ -113,7 +115,8 @@ fn check_serializer_named(
     found: &mut Findings,
     name: &str,
 ) -> Result<(), AllocError>
-    ensures { OnOk result (Adds (seen found.old) (seen found.new) (serializer_named place.now.properties.now place.now.front.now name.now)) }
+    ensures { OnOk result (Adds (seen found.old) (seen found.new)
+        (serializer_named place.now.properties.now place.now.front.now name.now)) }
 {
     let front = front_of(place.alloc, place.front, "serializers.", name)?;
     let place = Place {
@@ -129,7 +132,8 @@ fn check_serializers(
     found: &mut Findings,
     names: &[&str],
 ) -> Result<(), AllocError>
-    ensures { OnOk result (Adds (seen found.old) (seen found.new) (each (serializer_named place.now.properties.now place.now.front.now) (texts names.now))) }
+    ensures { OnOk result (Adds (seen found.old) (seen found.new)
+        (each (serializer_named place.now.properties.now place.now.front.now) (texts names.now))) }
 {
     for name in names {
         check_serializer_named(place, found, name)?;
@@ -138,7 +142,8 @@ fn check_serializers(
 }
 
 fn check_extractor(place: &Place<'_>, found: &mut Findings) -> Result<(), AllocError>
-    ensures { OnOk result (Adds (seen found.old) (seen found.new) (extractor_step place.now.properties.now place.now.front.now)) }
+    ensures { OnOk result (Adds (seen found.old) (seen found.new)
+        (extractor_step place.now.properties.now place.now.front.now)) }
 {
     check_rows(place, found, &EXTRACTOR)?;
     check_list(place, found, true, "serializers")?;
@@ -147,7 +152,8 @@ fn check_extractor(place: &Place<'_>, found: &mut Findings) -> Result<(), AllocE
 }
 
 fn check_kind(place: &Place<'_>, found: &mut Findings, kind: &str) -> Result<(), AllocError>
-    ensures { OnOk result (Adds (seen found.old) (seen found.new) (step_of place.now.properties.now place.now.front.now kind.now)) }
+    ensures { OnOk result (Adds (seen found.old) (seen found.new)
+        (step_of place.now.properties.now place.now.front.now kind.now)) }
 {
     if is_timestamp(kind) {
         return check_rows(place, found, &STAMP);
@@ -174,7 +180,8 @@ fn check_kind(place: &Place<'_>, found: &mut Findings, kind: &str) -> Result<(),
 }
 
 fn check_step(place: &Place<'_>, found: &mut Findings) -> Result<(), AllocError>
-    ensures { OnOk result (Adds (seen found.old) (seen found.new) (step place.now.properties.now place.now.front.now)) }
+    ensures { OnOk result (Adds (seen found.old) (seen found.new)
+        (step place.now.properties.now place.now.front.now)) }
 {
     check_rows(place, found, &KIND)?;
     match type_at(place)? {
@@ -184,7 +191,8 @@ fn check_step(place: &Place<'_>, found: &mut Findings) -> Result<(), AllocError>
 }
 
 fn check_step_named(place: &Place<'_>, found: &mut Findings, name: &str) -> Result<(), AllocError>
-    ensures { OnOk result (Adds (seen found.old) (seen found.new) (step_named place.now.properties.now place.now.front.now name.now)) }
+    ensures { OnOk result (Adds (seen found.old) (seen found.new)
+        (step_named place.now.properties.now place.now.front.now name.now)) }
 {
     let front = front_of(place.alloc, place.front, "interceptors.", name)?;
     let place = Place {
@@ -196,7 +204,8 @@ fn check_step_named(place: &Place<'_>, found: &mut Findings, name: &str) -> Resu
 }
 
 fn check_each(place: &Place<'_>, found: &mut Findings, names: &[&str]) -> Result<(), AllocError>
-    ensures { OnOk result (Adds (seen found.old) (seen found.new) (each (step_named place.now.properties.now place.now.front.now) (texts names.now))) }
+    ensures { OnOk result (Adds (seen found.old) (seen found.new)
+        (each (step_named place.now.properties.now place.now.front.now) (texts names.now))) }
 {
     for name in names {
         check_step_named(place, found, name)?;
@@ -206,7 +215,8 @@ fn check_each(place: &Place<'_>, found: &mut Findings, names: &[&str]) -> Result
 
 /// Judges the interceptors of a source.
 pub fn check_steps(place: &Place<'_>, found: &mut Findings) -> Result<(), AllocError>
-    ensures { OnOk result (Adds (seen found.old) (seen found.new) (steps place.now.properties.now place.now.front.now)) }
+    ensures { OnOk result (Adds (seen found.old) (seen found.new)
+        (steps place.now.properties.now place.now.front.now)) }
 {
     check_list(place, found, false, "interceptors")?;
     let names = names_at(place, "interceptors")?;

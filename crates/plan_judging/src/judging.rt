@@ -23,7 +23,8 @@ use indexmap::IndexSet;
 use std::alloc::AllocError;
 
 fn check_lists(place: &Place<'_>, found: &mut Findings) -> Result<(), AllocError>
-    ensures { OnOk result (Adds (seen found.old) (seen found.new) (lists place.now.properties.now place.now.front.now)) }
+    ensures { OnOk result (Adds (seen found.old) (seen found.new)
+        (lists place.now.properties.now place.now.front.now)) }
 {
     check_list(place, found, true, "sources")?;
     check_list(place, found, true, "channels")?;
@@ -56,8 +57,11 @@ trait ComponentKind {
         claims: &mut Vec<Claim>,
     ) -> Result<(), AllocError>
         requires { place.now.properties.now ≡ agent.now.properties.now }
-        ensures judged { OnOk result (Adds (seen found.old) (seen found.new) (faults agent.now.properties.now agent.now.name.now (texts others.now.keys) place.now.front.now)) }
-        ensures claimed { OnOk result (Claims (wishes claims.old.items) (wishes claims.new.items) (wishes_at agent.now.properties.now place.now.front.now)) };
+        ensures judged { OnOk result (Adds (seen found.old) (seen found.new)
+            (faults agent.now.properties.now agent.now.name.now (texts others.now.keys)
+            place.now.front.now)) }
+        ensures claimed { OnOk result (Claims (wishes claims.old.items) (wishes claims.new.items)
+            (wishes_at agent.now.properties.now place.now.front.now)) };
 }
 
 struct Sources;
@@ -73,7 +77,8 @@ impl ComponentKind for Sources {
 
     ghost faults = { λ pairs agent channels at. source pairs channels at };
 
-    ghost wishes_at = { λ pairs at. source_wish pairs at (lookup (at ++ codes "type") pairs) ++ flat_map (step_claims pairs at) (names_in pairs (at ++ codes "interceptors")) };
+    ghost wishes_at = { λ pairs at. source_wish pairs at (lookup (at ++ codes "type") pairs) ++
+        flat_map (step_claims pairs at) (names_in pairs (at ++ codes "interceptors")) };
 
     fn infix() -> &'static str {
         ".sources."
@@ -143,7 +148,8 @@ impl ComponentKind for Groups {
 
     ghost faults = { λ pairs agent sinks at. group pairs agent sinks at };
 
-    ghost wishes_at = { λ pairs at. group_wish (lookup (at ++ codes "sinks") pairs) (names_in pairs (at ++ codes "sinks")) };
+    ghost wishes_at = { λ pairs at. group_wish (lookup (at ++ codes "sinks") pairs)
+        (names_in pairs (at ++ codes "sinks")) };
 
     fn infix() -> &'static str {
         ".sinkgroups."
@@ -169,8 +175,11 @@ fn judge_one<K: ComponentKind>(
     others: &IndexSet<&str>,
     name: &str,
 ) -> Result<(), AllocError>
-    ensures judged { OnOk result (Adds (seen found.old) (seen found.new) (K.faults agent.now.properties.now agent.now.name.now (texts others.now.keys) (front_of agent.now.name.now K.between name.now))) }
-    ensures claimed { OnOk result (Claims (wishes claims.old.items) (wishes claims.new.items) (K.wishes_at agent.now.properties.now (front_of agent.now.name.now K.between name.now))) }
+    ensures judged { OnOk result (Adds (seen found.old) (seen found.new)
+        (K.faults agent.now.properties.now agent.now.name.now (texts others.now.keys)
+        (front_of agent.now.name.now K.between name.now))) }
+    ensures claimed { OnOk result (Claims (wishes claims.old.items) (wishes claims.new.items)
+        (K.wishes_at agent.now.properties.now (front_of agent.now.name.now K.between name.now))) }
 {
     let front = front_of(agent.alloc, agent.name, K::infix(), name)?;
     let place = Place {
@@ -189,8 +198,12 @@ fn judge_each<K: ComponentKind>(
     others: &IndexSet<&str>,
     names: &[&str],
 ) -> Result<(), AllocError>
-    ensures judged { OnOk result (Adds (seen found.old) (seen found.new) (each (λ name. K.faults agent.now.properties.now agent.now.name.now (texts others.now.keys) (front_of agent.now.name.now K.between name)) (texts names.now))) }
-    ensures claimed { OnOk result (Claims (wishes claims.old.items) (wishes claims.new.items) (flat_map (λ name. K.wishes_at agent.now.properties.now (front_of agent.now.name.now K.between name)) (texts names.now))) }
+    ensures judged { OnOk result (Adds (seen found.old) (seen found.new)
+        (each (λ name. K.faults agent.now.properties.now agent.now.name.now (texts others.now.keys)
+        (front_of agent.now.name.now K.between name)) (texts names.now))) }
+    ensures claimed { OnOk result (Claims (wishes claims.old.items) (wishes claims.new.items)
+        (flat_map (λ name. K.wishes_at agent.now.properties.now
+        (front_of agent.now.name.now K.between name)) (texts names.now))) }
 {
     for name in names {
         judge_one::<K>(agent, found, claims, others, name)?;
@@ -209,9 +222,11 @@ fn judge_components(
     groups: &IndexSet<&str>,
 ) -> Result<(), AllocError>
     ensures judged { OnOk result (Adds (seen found.old) (seen found.new)
-        (components_of agent.now.properties.now agent.now.name.now (texts sources.now.keys) (texts channels.now.keys) (texts sinks.now.keys) (texts groups.now.keys))) }
+        (components_of agent.now.properties.now agent.now.name.now (texts sources.now.keys)
+        (texts channels.now.keys) (texts sinks.now.keys) (texts groups.now.keys))) }
     ensures claimed { OnOk result (Claims (wishes claims.old.items) (wishes claims.new.items)
-        (claims_of agent.now.properties.now agent.now.name.now (texts sources.now.keys) (texts channels.now.keys) (texts sinks.now.keys) (texts groups.now.keys))) }
+        (claims_of agent.now.properties.now agent.now.name.now (texts sources.now.keys)
+        (texts channels.now.keys) (texts sinks.now.keys) (texts groups.now.keys))) }
 {
     judge_each::<Sources>(agent, found, claims, channels, sources.as_slice())?;
     judge_each::<Channels>(agent, found, claims, channels, channels.as_slice())?;
@@ -228,7 +243,8 @@ pub fn judge(
     groups: &IndexSet<&str>,
 ) -> Result<Findings, AllocError>
     ensures { IfOk result (λ found. Adds (record { fault = None; missing = None }) (seen found)
-        (candidates_of agent.now.properties.now agent.now.name.now (texts sources.now.keys) (texts channels.now.keys) (texts sinks.now.keys) (texts groups.now.keys))) }
+        (candidates_of agent.now.properties.now agent.now.name.now (texts sources.now.keys)
+        (texts channels.now.keys) (texts sinks.now.keys) (texts groups.now.keys))) }
 {
     let mut found = Findings::new();
     let front = joined(agent.alloc, agent.name, ".")?;

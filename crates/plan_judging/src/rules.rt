@@ -126,13 +126,15 @@ fn judge_false(value: &str) -> Option<FaultKind>
 }
 
 fn is_round_robin_or_random(value: &str) -> bool
-    ensures { result ≡ (bytes_eq value.now (codes "round_robin") || bytes_eq value.now (codes "random")) }
+    ensures { result ≡ (bytes_eq value.now (codes "round_robin") || bytes_eq value.now
+        (codes "random")) }
 {
     value == "round_robin" || value == "random"
 }
 
 fn is_source(value: &str) -> bool
-    ensures { result ≡ (is_type (codes "netcat") value.now || is_type (codes "avro") value.now || is_type (codes "stdin") value.now) }
+    ensures { result ≡ (is_type (codes "netcat") value.now || is_type (codes "avro") value.now ||
+        is_type (codes "stdin") value.now) }
 {
     is_type(value, "netcat") || is_type(value, "avro") || is_type(value, "stdin")
 }
@@ -144,7 +146,8 @@ fn is_channel(value: &str) -> bool
 }
 
 fn is_sink(value: &str) -> bool
-    ensures { result ≡ (is_type (codes "avro") value.now || is_type (codes "file_roll") value.now || is_type (codes "null") value.now || is_plugin value.now) }
+    ensures { result ≡ (is_type (codes "avro") value.now || is_type (codes "file_roll") value.now ||
+        is_type (codes "null") value.now || is_plugin value.now) }
 {
     is_type(value, "avro")
         || is_type(value, "file_roll")
@@ -153,7 +156,8 @@ fn is_sink(value: &str) -> bool
 }
 
 fn is_processor(value: &str) -> bool
-    ensures { result ≡ (is_type (codes "default") value.now || is_type (codes "failover") value.now || is_type (codes "load_balance") value.now) }
+    ensures { result ≡ (is_type (codes "default") value.now || is_type (codes "failover") value.now
+        || is_type (codes "load_balance") value.now) }
 {
     is_type(value, "default") || is_type(value, "failover") || is_type(value, "load_balance")
 }
@@ -165,7 +169,8 @@ fn is_serializer(value: &str) -> bool
 }
 
 fn is_selector(value: &str) -> bool
-    ensures { result ≡ (is_type (codes "replicating") value.now || is_type (codes "multiplexing") value.now) }
+    ensures { result ≡ (is_type (codes "replicating") value.now || is_type (codes "multiplexing")
+        value.now) }
 {
     is_type(value, "replicating") || is_type(value, "multiplexing")
 }
@@ -229,7 +234,12 @@ pub fn type_at<'a>(place: &Place<'a>) -> Result<Option<(&'a str, u32)>, AllocErr
     ensures { IfOk result (λ found. MatchOption found
         (lookup (place.now.front.now ++ codes "type") place.now.properties.now ≡ None)
         (λ v. lookup (place.now.front.now ++ codes "type") place.now.properties.now
-        ≡ Some (record { key = place.now.front.now ++ codes "type"; value = v.0.now; line = v.1 }))) }
+        ≡ Some (record {
+          key = place.now.front.now ++ codes "type";
+          value = v.0.now;
+          line =
+              v.1;
+        }))) }
 {
     value_at(place, "type")
 }
@@ -268,7 +278,8 @@ pub fn check(
     key: &str,
     rule: Rule,
 ) -> Result<(), AllocError>
-    ensures { OnOk result (Adds (seen found.old) (seen found.new) (row place.now.properties.now place.now.front.now required key.now rule)) }
+    ensures { OnOk result (Adds (seen found.old) (seen found.new)
+        (row place.now.properties.now place.now.front.now required key.now rule)) }
 {
     match value_at(place, key)? {
         None => lack(place, found, required, key),
@@ -316,7 +327,8 @@ fn check_twice(
 // Judges a list that names a thing that is not among the others.
 #[tactic(auto, unfolding(crate::specs::Candidates::adds))]
 fn check_known(found: &mut Findings, line: u32, names: &[&str], others: &IndexSet<&str>)
-    ensures { Adds (seen found.old) (seen found.new) (unknown line (texts names.now) (texts others.now.keys)) }
+    ensures { Adds (seen found.old) (seen found.new) (unknown line (texts names.now)
+        (texts others.now.keys)) }
 {
     if !all_among(names, others) {
         found.refuse(line, FaultKind::UnknownName);
@@ -347,7 +359,8 @@ pub fn check_list(
     required: bool,
     key: &str,
 ) -> Result<(), AllocError>
-    ensures { OnOk result (Adds (seen found.old) (seen found.new) (list_row place.now.properties.now place.now.front.now required key.now)) }
+    ensures { OnOk result (Adds (seen found.old) (seen found.new)
+        (list_row place.now.properties.now place.now.front.now required key.now)) }
 {
     match value_at(place, key)? {
         None => lack(place, found, required, key),
@@ -365,7 +378,8 @@ pub fn check_names(
     key: &str,
     others: &IndexSet<&str>,
 ) -> Result<(), AllocError>
-    ensures { OnOk result (Adds (seen found.old) (seen found.new) (names_row place.now.properties.now place.now.front.now key.now (texts others.now.keys))) }
+    ensures { OnOk result (Adds (seen found.old) (seen found.new)
+        (names_row place.now.properties.now place.now.front.now key.now (texts others.now.keys))) }
 {
     match value_at(place, key)? {
         None => lack(place, found, true, key),
@@ -380,7 +394,8 @@ pub fn check_name(
     key: &str,
     others: &IndexSet<&str>,
 ) -> Result<(), AllocError>
-    ensures { OnOk result (Adds (seen found.old) (seen found.new) (name_row place.now.properties.now place.now.front.now key.now (texts others.now.keys))) }
+    ensures { OnOk result (Adds (seen found.old) (seen found.new)
+        (name_row place.now.properties.now place.now.front.now key.now (texts others.now.keys))) }
 {
     match value_at(place, key)? {
         None => lack(place, found, true, key),

@@ -28,7 +28,9 @@ fn check_row(
     key: &str,
     channels: &IndexSet<&str>,
 ) -> Result<(), AllocError>
-    ensures { OnOk result (Adds (seen found.old) (seen found.new) (channels_row place.now.properties.now place.now.front.now key.now (texts channels.now.keys))) }
+    ensures { OnOk result (Adds (seen found.old) (seen found.new)
+        (channels_row place.now.properties.now place.now.front.now key.now
+        (texts channels.now.keys))) }
 {
     match value_at(place, key)? {
         None => Ok(()),
@@ -48,7 +50,8 @@ fn check_key(
     channels: &IndexSet<&str>,
 ) -> Result<(), AllocError>
     ensures { OnOk result (Adds (seen found.old) (seen found.new)
-        (if starts_with nat_eq key.now front.now then (twice line (words value.now) ⊕ unknown line (words value.now) (texts channels.now.keys)) else nothing)) }
+        (if starts_with nat_eq key.now front.now then (twice line (words value.now) ⊕ unknown line
+        (words value.now) (texts channels.now.keys)) else nothing)) }
 {
     if key.as_bytes().starts_with(front.as_bytes()) {
         return check_list_of(alloc, found, line, value, channels);
@@ -63,7 +66,9 @@ fn check_mapped(
     key: &str,
     channels: &IndexSet<&str>,
 ) -> Result<(), AllocError>
-    ensures { OnOk result (Adds (seen found.old) (seen found.new) (channels_rows place.now.properties.now (place.now.front.now ++ key.now) (texts channels.now.keys))) }
+    ensures { OnOk result (Adds (seen found.old) (seen found.new)
+        (channels_rows place.now.properties.now (place.now.front.now ++ key.now)
+        (texts channels.now.keys))) }
 {
     let front = joined(place.alloc, place.front, key)?;
     for at in 0..place.properties.len() {
@@ -86,7 +91,8 @@ fn check_multiplexing(
     found: &mut Findings,
     channels: &IndexSet<&str>,
 ) -> Result<(), AllocError>
-    ensures { OnOk result (Adds (seen found.old) (seen found.new) (multiplexing place.now.properties.now place.now.front.now (texts channels.now.keys))) }
+    ensures { OnOk result (Adds (seen found.old) (seen found.new)
+        (multiplexing place.now.properties.now place.now.front.now (texts channels.now.keys))) }
 {
     check_row(place, found, "default", channels)?;
     check_mapped(place, found, "mapping.", channels)?;
@@ -100,7 +106,9 @@ fn check_kind(
     channels: &IndexSet<&str>,
     kind: &str,
 ) -> Result<(), AllocError>
-    ensures { OnOk result (Adds (seen found.old) (seen found.new) (selector_of place.now.properties.now place.now.front.now (texts channels.now.keys) kind.now)) }
+    ensures { OnOk result (Adds (seen found.old) (seen found.new)
+        (selector_of place.now.properties.now place.now.front.now (texts channels.now.keys)
+        kind.now)) }
 {
     if is_type(kind, "multiplexing") {
         return check_multiplexing(place, found, channels);
@@ -117,7 +125,8 @@ pub fn check_selector(
     found: &mut Findings,
     channels: &IndexSet<&str>,
 ) -> Result<(), AllocError>
-    ensures { OnOk result (Adds (seen found.old) (seen found.new) (selector place.now.properties.now place.now.front.now (texts channels.now.keys))) }
+    ensures { OnOk result (Adds (seen found.old) (seen found.new)
+        (selector place.now.properties.now place.now.front.now (texts channels.now.keys))) }
 {
     check_rows(place, found, &KIND)?;
     match type_at(place)? {

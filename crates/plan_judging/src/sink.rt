@@ -93,7 +93,8 @@ const ROLL: [Row; 4] = [FOLDER, INTERVAL, ROLL_BATCH, SERIALIZER];
 const NULL: [Row; 1] = [NULL_BATCH];
 
 fn check_kind(place: &Place<'_>, found: &mut Findings, kind: &str) -> Result<(), AllocError>
-    ensures { OnOk result (Adds (seen found.old) (seen found.new) (sink_of place.now.properties.now place.now.front.now kind.now)) }
+    ensures { OnOk result (Adds (seen found.old) (seen found.new)
+        (sink_of place.now.properties.now place.now.front.now kind.now)) }
 {
     if is_type(kind, "avro") {
         return check_rows(place, found, &AVRO);
@@ -113,7 +114,8 @@ pub fn check_sink(
     found: &mut Findings,
     channels: &IndexSet<&str>,
 ) -> Result<(), AllocError>
-    ensures { OnOk result (Adds (seen found.old) (seen found.new) (sink place.now.properties.now (texts channels.now.keys) place.now.front.now)) }
+    ensures { OnOk result (Adds (seen found.old) (seen found.new)
+        (sink place.now.properties.now (texts channels.now.keys) place.now.front.now)) }
 {
     check_rows(place, found, &KIND)?;
     check_name(place, found, "channel", channels)?;

@@ -69,7 +69,8 @@ const AVRO: [Row; 4] = [BIND, PORT, THREADS, COMPRESSION];
 const STDIN: [Row; 2] = [LINE_LENGTH, ACK];
 
 fn check_kind(place: &Place<'_>, found: &mut Findings, kind: &str) -> Result<(), AllocError>
-    ensures { OnOk result (Adds (seen found.old) (seen found.new) (source_of place.now.properties.now place.now.front.now kind.now)) }
+    ensures { OnOk result (Adds (seen found.old) (seen found.new)
+        (source_of place.now.properties.now place.now.front.now kind.now)) }
 {
     if is_type(kind, "netcat") {
         return check_rows(place, found, &NETCAT);
@@ -86,7 +87,8 @@ fn check_kind(place: &Place<'_>, found: &mut Findings, kind: &str) -> Result<(),
 // Judges the selector of a source.
 fn check_selector_at(place: &Place<'_>, found: &mut Findings) -> Result<(), AllocError>
     ensures { OnOk result (Adds (seen found.old) (seen found.new)
-        (selector place.now.properties.now (place.now.front.now ++ codes "selector.") (names_in place.now.properties.now (place.now.front.now ++ codes "channels")))) }
+        (selector place.now.properties.now (place.now.front.now ++ codes "selector.")
+        (names_in place.now.properties.now (place.now.front.now ++ codes "channels")))) }
 {
     let channels = names_at(place, "channels")?;
     let front = joined(place.alloc, place.front, "selector.")?;
@@ -104,7 +106,8 @@ pub fn check_source(
     found: &mut Findings,
     channels: &IndexSet<&str>,
 ) -> Result<(), AllocError>
-    ensures { OnOk result (Adds (seen found.old) (seen found.new) (source place.now.properties.now (texts channels.now.keys) place.now.front.now)) }
+    ensures { OnOk result (Adds (seen found.old) (seen found.new)
+        (source place.now.properties.now (texts channels.now.keys) place.now.front.now)) }
 {
     check_rows(place, found, &KIND)?;
     check_names(place, found, "channels", channels)?;

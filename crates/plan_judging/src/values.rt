@@ -29,7 +29,8 @@ fn push_word<'a>(
     requires within { end ≤ length text.now }
     requires start { IsCharBoundary text.now start }
     requires end { IsCharBoundary text.now end }
-    ensures { OnOk result (texts found.new.items ≡ texts found.old.items ++ filter is_word (take (end - start) (drop start text.now) ∷ [])) }
+    ensures { OnOk result (texts found.new.items ≡ texts found.old.items ++ filter is_word
+        (take (end - start) (drop start text.now) ∷ [])) }
 {
     if start < end {
         found.push(&text[start..end])?;
@@ -60,7 +61,8 @@ pub fn words(alloc: Global, text: &str) -> Result<Vec<&str>, AllocError>
 
 // Adds a name without the white space beside it, unless that is empty.
 fn push_trimmed(alloc: Global, names: &mut Vec<String>, piece: Vec<u8>) -> Result<(), AllocError>
-    ensures { OnOk result (map string_bytes names.new.items ≡ map string_bytes names.old.items ++ trimmed_names (piece.items ∷ [])) }
+    ensures { OnOk result (map string_bytes names.new.items ≡ map string_bytes names.old.items ++
+        trimmed_names (piece.items ∷ [])) }
 {
     match str::from_utf8(trim(piece.as_slice())) {
         Ok(name) => {
@@ -76,7 +78,8 @@ fn push_trimmed(alloc: Global, names: &mut Vec<String>, piece: Vec<u8>) -> Resul
 
 /// Adds the names of a list with commas.
 pub fn push_listed(alloc: Global, names: &mut Vec<String>, list: &str) -> Result<(), AllocError>
-    ensures { OnOk result (map string_bytes names.new.items ≡ map string_bytes names.old.items ++ listed list.now) }
+    ensures { OnOk result (map string_bytes names.new.items ≡ map string_bytes names.old.items ++
+        listed list.now) }
 {
     let mut piece = Vec::new(alloc);
     for byte in list.as_bytes() {

@@ -56,7 +56,8 @@ fn misses<B: Drop>(kind: &SinkKind, object: &Option<B>) -> bool
 
 // The nearest of a line and that of the sink, if this misses its object.
 fn next_line<B: Drop>(first: Option<u32>, plan: &SinkPlan, object: &Option<B>) -> Option<u32>
-    ensures { result ≡ (if misses (asked plan.now.kind) (found object.now) then nearer first plan.now.line else first) }
+    ensures { result ≡ (if misses (asked plan.now.kind) (found object.now) then nearer first
+        plan.now.line else first) }
 {
     if misses(&plan.kind, object) {
         nearer(first, plan.line)
@@ -75,7 +76,8 @@ fn claim_each<K: Drop, B: Drop>(
 ) -> Option<u32>
     requires none { objects.old.items ≡ [] }
     requires room { length plans.now ≤ vec_capacity objects.old }
-    ensures taken { AreTaken plans.now handed.old.sinks.items (reverse objects.new.items) handed.new.sinks.items }
+    ensures taken { AreTaken plans.now handed.old.sinks.items (reverse objects.new.items)
+        handed.new.sinks.items }
     ensures first { result ≡ nearest first (names_of handed.old.sinks.items) (sink_asks plans.now) }
     ensures steps { handed.new.steps.items ≡ handed.old.steps.items }
     ensures many { length objects.new.items ≡ length plans.now }
@@ -101,15 +103,19 @@ pub fn claim_objects<K: Drop, B: Drop>(
 ) -> Result<Objects<K, B>, ClaimRefused>
     ensures steps { IfOk result (λ objects. AreClaimed plan.now.sources.items handed.old.steps.items
         objects.steps.items handed.new.steps.items) }
-    ensures many { IfOk result (λ objects. length objects.steps.items ≡ length (step_asks plan.now.sources.items)) }
+    ensures many { IfOk result (λ objects. length objects.steps.items ≡ length
+        (step_asks plan.now.sources.items)) }
     ensures taken { IfOk result (λ objects. AreTaken plan.now.sinks.items handed.old.sinks.items
         (reverse objects.sinks.items) handed.new.sinks.items) }
-    ensures have { IfOk result (λ objects. HaveObjects plan.now.sinks.items (reverse objects.sinks.items)) }
+    ensures have { IfOk result (λ objects. HaveObjects plan.now.sinks.items
+        (reverse objects.sinks.items)) }
     ensures met { OnOk result (lacking handed.old plan.now ≡ None) }
     ensures missing { IfErr result (λ refused. IsUnmet (lacking handed.old plan.now) refused) }
-    ensures left_steps { IfErr result (λ refused. LeavesRest refused (step_asks plan.now.sources.items)
+    ensures left_steps { IfErr result (λ refused. LeavesRest refused
+        (step_asks plan.now.sources.items)
         handed.old.steps.items handed.new.steps.items) }
-    ensures left_sinks { IfErr result (λ refused. LeavesRest refused (sink_asks plan.now.sinks.items)
+    ensures left_sinks { IfErr result (λ refused. LeavesRest refused
+        (sink_asks plan.now.sinks.items)
         handed.old.sinks.items handed.new.sinks.items) }
 {
     let Ok(mut steps) = Vec::with_capacity(alloc, handed.many_steps()) else {

@@ -36,11 +36,15 @@ fn claim_step<K: Drop, B: Drop>(
     first: Option<u32>,
     objects: &mut Vec<K>,
 ) -> Option<u32>
-    requires room { length objects.old.items + length handed.old.steps.items ≤ vec_capacity objects.old }
-    ensures joined { Joined (asks_of_step step.now) handed.old.steps.items handed.new.steps.items objects.old.items objects.new.items }
-    ensures first { result ≡ nearest first (names_of handed.old.steps.items) (asks_of_step step.now) }
+    requires room { length objects.old.items + length handed.old.steps.items ≤ vec_capacity
+        objects.old }
+    ensures joined { Joined (asks_of_step step.now) handed.old.steps.items handed.new.steps.items
+        objects.old.items objects.new.items }
+    ensures first { result ≡ nearest first (names_of handed.old.steps.items)
+        (asks_of_step step.now) }
     ensures sinks { handed.new.sinks.items ≡ handed.old.sinks.items }
-    ensures room { length objects.new.items + length handed.new.steps.items ≤ vec_capacity objects.new }
+    ensures room { length objects.new.items + length handed.new.steps.items ≤ vec_capacity
+        objects.new }
 {
     let StepPlan::Plugin { name, line } = step else {
         return first;
@@ -61,11 +65,15 @@ fn claim_steps<K: Drop, B: Drop>(
     first: Option<u32>,
     objects: &mut Vec<K>,
 ) -> Option<u32>
-    requires room { length objects.old.items + length handed.old.steps.items ≤ vec_capacity objects.old }
-    ensures joined { Joined (flat_map asks_of_step steps.now) handed.old.steps.items handed.new.steps.items objects.old.items objects.new.items }
-    ensures first { result ≡ nearest first (names_of handed.old.steps.items) (flat_map asks_of_step steps.now) }
+    requires room { length objects.old.items + length handed.old.steps.items ≤ vec_capacity
+        objects.old }
+    ensures joined { Joined (flat_map asks_of_step steps.now) handed.old.steps.items
+        handed.new.steps.items objects.old.items objects.new.items }
+    ensures first { result ≡ nearest first (names_of handed.old.steps.items)
+        (flat_map asks_of_step steps.now) }
     ensures sinks { handed.new.sinks.items ≡ handed.old.sinks.items }
-    ensures room { length objects.new.items + length handed.new.steps.items ≤ vec_capacity objects.new }
+    ensures room { length objects.new.items + length handed.new.steps.items ≤ vec_capacity
+        objects.new }
 {
     let mut first = first;
     for step in steps {
@@ -80,9 +88,12 @@ pub(crate) fn claim_sources<K: Drop, B: Drop>(
     handed: &mut HandedIn<K, B>,
     objects: &mut Vec<K>,
 ) -> Option<u32>
-    requires room { length objects.old.items + length handed.old.steps.items ≤ vec_capacity objects.old }
-    ensures joined { Joined (step_asks sources.now) handed.old.steps.items handed.new.steps.items objects.old.items objects.new.items }
-    ensures first { result ≡ nearest None (names_of handed.old.steps.items) (step_asks sources.now) }
+    requires room { length objects.old.items + length handed.old.steps.items ≤ vec_capacity
+        objects.old }
+    ensures joined { Joined (step_asks sources.now) handed.old.steps.items handed.new.steps.items
+        objects.old.items objects.new.items }
+    ensures first { result ≡ nearest None (names_of handed.old.steps.items)
+        (step_asks sources.now) }
     ensures sinks { handed.new.sinks.items ≡ handed.old.sinks.items }
 {
     let mut first: Option<u32> = None;

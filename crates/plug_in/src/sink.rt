@@ -38,7 +38,8 @@ pub trait EventSink: Drop {
 
 /// A boxed sink's answers and changes are those of the object in it, and the box stays as it is.
 impl EventSink for Box<dyn EventSink + Send> {
-    ghost delivers = { λ b batch moment result c. (object : _) × (c ≡ record b { value = object }) × (EventSink-box b).delivers b.value batch moment result object };
+    ghost delivers = { λ b batch moment result c. (object : _) × (c ≡ record b { value = object }) ×
+        (EventSink-box b).delivers b.value batch moment result object };
 
     ghost faults = { λ b. (EventSink-box b).faults b.value };
 

@@ -29,7 +29,8 @@ pub trait Interceptor: Drop {
 
 /// A boxed interceptor's answer and change are those of the object in it, and the box stays as it is.
 impl Interceptor for Box<dyn Interceptor + Send> {
-    ghost intercepts = { λ b event moment result c. (object : _) × (c ≡ record b { value = object }) × (Interceptor-box b).intercepts b.value event moment result object };
+    ghost intercepts = { λ b event moment result c. (object : _) × (c ≡ record b { value = object })
+        × (Interceptor-box b).intercepts b.value event moment result object };
 
     fn intercept(&mut self, event: Event, moment: u64) -> Intercepted {
         (**self).intercept(event, moment)

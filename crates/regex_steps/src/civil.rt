@@ -104,7 +104,8 @@ impl CivilTime {
     // The days since 1970, where the calendar has the day.
     fn epoch_day(self) -> Option<i32>
         ensures bound { IfSome result IsEpochDay }
-        ensures value { result ≡ (if is_day self then Some (days_from_civil (pos self.year) self.month self.day) else None) }
+        ensures value { result ≡ (if is_day self then Some
+            (days_from_civil (pos self.year) self.month self.day) else None) }
     {
         if self.year > 9999 || self.month > 12 || self.day > 31 {
             return None;
@@ -117,7 +118,8 @@ impl CivilTime {
 
     /// The milliseconds since 1970 in UTC, where the calendar has this day, and the day this time.
     pub fn milliseconds(self) -> Option<i64>
-        ensures { result ≡ (if is_day self && is_time self then Some (milliseconds self) else None) }
+        ensures { result ≡ (if is_day self && is_time self then Some (milliseconds self) else
+            None) }
     {
         if self.hour > 23 || self.minute > 59 || self.second > 59 {
             return None;

@@ -63,7 +63,8 @@ fn first_field(text: &[u8]) -> Option<Field>
 
 // Where the first quote of a text stands.
 fn first_quote(text: &[u8]) -> Option<usize>
-    ensures some { IfSome result (λ n. (text.now ≡ take n text.now ++ 39 ∷ drop (n + 1) text.now) × (list_any is_quote (take n text.now) ≡ false)) }
+    ensures some { IfSome result (λ n. (text.now ≡ take n text.now ++ 39 ∷ drop (n + 1) text.now) ×
+        (list_any is_quote (take n text.now) ≡ false)) }
     ensures bound { IfSome result (λ n. n < length text.now) }
     ensures none { IfNone result (list_any is_quote text.now ≡ false) }
 {
@@ -78,7 +79,8 @@ fn first_quote(text: &[u8]) -> Option<usize>
 // The part at the front of a pattern, and how many bytes it takes there.
 fn first_part(alloc: Global, text: &[u8]) -> Result<(Part, usize), BuildRefused>
     requires { 0 < length text.now }
-    ensures ok { IfOk result (λ found. (text.now ≡ spelled (piece found.0) ++ drop found.1 text.now) × IsPiece (piece found.0)) }
+    ensures ok { IfOk result (λ found. (text.now ≡ spelled (piece found.0) ++ drop found.1 text.now)
+        × IsPiece (piece found.0)) }
     ensures bound { IfOk result (λ found. (0 < found.1) × (found.1 ≤ length text.now)) }
     ensures err { IfErr result (λ e. e ≡ BuildRefused.BadPattern → BeginsNone text.now) }
 {
@@ -98,7 +100,8 @@ fn first_part(alloc: Global, text: &[u8]) -> Result<(Part, usize), BuildRefused>
 fn first_quoted(alloc: Global, text: &[u8]) -> Result<(Part, usize), BuildRefused>
     requires some { 0 < length text.now }
     requires quote { slice_index text.now 0 ≡ 39 }
-    ensures ok { IfOk result (λ found. (text.now ≡ spelled (piece found.0) ++ drop found.1 text.now) × IsPiece (piece found.0)) }
+    ensures ok { IfOk result (λ found. (text.now ≡ spelled (piece found.0) ++ drop found.1 text.now)
+        × IsPiece (piece found.0)) }
     ensures bound { IfOk result (λ found. (0 < found.1) × (found.1 ≤ length text.now)) }
     ensures err { IfErr result (λ e. e ≡ BuildRefused.BadPattern → BeginsNone text.now) }
 {
@@ -154,7 +157,8 @@ fn number(digits: &[u8]) -> Option<u16>
 
 // What is after a part that stands at the front of a text. The field of the part gets its number.
 fn behind<'a>(part: &Part, text: &'a [u8], time: &mut CivilTime) -> Option<&'a [u8]>
-    ensures some { IfSome result (λ rest. Reads (piece part.now) text.now rest.now time.old time.new) }
+    ensures some { IfSome result (λ rest. Reads (piece part.now) text.now rest.now time.old
+        time.new) }
     ensures none { IfNone result (ReadsNot (piece part.now) text.now) }
 {
     match part {
@@ -207,8 +211,10 @@ impl DatePattern {
 
     // The date and time in a text that is spelled by the pattern, which may be no day or no time of it.
     fn civil_time(&self, text: &[u8]) -> Option<CivilTime>
-        ensures some { IfSome result (λ t. (t ≡ civil_in self.now text.now) × (text.now ≡ flat_map (shown t) self.now)) }
-        ensures none { IfNone result (text.now ≡ flat_map (shown (civil_in self.now text.now)) self.now → ⊥) }
+        ensures some { IfSome result (λ t. (t ≡ civil_in self.now text.now) ×
+            (text.now ≡ flat_map (shown t) self.now)) }
+        ensures none { IfNone result (text.now ≡ flat_map (shown (civil_in self.now text.now))
+            self.now → ⊥) }
     {
         let mut time = CivilTime::DEFAULT;
         let mut rest = text;

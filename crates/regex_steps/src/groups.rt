@@ -22,7 +22,8 @@ impl Groups for Captures<'_, '_> {
     ghost use Rattle.std.specs.Prelude.{option_map, slice_range};
     ghost use Rattle.regex.specs.Strings.{captures_span, captures_haystack};
 
-    ghost group = { λ c n. option_map (λ s. slice_range (captures_haystack c) s.0 s.1) (captures_span c n) };
+    ghost group = { λ c n. option_map (λ s. slice_range (captures_haystack c) s.0 s.1)
+        (captures_span c n) };
 
     fn group(&self, n: usize) -> Option<&[u8]> {
         match self.get(n) {
@@ -36,7 +37,8 @@ impl Groups for bytes::Captures<'_, '_> {
     ghost use Rattle.std.specs.Prelude.{option_map, slice_range};
     ghost use Rattle.regex.specs.Bytes.{captures_span, captures_haystack};
 
-    ghost group = { λ c n. option_map (λ s. slice_range (captures_haystack c) s.0 s.1) (captures_span c n) };
+    ghost group = { λ c n. option_map (λ s. slice_range (captures_haystack c) s.0 s.1)
+        (captures_span c n) };
 
     fn group(&self, n: usize) -> Option<&[u8]> {
         match self.get(n) {
@@ -57,7 +59,8 @@ pub struct Serializer {
 
 // Sets a header to these bytes, where they are text.
 fn set_text(headers: &mut Headers, name: &str, bytes: &[u8]) -> Result<(), NoMemory>
-    ensures { OnOk result (headers.new ≡ with_value headers.old name.now (value_of None bytes.now)) }
+    ensures { OnOk result (headers.new ≡ with_value headers.old name.now
+        (value_of None bytes.now)) }
 {
     match str::from_utf8(bytes) {
         Ok(text) => headers.set(name, text),
@@ -72,7 +75,8 @@ fn set_date(
     pattern: &DatePattern,
     bytes: &[u8],
 ) -> Result<(), NoMemory>
-    ensures { OnOk result (headers.new ≡ with_value headers.old name.now (value_of (Some pattern.now) bytes.now)) }
+    ensures { OnOk result (headers.new ≡ with_value headers.old name.now
+        (value_of (Some pattern.now) bytes.now)) }
 {
     match pattern.milliseconds(bytes) {
         Some(milliseconds) => {
@@ -89,7 +93,8 @@ fn set_group(
     serializer: &Serializer,
     group: Option<&[u8]>,
 ) -> Result<(), NoMemory>
-    ensures { OnOk result (headers.new ≡ with_group headers.old (serializer_of serializer.now) (option_copied group.entry)) }
+    ensures { OnOk result (headers.new ≡ with_group headers.old (serializer_of serializer.now)
+        (option_copied group.entry)) }
 {
     let Some(bytes) = group else {
         return Ok(());
@@ -106,7 +111,8 @@ pub fn set_groups<F: Groups>(
     serializers: &[Serializer],
     headers: &mut Headers,
 ) -> Result<(), NoMemory>
-    ensures { OnOk result (headers.new ≡ extracted (F.group found.now) 1 (serializers_of serializers.now) headers.old) }
+    ensures { OnOk result (headers.new ≡ extracted (F.group found.now) 1
+        (serializers_of serializers.now) headers.old) }
 {
     for (i, serializer) in serializers.iter().enumerate() {
         set_group(headers, serializer, found.group(i + 1))?;

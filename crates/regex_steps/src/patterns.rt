@@ -71,7 +71,8 @@ impl Patterns {
         serializers: &[Serializer],
         headers: &mut Headers,
     ) -> Result<(), NoMemory>
-        ensures { OnOk result (headers.new ≡ headers_after self.now (serializers_of serializers.now) body.now headers.old) }
+        ensures { OnOk result (headers.new ≡ headers_after self.now (serializers_of serializers.now)
+            body.now headers.old) }
     {
         match str::from_utf8(body) {
             Ok(text) => extract_from_text(alloc, &self.texts, text, serializers, headers),
@@ -100,7 +101,8 @@ fn extract_from_text(
     serializers: &[Serializer],
     headers: &mut Headers,
 ) -> Result<(), NoMemory>
-    ensures { OnOk result (headers.new ≡ headers_of text.now (serializers_of serializers.now) headers.old (find_str (texts.regex_pattern regex.now) text.now 0)) }
+    ensures { OnOk result (headers.new ≡ headers_of text.now (serializers_of serializers.now)
+        headers.old (find_str (texts.regex_pattern regex.now) text.now 0)) }
 {
     let mut matcher = regex.matcher(alloc)?;
     match matcher.captures(text) {
@@ -116,7 +118,8 @@ fn extract_from_bytes(
     serializers: &[Serializer],
     headers: &mut Headers,
 ) -> Result<(), NoMemory>
-    ensures { OnOk result (headers.new ≡ headers_of body.now (serializers_of serializers.now) headers.old (find (raw.regex_pattern regex.now) body.now 0)) }
+    ensures { OnOk result (headers.new ≡ headers_of body.now (serializers_of serializers.now)
+        headers.old (find (raw.regex_pattern regex.now) body.now 0)) }
 {
     let mut matcher = regex.matcher(alloc)?;
     match matcher.captures(body) {
@@ -131,7 +134,8 @@ fn replace_in_text(
     haystack: &str,
     text: &str,
 ) -> Result<String, AllocError>
-    ensures { IfOk result (λ out. string_bytes out ≡ replaced_text regex.now text.now haystack.now) }
+    ensures { IfOk result (λ out. string_bytes out ≡ replaced_text regex.now text.now
+        haystack.now) }
 {
     let template = Template::new(alloc, regex.capture_names(), text)?;
     let mut matcher = regex.matcher(alloc)?;

@@ -51,9 +51,11 @@ fn extract(
     serializers: &[Serializer],
     event: Event,
 ) -> Result<Option<Event>, EventRefused>
-    ensures ok { IfOk result (λ made. made ≡ ran_as (Extracts (serializers_of serializers.now)) patterns.now event) }
+    ensures ok { IfOk result (λ made. made ≡ ran_as (Extracts (serializers_of serializers.now))
+        patterns.now event) }
     ensures fits { IfOk result (λ made. IfSome made (λ e. size e ≤ MAX_EVENT_SIZE)) }
-    ensures err { IfErr result (IsRefusalOfStep (ran_as (Extracts (serializers_of serializers.now)) patterns.now event)) }
+    ensures err { IfErr result (IsRefusalOfStep (ran_as (Extracts (serializers_of serializers.now))
+        patterns.now event)) }
 {
     let (mut headers, body) = event.into_parts();
     patterns.extract(alloc, &body, serializers, &mut headers)?;

@@ -51,15 +51,24 @@ pub fn apply_rest<D: Disk, L: Ledger>(
     requires there { IsThere (D.told disk.old) file }
     requires file { reader.file ≡ file }
     requires kept { IsKept index.old }
-    ensures ok { OnOk result ((bytes : List ℕ) (items : List (Rec × ℕ)) (fault : Option ℕ) → HasFile (D.told disk.old) file bytes → Remains reader bytes items fault → GoesThrough (record_lines file items ++ fault_lines file fault) index.old index.new) }
-    ensures bad { IfErr result (λ e. WhereBadLog e (λ f at. (bytes : List ℕ) (items : List (Rec × ℕ)) (fault : Option ℕ) → HasFile (D.told disk.old) file bytes → Remains reader bytes items fault → StopsIn (record_lines file items ++ fault_lines file fault) index.old f at)) }
+    ensures ok { OnOk result ((bytes : List ℕ) (items : List (Rec × ℕ)) (fault : Option ℕ) → HasFile
+        (D.told disk.old) file bytes → Remains reader bytes items fault → GoesThrough
+        (record_lines file items ++ fault_lines file fault) index.old index.new) }
+    ensures bad { IfErr result (λ e. WhereBadLog e (λ f at. (bytes : List ℕ)
+        (items : List (Rec × ℕ)) (fault : Option ℕ) → HasFile (D.told disk.old) file bytes → Remains
+        reader bytes items fault → StopsIn (record_lines file items ++ fault_lines file fault)
+        index.old f at)) }
     ensures not_over { IfErr result (λ e. WhereOver e (λ count. ⊥)) }
     ensures kept { OnOk result (IsKept index.new) }
-    ensures ticks { (bytes : List ℕ) (items : List (Rec × ℕ)) (fault : Option ℕ) → HasFile (D.told disk.old) file bytes → Remains reader bytes items fault → steps.new ≤ steps.old + length items }
+    ensures ticks { (bytes : List ℕ) (items : List (Rec × ℕ)) (fault : Option ℕ) → HasFile
+        (D.told disk.old) file bytes → Remains reader bytes items fault → steps.new ≤ steps.old +
+        length items }
     ensures same { D.told disk.new ≡ D.told disk.old }
-    ensures fault { IsErrOf result ReplayRefused.DiskFault → Rose (D.faults disk.old) (D.faults disk.new) }
+    ensures fault { IsErrOf result ReplayRefused.DiskFault → Rose (D.faults disk.old)
+        (D.faults disk.new) }
     ensures later { D.faults disk.old ≤ D.faults disk.new }
-    ensures well { (IsErrOf result ReplayRefused.DiskFault → ⊥) → D.faults disk.new ≡ D.faults disk.old }
+    ensures well { (IsErrOf result ReplayRefused.DiskFault → ⊥) → D.faults disk.new ≡ D.faults
+        disk.old }
 {
     let mut reader = reader;
     loop {
@@ -96,15 +105,20 @@ fn apply_file<D: Disk, L: Ledger>(
     requires there { IsThere (D.told disk.old) file }
     requires kept { IsKept index.old }
     ensures number { file < 2 ^ 32 }
-    ensures ok { OnOk result (WhereHolds (D.told disk.old) file (λ content. GoesThrough (file_lines file content) index.old index.new)) }
-    ensures bad { IfErr result (λ e. WhereBadLog e (λ f at. WhereHolds (D.told disk.old) file (λ content. StopsIn (file_lines file content) index.old f at))) }
+    ensures ok { OnOk result (WhereHolds (D.told disk.old) file
+        (λ content. GoesThrough (file_lines file content) index.old index.new)) }
+    ensures bad { IfErr result (λ e. WhereBadLog e (λ f at. WhereHolds (D.told disk.old) file
+        (λ content. StopsIn (file_lines file content) index.old f at))) }
     ensures not_over { IfErr result (λ e. WhereOver e (λ count. ⊥)) }
     ensures kept { OnOk result (IsKept index.new) }
-    ensures ticks { WhereHolds (D.told disk.old) file (λ content. steps.new ≤ steps.old + record_count (file_lines file content)) }
+    ensures ticks { WhereHolds (D.told disk.old) file (λ content. steps.new ≤ steps.old +
+        record_count (file_lines file content)) }
     ensures same { D.told disk.new ≡ D.told disk.old }
-    ensures fault { IsErrOf result ReplayRefused.DiskFault → Rose (D.faults disk.old) (D.faults disk.new) }
+    ensures fault { IsErrOf result ReplayRefused.DiskFault → Rose (D.faults disk.old)
+        (D.faults disk.new) }
     ensures later { D.faults disk.old ≤ D.faults disk.new }
-    ensures well { (IsErrOf result ReplayRefused.DiskFault → ⊥) → D.faults disk.new ≡ D.faults disk.old }
+    ensures well { (IsErrOf result ReplayRefused.DiskFault → ⊥) → D.faults disk.new ≡ D.faults
+        disk.old }
 {
     match LogReader::begin(alloc, disk, file, FIRST_GATE) {
         Ok(reader) => {
@@ -123,15 +137,22 @@ fn apply_files<D: Disk, L: Ledger>(
     steps: &mut Steps<L>,
 ) -> Result<(), ReplayRefused>
     requires { (places : Places) → Keeps places empty_start [] index.old }
-    ensures ok { OnOk result (WhereTold (D.told disk.old) (λ t. WhereLogs t.reads (λ logs. AreSound empty_base [] (lines logs) × ((places : Places) → LinesStand places (lines logs) → Keeps places empty_start (past_lines [] (lines logs)) index.new)))) }
-    ensures bad { IfErr result (λ e. WhereBadLog e (λ file at. WhereTold (D.told disk.old) (λ t. IsBadLog t.reads file at))) }
+    ensures ok { OnOk result (WhereTold (D.told disk.old)
+        (λ t. WhereLogs t.reads (λ logs. AreSound empty_base [] (lines logs) ×
+        ((places : Places) → LinesStand places (lines logs) → Keeps places empty_start
+        (past_lines [] (lines logs)) index.new)))) }
+    ensures bad { IfErr result (λ e. WhereBadLog e (λ file at. WhereTold (D.told disk.old)
+        (λ t. IsBadLog t.reads file at))) }
     ensures not_over { IfErr result (λ e. WhereOver e (λ count. ⊥)) }
     ensures kept { OnOk result (IsKept index.new) }
-    ensures ticks { WhereTold (D.told disk.old) (λ t. WhereLogs t.reads (λ logs. steps.new ≤ steps.old + record_count (lines logs))) }
+    ensures ticks { WhereTold (D.told disk.old) (λ t. WhereLogs t.reads
+        (λ logs. steps.new ≤ steps.old + record_count (lines logs))) }
     ensures same { D.told disk.new ≡ D.told disk.old }
-    ensures fault { IsErrOf result ReplayRefused.DiskFault → Rose (D.faults disk.old) (D.faults disk.new) }
+    ensures fault { IsErrOf result ReplayRefused.DiskFault → Rose (D.faults disk.old)
+        (D.faults disk.new) }
     ensures later { D.faults disk.old ≤ D.faults disk.new }
-    ensures well { (IsErrOf result ReplayRefused.DiskFault → ⊥) → D.faults disk.new ≡ D.faults disk.old }
+    ensures well { (IsErrOf result ReplayRefused.DiskFault → ⊥) → D.faults disk.new ≡ D.faults
+        disk.old }
 {
     let mut after = None;
     loop {
@@ -150,8 +171,10 @@ fn apply_files<D: Disk, L: Ledger>(
 /// The ring of a replay with as many slots as the capacity, and its next numbers. More events than that are refused as
 /// OverCapacity.
 pub fn within(index: Indexing, capacity: u32) -> Result<Replayed, ReplayRefused>
-    ensures ok { IfOk result (λ r. (r.ring ≡ record index.ring { slots = capacity }) × (r.next ≡ index.next) × (length index.ring.live ≤ capacity)) }
-    ensures over { IfErr result (λ e. WhereOver e (λ count. (count ≡ length index.ring.live) × (capacity < count))) }
+    ensures ok { IfOk result (λ r. (r.ring ≡ record index.ring { slots = capacity }) ×
+        (r.next ≡ index.next) × (length index.ring.live ≤ capacity)) }
+    ensures over { IfErr result (λ e. WhereOver e (λ count. (count ≡ length index.ring.live) ×
+        (capacity < count))) }
     ensures not_bad { IfErr result (λ e. WhereBadLog e (λ file at. ⊥)) }
     ensures not_fault { IsErrOf result ReplayRefused.DiskFault → ⊥ }
 {
@@ -179,17 +202,23 @@ pub fn replay<D: Disk, L: Ledger>(
     capacity: u32,
     steps: &mut Steps<L>,
 ) -> Result<Replayed, ReplayRefused>
-    ensures ok { IfOk result (λ r. WhereTold (D.told disk.old) (λ t. WhereLogs t.reads (λ logs. AreReplayed logs r))) }
+    ensures ok { IfOk result (λ r. WhereTold (D.told disk.old)
+        (λ t. WhereLogs t.reads (λ logs. AreReplayed logs r))) }
 
     // Also where the disk shows nothing.
     ensures ready { IfOk result (λ r. IsReady capacity r) }
-    ensures bad { IfErr result (λ e. WhereBadLog e (λ file at. WhereTold (D.told disk.old) (λ t. IsBadLog t.reads file at))) }
-    ensures over { IfErr result (λ e. WhereOver e (λ count. (capacity < count) × WhereTold (D.told disk.old) (λ t. WhereLogs t.reads (λ logs. LeavesCount logs count)))) }
-    ensures ticks { WhereTold (D.told disk.old) (λ t. WhereLogs t.reads (λ logs. steps.new ≤ steps.old + record_count (lines logs))) }
+    ensures bad { IfErr result (λ e. WhereBadLog e (λ file at. WhereTold (D.told disk.old)
+        (λ t. IsBadLog t.reads file at))) }
+    ensures over { IfErr result (λ e. WhereOver e (λ count. (capacity < count) × WhereTold
+        (D.told disk.old) (λ t. WhereLogs t.reads (λ logs. LeavesCount logs count)))) }
+    ensures ticks { WhereTold (D.told disk.old) (λ t. WhereLogs t.reads
+        (λ logs. steps.new ≤ steps.old + record_count (lines logs))) }
     ensures same { D.told disk.new ≡ D.told disk.old }
-    ensures fault { IsErrOf result ReplayRefused.DiskFault → Rose (D.faults disk.old) (D.faults disk.new) }
+    ensures fault { IsErrOf result ReplayRefused.DiskFault → Rose (D.faults disk.old)
+        (D.faults disk.new) }
     ensures later { D.faults disk.old ≤ D.faults disk.new }
-    ensures well { (IsErrOf result ReplayRefused.DiskFault → ⊥) → D.faults disk.new ≡ D.faults disk.old }
+    ensures well { (IsErrOf result ReplayRefused.DiskFault → ⊥) → D.faults disk.new ≡ D.faults
+        disk.old }
 {
     let mut index = begin(alloc, capacity)?;
     match apply_files(alloc, disk, &mut index, steps) {

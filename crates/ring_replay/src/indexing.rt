@@ -121,14 +121,18 @@ impl Indexing {
     // The next transaction is above this one.
     fn see(&mut self, txn: u64)
         requires { IsTxn txn }
-        ensures { self.new ≡ record self.old { next = record self.old.next { txn = max (txn + 1) self.old.next.txn } } }
+        ensures { self.new ≡ record self.old {
+          next = record self.old.next
+              { txn = max (txn + 1) self.old.next.txn };
+        } }
     {
         self.next.txn = self.next.txn.max(txn + 1);
     }
 
     fn put(&mut self, txn: u64, place: Pointer) -> Result<bool, NoMemory>
         requires { IsTxn txn }
-        ensures { IfOk result (λ legal. (event : Content) → GoesOn legal self.old place (Put txn event) self.new) }
+        ensures { IfOk result (λ legal. (event : Content) → GoesOn legal self.old place
+            (Put txn event) self.new) }
     {
         self.see(txn);
         if !open_for(&mut self.table, txn, true)? {
@@ -181,7 +185,8 @@ impl Indexing {
     /// Drops all open transactions.
     pub fn drop_open(&mut self)
         requires { IsKept self.old }
-        ensures dropped { (places : Places) (s : Start) (past : Past) → Keeps places s past self.old → Keeps places s (Dropped ∷ past) self.new }
+        ensures dropped { (places : Places) (s : Start) (past : Past) → Keeps places s past self.old
+            → Keeps places s (Dropped ∷ past) self.new }
         ensures kept { IsKept self.new }
     {
         while let Some(txn) = self.table.next_txn(None) {
@@ -234,7 +239,8 @@ impl Indexing {
     ) -> Result<bool, NoMemory>
         requires txn { IsTxn txn }
         requires kept { IsKept self.old }
-        ensures { IfOk result (λ legal. GoesOn legal self.old place (CommitPut txn first count) self.new) }
+        ensures { IfOk result (λ legal. GoesOn legal self.old place (CommitPut txn first count)
+            self.new) }
     {
         self.see(txn);
         if !self.table.has(txn, true) {
@@ -299,9 +305,11 @@ impl Indexing {
     ) -> Result<(), RecoverRefused>
         requires kept { IsKept self.old }
         requires outlined { IsSomeOutline outline }
-        ensures ok { OnOk result ((rec : Rec) → outline ≡ outline_of rec → GoesThrough (Stands file at rec ∷ []) self.old self.new) }
+        ensures ok { OnOk result ((rec : Rec) → outline ≡ outline_of rec → GoesThrough
+            (Stands file at rec ∷ []) self.old self.new) }
         ensures kept { OnOk result (IsKept self.new) }
-        ensures bad { IfErr result (λ e. WhereBad e (λ f a. (rec : Rec) → outline ≡ outline_of rec → IsAt (Stands file at rec) f a × StopsAt (Stands file at rec) self.old)) }
+        ensures bad { IfErr result (λ e. WhereBad e (λ f a. (rec : Rec) → outline ≡ outline_of rec →
+            IsAt (Stands file at rec) f a × StopsAt (Stands file at rec) self.old)) }
     {
         match self.apply(outline, place_of(file, at, outline)) {
             Ok(true) => Ok(()),

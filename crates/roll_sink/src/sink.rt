@@ -51,7 +51,12 @@ impl<R: RollDir + Drop> RollSink<R> {
     /// A sink into this folder, where a file takes no batch that comes `interval` seconds or later after its begin, and
     /// never grows too old with an interval of 0.
     pub fn new(alloc: Global, dir: R, interval: u32) -> Self
-        ensures state { state_of result ≡ record { interval = interval; start = None; next = 1; begun = None } }
+        ensures state { state_of result ≡ record {
+          interval = interval;
+          start = None;
+          next = 1;
+          begun = None;
+        } }
         ensures dir { result.dir ≡ dir }
     {
         RollSink {
@@ -73,9 +78,17 @@ impl<R: RollDir + Drop> RollSink<R> {
 
     // Begins the file of this name.
     fn begin(&mut self, start: u64, moment: u64, name: &str) -> Result<(), RollRefused>
-        ensures state { state_of self.new ≡ record { interval = self.old.interval; start = Some start; next = number_after true self.old.next; begun = begun_at result moment } }
-        ensures done { MatchResult result (λ _. Tells (R.rolled self.old.dir) (R.rolled self.new.dir) (NewFile name.now))
-            (λ e. (e ≡ RollRefused.RollFault) × Tells (R.rolled self.old.dir) (R.rolled self.new.dir) NoFile) }
+        ensures state { state_of self.new ≡ record {
+          interval = self.old.interval;
+          start = Some
+              start;
+          next = number_after true self.old.next;
+          begun = begun_at result moment;
+        } }
+        ensures done { MatchResult result (λ _. Tells (R.rolled self.old.dir)
+            (R.rolled self.new.dir) (NewFile name.now))
+            (λ e. (e ≡ RollRefused.RollFault) × Tells (R.rolled self.old.dir)
+            (R.rolled self.new.dir) NoFile) }
         ensures cause { HasCause (R.faults self.old.dir) (R.faults self.new.dir) result }
     {
         self.start = Some(start);
@@ -93,7 +106,8 @@ impl<R: RollDir + Drop> RollSink<R> {
     /// Delivers a batch, at a moment in milliseconds since 1970. At Ok all of it was handed on by the folder. It takes no
     /// memory but for the name of a file.
     pub fn deliver(&mut self, batch: &Batch, moment: u64) -> Result<(), RollRefused>
-        ensures rolls { Rolls (state_of self.old) batch.now moment result (state_of self.new) (R.rolled self.old.dir) (R.rolled self.new.dir) }
+        ensures rolls { Rolls (state_of self.old) batch.now moment result (state_of self.new)
+            (R.rolled self.old.dir) (R.rolled self.new.dir) }
         ensures cause { IsFault result → Rose (R.faults self.old.dir) (R.faults self.new.dir) }
         ensures later { R.faults self.old.dir ≤ R.faults self.new.dir }
     {
@@ -106,7 +120,8 @@ impl<R: RollDir + Drop> RollSink<R> {
 
     // Begins a file, and writes a batch to it.
     fn deliver_to_new(&mut self, batch: &Batch, moment: u64) -> Result<(), RollRefused>
-        ensures rolls { RollsBy true (state_of self.old) batch.now moment result (state_of self.new) (R.rolled self.old.dir) (R.rolled self.new.dir) }
+        ensures rolls { RollsBy true (state_of self.old) batch.now moment result (state_of self.new)
+            (R.rolled self.old.dir) (R.rolled self.new.dir) }
         ensures cause { IsFault result → Rose (R.faults self.old.dir) (R.faults self.new.dir) }
         ensures later { R.faults self.old.dir ≤ R.faults self.new.dir }
     {
@@ -123,9 +138,12 @@ impl<R: RollDir + Drop> RollSink<R> {
 
     // Writes a batch to the file that was begun, and has it handed on.
     fn write(&mut self, batch: &Batch) -> Result<(), RollRefused>
-        ensures state { state_of self.new ≡ record (state_of self.old) { begun = kept_at result self.old.begun } }
-        ensures done { MatchResult result (λ _. Tells (R.rolled self.old.dir) (R.rolled self.new.dir) (HandedOn (roll_text batch.now)))
-            (λ e. (e ≡ RollRefused.RollFault) × Tells (R.rolled self.old.dir) (R.rolled self.new.dir) (Stopped (roll_text batch.now))) }
+        ensures state { state_of self.new ≡ record (state_of self.old)
+            { begun = kept_at result self.old.begun } }
+        ensures done { MatchResult result (λ _. Tells (R.rolled self.old.dir)
+            (R.rolled self.new.dir) (HandedOn (roll_text batch.now)))
+            (λ e. (e ≡ RollRefused.RollFault) × Tells (R.rolled self.old.dir)
+            (R.rolled self.new.dir) (Stopped (roll_text batch.now))) }
         ensures cause { HasCause (R.faults self.old.dir) (R.faults self.new.dir) result }
     {
         match write_and_flush(&mut self.dir, batch) {
@@ -139,7 +157,8 @@ impl<R: RollDir + Drop> RollSink<R> {
 }
 
 impl<R: RollDir + Drop> EventSink for RollSink<R> {
-    ghost delivers = { λ s batch moment result t. Rolls (state_of s) batch moment (roll_answer result) (state_of t) (R.rolled s.dir) (R.rolled t.dir) };
+    ghost delivers = { λ s batch moment result t. Rolls (state_of s) batch moment
+        (roll_answer result) (state_of t) (R.rolled s.dir) (R.rolled t.dir) };
 
     ghost faults = { λ s. R.faults s.dir };
 

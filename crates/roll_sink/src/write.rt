@@ -42,7 +42,8 @@ fn write_batch<D: RollDir>(dir: &mut D, batch: &Batch) -> Result<(), Failed>
 
 /// Writes a batch, and has it handed on.
 pub fn write_and_flush<D: RollDir>(dir: &mut D, batch: &Batch) -> Result<(), Failed>
-    ensures done { MatchResult result (λ _. Tells (D.rolled dir.old) (D.rolled dir.new) (HandedOn (roll_text batch.now)))
+    ensures done { MatchResult result (λ _. Tells (D.rolled dir.old) (D.rolled dir.new)
+        (HandedOn (roll_text batch.now)))
         (λ _. Tells (D.rolled dir.old) (D.rolled dir.new) (Stopped (roll_text batch.now))) }
     ensures cause { HasCause (D.faults dir.old) (D.faults dir.new) result }
 {

@@ -41,8 +41,10 @@ pub struct Choice {
 
 /// The channels of an event with these headers.
 pub fn select(alloc: Global, selector: &Selector, headers: &Headers) -> Result<Choice, NoMemory>
-    ensures required { IfOk result (λ choice. choice.required.items ≡ required selector.now headers.now) }
-    ensures optional { IfOk result (λ choice. choice.optional.items ≡ optional selector.now headers.now) }
+    ensures required { IfOk result (λ choice. choice.required.items ≡ required selector.now
+        headers.now) }
+    ensures optional { IfOk result (λ choice. choice.optional.items ≡ optional selector.now
+        headers.now) }
 {
     match selector {
         Selector::Replicating { channels, optional } => {

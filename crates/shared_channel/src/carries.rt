@@ -47,10 +47,13 @@ pub trait Joins {
     /// Takes in another pass, as [`Shared::join_pass`].
     fn join_pass(&self, into: &mut Pass, from: Pass)
         requires { (into.old.table_id ≡ table self.now) × (from.table_id ≡ table self.now) }
-        ensures same { (into.new.table_id ≡ into.old.table_id) × (into.new.number ≡ into.old.number) }
+        ensures same { (into.new.table_id ≡ into.old.table_id) ×
+            (into.new.number ≡ into.old.number) }
         ensures view { into.new.view ≡ joined (both into.old.view from.view) }
-        ensures seen { Has into.new.view.seen (part into.old.view) × Has into.new.view.seen (part from.view) }
-        ensures one { (from.view.base ≡ into.old.view.base) × (from.view.passes ≡ into.old.view.passes) }
+        ensures seen { Has into.new.view.seen (part into.old.view) × Has into.new.view.seen
+            (part from.view) }
+        ensures one { (from.view.base ≡ into.old.view.base) ×
+            (from.view.passes ≡ into.old.view.passes) }
         ensures apart { AreApart into.old.view.numbers from.view.numbers };
 }
 

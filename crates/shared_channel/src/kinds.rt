@@ -28,18 +28,22 @@ pub(crate) trait KindOfTxn {
 
     /// Begins one.
     fn begin<C: Channel>(channel: &mut C) -> Result<Txn<Self>, BeginRefused>
-        ensures call { AddsOne (C.stands channel.old) (C.stands channel.new) (begins result) (C.moment channel.new) }
+        ensures call { AddsOne (C.stands channel.old) (C.stands channel.new) (begins result)
+            (C.moment channel.new) }
         ensures counts { IsCountedCall (begins result) (is_spent_begin result) };
 
     /// Stages one.
     fn stage<C: Channel>(channel: &mut C, txn: Txn<Self>) -> Result<Ticket, StageRefused<Txn<Self>>>
-        ensures step { AddsOne (C.stands channel.old) (C.stands channel.new) (stages txn (cause_of result)) (C.moment channel.new) }
-        ensures counts { IsCountedCall (stages txn (cause_of result)) (is_spent_stage (cause_of result)) }
+        ensures step { AddsOne (C.stands channel.old) (C.stands channel.new)
+            (stages txn (cause_of result)) (C.moment channel.new) }
+        ensures counts { IsCountedCall (stages txn (cause_of result))
+            (is_spent_stage (cause_of result)) }
         ensures back { IfErr result (λ refused. refused.txn ≡ txn) };
 
     /// Gives one up, and answers whether its token was not stale.
     fn roll_back<C: Channel>(channel: &mut C, txn: Txn<Self>) -> bool
-        ensures call { AddsOne (C.stands channel.old) (C.stands channel.new) (rolls_back txn result) (C.moment channel.new) }
+        ensures call { AddsOne (C.stands channel.old) (C.stands channel.new) (rolls_back txn result)
+            (C.moment channel.new) }
         ensures counts { IsRollback (rolls_back txn) (is_stale txn) };
 }
 
@@ -55,7 +59,8 @@ impl KindOfTxn for OfPuts {
     ghost is_stale = { λ token s. puts_of s token ≡ None };
 
     fn begin<C: Channel>(channel: &mut C) -> Result<Txn<OfPuts>, BeginRefused>
-        ensures call { AddsOne (C.stands channel.old) (C.stands channel.new) (BeginPut result) (C.moment channel.new) }
+        ensures call { AddsOne (C.stands channel.old) (C.stands channel.new) (BeginPut result)
+            (C.moment channel.new) }
         ensures counts { IsCountedCall (BeginPut result) (is_spent_begin result) }
     {
         channel.begin_put()
@@ -65,15 +70,18 @@ impl KindOfTxn for OfPuts {
         channel: &mut C,
         txn: Txn<OfPuts>,
     ) -> Result<Ticket, StageRefused<Txn<OfPuts>>>
-        ensures step { AddsOne (C.stands channel.old) (C.stands channel.new) (StagePut txn (cause_of result)) (C.moment channel.new) }
-        ensures counts { IsCountedCall (StagePut txn (cause_of result)) (is_spent_stage (cause_of result)) }
+        ensures step { AddsOne (C.stands channel.old) (C.stands channel.new)
+            (StagePut txn (cause_of result)) (C.moment channel.new) }
+        ensures counts { IsCountedCall (StagePut txn (cause_of result))
+            (is_spent_stage (cause_of result)) }
         ensures back { IfErr result (λ refused. refused.txn ≡ txn) }
     {
         channel.stage_put(txn)
     }
 
     fn roll_back<C: Channel>(channel: &mut C, txn: Txn<OfPuts>) -> bool
-        ensures call { AddsOne (C.stands channel.old) (C.stands channel.new) (RollbackPut txn result) (C.moment channel.new) }
+        ensures call { AddsOne (C.stands channel.old) (C.stands channel.new)
+            (RollbackPut txn result) (C.moment channel.new) }
         ensures counts { IsRollback (RollbackPut txn) (λ s. puts_of s txn ≡ None) }
     {
         channel.rollback_put(txn)
@@ -92,7 +100,8 @@ impl KindOfTxn for OfTakes {
     ghost is_stale = { λ token s. takes_of s token ≡ None };
 
     fn begin<C: Channel>(channel: &mut C) -> Result<Txn<OfTakes>, BeginRefused>
-        ensures call { AddsOne (C.stands channel.old) (C.stands channel.new) (BeginTake result) (C.moment channel.new) }
+        ensures call { AddsOne (C.stands channel.old) (C.stands channel.new) (BeginTake result)
+            (C.moment channel.new) }
         ensures counts { IsCountedCall (BeginTake result) (is_spent_begin result) }
     {
         channel.begin_take()
@@ -102,15 +111,18 @@ impl KindOfTxn for OfTakes {
         channel: &mut C,
         txn: Txn<OfTakes>,
     ) -> Result<Ticket, StageRefused<Txn<OfTakes>>>
-        ensures step { AddsOne (C.stands channel.old) (C.stands channel.new) (StageTake txn (cause_of result)) (C.moment channel.new) }
-        ensures counts { IsCountedCall (StageTake txn (cause_of result)) (is_spent_stage (cause_of result)) }
+        ensures step { AddsOne (C.stands channel.old) (C.stands channel.new)
+            (StageTake txn (cause_of result)) (C.moment channel.new) }
+        ensures counts { IsCountedCall (StageTake txn (cause_of result))
+            (is_spent_stage (cause_of result)) }
         ensures back { IfErr result (λ refused. refused.txn ≡ txn) }
     {
         channel.stage_take(txn)
     }
 
     fn roll_back<C: Channel>(channel: &mut C, txn: Txn<OfTakes>) -> bool
-        ensures call { AddsOne (C.stands channel.old) (C.stands channel.new) (RollbackTake txn result) (C.moment channel.new) }
+        ensures call { AddsOne (C.stands channel.old) (C.stands channel.new)
+            (RollbackTake txn result) (C.moment channel.new) }
         ensures counts { IsRollback (RollbackTake txn) (λ s. takes_of s txn ≡ None) }
     {
         channel.rollback_take(txn)

@@ -35,7 +35,12 @@ impl Model for Pass {
 
     ghost Value = { Known };
 
-    ghost view = { λ p. record { table_id = p.badge.table_id; number = p.number; view = view_of p.badge.views } };
+    ghost view = { λ p. record {
+      table_id = p.badge.table_id;
+      number = p.number;
+      view = view_of
+          p.badge.views;
+    } };
 
     ghost invariant = { λ p. IsPass p.badge.views p.number p.calls p.marks.items };
 }

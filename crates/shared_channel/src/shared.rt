@@ -187,7 +187,8 @@ impl<C: Channel> Shared<C> {
     ) -> Result<Ticket, StageRefused<Txn<K>>>
         requires { Holds C.stands self.now.turn.table.shared.table_id holder.old }
         ensures tries { Tries C.stands self.now.turn.table.shared.table_id C.moment
-            (is_spent_stage (cause_of result)) (K.stages txn (cause_of result)) holder.old holder.new }
+            (is_spent_stage (cause_of result)) (K.stages txn (cause_of result)) holder.old
+            holder.new }
         ensures back { IfErr result (λ refused. refused.txn ≡ txn) }
     {
         if self.is_spent(holder) {

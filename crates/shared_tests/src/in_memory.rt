@@ -14,7 +14,8 @@ use txn_core::Machine;
 fn share_machine(alloc: Global, channel: Machine, limits: Limits, passes: u32) -> Opened<Machine>
     ghost start: { Opening }
     requires { StandsWith channel start [] }
-    ensures { IfSome result (λ r. All (λ p. p.table_id ≡ r.0.turn.table.shared.table_id) r.1.items) }
+    ensures { IfSome result (λ r. All (λ p. p.table_id ≡ r.0.turn.table.shared.table_id)
+        r.1.items) }
 {
     let _ = limits;
     match Shared::new(alloc, channel, passes) {
@@ -25,7 +26,8 @@ fn share_machine(alloc: Global, channel: Machine, limits: Limits, passes: u32) -
 
 /// A plain channel, with the cases of one on a disk.
 pub fn plain(alloc: Global, passes: u32) -> Opened<Machine>
-    ensures { IfSome result (λ r. All (λ p. p.table_id ≡ r.0.turn.table.shared.table_id) r.1.items) }
+    ensures { IfSome result (λ r. All (λ p. p.table_id ≡ r.0.turn.table.shared.table_id)
+        r.1.items) }
 {
     match Machine::new(alloc, LIMITS, Kind::File) {
         Ok(channel) => share_machine(alloc, channel, LIMITS, passes),
@@ -41,7 +43,8 @@ fn share_in_memory(
 ) -> Opened<MemoryChannel>
     ghost start: { Opening }
     requires { StandsAs channel start [] }
-    ensures { IfSome result (λ r. All (λ p. p.table_id ≡ r.0.turn.table.shared.table_id) r.1.items) }
+    ensures { IfSome result (λ r. All (λ p. p.table_id ≡ r.0.turn.table.shared.table_id)
+        r.1.items) }
 {
     let _ = limits;
     match Shared::new(alloc, channel, passes) {
@@ -52,7 +55,8 @@ fn share_in_memory(
 
 /// A channel in memory.
 pub fn in_memory(alloc: Global, passes: u32) -> Opened<MemoryChannel>
-    ensures { IfSome result (λ r. All (λ p. p.table_id ≡ r.0.turn.table.shared.table_id) r.1.items) }
+    ensures { IfSome result (λ r. All (λ p. p.table_id ≡ r.0.turn.table.shared.table_id)
+        r.1.items) }
 {
     match MemoryChannel::new(alloc, LIMITS) {
         Ok(channel) => share_in_memory(alloc, channel, LIMITS, passes),

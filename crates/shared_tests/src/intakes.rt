@@ -74,17 +74,21 @@ fn both<C: Channel + Drop + Send, R: Threads + Wait + Sync>(
     other: &Shared<C>,
     passes: ((Pass, Pass), (Pass, Pass)),
 ) -> u32
-    requires a { (passes.0.0.table_id ≡ one.now.turn.table.shared.table_id) × (passes.0.1.table_id ≡ one.now.turn.table.shared.table_id) }
-    requires b { (passes.1.0.table_id ≡ other.now.turn.table.shared.table_id) × (passes.1.1.table_id ≡ other.now.turn.table.shared.table_id) }
+    requires a { (passes.0.0.table_id ≡ one.now.turn.table.shared.table_id) ×
+        (passes.0.1.table_id ≡ one.now.turn.table.shared.table_id) }
+    requires b { (passes.1.0.table_id ≡ other.now.turn.table.shared.table_id) ×
+        (passes.1.1.table_id ≡ other.now.turn.table.shared.table_id) }
 {
     let ((a, b), (c, d)) = passes;
     let (first, second) = join(
         rt,
         move || -> u32
-            requires { (a.table_id ≡ one.now.turn.table.shared.table_id) × (c.table_id ≡ other.now.turn.table.shared.table_id) }
+            requires { (a.table_id ≡ one.now.turn.table.shared.table_id) ×
+                (c.table_id ≡ other.now.turn.table.shared.table_id) }
         { accepted(rt, alloc, (one, a), (other, c), 0) },
         move || -> u32
-            requires { (b.table_id ≡ one.now.turn.table.shared.table_id) × (d.table_id ≡ other.now.turn.table.shared.table_id) }
+            requires { (b.table_id ≡ one.now.turn.table.shared.table_id) ×
+                (d.table_id ≡ other.now.turn.table.shared.table_id) }
         { accepted(rt, alloc, (one, b), (other, d), 1000) },
     );
     first.saturating_add(second)
@@ -100,8 +104,10 @@ fn held<C: Channel + Drop, R: Wait>(rt: &R, shared: Shared<C>, pass: Pass) -> u6
 
 // A channel that was shared, with two of its passes, and one more.
 fn with_three<C: Channel + Drop>(opened: Opened<C>) -> Option<(Shared<C>, (Pass, Pass), Pass)>
-    requires { IfSome opened (λ r. All (λ p. p.table_id ≡ r.0.turn.table.shared.table_id) r.1.items) }
-    ensures both { IfSome result (λ r. (r.1.0.table_id ≡ r.0.turn.table.shared.table_id) × (r.1.1.table_id ≡ r.0.turn.table.shared.table_id)) }
+    requires { IfSome opened (λ r. All (λ p. p.table_id ≡ r.0.turn.table.shared.table_id)
+        r.1.items) }
+    ensures both { IfSome result (λ r. (r.1.0.table_id ≡ r.0.turn.table.shared.table_id) ×
+        (r.1.1.table_id ≡ r.0.turn.table.shared.table_id)) }
     ensures other { IfSome result (λ r. r.2.table_id ≡ r.0.turn.table.shared.table_id) }
 {
     let (shared, mut passes) = opened?;
@@ -117,8 +123,10 @@ fn counted<C: Channel + Drop + Send, R: Threads + Wait + Sync>(
     one: Opened<C>,
     other: Opened<C>,
 ) -> Option<(u32, u64, u64)>
-    requires one { IfSome one (λ r. All (λ p. p.table_id ≡ r.0.turn.table.shared.table_id) r.1.items) }
-    requires other { IfSome other (λ r. All (λ p. p.table_id ≡ r.0.turn.table.shared.table_id) r.1.items) }
+    requires one { IfSome one (λ r. All (λ p. p.table_id ≡ r.0.turn.table.shared.table_id)
+        r.1.items) }
+    requires other { IfSome other (λ r. All (λ p. p.table_id ≡ r.0.turn.table.shared.table_id)
+        r.1.items) }
 {
     match (with_three(one), with_three(other)) {
         (Some((one, a, c)), Some((other, b, d))) => {

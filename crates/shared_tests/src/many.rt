@@ -18,7 +18,8 @@ type Four = ((Pass, Pass), (Pass, Pass));
 
 // The work of both.
 fn both<C: Channel>(shared: &Shared<C>, one: Work, other: Work) -> Work
-    requires { (one.pass.table_id ≡ shared.now.turn.table.shared.table_id) × (other.pass.table_id ≡ shared.now.turn.table.shared.table_id) }
+    requires { (one.pass.table_id ≡ shared.now.turn.table.shared.table_id) ×
+        (other.pass.table_id ≡ shared.now.turn.table.shared.table_id) }
     ensures { result.pass.table_id ≡ one.pass.table_id }
 {
     let Work {
@@ -44,7 +45,8 @@ fn two<C: Channel + Drop + Send, R: Threads + Wait + Sync>(
     passes: (Pass, Pass),
     first: u64,
 ) -> Work
-    requires { (passes.0.table_id ≡ shared.now.turn.table.shared.table_id) × (passes.1.table_id ≡ shared.now.turn.table.shared.table_id) }
+    requires { (passes.0.table_id ≡ shared.now.turn.table.shared.table_id) ×
+        (passes.1.table_id ≡ shared.now.turn.table.shared.table_id) }
     ensures { result.pass.table_id ≡ shared.now.turn.table.shared.table_id }
 {
     let (a, b) = passes;
@@ -70,18 +72,22 @@ fn four<C: Channel + Drop + Send, R: Threads + Wait + Sync>(
     other: (Pass, Pass),
     first: u64,
 ) -> Work
-    requires one { (one.0.table_id ≡ shared.now.turn.table.shared.table_id) × (one.1.table_id ≡ shared.now.turn.table.shared.table_id) }
-    requires other { (other.0.table_id ≡ shared.now.turn.table.shared.table_id) × (other.1.table_id ≡ shared.now.turn.table.shared.table_id) }
+    requires one { (one.0.table_id ≡ shared.now.turn.table.shared.table_id) ×
+        (one.1.table_id ≡ shared.now.turn.table.shared.table_id) }
+    requires other { (other.0.table_id ≡ shared.now.turn.table.shared.table_id) ×
+        (other.1.table_id ≡ shared.now.turn.table.shared.table_id) }
     ensures { result.pass.table_id ≡ shared.now.turn.table.shared.table_id }
 {
     let (a, b) = join(
         rt,
         move || -> Work
-            requires { (one.0.table_id ≡ shared.now.turn.table.shared.table_id) × (one.1.table_id ≡ shared.now.turn.table.shared.table_id) }
+            requires { (one.0.table_id ≡ shared.now.turn.table.shared.table_id) ×
+                (one.1.table_id ≡ shared.now.turn.table.shared.table_id) }
             ensures { result.pass.table_id ≡ shared.entry.now.turn.table.shared.table_id }
         { two(rt, alloc, shared, one, first) },
         move || -> Work
-            requires { (other.0.table_id ≡ shared.now.turn.table.shared.table_id) × (other.1.table_id ≡ shared.now.turn.table.shared.table_id) }
+            requires { (other.0.table_id ≡ shared.now.turn.table.shared.table_id) ×
+                (other.1.table_id ≡ shared.now.turn.table.shared.table_id) }
             ensures { result.pass.table_id ≡ shared.entry.now.turn.table.shared.table_id }
         { two(rt, alloc, shared, other, first.wrapping_add(10_000)) },
     );
@@ -91,7 +97,8 @@ fn four<C: Channel + Drop + Send, R: Threads + Wait + Sync>(
 /// The last pass of those that are left.
 pub fn last<C: Channel>(shared: &Shared<C>, passes: &mut Vec<Pass>) -> Option<Pass>
     requires { All (λ p. p.table_id ≡ shared.now.turn.table.shared.table_id) passes.old.items }
-    ensures { All (λ p. p.table_id ≡ shared.now.turn.table.shared.table_id) passes.new.items × IfSome result (λ p. p.table_id ≡ shared.now.turn.table.shared.table_id) }
+    ensures { All (λ p. p.table_id ≡ shared.now.turn.table.shared.table_id) passes.new.items ×
+        IfSome result (λ p. p.table_id ≡ shared.now.turn.table.shared.table_id) }
 {
     let _ = shared;
     passes.pop()
@@ -101,7 +108,8 @@ pub fn last<C: Channel>(shared: &Shared<C>, passes: &mut Vec<Pass>) -> Option<Pa
 pub fn pair<C: Channel>(shared: &Shared<C>, passes: &mut Vec<Pass>) -> Option<(Pass, Pass)>
     requires { All (λ p. p.table_id ≡ shared.now.turn.table.shared.table_id) passes.old.items }
     ensures left { All (λ p. p.table_id ≡ shared.now.turn.table.shared.table_id) passes.new.items }
-    ensures pair { IfSome result (λ r. (r.0.table_id ≡ shared.now.turn.table.shared.table_id) × (r.1.table_id ≡ shared.now.turn.table.shared.table_id)) }
+    ensures pair { IfSome result (λ r. (r.0.table_id ≡ shared.now.turn.table.shared.table_id) ×
+        (r.1.table_id ≡ shared.now.turn.table.shared.table_id)) }
 {
     let one = last(shared, passes)?;
     let other = last(shared, passes)?;
@@ -112,8 +120,10 @@ pub fn pair<C: Channel>(shared: &Shared<C>, passes: &mut Vec<Pass>) -> Option<(P
 fn fours<C: Channel>(shared: &Shared<C>, passes: &mut Vec<Pass>) -> Option<Four>
     requires { All (λ p. p.table_id ≡ shared.now.turn.table.shared.table_id) passes.old.items }
     ensures left { All (λ p. p.table_id ≡ shared.now.turn.table.shared.table_id) passes.new.items }
-    ensures one { IfSome result (λ r. (r.0.0.table_id ≡ shared.now.turn.table.shared.table_id) × (r.0.1.table_id ≡ shared.now.turn.table.shared.table_id)) }
-    ensures other { IfSome result (λ r. (r.1.0.table_id ≡ shared.now.turn.table.shared.table_id) × (r.1.1.table_id ≡ shared.now.turn.table.shared.table_id)) }
+    ensures one { IfSome result (λ r. (r.0.0.table_id ≡ shared.now.turn.table.shared.table_id) ×
+        (r.0.1.table_id ≡ shared.now.turn.table.shared.table_id)) }
+    ensures other { IfSome result (λ r. (r.1.0.table_id ≡ shared.now.turn.table.shared.table_id) ×
+        (r.1.1.table_id ≡ shared.now.turn.table.shared.table_id)) }
 {
     let one = pair(shared, passes)?;
     let other = pair(shared, passes)?;
@@ -184,7 +194,8 @@ fn two_are_whole<C: Channel + Drop + Send, R: Threads + Wait + Sync>(
     alloc: Global,
     opened: Opened<C>,
 ) -> bool
-    requires { IfSome opened (λ r. All (λ p. p.table_id ≡ r.0.turn.table.shared.table_id) r.1.items) }
+    requires { IfSome opened (λ r. All (λ p. p.table_id ≡ r.0.turn.table.shared.table_id)
+        r.1.items) }
 {
     let Some((shared, mut passes)) = opened else {
         return false;
@@ -205,10 +216,14 @@ fn eight<C: Channel + Drop + Send, R: Threads + Wait + Sync>(
     one: Four,
     other: Four,
 ) -> Work
-    requires a { (one.0.0.table_id ≡ shared.now.turn.table.shared.table_id) × (one.0.1.table_id ≡ shared.now.turn.table.shared.table_id) }
-    requires b { (one.1.0.table_id ≡ shared.now.turn.table.shared.table_id) × (one.1.1.table_id ≡ shared.now.turn.table.shared.table_id) }
-    requires c { (other.0.0.table_id ≡ shared.now.turn.table.shared.table_id) × (other.0.1.table_id ≡ shared.now.turn.table.shared.table_id) }
-    requires d { (other.1.0.table_id ≡ shared.now.turn.table.shared.table_id) × (other.1.1.table_id ≡ shared.now.turn.table.shared.table_id) }
+    requires a { (one.0.0.table_id ≡ shared.now.turn.table.shared.table_id) ×
+        (one.0.1.table_id ≡ shared.now.turn.table.shared.table_id) }
+    requires b { (one.1.0.table_id ≡ shared.now.turn.table.shared.table_id) ×
+        (one.1.1.table_id ≡ shared.now.turn.table.shared.table_id) }
+    requires c { (other.0.0.table_id ≡ shared.now.turn.table.shared.table_id) ×
+        (other.0.1.table_id ≡ shared.now.turn.table.shared.table_id) }
+    requires d { (other.1.0.table_id ≡ shared.now.turn.table.shared.table_id) ×
+        (other.1.1.table_id ≡ shared.now.turn.table.shared.table_id) }
     ensures { result.pass.table_id ≡ shared.now.turn.table.shared.table_id }
 {
     let (a, b) = one;
@@ -216,13 +231,17 @@ fn eight<C: Channel + Drop + Send, R: Threads + Wait + Sync>(
     let (first, second) = join(
         rt,
         move || -> Work
-            requires one { (a.0.table_id ≡ shared.now.turn.table.shared.table_id) × (a.1.table_id ≡ shared.now.turn.table.shared.table_id) }
-            requires other { (b.0.table_id ≡ shared.now.turn.table.shared.table_id) × (b.1.table_id ≡ shared.now.turn.table.shared.table_id) }
+            requires one { (a.0.table_id ≡ shared.now.turn.table.shared.table_id) ×
+                (a.1.table_id ≡ shared.now.turn.table.shared.table_id) }
+            requires other { (b.0.table_id ≡ shared.now.turn.table.shared.table_id) ×
+                (b.1.table_id ≡ shared.now.turn.table.shared.table_id) }
             ensures { result.pass.table_id ≡ shared.entry.now.turn.table.shared.table_id }
         { four(rt, alloc, shared, a, b, 0) },
         move || -> Work
-            requires one { (c.0.table_id ≡ shared.now.turn.table.shared.table_id) × (c.1.table_id ≡ shared.now.turn.table.shared.table_id) }
-            requires other { (d.0.table_id ≡ shared.now.turn.table.shared.table_id) × (d.1.table_id ≡ shared.now.turn.table.shared.table_id) }
+            requires one { (c.0.table_id ≡ shared.now.turn.table.shared.table_id) ×
+                (c.1.table_id ≡ shared.now.turn.table.shared.table_id) }
+            requires other { (d.0.table_id ≡ shared.now.turn.table.shared.table_id) ×
+                (d.1.table_id ≡ shared.now.turn.table.shared.table_id) }
             ensures { result.pass.table_id ≡ shared.entry.now.turn.table.shared.table_id }
         { four(rt, alloc, shared, c, d, 100_000) },
     );
@@ -249,7 +268,8 @@ fn eight_are_whole<C: Channel + Drop + Send, R: Threads + Wait + Sync>(
     alloc: Global,
     opened: Opened<C>,
 ) -> bool
-    requires { IfSome opened (λ r. All (λ p. p.table_id ≡ r.0.turn.table.shared.table_id) r.1.items) }
+    requires { IfSome opened (λ r. All (λ p. p.table_id ≡ r.0.turn.table.shared.table_id)
+        r.1.items) }
 {
     let Some((shared, mut passes)) = opened else {
         return false;

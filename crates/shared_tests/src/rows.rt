@@ -249,7 +249,8 @@ fn made_by<C: Channel, R: Wait>(
     by: &str,
     call: Call<'_>,
 ) -> Said
-    requires { (a.old.table_id ≡ shared.now.turn.table.shared.table_id) × (b.old.table_id ≡ shared.now.turn.table.shared.table_id) }
+    requires { (a.old.table_id ≡ shared.now.turn.table.shared.table_id) ×
+        (b.old.table_id ≡ shared.now.turn.table.shared.table_id) }
     ensures { (a.new.table_id ≡ a.old.table_id) × (b.new.table_id ≡ b.old.table_id) }
 {
     match by {
@@ -267,7 +268,8 @@ fn holds<C: Channel, R: Wait>(
     b: &mut Pass,
     line: &str,
 ) -> bool
-    requires { (a.old.table_id ≡ shared.now.turn.table.shared.table_id) × (b.old.table_id ≡ shared.now.turn.table.shared.table_id) }
+    requires { (a.old.table_id ≡ shared.now.turn.table.shared.table_id) ×
+        (b.old.table_id ≡ shared.now.turn.table.shared.table_id) }
     ensures { (a.new.table_id ≡ a.old.table_id) × (b.new.table_id ≡ b.old.table_id) }
 {
     let (by, rest) = word_and_rest(line);
@@ -284,7 +286,8 @@ fn first_wrong<C: Channel, R: Wait>(
     mut b: Pass,
     lines: &'static str,
 ) -> &'static str
-    requires { (a.table_id ≡ shared.now.turn.table.shared.table_id) × (b.table_id ≡ shared.now.turn.table.shared.table_id) }
+    requires { (a.table_id ≡ shared.now.turn.table.shared.table_id) ×
+        (b.table_id ≡ shared.now.turn.table.shared.table_id) }
 {
     for line in lines.lines() {
         if !holds(rt, alloc, shared, &mut a, &mut b, line) {
@@ -301,7 +304,8 @@ fn first_wrong_in<C: Channel + Drop, R: Wait>(
     opened: Opened<C>,
     lines: &'static str,
 ) -> &'static str
-    requires { IfSome opened (λ r. All (λ p. p.table_id ≡ r.0.turn.table.shared.table_id) r.1.items) }
+    requires { IfSome opened (λ r. All (λ p. p.table_id ≡ r.0.turn.table.shared.table_id)
+        r.1.items) }
 {
     let Some((shared, mut passes)) = opened else {
         return "no channel";
@@ -321,7 +325,8 @@ const TWO: Limits = Limits {
 
 // A channel in a new folder, with two passes.
 fn on_disk(alloc: Global, limits: Limits) -> Opened<FileChannel<MemDisk>>
-    ensures { IfSome result (λ r. All (λ p. p.table_id ≡ r.0.turn.table.shared.table_id) r.1.items) }
+    ensures { IfSome result (λ r. All (λ p. p.table_id ≡ r.0.turn.table.shared.table_id)
+        r.1.items) }
 {
     on_disk_by::<MemDisk, Brand>(alloc, Blank::new(1), MemDisk::new(alloc), limits, 2)
 }

@@ -33,7 +33,8 @@ fn share_opened<D: Disk + Drop>(
 ) -> Opened<FileChannel<D>>
     ghost start: { Opening }
     requires { IsOpenedAt (D.told channel.0) (D.faults channel.0) channel.1 start }
-    ensures { IfSome result (λ r. All (λ p. p.table_id ≡ r.0.turn.table.shared.table_id) r.1.items) }
+    ensures { IfSome result (λ r. All (λ p. p.table_id ≡ r.0.turn.table.shared.table_id)
+        r.1.items) }
 {
     let _ = before;
     let _ = limits;
@@ -54,7 +55,8 @@ pub fn on_disk_by<D: Disk + Drop, L: Ledger>(
     requires name { blank.name ≡ L.name }
     requires parts { blank.parts ≡ L.parts }
     requires some { 0 < L.parts }
-    ensures { IfSome result (λ r. All (λ p. p.table_id ≡ r.0.turn.table.shared.table_id) r.1.items) }
+    ensures { IfSome result (λ r. All (λ p. p.table_id ≡ r.0.turn.table.shared.table_id)
+        r.1.items) }
 {
     let mut steps = Steps::<L>::new(blank);
     let before = Snapshot::of(&disk);
@@ -66,7 +68,8 @@ pub fn on_disk_by<D: Disk + Drop, L: Ledger>(
 
 /// One in a folder of this disk.
 pub fn on_disk(alloc: Global, disk: MemDisk, passes: u32) -> Opened<FileChannel<MemDisk>>
-    ensures { IfSome result (λ r. All (λ p. p.table_id ≡ r.0.turn.table.shared.table_id) r.1.items) }
+    ensures { IfSome result (λ r. All (λ p. p.table_id ≡ r.0.turn.table.shared.table_id)
+        r.1.items) }
 {
     on_disk_by::<MemDisk, Brand>(alloc, Blank::new(1), disk, LIMITS, passes)
 }

@@ -46,7 +46,8 @@ fn both_staged<R: Wait>(
     b: &mut Pass,
     event: &Event,
 ) -> Option<(Ticket, Ticket)>
-    requires { (a.old.table_id ≡ shared.now.turn.table.shared.table_id) × (b.old.table_id ≡ shared.now.turn.table.shared.table_id) }
+    requires { (a.old.table_id ≡ shared.now.turn.table.shared.table_id) ×
+        (b.old.table_id ≡ shared.now.turn.table.shared.table_id) }
     ensures { (a.new.table_id ≡ a.old.table_id) × (b.new.table_id ≡ b.old.table_id) }
 {
     let one = stage(rt, shared, a, event)?;
@@ -62,7 +63,8 @@ fn one_flush_settles<R: Wait>(
     b: &mut Pass,
     tickets: &(Ticket, Ticket),
 ) -> bool
-    requires { (a.old.table_id ≡ shared.now.turn.table.shared.table_id) × (b.old.table_id ≡ shared.now.turn.table.shared.table_id) }
+    requires { (a.old.table_id ≡ shared.now.turn.table.shared.table_id) ×
+        (b.old.table_id ≡ shared.now.turn.table.shared.table_id) }
     ensures { (a.new.table_id ≡ a.old.table_id) × (b.new.table_id ≡ b.old.table_id) }
 {
     let before = shared.settled(rt, b, &tickets.1);
@@ -74,7 +76,8 @@ fn one_flush_settles<R: Wait>(
 
 // How many syncs the disk of a channel made, whose passes are these.
 fn syncs_of<R: Wait>(rt: &R, shared: OnDisk, a: Pass, b: Pass) -> u64
-    requires { (a.table_id ≡ shared.turn.table.shared.table_id) × (b.table_id ≡ shared.turn.table.shared.table_id) }
+    requires { (a.table_id ≡ shared.turn.table.shared.table_id) ×
+        (b.table_id ≡ shared.turn.table.shared.table_id) }
 {
     let mut a = a;
     shared.join_pass(&mut a, b);
@@ -101,7 +104,8 @@ pub fn put_by_port<C: Channel, R: Wait>(
 
 /// A channel that was shared, with one of its passes.
 pub fn with_pass<C: Channel + Drop>(opened: Opened<C>) -> Option<(Shared<C>, Pass)>
-    requires { IfSome opened (λ r. All (λ p. p.table_id ≡ r.0.turn.table.shared.table_id) r.1.items) }
+    requires { IfSome opened (λ r. All (λ p. p.table_id ≡ r.0.turn.table.shared.table_id)
+        r.1.items) }
     ensures { IfSome result (λ r. r.1.table_id ≡ r.0.turn.table.shared.table_id) }
 {
     let (shared, mut passes) = opened?;
@@ -118,7 +122,8 @@ pub fn one_on(alloc: Global, disk: MemDisk) -> Option<(OnDisk, Pass)>
 
 // The same with two passes.
 fn two_on(alloc: Global, disk: MemDisk) -> Option<(OnDisk, Pass, Pass)>
-    ensures { IfSome result (λ r. (r.1.table_id ≡ r.0.turn.table.shared.table_id) × (r.2.table_id ≡ r.0.turn.table.shared.table_id)) }
+    ensures { IfSome result (λ r. (r.1.table_id ≡ r.0.turn.table.shared.table_id) ×
+        (r.2.table_id ≡ r.0.turn.table.shared.table_id)) }
 {
     let (shared, mut passes) = on_disk(alloc, disk, 2)?;
     let (b, a) = pair(&shared, &mut passes)?;
@@ -133,7 +138,8 @@ fn syncs_of_a_flush<R: Wait>(
     mut b: Pass,
     event: &Event,
 ) -> Option<u64>
-    requires { (a.table_id ≡ shared.turn.table.shared.table_id) × (b.table_id ≡ shared.turn.table.shared.table_id) }
+    requires { (a.table_id ≡ shared.turn.table.shared.table_id) ×
+        (b.table_id ≡ shared.turn.table.shared.table_id) }
 {
     let tickets = both_staged(rt, &shared, &mut a, &mut b, event)?;
     if one_flush_settles(rt, &shared, &mut a, &mut b, &tickets) {
@@ -165,7 +171,8 @@ fn syncs_of_a_port<R: Wait>(
     b: Pass,
     event: &Event,
 ) -> Option<u64>
-    requires { (a.table_id ≡ shared.turn.table.shared.table_id) × (b.table_id ≡ shared.turn.table.shared.table_id) }
+    requires { (a.table_id ≡ shared.turn.table.shared.table_id) ×
+        (b.table_id ≡ shared.turn.table.shared.table_id) }
 {
     let one = stage(rt, &shared, &mut a, event)?;
     let (b, reply) = put_by_port(rt, alloc, &shared, b);

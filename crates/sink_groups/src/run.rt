@@ -38,7 +38,8 @@ impl<S: EventSink> GroupRun<S> {
         requires few { length members.items < 2 ^ 32 }
         requires single { rules.kind ≡ GroupKind.Single → length members.items ≡ 1 }
         requires priorities { length rules.priorities.items ≡ length members.items }
-        ensures group { IfOk result (λ run. IsNew rules.kind rules.priorities.items rules.penalty rules.backoff run.schedule) }
+        ensures group { IfOk result (λ run. IsNew rules.kind rules.priorities.items rules.penalty
+            rules.backoff run.schedule) }
         ensures members { IfOk result (λ run. run.members ≡ members) }
     {
         match Schedule::new(alloc, &rules) {
@@ -82,8 +83,11 @@ impl<S: EventSink> GroupRun<S> {
 
     /// The member that is to be tried next, or none. It takes no memory.
     pub fn next(&mut self) -> Option<u32>
-        ensures group { self.new.schedule ≡ record self.old.schedule { due = self.new.schedule.due } }
-        ensures next { MatchOption result ((self.old.schedule.due ≡ []) × (self.new.schedule.due ≡ [])) (λ member. self.old.schedule.due ≡ member ∷ self.new.schedule.due) }
+        ensures group { self.new.schedule ≡ record self.old.schedule
+            { due = self.new.schedule.due } }
+        ensures next { MatchOption result ((self.old.schedule.due ≡ []) ×
+            (self.new.schedule.due ≡ [])) (λ member. self.old.schedule.due ≡ member ∷
+            self.new.schedule.due) }
         ensures members { self.new.members ≡ self.old.members }
     {
         self.schedule.next()
@@ -101,8 +105,10 @@ impl<S: EventSink> GroupRun<S> {
 
     // Tries the members that are due.
     fn try_members(&mut self, batch: &Batch, now: u64) -> Result<u32, SinkRefused>
-        ensures tries { Tries S.delivers batch.now now self.old.schedule self.old.members.items result self.new.schedule self.new.members.items }
-        ensures later { sum_by S.faults self.old.members.items ≤ sum_by S.faults self.new.members.items }
+        ensures tries { Tries S.delivers batch.now now self.old.schedule self.old.members.items
+            result self.new.schedule self.new.members.items }
+        ensures later { sum_by S.faults self.old.members.items ≤ sum_by S.faults
+            self.new.members.items }
     {
         while let Some(member) = self.schedule.next() {
             match self.members[member as usize].deliver(batch, now) {
@@ -121,7 +127,8 @@ impl<S: EventSink> GroupRun<S> {
     /// member that was not left alone at this moment was tried and refused it. A member that is out of memory is no failure, and
     /// ends the delivery.
     pub fn deliver(&mut self, batch: &Batch, now: u64, draw: u64) -> Result<u32, GroupRefused>
-        ensures { Delivers S.delivers batch.now now draw self.old.schedule self.old.members.items result self.new.schedule self.new.members.items }
+        ensures { Delivers S.delivers batch.now now draw self.old.schedule self.old.members.items
+            result self.new.schedule self.new.members.items }
     {
         let Ok(mut tried) = Vec::with_capacity(self.alloc, self.schedule.len()) else {
             return Err(GroupRefused::NoMemory);
@@ -142,8 +149,10 @@ impl<S: EventSink> GroupRun<S> {
         now: u64,
         draw: u64,
     ) -> Result<u32, SinkRefused>
-        ensures tries { Tries S.delivers batch.now now (started self.old.schedule now draw) self.old.members.items result self.new.schedule self.new.members.items }
-        ensures later { sum_by S.faults self.old.members.items ≤ sum_by S.faults self.new.members.items }
+        ensures tries { Tries S.delivers batch.now now (started self.old.schedule now draw)
+            self.old.members.items result self.new.schedule self.new.members.items }
+        ensures later { sum_by S.faults self.old.members.items ≤ sum_by S.faults
+            self.new.members.items }
     {
         self.schedule.start(now, draw);
         self.try_members(batch, now)

@@ -30,9 +30,20 @@ impl Model for Schedule {
 
     ghost Value = { Group };
 
-    ghost view = { λ s. record { kind = s.kind; penalty = s.penalty; backoff = s.backoff; ranking = s.ranking.items; members = s.members.items; turn = s.turn; due = drop s.given s.order.items } };
+    ghost view = { λ s. record {
+      kind = s.kind;
+      penalty = s.penalty;
+      backoff = s.backoff;
+      ranking =
+          s.ranking.items;
+      members = s.members.items;
+      turn = s.turn;
+      due = drop s.given
+          s.order.items;
+    } };
 
-    ghost invariant = { λ s. IsSchedule s.ranking.items s.members.items s.turn s.order.items (vec_capacity s.order) };
+    ghost invariant = { λ s. IsSchedule s.ranking.items s.members.items s.turn s.order.items
+        (vec_capacity s.order) };
 }
 
 // Whether members that failed are left alone for a time.
@@ -73,7 +84,8 @@ fn turn_after(kind: GroupKind, turn: usize, count: usize) -> usize
 fn add_due(order: &mut Vec<u32>, ranked: &[u32], members: &[Standing], now: u64)
     requires within { All (λ member. member < length members.now) ranked.now }
     requires room { vec_len order.old + length ranked.now ≤ vec_capacity order.old }
-    ensures added { order.new.items ≡ order.old.items ++ filter (is_due members.now now) ranked.now }
+    ensures added { order.new.items ≡ order.old.items ++ filter (is_due members.now now)
+        ranked.now }
     ensures few { vec_len order.new ≤ vec_len order.old + length ranked.now }
     ensures room { vec_capacity order.new ≡ vec_capacity order.old }
 {
@@ -89,7 +101,8 @@ impl Schedule {
     pub fn new(alloc: Global, rules: &GroupRules) -> Result<Schedule, AllocError>
         requires some { 0 < length rules.now.priorities.items }
         requires few { length rules.now.priorities.items < 2 ^ 32 }
-        ensures { IfOk result (IsNew rules.now.kind rules.now.priorities.items rules.now.penalty rules.now.backoff) }
+        ensures { IfOk result (IsNew rules.now.kind rules.now.priorities.items rules.now.penalty
+            rules.now.backoff) }
     {
         let count = rules.priorities.len();
         let ranking = ranking_of(alloc, rules.kind, &rules.priorities)?;
@@ -126,7 +139,8 @@ impl Schedule {
     /// The member that is to be tried next, or none. It takes no memory.
     pub fn next(&mut self) -> Option<u32>
         ensures same { self.new ≡ record self.old { due = self.new.due } }
-        ensures next { MatchOption result ((self.old.due ≡ []) × (self.new.due ≡ [])) (λ member. self.old.due ≡ member ∷ self.new.due) }
+        ensures next { MatchOption result ((self.old.due ≡ []) × (self.new.due ≡ []))
+            (λ member. self.old.due ≡ member ∷ self.new.due) }
         ensures within { IfSome result (λ member. member < length self.new.members) }
     {
         let member = *self.order.get(self.given)?;

@@ -45,7 +45,9 @@ impl<S: EventSink, N: Random + Drop> GroupSink<S, N> {
 impl<S: EventSink, N: Random + Drop> EventSink for GroupSink<S, N> {
     ghost use Rattle.std.specs.Prelude.{ℕ};
 
-    ghost delivers = { λ s batch moment result t. (draw : ℕ) × Gives draw (N.draws s.random) (N.draws t.random) × SinkDelivers S.delivers batch moment draw s.run.schedule s.run.members.items s.failed result t.run.schedule t.run.members.items t.failed };
+    ghost delivers = { λ s batch moment result t. (draw : ℕ) × Gives draw (N.draws s.random)
+        (N.draws t.random) × SinkDelivers S.delivers batch moment draw s.run.schedule
+        s.run.members.items s.failed result t.run.schedule t.run.members.items t.failed };
 
     ghost faults = { λ s. min (sum_by S.faults s.run.members.items + s.failed) (2 ^ 64 - 1) };
 

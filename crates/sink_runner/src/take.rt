@@ -20,7 +20,8 @@ pub fn take_events<T: TakeFace>(
     taken: &mut Batch,
 ) -> Result<(), Turn>
     requires { taken.old ≡ [] }
-    ensures calls { Gains (T.own from.old) (T.own from.new) (λ earlier. IsTaking (T.seen from.new) txn.old most taken.new result) }
+    ensures calls { Gains (T.own from.old) (T.own from.new)
+        (λ earlier. IsTaking (T.seen from.new) txn.old most taken.new result) }
     ensures seen { T.seen from.old ≤ T.seen from.new }
     ensures kept { T.kept from.old from.new }
     ensures same { txn.new ≡ txn.old }

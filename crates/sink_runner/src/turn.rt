@@ -70,7 +70,8 @@ fn not_delivered(refused: SinkRefused) -> Turn
 
 // Rolls the transaction back, and ends the turn so.
 fn give_up<T: TakeFace>(from: &mut T, txn: TakeTxn, turn: Turn) -> Turn
-    ensures calls { Gains (T.own from.old) (T.own from.new) (IsTakeRolledBack (T.saw from.new) txn) }
+    ensures calls { Gains (T.own from.old) (T.own from.new)
+        (IsTakeRolledBack (T.saw from.new) txn) }
     ensures seen { T.seen from.old ≤ T.seen from.new }
     ensures kept { T.kept from.old from.new }
     ensures turn { result ≡ turn }
@@ -89,7 +90,9 @@ fn hand_over<T: TakeFace, S: EventSink>(
     moment: u64,
 ) -> Turn
     requires { length taken.now < 2 ^ 32 }
-    ensures calls { Gains (T.own from.old) (T.own from.new) (IsHandedOver (T.saw from.new) (T.seen from.new) S.delivers txn taken.now moment sink.old result sink.new) }
+    ensures calls { Gains (T.own from.old) (T.own from.new)
+        (IsHandedOver (T.saw from.new) (T.seen from.new) S.delivers txn taken.now moment sink.old
+        result sink.new) }
     ensures seen { T.seen from.old ≤ T.seen from.new }
     ensures kept { T.kept from.old from.new }
     ensures cause { IsSinkFailure result → Rose (S.faults sink.old) (S.faults sink.new) }
@@ -123,7 +126,9 @@ pub fn drain_turn<T: TakeFace, S: EventSink>(
     moment: u64,
 ) -> Turn
     requires { 1 ≤ batch }
-    ensures calls { Gains (T.own from.old) (T.own from.new) (IsTurn (T.saw from.new) (T.seen from.new) S.delivers batch moment sink.old result sink.new) }
+    ensures calls { Gains (T.own from.old) (T.own from.new)
+        (IsTurn (T.saw from.new) (T.seen from.new) S.delivers batch moment sink.old result
+        sink.new) }
     ensures seen { T.seen from.old ≤ T.seen from.new }
     ensures kept { T.kept from.old from.new }
     ensures cause { IsSinkFailure result → Rose (S.faults sink.old) (S.faults sink.new) }

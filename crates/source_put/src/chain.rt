@@ -143,7 +143,8 @@ fn pass_event<B: Interceptor>(
 impl<B: Interceptor> Chain<B> {
     // An event passes the interceptors.
     fn pass_one(&mut self, event: Event, moment: u64, host: &HostNames) -> Passed
-        ensures { Passes B.intercepts moment host.now self.old.links.items event result self.new.links.items }
+        ensures { Passes B.intercepts moment host.now self.old.links.items event result
+            self.new.links.items }
     {
         pass_event(self.links.as_mut_slice(), event, moment, host)
     }
@@ -156,7 +157,8 @@ impl<B: Interceptor> Chain<B> {
         moment: u64,
         host: &HostNames,
     ) -> Result<Batch, Stopped>
-        ensures { Intercepts B.intercepts moment host.now self.old.links.items batch result self.new.links.items }
+        ensures { Intercepts B.intercepts moment host.now self.old.links.items batch result
+            self.new.links.items }
     {
         let mut left = batch;
         let mut kept = Batch::new(alloc);

@@ -83,7 +83,8 @@ impl<F: PutFace + Drop, B: Interceptor> Intake<F, B> {
     ) -> Result<Intake<F, B>, NoMemory>
         requires few { length ports.items < 2 ^ 32 }
         requires named { NamesBelow selector (length ports.items) }
-        ensures { IsOkAnd result (λ intake. (intake.chain ≡ chain) × (intake.selector ≡ selector) × (intake.host ≡ host) × (intake.ports ≡ ports.items)) }
+        ensures { IsOkAnd result (λ intake. (intake.chain ≡ chain) × (intake.selector ≡ selector) ×
+            (intake.host ≡ host) × (intake.ports ≡ ports.items)) }
     {
         Ok(Intake {
             alloc,
@@ -97,8 +98,11 @@ impl<F: PutFace + Drop, B: Interceptor> Intake<F, B> {
     // The verdict on events that passed the chain.
     fn give(&mut self, batch: &Batch) -> Verdict
         requires { length batch.now < 2 ^ 32 }
-        ensures gives { Gives (Puts F.own F.saw F.seen F.kept) self.old.selector batch.now self.old.ports self.new.ports result ⊎ ((result ≡ Verdict.NoMemory) × (self.new.ports ≡ self.old.ports)) }
-        ensures same { (self.new.selector ≡ self.old.selector) × (self.new.host ≡ self.old.host) × (self.new.chain ≡ self.old.chain) }
+        ensures gives { Gives (Puts F.own F.saw F.seen F.kept) self.old.selector batch.now
+            self.old.ports self.new.ports result ⊎ ((result ≡ Verdict.NoMemory) ×
+            (self.new.ports ≡ self.old.ports)) }
+        ensures same { (self.new.selector ≡ self.old.selector) × (self.new.host ≡ self.old.host) ×
+            (self.new.chain ≡ self.old.chain) }
     {
         let Ok(picked) = pick(self.alloc, &self.selector, batch, self.ports.count()) else {
             return Verdict::NoMemory;
@@ -111,7 +115,8 @@ impl<F: PutFace + Drop, B: Interceptor> Intake<F, B> {
     /// Takes a batch at a moment, in milliseconds since 1970.
     pub fn accept(&mut self, batch: Batch, moment: u64) -> Verdict
         requires { length batch < 2 ^ 32 }
-        ensures accepts { Accepts (Puts F.own F.saw F.seen F.kept) self.old.selector B.intercepts moment self.old.host (route_of self.old) batch result (route_of self.new) }
+        ensures accepts { Accepts (Puts F.own F.saw F.seen F.kept) self.old.selector B.intercepts
+            moment self.old.host (route_of self.old) batch result (route_of self.new) }
         ensures same { (self.new.selector ≡ self.old.selector) × (self.new.host ≡ self.old.host) }
     {
         match self.chain.pass(self.alloc, batch, moment, &self.host) {

@@ -39,7 +39,8 @@ impl<F> Ports<F> {
     // Lends the one at a place. What was left after the loan is then there, and the others are the same.
     pub(crate) fn at(&mut self, place: u32) -> &mut F
         requires { place < length self.old }
-        ensures* writes_back { sem 𝓛 (Lends (the_row F.row) F.row self.entry result (slice_set self.old place)) }
+        ensures* writes_back { sem 𝓛 (Lends (the_row F.row) F.row self.entry result
+            (slice_set self.old place)) }
         ensures value { slice_get self.old place ≡ Some result.now }
     {
         &mut self.list[place as usize]

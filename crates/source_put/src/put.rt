@@ -29,7 +29,8 @@ fn without_number(reply: Result<u64, FaceRefused>) -> Result<(), FaceRefused>
 // A channel is given the events at these places, if there are any.
 fn give<F: PutFace>(port: &mut F, batch: &Batch, places: &[u32]) -> Result<(), FaceRefused>
     requires { All (λ place. place < length batch.now) places.now }
-    ensures { Tries (Puts F.own F.saw F.seen F.kept) (picked_events batch.now places.now) port.old port.new result }
+    ensures { Tries (Puts F.own F.saw F.seen F.kept) (picked_events batch.now places.now) port.old
+        port.new result }
 {
     if places.is_empty() {
         return Ok(());
@@ -46,7 +47,8 @@ fn give_at<F: PutFace>(
 ) -> Result<(), FaceRefused>
     requires place { place < length picked.now }
     requires places { ArePlacesOf batch.now picked.now }
-    ensures { Tries (Puts F.own F.saw F.seen F.kept) (events_at batch.now picked.now place) port.old port.new result }
+    ensures { Tries (Puts F.own F.saw F.seen F.kept) (events_at batch.now picked.now place) port.old
+        port.new result }
 {
     give(port, batch, picked[place as usize].as_slice())
 }
@@ -55,7 +57,8 @@ fn give_at<F: PutFace>(
 fn require<F: PutFace>(ports: &mut Ports<F>, batch: &Batch, picked: &[Vec<u32>]) -> Option<Refusal>
     requires as_many { length picked.now ≡ length ports.old }
     requires places { ArePlacesOf batch.now picked.now }
-    ensures required { Requires (Puts F.own F.saw F.seen F.kept) (events_at batch.now picked.now) 0 ports.old result ports.new }
+    ensures required { Requires (Puts F.own F.saw F.seen F.kept) (events_at batch.now picked.now) 0
+        ports.old result ports.new }
     ensures len { length ports.new ≡ length ports.old }
 {
     for channel in 0..ports.count() {
@@ -71,7 +74,8 @@ fn require<F: PutFace>(ports: &mut Ports<F>, batch: &Batch, picked: &[Vec<u32>])
 fn offer<F: PutFace>(ports: &mut Ports<F>, batch: &Batch, picked: &[Vec<u32>])
     requires as_many { length picked.now ≡ length ports.old }
     requires places { ArePlacesOf batch.now picked.now }
-    ensures { Offers (Puts F.own F.saw F.seen F.kept) (events_at batch.now picked.now) 0 ports.old ports.new }
+    ensures { Offers (Puts F.own F.saw F.seen F.kept) (events_at batch.now picked.now) 0 ports.old
+        ports.new }
 {
     for channel in 0..ports.count() {
         let _reply = give_at(ports.at(channel), batch, picked, channel);
@@ -86,9 +90,12 @@ pub(crate) fn give_all<F: PutFace>(
     required: &[Vec<u32>],
     optional: &[Vec<u32>],
 ) -> Option<Refusal>
-    requires required { (length required.now ≡ length ports.old) × ArePlacesOf batch.now required.now }
-    requires optional { (length optional.now ≡ length ports.old) × ArePlacesOf batch.now optional.now }
-    ensures { GivesBoth (Puts F.own F.saw F.seen F.kept) (events_at batch.now required.now) (events_at batch.now optional.now) ports.old ports.new result }
+    requires required { (length required.now ≡ length ports.old) × ArePlacesOf batch.now
+        required.now }
+    requires optional { (length optional.now ≡ length ports.old) × ArePlacesOf batch.now
+        optional.now }
+    ensures { GivesBoth (Puts F.own F.saw F.seen F.kept) (events_at batch.now required.now)
+        (events_at batch.now optional.now) ports.old ports.new result }
 {
     match require(ports, batch, required) {
         None => {

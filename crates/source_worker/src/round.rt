@@ -63,7 +63,8 @@ impl<F: PutFace + Drop, B: Interceptor> Service<F, B> {
     ) -> Result<Option<LinkEnd>, Failed>
         requires { HasLimit rules.now }
         ensures serves { Serves
-            (Session rules.now (Puts F.own F.saw F.seen F.kept) self.old.intake.selector B.intercepts
+            (Session rules.now (Puts F.own F.saw F.seen F.kept) self.old.intake.selector
+            B.intercepts
             self.old.intake.host) result
             (stood self.old.intake (C.moments clock.old)
             (heard_of N.told N.faults N.waits listener.old) self.old.due)

@@ -70,7 +70,8 @@ impl<A: Channel + Drop, B: Channel + Drop> EitherShared<A, B> {
         ensures same { ((pass_of result).table_id ≡ pass.table_id)
             × ((pass_of result).number ≡ pass.number) }
         ensures left { LeftIn A.stands A.tells B.stands B.tells self pass.view result }
-        ensures channel { StandsClosed A.stands B.stands self pass.view.base (pass_of result).view.seen
+        ensures channel { StandsClosed A.stands B.stands self pass.view.base
+            (pass_of result).view.seen
             result }
         ensures all { HasAll pass.view → calls_by pass.view.numbers (pass_of result).view.seen ≡
             (pass_of result).view.seen }
