@@ -1,7 +1,7 @@
 // Log files, on which the lines of a scenario work, and what they leave. `left 2 3 0:a 1:b` says that 2 and 3 are the numbers of the
 // next event and transaction, and which events are left by their numbers; `bad 1 16` names the file and the offset of the first fault.
 use crate::calls::{Call, Said, said};
-use crate::reading::{Read, disk_of, read_whole, replayed};
+use crate::reading::{Read, ReadRecord, disk_of, read_whole, replayed};
 use crate::slow::{Left, left_by};
 use crate::spelled::{long_file, spelled};
 use crate::torn::{flushed, stood_of};
@@ -228,15 +228,15 @@ fn is_left_by_crash(scene: &Logs, row: &str) -> bool {
 }
 
 // Whether these are the records, each as its kind, transaction and offset.
-fn are_records(records: &[(u64, u64, u64)], want: &str) -> bool {
+fn are_records(records: &[ReadRecord], want: &str) -> bool {
     let mut rest = want;
     for record in records {
         let (kind, others) = word_and_rest(rest);
         let (txn, others) = word_and_rest(others);
         let (at, others) = word_and_rest(others);
-        if number_of(kind) != Some(record.0)
-            || number_of(txn) != Some(record.1)
-            || number_of(at) != Some(record.2)
+        if number_of(kind) != Some(record.kind)
+            || number_of(txn) != Some(record.txn)
+            || number_of(at) != Some(record.at)
         {
             return false;
         }

@@ -1,5 +1,6 @@
 // Log files on a disk: replayed, and read one record after another.
-ghost use Rattle.std.specs.Prelude.{◌≡◌, ◌<◌};
+ghost use Rattle.std.specs.Prelude.{◌≡◌, ◌<◌, None};
+ghost use Rattle.host_memory.specs.Words.{told_in};
 
 use channel_log::LogReader;
 use channel_replay::{ReplayRefused, Replayed, WholeFile, replay};
@@ -45,13 +46,28 @@ pub fn replayed(
     Some(replay_by::<Brand>(alloc, Blank::new(1), disk, capacity))
 }
 
+/// A record that a reader gave, by what its outline says.
+#[derive(Clone, Copy, PartialEq)]
+pub struct ReadRecord {
+    /// Its first byte.
+    pub kind: u64,
+    /// Its transaction.
+    pub txn: u64,
+    /// The length of its event, the number of its event, or the number of its first event.
+    pub first: u64,
+    /// How many it counts.
+    pub count: u32,
+    /// Where it stands.
+    pub at: u64,
+}
+
 /// What a reader gave of a file.
 #[derive(Drop)]
 pub struct Read {
     /// The file first drops what is open.
     pub drops: bool,
-    /// The kind, transaction and offset of each record.
-    pub records: Vec<(u64, u64, u64)>,
+    /// Its records.
+    pub records: Vec<ReadRecord>,
     /// How many calls of the disk were made.
     pub calls: u64,
 }
@@ -63,23 +79,95 @@ enum By {
     Outlines,
 }
 
-fn seen(given: &(Rec, u64)) -> (u64, u64, u64) {
-    match given {
-        (Rec::Put { txn, .. }, at) => (1, *txn, *at),
-        (Rec::CommitPut { txn, .. }, at) => (4, *txn, *at),
-        _ => (9, 0, 0),
+fn said(outline: Outline, at: u64) -> ReadRecord {
+    let (kind, txn, first, count) = match outline {
+        Outline::Put { txn, length } => (1, txn, u64::from(length), 0),
+        Outline::Take { txn, number } => (2, txn, number, 0),
+        Outline::Rollback { txn } => (3, txn, 0, 0),
+        Outline::CommitPut { txn, first, count } => (4, txn, first, count),
+        Outline::CommitTake { txn, count } => (5, txn, 0, count),
+        Outline::End { count } => (6, 0, 0, count),
+    };
+    ReadRecord {
+        kind,
+        txn,
+        first,
+        count,
+        at,
     }
 }
 
-fn outlined(given: &(Outline, u64)) -> (u64, u64, u64) {
-    match given {
-        (Outline::Put { txn, .. }, at) => (1, *txn, *at),
-        (Outline::CommitPut { txn, .. }, at) => (4, *txn, *at),
-        _ => (9, 0, 0),
+// The outline of a whole record, made here again.
+fn outline_of(rec: &Rec) -> Outline {
+    match rec {
+        Rec::Put { txn, event } => Outline::Put {
+            txn: *txn,
+            length: event.size() as u32,
+        },
+        Rec::Take { txn, number } => Outline::Take {
+            txn: *txn,
+            number: *number,
+        },
+        Rec::Rollback { txn } => Outline::Rollback { txn: *txn },
+        Rec::CommitPut { txn, first, count } => Outline::CommitPut {
+            txn: *txn,
+            first: *first,
+            count: *count,
+        },
+        Rec::CommitTake { txn, count } => Outline::CommitTake {
+            txn: *txn,
+            count: *count,
+        },
+        Rec::End { count } => Outline::End { count: *count },
     }
 }
 
-// Reads each record of log file 1. The disk tells nothing, so that contracts ask nothing of it.
+// The next record of a file, if there is one. The disk tells nothing, so that contracts ask nothing of it.
+fn next_record<L: Ledger>(
+    reader: &mut LogReader,
+    disk: &mut MemDisk,
+    steps: &mut Steps<L>,
+    by: By,
+) -> Result<Option<ReadRecord>, ()>
+    requires { told_in disk.old ≡ None }
+    ensures { told_in disk.new ≡ None }
+{
+    match by {
+        By::Records => match reader.next(disk, steps) {
+            Ok(Some((rec, at))) => Ok(Some(said(outline_of(&rec), at))),
+            Ok(None) => Ok(None),
+            Err(_) => Err(()),
+        },
+        By::Outlines => match reader.next_outline(disk, steps) {
+            Ok(Some((outline, at))) => Ok(Some(said(outline, at))),
+            Ok(None) => Ok(None),
+            Err(_) => Err(()),
+        },
+    }
+}
+
+// Reads each record that a reader has still to give.
+fn read_rest<L: Ledger>(
+    alloc: Global,
+    reader: &mut LogReader,
+    disk: &mut MemDisk,
+    steps: &mut Steps<L>,
+    by: By,
+) -> Option<Vec<ReadRecord>>
+    requires { told_in disk.old ≡ None }
+{
+    let mut records = Vec::new(alloc);
+    for _ in 0..u64::MAX {
+        match next_record(reader, disk, steps, by) {
+            Ok(Some(record)) => records.push(record).ok()?,
+            Ok(None) => return Some(records),
+            Err(()) => return None,
+        }
+    }
+    None
+}
+
+// Reads each record of log file 1.
 fn read_by<L: Ledger>(alloc: Global, blank: Blank, disk: MemDisk, by: By) -> Option<Read>
     requires name { blank.name ≡ L.name }
     requires parts { blank.parts ≡ L.parts }
@@ -87,40 +175,14 @@ fn read_by<L: Ledger>(alloc: Global, blank: Blank, disk: MemDisk, by: By) -> Opt
 {
     let mut disk = disk.silent();
     let mut steps = Steps::<L>::new(blank);
-    let mut records = Vec::new(alloc);
-    let Ok(mut reader) = LogReader::begin(alloc, &mut disk, 1, 16) else {
-        return None;
-    };
+    let mut reader = LogReader::begin(alloc, &mut disk, 1, 16).ok()?;
     let drops = reader.drops();
-    for _ in 0..u64::MAX {
-        let given = match by {
-            By::Records => match reader.next(&mut disk, &mut steps) {
-                Ok(Some(given)) => Some(seen(&given)),
-                Ok(None) => None,
-                Err(_) => return None,
-            },
-            By::Outlines => match reader.next_outline(&mut disk, &mut steps) {
-                Ok(Some(given)) => Some(outlined(&given)),
-                Ok(None) => None,
-                Err(_) => return None,
-            },
-        };
-        match given {
-            Some(record) => {
-                if records.push(record).is_err() {
-                    return None;
-                }
-            }
-            None => {
-                return Some(Read {
-                    drops,
-                    records,
-                    calls: disk.calls(),
-                });
-            }
-        }
-    }
-    None
+    let records = read_rest(alloc, &mut reader, &mut disk, &mut steps, by)?;
+    Some(Read {
+        drops,
+        records,
+        calls: disk.calls(),
+    })
 }
 
 fn read_one(alloc: Global, files: &[WholeFile], by: By) -> Option<Read> {
