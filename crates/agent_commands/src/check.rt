@@ -7,6 +7,7 @@ ghost use Rattle.plan_objects.specs.Asks.{lacking};
 ghost use Rattle.agent_commands.specs.Checked.{Checked, HasItsObjects, IsBeside, IsCheckStatus};
 ghost use Rattle.agent_commands.specs.Checked.{Judges, PlansAgent, PlansWhole, end_of, plan_line};
 
+use crate::errors::say_error;
 use agent_words::RunError;
 use flume_config::{Plan, PlanRefused, plan_of};
 use flume_host::{Failed, FileRefused, Host, Sink, write_out};
@@ -144,5 +145,28 @@ pub fn check<H: Host, K: Drop, B: Drop>(
     match print(host, text.as_str()) {
         Ok(()) => Ok(()),
         Err(_) => Err(RunError::Fault),
+    }
+}
+
+/// `check -n NAME -f FILE`, and the line on standard error that tells why it ended, unless all went well. It answers the exit
+/// status.
+pub fn run_check<H: Host, K: Drop, B: Drop>(
+    alloc: Global,
+    agent: &str,
+    file: &str,
+    handed: &mut HandedIn<K, B>,
+    host: &mut H,
+) -> u8
+    ensures checked { Checked (lacking handed.old)
+        ((H.state host.old).files file.now) agent.now (H.state host.old) (H.state host.new) result }
+    ensures status { IsCheckStatus result }
+    ensures folders { H.folders host.new ≡ H.folders host.old }
+{
+    match check(alloc, agent, file, handed, host) {
+        Ok(()) => 0,
+        Err(error) => {
+            say_error(alloc, host, &error);
+            error.status()
+        }
     }
 }

@@ -2,13 +2,13 @@
 #![tactic(auto)]
 
 mod check;
-mod ending;
+mod errors;
 mod load;
 mod pipe;
 mod traced;
 
-pub use check::{Planned, plan_agent};
-pub use ending::{LoadEnded, PipeEnded, run_check, run_load, run_pipe, say_error, unopened};
-pub use load::LoadCause;
-pub use pipe::{PassLines, PipeEnd};
+pub use check::{Planned, plan_agent, run_check};
+pub use errors::{say_error, unopened};
+pub use load::{LoadCause, LoadEnded, run_load};
+pub use pipe::{PassLines, PipeEnd, PipeEnded, run_pipe};
 pub use traced::TracedChannel;

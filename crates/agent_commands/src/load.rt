@@ -1,20 +1,27 @@
 // `load N DIR`: the generator runs on the file channel of a folder.
-ghost use Rattle.std.specs.Prelude.{◌≡◌, ◌+◌, ◌≤◌, [], Err, None, length};
+ghost use Rattle.std.specs.Prelude.{◌≡◌, ◌+◌, ◌≤◌, [], Err, IfOk, None, length};
 ghost use Rattle.flume_host.specs.Causes.{RisesWhere};
 ghost use Rattle.flume_host.specs.HostState.{ButDisk};
+ghost use Rattle.agent_words.specs.Statuses.{status_of};
 ghost use Rattle.file_channel.specs.Stands.{opened_as};
-ghost use Rattle.agent_commands.specs.Loads.{Ran, RanOn, as_cause, load_status};
+ghost use Rattle.agent_commands.specs.Loads.{IsLoadStatus, Loaded, Ran, RanOn, as_cause, face_status, load_status, refused_status, unloaded_status};
 ghost use Rattle.agent_commands.specs.Puts.{BeginsOver, IsFirstPass};
 ghost use Rattle.agent_commands.specs.Trails.{StandsTraced};
 
+use crate::check::print;
+use crate::errors::{say_error, unopened};
 use crate::pipe::share;
 use crate::traced::{TracedChannel, default_limits};
-use channel_face::{Channel, OpenCause};
+use agent_words::RunError;
+use channel_face::{
+    BeginRefused, Channel, CheckRefused, FaceRefused, OpenCause, PruneRefused, PutRefused,
+    StageCause, TakeRefused,
+};
 use file_channel::OpenRefused;
 use flume_host::{Disk, Host, NameRefused};
 use load_gen::{LoadRefused, generate};
 use shared_channel::{Closed, Pass, Shared};
-use std::alloc::Global;
+use std::alloc::{AllocError, Global};
 use std::snapshot::Snapshot;
 use std::sync::Wait;
 
@@ -175,5 +182,148 @@ pub(crate) fn load<R: Wait, H: Host>(
         }
         Err(NameRefused::Failed) => { LoadRun::ended(LoadCause::Unopened(OpenCause::DiskFault)) }
         Err(NameRefused::NoMemory) => LoadRun::ended(LoadCause::Unopened(OpenCause::NoMemory)),
+    }
+}
+
+/// What a run of `load` ended with.
+#[derive(Drop)]
+pub struct LoadEnded {
+    /// The exit status.
+    pub status: u8,
+    /// The pass of the folder's channel, if it was opened and shared. It has seen all calls.
+    pub pass: Option<Pass>,
+}
+
+// What is said of a generator that the channel of this folder refused in a transaction. A channel that has room and that nobody
+// else calls refuses it for no other cause than a fault, a number at its end, a damaged event or out of memory.
+fn refused_by(dir: String, refused: FaceRefused) -> RunError
+    ensures { status_of result ≡ face_status refused }
+{
+    match refused {
+        FaceRefused::Begin(BeginRefused::Spent { .. })
+        | FaceRefused::Put(PutRefused::Spent { .. })
+        | FaceRefused::Take(TakeRefused::Spent { .. })
+        | FaceRefused::Stage(StageCause::Spent { .. }) => RunError::Spent { dir },
+        FaceRefused::Take(TakeRefused::Damaged { .. }) => RunError::Damaged { dir },
+        FaceRefused::Begin(BeginRefused::NoMemory)
+        | FaceRefused::Put(PutRefused::NoMemory)
+        | FaceRefused::Take(TakeRefused::NoMemory) => RunError::NoMemory,
+        _ => RunError::Fault,
+    }
+}
+
+// What is said of a generator that the channel of this folder refused. A channel that was not broken does not break but by a fault.
+fn load_refused(dir: String, refused: LoadRefused) -> RunError
+    ensures { status_of result ≡ refused_status refused }
+{
+    match refused {
+        LoadRefused::Face(refused) => refused_by(dir, refused),
+        LoadRefused::Check(CheckRefused::Spent { .. })
+        | LoadRefused::Prune(PruneRefused::Spent { .. }) => RunError::Spent { dir },
+        LoadRefused::Check(_) | LoadRefused::Prune(_) => RunError::Fault,
+        LoadRefused::NoMemory => RunError::NoMemory,
+    }
+}
+
+// Why a run of `load` has no summary.
+fn load_error(alloc: Global, dir: &str, cause: LoadCause) -> Result<RunError, AllocError>
+    ensures { IfOk result (λ error. status_of error ≡ unloaded_status cause) }
+{
+    let dir = String::from_str(alloc, dir)?;
+    let capacity = default_limits().capacity;
+    Ok(match cause {
+        LoadCause::Unopened(cause) => unopened(dir, capacity, cause),
+        LoadCause::TooMany { count } => RunError::OverCapacity {
+            dir,
+            count,
+            capacity,
+        },
+        LoadCause::Refused(refused) => load_refused(dir, refused),
+    })
+}
+
+// The exit status of a run of `load` whose generator was refused so in a transaction.
+fn face_status(refused: FaceRefused) -> u8
+    ensures { result ≡ face_status refused }
+{
+    match refused {
+        FaceRefused::Begin(BeginRefused::Spent { .. })
+        | FaceRefused::Put(PutRefused::Spent { .. })
+        | FaceRefused::Take(TakeRefused::Spent { .. } | TakeRefused::Damaged { .. })
+        | FaceRefused::Stage(StageCause::Spent { .. }) => 4,
+        FaceRefused::Begin(BeginRefused::NoMemory)
+        | FaceRefused::Put(PutRefused::NoMemory)
+        | FaceRefused::Take(TakeRefused::NoMemory) => 5,
+        _ => 3,
+    }
+}
+
+// The exit status of a run of `load` whose generator was refused so.
+fn refused_status(refused: LoadRefused) -> u8
+    ensures { result ≡ refused_status refused }
+{
+    match refused {
+        LoadRefused::Face(refused) => face_status(refused),
+        LoadRefused::Check(CheckRefused::Spent { .. })
+        | LoadRefused::Prune(PruneRefused::Spent { .. }) => 4,
+        LoadRefused::Check(_) | LoadRefused::Prune(_) => 3,
+        LoadRefused::NoMemory => 5,
+    }
+}
+
+// The exit status of a run of `load` without a summary.
+fn unloaded_status(cause: LoadCause) -> u8
+    ensures { result ≡ unloaded_status cause }
+{
+    match cause {
+        LoadCause::Unopened(OpenCause::DiskFault) => 3,
+        LoadCause::Unopened(OpenCause::NoMemory) => 5,
+        LoadCause::Unopened(_) | LoadCause::TooMany { .. } => 4,
+        LoadCause::Refused(refused) => refused_status(refused),
+    }
+}
+
+// Says why a run of `load` has no summary.
+fn say_unloaded<H: Host>(alloc: Global, dir: &str, host: &mut H, cause: LoadCause)
+    ensures state { H.state host.new ≡ H.state host.old }
+    ensures folders { H.folders host.new ≡ H.folders host.old }
+{
+    match load_error(alloc, dir, cause) {
+        Ok(error) => say_error(alloc, host, &error),
+        Err(_) => host.say("flume: no memory"),
+    }
+}
+
+/// `load N DIR`: the generator of `n` events runs on the folder, and its summary is written to standard output; or there is a line on
+/// standard error that tells why not.
+pub fn run_load<R: Wait, H: Host>(
+    rt: &R,
+    alloc: Global,
+    n: u32,
+    dir: &str,
+    host: &mut H,
+) -> LoadEnded
+    ensures loaded { Loaded n (H.state host.old) (H.state host.new)
+        ((H.folders host.old).disks dir.now) ((H.folders host.new).disks dir.now)
+        result.status result.pass }
+    ensures status { IsLoadStatus result.status }
+    ensures others { ButDisk dir.now (H.folders host.old) (H.folders host.new) }
+{
+    let LoadRun { answer, pass } = load(rt, alloc, n, dir, host);
+    match answer {
+        Ok(text) => match print(host, text.as_str()) {
+            Ok(()) => LoadEnded { status: 0, pass },
+            Err(_) => {
+                say_error(alloc, host, &RunError::Fault);
+                LoadEnded { status: 3, pass }
+            }
+        },
+        Err(cause) => {
+            say_unloaded(alloc, dir, host, cause);
+            LoadEnded {
+                status: unloaded_status(cause),
+                pass,
+            }
+        }
     }
 }

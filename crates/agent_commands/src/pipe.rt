@@ -1,6 +1,7 @@
 // `pipe DIR`: standard input is one session into the file channel of a folder.
-ghost use Rattle.std.specs.Prelude.{◌≡◌, ◌≢◌, ◌≤◌, ◌∷◌, [], IfErr, IfOk, None, length, true, ◌<◌};
+ghost use Rattle.std.specs.Prelude.{◌≡◌, ◌≢◌, ◌≤◌, ◌∷◌, [], IfErr, IfOk, MatchOption, None, length, true, ◌<◌};
 ghost use Rattle.flume_host.specs.HostState.{ButDisk};
+ghost use Rattle.agent_words.specs.Statuses.{status_of};
 ghost use Rattle.channel_face.specs.History.{Opening};
 ghost use Rattle.file_channel.specs.Stands.{opened_as};
 ghost use Rattle.line_session.specs.Sessions.{Served, ends_of};
@@ -9,14 +10,16 @@ ghost use Rattle.agent_commands.specs.Piped.{HostCause, Piped, IsPipeStatus, pip
 ghost use Rattle.agent_commands.specs.Puts.{BeginsOver, IsFirstPass, PutsLine, begin_verdict, put_verdict, verdict_of};
 ghost use Rattle.agent_commands.specs.Trails.{StandsTraced, traced_by};
 
-use crate::traced::TracedChannel;
+use crate::errors::{say_error, unopened};
+use crate::traced::{TracedChannel, default_limits};
+use agent_words::RunError;
 use channel_face::{BeginRefused, Channel, FaceRefused, OpenCause, PutFace, PutRefused};
 use file_channel::OpenRefused;
 use flume_host::{Disk, Host, NameRefused};
 use line_session::{LineStore, SessionEnd, serve_lines};
 use netcat_source::{LineRules, LineVerdict, batch_of};
 use shared_channel::{Closed, Pass, Port, Shared, Unshared};
-use std::alloc::Global;
+use std::alloc::{AllocError, Global};
 use std::snapshot::Snapshot;
 use std::sync::Wait;
 
@@ -333,5 +336,83 @@ impl<'a, R: Wait, C: Channel> LineStore for PassLines<'a, R, C> {
             LineVerdict::Accepted | LineVerdict::Refused => false,
             LineVerdict::InDoubt | LineVerdict::NoMemory => true,
         }
+    }
+}
+
+/// What a run of `pipe` ended with.
+#[derive(Drop)]
+pub struct PipeEnded {
+    /// The exit status.
+    pub status: u8,
+    /// The pass of the folder's channel, if it was opened and shared. It has seen all calls.
+    pub pass: Option<Pass>,
+}
+
+// Why a run of `pipe` did not end well, if it did not.
+fn pipe_error(alloc: Global, dir: &str, end: PipeEnd) -> Result<Option<RunError>, AllocError>
+    ensures { IfOk result (λ error. MatchOption error (pipe_status end ≡ 0)
+        (λ e. status_of e ≡ pipe_status end)) }
+{
+    let error = match end {
+        PipeEnd::Served(SessionEnd::End) => return Ok(None),
+        PipeEnd::Served(SessionEnd::TooLongLine) => RunError::LineTooLong,
+        PipeEnd::Served(SessionEnd::Full) => RunError::InputTooLong,
+        PipeEnd::Served(SessionEnd::NoMemory | SessionEnd::Line(LineVerdict::NoMemory)) => {
+            RunError::NoMemory
+        }
+        PipeEnd::Served(SessionEnd::Line(_) | SessionEnd::ReadFault | SessionEnd::WriteFault) =>
+            RunError::Fault,
+        PipeEnd::Unopened(cause) => {
+            unopened(
+                String::from_str(alloc, dir)?,
+                default_limits().capacity,
+                cause,
+            )
+        }
+    };
+    Ok(Some(error))
+}
+
+// The exit status of a run of `pipe`.
+fn pipe_status(end: PipeEnd) -> u8
+    ensures { result ≡ pipe_status end }
+{
+    match end {
+        PipeEnd::Served(SessionEnd::End) => 0,
+        PipeEnd::Served(SessionEnd::TooLongLine) => 7,
+        PipeEnd::Served(SessionEnd::Full) => 6,
+        PipeEnd::Served(SessionEnd::NoMemory | SessionEnd::Line(LineVerdict::NoMemory)) => 5,
+        PipeEnd::Served(SessionEnd::Line(_) | SessionEnd::ReadFault | SessionEnd::WriteFault) => 3,
+        PipeEnd::Unopened(OpenCause::DiskFault) => 3,
+        PipeEnd::Unopened(OpenCause::NoMemory) => 5,
+        PipeEnd::Unopened(_) => 4,
+    }
+}
+
+// Says why a run of `pipe` ended.
+fn say_end<H: Host>(alloc: Global, dir: &str, host: &mut H, end: PipeEnd)
+    ensures state { H.state host.new ≡ H.state host.old }
+    ensures folders { H.folders host.new ≡ H.folders host.old }
+{
+    match pipe_error(alloc, dir, end) {
+        Ok(None) => {}
+        Ok(Some(error)) => say_error(alloc, host, &error),
+        Err(_) => host.say("flume: no memory"),
+    }
+}
+
+/// `pipe DIR`, and the line on standard error that tells why it ended, unless all went well.
+pub fn run_pipe<R: Wait, H: Host>(rt: &R, alloc: Global, dir: &str, host: &mut H) -> PipeEnded
+    ensures piped { Piped (H.state host.old) (H.state host.new)
+        ((H.folders host.old).disks dir.now) ((H.folders host.new).disks dir.now)
+        (H.state host.old).disk_faults (H.state host.new).disk_faults result.status result.pass }
+    ensures status { IsPipeStatus result.status }
+    ensures others { ButDisk dir.now (H.folders host.old) (H.folders host.new) }
+{
+    let PipeRun { end, pass } = pipe(rt, alloc, dir, host);
+    say_end(alloc, dir, host, end);
+    PipeEnded {
+        status: pipe_status(end),
+        pass,
     }
 }

@@ -3,7 +3,7 @@ use Rattle.std.specs.Prelude.{◌≡◌, ℕ, List, [], ◌∷◌, ◌++◌, Opt
 use Rattle.std.specs.List.{AllByRecursion}
 use Rattle.std.specs.Borrow.{Bor}
 use Rattle.agent_words.specs.Words.{texts, IsName, flag_of}
-use Rattle.agent_words.specs.declared.options.Asked.{Asked}
+use Rattle.agent_words.specs.declared.command.Asked.{Asked}
 use Rattle.agent_words.specs.declared.flag.Flag.TheVariants as flags
 
 -- an option, by its word and the value after it

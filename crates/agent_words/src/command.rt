@@ -1,11 +1,12 @@
-//! The commands.
+//! The commands, and the options that follow `agent` and `check`.
 
-ghost use Rattle.std.specs.Prelude.{ℕ, List, [], ◌∷◌, codes, string_bytes, IfOk, MatchOption};
-ghost use Rattle.agent_words.specs.Words.{texts, IsCount};
-ghost use Rattle.agent_words.specs.Options.{AreOptions};
+ghost use Rattle.std.specs.Prelude.{ℕ, List, [], ◌∷◌, codes, string_bytes, IfOk, MatchOption, ◌≡◌, ◌≢◌, ◌↔◌, ◌<◌, length, Some, IsTrue};
+ghost use Rattle.agent_words.specs.Words.{texts, IsCount, IsName, flag_of};
+ghost use Rattle.agent_words.specs.Options.{AreOptions, Asks, GoOn, held};
 ghost use Rattle.agent_words.specs.Commands.{Reads};
+ghost use Rattle.agent_words.specs.declared.flag.Flag.TheVariants as flags;
 
-use crate::options::{is_name, options};
+use crate::flag::{Flag, flag_of};
 use event_core::NoMemory;
 use std::alloc::Global;
 
@@ -67,7 +68,7 @@ fn load(alloc: Global, words: &[String]) -> Result<Option<Command>, NoMemory>
 }
 
 /// The name and the file that the options give, as texts of their own.
-fn asked(alloc: Global, words: &[String]) -> Result<Option<(String, String)>, NoMemory>
+fn name_and_file(alloc: Global, words: &[String]) -> Result<Option<(String, String)>, NoMemory>
     ensures { IfOk result (λ found. MatchOption found ((name file : List ℕ) → ¬ AreOptions
         (texts words.now) name file) (λ both. AreOptions (texts words.now) (string_bytes both.0)
         (string_bytes both.1))) }
@@ -85,7 +86,7 @@ fn asked(alloc: Global, words: &[String]) -> Result<Option<(String, String)>, No
 fn agent(alloc: Global, words: &[String]) -> Result<Option<Command>, NoMemory>
     ensures { Reads (codes "agent" ∷ texts words.now) result }
 {
-    match asked(alloc, words)? {
+    match name_and_file(alloc, words)? {
         Some((name, file)) => Ok(Some(Command::Agent { name, file })),
         None => Ok(None),
     }
@@ -95,7 +96,7 @@ fn agent(alloc: Global, words: &[String]) -> Result<Option<Command>, NoMemory>
 fn check(alloc: Global, words: &[String]) -> Result<Option<Command>, NoMemory>
     ensures { Reads (codes "check" ∷ texts words.now) result }
 {
-    match asked(alloc, words)? {
+    match name_and_file(alloc, words)? {
         Some((name, file)) => Ok(Some(Command::Check { name, file })),
         None => Ok(None),
     }
@@ -126,4 +127,86 @@ pub fn read_words(alloc: Global, words: &[String]) -> Result<Option<Command>, No
     } else {
         Ok(None)
     }
+}
+
+/// What was given so far, and the words that follow.
+#[derive(Clone, Copy)]
+pub struct Asked<'a> {
+    name: Option<&'a str>,
+    file: Option<&'a str>,
+    rest: &'a [String],
+}
+
+/// Whether a word may be a name of anything.
+pub fn is_name(word: &str) -> bool
+    ensures { IsTrue result ↔ IsName word.now }
+{
+    match word.as_bytes() {
+        [] => false,
+        [first, ..] => *first != b'-',
+    }
+}
+
+impl<'a> Asked<'a> {
+    /// Takes a value.
+    fn with(self, flag: Flag, value: &'a str, rest: &'a [String]) -> Option<Asked<'a>>
+        ensures { (word : List ℕ) → flag_of word ≡ Some flag → flag ≢ flags.Define
+            → MatchOption result ((name file : List ℕ) → ¬ GoOn (held self.entry.name)
+            (held self.entry.file) (word ∷ value.now ∷ texts rest.now) name file)
+            (λ next. ((name file : List ℕ) → GoOn (held self.entry.name) (held self.entry.file)
+            (word ∷ value.now ∷ texts rest.now) name file ↔ Asks next name file) ×
+            (next.rest.now ≡ rest.now)) }
+    {
+        match flag {
+            Flag::Name if self.name.is_none() && is_name(value) => Some(Asked {
+                name: Some(value),
+                file: self.file,
+                rest,
+            }),
+            Flag::File if self.file.is_none() && is_name(value) => Some(Asked {
+                name: self.name,
+                file: Some(value),
+                rest,
+            }),
+            Flag::Folder => Some(Asked { rest, ..self }),
+            _ => None,
+        }
+    }
+
+    /// Takes the option at the front of the words.
+    fn step(self) -> Option<Asked<'a>>
+        requires { self.rest.now ≢ [] }
+        ensures { MatchOption result ((name file : List ℕ) → ¬ Asks self.entry name file)
+            (λ next. ((name file : List ℕ) → Asks self.entry name file ↔ Asks next name file) ×
+            (length next.rest.now < length self.entry.rest.now)) }
+    {
+        let flag = flag_of(self.rest[0].as_str())?;
+        if flag == Flag::Define {
+            return Some(Asked {
+                name: self.name,
+                file: self.file,
+                rest: &self.rest[1..],
+            });
+        }
+        if self.rest.len() < 2 {
+            return None;
+        }
+        self.with(flag, self.rest[1].as_str(), &self.rest[2..])
+    }
+}
+
+/// The name and the file that the options give.
+pub fn options(words: &[String]) -> Option<(&str, &str)>
+    ensures { MatchOption result ((name file : List ℕ) → ¬ AreOptions (texts words.now) name file)
+        (λ found. AreOptions (texts words.now) found.0.now found.1.now) }
+{
+    let mut asked = Asked {
+        name: None,
+        file: None,
+        rest: words,
+    };
+    while !asked.rest.is_empty() {
+        asked = asked.step()?;
+    }
+    asked.name.zip(asked.file)
 }

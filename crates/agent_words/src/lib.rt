@@ -5,7 +5,6 @@ mod command;
 mod error;
 mod flag;
 mod laws;
-mod options;
 mod reporting;
 
 pub use command::{Command, read_words};

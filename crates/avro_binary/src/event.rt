@@ -70,7 +70,8 @@ pub fn read_event(alloc: Global, bytes: &[u8], at: usize) -> Result<(Event, usiz
 }
 
 fn push_event(batch: &mut Batch, event: Event) -> Result<(), ValueRefused>
-    ensures { MatchResult result (λ _. batch.new ≡ batch.old ++ event ∷ []) (λ e. e ≡ ValueRefused.NoMemory) }
+    ensures { MatchResult result (λ _. batch.new ≡ batch.old ++ event ∷ [])
+        (λ e. e ≡ ValueRefused.NoMemory) }
 {
     match batch.push(event) {
         Ok(()) => Ok(()),
@@ -80,7 +81,8 @@ fn push_event(batch: &mut Batch, event: Event) -> Result<(), ValueRefused>
 
 // Adds an event, unless one before it was too large.
 fn keep(batch: &mut Batch, large: &mut Option<u64>, found: Found) -> Result<(), ValueRefused>
-    ensures { MatchResult result (λ _. Keeps batch.old large.old found batch.new large.new) (λ e. e ≡ ValueRefused.NoMemory) }
+    ensures { MatchResult result (λ _. Keeps batch.old large.old found batch.new large.new)
+        (λ e. e ≡ ValueRefused.NoMemory) }
 {
     if large.is_some() {
         return Ok(());

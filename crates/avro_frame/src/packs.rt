@@ -45,9 +45,14 @@ impl Model for Packs {
 
     ghost Value = { PackState };
 
-    ghost view = { λ p. record { packing = packing p.refused p.held.items; room = min (vec_capacity p.held) (vec_capacity p.spare) - vec_len p.held; kept = vec_capacity p.held + vec_capacity p.spare } };
+    ghost view = { λ p. record {
+      packing = packing p.refused p.held.items;
+      room = min (vec_capacity p.held) (vec_capacity p.spare) - vec_len p.held;
+      kept = vec_capacity p.held + vec_capacity p.spare;
+    } };
 
-    ghost invariant = { λ p. IsAt p.held.items p.cursor × IsBehind p.held.items p.cursor.need p.cursor.due × (p.spare.items ≡ []) };
+    ghost invariant = { λ p. IsAt p.held.items p.cursor
+        × IsBehind p.held.items p.cursor.need p.cursor.due × (p.spare.items ≡ []) };
 }
 
 // The message of a whole pack, where there is memory for it. It takes the room, and leaves none.
@@ -81,8 +86,10 @@ fn feed_pending(
     requires behind { IsBehind held.old.items cursor.old.need cursor.old.due }
     requires none { spare.old.items ≡ [] }
     requires open { refused.old ≡ None }
-    ensures feeds { FeedsBytes held.old.items piece.now result (packing refused.new held.new.items) }
-    ensures room { vec_len held.old + length piece.now ≤ min (vec_capacity held.old) (vec_capacity spare.old)
+    ensures feeds { FeedsBytes held.old.items piece.now result
+        (packing refused.new held.new.items) }
+    ensures room { vec_len held.old + length piece.now
+        ≤ min (vec_capacity held.old) (vec_capacity spare.old)
         → ¬ IsErrOf result PackRefused.NoMemory }
     ensures here { IsAt held.new.items cursor.new }
     ensures behind { IsBehind held.new.items cursor.new.need cursor.new.due }
@@ -148,8 +155,10 @@ impl Packs {
     /// passed, the room is given back but for 65,536 bytes.
     pub fn feed(&mut self, piece: &[u8]) -> Result<(usize, Option<Message>), PackRefused>
         ensures feeds { Feeds self.old.packing piece.now result self.new.packing }
-        ensures room { (bytes : List ℕ) → self.old.packing ≡ Holds bytes → 0 < length piece.now → length piece.now ≤ self.old.room → ¬ IsErrOf result PackRefused.NoMemory }
-        ensures back { (bytes : List ℕ) → self.old.packing ≡ Holds bytes → GivesBack result self.new.kept }
+        ensures room { (bytes : List ℕ) → self.old.packing ≡ Holds bytes → 0 < length piece.now
+            → length piece.now ≤ self.old.room → ¬ IsErrOf result PackRefused.NoMemory }
+        ensures back { (bytes : List ℕ) → self.old.packing ≡ Holds bytes
+            → GivesBack result self.new.kept }
     {
         if let Some(e) = self.refused {
             return Err(e);

@@ -47,7 +47,8 @@ pub enum Step {
 
 /// The cursor before the first byte of a pack.
 pub fn at_start() -> Cursor
-    ensures { (bytes : List ℕ) → length bytes < 8 → IsAt bytes result × IsBehind bytes result.need result.due }
+    ensures { (bytes : List ℕ) → length bytes < 8 → IsAt bytes result
+        × IsBehind bytes result.need result.due }
 {
     Cursor {
         need: 8,
@@ -160,8 +161,11 @@ pub fn fill(held: &mut Vec<u8>, cursor: &mut Cursor, piece: &[u8]) -> (usize, St
 
 // The buffer at the front of the bytes, and what is after it.
 fn first_buffer(bytes: &[u8]) -> Option<(&[u8], &[u8])>
-    ensures found { (first : List ℕ) (rest : List ℕ) → length first < 2 ^ 32 → bytes.now ≡ buffer first ++ rest → IsSomeAnd result (λ found. (found.0.now ≡ first) × (found.1.now ≡ rest)) }
-    ensures shorter { IfSome result (λ found. length found.0.now + length found.1.now < length bytes.now) }
+    ensures found { (first : List ℕ) (rest : List ℕ) → length first < 2 ^ 32
+        → bytes.now ≡ buffer first ++ rest → IsSomeAnd result
+        (λ found. (found.0.now ≡ first) × (found.1.now ≡ rest)) }
+    ensures shorter { IfSome result (λ found. length found.0.now + length found.1.now
+        < length bytes.now) }
 {
     if bytes.len() < 4 {
         return None;
@@ -178,7 +182,8 @@ fn first_buffer(bytes: &[u8]) -> Option<(&[u8], &[u8])>
 pub fn join(bytes: &[u8], payload: &mut Vec<u8>)
     requires none { payload.old.items ≡ [] }
     requires room { length bytes.now ≤ vec_capacity payload.old }
-    ensures { (buffers : List (List ℕ)) → length (joined buffers) < 2 ^ 32 → bytes.now ≡ flat_map buffer buffers → payload.new.items ≡ joined buffers }
+    ensures { (buffers : List (List ℕ)) → length (joined buffers) < 2 ^ 32
+        → bytes.now ≡ flat_map buffer buffers → payload.new.items ≡ joined buffers }
 {
     let mut rest = bytes;
     'buffers: while let Some((first, others)) = first_buffer(rest) {

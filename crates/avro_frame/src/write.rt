@@ -47,7 +47,8 @@ pub fn begin_pack(serial: u32, into: &mut Vec<u8>) -> Result<(), AllocError>
 pub fn end_pack(bytes: &mut Vec<u8>)
     requires some { 12 ≤ length bytes.old.items }
     requires fits { length bytes.old.items ≤ 12 + max_bytes }
-    ensures { (serial : ℕ) (payload : List ℕ) → bytes.old.items ≡ begun serial ++ payload → bytes.new.items ≡ pack serial (payload ∷ []) }
+    ensures { (serial : ℕ) (payload : List ℕ) → bytes.old.items ≡ begun serial ++ payload
+        → bytes.new.items ≡ pack serial (payload ∷ []) }
 {
     let [a, b, c, d] = ((bytes.len() - 12) as u32).to_be_bytes();
     bytes[8] = a;

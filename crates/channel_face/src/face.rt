@@ -25,7 +25,8 @@ pub trait Face {
     ghost kept_none: { (face : Self) → kept face face };
 
     /// Calls after calls are calls.
-    ghost kept_then: { (first second third : Self) → kept first second → kept second third → kept first third };
+    ghost kept_then: { (first second third : Self) → kept first second → kept second third
+        → kept first third };
 }
 
 /// What a source sees of a channel: whole transactions of puts.
@@ -39,7 +40,9 @@ pub trait PutFace: Face {
         requires { All (λ place. place < length batch.now) picked.now }
         ensures seen { Self.seen self.old ≤ Self.seen self.new }
         ensures kept { Self.kept self.old self.new }
-        ensures calls { Gains (Self.own self.old) (Self.own self.new) (IsPutBatch (Self.saw self.new) (Self.seen self.new) (picked_events batch.now picked.now) result) };
+        ensures calls { Gains (Self.own self.old) (Self.own self.new)
+            (IsPutBatch (Self.saw self.new) (Self.seen self.new)
+            (picked_events batch.now picked.now) result) };
 }
 
 /// What a sink sees of a channel: transactions of takes.
@@ -48,14 +51,16 @@ pub trait TakeFace: Face {
     fn begin(&mut self) -> Result<TakeTxn, FaceRefused>
         ensures seen { Self.seen self.old ≤ Self.seen self.new }
         ensures kept { Self.kept self.old self.new }
-        ensures calls { Gains (Self.own self.old) (Self.own self.new) (λ earlier. IsTakeBegun (Self.seen self.new) result) };
+        ensures calls { Gains (Self.own self.old) (Self.own self.new)
+            (λ earlier. IsTakeBegun (Self.seen self.new) result) };
 
     /// Takes an event, or none where each event that is left is held by a transaction. After a refusal too the transaction is
     /// open.
     fn take(&mut self, txn: &mut TakeTxn) -> Result<Option<Event>, FaceRefused>
         ensures seen { Self.seen self.old ≤ Self.seen self.new }
         ensures kept { Self.kept self.old self.new }
-        ensures calls { Gains (Self.own self.old) (Self.own self.new) (λ earlier. IsTake (Self.seen self.new) txn.old result) }
+        ensures calls { Gains (Self.own self.old) (Self.own self.new)
+            (λ earlier. IsTake (Self.seen self.new) txn.old result) }
         ensures same { txn.new ≡ txn.old };
 
     /// Stages a transaction. Where the stage was refused, it is rolled back, unless its token is stale. Where its ticket is `No`
@@ -64,11 +69,13 @@ pub trait TakeFace: Face {
     fn commit(&mut self, txn: TakeTxn) -> Result<(), FaceRefused>
         ensures seen { Self.seen self.old ≤ Self.seen self.new }
         ensures kept { Self.kept self.old self.new }
-        ensures calls { Gains (Self.own self.old) (Self.own self.new) (IsTakeCommit (Self.saw self.new) (Self.seen self.new) txn result) };
+        ensures calls { Gains (Self.own self.old) (Self.own self.new)
+            (IsTakeCommit (Self.saw self.new) (Self.seen self.new) txn result) };
 
     /// Gives a transaction up, so that the events that it took are there again.
     fn rollback(&mut self, txn: TakeTxn)
         ensures seen { Self.seen self.old ≤ Self.seen self.new }
         ensures kept { Self.kept self.old self.new }
-        ensures calls { Gains (Self.own self.old) (Self.own self.new) (IsTakeRolledBack (Self.saw self.new) txn) };
+        ensures calls { Gains (Self.own self.old) (Self.own self.new)
+            (IsTakeRolledBack (Self.saw self.new) txn) };
 }

@@ -18,7 +18,8 @@ pub trait KeepFace: MendFace {
         requires { Self.on_disk self.old }
         ensures seen { Self.seen self.old ≤ Self.seen self.new }
         ensures kept { Self.kept self.old self.new }
-        ensures calls { Gains (Self.own self.old) (Self.own self.new) (λ earlier. IsCheck (Self.seen self.new) result) }
+        ensures calls { Gains (Self.own self.old) (Self.own self.new)
+            (λ earlier. IsCheck (Self.seen self.new) result) }
         ensures laid { OnOk result (Self.saw_laid self.new) };
 
     /// Removes the files that its newest checkpoint does not need, as [`Durable::prune`](crate::Durable::prune).
@@ -26,6 +27,7 @@ pub trait KeepFace: MendFace {
         requires { Self.on_disk self.old }
         ensures seen { Self.seen self.old ≤ Self.seen self.new }
         ensures kept { Self.kept self.old self.new }
-        ensures calls { Gains (Self.own self.old) (Self.own self.new) (λ earlier. IsPrune (Self.seen self.new) result) }
+        ensures calls { Gains (Self.own self.old) (Self.own self.new)
+            (λ earlier. IsPrune (Self.seen self.new) result) }
         ensures gone { OnOk result (Self.saw_pruned self.new) };
 }

@@ -17,7 +17,8 @@ pub struct OwnFace<C: Channel> {
 
 // Flushes where the ticket isn't settled, and answers whether it then is.
 fn settle<C: Channel>(channel: &mut C, ticket: &Ticket) -> bool
-    ensures goes { Goes (C.stands channel.old) (C.stands channel.new) (λ own s more new. Ends (Was (C.stands channel.new)) 0 ticket.now own more result) }
+    ensures goes { Goes (C.stands channel.old) (C.stands channel.new)
+        (λ own s more new. Ends (Was (C.stands channel.new)) 0 ticket.now own more result) }
     ensures kept { Continues (C.stands channel.old) (C.stands channel.new) }
 {
     match channel.settled(ticket) {
@@ -28,14 +29,16 @@ fn settle<C: Channel>(channel: &mut C, ticket: &Ticket) -> bool
 }
 
 fn roll_back_put<C: Channel>(channel: &mut C, txn: PutTxn)
-    ensures goes { Goes (C.stands channel.old) (C.stands channel.new) (λ own s more new. IsPutRolledBack (Was (C.stands channel.new)) txn own more) }
+    ensures goes { Goes (C.stands channel.old) (C.stands channel.new)
+        (λ own s more new. IsPutRolledBack (Was (C.stands channel.new)) txn own more) }
     ensures kept { Continues (C.stands channel.old) (C.stands channel.new) }
 {
     let _ended = channel.rollback_put(txn);
 }
 
 fn roll_back_take<C: Channel>(channel: &mut C, txn: TakeTxn)
-    ensures goes { Goes (C.stands channel.old) (C.stands channel.new) (λ own s more new. IsTakeRolledBack (Was (C.stands channel.new)) txn own more) }
+    ensures goes { Goes (C.stands channel.old) (C.stands channel.new)
+        (λ own s more new. IsTakeRolledBack (Was (C.stands channel.new)) txn own more) }
     ensures kept { Continues (C.stands channel.old) (C.stands channel.new) }
 {
     let _ended = channel.rollback_take(txn);
@@ -43,7 +46,8 @@ fn roll_back_take<C: Channel>(channel: &mut C, txn: TakeTxn)
 
 // Stages the puts and settles them.
 fn finish_puts<C: Channel>(channel: &mut C, txn: PutTxn) -> Result<u64, FaceRefused>
-    ensures goes { Goes (C.stands channel.old) (C.stands channel.new) (λ own s more new. IsPutStage (Was (C.stands channel.new)) 0 txn result own more) }
+    ensures goes { Goes (C.stands channel.old) (C.stands channel.new)
+        (λ own s more new. IsPutStage (Was (C.stands channel.new)) 0 txn result own more) }
     ensures kept { Continues (C.stands channel.old) (C.stands channel.new) }
 {
     match channel.stage_put(txn) {
@@ -70,7 +74,8 @@ fn put_picked<C: Channel>(
     picked: &[u32],
 ) -> Result<(), PutRefused>
     requires { All (λ place. place < length batch.now) picked.now }
-    ensures puts { Goes (C.stands channel.old) (C.stands channel.new) (λ own s more new. ArePutUpTo 0 txn.old (picked_events batch.now picked.now) result more) }
+    ensures puts { Goes (C.stands channel.old) (C.stands channel.new)
+        (λ own s more new. ArePutUpTo 0 txn.old (picked_events batch.now picked.now) result more) }
     ensures kept { Continues (C.stands channel.old) (C.stands channel.new) }
     ensures same { txn.new ≡ txn.old }
 {
@@ -112,7 +117,8 @@ impl<C: Channel> Face for OwnFace<C> {
 
     ghost kept_none = { λ f. continues_none (C.stands f.channel) };
 
-    ghost kept_then = { λ f g h. continues_then (C.stands f.channel) (C.stands g.channel) (C.stands h.channel) };
+    ghost kept_then = { λ f g h. continues_then (C.stands f.channel) (C.stands g.channel)
+        (C.stands h.channel) };
 }
 
 impl<C: Channel> PutFace for OwnFace<C> {

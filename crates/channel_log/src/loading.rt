@@ -33,13 +33,16 @@ fn add_piece<D: Disk>(
     into: &mut Vec<u8>,
 ) -> Result<usize, FrameRefused>
     requires { IsThere (D.told disk.old) file }
-    ensures items { OnOk result ((bytes : List ℕ) → HasFile (D.told disk.old) file bytes → into.new.items ≡ into.old.items ++ take (length piece.old) (drop at bytes)) }
+    ensures items { OnOk result ((bytes : List ℕ) → HasFile (D.told disk.old) file bytes
+        → into.new.items ≡ into.old.items ++ take (length piece.old) (drop at bytes)) }
     ensures len { IfOk result (λ n. vec_len into.new ≡ vec_len into.old + n) }
     ensures good { IfErr result (λ e. WhereBad e (λ file at. ⊥)) }
     ensures same { D.told disk.new ≡ D.told disk.old }
-    ensures fault { IsErrOf result FrameRefused.DiskFault → Rose (D.faults disk.old) (D.faults disk.new) }
+    ensures fault { IsErrOf result FrameRefused.DiskFault
+        → Rose (D.faults disk.old) (D.faults disk.new) }
     ensures later { D.faults disk.old ≤ D.faults disk.new }
-    ensures well { (IsErrOf result FrameRefused.DiskFault → ⊥) → D.faults disk.new ≡ D.faults disk.old }
+    ensures well { (IsErrOf result FrameRefused.DiskFault → ⊥)
+        → D.faults disk.new ≡ D.faults disk.old }
 {
     let Ok(n) = disk.read(FileName::Log(file), at, piece) else {
         return Err(FrameRefused::DiskFault);
@@ -62,13 +65,17 @@ fn fill<D: Disk>(
     requires there { IsThere (D.told disk.old) file }
     requires low { from + target < 2 ^ 63 }
     requires some { 1 ≤ length piece.old }
-    ensures items { OnOk result ((bytes : List ℕ) → HasFile (D.told disk.old) file bytes → IsFront into.old.items from bytes → IsFront into.new.items from bytes) }
-    ensures filled { OnOk result ((bytes : List ℕ) → HasFile (D.told disk.old) file bytes → from + target ≤ length bytes → target ≤ vec_len into.new) }
+    ensures items { OnOk result ((bytes : List ℕ) → HasFile (D.told disk.old) file bytes
+        → IsFront into.old.items from bytes → IsFront into.new.items from bytes) }
+    ensures filled { OnOk result ((bytes : List ℕ) → HasFile (D.told disk.old) file bytes
+        → from + target ≤ length bytes → target ≤ vec_len into.new) }
     ensures good { IfErr result (λ e. WhereBad e (λ file at. ⊥)) }
     ensures same { D.told disk.new ≡ D.told disk.old }
-    ensures fault { IsErrOf result FrameRefused.DiskFault → Rose (D.faults disk.old) (D.faults disk.new) }
+    ensures fault { IsErrOf result FrameRefused.DiskFault
+        → Rose (D.faults disk.old) (D.faults disk.new) }
     ensures later { D.faults disk.old ≤ D.faults disk.new }
-    ensures well { (IsErrOf result FrameRefused.DiskFault → ⊥) → D.faults disk.new ≡ D.faults disk.old }
+    ensures well { (IsErrOf result FrameRefused.DiskFault → ⊥)
+        → D.faults disk.new ≡ D.faults disk.old }
 {
     while into.len() < target {
         let at = from + into.len() as u64;
@@ -153,14 +160,19 @@ fn read_on<D: Disk>(
     requires there { IsThere (D.told disk.old) file }
     requires low { gate + rest < 2 ^ 63 }
     requires some { 1 ≤ length piece.old }
-    ensures front { OnOk result ((bytes : List ℕ) → HasFile (D.told disk.old) file bytes → IsFront read.old.items gate bytes → IsFront read.new.items gate bytes) }
+    ensures front { OnOk result ((bytes : List ℕ) → HasFile (D.told disk.old) file bytes
+        → IsFront read.old.items gate bytes → IsFront read.new.items gate bytes) }
     ensures more { OnOk result (vec_len read.old < vec_len read.new) }
     ensures left { OnOk result (vec_len read.old < rest) }
-    ensures bad { IfErr result (λ e. WhereBad e (λ f at. (f ≡ file) × (at ≡ gate) × ((bytes : List ℕ) → HasFile (D.told disk.old) file bytes → length bytes ≡ gate + rest → rest ≤ vec_len read.old))) }
+    ensures bad { IfErr result (λ e. WhereBad e
+        (λ f at. (f ≡ file) × (at ≡ gate) × ((bytes : List ℕ) → HasFile (D.told disk.old) file bytes
+        → length bytes ≡ gate + rest → rest ≤ vec_len read.old))) }
     ensures same { D.told disk.new ≡ D.told disk.old }
-    ensures fault { IsErrOf result FrameRefused.DiskFault → Rose (D.faults disk.old) (D.faults disk.new) }
+    ensures fault { IsErrOf result FrameRefused.DiskFault
+        → Rose (D.faults disk.old) (D.faults disk.new) }
     ensures later { D.faults disk.old ≤ D.faults disk.new }
-    ensures well { (IsErrOf result FrameRefused.DiskFault → ⊥) → D.faults disk.new ≡ D.faults disk.old }
+    ensures well { (IsErrOf result FrameRefused.DiskFault → ⊥)
+        → D.faults disk.new ≡ D.faults disk.old }
 {
     let before = read.len();
     if before >= rest {
@@ -192,13 +204,20 @@ pub(crate) fn load_frame<D: Disk>(
     requires some { 1 ≤ length piece.old }
     requires place { place.old ≤ vec_len read.old }
     ensures place { OnOk result (place.new ≤ vec_len read.new) }
-    ensures front { OnOk result ((bytes : List ℕ) → HasFile (D.told disk.old) file bytes → IsFront (drop place.old read.old.items) gate bytes → IsFront (drop place.new read.new.items) gate bytes) }
+    ensures front { OnOk result ((bytes : List ℕ) → HasFile (D.told disk.old) file bytes
+        → IsFront (drop place.old read.old.items) gate bytes
+        → IsFront (drop place.new read.new.items) gate bytes) }
     ensures found { IfOk result (λ found. IsFound found (drop place.new read.new.items)) }
-    ensures bad { IfErr result (λ e. WhereBad e (λ f at. (f ≡ file) × (at ≡ gate) × ((bytes : List ℕ) → HasFile (D.told disk.old) file bytes → length bytes ≡ size → IsFront (drop place.old read.old.items) gate bytes → AfterOpen (drop gate bytes) OpensNone))) }
+    ensures bad { IfErr result (λ e. WhereBad e
+        (λ f at. (f ≡ file) × (at ≡ gate) × ((bytes : List ℕ) → HasFile (D.told disk.old) file bytes
+        → length bytes ≡ size → IsFront (drop place.old read.old.items) gate bytes
+        → AfterOpen (drop gate bytes) OpensNone))) }
     ensures same { D.told disk.new ≡ D.told disk.old }
-    ensures fault { IsErrOf result FrameRefused.DiskFault → Rose (D.faults disk.old) (D.faults disk.new) }
+    ensures fault { IsErrOf result FrameRefused.DiskFault
+        → Rose (D.faults disk.old) (D.faults disk.new) }
     ensures later { D.faults disk.old ≤ D.faults disk.new }
-    ensures well { (IsErrOf result FrameRefused.DiskFault → ⊥) → D.faults disk.new ≡ D.faults disk.old }
+    ensures well { (IsErrOf result FrameRefused.DiskFault → ⊥)
+        → D.faults disk.new ≡ D.faults disk.old }
 {
     let rest = (size - gate) as usize;
     loop {

@@ -55,7 +55,8 @@ fn event_of(rec: Rec, length: u32) -> Result<Event, ReadRefused>
 
 // The event of the PUT that a front of the bytes spells, if it has this length.
 pub(crate) fn event_in(alloc: Global, bytes: &[u8], length: u32) -> Result<Event, ReadRefused>
-    ensures found { (p : pointers.Pointer) → p.at ≡ 0 → p.length ≡ length → FoundAt bytes.now p result }
+    ensures found { (p : pointers.Pointer) → p.at ≡ 0 → p.length ≡ length
+        → FoundAt bytes.now p result }
     ensures length { IsOfLength length result }
     ensures read { IsErrOf result ReadRefused.ReadFault → ⊥ }
 {
@@ -93,9 +94,11 @@ fn read_block<D: Disk>(
         → t.reads (Log p.now.file) ≡ Some bytes → block.items ≡ take size (drop p.now.at bytes))) }
     ensures plain { IfErr result (λ refused. IsNoDamage refused) }
     ensures same { D.told disk.new ≡ D.told disk.old }
-    ensures fault { IsErrOf result ReadRefused.ReadFault → Rose (D.faults disk.old) (D.faults disk.new) }
+    ensures fault { IsErrOf result ReadRefused.ReadFault
+        → Rose (D.faults disk.old) (D.faults disk.new) }
     ensures later { D.faults disk.old ≤ D.faults disk.new }
-    ensures well { (IsErrOf result ReadRefused.ReadFault → ⊥) → D.faults disk.new ≡ D.faults disk.old }
+    ensures well { (IsErrOf result ReadRefused.ReadFault → ⊥)
+        → D.faults disk.new ≡ D.faults disk.old }
 {
     let mut block = Vec::new(alloc);
     if block.resize(size, 0).is_err() {
@@ -115,9 +118,11 @@ pub fn read_put<D: Disk>(alloc: Global, disk: &mut D, p: &Pointer) -> Result<Eve
         → t.reads (Log p.now.file) ≡ Some bytes → FoundAt bytes p.now result) }
     ensures length { IsOfLength p.now.length result }
     ensures same { D.told disk.new ≡ D.told disk.old }
-    ensures fault { IsErrOf result ReadRefused.ReadFault → Rose (D.faults disk.old) (D.faults disk.new) }
+    ensures fault { IsErrOf result ReadRefused.ReadFault
+        → Rose (D.faults disk.old) (D.faults disk.new) }
     ensures later { D.faults disk.old ≤ D.faults disk.new }
-    ensures well { (IsErrOf result ReadRefused.ReadFault → ⊥) → D.faults disk.new ≡ D.faults disk.old }
+    ensures well { (IsErrOf result ReadRefused.ReadFault → ⊥)
+        → D.faults disk.new ≡ D.faults disk.old }
 {
     let block = read_block(alloc, disk, p, put_length(p.length))?;
     if !is_cut(&block) {

@@ -27,8 +27,11 @@ const END_LENGTH: usize = 5;
 fn outline_at(frame: &[u8], place: usize) -> (Outline, usize)
     requires within { place ≤ length frame.now }
     requires records { AreRecords (drop place frame.now) }
-    ensures given { (first : Rec) (records : List Rec) (count : ℕ) → IsFramed first → AllByRecursion IsFramed records → IsCount count → drop place frame.now ≡ closing (first ∷ records) count
-        → (result.0 ≡ outline_of first) × (result.1 ≡ place + step first records) × (drop result.1 frame.now ≡ kept records count) }
+    ensures given { (first : Rec) (records : List Rec) (count : ℕ) → IsFramed first
+        → AllByRecursion IsFramed records → IsCount count
+        → drop place frame.now ≡ closing (first ∷ records) count
+        → (result.0 ≡ outline_of first) × (result.1 ≡ place + step first records)
+        × (drop result.1 frame.now ≡ kept records count) }
     ensures within { result.1 ≤ length frame.now }
     ensures above { place < result.1 }
 {
@@ -45,8 +48,11 @@ fn outline_at(frame: &[u8], place: usize) -> (Outline, usize)
 pub fn record_at(alloc: Global, frame: &[u8], place: usize) -> Result<(Rec, usize), NoMemory>
     requires within { place ≤ length frame.now }
     requires records { AreRecords (drop place frame.now) }
-    ensures given { IfOk result (λ r. (first : Rec) (records : List Rec) (count : ℕ) → IsFramed first → AllByRecursion IsFramed records → IsCount count → drop place frame.now ≡ closing (first ∷ records) count
-        → (r.0 ≡ first) × (r.1 ≡ place + step first records) × (drop r.1 frame.now ≡ kept records count)) }
+    ensures given { IfOk result (λ r. (first : Rec) (records : List Rec) (count : ℕ)
+        → IsFramed first → AllByRecursion IsFramed records → IsCount count
+        → drop place frame.now ≡ closing (first ∷ records) count
+        → (r.0 ≡ first) × (r.1 ≡ place + step first records)
+        × (drop r.1 frame.now ≡ kept records count)) }
     ensures within { IfOk result (λ r. r.1 ≤ length frame.now) }
     ensures above { IfOk result (λ r. place < r.1) }
 {
@@ -76,7 +82,8 @@ fn is_header(birth: u16, number: u32, head: &[u8]) -> bool
 
 /// The birth that the header of a log file of this number names, if it is one.
 pub fn birth_of(number: u32, head: &[u8]) -> Option<u16>
-    ensures { MatchOption result ((birth : ℕ) → IsBirth birth → head.now ≡ header birth number → ⊥) (λ birth. IsBirth birth × (head.now ≡ header birth number)) }
+    ensures { MatchOption result ((birth : ℕ) → IsBirth birth → head.now ≡ header birth number → ⊥)
+        (λ birth. IsBirth birth × (head.now ≡ header birth number)) }
 {
     if is_header(BEGUN, number, head) {
         Some(BEGUN)
@@ -90,12 +97,18 @@ pub fn birth_of(number: u32, head: &[u8]) -> Option<u16>
 // Reads the header of a file of this length, and tests it. Its birth, if the file doesn't count as empty.
 fn read_birth<D: Disk>(disk: &mut D, number: u32, size: u64) -> Result<Option<u16>, FrameRefused>
     requires { IsThere (D.told disk.old) number }
-    ensures birth { IfOk result (λ birth. (bytes : List ℕ) → HasFile (D.told disk.old) number bytes → length bytes ≡ size → IsBirthOf birth number bytes) }
-    ensures bad { IfErr result (λ e. WhereBad e (λ f at. (f ≡ number) × (at ≡ 0) × ((bytes : List ℕ) → HasFile (D.told disk.old) number bytes → length bytes ≡ size → Holds number bytes BadHeader))) }
+    ensures birth { IfOk result (λ birth. (bytes : List ℕ) → HasFile (D.told disk.old) number bytes
+        → length bytes ≡ size → IsBirthOf birth number bytes) }
+    ensures bad { IfErr result (λ e. WhereBad e
+        (λ f at. (f ≡ number) × (at ≡ 0) × ((bytes : List ℕ)
+        → HasFile (D.told disk.old) number bytes → length bytes ≡ size
+        → Holds number bytes BadHeader))) }
     ensures same { D.told disk.new ≡ D.told disk.old }
-    ensures fault { IsErrOf result FrameRefused.DiskFault → Rose (D.faults disk.old) (D.faults disk.new) }
+    ensures fault { IsErrOf result FrameRefused.DiskFault
+        → Rose (D.faults disk.old) (D.faults disk.new) }
     ensures later { D.faults disk.old ≤ D.faults disk.new }
-    ensures well { (IsErrOf result FrameRefused.DiskFault → ⊥) → D.faults disk.new ≡ D.faults disk.old }
+    ensures well { (IsErrOf result FrameRefused.DiskFault → ⊥)
+        → D.faults disk.new ≡ D.faults disk.old }
 {
     if size <= BLANK_LENGTH {
         return Ok(None);
@@ -143,7 +156,15 @@ impl Model for LogReader {
 
     ghost Value = { Reader };
 
-    ghost view = { λ r. record { file = r.file; size = r.size; drops = r.drops; blank = r.blank; at = r.at; held = drop r.place (take r.stop r.read.items); ahead = drop r.stop r.read.items } };
+    ghost view = { λ r. record {
+      file = r.file;
+      size = r.size;
+      drops = r.drops;
+      blank = r.blank;
+      at = r.at;
+      held = drop r.place (take r.stop r.read.items);
+      ahead = drop r.stop r.read.items;
+    } };
 
     ghost invariant = { λ r. IsReader r.place r.stop r.at r.size r.read.items r.piece.items };
 }
@@ -158,16 +179,28 @@ impl LogReader {
         at: u64,
     ) -> Result<LogReader, FrameRefused>
         requires { IsThere (D.told disk.old) number }
-        ensures remains { IfOk result (λ r. (bytes : List ℕ) (content : Content) → HasFile (D.told disk.old) number bytes → Holds number bytes content → at ≡ 16 → Remains r bytes (content_items content) (fault_of content)) }
-        ensures drops { IfOk result (λ r. (bytes : List ℕ) (content : Content) → HasFile (D.told disk.old) number bytes → Holds number bytes content → IsTrue r.drops ↔ ((at ≡ 16) × IsBegun content)) }
-        ensures place { IfOk result (λ r. (bytes : List ℕ) (frames : List (List Rec)) (fault : Option ℕ) → HasFile (D.told disk.old) number bytes → 17 < length bytes → Goes (drop at bytes) at frames fault → Remains r bytes (frame_items at frames) fault) }
+        ensures remains { IfOk result (λ r. (bytes : List ℕ) (content : Content)
+            → HasFile (D.told disk.old) number bytes → Holds number bytes content → at ≡ 16
+            → Remains r bytes (content_items content) (fault_of content)) }
+        ensures drops { IfOk result (λ r. (bytes : List ℕ) (content : Content)
+            → HasFile (D.told disk.old) number bytes → Holds number bytes content → IsTrue r.drops
+            ↔ ((at ≡ 16) × IsBegun content)) }
+        ensures place { IfOk result (λ r. (bytes : List ℕ) (frames : List (List Rec))
+            (fault : Option ℕ) → HasFile (D.told disk.old) number bytes → 17 < length bytes
+            → Goes (drop at bytes) at frames fault
+            → Remains r bytes (frame_items at frames) fault) }
         ensures file { IfOk result (λ r. r.file ≡ number) }
-        ensures tested { OnOk result ((bytes : List ℕ) → HasFile (D.told disk.old) number bytes → Holds number bytes BadHeader → ⊥) }
-        ensures bad { IfErr result (λ e. WhereBad e (λ f at. (f ≡ number) × (at ≡ 0) × ((bytes : List ℕ) → HasFile (D.told disk.old) number bytes → Holds number bytes BadHeader))) }
+        ensures tested { OnOk result ((bytes : List ℕ) → HasFile (D.told disk.old) number bytes
+            → Holds number bytes BadHeader → ⊥) }
+        ensures bad { IfErr result (λ e. WhereBad e
+            (λ f at. (f ≡ number) × (at ≡ 0) × ((bytes : List ℕ)
+            → HasFile (D.told disk.old) number bytes → Holds number bytes BadHeader))) }
         ensures same { D.told disk.new ≡ D.told disk.old }
-        ensures fault { IsErrOf result FrameRefused.DiskFault → Rose (D.faults disk.old) (D.faults disk.new) }
+        ensures fault { IsErrOf result FrameRefused.DiskFault
+            → Rose (D.faults disk.old) (D.faults disk.new) }
         ensures later { D.faults disk.old ≤ D.faults disk.new }
-        ensures well { (IsErrOf result FrameRefused.DiskFault → ⊥) → D.faults disk.new ≡ D.faults disk.old }
+        ensures well { (IsErrOf result FrameRefused.DiskFault → ⊥)
+            → D.faults disk.new ≡ D.faults disk.old }
     {
         let mut piece = Vec::new(alloc);
         if piece.resize(BLOCK, 0).is_err() {
@@ -209,8 +242,11 @@ impl LogReader {
     // Gives the outline of the record that the reader stands before.
     fn give_outline(&mut self) -> (Outline, u64)
         requires { AreRecords self.old.held }
-        ensures given { (first : Rec) (records : List Rec) (count : ℕ) → IsFramed first → AllByRecursion IsFramed records → IsCount count → self.old.held ≡ closing (first ∷ records) count
-            → (result.0 ≡ outline_of first) × IsGiven self.old self.new (first, result.1) first records count }
+        ensures given { (first : Rec) (records : List Rec) (count : ℕ) → IsFramed first
+            → AllByRecursion IsFramed records → IsCount count
+            → self.old.held ≡ closing (first ∷ records) count
+            → (result.0 ≡ outline_of first) × IsGiven self.old self.new
+            (first, result.1) first records count }
         ensures file { IsSameFile self.old self.new }
         ensures rises { (self.old.at < self.new.at) × (self.new.at < 2 ^ 64) }
     {
@@ -224,7 +260,10 @@ impl LogReader {
     // Gives the record that the reader stands before.
     fn give(&mut self) -> Result<(Rec, u64), NoMemory>
         requires { AreRecords self.old.held }
-        ensures given { IfOk result (λ given. (first : Rec) (records : List Rec) (count : ℕ) → IsFramed first → AllByRecursion IsFramed records → IsCount count → self.old.held ≡ closing (first ∷ records) count → IsGiven self.old self.new given first records count) }
+        ensures given { IfOk result (λ given. (first : Rec) (records : List Rec) (count : ℕ)
+            → IsFramed first → AllByRecursion IsFramed records → IsCount count
+            → self.old.held ≡ closing (first ∷ records) count
+            → IsGiven self.old self.new given first records count) }
         ensures file { IsSameFile self.old self.new }
         ensures refused { OnErr result (self.new ≡ self.old) }
         ensures rises { OnOk result ((self.old.at < self.new.at) × (self.new.at < 2 ^ 64)) }
@@ -239,17 +278,28 @@ impl LogReader {
         requires there { IsThere (D.told disk.old) self.old.file }
         requires between { self.old.held ≡ [] }
         ensures entered { IfOk result (λ found. IfTrue found (IsEntered self.old self.new)) }
-        ensures stays { IfOk result (λ found. found ≡ false → self.new ≡ record self.old { ahead = self.new.ahead }) }
-        ensures front { OnOk result ((bytes : List ℕ) → HasFile (D.told disk.old) self.old.file bytes → IsAhead self.old bytes → IsAhead self.new bytes) }
-        ensures loaded { IfOk result (λ found. self.old.blank ≡ false → self.old.at < self.old.size → (bytes : List ℕ) → HasFile (D.told disk.old) self.old.file bytes → IsAhead self.old bytes → IsLoaded found (drop self.old.at bytes) self.new.held) }
+        ensures stays { IfOk result (λ found. found ≡ false
+            → self.new ≡ record self.old { ahead = self.new.ahead }) }
+        ensures front { OnOk result ((bytes : List ℕ)
+            → HasFile (D.told disk.old) self.old.file bytes → IsAhead self.old bytes
+            → IsAhead self.new bytes) }
+        ensures loaded { IfOk result (λ found. self.old.blank ≡ false → self.old.at < self.old.size
+            → (bytes : List ℕ) → HasFile (D.told disk.old) self.old.file bytes
+            → IsAhead self.old bytes → IsLoaded found (drop self.old.at bytes) self.new.held) }
         ensures over { IfOk result (λ found. self.old.blank ≡ true → found ≡ false) }
         ensures rises { OnOk result (self.old.at ≤ self.new.at) }
-        ensures bad { IfErr result (λ e. WhereBad e (λ f at. (f ≡ self.old.file) × (at ≡ self.old.at) × (self.old.blank ≡ false) × ((bytes : List ℕ) → HasFile (D.told disk.old) self.old.file bytes → length bytes ≡ self.old.size → IsAhead self.old bytes → AfterOpen (drop self.old.at bytes) OpensNone))) }
+        ensures bad { IfErr result (λ e. WhereBad e
+            (λ f at. (f ≡ self.old.file) × (at ≡ self.old.at) × (self.old.blank ≡ false)
+            × ((bytes : List ℕ) → HasFile (D.told disk.old) self.old.file bytes
+            → length bytes ≡ self.old.size → IsAhead self.old bytes
+            → AfterOpen (drop self.old.at bytes) OpensNone))) }
         ensures refused { OnErr result (self.new ≡ record self.old { ahead = [] }) }
         ensures same { D.told disk.new ≡ D.told disk.old }
-        ensures fault { IsErrOf result FrameRefused.DiskFault → Rose (D.faults disk.old) (D.faults disk.new) }
+        ensures fault { IsErrOf result FrameRefused.DiskFault
+            → Rose (D.faults disk.old) (D.faults disk.new) }
         ensures later { D.faults disk.old ≤ D.faults disk.new }
-        ensures well { (IsErrOf result FrameRefused.DiskFault → ⊥) → D.faults disk.new ≡ D.faults disk.old }
+        ensures well { (IsErrOf result FrameRefused.DiskFault → ⊥)
+            → D.faults disk.new ≡ D.faults disk.old }
     {
         if self.blank || self.at >= self.size {
             return Ok(false);
@@ -287,14 +337,21 @@ impl LogReader {
         requires { IsThere (D.told disk.old) self.old.file }
         ensures held { IfOk result (λ found. IfTrue found (AreRecords self.new.held)) }
         ensures rises { OnOk result (self.old.at ≤ self.new.at) }
-        ensures stands { IfOk result (λ found. (bytes : List ℕ) (items : List (Rec × ℕ)) (fault : Option ℕ) → HasFile (D.told disk.old) self.old.file bytes → Remains self.old bytes items fault → Stands found self.new bytes items fault) }
-        ensures bad { IfErr result (λ e. WhereBad e (λ f at. (f ≡ self.old.file) × ((bytes : List ℕ) (items : List (Rec × ℕ)) (fault : Option ℕ) → HasFile (D.told disk.old) self.old.file bytes → Remains self.old bytes items fault → (items ≡ []) × (fault ≡ Some at)))) }
+        ensures stands { IfOk result (λ found. (bytes : List ℕ) (items : List (Rec × ℕ))
+            (fault : Option ℕ) → HasFile (D.told disk.old) self.old.file bytes
+            → Remains self.old bytes items fault → Stands found self.new bytes items fault) }
+        ensures bad { IfErr result (λ e. WhereBad e
+            (λ f at. (f ≡ self.old.file) × ((bytes : List ℕ) (items : List (Rec × ℕ))
+            (fault : Option ℕ) → HasFile (D.told disk.old) self.old.file bytes
+            → Remains self.old bytes items fault → (items ≡ []) × (fault ≡ Some at)))) }
         ensures refused { OnErr result (self.new ≡ record self.old { ahead = [] }) }
         ensures file { IsSameFile self.old self.new }
         ensures same { D.told disk.new ≡ D.told disk.old }
-        ensures fault { IsErrOf result FrameRefused.DiskFault → Rose (D.faults disk.old) (D.faults disk.new) }
+        ensures fault { IsErrOf result FrameRefused.DiskFault
+            → Rose (D.faults disk.old) (D.faults disk.new) }
         ensures later { D.faults disk.old ≤ D.faults disk.new }
-        ensures well { (IsErrOf result FrameRefused.DiskFault → ⊥) → D.faults disk.new ≡ D.faults disk.old }
+        ensures well { (IsErrOf result FrameRefused.DiskFault → ⊥)
+            → D.faults disk.new ≡ D.faults disk.old }
     {
         if self.place < self.stop {
             return Ok(true);
@@ -319,17 +376,28 @@ impl LogReader {
         steps: &mut Steps<L>,
     ) -> Result<Option<(Rec, u64)>, FrameRefused>
         requires { IsThere (D.told disk.old) self.old.file }
-        ensures given { IfOk result (λ given. (bytes : List ℕ) (items : List (Rec × ℕ)) (fault : Option ℕ) → HasFile (D.told disk.old) self.old.file bytes → Remains self.old bytes items fault → Gives given self.new bytes items fault) }
-        ensures bad { IfErr result (λ e. WhereBad e (λ f at. (f ≡ self.old.file) × ((bytes : List ℕ) (items : List (Rec × ℕ)) (fault : Option ℕ) → HasFile (D.told disk.old) self.old.file bytes → Remains self.old bytes items fault → (items ≡ []) × (fault ≡ Some at)))) }
-        ensures refused { OnErr result ((bytes : List ℕ) (items : List (Rec × ℕ)) (fault : Option ℕ) → HasFile (D.told disk.old) self.old.file bytes → Remains self.old bytes items fault → Remains self.new bytes items fault) }
+        ensures given { IfOk result (λ given. (bytes : List ℕ) (items : List (Rec × ℕ))
+            (fault : Option ℕ) → HasFile (D.told disk.old) self.old.file bytes
+            → Remains self.old bytes items fault → Gives given self.new bytes items fault) }
+        ensures bad { IfErr result (λ e. WhereBad e
+            (λ f at. (f ≡ self.old.file) × ((bytes : List ℕ) (items : List (Rec × ℕ))
+            (fault : Option ℕ) → HasFile (D.told disk.old) self.old.file bytes
+            → Remains self.old bytes items fault → (items ≡ []) × (fault ≡ Some at)))) }
+        ensures refused { OnErr result ((bytes : List ℕ) (items : List (Rec × ℕ)) (fault : Option ℕ)
+            → HasFile (D.told disk.old) self.old.file bytes → Remains self.old bytes items fault
+            → Remains self.new bytes items fault) }
         ensures file { IsSameFile self.old self.new }
-        ensures rises { IfOk result (λ given. IsSome given → (self.old.at < self.new.at) × (self.new.at < 2 ^ 64)) }
-        ensures ticks { IfOk result (λ given. steps.new ≡ steps.old + (if is_some given then 1 else 0)) }
+        ensures rises { IfOk result (λ given. IsSome given → (self.old.at < self.new.at)
+            × (self.new.at < 2 ^ 64)) }
+        ensures ticks { IfOk result (λ given. steps.new
+            ≡ steps.old + (if is_some given then 1 else 0)) }
         ensures no_ticks { OnErr result (steps.new ≡ steps.old) }
         ensures same { D.told disk.new ≡ D.told disk.old }
-        ensures fault { IsErrOf result FrameRefused.DiskFault → Rose (D.faults disk.old) (D.faults disk.new) }
+        ensures fault { IsErrOf result FrameRefused.DiskFault
+            → Rose (D.faults disk.old) (D.faults disk.new) }
         ensures later { D.faults disk.old ≤ D.faults disk.new }
-        ensures well { (IsErrOf result FrameRefused.DiskFault → ⊥) → D.faults disk.new ≡ D.faults disk.old }
+        ensures well { (IsErrOf result FrameRefused.DiskFault → ⊥)
+            → D.faults disk.new ≡ D.faults disk.old }
     {
         if !self.enter(disk)? {
             return Ok(None);
@@ -351,18 +419,29 @@ impl LogReader {
         steps: &mut Steps<L>,
     ) -> Result<Option<(Outline, u64)>, FrameRefused>
         requires { IsThere (D.told disk.old) self.old.file }
-        ensures given { IfOk result (λ given. (bytes : List ℕ) (items : List (Rec × ℕ)) (fault : Option ℕ) → HasFile (D.told disk.old) self.old.file bytes → Remains self.old bytes items fault → GivesOutline given self.new bytes items fault) }
+        ensures given { IfOk result (λ given. (bytes : List ℕ) (items : List (Rec × ℕ))
+            (fault : Option ℕ) → HasFile (D.told disk.old) self.old.file bytes
+            → Remains self.old bytes items fault → GivesOutline given self.new bytes items fault) }
         ensures outlined { IfOk result (λ found. IfSome found (λ given. IsSomeOutline given.0)) }
-        ensures bad { IfErr result (λ e. WhereBad e (λ f at. (f ≡ self.old.file) × ((bytes : List ℕ) (items : List (Rec × ℕ)) (fault : Option ℕ) → HasFile (D.told disk.old) self.old.file bytes → Remains self.old bytes items fault → (items ≡ []) × (fault ≡ Some at)))) }
-        ensures refused { OnErr result ((bytes : List ℕ) (items : List (Rec × ℕ)) (fault : Option ℕ) → HasFile (D.told disk.old) self.old.file bytes → Remains self.old bytes items fault → Remains self.new bytes items fault) }
+        ensures bad { IfErr result (λ e. WhereBad e
+            (λ f at. (f ≡ self.old.file) × ((bytes : List ℕ) (items : List (Rec × ℕ))
+            (fault : Option ℕ) → HasFile (D.told disk.old) self.old.file bytes
+            → Remains self.old bytes items fault → (items ≡ []) × (fault ≡ Some at)))) }
+        ensures refused { OnErr result ((bytes : List ℕ) (items : List (Rec × ℕ)) (fault : Option ℕ)
+            → HasFile (D.told disk.old) self.old.file bytes → Remains self.old bytes items fault
+            → Remains self.new bytes items fault) }
         ensures file { IsSameFile self.old self.new }
-        ensures rises { IfOk result (λ given. IsSome given → (self.old.at < self.new.at) × (self.new.at < 2 ^ 64)) }
-        ensures ticks { IfOk result (λ given. steps.new ≡ steps.old + (if is_some given then 1 else 0)) }
+        ensures rises { IfOk result (λ given. IsSome given → (self.old.at < self.new.at)
+            × (self.new.at < 2 ^ 64)) }
+        ensures ticks { IfOk result (λ given. steps.new
+            ≡ steps.old + (if is_some given then 1 else 0)) }
         ensures no_ticks { OnErr result (steps.new ≡ steps.old) }
         ensures same { D.told disk.new ≡ D.told disk.old }
-        ensures fault { IsErrOf result FrameRefused.DiskFault → Rose (D.faults disk.old) (D.faults disk.new) }
+        ensures fault { IsErrOf result FrameRefused.DiskFault
+            → Rose (D.faults disk.old) (D.faults disk.new) }
         ensures later { D.faults disk.old ≤ D.faults disk.new }
-        ensures well { (IsErrOf result FrameRefused.DiskFault → ⊥) → D.faults disk.new ≡ D.faults disk.old }
+        ensures well { (IsErrOf result FrameRefused.DiskFault → ⊥)
+            → D.faults disk.new ≡ D.faults disk.old }
     {
         if !self.enter(disk)? {
             return Ok(None);

@@ -34,7 +34,10 @@ fn read_front<D: Disk>(
 ) -> Result<usize, Failed>
     requires there { WhereTold (D.told disk.old) (λ t. IsSome (t.reads (Log file))) }
     requires room { size ≤ length block.old }
-    ensures bytes { IfOk result (λ n. WhereTold (D.told disk.old) (λ t. (bytes : List ℕ) × (t.reads (Log file) ≡ Some bytes) × (n ≡ min size (length bytes - at)) × (block.new ≡ take n (drop at bytes) ++ drop n block.old))) }
+    ensures bytes { IfOk result (λ n. WhereTold (D.told disk.old)
+        (λ t. (bytes : List ℕ) × (t.reads (Log file) ≡ Some bytes)
+        × (n ≡ min size (length bytes - at)) × (block.new
+        ≡ take n (drop at bytes) ++ drop n block.old))) }
     ensures filled { IfOk result (λ n. n ≤ size) }
     ensures same { D.told disk.new ≡ D.told disk.old }
     ensures cause { HasCause (D.faults disk.old) (D.faults disk.new) result }
@@ -107,7 +110,13 @@ impl Window {
     ) -> Result<(), Failed>
         requires there { WhereTold (D.told disk.old) (λ t. IsSome (t.reads (Log file))) }
         requires room { size ≤ most }
-        ensures loaded { OnOk result (WhereTold (D.told disk.old) (λ t. (bytes : List ℕ) × (t.reads (Log file) ≡ Some bytes) × (self.new ≡ record { file = file; from = at; bytes = take (end - at) (take size (drop at bytes)) }))) }
+        ensures loaded { OnOk result (WhereTold (D.told disk.old)
+            (λ t. (bytes : List ℕ) × (t.reads (Log file) ≡ Some bytes)
+            × (self.new ≡ record {
+              file = file;
+              from = at;
+              bytes = take (end - at) (take size (drop at bytes));
+            }))) }
         ensures place { OnOk result ((self.new.file ≡ file) × (self.new.from ≡ at)) }
         ensures lost { OnErr result (self.new.bytes ≡ []) }
         ensures same { D.told disk.new ≡ D.told disk.old }
@@ -134,10 +143,13 @@ impl Window {
         requires room { want ≤ most }
 
         // What is kept is of the parts of the files that it was of, this file's up to the end.
-        ensures found { IfOk result (λ place. WhereTold (D.told disk.old) (λ t. (part : ℕ → List ℕ) → IsPieceOf self.old part → IsBelow t file end (part file)
-            → IsPieceOf self.new part × ((n : ℕ) → n ≤ want → at + n ≤ length (part file) → HasThere self.new place (part file) at n))) }
+        ensures found { IfOk result (λ place. WhereTold (D.told disk.old)
+            (λ t. (part : ℕ → List ℕ) → IsPieceOf self.old part → IsBelow t file end (part file)
+            → IsPieceOf self.new part × ((n : ℕ) → n ≤ want → at + n ≤ length (part file)
+            → HasThere self.new place (part file) at n))) }
         ensures within { IfOk result (λ place. place ≤ length self.new.bytes) }
-        ensures place { IfOk result (λ place. (self.new.file ≡ file) × (self.new.from + place ≡ at)) }
+        ensures place { IfOk result (λ place. (self.new.file ≡ file)
+            × (self.new.from + place ≡ at)) }
         ensures lost { OnErr result (self.new.bytes ≡ []) }
         ensures same { D.told disk.new ≡ D.told disk.old }
         ensures cause { HasCause (D.faults disk.old) (D.faults disk.new) result }
@@ -160,11 +172,14 @@ impl Window {
         requires there { WhereTold (D.told disk.old) (λ t. IsSome (t.reads (Log p.now.file))) }
 
         // What is kept is of the parts of the files that it was of, this file's up to the end.
-        ensures found { IfOk result (λ place. WhereTold (D.told disk.old) (λ t. (part : ℕ → List ℕ) → IsPieceOf self.old part
+        ensures found { IfOk result (λ place. WhereTold (D.told disk.old)
+            (λ t. (part : ℕ → List ℕ) → IsPieceOf self.old part
             → IsBelow t p.now.file end (part p.now.file)
-            → IsPieceOf self.new part × IsSeen (part p.now.file) p.now (drop place self.new.bytes))) }
+            → IsPieceOf self.new part × IsSeen (part p.now.file) p.now
+            (drop place self.new.bytes))) }
         ensures within { IfOk result (λ place. place ≤ length self.new.bytes) }
-        ensures place { IfOk result (λ place. (self.new.file ≡ p.now.file) × (self.new.from + place ≡ p.now.at)) }
+        ensures place { IfOk result (λ place. (self.new.file ≡ p.now.file)
+            × (self.new.from + place ≡ p.now.at)) }
         ensures lost { OnErr result (self.new.bytes ≡ []) }
         ensures same { D.told disk.new ≡ D.told disk.old }
         ensures cause { HasCause (D.faults disk.old) (D.faults disk.new) result }

@@ -61,10 +61,12 @@ fn make_file<D: Disk>(disk: &mut D, number: u32, text: &[u8]) -> Result<(), Fail
     requires { IsUnused (D.told disk.old) number }
 
     // A crash at any moment of the call leaves no file, or one that counts as empty.
-    ensures any_moment { (birth : ℕ) → text.now ≡ header birth number ++ 0 ∷ [] → Tells (D.told disk.old) (D.told disk.new) (Changes (Log number) IsBlank 1) }
+    ensures any_moment { (birth : ℕ) → text.now ≡ header birth number ++ 0 ∷ []
+        → Tells (D.told disk.old) (D.told disk.new) (Changes (Log number) IsBlank 1) }
 
     // After Ok a crash leaves the header and no frame.
-    ensures begun { OnOk result ((birth : ℕ) → text.now ≡ header birth number ++ 0 ∷ [] → IsReady (D.told disk.new) birth number 16 []) }
+    ensures begun { OnOk result ((birth : ℕ) → text.now ≡ header birth number ++ 0 ∷ []
+        → IsReady (D.told disk.new) birth number 16 []) }
     ensures cause { HasCause (D.faults disk.old) (D.faults disk.new) result }
 {
     let name = FileName::Log(number);
@@ -77,15 +79,22 @@ fn make_file<D: Disk>(disk: &mut D, number: u32, text: &[u8]) -> Result<(), Fail
 // Writes a frame and a closed commit byte after the file's closed commit byte, and opens that one. Each step is made
 // stable before the next.
 fn write_frame<D: Disk>(disk: &mut D, number: u32, gate: u64, piece: &[u8]) -> Result<(), Failed>
-    requires ready { (birth : ℕ) × (frames : List (List Rec)) × (frame : List Rec) × IsReady (D.told disk.old) birth number gate frames × IsFrame frame × (piece.now ≡ frame_bytes frame ++ 0 ∷ []) }
+    requires ready { (birth : ℕ) × (frames : List (List Rec)) × (frame : List Rec)
+        × IsReady (D.told disk.old) birth number gate frames × IsFrame frame
+        × (piece.now ≡ frame_bytes frame ++ 0 ∷ []) }
     requires room { gate < 2 ^ 63 }
 
     // A crash at any moment of the call leaves the frames from before it, or these and the new one.
-    ensures any_moment { (birth : ℕ) (frames : List (List Rec)) (frame : List Rec) → IsReady (D.told disk.old) birth number gate frames → IsFrame frame → piece.now ≡ frame_bytes frame ++ 0 ∷ []
-        → Tells (D.told disk.old) (D.told disk.new) (Changes (Log number) (LacksOrHas birth number frames frame) 2) }
+    ensures any_moment { (birth : ℕ) (frames : List (List Rec)) (frame : List Rec)
+        → IsReady (D.told disk.old) birth number gate frames → IsFrame frame
+        → piece.now ≡ frame_bytes frame ++ 0 ∷ []
+        → Tells (D.told disk.old) (D.told disk.new)
+        (Changes (Log number) (LacksOrHas birth number frames frame) 2) }
 
     // After Ok a crash leaves them all.
-    ensures flushed { OnOk result ((birth : ℕ) (frames : List (List Rec)) (frame : List Rec) → IsReady (D.told disk.old) birth number gate frames → IsFrame frame → piece.now ≡ frame_bytes frame ++ 0 ∷ []
+    ensures flushed { OnOk result ((birth : ℕ) (frames : List (List Rec)) (frame : List Rec)
+        → IsReady (D.told disk.old) birth number gate frames → IsFrame frame
+        → piece.now ≡ frame_bytes frame ++ 0 ∷ []
         → IsReady (D.told disk.new) birth number (gate + length piece.now) (frames ++ frame ∷ [])) }
     ensures bounded { OnOk result (gate + length piece.now < 2 ^ 63) }
     ensures cause { HasCause (D.faults disk.old) (D.faults disk.new) result }
@@ -129,9 +138,18 @@ impl Model for LogWriter {
 
     ghost Value = { Writer };
 
-    ghost view = { λ w. record { file = w.number; gate = w.gate; max_file = w.max_file; started = w.started; bytes = w.frame.items; count = w.count; kept = w.window } };
+    ghost view = { λ w. record {
+      file = w.number;
+      gate = w.gate;
+      max_file = w.max_file;
+      started = w.started;
+      bytes = w.frame.items;
+      count = w.count;
+      kept = w.window;
+    } };
 
-    ghost invariant = { λ w. IsWithin w.gate w.count w.started w.frame.items (vec_capacity w.frame) };
+    ghost invariant = { λ w. IsWithin w.gate w.count w.started w.frame.items
+        (vec_capacity w.frame) };
 }
 
 // Adds END and a closed commit byte.
@@ -149,7 +167,8 @@ fn seal(frame: &mut Vec<u8>, count: u32)
 
 // The room of a frame, and that of a window.
 fn buffers(alloc: Global) -> Result<(Vec<u8>, Window), NoMemory>
-    ensures { IfOk result (λ pair. (pair.0.items ≡ []) × (2_097_152 ≤ vec_capacity pair.0) × (pair.1 ≡ nothing_kept)) }
+    ensures { IfOk result (λ pair. (pair.0.items ≡ []) × (2_097_152 ≤ vec_capacity pair.0)
+        × (pair.1 ≡ nothing_kept)) }
 {
     let frame = Vec::with_capacity(alloc, FRAME_ROOM)?;
     let window = Window::make(alloc)?;
@@ -168,13 +187,25 @@ impl LogWriter {
     ) -> Result<LogWriter, LogBeginRefused>
         requires birth { IsBirth birth }
         requires unused { IsUnused (D.told disk.old) number }
-        ensures writer { IfOk result (λ w. w ≡ record { file = number; gate = 16; max_file = max_file; started = false; bytes = []; count = 0; kept = nothing_kept }) }
-        ensures any_moment { Tells (D.told disk.old) (D.told disk.new) (Changes (Log number) IsBlank 1) }
+        ensures writer { IfOk result (λ w. w ≡ record {
+          file = number;
+          gate = 16;
+          max_file = max_file;
+          started = false;
+          bytes = [];
+          count = 0;
+          kept = nothing_kept;
+        }) }
+        ensures any_moment { Tells (D.told disk.old) (D.told disk.new)
+            (Changes (Log number) IsBlank 1) }
         ensures begun { OnOk result (IsReady (D.told disk.new) birth number 16 []) }
-        ensures no_memory { IsErrOf result LogBeginRefused.NoMemory → D.told disk.new ≡ D.told disk.old }
-        ensures fault { IsErrOf result LogBeginRefused.DiskFault → Rose (D.faults disk.old) (D.faults disk.new) }
+        ensures no_memory { IsErrOf result LogBeginRefused.NoMemory
+            → D.told disk.new ≡ D.told disk.old }
+        ensures fault { IsErrOf result LogBeginRefused.DiskFault
+            → Rose (D.faults disk.old) (D.faults disk.new) }
         ensures later { D.faults disk.old ≤ D.faults disk.new }
-        ensures well { (IsErrOf result LogBeginRefused.DiskFault → ⊥) → D.faults disk.new ≡ D.faults disk.old }
+        ensures well { (IsErrOf result LogBeginRefused.DiskFault → ⊥)
+            → D.faults disk.new ≡ D.faults disk.old }
     {
         let Ok((frame, window)) = buffers(alloc) else {
             return Err(LogBeginRefused::NoMemory);
@@ -217,20 +248,35 @@ impl LogWriter {
     /// Makes the waiting records one committed frame more of the file, with two syncs. Without waiting records it touches
     /// no device.
     pub fn flush<D: Disk>(&mut self, disk: &mut D) -> Result<(), LogFlushRefused>
-        requires { (birth : ℕ) × (frames : List (List Rec)) × (records : List Rec) × IsReady (D.told disk.old) birth self.old.file self.old.gate frames × IsPending self.old records }
+        requires { (birth : ℕ) × (frames : List (List Rec)) × (records : List Rec)
+            × IsReady (D.told disk.old) birth self.old.file self.old.gate frames
+            × IsPending self.old records }
 
         // A crash at any moment of the call leaves the frames from before it, or these and the new one.
-        ensures any_moment { (birth : ℕ) (frames : List (List Rec)) (records : List Rec) → IsReady (D.told disk.old) birth self.old.file self.old.gate frames → IsPending self.old records → 1 ≤ length records
-            → Tells (D.told disk.old) (D.told disk.new) (Changes (Log self.old.file) (LacksOrHas birth self.old.file frames records) 2) }
+        ensures any_moment { (birth : ℕ) (frames : List (List Rec)) (records : List Rec)
+            → IsReady (D.told disk.old) birth self.old.file self.old.gate frames
+            → IsPending self.old records → 1 ≤ length records
+            → Tells (D.told disk.old) (D.told disk.new)
+            (Changes (Log self.old.file) (LacksOrHas birth self.old.file frames records) 2) }
 
         // After Ok a crash leaves them all.
-        ensures flushed { OnOk result ((birth : ℕ) (frames : List (List Rec)) (records : List Rec) → IsReady (D.told disk.old) birth self.old.file self.old.gate frames → IsPending self.old records → 1 ≤ length records
-            → IsReady (D.told disk.new) birth self.old.file self.new.gate (frames ++ records ∷ [])) }
-        ensures writer { OnOk result (1 ≤ self.old.count → self.new ≡ record self.old { gate = self.old.gate + length self.old.bytes + 6; started = true; bytes = []; count = 0 }) }
+        ensures flushed { OnOk result ((birth : ℕ) (frames : List (List Rec)) (records : List Rec)
+            → IsReady (D.told disk.old) birth self.old.file self.old.gate frames
+            → IsPending self.old records → 1 ≤ length records
+            → IsReady (D.told disk.new) birth self.old.file self.new.gate
+            (frames ++ records ∷ [])) }
+        ensures writer { OnOk result (1 ≤ self.old.count
+            → self.new ≡ record self.old {
+              gate = self.old.gate + length self.old.bytes + 6;
+              started = true;
+              bytes = [];
+              count = 0;
+            }) }
         ensures refused { OnErr result (self.new ≡ self.old) }
 
         // Nothing waits.
-        ensures empty { self.old.count ≡ 0 → IsOk result × (self.new ≡ self.old) × (D.told disk.new ≡ D.told disk.old) }
+        ensures empty { self.old.count ≡ 0 → IsOk result × (self.new ≡ self.old)
+            × (D.told disk.new ≡ D.told disk.old) }
         ensures cause { HasCause (D.faults disk.old) (D.faults disk.new) result }
     {
         if self.count == 0 {
@@ -273,13 +319,18 @@ impl LogWriter {
         ensures quiet { IsErrOf result LogRollRefused.Spent → D.told disk.new ≡ D.told disk.old }
 
         // A crash at any moment of the call leaves no next file, or one that counts as empty.
-        ensures any_moment { self.old.file < 4_294_967_295 → Tells (D.told disk.old) (D.told disk.new) (Changes (Log (self.old.file + 1)) IsBlank 1) }
+        ensures any_moment { self.old.file < 4_294_967_295
+            → Tells (D.told disk.old) (D.told disk.new)
+            (Changes (Log (self.old.file + 1)) IsBlank 1) }
         ensures begun { OnOk result (IsReady (D.told disk.new) 2 self.new.file 16 []) }
-        ensures writer { OnOk result (self.new ≡ record self.old { file = self.old.file + 1; gate = 16; started = false }) }
+        ensures writer { OnOk result (self.new
+            ≡ record self.old { file = self.old.file + 1; gate = 16; started = false }) }
         ensures refused { OnErr result (self.new ≡ self.old) }
-        ensures fault { IsErrOf result LogRollRefused.DiskFault → Rose (D.faults disk.old) (D.faults disk.new) }
+        ensures fault { IsErrOf result LogRollRefused.DiskFault
+            → Rose (D.faults disk.old) (D.faults disk.new) }
         ensures later { D.faults disk.old ≤ D.faults disk.new }
-        ensures well { (IsErrOf result LogRollRefused.DiskFault → ⊥) → D.faults disk.new ≡ D.faults disk.old }
+        ensures well { (IsErrOf result LogRollRefused.DiskFault → ⊥)
+            → D.faults disk.new ≡ D.faults disk.old }
     {
         if self.number == LAST_FILE {
             return Err(LogRollRefused::Spent);
@@ -340,21 +391,27 @@ impl LogWriter {
         p: &Pointer,
     ) -> Result<Event, ReadRefused>
         requires there { WhereTold (D.told disk.old) (λ t. IsSome (t.reads (Log p.now.file))) }
-        ensures waiting { IsWaiting self.old p.now → FoundAt self.old.bytes (in_frame self.old p.now) result
+        ensures waiting { IsWaiting self.old p.now
+            → FoundAt self.old.bytes (in_frame self.old p.now) result
             × (IsErrOf result ReadRefused.ReadFault → ⊥) }
 
         // `part` is what each file has that no later call changes: what is kept is of that.
-        ensures found { WhereTold (D.told disk.old) (λ t. (part : ℕ → List ℕ) → IsPieceOf self.old.kept part
+        ensures found { WhereTold (D.told disk.old)
+            (λ t. (part : ℕ → List ℕ) → IsPieceOf self.old.kept part
             → IsBelow t p.now.file (end_of self.old p.now.file) (part p.now.file)
             → (IsWaiting self.old p.now → ⊥) → FoundAt (part p.now.file) p.now result) }
-        ensures kept { WhereTold (D.told disk.old) (λ t. (part : ℕ → List ℕ) → IsPieceOf self.old.kept part
-            → IsBelow t p.now.file (end_of self.old p.now.file) (part p.now.file) → IsPieceOf self.new.kept part) }
+        ensures kept { WhereTold (D.told disk.old)
+            (λ t. (part : ℕ → List ℕ) → IsPieceOf self.old.kept part
+            → IsBelow t p.now.file (end_of self.old p.now.file) (part p.now.file)
+            → IsPieceOf self.new.kept part) }
         ensures length { IsOfLength p.now.length result }
         ensures writer { self.new ≡ record self.old { kept = self.new.kept } }
         ensures same { D.told disk.new ≡ D.told disk.old }
-        ensures fault { IsErrOf result ReadRefused.ReadFault → Rose (D.faults disk.old) (D.faults disk.new) }
+        ensures fault { IsErrOf result ReadRefused.ReadFault
+            → Rose (D.faults disk.old) (D.faults disk.new) }
         ensures later { D.faults disk.old ≤ D.faults disk.new }
-        ensures well { (IsErrOf result ReadRefused.ReadFault → ⊥) → D.faults disk.new ≡ D.faults disk.old }
+        ensures well { (IsErrOf result ReadRefused.ReadFault → ⊥)
+            → D.faults disk.new ≡ D.faults disk.old }
     {
         if self.waits_at(p) {
             return self.waiting(alloc, p);

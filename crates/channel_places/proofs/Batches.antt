@@ -2,7 +2,7 @@
 use Rattle.std.proofs.Common.{drop, get_or, map, inl, inr, ◌≡◌, ◌<◌, ◌≤◌, ◌+◌, ◌++◌, ◌∷◌, [], ℕ, List, length, Bool, true, false, ◌==◌, cond, refl, sym, ◌∙◌, ap, subst, append_assoc, arith, length-append}
 use Rattle.std.proofs.lemmas.List.{append-nil, drop_more}
 use Rattle.open_table.specs.Tables.{listed_of}
-use Rattle.open_table.specs.declared.opened.Ended.{Ended}
+use Rattle.open_table.specs.declared.table.Ended.{Ended}
 use Rattle.record_form.specs.declared.record.Pointer.{Pointer}
 use Rattle.event_ring.specs.Slots.{Index, IsLive, Left, lasting, marked}
 use Rattle.channel_places.specs.Ends.{AreApart, AreLive, IsAppended, lacking, placed}

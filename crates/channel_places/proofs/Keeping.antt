@@ -2,7 +2,7 @@
 use Rattle.std.proofs.Common.{◌⊎◌, inl, inr, ◌≡◌, ◌≢◌, ◌<◌, ◌≤◌, ◌^◌, ◌==◌, [], ℕ, List, Option, Some, None, Bool, true, false, refl, sym, ◌∙◌, ap, arith}
 use Rattle.std.proofs.lemmas.Bool.Decides.{eqb_tells}
 use Rattle.open_table.specs.Tables.{HasAt, Listed, Open, Puts, Table, Takes, added, begun, open_at, puts_of, with_item}
-use Rattle.open_table.specs.declared.opened.Item.TheVariants.{Take}
+use Rattle.open_table.specs.declared.table.Item.TheVariants.{Take}
 use Rattle.event_core.specs.declared.journal.Entry.{Entry}
 use Rattle.channel_places.specs.Looks.{IsFewOpen, IsWithinRoom, KeepsPuts, Known, LooksOpen, pointers_at, pointers_of}
 

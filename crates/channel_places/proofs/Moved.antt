@@ -9,9 +9,9 @@ use Rattle.event_core.specs.declared.journal.Entry.{Entry}
 use Rattle.event_core.specs.declared.journal.Entry.TheVariants as entry
 use Rattle.record_form.specs.declared.record.Pointer.{Pointer}
 use Rattle.open_table.specs.Tables.{IsOf, Listed, MayAdd, MayMove, Open, Puts, Table, Takes, listed_of, moved, moved_open, moved_pointer, open_at, puts_of, size}
-use Rattle.open_table.specs.declared.opened.Item.{Item}
-use Rattle.open_table.specs.declared.opened.Item.TheVariants.{Put, Take}
-use Rattle.open_table.specs.declared.opened.Ended.{Ended}
+use Rattle.open_table.specs.declared.table.Item.{Item}
+use Rattle.open_table.specs.declared.table.Item.TheVariants.{Put, Take}
+use Rattle.open_table.specs.declared.table.Ended.{Ended}
 use Rattle.channel_face.specs.Machine.{State, entry_of}
 use Rattle.channel_places.specs.Ends.{one_if_staged}
 use Rattle.channel_places.specs.Looks.{IsWithinRoom, Known, LookPuts, LookStaged, Looks, LooksListed, LooksOpen, Moves, Places, StandsIn, puts_in}

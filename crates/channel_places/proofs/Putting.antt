@@ -8,7 +8,7 @@ use Rattle.event_core.specs.Journal.{AreDistinctOf, taken_numbers}
 use Rattle.event_core.specs.declared.journal.Entry.{Entry}
 use Rattle.event_core.specs.declared.journal.Entry.TheVariants as entry
 use Rattle.record_form.specs.declared.record.Pointer.{Pointer}
-use Rattle.open_table.specs.declared.opened.Item.TheVariants.{Put}
+use Rattle.open_table.specs.declared.table.Item.TheVariants.{Put}
 use Rattle.open_table.specs.Tables.{HasAt, IsOf, Listed, MayAdd, Open, Puts, Table, Takes, added, is_open, open_at, puts_of as puts_listed, size as listed_size, with_item}
 use Rattle.channel_face.specs.Token.{Token}
 use Rattle.channel_face.specs.Machine.{State, add_put, count, entries, entry_of, put_refusal, puts_of, with_entry}

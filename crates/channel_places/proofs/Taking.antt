@@ -7,7 +7,7 @@ use Rattle.event_core.specs.Journal.{is_among, taken_numbers, without}
 use Rattle.event_core.specs.declared.journal.Entry.{Entry}
 use Rattle.event_core.specs.declared.journal.Entry.TheVariants as entry
 use Rattle.record_form.specs.declared.record.Pointer.{Pointer}
-use Rattle.open_table.specs.declared.opened.Item.TheVariants.{Take}
+use Rattle.open_table.specs.declared.table.Item.TheVariants.{Take}
 use Rattle.open_table.specs.Tables.{HasAt, IsOf, Listed, MayAdd, Open, Puts, Table, Takes, added, open_at, size as listed_size, with_item}
 use Rattle.event_ring.specs.Slots.{IsLive, Left, first_free as first_number, marked, pointer_at}
 use Rattle.channel_face.specs.Token.{Token}

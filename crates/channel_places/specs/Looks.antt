@@ -6,7 +6,7 @@ use Rattle.event_core.specs.declared.journal.Entry.{Entry}
 use Rattle.event_core.specs.declared.journal.Entry.TheVariants as entry
 use Rattle.record_form.specs.declared.record.Pointer.{Pointer}
 use Rattle.open_table.specs.Tables.{Listed, Puts, Takes, Open, Table, MayAdd, moved_pointer, open_at, puts_of, size}
-use Rattle.open_table.specs.declared.opened.Item.TheVariants.{Put, Take}
+use Rattle.open_table.specs.declared.table.Item.TheVariants.{Put, Take}
 use Rattle.event_ring.specs.Slots.{Left}
 use Rattle.channel_face.specs.Machine.{Call, Rules, State, Admits, after, base_of, entries, entry_of}
 use Rattle.channel_face.specs.Token.{Token}

@@ -10,7 +10,7 @@ ghost use Rattle.channel_face.specs.declared.replies.Kind.TheVariants.{File};
 ghost use Rattle.channel_face.specs.Machine as face;
 ghost use Rattle.channel_face.specs.Machine.{Reopened, State, BeginPut, BeginTake, add_put, add_take, after_reopen, broken_state, close, entry_of, free, kept_base, puts_of, takes_of};
 ghost use Rattle.open_table.specs.Tables.{HasAt, MayAdd, added, is_open, moved_open, open_at};
-ghost use Rattle.open_table.specs.declared.opened.Item.TheVariants.{Put, Take};
+ghost use Rattle.open_table.specs.declared.table.Item.TheVariants.{Put, Take};
 ghost use Rattle.record_form.specs.declared.record.Pointer as pointers;
 ghost use Rattle.channel_places.specs.Looks.{IsFewOpen, IsFree, IsOpenFor, KeepsPuts, Known, LookLeft, Looks, MayPut, MayStage, MayTake, Moves, Steps, eventless, puts_in, puts_of_open, with_begun};
 
@@ -81,8 +81,10 @@ impl Held {
         requires room { length ring.live ≤ limits.capacity }
         requires below { ring.top ≤ first }
         requires txn { 1 ≤ txn }
-        ensures looks { IfOk result (λ held. (settled known : Known) (o : Opening) → o.base.first ≡ first → o.txn ≡ txn
-            → o.rules ≡ record { kind = File; limits = limits } → LookLeft settled [] ring.live o.base.items → IsBase o.base
+        ensures looks { IfOk result (λ held. (settled known : Known) (o : Opening)
+            → o.base.first ≡ first → o.txn ≡ txn
+            → o.rules ≡ record { kind = File; limits = limits }
+            → LookLeft settled [] ring.live o.base.items → IsBase o.base
             → Looks settled known held (opening o)) }
         ensures opened { IfOk result (λ held. held.opened ≡ []) }
     {
@@ -134,14 +136,16 @@ impl Held {
 
     /// How many events are left.
     pub fn size(&self) -> usize
-        ensures { (settled known : Known) (s : State) → Looks settled known self.now s → result ≡ length s.items }
+        ensures { (settled known : Known) (s : State) → Looks settled known self.now s
+            → result ≡ length s.items }
     {
         self.ring.len()
     }
 
     /// Why a transaction can't begin.
     pub fn begin_refusal(&self) -> Option<BeginRefused>
-        ensures refusal { (settled known : Known) (s : State) → Looks settled known self.now s → result ≡ face.begin_refusal s }
+        ensures refusal { (settled known : Known) (s : State) → Looks settled known self.now s
+            → result ≡ face.begin_refusal s }
         ensures number { IfNone result (self.now.numbers.txn < 18_446_744_073_709_551_615) }
         ensures few { IfNone result (length self.now.opened < 1024) }
     {
@@ -163,7 +167,8 @@ impl Held {
     fn add_open(&mut self, puts: bool) -> Result<(), NoMemory>
         requires number { self.old.numbers.txn < 18_446_744_073_709_551_615 }
         requires few { length self.old.opened < 1024 }
-        ensures ok { OnOk result ((settled known : Known) (s : State) → Looks settled known self.old s
+        ensures ok { OnOk result ((settled known : Known) (s : State)
+            → Looks settled known self.old s
             → Looks settled known self.new (with_begun puts s)) }
         ensures err { OnErr result (self.new ≡ self.old) }
         ensures opened { KeepsPuts self.old.opened self.new.opened }
@@ -211,14 +216,19 @@ impl Held {
 
     // How many puts the token's transaction has, unless the token is stale.
     fn find_puts(&self, txn: &PutTxn) -> Option<usize>
-        ensures found { IfSome result (λ held. (settled known : Known) (s : State) → Looks settled known self.now s
-            → (events : List Content) × (puts_of s txn.now ≡ Some events) × (length events ≡ held)) }
+        ensures found { IfSome result (λ held. (settled known : Known) (s : State)
+            → Looks settled known self.now s
+            → (events : List Content) × (puts_of s txn.now ≡ Some events)
+            × (length events ≡ held)) }
         ensures within { IfSome result (λ held. held ≤ self.now.numbers.rules.limits.txn_capacity) }
         ensures may { IfSome result (λ held. held < self.now.numbers.rules.limits.txn_capacity
-            → IsOpenFor self.now txn.now (λ o. (pointer : pointers.Pointer) → MayAdd (Put pointer) o)) }
-        ensures open { IfSome result (λ held. (is_open true (open_at self.now.opened txn.now.number) ≡ true)
+            → IsOpenFor self.now txn.now (λ o. (pointer : pointers.Pointer)
+            → MayAdd (Put pointer) o)) }
+        ensures open { IfSome result (λ held.
+            (is_open true (open_at self.now.opened txn.now.number) ≡ true)
             × (puts_of_open (open_at self.now.opened txn.now.number) ≡ held)) }
-        ensures stale { IfNone result ((settled known : Known) (s : State) → Looks settled known self.now s
+        ensures stale { IfNone result ((settled known : Known) (s : State)
+            → Looks settled known self.now s
             → puts_of s txn.now ≡ None) }
     {
         if txn.life() != self.life || !self.table.has(txn.number(), true) {
@@ -229,14 +239,17 @@ impl Held {
 
     // How many takes the token's transaction has, unless the token is stale.
     fn find_takes(&self, txn: &TakeTxn) -> Option<usize>
-        ensures found { IfSome result (λ held. (settled known : Known) (s : State) → Looks settled known self.now s
+        ensures found { IfSome result (λ held. (settled known : Known) (s : State)
+            → Looks settled known self.now s
             → (numbers : List ℕ) × (takes_of s txn.now ≡ Some numbers) × (length numbers ≡ held)) }
         ensures within { IfSome result (λ held. held ≤ self.now.numbers.rules.limits.txn_capacity) }
         ensures may { IfSome result (λ held. held < self.now.numbers.rules.limits.txn_capacity
             → IsOpenFor self.now txn.now (λ o. MayAdd (Take 0) o)) }
-        ensures open { IfSome result (λ held. (is_open false (open_at self.now.opened txn.now.number) ≡ true)
+        ensures open { IfSome result (λ held.
+            (is_open false (open_at self.now.opened txn.now.number) ≡ true)
             × (puts_of_open (open_at self.now.opened txn.now.number) ≡ 0)) }
-        ensures stale { IfNone result ((settled known : Known) (s : State) → Looks settled known self.now s
+        ensures stale { IfNone result ((settled known : Known) (s : State)
+            → Looks settled known self.now s
             → takes_of s txn.now ≡ None) }
     {
         if txn.life() != self.life || !self.table.has(txn.number(), false) {
@@ -247,9 +260,11 @@ impl Held {
 
     /// Why an event of this size can't be put.
     pub fn put_refusal(&self, txn: &PutTxn, size: u64) -> Option<PutRefused>
-        ensures refusal { (settled known : Known) (s : State) (event : Content) → Looks settled known self.now s
+        ensures refusal { (settled known : Known) (s : State) (event : Content)
+            → Looks settled known self.now s
             → contents.size event ≡ size → result ≡ face.put_refusal s (puts_of s txn.now) event }
-        ensures may { (pointer : pointers.Pointer) → IfNone result (MayPut self.now txn.now pointer) }
+        ensures may { (pointer : pointers.Pointer)
+            → IfNone result (MayPut self.now txn.now pointer) }
     {
         let Some(held) = self.find_puts(txn) else {
             return Some(PutRefused::Stale);
@@ -275,9 +290,12 @@ impl Held {
     /// Adds the pointer of an event to a transaction's puts. It takes no memory.
     pub fn put(&mut self, txn: &PutTxn, pointer: Pointer)
         requires { MayPut self.old txn.now pointer }
-        ensures looks { (settled known : Known) (s : State) (event : Content) → Looks settled known self.old s
-            → Looks settled ((pointer, event) ∷ known) self.new (add_put s txn.now.number (puts_of s txn.now) event) }
-        ensures added { HasAt txn.now.number (added (Put pointer) (open_at self.old.opened txn.now.number))
+        ensures looks { (settled known : Known) (s : State) (event : Content)
+            → Looks settled known self.old s
+            → Looks settled ((pointer, event) ∷ known) self.new
+            (add_put s txn.now.number (puts_of s txn.now) event) }
+        ensures added { HasAt txn.now.number (added (Put pointer)
+            (open_at self.old.opened txn.now.number))
             self.old.opened self.new.opened }
     {
         self.table.add(txn.number(), Item::Put(pointer));
@@ -304,7 +322,8 @@ impl Held {
 
     /// The number of the first event that no transaction takes, and where it stands. It takes no memory.
     pub fn first_free(&self) -> Option<(u64, Pointer)>
-        ensures { (settled known : Known) (s : State) → Looks settled known self.now s → IsFree settled result (free s) }
+        ensures { (settled known : Known) (s : State) → Looks settled known self.now s
+            → IsFree settled result (free s) }
     {
         match self.ring.first_free() {
             Some(number) => match self.ring.pointer(number) {
@@ -319,7 +338,8 @@ impl Held {
     pub fn take(&mut self, txn: &TakeTxn)
         requires { MayTake self.old txn.now }
         ensures looks { (settled known : Known) (s : State) → Looks settled known self.old s
-            → Looks settled known self.new (add_take s txn.now.number (takes_of s txn.now) (free s)) }
+            → Looks settled known self.new (add_take s txn.now.number (takes_of s txn.now)
+            (free s)) }
         ensures opened { KeepsPuts self.old.opened self.new.opened }
     {
         if let Some(number) = self.ring.first_free() {
@@ -366,7 +386,8 @@ impl Held {
     // The number of the next event to be staged.
     fn next_number(&self) -> u64
         ensures number { result ≡ self.now.numbers.first + puts_in self.now.staged }
-        ensures next { (settled known : Known) (s : State) → Looks settled known self.now s → result ≡ face.next_number s }
+        ensures next { (settled known : Known) (s : State) → Looks settled known self.now s
+            → result ≡ face.next_number s }
     {
         self.first + self.staged_puts as u64
     }
@@ -374,7 +395,8 @@ impl Held {
     // The ticket of a transaction of this size, to be staged now.
     fn ticket(&self, first: u64, held: usize) -> Ticket
         requires { held < 2 ^ 32 }
-        ensures { (settled known : Known) (s : State) → Looks settled known self.now s → result ≡ face.ticket s first held }
+        ensures { (settled known : Known) (s : State) → Looks settled known self.now s
+            → result ≡ face.ticket s first held }
     {
         let frame = if held == 0 { 0 } else { self.frame };
         Ticket {
@@ -448,7 +470,8 @@ impl Held {
     pub fn has_puts(&self, txn: &PutTxn) -> bool
         ensures tells { (settled known : Known) (s : State) → Looks settled known self.now s
             → result ≡ face.is_some_of (puts_of s txn.now) }
-        ensures open { IsTrue result → is_open true (open_at self.now.opened txn.now.number) ≡ true }
+        ensures open { IsTrue result → is_open true (open_at self.now.opened txn.now.number)
+            ≡ true }
     {
         self.find_puts(txn).is_some()
     }
@@ -457,7 +480,8 @@ impl Held {
     pub fn has_takes(&self, txn: &TakeTxn) -> bool
         ensures tells { (settled known : Known) (s : State) → Looks settled known self.now s
             → result ≡ face.is_some_of (takes_of s txn.now) }
-        ensures open { IsTrue result → is_open false (open_at self.now.opened txn.now.number) ≡ true }
+        ensures open { IsTrue result → is_open false (open_at self.now.opened txn.now.number)
+            ≡ true }
     {
         self.find_takes(txn).is_some()
     }
@@ -465,7 +489,8 @@ impl Held {
     /// Takes a transaction of puts that is open out of the open ones. It takes no memory.
     pub fn drop_puts(&mut self, number: u64)
         requires { is_open true (open_at self.old.opened number) ≡ true }
-        ensures looks { (settled known : Known) (s : State) → Looks settled known self.old s → Looks settled known self.new (close number s) }
+        ensures looks { (settled known : Known) (s : State) → Looks settled known self.old s
+            → Looks settled known self.new (close number s) }
         ensures opened { KeepsPuts self.old.opened self.new.opened }
     {
         let ended = self.table.end(number);
@@ -477,7 +502,8 @@ impl Held {
     /// Takes a transaction of takes that is open out of the open ones: what it took is free again, in its place. It takes no memory.
     pub fn drop_takes(&mut self, number: u64)
         requires { is_open false (open_at self.old.opened number) ≡ true }
-        ensures looks { (settled known : Known) (s : State) → Looks settled known self.old s → Looks settled known self.new (close number s) }
+        ensures looks { (settled known : Known) (s : State) → Looks settled known self.old s
+            → Looks settled known self.new (close number s) }
         ensures opened { KeepsPuts self.old.opened self.new.opened }
     {
         let ended = self.table.end(number);
@@ -489,8 +515,10 @@ impl Held {
     /// What is staged counts from now on: the events that were taken leave, and after the others come those that were put, with
     /// the next numbers. It takes no memory.
     pub fn settle(&mut self)
-        ensures step { (known : Known) (s : State) → Looks known known self.old s → Looks known known self.new (face.settle s) }
-        ensures put { (token : Token) (pointer : pointers.Pointer) → MayPut self.old token pointer → MayPut self.new token pointer }
+        ensures step { (known : Known) (s : State) → Looks known known self.old s
+            → Looks known known self.new (face.settle s) }
+        ensures put { (token : Token) (pointer : pointers.Pointer) → MayPut self.old token pointer
+            → MayPut self.new token pointer }
         ensures take { (token : Token) → MayTake self.old token → MayTake self.new token }
         ensures opened { self.new.opened ≡ self.old.opened }
     {
@@ -503,7 +531,8 @@ impl Held {
 
     /// No call but a rollback goes on from now on.
     pub fn set_broken(&mut self)
-        ensures looks { (settled known : Known) (s : State) → Looks settled known self.old s → Looks settled known self.new (broken_state s) }
+        ensures looks { (settled known : Known) (s : State) → Looks settled known self.old s
+            → Looks settled known self.new (broken_state s) }
         ensures opened { self.new.opened ≡ self.old.opened }
     {
         self.broken = true;
@@ -515,7 +544,8 @@ impl Held {
         requires { to_at ≤ at }
         ensures moved { (settled known more : Known) (s : State) → Looks settled known self.old s
             → Moves file at to_file to_at known more → Looks settled more self.new s }
-        ensures put { (token : Token) (pointer : pointers.Pointer) → MayPut self.old token pointer → MayPut self.new token pointer }
+        ensures put { (token : Token) (pointer : pointers.Pointer) → MayPut self.old token pointer
+            → MayPut self.new token pointer }
         ensures take { (token : Token) → MayTake self.old token → MayTake self.new token }
         ensures opened { (txn : ℕ) → open_at self.new.opened txn
             ≡ option_map (moved_open file at to_file to_at) (open_at self.old.opened txn) }
@@ -551,7 +581,8 @@ impl Held {
 
     /// Whether what the ticket stands for is settled.
     pub fn settled(&self, ticket: &Ticket) -> Settled
-        ensures { (settled known : Known) (s : State) → Looks settled known self.now s → result ≡ face.settled s ticket.now }
+        ensures { (settled known : Known) (s : State) → Looks settled known self.now s
+            → result ≡ face.settled s ticket.now }
     {
         self.settled_by_numbers(ticket)
     }
@@ -572,14 +603,16 @@ impl Held {
 
     /// How many puts are staged.
     pub fn puts_staged(&self) -> u64
-        ensures { (settled known : Known) (s : State) → Looks settled known self.now s → result ≡ length (put_events s.staged) }
+        ensures { (settled known : Known) (s : State) → Looks settled known self.now s
+            → result ≡ length (put_events s.staged) }
     {
         self.staged_puts as u64
     }
 
     /// How many takes are staged, up to 2^64 - 1.
     pub fn takes_staged(&self) -> u64
-        ensures { (settled known : Known) (s : State) → Looks settled known self.now s → result ≡ capped (length (taken_numbers s.staged)) }
+        ensures { (settled known : Known) (s : State) → Looks settled known self.now s
+            → result ≡ capped (length (taken_numbers s.staged)) }
     {
         count_takes(&self.staged)
     }
@@ -600,7 +633,8 @@ impl Held {
 
     /// The frames that the lives so far end with, should this one end now.
     pub fn next_ends(&self) -> Result<Vec<u64>, NoMemory>
-        ensures { IfOk result (λ ends. ends.items ≡ self.now.numbers.ends ++ self.now.numbers.frame ∷ []) }
+        ensures { IfOk result (λ ends. ends.items
+            ≡ self.now.numbers.ends ++ self.now.numbers.frame ∷ []) }
     {
         let mut ends = self.ends.clone()?;
         ends.push(self.frame)?;
@@ -618,8 +652,10 @@ impl Held {
         requires below { ring.top ≤ first }
         requires txn { 1 ≤ txn }
         requires life { self.old.numbers.life < 2 ^ 64 - 1 }
-        ensures looks { (before old settled known : Known) (s : State) (r : Reopened) → Looks before old self.old s → r.txn ≡ txn
-            → (kept_base s r.kept).first ≡ first → LookLeft settled [] ring.live (kept_base s r.kept).items
+        ensures looks { (before old settled known : Known) (s : State) (r : Reopened)
+            → Looks before old self.old s → r.txn ≡ txn
+            → (kept_base s r.kept).first ≡ first
+            → LookLeft settled [] ring.live (kept_base s r.kept).items
             → IsBase (kept_base s r.kept) → Looks settled known self.new (after_reopen s (Ok r)) }
         ensures opened { self.new.opened ≡ [] }
     {

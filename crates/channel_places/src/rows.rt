@@ -268,7 +268,8 @@ fn answer(held: &mut Held, step: Step, ticket: &mut Ticket) -> Said {
 
 // What an empty channel of this capacity keeps.
 fn fresh(alloc: Global, capacity: u32) -> Result<Held, NoMemory>
-    ensures { IfOk result (λ held. (held.numbers.rules.limits.capacity ≡ capacity) × (held.numbers.life ≡ 1)) }
+    ensures { IfOk result (λ held. (held.numbers.rules.limits.capacity ≡ capacity)
+        × (held.numbers.life ≡ 1)) }
 {
     let limits = Limits {
         capacity,

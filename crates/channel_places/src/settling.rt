@@ -46,7 +46,9 @@ fn append(ring: &mut Ring, pointers: &[Pointer], first: u64)
 // Holds what a transaction takes no longer.
 pub(crate) fn free_takes(ring: &mut Ring, ended: &Ended)
     requires { AreLive ring.old.live (takes_of (listed_of ended.now)) }
-    ensures { ring.new ≡ record ring.old { live = freed (takes_of (listed_of ended.now)) ring.old.live } }
+    ensures { ring.new ≡ record ring.old {
+      live = freed (takes_of (listed_of ended.now)) ring.old.live;
+    } }
 {
     if let Ended::Takes(numbers) = ended {
         free_all(ring, numbers);
@@ -56,7 +58,9 @@ pub(crate) fn free_takes(ring: &mut Ring, ended: &Ended)
 // Takes out what a transaction takes.
 fn remove_takes(ring: &mut Ring, ended: &Ended)
     requires { AreApart ring.old.live (takes_of (listed_of ended.now)) }
-    ensures { ring.new ≡ record ring.old { live = lacking (takes_of (listed_of ended.now)) ring.old.live } }
+    ensures { ring.new ≡ record ring.old {
+      live = lacking (takes_of (listed_of ended.now)) ring.old.live;
+    } }
 {
     if let Ended::Takes(numbers) = ended {
         remove_all(ring, numbers);
@@ -83,7 +87,9 @@ fn append_puts(ring: &mut Ring, ended: &Ended, first: u64) -> u64
 // Takes out what staged transactions take.
 pub(crate) fn remove_staged(ring: &mut Ring, staged: &[Ended])
     requires { AreApart ring.old.live (takes_in (map listed_of staged.now)) }
-    ensures { ring.new ≡ record ring.old { live = lacking (takes_in (map listed_of staged.now)) ring.old.live } }
+    ensures { ring.new ≡ record ring.old {
+      live = lacking (takes_in (map listed_of staged.now)) ring.old.live;
+    } }
 {
     for place in 0..staged.len() {
         remove_takes(ring, &staged[place]);
@@ -94,7 +100,8 @@ pub(crate) fn remove_staged(ring: &mut Ring, staged: &[Ended])
 pub(crate) fn append_staged(ring: &mut Ring, staged: &[Ended], first: u64) -> u64
     requires above { ring.old.top ≤ first }
     requires low { first + length (pointers_in (map listed_of staged.now)) < 2 ^ 64 }
-    requires room { length ring.old.live + length (pointers_in (map listed_of staged.now)) ≤ ring.old.slots }
+    requires room { length ring.old.live + length (pointers_in (map listed_of staged.now))
+        ≤ ring.old.slots }
     ensures appended { IsAppended first (pointers_in (map listed_of staged.now)) ring.old ring.new }
     ensures next { result ≡ first + length (pointers_in (map listed_of staged.now)) }
 {
@@ -146,7 +153,8 @@ pub(crate) fn put_count(ended: &Ended) -> usize
 // Adds it to what is staged, unless it had nothing. It takes no memory.
 pub(crate) fn push_ended(staged: &mut Vec<Ended>, ended: Ended)
     requires { vec_len staged.old < vec_capacity staged.old }
-    ensures items { map listed_of staged.new.items ≡ map listed_of staged.old.items ++ staged_of (listed_of ended) }
+    ensures items { map listed_of staged.new.items
+        ≡ map listed_of staged.old.items ++ staged_of (listed_of ended) }
     ensures room { vec_capacity staged.old ≤ vec_capacity staged.new }
 {
     match &ended {
@@ -180,7 +188,8 @@ pub(crate) fn count_takes(staged: &[Ended]) -> u64
 // Moves the puts of transactions.
 fn move_all(staged: &mut [Ended], file: u32, at: u64, to_file: u32, to_at: u64)
     requires { AllByRecursion (λ listed. MayMove file at to_at listed) (map listed_of staged.old) }
-    ensures { map listed_of staged.new ≡ map (moved file at to_file to_at) (map listed_of staged.old) }
+    ensures { map listed_of staged.new ≡ map (moved file at to_file to_at)
+        (map listed_of staged.old) }
 {
     for ended in staged.iter_mut() {
         ended.move_puts(file, at, to_file, to_at);
@@ -189,8 +198,10 @@ fn move_all(staged: &mut [Ended], file: u32, at: u64, to_file: u32, to_at: u64)
 
 // Moves the puts of staged transactions. It takes no memory.
 pub(crate) fn move_staged(staged: &mut Vec<Ended>, file: u32, at: u64, to_file: u32, to_at: u64)
-    requires { AllByRecursion (λ listed. MayMove file at to_at listed) (map listed_of staged.old.items) }
-    ensures items { map listed_of staged.new.items ≡ map (moved file at to_file to_at) (map listed_of staged.old.items) }
+    requires { AllByRecursion (λ listed. MayMove file at to_at listed)
+        (map listed_of staged.old.items) }
+    ensures items { map listed_of staged.new.items
+        ≡ map (moved file at to_file to_at) (map listed_of staged.old.items) }
     ensures room { vec_capacity staged.new ≡ vec_capacity staged.old }
 {
     move_all(staged, file, at, to_file, to_at);

@@ -18,7 +18,8 @@ pub enum LayRefused {
 // Makes a checkpoint's file of a closed commit byte.
 pub(crate) fn make_closed<D: Disk>(disk: &mut D, number: u32) -> Result<(), Failed>
     requires { IsUnused (D.told disk.old) number }
-    ensures any_moment { Tells (D.told disk.old) (D.told disk.new) (Changes (Check number) IsPassedFile 1) }
+    ensures any_moment { Tells (D.told disk.old) (D.told disk.new)
+        (Changes (Check number) IsPassedFile 1) }
     ensures made { OnOk result (WhereTold (D.told disk.new) (λ t. IsWritten t number [])) }
     ensures cause { HasCause (D.faults disk.old) (D.faults disk.new) result }
 {
@@ -32,7 +33,8 @@ pub(crate) fn make_closed<D: Disk>(disk: &mut D, number: u32) -> Result<(), Fail
 // Makes what is written stable.
 pub(crate) fn seal<D: Disk>(disk: &mut D, number: u32) -> Result<(), Failed>
     requires { WhereTold (D.told disk.old) (λ t. (text : List ℕ) × IsWritten t number text) }
-    ensures any_moment { Tells (D.told disk.old) (D.told disk.new) (Changes (Check number) IsPassedFile 1) }
+    ensures any_moment { Tells (D.told disk.old) (D.told disk.new)
+        (Changes (Check number) IsPassedFile 1) }
     ensures sealed { OnOk result ((text : List ℕ)
         → WhereTold (D.told disk.old) (λ t. IsWritten t number text)
         → WhereTold (D.told disk.new) (λ t. IsKept t number (0 ∷ text))) }
@@ -44,7 +46,8 @@ pub(crate) fn seal<D: Disk>(disk: &mut D, number: u32) -> Result<(), Failed>
 // Writes the open commit byte, and syncs.
 fn open_byte<D: Disk>(disk: &mut D, number: u32) -> Result<(), Failed>
     requires { WhereTold (D.told disk.old) (λ t. (text : List ℕ) × IsKept t number (0 ∷ text)) }
-    ensures any_moment { (text : List ℕ) → WhereTold (D.told disk.old) (λ t. IsKept t number (0 ∷ text))
+    ensures any_moment { (text : List ℕ) → WhereTold (D.told disk.old)
+        (λ t. IsKept t number (0 ∷ text))
         → Tells (D.told disk.old) (D.told disk.new) (Changes (Check number)
         (λ file. IsSomeAnd file (λ bytes. IsPassed bytes ⊎ (bytes ≡ 1 ∷ text))) 1) }
     ensures opened { OnOk result ((text : List ℕ)
@@ -62,7 +65,8 @@ fn open_byte<D: Disk>(disk: &mut D, number: u32) -> Result<(), Failed>
 pub fn open_gate<D: Disk>(disk: &mut D, number: u32) -> Result<(), LayRefused>
     requires { WhereTold (D.told disk.old) (λ t. (text : List ℕ) × IsKept t number (0 ∷ text)) }
     // A crash at any moment of the call leaves a file that is passed over, or the text after an open commit byte.
-    ensures any_moment { (text : List ℕ) → WhereTold (D.told disk.old) (λ t. IsKept t number (0 ∷ text))
+    ensures any_moment { (text : List ℕ) → WhereTold (D.told disk.old)
+        (λ t. IsKept t number (0 ∷ text))
         → Tells (D.told disk.old) (D.told disk.new) (Changes (Check number)
         (λ file. IsSomeAnd file (λ bytes. IsPassed bytes ⊎ (bytes ≡ 1 ∷ text))) 1) }
     // After Ok it leaves only the latter.

@@ -57,7 +57,8 @@ pub(crate) trait Item: Copy {
     ghost listed: { Table → ℕ → List Self };
 
     // One that is not open lists nothing.
-    ghost none_of_closed: { (table : Table) (txn : ℕ) → open_at table txn ≡ None → listed table txn ≡ [] };
+    ghost none_of_closed: { (table : Table) (txn : ℕ) → open_at table txn ≡ None
+        → listed table txn ≡ [] };
 
     // Adds its bytes.
     fn put(self, into: &mut Vec<u8>)

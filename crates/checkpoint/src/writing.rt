@@ -25,7 +25,8 @@ const PIECE: usize = 65_536;
 // Writes what waits at the offset, and gives the offset after it.
 fn pass_on<D: Disk>(disk: &mut D, number: u32, at: u64, buffer: &mut Vec<u8>) -> Result<u64, Failed>
     requires { IsBegun number (spool (D.told disk.old) at buffer.old.items) }
-    ensures any_moment { Tells (D.told disk.old) (D.told disk.new) (Changes (Check number) IsPassedFile 0) }
+    ensures any_moment { Tells (D.told disk.old) (D.told disk.new)
+        (Changes (Check number) IsPassedFile 0) }
     ensures same { IfOk result (λ next. Adds number
         (spool (D.told disk.old) at buffer.old.items)
         (spool (D.told disk.new) next []) []) }
@@ -51,7 +52,8 @@ fn make_room<D: Disk>(
     requires begun { IsBegun number (spool (D.told disk.old) at buffer.old.items) }
     requires room { 65_536 ≤ vec_capacity buffer.old }
     requires small { size ≤ 65_536 }
-    ensures any_moment { Tells (D.told disk.old) (D.told disk.new) (Changes (Check number) IsPassedFile 0) }
+    ensures any_moment { Tells (D.told disk.old) (D.told disk.new)
+        (Changes (Check number) IsPassedFile 0) }
     ensures same { IfOk result (λ next. Adds number
         (spool (D.told disk.old) at buffer.old.items)
         (spool (D.told disk.new) next buffer.new.items) []) }
@@ -82,7 +84,8 @@ fn add_count<D: Disk>(
 ) -> Result<u64, Failed>
     requires begun { IsBegun number (spool (D.told disk.old) at buffer.old.items) }
     requires room { 65_536 ≤ vec_capacity buffer.old }
-    ensures any_moment { Tells (D.told disk.old) (D.told disk.new) (Changes (Check number) IsPassedFile 0) }
+    ensures any_moment { Tells (D.told disk.old) (D.told disk.new)
+        (Changes (Check number) IsPassedFile 0) }
     ensures added { IfOk result (λ next. Adds number
         (spool (D.told disk.old) at buffer.old.items)
         (spool (D.told disk.new) next buffer.new.items) (u32_bytes count)) }
@@ -105,7 +108,8 @@ fn add_one<D: Disk>(
 ) -> Result<u64, Failed>
     requires begun { IsBegun number (spool (D.told disk.old) at buffer.old.items) }
     requires room { 65_536 ≤ vec_capacity buffer.old }
-    ensures any_moment { Tells (D.told disk.old) (D.told disk.new) (Changes (Check number) IsPassedFile 0) }
+    ensures any_moment { Tells (D.told disk.old) (D.told disk.new)
+        (Changes (Check number) IsPassedFile 0) }
     ensures added { IfOk result (λ next. Adds number
         (spool (D.told disk.old) at buffer.old.items)
         (spool (D.told disk.new) next buffer.new.items) (live_bytes (event, pointer))) }
@@ -128,7 +132,8 @@ fn add_live<D: Disk>(
 ) -> Result<u64, Failed>
     requires begun { IsBegun number (spool (D.told disk.old) at buffer.old.items) }
     requires room { 65_536 ≤ vec_capacity buffer.old }
-    ensures any_moment { Tells (D.told disk.old) (D.told disk.new) (Changes (Check number) IsPassedFile 0) }
+    ensures any_moment { Tells (D.told disk.old) (D.told disk.new)
+        (Changes (Check number) IsPassedFile 0) }
     ensures begun { IfOk result (λ next. IsBegun number
         (spool (D.told disk.new) next buffer.new.items)) }
     ensures added { IfOk result (λ next. (high : ℕ) → Rise 0 high (map live_at ring.now.live)
@@ -159,7 +164,8 @@ fn add_number<D: Disk>(
 ) -> Result<u64, Failed>
     requires begun { IsBegun number (spool (D.told disk.old) at buffer.old.items) }
     requires room { 65_536 ≤ vec_capacity buffer.old }
-    ensures any_moment { Tells (D.told disk.old) (D.told disk.new) (Changes (Check number) IsPassedFile 0) }
+    ensures any_moment { Tells (D.told disk.old) (D.told disk.new)
+        (Changes (Check number) IsPassedFile 0) }
     ensures added { IfOk result (λ next. Adds number (spool (D.told disk.old) at buffer.old.items)
         (spool (D.told disk.new) next buffer.new.items) (u64_bytes txn ++ u32_bytes count)) }
     ensures room { vec_capacity buffer.old ≤ vec_capacity buffer.new }
@@ -182,7 +188,8 @@ fn add_item<D: Disk, I: Item>(
 ) -> Result<u64, Failed>
     requires begun { IsBegun number (spool (D.told disk.old) at buffer.old.items) }
     requires room { 65_536 ≤ vec_capacity buffer.old }
-    ensures any_moment { Tells (D.told disk.old) (D.told disk.new) (Changes (Check number) IsPassedFile 0) }
+    ensures any_moment { Tells (D.told disk.old) (D.told disk.new)
+        (Changes (Check number) IsPassedFile 0) }
     ensures added { IfOk result (λ next. Adds number (spool (D.told disk.old) at buffer.old.items)
         (spool (D.told disk.new) next buffer.new.items) (I.bytes item)) }
     ensures room { vec_capacity buffer.old ≤ vec_capacity buffer.new }
@@ -203,7 +210,8 @@ fn add_items<D: Disk, I: Item>(
 ) -> Result<u64, Failed>
     requires begun { IsBegun number (spool (D.told disk.old) at buffer.old.items) }
     requires room { 65_536 ≤ vec_capacity buffer.old }
-    ensures any_moment { Tells (D.told disk.old) (D.told disk.new) (Changes (Check number) IsPassedFile 0) }
+    ensures any_moment { Tells (D.told disk.old) (D.told disk.new)
+        (Changes (Check number) IsPassedFile 0) }
     ensures added { IfOk result (λ next. Adds number (spool (D.told disk.old) at buffer.old.items)
         (spool (D.told disk.new) next buffer.new.items) (flat_map I.bytes items.now)) }
     ensures room { vec_capacity buffer.old ≤ vec_capacity buffer.new }
@@ -227,11 +235,14 @@ fn add_entry<D: Disk, I: Item>(
 ) -> Result<u64, Failed>
     requires begun { IsBegun number (spool (D.told disk.old) at buffer.old.items) }
     requires room { 65_536 ≤ vec_capacity buffer.old }
-    ensures any_moment { Tells (D.told disk.old) (D.told disk.new) (Changes (Check number) IsPassedFile 0) }
+    ensures any_moment { Tells (D.told disk.old) (D.told disk.new)
+        (Changes (Check number) IsPassedFile 0) }
     ensures added { IfOk result (λ next. length items.now < 2 ^ 32 → Adds number
-        (spool (D.told disk.old) at buffer.old.items) (spool (D.told disk.new) next buffer.new.items)
+        (spool (D.told disk.old) at buffer.old.items)
+        (spool (D.told disk.new) next buffer.new.items)
         (flat_map (entry_bytes I.bytes) (entry_of txn items.now))) }
-    ensures begun { IfOk result (λ next. IsBegun number (spool (D.told disk.new) next buffer.new.items)) }
+    ensures begun { IfOk result (λ next. IsBegun number
+        (spool (D.told disk.new) next buffer.new.items)) }
     ensures room { vec_capacity buffer.old ≤ vec_capacity buffer.new }
     ensures fits { txn < 2 ^ 64 }
     ensures cause { HasCause (D.faults disk.old) (D.faults disk.new) result }
@@ -266,7 +277,8 @@ fn counted_up(count: u32, is_empty: bool) -> u32
 
 // How many open transactions list something.
 fn count_listed<I: Item>(table: &OpenTable) -> u32
-    ensures { (listed : List (ℕ × List I)) → AreListed (I.listed table.now) listed → length listed < 2 ^ 32
+    ensures { (listed : List (ℕ × List I)) → AreListed (I.listed table.now) listed
+        → length listed < 2 ^ 32
         → result ≡ length listed }
 {
     let mut count: u32 = 0;
@@ -288,9 +300,12 @@ fn add_entries<D: Disk, I: Item>(
 ) -> Result<u64, Failed>
     requires begun { IsBegun number (spool (D.told disk.old) at buffer.old.items) }
     requires room { 65_536 ≤ vec_capacity buffer.old }
-    ensures any_moment { Tells (D.told disk.old) (D.told disk.new) (Changes (Check number) IsPassedFile 0) }
-    ensures begun { IfOk result (λ next. IsBegun number (spool (D.told disk.new) next buffer.new.items)) }
-    ensures added { IfOk result (λ next. (listed : List (ℕ × List I)) → AreListed (I.listed table.now) listed
+    ensures any_moment { Tells (D.told disk.old) (D.told disk.new)
+        (Changes (Check number) IsPassedFile 0) }
+    ensures begun { IfOk result (λ next. IsBegun number
+        (spool (D.told disk.new) next buffer.new.items)) }
+    ensures added { IfOk result (λ next. (listed : List (ℕ × List I))
+        → AreListed (I.listed table.now) listed
         → FitCounts listed → Adds number (spool (D.told disk.old) at buffer.old.items)
         (spool (D.told disk.new) next buffer.new.items) (counted (entry_bytes I.bytes) listed)) }
     ensures room { vec_capacity buffer.old ≤ vec_capacity buffer.new }
@@ -318,8 +333,10 @@ fn write_all<D: Disk>(
     requires unused { IsUnused (D.told disk.old) number }
     requires empty { buffer.old.items ≡ [] }
     requires room { 65_536 ≤ vec_capacity buffer.old }
-    ensures any_moment { Tells (D.told disk.old) (D.told disk.new) (Changes (Check number) IsPassedFile 2) }
-    ensures laid { OnOk result ((c : CheckText) → Says place next ring.now table.now c → Rise 0 next.number c.live
+    ensures any_moment { Tells (D.told disk.old) (D.told disk.new)
+        (Changes (Check number) IsPassedFile 2) }
+    ensures laid { OnOk result ((c : CheckText) → Says place next ring.now table.now c
+        → Rise 0 next.number c.live
         → length c.live < 2 ^ 32 → FitCounts c.puts → FitCounts c.takes
         → WhereTold (D.told disk.new) (λ t. IsKept t number (0 ∷ check_bytes c))) }
     ensures room { vec_capacity buffer.old ≤ vec_capacity buffer.new }
@@ -350,9 +367,11 @@ pub fn lay<D: Disk>(
     requires empty { buffer.old.items ≡ [] }
     requires room { 65_536 ≤ vec_capacity buffer.old }
     // What it says is right for the folder.
-    requires right { WhereTold (D.told disk.old) (λ t. (c : CheckText) × Says place next ring.now table.now c × IsRightText t.reads c) }
+    requires right { WhereTold (D.told disk.old)
+        (λ t. (c : CheckText) × Says place next ring.now table.now c × IsRightText t.reads c) }
     // A crash at any moment of the call leaves no such file, or one that is passed over.
-    ensures any_moment { Tells (D.told disk.old) (D.told disk.new) (Changes (Check number) IsPassedFile 2) }
+    ensures any_moment { Tells (D.told disk.old) (D.told disk.new)
+        (Changes (Check number) IsPassedFile 2) }
     // After Ok a crash leaves the checkpoint after a closed commit byte.
     ensures laid { OnOk result ((c : CheckText) → Says place next ring.now table.now c
         → WhereTold (D.told disk.old) (λ t. IsRightText t.reads c)

@@ -10,8 +10,8 @@ use Rattle.flume_host.specs.declared.names.FileName.TheVariants.{Log}
 use Rattle.event_core.proofs.Sizes.{length-u32_bytes, length-u64_bytes}
 use Rattle.event_core.specs.Numbers.{u32_bytes, u64_bytes}
 use Rattle.event_ring.specs.Slots.{Left}
-use Rattle.open_table.specs.declared.opened.Item.{Item}
-use Rattle.open_table.specs.declared.opened.Item.TheVariants.{Put, Take}
+use Rattle.open_table.specs.declared.table.Item.{Item}
+use Rattle.open_table.specs.declared.table.Item.TheVariants.{Put, Take}
 use Rattle.open_table.specs.Tables.{HasAt, IsOf, Listed, MayAdd, Open, Puts, Table, Takes, added, begun, open_at, size, wider, with_item}
 use Rattle.record_form.specs.declared.record.Pointer.{Pointer}
 use Rattle.channel_log.specs.Pointers.{PutAt}

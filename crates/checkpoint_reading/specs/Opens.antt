@@ -6,7 +6,7 @@ use Rattle.flume_host.specs.Told.{Told, WhereTold}
 use Rattle.event_core.specs.Journal.{is_among}
 use Rattle.event_core.specs.Numbers.{u32_bytes, u64_bytes}
 use Rattle.event_ring.specs.Slots.{Left}
-use Rattle.open_table.specs.declared.opened.Item.{Item}
+use Rattle.open_table.specs.declared.table.Item.{Item}
 use Rattle.open_table.specs.Tables.{IsOf, Listed, Open, Puts, Table, Takes, is_open, open_at}
 use Rattle.record_form.specs.declared.record.Pointer.{Pointer}
 use Rattle.checkpoint.specs.declared.check.Check.{Check}

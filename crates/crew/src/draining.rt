@@ -26,7 +26,8 @@ const PIECE: u64 = 4096;
 
 /// Reads an input until it ends, fails or has given 2^40 bytes, and drops what it gives. It takes no memory.
 pub fn drain<S: Source>(input: &mut S) -> DrainEnd
-    ensures { Drained result (S.left input.old) (S.left input.new) (S.faults input.old) (S.faults input.new) }
+    ensures { Drained result (S.left input.old) (S.left input.new) (S.faults input.old)
+        (S.faults input.new) }
 {
     let mut taken = 0;
     while taken < LIMIT {

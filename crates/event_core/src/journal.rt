@@ -73,7 +73,8 @@ impl Batch {
 
     /// Hands out the first event. It takes no memory.
     pub fn take_first(&mut self) -> Option<Event>
-        ensures { MatchOption result ((self.old ≡ []) × (self.new ≡ [])) (λ event. self.old ≡ event ∷ self.new) }
+        ensures { MatchOption result ((self.old ≡ []) × (self.new ≡ []))
+            (λ event. self.old ≡ event ∷ self.new) }
     {
         self.events.pop_front()
     }

@@ -2,13 +2,9 @@
 #![tactic(auto)]
 
 mod event;
-mod headers;
 mod journal;
 mod refused;
-mod room;
 
-pub use event::{Event, MAX_EVENT_SIZE};
-pub use headers::{HeaderPairs, Headers};
+pub use event::{Event, HeaderPairs, Headers, MAX_EVENT_SIZE, put};
 pub use journal::{Batch, Entry, Numbers};
 pub use refused::{EventRefused, NoMemory};
-pub use room::put;

@@ -6,9 +6,9 @@ use Rattle.std.proofs.lemmas.Bool.Decides.{eqb_tells, leb_tells}
 use Rattle.std.proofs.lemmas.List.{append-nil, drop-set-lt, length-drop, length-set, take_more_set}
 use Rattle.std.proofs.lemmas.Grind.{drop_more_same}
 use Rattle.record_form.specs.declared.record.Pointer.{Pointer}
-use Rattle.event_ring.specs.declared.slots.Slot.{Slot}
-use Rattle.event_ring.specs.declared.slots.State.{State}
-use Rattle.event_ring.specs.declared.slots.State.TheVariants.{Free, Held, Gone}
+use Rattle.event_ring.specs.declared.index.Slot.{Slot}
+use Rattle.event_ring.specs.declared.index.State.{State}
+use Rattle.event_ring.specs.declared.index.State.TheVariants.{Free, Held, Gone}
 use Rattle.event_ring.specs.Slots.{AreGaps, Index, IsBusy, IsFront, IsLive, IsRing, Left, Rises, closed, first_free, is_gone, is_held, lasting, left_of, live_of, look_at, marked, next_from, pointer_at}
 
 abbrev Tells : ℕ → ℕ → Type 0

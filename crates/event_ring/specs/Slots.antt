@@ -2,9 +2,9 @@
 use Rattle.std.specs.Prelude.{◌≡◌, ◌⊎◌, ◌<◌, ◌≤◌, ◌+◌, ℕ, List, [], ◌∷◌, length, take, slice_get, Option, Some, None, Bool, true, false, ◌==◌, leb, if◌then◌else◌}
 use Rattle.std.specs.List.{AllByRecursion}
 use Rattle.record_form.specs.declared.record.Pointer.{Pointer}
-use Rattle.event_ring.specs.declared.slots.Slot.{Slot}
-use Rattle.event_ring.specs.declared.slots.State.{State}
-pub use Rattle.event_ring.specs.declared.slots.State.TheVariants.{Free, Held, Gone}
+use Rattle.event_ring.specs.declared.index.Slot.{Slot}
+use Rattle.event_ring.specs.declared.index.State.{State}
+pub use Rattle.event_ring.specs.declared.index.State.TheVariants.{Free, Held, Gone}
 
 -- An event that is left: its number, where its record stands, and whether a transaction takes it.
 pub record Left : Type 0 where

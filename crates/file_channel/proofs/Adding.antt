@@ -11,7 +11,7 @@ use Rattle.record_form.specs.declared.record.Rec.{Rec}
 use Rattle.record_form.specs.declared.record.Rec.TheVariants.{Put, Take}
 use Rattle.channel_log.specs.Writer.{Appends, IsPending, IsReady, LacksOrHas, Writer}
 use Rattle.open_table.specs.Tables.{HasAt, added as with_item, open_at}
-use Rattle.open_table.specs.declared.opened.Item.TheVariants as items
+use Rattle.open_table.specs.declared.table.Item.TheVariants as items
 use Rattle.channel_face.specs.Token.{Token}
 use Rattle.channel_face.specs.Machine.{State, add_put, add_take, broken_state, free, puts_of, settle, takes_of}
 use Rattle.channel_places.specs.Looks.{KeepsPuts, Known, Looks}

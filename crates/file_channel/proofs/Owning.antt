@@ -9,7 +9,7 @@ use Rattle.record_form.specs.declared.record.Rec.{Rec}
 use Rattle.record_form.specs.declared.record.Rec.TheVariants.{Put}
 use Rattle.record_form.specs.Record.{spelling}
 use Rattle.open_table.specs.Tables.{HasAt, Listed, Open, Puts, Table, Takes, added, open_at, puts_of, with_item}
-use Rattle.open_table.specs.declared.opened.Item.TheVariants as items
+use Rattle.open_table.specs.declared.table.Item.TheVariants as items
 use Rattle.channel_log.specs.Pointers.{in_frame}
 use Rattle.channel_log.specs.Writer.{Appends, Writer}
 use Rattle.channel_places.specs.Looks.{KeepsPuts, pointers_at, pointers_of}

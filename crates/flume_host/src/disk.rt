@@ -37,7 +37,8 @@ pub trait Disk {
     fn read(&mut self, name: FileName, at: u64, into: &mut [u8]) -> Result<usize, Failed>
         requires { WhereTold (told self.old) (λ t. IsSome (t.reads name)) }
         ensures bytes { IfOk result (λ n. WhereTold (told self.old) (λ t.
-            (bytes : List ℕ) × (t.reads name ≡ Some bytes) × (n ≡ min (length into.old) (length bytes - at))
+            (bytes : List ℕ) × (t.reads name ≡ Some bytes)
+            × (n ≡ min (length into.old) (length bytes - at))
             × (into.new ≡ take n (drop at bytes) ++ drop n into.old))) }
         ensures filled { IfOk result (λ n. n ≤ length into.old) }
         ensures same { told self.new ≡ told self.old }
@@ -45,7 +46,8 @@ pub trait Disk {
 
     /// Writes over what is there, and past the end.
     fn write_at(&mut self, name: FileName, at: u64, bytes: &[u8]) -> Result<(), Failed>
-        requires { WhereTold (told self.old) (λ t. (was : List ℕ) × (t.reads name ≡ Some was) × (at ≤ length was)) }
+        requires { WhereTold (told self.old) (λ t. (was : List ℕ) × (t.reads name ≡ Some was)
+            × (at ≤ length was)) }
         ensures done { Does (On name (Write at bytes.now)) result (told self.old) (told self.new) }
         ensures bounded { OnOk result (at + length bytes.now < 2 ^ 63) }
         ensures cause { HasCause (faults self.old) (faults self.new) result };
@@ -70,7 +72,8 @@ pub trait Disk {
     /// The least name above `after`, or the least of all. It takes no memory.
     fn next_name(&mut self, after: Option<FileName>) -> Result<Option<FileName>, Failed>
         ensures above { IfOk result (λ next. IfSome next (λ n. IsAbove after n)) }
-        ensures next { IfOk result (λ next. WhereTold (told self.old) (λ t. IsNext t.reads after next)) }
+        ensures next { IfOk result (λ next. WhereTold (told self.old)
+            (λ t. IsNext t.reads after next)) }
         ensures same { told self.new ≡ told self.old }
         ensures cause { HasCause (faults self.old) (faults self.new) result };
 

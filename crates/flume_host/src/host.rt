@@ -45,7 +45,8 @@ pub trait Host {
 
     /// Takes standard input back.
     fn keep_input(&mut self, input: Self::Source)
-        ensures state { (n : ℕ) × (state self.new ≡ record (state self.old) { input = Self.Source.left input; faults = n })
+        ensures state { (n : ℕ) × (state self.new
+            ≡ record (state self.old) { input = Self.Source.left input; faults = n })
             × Counts (state self.old).faults n (Self.Source.faults input) }
         ensures folders { folders self.new ≡ folders self.old };
 
@@ -58,7 +59,12 @@ pub trait Host {
 
     /// Takes standard output back.
     fn keep_output(&mut self, output: Self::Sink)
-        ensures state { (n : ℕ) × (state self.new ≡ record (state self.old) { output = Self.Sink.took output; handed = Self.Sink.handed output; faults = n })
+        ensures state { (n : ℕ) × (state self.new
+            ≡ record (state self.old) {
+              output = Self.Sink.took output;
+              handed = Self.Sink.handed output;
+              faults = n;
+            })
             × Counts (state self.old).faults n (Self.Sink.faults output) }
         ensures folders { folders self.new ≡ folders self.old };
 
@@ -69,9 +75,11 @@ pub trait Host {
 
     /// Opens the disk of a folder, which it makes if it isn't there.
     fn open_disk(&mut self, path: &str) -> Result<Self::Disk, NameRefused>
-        ensures told { IfOk result (λ disk. (Self.Disk.told disk ≡ (folders self.old).disks path.now) × (Self.Disk.faults disk ≡ 0)) }
+        ensures told { IfOk result (λ disk. (Self.Disk.told disk
+            ≡ (folders self.old).disks path.now) × (Self.Disk.faults disk ≡ 0)) }
         ensures state { (n : ℕ) × (state self.new ≡ record (state self.old) { faults = n })
-            × MatchResult result (λ _. n ≡ (state self.old).faults) (λ e. e ≡ NameRefused.Failed → Rose (state self.old).faults n) }
+            × MatchResult result (λ _. n ≡ (state self.old).faults)
+            (λ e. e ≡ NameRefused.Failed → Rose (state self.old).faults n) }
         ensures later { (state self.old).faults ≤ (state self.new).faults }
         ensures others { ButDisk path.now (folders self.old) (folders self.new) }
         ensures opened { OnOk result (IsTrue ((folders self.new).disk_opened path.now)) }
@@ -89,15 +97,18 @@ pub trait Host {
     /// The bytes of a file, of which there are at most 1,048,576.
     fn read_file(&mut self, path: &str) -> Result<Vec<u8>, FileRefused>
         ensures state { (n : ℕ) × (state self.new ≡ record (state self.old) { faults = n })
-            × MatchResult result (λ bytes. WasRead ((state self.old).files path.now) (state self.old).faults n bytes.items)
+            × MatchResult result (λ bytes. WasRead ((state self.old).files path.now)
+            (state self.old).faults n bytes.items)
             (NotRead ((state self.old).files path.now) (state self.old).faults n) }
         ensures folders { folders self.new ≡ folders self.old };
 
     /// Opens a folder of rolled files, which it makes if it isn't there.
     fn open_roll(&mut self, path: &str) -> Result<Self::Roll, NameRefused>
-        ensures told { IfOk result (λ roll. (Self.Roll.rolled roll ≡ opened ((folders self.old).rolls path.now)) × (Self.Roll.faults roll ≡ 0)) }
+        ensures told { IfOk result (λ roll. (Self.Roll.rolled roll
+            ≡ opened ((folders self.old).rolls path.now)) × (Self.Roll.faults roll ≡ 0)) }
         ensures state { (n : ℕ) × (state self.new ≡ record (state self.old) { faults = n })
-            × MatchResult result (λ _. n ≡ (state self.old).faults) (λ e. e ≡ NameRefused.Failed → Rose (state self.old).faults n) }
+            × MatchResult result (λ _. n ≡ (state self.old).faults)
+            (λ e. e ≡ NameRefused.Failed → Rose (state self.old).faults n) }
         ensures later { (state self.old).faults ≤ (state self.new).faults }
         ensures others { ButRoll path.now (folders self.old) (folders self.new) }
         ensures opened { OnOk result (IsTrue ((folders self.new).roll_opened path.now)) }
@@ -114,28 +125,43 @@ pub trait Host {
     /// A listener at this address and port. A further call of the same two gives a further listener of them, and each link
     /// of a peer is given by one of these only.
     fn listen(&mut self, bind: &str, port: u16) -> Result<Self::Listener, NameRefused>
-        ensures told { IfOk result (λ listener. Self.Listener.told listener ≡ fresh_links (state self.old).listeners) }
-        ensures endpoint { IfOk result (λ listener. Self.Listener.endpoint listener ≡ endpoint_of bind.now port (state self.old).listeners) }
-        ensures counts { IfOk result (λ listener. (Self.Listener.faults listener ≡ 0) × (Self.Listener.waits listener ≡ 0)) }
+        ensures told { IfOk result (λ listener. Self.Listener.told listener
+            ≡ fresh_links (state self.old).listeners) }
+        ensures endpoint { IfOk result (λ listener. Self.Listener.endpoint listener
+            ≡ endpoint_of bind.now port (state self.old).listeners) }
+        ensures counts { IfOk result (λ listener. (Self.Listener.faults listener ≡ 0)
+            × (Self.Listener.waits listener ≡ 0)) }
         ensures state { (n : ℕ) × (listeners : Option HandedOut)
             × (state self.new ≡ record (state self.old) { listeners = listeners; faults = n })
-            × HandsOut result bind.now port (state self.old).listeners listeners × FaultsBy result (state self.old).faults n }
+            × HandsOut result bind.now port (state self.old).listeners listeners
+            × FaultsBy result (state self.old).faults n }
         ensures folders { folders self.new ≡ folders self.old };
 
     /// Takes a listener back that it handed out for this address and port. Its faults are in no count of the host.
     fn keep_listener(&mut self, bind: &str, port: u16, listener: Self::Listener)
         requires out { IsOut bind.now port (state self.old).listeners }
         requires from { IsFrom bind.now port (Self.Listener.endpoint listener) }
-        ensures state { (listeners : Option HandedOut) × (state self.new ≡ record (state self.old) { listeners = listeners })
-            × TakesBack (record { host = bind.now; port = port; told = Self.Listener.told listener; waits = Self.Listener.waits listener; faults = Self.Listener.faults listener }) (state self.old).listeners listeners }
+        ensures state { (listeners : Option HandedOut)
+            × (state self.new ≡ record (state self.old) { listeners = listeners })
+            × TakesBack (record {
+              host = bind.now;
+              port = port;
+              told = Self.Listener.told listener;
+              waits = Self.Listener.waits listener;
+              faults = Self.Listener.faults listener;
+            })
+            (state self.old).listeners listeners }
         ensures folders { folders self.new ≡ folders self.old };
 
     /// A dialer of this address and port. Nothing outside is touched: a fault shows only when it dials.
     fn dialer(&mut self, host: &str, port: u16) -> Result<Self::Dialer, NoMemory>
-        ensures told { IfOk result (λ dialer. Self.Dialer.told dialer ≡ fresh_links (state self.old).dialers) }
-        ensures endpoint { IfOk result (λ dialer. Self.Dialer.endpoint dialer ≡ endpoint_of host.now port (state self.old).dialers) }
+        ensures told { IfOk result (λ dialer. Self.Dialer.told dialer
+            ≡ fresh_links (state self.old).dialers) }
+        ensures endpoint { IfOk result (λ dialer. Self.Dialer.endpoint dialer
+            ≡ endpoint_of host.now port (state self.old).dialers) }
         ensures count { IfOk result (λ dialer. Self.Dialer.faults dialer ≡ 0) }
-        ensures state { (dialers : Option HandedOut) × (state self.new ≡ record (state self.old) { dialers = dialers })
+        ensures state { (dialers : Option HandedOut)
+            × (state self.new ≡ record (state self.old) { dialers = dialers })
             × HandsOut result host.now port (state self.old).dialers dialers }
         ensures folders { folders self.new ≡ folders self.old };
 
@@ -143,14 +169,23 @@ pub trait Host {
     fn keep_dialer(&mut self, host: &str, port: u16, dialer: Self::Dialer)
         requires out { IsOut host.now port (state self.old).dialers }
         requires from { IsFrom host.now port (Self.Dialer.endpoint dialer) }
-        ensures state { (dialers : Option HandedOut) × (state self.new ≡ record (state self.old) { dialers = dialers })
-            × TakesBack (record { host = host.now; port = port; told = Self.Dialer.told dialer; waits = 0; faults = Self.Dialer.faults dialer }) (state self.old).dialers dialers }
+        ensures state { (dialers : Option HandedOut)
+            × (state self.new ≡ record (state self.old) { dialers = dialers })
+            × TakesBack (record {
+              host = host.now;
+              port = port;
+              told = Self.Dialer.told dialer;
+              waits = 0;
+              faults = Self.Dialer.faults dialer;
+            }) (state self.old).dialers dialers }
         ensures folders { folders self.new ≡ folders self.old };
 
     /// The host's name, or its address as text where `use_ip` is true.
     fn host_name(&mut self, use_ip: bool) -> Result<String, NameRefused>
-        ensures name { IfOk result (λ text. Names use_ip (state self.old).name (state self.old).address (string_bytes text)) }
-        ensures state { (n : ℕ) × (state self.new ≡ record (state self.old) { faults = n }) × FaultsBy result (state self.old).faults n }
+        ensures name { IfOk result (λ text. Names use_ip (state self.old).name
+            (state self.old).address (string_bytes text)) }
+        ensures state { (n : ℕ) × (state self.new ≡ record (state self.old) { faults = n })
+            × FaultsBy result (state self.old).faults n }
         ensures folders { folders self.new ≡ folders self.old };
 
     /// A clock.

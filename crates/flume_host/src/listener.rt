@@ -24,11 +24,15 @@ pub trait Listener {
 
     /// The next link of a peer, or none where none came for a while.
     fn accept(&mut self) -> Result<Option<Self::Link>, Failed>
-        ensures given { IfOk result (λ found. MatchOption found (told self.new ≡ gave_none (told self.old))
-            (λ link. (told self.new ≡ gave_one (told self.old)) × (Self.Link.told link ≡ fresh_from (told self.old)))) }
+        ensures given { IfOk result (λ found. MatchOption found
+            (told self.new ≡ gave_none (told self.old))
+            (λ link. (told self.new ≡ gave_one (told self.old))
+            × (Self.Link.told link ≡ fresh_from (told self.old)))) }
         ensures refused { OnErr result (told self.new ≡ refused_link (told self.old)) }
-        ensures owed { IfOk result (λ found. MatchOption found (Unit {0}) (λ _. IsOwed (told self.new))) }
-        ensures waited { IfOk result (λ found. IfNone found (Rose (waits self.old) (waits self.new))) }
+        ensures owed { IfOk result (λ found. MatchOption found (Unit {0})
+            (λ _. IsOwed (told self.new))) }
+        ensures waited { IfOk result (λ found. IfNone found
+            (Rose (waits self.old) (waits self.new))) }
         ensures waits { waits self.old ≤ waits self.new }
         ensures endpoint { endpoint self.new ≡ endpoint self.old }
         ensures cause { HasCause (faults self.old) (faults self.new) result };
@@ -37,7 +41,8 @@ pub trait Listener {
     fn keep(&mut self, link: Self::Link)
         requires { IsOwed (told self.old) }
         ensures told { told self.new ≡ kept_in (told self.old) (Self.Link.told link) }
-        ensures same { (faults self.new ≡ faults self.old) × (waits self.new ≡ waits self.old) × (endpoint self.new ≡ endpoint self.old) };
+        ensures same { (faults self.new ≡ faults self.old) × (waits self.new ≡ waits self.old)
+            × (endpoint self.new ≡ endpoint self.old) };
 
     /// How often it has failed.
     fn faults(&self) -> u64
@@ -64,7 +69,8 @@ pub trait Dialer {
 
     /// A new link to the peer.
     fn dial(&mut self) -> Result<Self::Link, Failed>
-        ensures given { IfOk result (λ link. (told self.new ≡ gave_one (told self.old)) × (Self.Link.told link ≡ fresh_from (told self.old))) }
+        ensures given { IfOk result (λ link. (told self.new ≡ gave_one (told self.old))
+            × (Self.Link.told link ≡ fresh_from (told self.old))) }
         ensures owed { OnOk result (IsOwed (told self.new)) }
         ensures refused { OnErr result (told self.new ≡ refused_link (told self.old)) }
         ensures endpoint { endpoint self.new ≡ endpoint self.old }
@@ -74,7 +80,8 @@ pub trait Dialer {
     fn keep(&mut self, link: Self::Link)
         requires { IsOwed (told self.old) }
         ensures told { told self.new ≡ kept_in (told self.old) (Self.Link.told link) }
-        ensures same { (faults self.new ≡ faults self.old) × (endpoint self.new ≡ endpoint self.old) };
+        ensures same { (faults self.new ≡ faults self.old)
+            × (endpoint self.new ≡ endpoint self.old) };
 
     /// How often it has failed.
     fn faults(&self) -> u64

@@ -27,7 +27,8 @@ pub fn write_all<L: Link>(link: &mut L, bytes: &[u8]) -> Result<(), Failed>
 pub fn write_out<K: Sink>(sink: &mut K, bytes: &[u8]) -> Result<(), Failed>
     ensures ok { OnOk result (Appends (K.took sink.old) (K.took sink.new) bytes.now) }
     ensures part { OnErr result (WritesFront (K.took sink.old) (K.took sink.new) bytes.now) }
-    ensures front { Fronts (K.took sink.old) (K.took sink.new) (K.faults sink.old) (K.faults sink.new) bytes.now }
+    ensures front { Fronts (K.took sink.old) (K.took sink.new) (K.faults sink.old)
+        (K.faults sink.new) bytes.now }
     ensures cause { HasCause (K.faults sink.old) (K.faults sink.new) result }
 {
     let mut at = 0;

@@ -2,8 +2,8 @@
 ghost use Rattle.std.specs.Prelude.{◌≡◌, ◌≤◌, None};
 ghost use Rattle.flume_host.specs.Causes.{HasCause};
 
+use crate::host::Teller;
 use crate::link::RealLink;
-use crate::teller::Teller;
 use flume_host::{Dialer, Failed};
 use std::io;
 use std::io::ErrorKind;

@@ -3,7 +3,7 @@ ghost use Rattle.std.specs.Prelude.{◌≡◌, ◌≤◌, ◌<◌, ◌+◌, ◌^
 ghost use Rattle.flume_host.specs.Causes.{HasCause};
 ghost use Rattle.flume_host.specs.Folder.{IsAbove};
 
-use crate::teller::Teller;
+use crate::host::Teller;
 use flume_host::{Disk, Failed, FileName};
 use std::fs::{File, OpenOptions};
 use std::io::ErrorKind;

@@ -1,20 +1,21 @@
-// What hands the streams, folders, clock and random numbers of the system out, and takes them back.
+// The host: it hands the streams, folders, clock and random numbers of the system out, and takes them back. Its standard
+// streams, and what it says of itself where it is asked to.
 ghost use Rattle.std.specs.Prelude.{◌≡◌, None, true};
-ghost use Rattle.flume_host.specs.Causes.{Counts};
+ghost use Rattle.flume_host.specs.Causes.{Counts, HasCause};
+ghost use Rattle.std.specs.Io.{ReadsAtMost, WritesAtMost};
 
 use crate::dialer::RealDialer;
 use crate::disk::RealDisk;
 use crate::listener::RealListener;
 use crate::roll::RealRoll;
 use crate::sockets::Sockets;
-use crate::stream::{RealSink, RealSource};
-use crate::teller::Teller;
 use crate::times::{RealClock, RealRandom};
-use flume_host::{FILE_LIMIT, FileRefused, Host, NameRefused, NoMemory};
+use flume_host::{FILE_LIMIT, Failed, FileRefused, Host, NameRefused, NoMemory, Sink, Source};
+use std::fmt::Display;
 use std::fs::File;
-use std::io;
 use std::io::{ErrorKind, Read};
 use std::net::ToSocketAddrs;
+use std::{env, io};
 
 /// The host that a program runs in. It shows nothing of its contents.
 #[derive(Drop)]
@@ -286,5 +287,250 @@ impl Host for RealHost {
 
     fn disk_faults(&self) -> u64 {
         self.disk_faults
+    }
+}
+
+// Where this environment variable is set, a host tells what it opened and which calls failed.
+const VERBOSE: &str = "FLUME_VERBOSE";
+
+/// Tells on standard error what a host opened, and with which error of the system a call failed, where that is asked for. Of a thing
+/// that is used over and over, as a disk, a folder, a peer or a port, it tells the first of failures in a row, and once it works again.
+#[derive(Clone, Copy, Drop)]
+pub struct Teller {
+    pub rt: HostRuntime,
+    is_on: bool,
+    // the last call of the thing failed, and that was told
+    is_failing: bool,
+}
+
+impl Teller {
+    /// One that tells where the environment asks for it.
+    pub fn new(rt: HostRuntime) -> Teller {
+        Teller {
+            rt,
+            is_on: env::var(&rt, VERBOSE).is_ok(),
+            is_failing: false,
+        }
+    }
+
+    /// Tells that a folder was opened.
+    pub fn opened(&self, folder: &str) {
+        if self.is_on
+            && let Ok(line) = format!(in self.rt.alloc(); "flume: {folder}: opened")
+        {
+            let _ = self.rt.eprintln(line.as_str());
+        }
+    }
+
+    /// Tells that a port is listened at.
+    pub fn listens(&self, address: &str, port: u16) {
+        if self.is_on
+            && let Ok(line) = format!(in self.rt.alloc(); "flume: {address}:{port}: opened")
+        {
+            let _ = self.rt.eprintln(line.as_str());
+        }
+    }
+
+    /// Tells that a call on this file, folder or stream failed.
+    pub fn failed(&self, name: &str, error: &io::Error) {
+        if self.is_on
+            && let Ok(line) = format!(in self.rt.alloc(); "flume: {name}: {error}")
+        {
+            let _ = self.rt.eprintln(line.as_str());
+        }
+    }
+
+    /// Tells that a call on this port failed.
+    pub fn failed_at(&self, address: &str, port: u16, error: &io::Error) {
+        if self.is_on
+            && let Ok(line) = format!(in self.rt.alloc(); "flume: {address}:{port}: {error}")
+        {
+            let _ = self.rt.eprintln(line.as_str());
+        }
+    }
+
+    /// Tells of a failure of the thing of this name, where it is the first since it worked.
+    pub fn fails(&mut self, name: &str, error: &io::Error) {
+        if !self.is_failing {
+            self.failed(name, error);
+        }
+        self.is_failing = true;
+    }
+
+    /// Tells of a failure at this port, where it is the first since it worked.
+    pub fn fails_at(&mut self, address: &str, port: u16, error: &io::Error) {
+        if !self.is_failing {
+            self.failed_at(address, port, error);
+        }
+        self.is_failing = true;
+    }
+
+    /// Tells of a failure of the socket of this address, where it is the first since it worked.
+    pub fn fails_with<A: Display + Drop>(&mut self, address: io::Result<A>, error: &io::Error) {
+        if !self.is_failing {
+            self.failed_with(address, error);
+        }
+        self.is_failing = true;
+    }
+
+    /// Tells that the thing of this name works again, where it failed before.
+    pub fn works(&mut self, name: &str) {
+        if self.is_on
+            && self.is_failing
+            && let Ok(line) = format!(in self.rt.alloc(); "flume: {name}: works again")
+        {
+            let _ = self.rt.eprintln(line.as_str());
+        }
+        self.is_failing = false;
+    }
+
+    /// Tells that this port works again, where it failed before.
+    pub fn works_at(&mut self, address: &str, port: u16) {
+        if self.is_on
+            && self.is_failing
+            && let Ok(line) = format!(in self.rt.alloc(); "flume: {address}:{port}: works again")
+        {
+            let _ = self.rt.eprintln(line.as_str());
+        }
+        self.is_failing = false;
+    }
+
+    /// Tells that the socket of this address works again, where it failed before and the system knows the address.
+    pub fn works_with<A: Display + Drop>(&mut self, address: io::Result<A>) {
+        if self.is_on
+            && self.is_failing
+            && let Ok(address) = address
+            && let Ok(line) = format!(in self.rt.alloc(); "flume: {address}: works again")
+        {
+            let _ = self.rt.eprintln(line.as_str());
+        }
+        self.is_failing = false;
+    }
+
+    /// Tells that a call on the socket of this address failed, where the system knows the address.
+    pub fn failed_with<A: Display + Drop>(&self, address: io::Result<A>, error: &io::Error) {
+        if self.is_on
+            && let Ok(address) = address
+            && let Ok(line) = format!(in self.rt.alloc(); "flume: {address}: {error}")
+        {
+            let _ = self.rt.eprintln(line.as_str());
+        }
+    }
+}
+
+/// Standard input, with no buffer.
+#[derive(Drop)]
+pub struct RealSource {
+    teller: Teller,
+    pub faults: u64,
+}
+
+impl RealSource {
+    /// Standard input.
+    pub fn new(rt: HostRuntime) -> Self
+        ensures { result.faults ≡ 0 }
+    {
+        RealSource {
+            teller: Teller::new(rt),
+            faults: 0,
+        }
+    }
+}
+
+// Reads some bytes of standard input.
+fn read_some(rt: &HostRuntime, into: &mut [u8]) -> io::Result<usize>
+    ensures { ReadsAtMost result into.new }
+{
+    for _ in 0..u64::MAX {
+        match rt.stdin().read(into) {
+            Err(e) if e.kind() == ErrorKind::Interrupted => {}
+            answer => return answer,
+        }
+    }
+    Err(io::Error::from(ErrorKind::Interrupted))
+}
+
+impl Source for RealSource {
+    ghost left = { λ _. None };
+
+    ghost faults = { λ s. s.faults };
+
+    fn read(&mut self, into: &mut [u8]) -> Result<usize, Failed> {
+        match read_some(&self.teller.rt, into) {
+            Ok(n) => Ok(n),
+            Err(e) => {
+                self.teller.failed("standard input", &e);
+                self.faults = self.faults.saturating_add(1);
+                Err(Failed)
+            }
+        }
+    }
+
+    fn faults(&self) -> u64 {
+        self.faults
+    }
+}
+
+/// Standard output, with no buffer.
+#[derive(Drop)]
+pub struct RealSink {
+    teller: Teller,
+    pub faults: u64,
+}
+
+impl RealSink {
+    /// Standard output.
+    pub fn new(rt: HostRuntime) -> Self
+        ensures { result.faults ≡ 0 }
+    {
+        RealSink {
+            teller: Teller::new(rt),
+            faults: 0,
+        }
+    }
+}
+
+// Writes some bytes to standard output.
+fn write_some(rt: &HostRuntime, bytes: &[u8]) -> io::Result<usize>
+    ensures { WritesAtMost result bytes.now }
+{
+    for _ in 0..u64::MAX {
+        match rt.stdout().write_some(bytes) {
+            Err(e) if e.kind() == ErrorKind::Interrupted => {}
+            answer => return answer,
+        }
+    }
+    Err(io::Error::from(ErrorKind::Interrupted))
+}
+
+impl Sink for RealSink {
+    ghost took = { λ _. None };
+
+    ghost handed = { λ _. None };
+
+    ghost faults = { λ s. s.faults };
+
+    fn write(&mut self, bytes: &[u8]) -> Result<usize, Failed> {
+        match write_some(&self.teller.rt, bytes) {
+            Ok(n) if n > 0 || bytes.is_empty() => Ok(n),
+            Ok(_) => {
+                self.faults = self.faults.saturating_add(1);
+                Err(Failed)
+            }
+            Err(e) => {
+                self.teller.failed("standard output", &e);
+                self.faults = self.faults.saturating_add(1);
+                Err(Failed)
+            }
+        }
+    }
+
+    // Nothing was held back.
+    fn flush(&mut self) -> Result<(), Failed> {
+        Ok(())
+    }
+
+    fn faults(&self) -> u64 {
+        self.faults
     }
 }

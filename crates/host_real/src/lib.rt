@@ -9,15 +9,12 @@ mod link;
 mod listener;
 mod roll;
 mod sockets;
-mod stream;
-mod teller;
 mod times;
 
 pub use dialer::RealDialer;
 pub use disk::RealDisk;
-pub use host::RealHost;
+pub use host::{RealHost, RealSink, RealSource};
 pub use link::RealLink;
 pub use listener::RealListener;
 pub use roll::RealRoll;
-pub use stream::{RealSink, RealSource};
 pub use times::{RealClock, RealRandom};

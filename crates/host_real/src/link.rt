@@ -3,7 +3,7 @@ ghost use Rattle.std.specs.Prelude.{◌≡◌, ◌≤◌, ◌<◌, None, length}
 ghost use Rattle.std.specs.Io.{ReadsAtMost, WritesAtMost};
 ghost use Rattle.flume_host.specs.Causes.{HasCause};
 
-use crate::teller::Teller;
+use crate::host::Teller;
 use flume_host::{Failed, Link, LinkRead};
 use std::io;
 use std::io::{ErrorKind, Read, Write};

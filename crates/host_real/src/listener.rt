@@ -2,8 +2,8 @@
 ghost use Rattle.std.specs.Prelude.{◌≡◌, ◌≤◌, Ok, None, IfOk};
 ghost use Rattle.flume_host.specs.Causes.{HasCause};
 
+use crate::host::Teller;
 use crate::link::{RealLink, WAIT_MILLIS};
-use crate::teller::Teller;
 use flume_host::{Failed, Listener};
 use std::io;
 use std::io::ErrorKind;

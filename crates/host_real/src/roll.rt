@@ -4,7 +4,7 @@ ghost use Rattle.std.specs.Io.{WritesAtMost};
 ghost use Rattle.flume_host.specs.Causes.{HasCause, Rose};
 
 use crate::disk::{make_folder, sync_folder};
-use crate::teller::Teller;
+use crate::host::Teller;
 use flume_host::{Failed, RollDir};
 use std::fs::File;
 use std::io;

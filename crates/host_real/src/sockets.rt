@@ -1,8 +1,8 @@
 // The ports at which a host listens.
 ghost use Rattle.std.specs.Prelude.{◌≡◌, ◌<◌, IfOk, IfSome, length};
 
+use crate::host::Teller;
 use crate::listener::{RealListener, bind};
-use crate::teller::Teller;
 use flume_host::NameRefused;
 use std::io;
 use std::net::TcpListener;

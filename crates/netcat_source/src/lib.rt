@@ -5,11 +5,9 @@
 mod laws;
 mod lines;
 mod session;
-mod take;
 mod worker;
 
 pub use laws::{one_cut, pieces_cut};
-pub use lines::{Cut, LineVerdict, Lines, TOO_LONG_REPLY, reply_to};
+pub use lines::{Cut, LineVerdict, Lines, TOO_LONG_REPLY, batch_of, reply_to, said_of, take_line};
 pub use session::{LineRules, SessionEnd, serve_netcat};
-pub use take::{batch_of, said_of, take_line};
 pub use worker::serve_link;

@@ -8,8 +8,7 @@ ghost use Rattle.netcat_source.specs.Sessions.{Served};
 ghost use Rattle.netcat_source.specs.Parts.{AnswerEnds, Answers, Breaks, Goes, IsTurnsOf, LongEnds, TakesOne, held_by};
 ghost use Rattle.source_put.specs.Tries.{Puts};
 
-use crate::lines::{Cut, LineVerdict, Lines, TOO_LONG_REPLY, reply_to};
-use crate::take::{said_of, take_line};
+use crate::lines::{Cut, LineVerdict, Lines, TOO_LONG_REPLY, reply_to, said_of, take_line};
 use channel_face::PutFace;
 use flume_host::{Clock, Halt, Link, LinkRead, write_all};
 use plug_in::Interceptor;

@@ -3,10 +3,10 @@ use Rattle.std.specs.Prelude.{◌≡◌, ◌≢◌, ◌⊎◌, ◌<◌, ◌≤�
 use Rattle.std.specs.Map.{lookup}
 use Rattle.std.specs.Ordering.{is_eq, nat_cmp}
 use Rattle.record_form.specs.declared.record.Pointer.{Pointer}
-use Rattle.open_table.specs.declared.opened.Item.{Item}
-use Rattle.open_table.specs.declared.opened.Item.TheVariants.{Put, Take}
-use Rattle.open_table.specs.declared.opened.Ended.{Ended}
-use Rattle.open_table.specs.declared.opened.Ended.TheVariants as ended
+use Rattle.open_table.specs.declared.table.Item.{Item}
+use Rattle.open_table.specs.declared.table.Item.TheVariants.{Put, Take}
+use Rattle.open_table.specs.declared.table.Ended.{Ended}
+use Rattle.open_table.specs.declared.table.Ended.TheVariants as ended
 
 -- the puts of a transaction, or its takes, in the order of its calls
 pub data Listed : Type 0 where

@@ -112,7 +112,8 @@ fn is_low(unit: u32) -> bool
 /// The character that a high half and the low one after it spell, and how many bytes its escape takes.
 fn low_half(high: u32, bytes: &[u8]) -> Option<(char, usize)>
     requires { IsTrue (is_high high) }
-    ensures value { option_map (λ found. (encode_utf8 found.0, found.1)) result ≡ low_half high bytes.now }
+    ensures value { option_map (λ found. (encode_utf8 found.0, found.1)) result
+        ≡ low_half high bytes.now }
     ensures within { IfSome result (λ found. found.1 ≤ length bytes.now + 5) }
 {
     if bytes.len() < 2 || bytes[0] != b'\\' || bytes[1] != b'u' {
@@ -131,7 +132,8 @@ fn low_half(high: u32, bytes: &[u8]) -> Option<(char, usize)>
 
 /// The character that the digits after `\u` spell, and how many bytes its escape takes.
 fn unicode_escape(bytes: &[u8]) -> Option<(char, usize)>
-    ensures value { option_map (λ found. (encode_utf8 found.0, found.1)) result ≡ unicode_escape bytes.now }
+    ensures value { option_map (λ found. (encode_utf8 found.0, found.1)) result
+        ≡ unicode_escape bytes.now }
     ensures within { IfSome result (λ found. found.1 ≤ length bytes.now + 1) }
 {
     let unit = hex_number(bytes)?;

@@ -43,7 +43,8 @@ impl Properties {
     /// The value of a key, and the number of the line that it stands on.
     pub fn get(&self, key: &str) -> Option<(&str, u32)>
         ensures { MatchOption result (lookup key.now self.now ≡ None)
-            (λ found. lookup key.now self.now ≡ Some (record { key = key.now; value = found.0.now; line = found.1 })) }
+            (λ found. lookup key.now self.now
+            ≡ Some (record { key = key.now; value = found.0.now; line = found.1 })) }
     {
         let entry = self.table.get(key)?;
         Some((entry.value.as_str(), entry.line))
@@ -66,7 +67,8 @@ impl Properties {
     /// The key, the value and the line at a place, from 0 and in the order in which the keys first stand.
     pub fn at(&self, place: usize) -> (&str, &str, u32)
         requires { place < length self.now }
-        ensures { slice_get self.now place ≡ Some (record { key = result.0.now; value = result.1.now; line = result.2 }) }
+        ensures { slice_get self.now place ≡ Some
+            (record { key = result.0.now; value = result.1.now; line = result.2 }) }
     {
         let Some((key, entry)) = self.table.get_index(place) else {
             unreachable!()
@@ -81,7 +83,8 @@ fn put(
     key: String,
     entry: Entry,
 ) -> Result<(), AllocFailed<(String, Entry)>>
-    ensures { OnOk result (pairs_in table.new.entries ≡ put (entry_pair (key, entry)) (pairs_in table.old.entries)) }
+    ensures { OnOk result (pairs_in table.new.entries
+        ≡ put (entry_pair (key, entry)) (pairs_in table.old.entries)) }
 {
     table.insert(key, entry)?;
     Ok(())
@@ -89,7 +92,8 @@ fn put(
 
 /// The last pair of each key.
 fn winners(alloc: Global, lines: &[LogicalLine]) -> Result<IndexMap<String, Entry>, PropRefused>
-    ensures { Wins (views lines.now) (result_map_both (λ table. pairs_in table.entries) (λ refused. refused) result) }
+    ensures { Wins (views lines.now) (result_map_both (λ table. pairs_in table.entries)
+        (λ refused. refused) result) }
 {
     let mut table = IndexMap::new(alloc);
     for line in lines {
@@ -109,7 +113,8 @@ fn keep_values(table: &mut IndexMap<String, Entry>)
 {
     table.retain(
         |_key: &String, entry: &mut Entry| -> bool
-            ensures { (result ≡ nat_lt 0 (length (string_bytes entry.old.value))) × (entry.new ≡ entry.old) }
+            ensures { (result ≡ nat_lt 0 (length (string_bytes entry.old.value)))
+                × (entry.new ≡ entry.old) }
         { !entry.value.is_empty() },
     );
 }

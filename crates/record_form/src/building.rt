@@ -33,7 +33,8 @@ fn event_of(alloc: Global, headers: Headers, body: &[u8]) -> Result<Event, NoMem
 fn put_of(alloc: Global, bytes: &[u8]) -> Result<Rec, NoMemory>
     requires some { 1 ≤ length bytes.now }
     requires whole { IsWhole (as_read (reads (kind_grammar 1) (drop 1 bytes.now) 1)) }
-    ensures { IfOk result (λ rec. (end : ℕ) × (reads (kind_grammar 1) (drop 1 bytes.now) 1 ≡ Complete rec end)) }
+    ensures { IfOk result (λ rec. (end : ℕ) × (reads (kind_grammar 1) (drop 1 bytes.now) 1
+        ≡ Complete rec end)) }
 {
     let txn = u64_in(bytes, 1);
     let size = u32_in(bytes, SIZE_AT);

@@ -82,8 +82,12 @@ pub(crate) fn text_at<'a>(
 ) -> Result<&'a str, Stop>
     requires within { at ≤ length bytes.now }
     requires low { at < 2 ^ 31 }
-    ensures reads { (next : List ℕ → Grammar) → Answers result (reads (text_grammar end at (option_copied last.entry) next) (drop at bytes.now) at)
-        (λ text. reads (text_grammar end at (option_copied last.entry) next) (drop at bytes.now) at ≡ reads (next text.now) (drop (at + 4 + length text.now) bytes.now) (at + 4 + length text.now)) }
+    ensures reads { (next : List ℕ → Grammar)
+        → Answers result (reads (text_grammar end at (option_copied last.entry) next)
+        (drop at bytes.now) at)
+        (λ text. reads (text_grammar end at (option_copied last.entry) next) (drop at bytes.now) at
+        ≡ reads (next text.now) (drop (at + 4 + length text.now) bytes.now)
+        (at + 4 + length text.now)) }
     ensures within { IfOk result (λ text. at + 4 + length text.now ≤ length bytes.now) }
     ensures inside { IfOk result (λ text. at + 4 + length text.now ≤ end) }
     ensures above { IfOk result (λ text. IsTrue (is_above (option_copied last.entry) text.now)) }

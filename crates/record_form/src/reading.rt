@@ -18,8 +18,11 @@ fn headers_end(bytes: &[u8], start: usize, end: usize, number: u32) -> Result<us
     requires within { start ≤ length bytes.now }
     requires low { start < 2 ^ 30 }
     requires end_low { end < 2 ^ 30 }
-    ensures reads { (txn : ℕ) → Answers result (reads (headers_grammar number txn end start None []) (drop start bytes.now) start)
-        (λ at. (headers : List Header) × (reads (headers_grammar number txn end start None []) (drop start bytes.now) start ≡ reads (body_grammar txn end at headers) (drop at bytes.now) at)) }
+    ensures reads { (txn : ℕ) → Answers result
+        (reads (headers_grammar number txn end start None []) (drop start bytes.now) start)
+        (λ at. (headers : List Header) × (reads (headers_grammar number txn end start None [])
+        (drop start bytes.now) start ≡ reads (body_grammar txn end at headers)
+        (drop at bytes.now) at)) }
     ensures within { IfOk result (λ at. at ≤ length bytes.now) }
     ensures low { IfOk result (λ at. at < 2 ^ 30) }
 {
@@ -39,8 +42,10 @@ fn headers_end(bytes: &[u8], start: usize, end: usize, number: u32) -> Result<us
 fn body_end(bytes: &[u8], at: usize, end: usize) -> Result<usize, Stop>
     requires within { at ≤ length bytes.now }
     requires low { at < 2 ^ 30 }
-    ensures reads { (txn : ℕ) (headers : List Header) → Answers result (reads (body_grammar txn end at headers) (drop at bytes.now) at)
-        (λ stop. (body : List ℕ) × (reads (body_grammar txn end at headers) (drop at bytes.now) at ≡ Complete (Put txn (content headers body)) stop)) }
+    ensures reads { (txn : ℕ) (headers : List Header)
+        → Answers result (reads (body_grammar txn end at headers) (drop at bytes.now) at)
+        (λ stop. (body : List ℕ) × (reads (body_grammar txn end at headers) (drop at bytes.now) at
+        ≡ Complete (Put txn (content headers body)) stop)) }
     ensures end { IfOk result (λ stop. stop ≡ end) }
 {
     let length = u32_at(bytes, at)? as usize;
@@ -54,7 +59,8 @@ fn body_end(bytes: &[u8], at: usize, end: usize) -> Result<usize, Stop>
 fn put_end(bytes: &[u8]) -> Result<usize, Stop>
     requires { 1 ≤ length bytes.now }
     ensures reads { Answers result (reads (kind_grammar 1) (drop 1 bytes.now) 1)
-        (λ end. (rec : Rec) × (reads (kind_grammar 1) (drop 1 bytes.now) 1 ≡ Complete rec end) × (record_kind rec ≡ 1)) }
+        (λ end. (rec : Rec) × (reads (kind_grammar 1) (drop 1 bytes.now) 1 ≡ Complete rec end)
+        × (record_kind rec ≡ 1)) }
     ensures low { IfOk result (λ end. end < 2 ^ 30) }
 {
     let size = u32_at(bytes, SIZE_AT)?;
@@ -73,7 +79,8 @@ fn record_end(kind: u8, bytes: &[u8]) -> Result<usize, Stop>
     requires greatest { kind ≤ 6 }
     requires some { 1 ≤ length bytes.now }
     ensures reads { Answers result (reads (kind_grammar kind) (drop 1 bytes.now) 1)
-        (λ end. (rec : Rec) × (reads (kind_grammar kind) (drop 1 bytes.now) 1 ≡ Complete rec end) × (record_kind rec ≡ kind)) }
+        (λ end. (rec : Rec) × (reads (kind_grammar kind) (drop 1 bytes.now) 1 ≡ Complete rec end)
+        × (record_kind rec ≡ kind)) }
     ensures low { IfOk result (λ end. end < 2 ^ 30) }
 {
     match kind {

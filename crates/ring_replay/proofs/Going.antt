@@ -13,7 +13,7 @@ use Rattle.record_form.specs.declared.record.Rec.{Rec}
 use Rattle.record_form.specs.declared.record.Rec.TheVariants.{Put}
 use Rattle.event_ring.specs.Slots.{Left}
 use Rattle.open_table.specs.Tables.{HasAt, IsOf, Listed, MayAdd, Open, Puts, Table, Takes, added, is_puts, open_at, with_item}
-use Rattle.open_table.specs.declared.opened.Item.TheVariants as items
+use Rattle.open_table.specs.declared.table.Item.TheVariants as items
 use Rattle.channel_face.specs.Machine.{is_some_of}
 use Rattle.ring_replay.specs.declared.indexing.Indexing.{Indexing}
 use Rattle.ring_replay.specs.Indexing.{ArePlaced, AreTaken, GoesOn, HasEntry, HasItems, IsBarred, IsListed, IsOpened, IsPlaced, Keeps, Places, listed_or}

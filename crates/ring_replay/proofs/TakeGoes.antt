@@ -9,7 +9,7 @@ use Rattle.record_form.specs.declared.record.Rec.TheVariants.{Take}
 use Rattle.event_core.specs.declared.journal.Entry.{Entry}
 use Rattle.event_ring.specs.Slots.{Index, IsLive, Left, look_at, marked}
 use Rattle.open_table.specs.Tables.{HasAt, Table, added, is_puts, open_at}
-use Rattle.open_table.specs.declared.opened.Item.TheVariants as items
+use Rattle.open_table.specs.declared.table.Item.TheVariants as items
 use Rattle.ring_replay.specs.declared.indexing.Indexing.{Indexing}
 use Rattle.ring_replay.specs.Indexing.{GoesOn, HasEntry, HasItems, IsBarred, IsOpened, Keeps, Places, free_of, listed_or}
 use Rattle.channel_replay.specs.Marks.{Applied, IsHeld, Past, journal, numbers_of, open_txns, opened, opened_by}

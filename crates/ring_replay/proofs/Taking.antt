@@ -3,7 +3,7 @@ use Rattle.std.proofs.Common.{◌⊎◌, inl, inr, ◌≡◌, ◌<◌, ◌≤◌
 use Rattle.event_core.specs.declared.journal.Entry.{Entry}
 use Rattle.event_core.specs.declared.journal.Entry.TheVariants as entries
 use Rattle.open_table.specs.Tables.{IsOf, Listed, MayAdd, Open, Puts, Table, Takes, is_puts, open_at, with_item}
-use Rattle.open_table.specs.declared.opened.Item.TheVariants as items
+use Rattle.open_table.specs.declared.table.Item.TheVariants as items
 use Rattle.ring_replay.specs.Indexing.{HasEntry, IsListed, IsOpened, Places, listed_or}
 use Rattle.channel_replay.specs.Marks.{numbers_of}
 use Rattle.channel_replay.specs.Rules.{IsTake, MayGoOn}

@@ -1,12 +1,10 @@
 //! A channel that threads share: any channel behind one lock, many callers, one legal history.
 #![tactic(auto)]
 
-mod calls;
 mod carries;
 mod durable;
 mod home;
 mod keeper;
-mod kinds;
 mod looks;
 mod pass;
 mod port;

@@ -1,21 +1,27 @@
-// A channel behind one lock, as the one who holds the lock sees it: taking the lock, calls that are each counted as they are
-// made, and letting it go.
-ghost use Rattle.std.specs.Prelude.{◌≡◌, [], ◌<◌, ◌≤◌, ◌-◌, ◌^◌, IfErr, true, false, length};
+// A channel behind one lock. As the one who holds the lock sees it: taking the lock, calls that are each counted as they are made,
+// for puts and for takes alike, and letting it go. And with these, the calls of a transaction through a pass.
+ghost use Rattle.std.specs.Prelude.{◌≡◌, [], ◌<◌, ◌≤◌, ◌-◌, ◌^◌, IfErr, true, false, length, Bool, Result, None};
 ghost use Rattle.channel_lock.specs.Turns.{Making};
 ghost use Rattle.shared_channel.specs.Holding.{Holds, IsReleased, Makes, MakesCommit, Rolls, Tries};
 ghost use Rattle.shared_channel.specs.Passes.{IsHome, view_of};
 ghost use Rattle.channel_face.specs.Calls.{cause_of};
 ghost use Rattle.channel_face.specs.Faces.{is_spent_begin, is_spent_put, is_spent_take, is_spent_stage, is_spent_flush};
-ghost use Rattle.channel_face.specs.Machine.{Put, Take, Flush};
+ghost use Rattle.channel_face.specs.Machine.{Put, Take, Flush, BeginPut, BeginTake, Call, RollbackPut, RollbackTake, StagePut, StageTake, State, puts_of, takes_of};
 ghost use Rattle.shared_channel.specs.Ports.{MakesSettled};
-ghost use Rattle.shared_channel.specs.Calls.{is_spent_commit};
+ghost use Rattle.shared_channel.specs.Calls.{is_spent_commit, Answers, RolledBack, Commits};
+ghost use Rattle.channel_face.specs.Token.{Token};
+ghost use Rattle.channel_face.specs.History.{AddsOne};
+ghost use Rattle.channel_face.specs.declared.replies.BeginRefused.{BeginRefused};
+ghost use Rattle.channel_face.specs.declared.replies.StageCause.{StageCause};
+ghost use Rattle.channel_face.specs.declared.replies.Ticket.{Ticket};
+ghost use Rattle.shared_channel.specs.Kinds.{IsCountedCall, IsRollback};
 
 use crate::home::Home;
-use crate::kinds::KindOfTxn;
+use crate::pass::Pass;
 use atomic_table::Badge;
 use channel_face::{
-    BeginRefused, Channel, CommitRefused, Counter, FlushRefused, PutRefused, PutTxn, Settled,
-    StageCause, StageRefused, TakeRefused, TakeTxn, Taken, Ticket, Txn,
+    BeginRefused, Channel, CommitRefused, Counter, FlushRefused, OfPuts, OfTakes, PutRefused,
+    PutTxn, Settled, StageCause, StageRefused, TakeRefused, TakeTxn, Taken, Ticket, Txn,
 };
 use channel_lock::{ChannelLock, Gather, Place, SeatView};
 use event_core::Event;
@@ -290,5 +296,325 @@ impl<C: Channel> Shared<C> {
             Settled::No => self.make_flush(holder).is_ok(),
             Settled::InDoubt => false,
         }
+    }
+}
+
+/// A kind of transactions: of puts, or of takes.
+pub(crate) trait KindOfTxn {
+    /// A beginning, with its reply.
+    ghost begins: { Result Token BeginRefused → Call };
+
+    /// A stage, with its reply.
+    ghost stages: { Token → Result Ticket StageCause → Call };
+
+    /// A rollback, and whether it ended a transaction.
+    ghost rolls_back: { Token → Bool → Call };
+
+    /// No transaction of this kind is open by the token.
+    ghost is_stale: { Token → State → Type 0 };
+
+    /// Begins one.
+    fn begin<C: Channel>(channel: &mut C) -> Result<Txn<Self>, BeginRefused>
+        ensures call { AddsOne (C.stands channel.old) (C.stands channel.new) (begins result)
+            (C.moment channel.new) }
+        ensures counts { IsCountedCall (begins result) (is_spent_begin result) };
+
+    /// Stages one.
+    fn stage<C: Channel>(channel: &mut C, txn: Txn<Self>) -> Result<Ticket, StageRefused<Txn<Self>>>
+        ensures step { AddsOne (C.stands channel.old) (C.stands channel.new)
+            (stages txn (cause_of result)) (C.moment channel.new) }
+        ensures counts { IsCountedCall (stages txn (cause_of result))
+            (is_spent_stage (cause_of result)) }
+        ensures back { IfErr result (λ refused. refused.txn ≡ txn) };
+
+    /// Gives one up, and answers whether its token was not stale.
+    fn roll_back<C: Channel>(channel: &mut C, txn: Txn<Self>) -> bool
+        ensures call { AddsOne (C.stands channel.old) (C.stands channel.new) (rolls_back txn result)
+            (C.moment channel.new) }
+        ensures counts { IsRollback (rolls_back txn) (is_stale txn) };
+}
+
+impl KindOfTxn for OfPuts {
+    ghost use Rattle.channel_face.specs.Machine.{BeginPut, RollbackPut, StagePut, puts_of};
+
+    ghost begins = { λ reply. BeginPut reply };
+
+    ghost stages = { λ token reply. StagePut token reply };
+
+    ghost rolls_back = { λ token ended. RollbackPut token ended };
+
+    ghost is_stale = { λ token s. puts_of s token ≡ None };
+
+    fn begin<C: Channel>(channel: &mut C) -> Result<Txn<OfPuts>, BeginRefused>
+        ensures call { AddsOne (C.stands channel.old) (C.stands channel.new) (BeginPut result)
+            (C.moment channel.new) }
+        ensures counts { IsCountedCall (BeginPut result) (is_spent_begin result) }
+    {
+        channel.begin_put()
+    }
+
+    fn stage<C: Channel>(
+        channel: &mut C,
+        txn: Txn<OfPuts>,
+    ) -> Result<Ticket, StageRefused<Txn<OfPuts>>>
+        ensures step { AddsOne (C.stands channel.old) (C.stands channel.new)
+            (StagePut txn (cause_of result)) (C.moment channel.new) }
+        ensures counts { IsCountedCall (StagePut txn (cause_of result))
+            (is_spent_stage (cause_of result)) }
+        ensures back { IfErr result (λ refused. refused.txn ≡ txn) }
+    {
+        channel.stage_put(txn)
+    }
+
+    fn roll_back<C: Channel>(channel: &mut C, txn: Txn<OfPuts>) -> bool
+        ensures call { AddsOne (C.stands channel.old) (C.stands channel.new)
+            (RollbackPut txn result) (C.moment channel.new) }
+        ensures counts { IsRollback (RollbackPut txn) (λ s. puts_of s txn ≡ None) }
+    {
+        channel.rollback_put(txn)
+    }
+}
+
+impl KindOfTxn for OfTakes {
+    ghost use Rattle.channel_face.specs.Machine.{BeginTake, RollbackTake, StageTake, takes_of};
+
+    ghost begins = { λ reply. BeginTake reply };
+
+    ghost stages = { λ token reply. StageTake token reply };
+
+    ghost rolls_back = { λ token ended. RollbackTake token ended };
+
+    ghost is_stale = { λ token s. takes_of s token ≡ None };
+
+    fn begin<C: Channel>(channel: &mut C) -> Result<Txn<OfTakes>, BeginRefused>
+        ensures call { AddsOne (C.stands channel.old) (C.stands channel.new) (BeginTake result)
+            (C.moment channel.new) }
+        ensures counts { IsCountedCall (BeginTake result) (is_spent_begin result) }
+    {
+        channel.begin_take()
+    }
+
+    fn stage<C: Channel>(
+        channel: &mut C,
+        txn: Txn<OfTakes>,
+    ) -> Result<Ticket, StageRefused<Txn<OfTakes>>>
+        ensures step { AddsOne (C.stands channel.old) (C.stands channel.new)
+            (StageTake txn (cause_of result)) (C.moment channel.new) }
+        ensures counts { IsCountedCall (StageTake txn (cause_of result))
+            (is_spent_stage (cause_of result)) }
+        ensures back { IfErr result (λ refused. refused.txn ≡ txn) }
+    {
+        channel.stage_take(txn)
+    }
+
+    fn roll_back<C: Channel>(channel: &mut C, txn: Txn<OfTakes>) -> bool
+        ensures call { AddsOne (C.stands channel.old) (C.stands channel.new)
+            (RollbackTake txn result) (C.moment channel.new) }
+        ensures counts { IsRollback (RollbackTake txn) (λ s. takes_of s txn ≡ None) }
+    {
+        channel.rollback_take(txn)
+    }
+}
+
+// Transactions of puts.
+impl<C: Channel> Shared<C> {
+    /// Begins a transaction of puts, as [`Channel::begin_put`], or is refused as `Spent` of `Counter::Calls`.
+    pub fn begin_put<R: Wait>(&self, rt: &R, pass: &mut Pass) -> Result<PutTxn, BeginRefused>
+        requires { pass.old.table_id ≡ self.now.turn.table.shared.table_id }
+        ensures same { (pass.new.table_id ≡ pass.old.table_id) ×
+            (pass.new.number ≡ pass.old.number) }
+        ensures call { Answers C.stands C.tells C.moment
+            (is_spent_begin result) pass.old.view pass.old.number (BeginPut result) pass.new.view }
+    {
+        let mut holder = self.hold(rt, &mut pass.badge, pass.number);
+        let reply = self.make_begin::<OfPuts>(&mut holder);
+        pass.calls = self.release(holder, &mut pass.badge);
+        reply
+    }
+
+    /// Puts an event, as [`Channel::put`], or is refused as `Spent` of `Counter::Calls`.
+    pub fn put<R: Wait>(
+        &self,
+        rt: &R,
+        pass: &mut Pass,
+        txn: &mut PutTxn,
+        event: &Event,
+    ) -> Result<channel_face::Put, PutRefused>
+        requires { pass.old.table_id ≡ self.now.turn.table.shared.table_id }
+        ensures same { (pass.new.table_id ≡ pass.old.table_id) ×
+            (pass.new.number ≡ pass.old.number) }
+        ensures call { Answers C.stands C.tells C.moment
+            (is_spent_put result) pass.old.view pass.old.number
+            (Put txn.old event.now result) pass.new.view }
+        ensures token { txn.new ≡ txn.old }
+    {
+        let mut holder = self.hold(rt, &mut pass.badge, pass.number);
+        let reply = self.make_put(&mut holder, txn, event);
+        pass.calls = self.release(holder, &mut pass.badge);
+        reply
+    }
+
+    /// Stages a transaction of puts, as [`Channel::stage_put`], or is refused as `Spent` of `Counter::Calls`.
+    pub fn stage_put<R: Wait>(
+        &self,
+        rt: &R,
+        pass: &mut Pass,
+        txn: PutTxn,
+    ) -> Result<Ticket, StageRefused<PutTxn>>
+        requires { pass.old.table_id ≡ self.now.turn.table.shared.table_id }
+        ensures same { (pass.new.table_id ≡ pass.old.table_id) ×
+            (pass.new.number ≡ pass.old.number) }
+        ensures call { Answers C.stands C.tells C.moment
+            (is_spent_stage (cause_of result)) pass.old.view pass.old.number
+            (StagePut txn (cause_of result)) pass.new.view }
+        ensures back { IfErr result (λ refused. refused.txn ≡ txn) }
+    {
+        let mut holder = self.hold(rt, &mut pass.badge, pass.number);
+        let reply = self.make_stage::<OfPuts>(&mut holder, txn);
+        pass.calls = self.release(holder, &mut pass.badge);
+        reply
+    }
+
+    /// Settles all that is staged, as [`Channel::flush`], or is refused as `Spent` of `Counter::Calls`.
+    pub fn flush<R: Wait>(&self, rt: &R, pass: &mut Pass) -> Result<(), FlushRefused>
+        requires { pass.old.table_id ≡ self.now.turn.table.shared.table_id }
+        ensures same { (pass.new.table_id ≡ pass.old.table_id) ×
+            (pass.new.number ≡ pass.old.number) }
+        ensures call { Answers C.stands C.tells C.moment
+            (is_spent_flush result) pass.old.view pass.old.number (Flush result) pass.new.view }
+    {
+        let mut holder = self.hold(rt, &mut pass.badge, pass.number);
+        let reply = self.make_flush(&mut holder);
+        pass.calls = self.release(holder, &mut pass.badge);
+        reply
+    }
+
+    /// Stages a transaction of puts and flushes, under one lock, as [`Channel::commit_put`], or is refused as `Spent` of
+    /// `Counter::Calls`.
+    pub fn commit_put<R: Wait>(
+        &self,
+        rt: &R,
+        pass: &mut Pass,
+        txn: PutTxn,
+    ) -> Result<Ticket, CommitRefused<PutTxn>>
+        requires { pass.old.table_id ≡ self.now.turn.table.shared.table_id }
+        ensures same { (pass.new.table_id ≡ pass.old.table_id) ×
+            (pass.new.number ≡ pass.old.number) }
+        ensures call { Commits C.stands C.tells (is_spent_commit result) pass.old.view
+            pass.old.number (StagePut txn) txn result pass.new.view }
+    {
+        let mut holder = self.hold(rt, &mut pass.badge, pass.number);
+        let reply = self.make_commit::<OfPuts>(&mut holder, txn);
+        pass.calls = self.release(holder, &mut pass.badge);
+        reply
+    }
+
+    /// Gives a transaction of puts up, as [`Channel::rollback_put`]. It is never refused. A rollback of a stale token is not
+    /// counted.
+    pub fn rollback_put<R: Wait>(&self, rt: &R, pass: &mut Pass, txn: PutTxn) -> bool
+        requires { pass.old.table_id ≡ self.now.turn.table.shared.table_id }
+        ensures same { (pass.new.table_id ≡ pass.old.table_id) ×
+            (pass.new.number ≡ pass.old.number) }
+        ensures call { RolledBack C.stands C.tells C.moment result pass.old.view pass.old.number
+            (RollbackPut txn true) (λ s. puts_of s txn ≡ None) pass.new.view }
+    {
+        let mut holder = self.hold(rt, &mut pass.badge, pass.number);
+        let ended = self.make_rollback::<OfPuts>(&mut holder, txn);
+        pass.calls = self.release(holder, &mut pass.badge);
+        ended
+    }
+}
+
+// Transactions of takes.
+impl<C: Channel> Shared<C> {
+    /// Begins a transaction of takes, as [`Channel::begin_take`], or is refused as `Spent` of `Counter::Calls`.
+    pub fn begin_take<R: Wait>(&self, rt: &R, pass: &mut Pass) -> Result<TakeTxn, BeginRefused>
+        requires { pass.old.table_id ≡ self.now.turn.table.shared.table_id }
+        ensures same { (pass.new.table_id ≡ pass.old.table_id) ×
+            (pass.new.number ≡ pass.old.number) }
+        ensures call { Answers C.stands C.tells C.moment
+            (is_spent_begin result) pass.old.view pass.old.number (BeginTake result) pass.new.view }
+    {
+        let mut holder = self.hold(rt, &mut pass.badge, pass.number);
+        let reply = self.make_begin::<OfTakes>(&mut holder);
+        pass.calls = self.release(holder, &mut pass.badge);
+        reply
+    }
+
+    /// Takes an event, as [`Channel::take`], or is refused as `Spent` of `Counter::Calls`.
+    pub fn take<R: Wait>(
+        &self,
+        rt: &R,
+        pass: &mut Pass,
+        txn: &mut TakeTxn,
+    ) -> Result<Taken, TakeRefused>
+        requires { pass.old.table_id ≡ self.now.turn.table.shared.table_id }
+        ensures same { (pass.new.table_id ≡ pass.old.table_id) ×
+            (pass.new.number ≡ pass.old.number) }
+        ensures call { Answers C.stands C.tells C.moment
+            (is_spent_take result) pass.old.view pass.old.number
+            (Take txn.old result) pass.new.view }
+        ensures token { txn.new ≡ txn.old }
+    {
+        let mut holder = self.hold(rt, &mut pass.badge, pass.number);
+        let reply = self.make_take(&mut holder, txn);
+        pass.calls = self.release(holder, &mut pass.badge);
+        reply
+    }
+
+    /// Stages a transaction of takes, as [`Channel::stage_take`], or is refused as `Spent` of `Counter::Calls`.
+    pub fn stage_take<R: Wait>(
+        &self,
+        rt: &R,
+        pass: &mut Pass,
+        txn: TakeTxn,
+    ) -> Result<Ticket, StageRefused<TakeTxn>>
+        requires { pass.old.table_id ≡ self.now.turn.table.shared.table_id }
+        ensures same { (pass.new.table_id ≡ pass.old.table_id) ×
+            (pass.new.number ≡ pass.old.number) }
+        ensures call { Answers C.stands C.tells C.moment
+            (is_spent_stage (cause_of result)) pass.old.view pass.old.number
+            (StageTake txn (cause_of result)) pass.new.view }
+        ensures back { IfErr result (λ refused. refused.txn ≡ txn) }
+    {
+        let mut holder = self.hold(rt, &mut pass.badge, pass.number);
+        let reply = self.make_stage::<OfTakes>(&mut holder, txn);
+        pass.calls = self.release(holder, &mut pass.badge);
+        reply
+    }
+
+    /// Stages a transaction of takes and flushes, under one lock, as [`Channel::commit_take`], or is refused as `Spent` of
+    /// `Counter::Calls`.
+    pub fn commit_take<R: Wait>(
+        &self,
+        rt: &R,
+        pass: &mut Pass,
+        txn: TakeTxn,
+    ) -> Result<Ticket, CommitRefused<TakeTxn>>
+        requires { pass.old.table_id ≡ self.now.turn.table.shared.table_id }
+        ensures same { (pass.new.table_id ≡ pass.old.table_id) ×
+            (pass.new.number ≡ pass.old.number) }
+        ensures call { Commits C.stands C.tells (is_spent_commit result) pass.old.view
+            pass.old.number (StageTake txn) txn result pass.new.view }
+    {
+        let mut holder = self.hold(rt, &mut pass.badge, pass.number);
+        let reply = self.make_commit::<OfTakes>(&mut holder, txn);
+        pass.calls = self.release(holder, &mut pass.badge);
+        reply
+    }
+
+    /// Gives a transaction of takes up, as [`Channel::rollback_take`]. It is never refused. A rollback of a stale token is not
+    /// counted.
+    pub fn rollback_take<R: Wait>(&self, rt: &R, pass: &mut Pass, txn: TakeTxn) -> bool
+        requires { pass.old.table_id ≡ self.now.turn.table.shared.table_id }
+        ensures same { (pass.new.table_id ≡ pass.old.table_id) ×
+            (pass.new.number ≡ pass.old.number) }
+        ensures call { RolledBack C.stands C.tells C.moment result pass.old.view pass.old.number
+            (RollbackTake txn true) (λ s. takes_of s txn ≡ None) pass.new.view }
+    {
+        let mut holder = self.hold(rt, &mut pass.badge, pass.number);
+        let ended = self.make_rollback::<OfTakes>(&mut holder, txn);
+        pass.calls = self.release(holder, &mut pass.badge);
+        ended
     }
 }

@@ -49,7 +49,8 @@ impl Reply {
 /// at 2^64 - 1. The size and the capacity stay.
 pub fn note(counts: &mut Counts, call: Call, reply: Reply)
     ensures noted { counts.new ≡ noted counts.old call reply }
-    ensures nothing { one_for_put call ≡ 0 → one_for_take call ≡ 0 → reply.settled_puts ≡ 0 → reply.settled_takes ≡ 0 → counts.new ≡ counts.old }
+    ensures nothing { one_for_put call ≡ 0 → one_for_take call ≡ 0 → reply.settled_puts ≡ 0
+        → reply.settled_takes ≡ 0 → counts.new ≡ counts.old }
 {
     let (puts, takes) = match call {
         Call::Put => (1, 0),

@@ -34,7 +34,8 @@ pub(crate) fn make_room(
     ensures copies { copies.new.items ≡ copies.old.items }
     ensures entries { entries.new.items ≡ entries.old.items }
     ensures capacity { vec_capacity entries.old ≤ vec_capacity entries.new }
-    ensures ok { OnOk result ((length copies.new.items < vec_capacity copies.new) × (length entries.new.items + length copies.new.items + 1 ≤ vec_capacity entries.new)) }
+    ensures ok { OnOk result ((length copies.new.items < vec_capacity copies.new)
+        × (length entries.new.items + length copies.new.items + 1 ≤ vec_capacity entries.new)) }
 {
     copies.reserve(1)?;
     entries.reserve(copies.len() + 1)?;
@@ -47,9 +48,12 @@ pub(crate) fn push_put_copy(
     place: usize,
     event: Event,
 ) -> Result<(), NoMemory>
-    requires { (number : ℕ) × (events : List Content) × (slice_get copies.old.items place ≡ Some (number, Entry.Puts events)) }
-    ensures ok { OnOk result ((number : ℕ) (events : List Content) → slice_get copies.old.items place ≡ Some (number, Entry.Puts events) →
-        copies.new.items ≡ slice_set copies.old.items place (number, Entry.Puts (events ++ event ∷ []))) }
+    requires { (number : ℕ) × (events : List Content)
+        × (slice_get copies.old.items place ≡ Some (number, Entry.Puts events)) }
+    ensures ok { OnOk result ((number : ℕ) (events : List Content)
+        → slice_get copies.old.items place ≡ Some (number, Entry.Puts events) →
+        copies.new.items ≡ slice_set copies.old.items place
+        (number, Entry.Puts (events ++ event ∷ []))) }
     ensures err { OnErr result (copies.new.items ≡ copies.old.items) }
 {
     match &mut copies[place].1 {
@@ -67,9 +71,12 @@ pub(crate) fn push_take_copy(
     place: usize,
     taken: u64,
 ) -> Result<(), NoMemory>
-    requires { (number : ℕ) × (numbers : List ℕ) × (slice_get copies.old.items place ≡ Some (number, Entry.Takes numbers)) }
-    ensures ok { OnOk result ((number : ℕ) (numbers : List ℕ) → slice_get copies.old.items place ≡ Some (number, Entry.Takes numbers) →
-        copies.new.items ≡ slice_set copies.old.items place (number, Entry.Takes (numbers ++ taken ∷ []))) }
+    requires { (number : ℕ) × (numbers : List ℕ)
+        × (slice_get copies.old.items place ≡ Some (number, Entry.Takes numbers)) }
+    ensures ok { OnOk result ((number : ℕ) (numbers : List ℕ)
+        → slice_get copies.old.items place ≡ Some (number, Entry.Takes numbers) →
+        copies.new.items ≡ slice_set copies.old.items place
+        (number, Entry.Takes (numbers ++ taken ∷ []))) }
     ensures err { OnErr result (copies.new.items ≡ copies.old.items) }
 {
     match &mut copies[place].1 {
@@ -105,7 +112,8 @@ fn is_empty(entry: &Entry) -> bool
 pub(crate) fn stage_copy(copies: &mut Vec<OpenCopy>, entries: &mut Vec<Entry>, number: u64)
     requires { length entries.old.items + length copies.old.items ≤ vec_capacity entries.old }
     ensures copies { copies.new.items ≡ without_entry number copies.old.items }
-    ensures entries { entries.new.items ≡ entries.old.items ++ staged_more (entry_of number copies.old.items) }
+    ensures entries { entries.new.items ≡ entries.old.items
+        ++ staged_more (entry_of number copies.old.items) }
     ensures capacity { vec_capacity entries.old ≤ vec_capacity entries.new }
 {
     if let Some(entry) = end_copy(copies, number) {

@@ -56,8 +56,17 @@ impl CountedLists {
     ) -> CountedLists
         requires txn { 1 ≤ txn }
         requires capacity { length items.items ≤ limits.capacity }
-        ensures state { (faults from : ℕ) → result.state ≡ opening (record { rules = record { kind = kind; limits = limits }; base = record { items = items.items; first = first }; txn = txn; faults = faults; from = from; tells = true }) }
-        ensures tally { result.tally ≡ record { put_attempts = 0; put_successes = 0; take_attempts = 0; take_successes = 0 } }
+        ensures state { (faults from : ℕ) → result.state
+            ≡ opening (record {
+              rules = record { kind = kind; limits = limits };
+              base = record { items = items.items; first = first };
+              txn = txn;
+              faults = faults;
+              from = from;
+              tells = true;
+            }) }
+        ensures tally { result.tally ≡ record
+            { put_attempts = 0; put_successes = 0; take_attempts = 0; take_successes = 0 } }
     {
         CountedLists {
             lists: ChannelLists::begin(alloc, kind, limits, items, first, txn),
@@ -258,7 +267,8 @@ impl CountedLists {
     /// The channel breaks, as by a flush of which the disk failed.
     pub fn fail(&mut self)
         ensures broken { self.new ≡ record self.old { state = broken_state self.old.state } }
-        ensures call { self.old.state.rules.kind ≡ Kind.File → self.old.state.broken ≡ false → Makes self.old (Flush (Err FlushNo.DiskFault)) self.new }
+        ensures call { self.old.state.rules.kind ≡ Kind.File → self.old.state.broken ≡ false
+            → Makes self.old (Flush (Err FlushNo.DiskFault)) self.new }
     {
         self.lists.fail();
         note(&mut self.counts, Call::Flush, Reply::quiet(false));
@@ -269,7 +279,8 @@ impl CountedLists {
         requires kind { self.old.state.rules.kind ≡ Kind.File }
         requires kept { kept ≤ length self.old.state.staged }
         requires life { self.old.state.life < 2 ^ 64 - 1 }
-        ensures ok { OnOk result (Makes self.old (Reopen (Ok (record { kept = Front kept; txn = self.old.state.txn }))) self.new) }
+        ensures ok { OnOk result (Makes self.old
+            (Reopen (Ok (record { kept = Front kept; txn = self.old.state.txn }))) self.new) }
         ensures err { OnErr result (Makes self.old (Reopen (Err OpenCause.NoMemory)) self.new) }
     {
         let result = self.lists.restart(kept);
@@ -279,8 +290,13 @@ impl CountedLists {
 
     /// Takes the last put of the transaction at this place back. Its call stays counted.
     pub fn undo_put(&mut self, place: usize)
-        requires { (before : List (ℕ × Entry)) × (number : ℕ) × (events : List Content) × (event : Content) × IsAt before number place (Entry.Puts events) × (self.old.state.opened ≡ with_entry number (Entry.Puts (events ++ event ∷ [])) before) }
-        ensures state { (before : List (ℕ × Entry)) (number : ℕ) (events : List Content) (event : Content) → IsAt before number place (Entry.Puts events) → self.old.state.opened ≡ with_entry number (Entry.Puts (events ++ event ∷ [])) before →
+        requires { (before : List (ℕ × Entry)) × (number : ℕ) × (events : List Content)
+            × (event : Content) × IsAt before number place (Entry.Puts events)
+            × (self.old.state.opened ≡ with_entry number
+            (Entry.Puts (events ++ event ∷ [])) before) }
+        ensures state { (before : List (ℕ × Entry)) (number : ℕ) (events : List Content)
+            (event : Content) → IsAt before number place (Entry.Puts events)
+            → self.old.state.opened ≡ with_entry number (Entry.Puts (events ++ event ∷ [])) before →
             self.new.state ≡ record self.old.state { opened = before } }
         ensures tally { self.new.tally ≡ self.old.tally }
     {
@@ -289,9 +305,14 @@ impl CountedLists {
 
     /// Takes the last take of the transaction at this place back. Its call stays counted.
     pub fn undo_take(&mut self, place: usize)
-        requires { (before : List (ℕ × Entry)) × (number : ℕ) × (numbers : List ℕ) × (taken : ℕ) × IsAt before number place (Entry.Takes numbers) × (self.old.state.opened ≡ with_entry number (Entry.Takes (numbers ++ taken ∷ [])) before) }
-        ensures state { (before : List (ℕ × Entry)) (number : ℕ) (numbers : List ℕ) (taken : ℕ) → IsAt before number place (Entry.Takes numbers) → self.old.state.opened ≡ with_entry number (Entry.Takes (numbers ++ taken ∷ [])) before →
-            self.new.state ≡ record self.old.state { opened = before } }
+        requires { (before : List (ℕ × Entry)) × (number : ℕ) × (numbers : List ℕ) × (taken : ℕ)
+            × IsAt before number place (Entry.Takes numbers)
+            × (self.old.state.opened ≡ with_entry number
+            (Entry.Takes (numbers ++ taken ∷ [])) before) }
+        ensures state { (before : List (ℕ × Entry)) (number : ℕ) (numbers : List ℕ) (taken : ℕ)
+            → IsAt before number place (Entry.Takes numbers)
+            → self.old.state.opened ≡ with_entry number (Entry.Takes (numbers ++ taken ∷ [])) before
+            → self.new.state ≡ record self.old.state { opened = before } }
         ensures tally { self.new.tally ≡ self.old.tally }
     {
         self.lists.undo_take(place);
@@ -306,7 +327,8 @@ impl CountedLists {
 
     /// Counts a put that is refused when out of memory before it comes to the lists.
     pub fn out_of_memory(&mut self)
-        ensures put { (token : Token) (event : Content) → Makes self.old (Put token event (Err PutNo.NoMemory)) self.new }
+        ensures put { (token : Token) (event : Content)
+            → Makes self.old (Put token event (Err PutNo.NoMemory)) self.new }
         ensures state { self.new.state ≡ self.old.state }
     {
         note(&mut self.counts, Call::Put, Reply::quiet(false));
@@ -316,7 +338,8 @@ impl CountedLists {
     /// refuses it.
     pub fn refuse_begin(&mut self, call: Call) -> BeginRefused
         ensures begin_put { call ≡ Call.BeginPut → Makes self.old (BeginPut (Err result)) self.new }
-        ensures begin_take { call ≡ Call.BeginTake → Makes self.old (BeginTake (Err result)) self.new }
+        ensures begin_take { call ≡ Call.BeginTake
+            → Makes self.old (BeginTake (Err result)) self.new }
         ensures state { self.new.state ≡ self.old.state }
     {
         note(&mut self.counts, call, Reply::quiet(false));

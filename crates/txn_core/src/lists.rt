@@ -81,7 +81,15 @@ impl ChannelLists {
     ) -> ChannelLists
         requires txn { 1 ≤ txn }
         requires capacity { length items.items ≤ limits.capacity }
-        ensures { (faults from : ℕ) → result ≡ opening (record { rules = record { kind = kind; limits = limits }; base = record { items = items.items; first = first }; txn = txn; faults = faults; from = from; tells = true }) }
+        ensures { (faults from : ℕ) → result ≡ opening
+            (record {
+              rules = record { kind = kind; limits = limits };
+              base = record { items = items.items; first = first };
+              txn = txn;
+              faults = faults;
+              from = from;
+              tells = true;
+            }) }
     {
         ChannelLists {
             kind,
@@ -154,7 +162,8 @@ impl ChannelLists {
         requires allowed { begin_refusal self.old ≡ None }
         requires number { begun.0 ≡ self.old.txn }
         requires empty { size_of_entry begun.1 ≡ 0 }
-        ensures ok { OnOk result (self.new ≡ record self.old { opened = self.old.opened ++ begun ∷ []; txn = self.old.txn + 1 }) }
+        ensures ok { OnOk result (self.new ≡ record self.old
+            { opened = self.old.opened ++ begun ∷ []; txn = self.old.txn + 1 }) }
         ensures err { OnErr result (self.new ≡ self.old) }
     {
         self.staged.reserve(self.opened.len() + 1)?;
@@ -193,7 +202,9 @@ impl ChannelLists {
 
     /// Where the token's transaction stands, and how many puts it has, unless the token is stale.
     pub fn find_puts(&self, txn: &PutTxn) -> Option<(usize, usize)>
-        ensures found { IfSome result (λ at. (events : List Content) × IsAt self.now.opened txn.now.number at.0 (Entry.Puts events) × (puts_of self.now txn.now ≡ Some events) × (at.1 ≡ length events)) }
+        ensures found { IfSome result (λ at. (events : List Content)
+            × IsAt self.now.opened txn.now.number at.0 (Entry.Puts events)
+            × (puts_of self.now txn.now ≡ Some events) × (at.1 ≡ length events)) }
         ensures within { IfSome result (λ at. at.1 ≤ self.now.rules.limits.txn_capacity) }
         ensures stale { IfNone result (puts_of self.now txn.now ≡ None) }
     {
@@ -211,7 +222,9 @@ impl ChannelLists {
 
     /// Where the token's transaction stands, and how many takes it has, unless the token is stale.
     pub fn find_takes(&self, txn: &TakeTxn) -> Option<(usize, usize)>
-        ensures found { IfSome result (λ at. (numbers : List ℕ) × IsAt self.now.opened txn.now.number at.0 (Entry.Takes numbers) × (takes_of self.now txn.now ≡ Some numbers) × (at.1 ≡ length numbers)) }
+        ensures found { IfSome result (λ at. (numbers : List ℕ)
+            × IsAt self.now.opened txn.now.number at.0 (Entry.Takes numbers)
+            × (takes_of self.now txn.now ≡ Some numbers) × (at.1 ≡ length numbers)) }
         ensures within { IfSome result (λ at. at.1 ≤ self.now.rules.limits.txn_capacity) }
         ensures stale { IfNone result (takes_of self.now txn.now ≡ None) }
     {
@@ -230,7 +243,8 @@ impl ChannelLists {
     /// The cause to refuse a put to a transaction that has so many, if any.
     pub fn put_refusal(&self, held: usize, event: &Event) -> Option<PutRefused>
         requires { held ≤ self.now.rules.limits.txn_capacity }
-        ensures { (events : List Content) → length events ≡ held → result ≡ put_refusal self.now (Some events) event.now }
+        ensures { (events : List Content) → length events ≡ held
+            → result ≡ put_refusal self.now (Some events) event.now }
     {
         if self.broken {
             return Some(PutRefused::Broken);
@@ -259,7 +273,8 @@ impl ChannelLists {
     /// The cause to refuse a take to a transaction that has so many, if any.
     pub fn take_refusal(&self, held: usize) -> Option<TakeRefused>
         requires { held ≤ self.now.rules.limits.txn_capacity }
-        ensures { (numbers : List ℕ) → length numbers ≡ held → result ≡ take_refusal self.now (Some numbers) }
+        ensures { (numbers : List ℕ) → length numbers ≡ held
+            → result ≡ take_refusal self.now (Some numbers) }
     {
         if self.broken {
             return Some(TakeRefused::Broken);
@@ -272,7 +287,8 @@ impl ChannelLists {
 
     // The cause to refuse to stage so many puts, if any.
     fn stage_put_refusal(&self, held: usize) -> Option<StageCause>
-        ensures { (events : List Content) → length events ≡ held → result ≡ stage_put_refusal self.now (Some events) }
+        ensures { (events : List Content) → length events ≡ held
+            → result ≡ stage_put_refusal self.now (Some events) }
     {
         if self.broken {
             return Some(StageCause::Broken);
@@ -298,9 +314,14 @@ impl ChannelLists {
 
     /// Adds an event to the puts at this place, and makes room for it among those that are left.
     pub fn add_put(&mut self, place: usize, event: Event) -> Result<(), NoMemory>
-        requires { (number : ℕ) × (events : List Content) × IsAt self.old.opened number place (Entry.Puts events) × (put_refusal self.old (Some events) event ≡ None) }
-        ensures ok { OnOk result ((number : ℕ) (events : List Content) → IsAt self.old.opened number place (Entry.Puts events) →
-            self.new ≡ record self.old { opened = with_entry number (Entry.Puts (events ++ event ∷ [])) self.old.opened }) }
+        requires { (number : ℕ) × (events : List Content)
+            × IsAt self.old.opened number place (Entry.Puts events)
+            × (put_refusal self.old (Some events) event ≡ None) }
+        ensures ok { OnOk result ((number : ℕ) (events : List Content)
+            → IsAt self.old.opened number place (Entry.Puts events) →
+            self.new ≡ record self.old {
+              opened = with_entry number (Entry.Puts (events ++ event ∷ [])) self.old.opened;
+            }) }
         ensures err { OnErr result (self.new ≡ self.old) }
     {
         self.items.reserve(self.open_puts + self.staged_puts + 1)?;
@@ -311,9 +332,14 @@ impl ChannelLists {
 
     /// Adds a number to the takes at this place.
     pub fn add_take(&mut self, place: usize, taken: u64) -> Result<(), NoMemory>
-        requires { (number : ℕ) × (numbers : List ℕ) × IsAt self.old.opened number place (Entry.Takes numbers) × (take_refusal self.old (Some numbers) ≡ None) }
-        ensures ok { OnOk result ((number : ℕ) (numbers : List ℕ) → IsAt self.old.opened number place (Entry.Takes numbers) →
-            self.new ≡ record self.old { opened = with_entry number (Entry.Takes (numbers ++ taken ∷ [])) self.old.opened }) }
+        requires { (number : ℕ) × (numbers : List ℕ)
+            × IsAt self.old.opened number place (Entry.Takes numbers)
+            × (take_refusal self.old (Some numbers) ≡ None) }
+        ensures ok { OnOk result ((number : ℕ) (numbers : List ℕ)
+            → IsAt self.old.opened number place (Entry.Takes numbers) →
+            self.new ≡ record self.old {
+              opened = with_entry number (Entry.Takes (numbers ++ taken ∷ [])) self.old.opened;
+            }) }
         ensures err { OnErr result (self.new ≡ self.old) }
     {
         push_take_at(&mut self.opened, place, taken)?;
@@ -336,8 +362,12 @@ impl ChannelLists {
 
     /// Takes the last put of the transaction at this place back.
     pub fn undo_put(&mut self, place: usize)
-        requires { (before : List (ℕ × Entry)) × (number : ℕ) × (events : List Content) × (event : Content) × IsAt before number place (Entry.Puts events) × (self.old.opened ≡ with_entry number (Entry.Puts (events ++ event ∷ [])) before) }
-        ensures { (before : List (ℕ × Entry)) (number : ℕ) (events : List Content) (event : Content) → IsAt before number place (Entry.Puts events) → self.old.opened ≡ with_entry number (Entry.Puts (events ++ event ∷ [])) before →
+        requires { (before : List (ℕ × Entry)) × (number : ℕ) × (events : List Content)
+            × (event : Content) × IsAt before number place (Entry.Puts events)
+            × (self.old.opened ≡ with_entry number (Entry.Puts (events ++ event ∷ [])) before) }
+        ensures { (before : List (ℕ × Entry)) (number : ℕ) (events : List Content) (event : Content)
+            → IsAt before number place (Entry.Puts events)
+            → self.old.opened ≡ with_entry number (Entry.Puts (events ++ event ∷ [])) before →
             self.new ≡ record self.old { opened = before } }
     {
         pop_at(&mut self.opened, place);
@@ -346,8 +376,12 @@ impl ChannelLists {
 
     /// Takes the last take of the transaction at this place back.
     pub fn undo_take(&mut self, place: usize)
-        requires { (before : List (ℕ × Entry)) × (number : ℕ) × (numbers : List ℕ) × (taken : ℕ) × IsAt before number place (Entry.Takes numbers) × (self.old.opened ≡ with_entry number (Entry.Takes (numbers ++ taken ∷ [])) before) }
-        ensures { (before : List (ℕ × Entry)) (number : ℕ) (numbers : List ℕ) (taken : ℕ) → IsAt before number place (Entry.Takes numbers) → self.old.opened ≡ with_entry number (Entry.Takes (numbers ++ taken ∷ [])) before →
+        requires { (before : List (ℕ × Entry)) × (number : ℕ) × (numbers : List ℕ) × (taken : ℕ)
+            × IsAt before number place (Entry.Takes numbers)
+            × (self.old.opened ≡ with_entry number (Entry.Takes (numbers ++ taken ∷ [])) before) }
+        ensures { (before : List (ℕ × Entry)) (number : ℕ) (numbers : List ℕ) (taken : ℕ)
+            → IsAt before number place (Entry.Takes numbers)
+            → self.old.opened ≡ with_entry number (Entry.Takes (numbers ++ taken ∷ [])) before →
             self.new ≡ record self.old { opened = before } }
     {
         pop_at(&mut self.opened, place);
@@ -419,17 +453,38 @@ impl ChannelLists {
     // The transaction at this place is open no more.
     fn close_at(&mut self, place: usize)
         requires { (number : ℕ) × (entry : Entry) × IsAt self.old.opened number place entry }
-        ensures { (number : ℕ) (entry : Entry) → IsAt self.old.opened number place entry → self.new ≡ close number self.old }
+        ensures { (number : ℕ) (entry : Entry) → IsAt self.old.opened number place entry
+            → self.new ≡ close number self.old }
     {
         let entry = remove_at(&mut self.opened, place);
         self.open_puts -= entry.put_count();
         self.free_from = 0;
     }
 
+    // The transaction that was found at a place, if one was, is open no more. It tells whether one was.
+    fn close_found(&mut self, found: Option<(usize, usize)>) -> bool
+        requires { IfSome found (λ at. (number : ℕ) × (entry : Entry)
+            × IsAt self.old.opened number at.0 entry) }
+        ensures closed { IfSome found (λ at. (result ≡ true)
+            × ((number : ℕ) (entry : Entry) → IsAt self.old.opened number at.0 entry
+            → self.new ≡ close number self.old)) }
+        ensures none { IfNone found ((result ≡ false) × (self.new ≡ self.old)) }
+    {
+        match found {
+            Some((place, _)) => {
+                self.close_at(place);
+                true
+            }
+            None => false,
+        }
+    }
+
     // What the transaction at this place did is staged.
     fn stage_at(&mut self, place: usize)
-        requires { (number : ℕ) × (entry : Entry) × IsAt self.old.opened number place entry × MayStage self.old entry }
-        ensures { (number : ℕ) (entry : Entry) → IsAt self.old.opened number place entry → self.new ≡ stage number (Some entry) self.old }
+        requires { (number : ℕ) × (entry : Entry) × IsAt self.old.opened number place entry
+            × MayStage self.old entry }
+        ensures { (number : ℕ) (entry : Entry) → IsAt self.old.opened number place entry
+            → self.new ≡ stage number (Some entry) self.old }
     {
         let entry = remove_at(&mut self.opened, place);
         let puts = entry.put_count();
@@ -516,30 +571,18 @@ impl ChannelLists {
     pub fn rollback_put(&mut self, txn: PutTxn) -> bool
         ensures { Moves true self.old (RollbackPut txn result) self.new }
     {
-        let at = self.find_puts(&txn);
+        let found = self.find_puts(&txn);
         let _ended = txn.into_numbers();
-        match at {
-            Some((place, _)) => {
-                self.close_at(place);
-                true
-            }
-            None => false,
-        }
+        self.close_found(found)
     }
 
     /// Gives a transaction of takes up.
     pub fn rollback_take(&mut self, txn: TakeTxn) -> bool
         ensures { Moves true self.old (RollbackTake txn result) self.new }
     {
-        let at = self.find_takes(&txn);
+        let found = self.find_takes(&txn);
         let _ended = txn.into_numbers();
-        match at {
-            Some((place, _)) => {
-                self.close_at(place);
-                true
-            }
-            None => false,
-        }
+        self.close_found(found)
     }
 
     /// Whether what the ticket stands for is settled.
@@ -646,7 +689,11 @@ impl ChannelLists {
         requires capacity { length items.items ≤ self.old.rules.limits.capacity }
         requires txn { 1 ≤ txn }
         requires life { self.old.life < 2 ^ 64 - 1 }
-        ensures { self.new ≡ after_reopen self.old (Ok (record { kept = Read (record { items = items.items; first = first }); txn = txn })) }
+        ensures { self.new ≡ after_reopen self.old
+            (Ok (record {
+              kept = Read (record { items = items.items; first = first });
+              txn = txn;
+            })) }
     {
         self.items = items;
         self.first = first;
@@ -667,8 +714,10 @@ impl ChannelLists {
         requires kind { self.old.rules.kind ≡ Kind.File }
         requires kept { kept ≤ length self.old.staged }
         requires life { self.old.life < 2 ^ 64 - 1 }
-        ensures ok { OnOk result (Moves true self.old (Reopen (Ok (record { kept = Front kept; txn = self.old.txn }))) self.new) }
-        ensures err { OnErr result (Moves true self.old (Reopen (Err OpenCause.NoMemory)) self.new) }
+        ensures ok { OnOk result (Moves true self.old
+            (Reopen (Ok (record { kept = Front kept; txn = self.old.txn }))) self.new) }
+        ensures err { OnErr result (Moves true self.old
+            (Reopen (Err OpenCause.NoMemory)) self.new) }
     {
         if self.ends.push(self.frame).is_err() {
             self.broken = true;

@@ -52,8 +52,22 @@ impl Model for Machine {
 impl Machine {
     /// An empty channel.
     pub fn new(alloc: Global, limits: Limits, kind: Kind) -> Result<Machine, NoMemory>
-        ensures state { IfOk result (λ m. (faults from : ℕ) → m.counted.state ≡ opening (record { rules = record { kind = kind; limits = limits }; base = record { items = []; first = 0 }; txn = 1; faults = faults; from = from; tells = true })) }
-        ensures tally { IfOk result (λ m. m.counted.tally ≡ record { put_attempts = 0; put_successes = 0; take_attempts = 0; take_successes = 0 }) }
+        ensures state { IfOk result (λ m. (faults from : ℕ)
+            → m.counted.state ≡ opening (record {
+              rules = record { kind = kind; limits = limits };
+              base = record { items = []; first = 0 };
+              txn = 1;
+              faults = faults;
+              from = from;
+              tells = true;
+            })) }
+        ensures tally { IfOk result (λ m. m.counted.tally
+            ≡ record {
+              put_attempts = 0;
+              put_successes = 0;
+              take_attempts = 0;
+              take_successes = 0;
+            }) }
         ensures journal { IfOk result (λ m. m.journal ≡ []) }
     {
         let mut items = Vec::new(alloc);
@@ -302,8 +316,11 @@ impl Machine {
     /// The channel breaks, and nothing else changes. A channel in a file that was not broken does so as by a flush of which the
     /// disk failed.
     pub fn fail(&mut self)
-        ensures broken { self.new ≡ record self.old { counted = record self.old.counted { state = broken_state self.old.counted.state } } }
-        ensures call { self.old.counted.state.rules.kind ≡ Kind.File → self.old.counted.state.broken ≡ false → Journals self.old (Flush (Err FlushNo.DiskFault)) self.new }
+        ensures broken { self.new ≡ record self.old
+            { counted = record self.old.counted { state = broken_state self.old.counted.state } } }
+        ensures call { self.old.counted.state.rules.kind ≡ Kind.File
+            → self.old.counted.state.broken ≡ false
+            → Journals self.old (Flush (Err FlushNo.DiskFault)) self.new }
     {
         self.lists.fail();
     }
@@ -314,7 +331,9 @@ impl Machine {
         requires kind { self.old.counted.state.rules.kind ≡ Kind.File }
         requires kept { kept ≤ length self.old.counted.state.staged }
         requires life { self.old.counted.state.life < 2 ^ 64 - 1 }
-        ensures ok { OnOk result (Journals self.old (Reopen (Ok (record { kept = Front kept; txn = self.old.counted.state.txn }))) self.new) }
+        ensures ok { OnOk result (Journals self.old
+            (Reopen (Ok (record { kept = Front kept; txn = self.old.counted.state.txn })))
+            self.new) }
         ensures err { OnErr result (Journals self.old (Reopen (Err OpenCause.NoMemory)) self.new) }
     {
         let kept = kept as usize;

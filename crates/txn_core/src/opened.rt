@@ -65,7 +65,8 @@ impl Open {
 
     /// How many puts it has, if it is of puts.
     pub(crate) fn puts_len(&self) -> Option<usize>
-        ensures puts { IfSome result (λ n. (events : List Content) × (self.now.1 ≡ Entry.Puts events) × (n ≡ length events)) }
+        ensures puts { IfSome result (λ n. (events : List Content)
+            × (self.now.1 ≡ Entry.Puts events) × (n ≡ length events)) }
         ensures takes { IfNone result ((numbers : List ℕ) × (self.now.1 ≡ Entry.Takes numbers)) }
     {
         match &self.did {
@@ -76,7 +77,8 @@ impl Open {
 
     /// How many takes it has, if it is of takes.
     pub(crate) fn takes_len(&self) -> Option<usize>
-        ensures takes { IfSome result (λ n. (numbers : List ℕ) × (self.now.1 ≡ Entry.Takes numbers) × (n ≡ length numbers)) }
+        ensures takes { IfSome result (λ n. (numbers : List ℕ) × (self.now.1 ≡ Entry.Takes numbers)
+            × (n ≡ length numbers)) }
         ensures puts { IfNone result ((events : List Content) × (self.now.1 ≡ Entry.Puts events)) }
     {
         match &self.did {
@@ -139,7 +141,10 @@ impl Open {
     /// Adds an event to its puts.
     pub(crate) fn push_put(&mut self, event: Event) -> Result<(), NoMemory>
         requires { (events : List Content) × (self.old.1 ≡ Entry.Puts events) }
-        ensures ok { OnOk result (self.new ≡ (self.old.0, Entry.Puts (puts_in self.old.1 ++ event ∷ []))) }
+        ensures ok { OnOk result (self.new ≡ (
+          self.old.0,
+          Entry.Puts (puts_in self.old.1 ++ event ∷ []),
+        )) }
         ensures err { OnErr result (self.new ≡ self.old) }
     {
         match &mut self.did {
@@ -154,7 +159,10 @@ impl Open {
     /// Adds a number to its takes.
     pub(crate) fn push_take(&mut self, number: u64) -> Result<(), NoMemory>
         requires { (numbers : List ℕ) × (self.old.1 ≡ Entry.Takes numbers) }
-        ensures ok { OnOk result (self.new ≡ (self.old.0, Entry.Takes (takes_in self.old.1 ++ number ∷ []))) }
+        ensures ok { OnOk result (self.new ≡ (
+          self.old.0,
+          Entry.Takes (takes_in self.old.1 ++ number ∷ []),
+        )) }
         ensures err { OnErr result (self.new ≡ self.old) }
     {
         match &mut self.did {
@@ -168,8 +176,12 @@ impl Open {
 
     /// Takes its last put or take back.
     pub(crate) fn pop(&mut self)
-        ensures puts { (events : List Content) (event : Content) → self.old.1 ≡ Entry.Puts (events ++ event ∷ []) → self.new ≡ (self.old.0, Entry.Puts events) }
-        ensures takes { (numbers : List ℕ) (number : ℕ) → self.old.1 ≡ Entry.Takes (numbers ++ number ∷ []) → self.new ≡ (self.old.0, Entry.Takes numbers) }
+        ensures puts { (events : List Content) (event : Content)
+            → self.old.1 ≡ Entry.Puts (events ++ event ∷ [])
+            → self.new ≡ (self.old.0, Entry.Puts events) }
+        ensures takes { (numbers : List ℕ) (number : ℕ)
+            → self.old.1 ≡ Entry.Takes (numbers ++ number ∷ [])
+            → self.new ≡ (self.old.0, Entry.Takes numbers) }
     {
         match &mut self.did {
             Did::Puts(events) => {
@@ -197,8 +209,10 @@ impl Open {
 
     /// Hands out the first of its puts.
     pub(crate) fn take_first(&mut self) -> Option<Event>
-        ensures { MatchOption result ((puts_in self.old.1 ≡ []) × (self.new ≡ (self.old.0, without_puts self.old.1)))
-            (λ event. (puts_in self.old.1 ≡ event ∷ puts_in self.new.1) × (self.new.0 ≡ self.old.0) × (without_puts self.new.1 ≡ without_puts self.old.1)) }
+        ensures { MatchOption result ((puts_in self.old.1 ≡ [])
+            × (self.new ≡ (self.old.0, without_puts self.old.1)))
+            (λ event. (puts_in self.old.1 ≡ event ∷ puts_in self.new.1) × (self.new.0 ≡ self.old.0)
+            × (without_puts self.new.1 ≡ without_puts self.old.1)) }
     {
         match &mut self.did {
             Did::Puts(events) => events.pop_front(),
@@ -282,9 +296,12 @@ pub(crate) fn push_put_at(
     place: usize,
     event: Event,
 ) -> Result<(), NoMemory>
-    requires { (number : ℕ) × (events : List Content) × (slice_get opened.old.items place ≡ Some (number, Entry.Puts events)) }
-    ensures ok { OnOk result ((number : ℕ) (events : List Content) → slice_get opened.old.items place ≡ Some (number, Entry.Puts events) →
-        opened.new.items ≡ slice_set opened.old.items place (number, Entry.Puts (events ++ event ∷ []))) }
+    requires { (number : ℕ) × (events : List Content)
+        × (slice_get opened.old.items place ≡ Some (number, Entry.Puts events)) }
+    ensures ok { OnOk result ((number : ℕ) (events : List Content)
+        → slice_get opened.old.items place ≡ Some (number, Entry.Puts events) →
+        opened.new.items ≡ slice_set opened.old.items place
+        (number, Entry.Puts (events ++ event ∷ []))) }
     ensures err { OnErr result (opened.new.items ≡ opened.old.items) }
 {
     opened[place].push_put(event)
@@ -292,9 +309,12 @@ pub(crate) fn push_put_at(
 
 /// Adds a number to the takes at this place.
 pub(crate) fn push_take_at(opened: &mut Vec<Open>, place: usize, taken: u64) -> Result<(), NoMemory>
-    requires { (number : ℕ) × (numbers : List ℕ) × (slice_get opened.old.items place ≡ Some (number, Entry.Takes numbers)) }
-    ensures ok { OnOk result ((number : ℕ) (numbers : List ℕ) → slice_get opened.old.items place ≡ Some (number, Entry.Takes numbers) →
-        opened.new.items ≡ slice_set opened.old.items place (number, Entry.Takes (numbers ++ taken ∷ []))) }
+    requires { (number : ℕ) × (numbers : List ℕ)
+        × (slice_get opened.old.items place ≡ Some (number, Entry.Takes numbers)) }
+    ensures ok { OnOk result ((number : ℕ) (numbers : List ℕ)
+        → slice_get opened.old.items place ≡ Some (number, Entry.Takes numbers) →
+        opened.new.items ≡ slice_set opened.old.items place
+        (number, Entry.Takes (numbers ++ taken ∷ []))) }
     ensures err { OnErr result (opened.new.items ≡ opened.old.items) }
 {
     opened[place].push_take(taken)
@@ -303,9 +323,11 @@ pub(crate) fn push_take_at(opened: &mut Vec<Open>, place: usize, taken: u64) -> 
 /// Takes back the last put or take of the transaction at this place.
 pub(crate) fn pop_at(opened: &mut Vec<Open>, place: usize)
     requires { place < length opened.old.items }
-    ensures puts { (number : ℕ) (events : List Content) (event : Content) → slice_get opened.old.items place ≡ Some (number, Entry.Puts (events ++ event ∷ [])) →
+    ensures puts { (number : ℕ) (events : List Content) (event : Content)
+        → slice_get opened.old.items place ≡ Some (number, Entry.Puts (events ++ event ∷ [])) →
         opened.new.items ≡ slice_set opened.old.items place (number, Entry.Puts events) }
-    ensures takes { (number : ℕ) (numbers : List ℕ) (taken : ℕ) → slice_get opened.old.items place ≡ Some (number, Entry.Takes (numbers ++ taken ∷ [])) →
+    ensures takes { (number : ℕ) (numbers : List ℕ) (taken : ℕ)
+        → slice_get opened.old.items place ≡ Some (number, Entry.Takes (numbers ++ taken ∷ [])) →
         opened.new.items ≡ slice_set opened.old.items place (number, Entry.Takes numbers) }
 {
     opened[place].pop();
@@ -314,8 +336,10 @@ pub(crate) fn pop_at(opened: &mut Vec<Open>, place: usize)
 /// How many puts the transaction at this place has, if it is of puts.
 pub(crate) fn puts_at(opened: &[Open], place: usize) -> Option<usize>
     requires { place < length opened.now }
-    ensures puts { IfSome result (λ n. (number : ℕ) × (events : List Content) × (slice_get opened.now place ≡ Some (number, Entry.Puts events)) × (n ≡ length events)) }
-    ensures takes { IfNone result ((number : ℕ) × (numbers : List ℕ) × (slice_get opened.now place ≡ Some (number, Entry.Takes numbers))) }
+    ensures puts { IfSome result (λ n. (number : ℕ) × (events : List Content)
+        × (slice_get opened.now place ≡ Some (number, Entry.Puts events)) × (n ≡ length events)) }
+    ensures takes { IfNone result ((number : ℕ) × (numbers : List ℕ)
+        × (slice_get opened.now place ≡ Some (number, Entry.Takes numbers))) }
 {
     opened[place].puts_len()
 }
@@ -323,8 +347,11 @@ pub(crate) fn puts_at(opened: &[Open], place: usize) -> Option<usize>
 /// How many takes the transaction at this place has, if it is of takes.
 pub(crate) fn takes_at(opened: &[Open], place: usize) -> Option<usize>
     requires { place < length opened.now }
-    ensures takes { IfSome result (λ n. (number : ℕ) × (numbers : List ℕ) × (slice_get opened.now place ≡ Some (number, Entry.Takes numbers)) × (n ≡ length numbers)) }
-    ensures puts { IfNone result ((number : ℕ) × (events : List Content) × (slice_get opened.now place ≡ Some (number, Entry.Puts events))) }
+    ensures takes { IfSome result (λ n. (number : ℕ) × (numbers : List ℕ)
+        × (slice_get opened.now place ≡ Some (number, Entry.Takes numbers))
+        × (n ≡ length numbers)) }
+    ensures puts { IfNone result ((number : ℕ) × (events : List Content)
+        × (slice_get opened.now place ≡ Some (number, Entry.Puts events))) }
 {
     opened[place].takes_len()
 }
@@ -333,7 +360,8 @@ pub(crate) fn takes_at(opened: &[Open], place: usize) -> Option<usize>
 pub(crate) fn remove_at(opened: &mut Vec<Open>, place: usize) -> Open
     requires { place < length opened.old.items }
     ensures item { (o : ℕ × Entry) → slice_get opened.old.items place ≡ Some o → result ≡ o }
-    ensures rest { opened.new.items ≡ take place opened.old.items ++ drop (place + 1) opened.old.items }
+    ensures rest { opened.new.items ≡ take place opened.old.items
+        ++ drop (place + 1) opened.old.items }
 {
     opened.remove(place)
 }

@@ -36,9 +36,12 @@ fn move_events(from: &mut Open, items: &mut Vec<Item>, first: u64) -> u64
 fn move_at(staged: &mut Vec<Open>, place: usize, items: &mut Vec<Item>, first: u64) -> u64
     requires place { place < length staged.old.items }
     requires fits { (o : ℕ × Entry) → slice_get staged.old.items place ≡ Some o →
-        (length items.old.items + length (puts_in o.1) ≤ vec_capacity items.old) × (first + length (puts_in o.1) < 2 ^ 64) }
+        (length items.old.items + length (puts_in o.1) ≤ vec_capacity items.old)
+        × (first + length (puts_in o.1) < 2 ^ 64) }
     ensures moved { (o : ℕ × Entry) → slice_get staged.old.items place ≡ Some o →
-        (items.new.items ≡ items.old.items ++ numbered first (puts_in o.1)) × (result ≡ first + length (puts_in o.1)) × (staged.new.items ≡ slice_set staged.old.items place (o.0, without_puts o.1)) }
+        (items.new.items ≡ items.old.items ++ numbered first (puts_in o.1))
+        × (result ≡ first + length (puts_in o.1))
+        × (staged.new.items ≡ slice_set staged.old.items place (o.0, without_puts o.1)) }
     ensures capacity { vec_capacity items.old ≤ vec_capacity items.new }
     ensures staged_capacity { vec_capacity staged.new ≡ vec_capacity staged.old }
 {
@@ -47,10 +50,13 @@ fn move_at(staged: &mut Vec<Open>, place: usize, items: &mut Vec<Item>, first: u
 
 // Moves all puts, so that only takes are left of what is staged.
 fn move_puts(staged: &mut Vec<Open>, items: &mut Vec<Item>, first: u64) -> u64
-    requires room { length items.old.items + length (put_events (entries staged.old.items)) ≤ vec_capacity items.old }
+    requires room { length items.old.items + length (put_events (entries staged.old.items))
+        ≤ vec_capacity items.old }
     requires numbers { first + length (put_events (entries staged.old.items)) < 2 ^ 64 }
-    ensures items { items.new.items ≡ items.old.items ++ numbered first (put_events (entries staged.old.items)) }
-    ensures takes { taken_numbers (entries staged.new.items) ≡ taken_numbers (entries staged.old.items) }
+    ensures items { items.new.items ≡ items.old.items
+        ++ numbered first (put_events (entries staged.old.items)) }
+    ensures takes { taken_numbers (entries staged.new.items)
+        ≡ taken_numbers (entries staged.old.items) }
     ensures next { result ≡ first + length (put_events (entries staged.old.items)) }
     ensures capacity { vec_capacity items.old ≤ vec_capacity items.new }
     ensures staged_capacity { vec_capacity staged.new ≡ vec_capacity staged.old }
@@ -64,7 +70,8 @@ fn move_puts(staged: &mut Vec<Open>, items: &mut Vec<Item>, first: u64) -> u64
 
 // Whether the item of this number stays, where none is taken above the last.
 fn is_left(staged: &[Open], last: u64, number: u64) -> bool
-    ensures { ((n : ℕ) → is_among (taken_numbers (entries staged.now)) n ≡ true → n ≤ last) → result ≡ not (is_among (taken_numbers (entries staged.now)) number) }
+    ensures { ((n : ℕ) → is_among (taken_numbers (entries staged.now)) n ≡ true → n ≤ last)
+        → result ≡ not (is_among (taken_numbers (entries staged.now)) number) }
 {
     number > last || !takes(staged, number)
 }
@@ -83,9 +90,11 @@ fn drop_taken(items: &mut Vec<Item>, staged: &[Open])
 
 /// Settles what is staged, and gives the number of the next event.
 pub(crate) fn settle(staged: &mut Vec<Open>, items: &mut Vec<Item>, first: u64) -> u64
-    requires room { length items.old.items + length (put_events (entries staged.old.items)) ≤ vec_capacity items.old }
+    requires room { length items.old.items + length (put_events (entries staged.old.items))
+        ≤ vec_capacity items.old }
     requires numbers { first + length (put_events (entries staged.old.items)) < 2 ^ 64 }
-    ensures items { items.new.items ≡ without (taken_numbers (entries staged.old.items)) (items.old.items ++ numbered first (put_events (entries staged.old.items))) }
+    ensures items { items.new.items ≡ without (taken_numbers (entries staged.old.items))
+        (items.old.items ++ numbered first (put_events (entries staged.old.items))) }
     ensures staged { staged.new.items ≡ [] }
     ensures next { result ≡ first + length (put_events (entries staged.old.items)) }
     ensures capacity { vec_capacity items.old ≤ vec_capacity items.new }
@@ -110,7 +119,8 @@ pub(crate) fn free_place(items: &[Item], opened: &[Open], staged: &[Open], from:
     requires { AreHeld opened.now (entries staged.now) (take from items.now) }
     ensures within { result ≤ length items.now }
     ensures front { AreHeld opened.now (entries staged.now) (take result items.now) }
-    ensures free { (item : ℕ × Content) → slice_get items.now result ≡ Some item → is_among (held_numbers opened.now (entries staged.now)) item.0 ≡ false }
+    ensures free { (item : ℕ × Content) → slice_get items.now result ≡ Some item
+        → is_among (held_numbers opened.now (entries staged.now)) item.0 ≡ false }
 {
     for place in from..items.len() {
         if !is_held(opened, staged, items[place].0) {
@@ -128,9 +138,11 @@ pub(crate) fn first_free(
     from: usize,
 ) -> Option<usize>
     requires { AreHeld opened.now (entries staged.now) (take from items.now) }
-    ensures found { IfSome result (λ place. (item : ℕ × Content) × (rest : List (ℕ × Content)) × (slice_get items.now place ≡ Some item)
+    ensures found { IfSome result (λ place. (item : ℕ × Content) × (rest : List (ℕ × Content))
+        × (slice_get items.now place ≡ Some item)
         × (without (held_numbers opened.now (entries staged.now)) items.now ≡ item ∷ rest)) }
-    ensures none { IfNone result (without (held_numbers opened.now (entries staged.now)) items.now ≡ []) }
+    ensures none { IfNone result (without (held_numbers opened.now (entries staged.now)) items.now
+        ≡ []) }
 {
     let place = free_place(items, opened, staged, from);
     if place < items.len() {

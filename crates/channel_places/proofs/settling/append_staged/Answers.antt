@@ -1,6 +1,6 @@
 use Rattle.std.proofs.Common.{◌+◌, ℕ, List, ap, drop, map}
 use Rattle.open_table.specs.Tables.{Listed, listed_of, puts_of}
-use Rattle.open_table.specs.declared.opened.Ended.{Ended}
+use Rattle.open_table.specs.declared.table.Ended.{Ended}
 use Rattle.channel_places.specs.Ends.{pointers_in}
 use Rattle.channel_places.proofs.Batches.{part_more, staged_from}
 use Rattle.channel_places.proofs.settling.append_staged.Goals as goal

@@ -1,7 +1,7 @@
 use Rattle.std.proofs.Common.{◌≡◌, ◌+◌, ◌++◌, ℕ, List, ap, arith, drop, length, length-append, map}
 use Rattle.std.proofs.lemmas.List.{drop_all}
 use Rattle.open_table.specs.Tables.{Listed, listed_of, takes_of}
-use Rattle.open_table.specs.declared.opened.Ended.{Ended}
+use Rattle.open_table.specs.declared.table.Ended.{Ended}
 use Rattle.channel_places.specs.Ends.{takes_in}
 use Rattle.channel_places.proofs.Batches.{staged_from}
 use Rattle.channel_places.proofs.settling.count_takes.Goals as goal

@@ -1,6 +1,6 @@
 use Rattle.std.proofs.Common.{◌<◌, ℕ, subst, sym}
 use Rattle.open_table.specs.Tables.{Listed, MayMove, listed_of, moved}
-use Rattle.open_table.specs.declared.opened.Ended.{Ended}
+use Rattle.open_table.specs.declared.table.Ended.{Ended}
 use Rattle.channel_places.proofs.Moved.{all_here, front_more, rest_more, same_here}
 use Rattle.channel_places.proofs.settling.move_all.Goals as goal
 

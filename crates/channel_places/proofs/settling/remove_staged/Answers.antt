@@ -1,6 +1,6 @@
 use Rattle.std.proofs.Common.{◌≡◌, ◌+◌, ℕ, List, drop, map, subst, sym}
 use Rattle.open_table.specs.Tables.{Listed, listed_of, takes_of}
-use Rattle.open_table.specs.declared.opened.Ended.{Ended}
+use Rattle.open_table.specs.declared.table.Ended.{Ended}
 use Rattle.event_ring.specs.Slots.{Index, Left}
 use Rattle.channel_places.specs.Ends.{AreApart, lacking, takes_in}
 use Rattle.channel_places.proofs.Batches.{apart-append, lacking-append, staged_from}

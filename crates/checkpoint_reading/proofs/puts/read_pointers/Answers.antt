@@ -1,5 +1,5 @@
 use Rattle.std.proofs.Common.{◌∙◌, ◌++◌, ◌∷◌, ◌≤◌, [], refl, arith, length-append}
-use Rattle.open_table.specs.declared.opened.Item.TheVariants.{Put}
+use Rattle.open_table.specs.declared.table.Item.TheVariants.{Put}
 use Rattle.open_table.specs.Tables.{Puts}
 use Rattle.checkpoint_reading.proofs.Listing.{may_list, no_puts_yet, puts_more, puts_stop}
 use Rattle.checkpoint_reading.proofs.Stepping.{same_then, when_none, when_some}

@@ -1,5 +1,5 @@
 use Rattle.std.proofs.Common.{◌∙◌, ◌++◌, ◌∷◌, ◌≤◌, [], ℕ, ap, arith, length-append, refl, subst, sym}
-use Rattle.open_table.specs.declared.opened.Item.TheVariants.{Take}
+use Rattle.open_table.specs.declared.table.Item.TheVariants.{Take}
 use Rattle.open_table.specs.Tables as tables
 use Rattle.open_table.specs.Tables.{Table}
 use Rattle.checkpoint_reading.specs.declared.draft.Draft.{Draft}

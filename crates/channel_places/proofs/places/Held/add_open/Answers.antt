@@ -1,7 +1,7 @@
 use Rattle.std.proofs.Common.{◌≡◌, ◌++◌, ◌∷◌, [], ◌+◌, List, Some, ap, arith, length, map, refl, subst, sym}
 use Rattle.std.proofs.lemmas.List.{length-map}
 use Rattle.open_table.specs.Tables.{Listed, listed_of}
-use Rattle.open_table.specs.declared.opened.Ended.{Ended}
+use Rattle.open_table.specs.declared.table.Ended.{Ended}
 use Rattle.channel_places.specs.Ends.{one_if_staged}
 use Rattle.channel_places.specs.Looks.{Looks, Places, no_entry, puts_in}
 use Rattle.channel_places.specs.View.{places_of}

@@ -1,6 +1,6 @@
 use Rattle.std.proofs.Common.{◌≡◌, List, ap, arith, length, map, subst, sym}
 use Rattle.open_table.specs.Tables.{Listed, MayAdd, listed_of, moved, open_at}
-use Rattle.open_table.specs.declared.opened.Item.TheVariants.{Put, Take}
+use Rattle.open_table.specs.declared.table.Item.TheVariants.{Put, Take}
 use Rattle.channel_places.specs.Ends.{one_if_staged}
 use Rattle.channel_places.specs.Looks.{IsWithinRoom, Looks, MayPut, MayTake, Places, puts_in}
 use Rattle.channel_places.specs.View.{places_of}

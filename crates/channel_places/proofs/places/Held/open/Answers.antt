@@ -1,6 +1,6 @@
 use Rattle.std.proofs.Common.{◌≡◌, [], List, ap, arith, length, map, refl, subst, sym}
 use Rattle.open_table.specs.Tables.{Listed, Table, listed_of, open_at}
-use Rattle.open_table.specs.declared.opened.Ended.{Ended}
+use Rattle.open_table.specs.declared.table.Ended.{Ended}
 use Rattle.channel_face.specs.History.{Opening, opening}
 use Rattle.channel_face.specs.declared.replies.Kind.TheVariants.{File}
 use Rattle.channel_places.specs.Ends.{one_if_staged}

@@ -1,7 +1,7 @@
 use Rattle.std.proofs.Common.{◌≡◌, ◌∷◌, ◌+◌, ℕ, ap, arith, length, refl, subst, sym}
 use Rattle.event_core.specs.Content.{content}
 use Rattle.open_table.specs.Tables.{HasAt, added, open_at}
-use Rattle.open_table.specs.declared.opened.Item.TheVariants.{Put}
+use Rattle.open_table.specs.declared.table.Item.TheVariants.{Put}
 use Rattle.channel_face.specs.Machine.{add_put, puts_of}
 use Rattle.channel_places.specs.Looks.{Looks, MayPut, Places}
 use Rattle.channel_places.specs.View.{places_of}

@@ -1,7 +1,7 @@
 use Rattle.std.proofs.Common.{◌≡◌, ◌∙◌, ◌++◌, ◌∷◌, [], List, ap, arith, length, map, refl, subst, sym}
 use Rattle.std.specs.Prelude.{Ok}
 use Rattle.open_table.specs.Tables.{Listed, Table, listed_of, open_at}
-use Rattle.open_table.specs.declared.opened.Ended.{Ended}
+use Rattle.open_table.specs.declared.table.Ended.{Ended}
 use Rattle.channel_face.specs.Machine.{Read, Reopened, after_reopen}
 use Rattle.channel_places.specs.Ends.{one_if_staged}
 use Rattle.channel_places.specs.Looks.{IsWithinRoom, Looks, Places, puts_in}

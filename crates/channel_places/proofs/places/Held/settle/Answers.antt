@@ -1,6 +1,6 @@
 use Rattle.std.proofs.Common.{◌≡◌, ◌∙◌, ◌+◌, ◌++◌, ℕ, List, ap, arith, length, length-append, map, refl, subst, sym}
 use Rattle.open_table.specs.Tables.{Listed, listed_of}
-use Rattle.open_table.specs.declared.opened.Ended.{Ended}
+use Rattle.open_table.specs.declared.table.Ended.{Ended}
 use Rattle.event_ring.specs.Slots.{Index, Left}
 use Rattle.channel_face.specs.Machine as face
 use Rattle.channel_places.specs.Ends.{AreApart, one_if_staged, placed, pointers_in, takes_in}

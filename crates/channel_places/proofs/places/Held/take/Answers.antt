@@ -1,6 +1,6 @@
 use Rattle.std.proofs.Common.{◌≡◌, ◌∙◌, ℕ, List, ap, arith, length, refl, subst, sym, true}
 use Rattle.open_table.specs.Tables.{HasAt, added, open_at}
-use Rattle.open_table.specs.declared.opened.Item.TheVariants.{Take}
+use Rattle.open_table.specs.declared.table.Item.TheVariants.{Take}
 use Rattle.event_ring.specs.Slots.{Index, Left, marked}
 use Rattle.channel_face.specs.Machine.{State, add_take, free, takes_of}
 use Rattle.channel_places.specs.Looks.{Looks, MayTake, Places, held_in}

@@ -1,7 +1,7 @@
 use Rattle.std.proofs.Common.{◌∙◌, ℕ, List, ap, length, map, subst, sym}
 use Rattle.channel_face.specs.Counters.{capped}
 use Rattle.open_table.specs.Tables.{listed_of}
-use Rattle.open_table.specs.declared.opened.Ended.{Ended}
+use Rattle.open_table.specs.declared.table.Ended.{Ended}
 use Rattle.channel_places.specs.Ends.{takes_in}
 use Rattle.channel_places.specs.Looks.{Looks, Places}
 use Rattle.channel_places.specs.View.{places_of}

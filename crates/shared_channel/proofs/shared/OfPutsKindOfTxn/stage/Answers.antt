@@ -1,0 +1,6 @@
+use Rattle.std.proofs.Common.{refl}
+use Rattle.shared_channel.proofs.Sparing.{put_stage_spares}
+use Rattle.shared_channel.proofs.shared.OfPutsKindOfTxn.stage.Goals as goal
+
+pub returns-clause-counts : goal.returns-clause-counts
+returns-clause-counts g c = (refl, λ tells s may. put_stage_spares tells s _ _ may)
