@@ -15,9 +15,10 @@ use Rattle.channel_face.specs.declared.replies.PutRefused.TheVariants as PutNo
 use Rattle.channel_face.specs.declared.replies.TakeRefused.TheVariants as TakeNo
 use Rattle.channel_face.specs.declared.replies.FlushRefused.TheVariants as FlushNo
 use Rattle.channel_face.specs.declared.replies.CheckRefused.TheVariants as CheckNo
-use Rattle.channel_face.proofs.Numbers.{Items, times, times-append, number_of, number_of-append, number_high, number_once, Rising, rising-left, rising_base, rising-without, without-append, without-both, without_none, without_above, numbered-append, put_events-append, taken_numbers-append, distinct, distinct_times, among_times, number_of-without}
+use Rattle.channel_face.specs.Sound.{Items, times, number_of, Rising, IsSoundState}
+use Rattle.channel_face.proofs.Numbers.{times-append, number_of-append, number_high, number_once, rising-left, rising_base, rising-without, without-append, without-both, without_none, without_above, numbered-append, put_events-append, taken_numbers-append, distinct, distinct_times, among_times, number_of-without}
 use Rattle.channel_face.proofs.Opened.{times-cons, times-take}
-use Rattle.channel_face.proofs.Sound.{IsSoundState, sound_after}
+use Rattle.channel_face.proofs.Sound.{sound_after}
 
 pub sound_opening : (o : Opening) → IsBase o.base → IsSoundState (opening o)
 sound_opening o is = record { rising = rising_base o.base is; held = λ n. omega arith; numbered = tt; staged = tt }

@@ -7,22 +7,7 @@ use Rattle.event_core.specs.Content.{Content}
 use Rattle.event_core.specs.Journal.{Base, IsBase, AreDistinctOf, put_events, taken_numbers, without, is_among, numbered, left, next}
 use Rattle.event_core.specs.declared.journal.Entry.{Entry}
 use Rattle.event_core.specs.declared.journal.Entry.TheVariants.{Puts, Takes}
-
-abbrev pub Items : Type 0
-Items = List (ℕ × Content)
-
-abbrev pub one_if : Bool → ℕ
-one_if b = cond b 1 0
-
--- how often a number stands there
-abbrev pub times : ℕ → List ℕ → ℕ
-times n [] = 0
-times n (x ∷ xs) = one_if (x == n) + times n xs
-
--- how many items have a number
-abbrev pub number_of : ℕ → Items → ℕ
-number_of n [] = 0
-number_of n (item ∷ items) = one_if (item.0 == n) + number_of n items
+use Rattle.channel_face.specs.Sound.{Items, one_if, times, number_of, Rising}
 
 pub same_number : (a b : ℕ) → a ≡ b → one_if (a == b) ≡ 1
 same_number a b same = from (eqb_tells a b)
@@ -86,11 +71,6 @@ number_of-without n xs (item ∷ items) = by_test (is_among xs item.0) refl (eqb
     by_test true is (inr there) so = rw (is, there.0) (none_more (is_among xs n) (number_of n (without xs items)) (number_of n items) so)
     by_test false is (inl here) so = rw (is, here.0) (kept (is_among xs n) (number_of n (without xs items)) (number_of n items) so (ap (is_among xs) (sym here.1) ∙ is))
     by_test false is (inr there) so = rw (is, there.0) (none (is_among xs n) (number_of n (without xs items)) (number_of n items) so)
-
--- numbers rise from this one on, and stay below that one
-abbrev pub Rising : ℕ → Items → ℕ → Type 0
-Rising low [] first = low ≤ first
-Rising low (item ∷ items) first = (low ≤ item.0) × Rising (item.0 + 1) items first
 
 pub rising_from : (low low' : ℕ) (items : Items) (first : ℕ) → low' ≤ low → Rising low items first → Rising low' items first
 rising_from low low' [] first less rising = omega (arith, less, rising)

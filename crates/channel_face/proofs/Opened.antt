@@ -9,17 +9,8 @@ use Rattle.event_core.specs.declared.journal.Entry.{Entry}
 use Rattle.event_core.specs.declared.journal.Entry.TheVariants.{Puts, Takes}
 use Rattle.channel_face.specs.Token.{Token}
 use Rattle.channel_face.specs.Machine.{State, entries, entry_of, with_entry, without_entry, as_puts, as_takes, puts_of, takes_of}
-use Rattle.channel_face.proofs.Numbers.{times, times-append, taken_numbers-append}
-
-abbrev pub Opened : Type 0
-Opened = List (ℕ × Entry)
-
--- how often an entry takes a number, and how often the open transactions hold it
-abbrev pub entry_times : ℕ → Entry → ℕ
-entry_times n entry = times n (taken_numbers (entry ∷ []))
-
-abbrev pub opened_times : ℕ → Opened → ℕ
-opened_times n opened = times n (taken_numbers (entries opened))
+use Rattle.channel_face.specs.Sound.{times, Opened, entry_times, opened_times, AreNumbered}
+use Rattle.channel_face.proofs.Numbers.{times-append, taken_numbers-append}
 
 pub times-cons : (n : ℕ) (entry : Entry) (rest : List Entry) → times n (taken_numbers (entry ∷ rest)) ≡ entry_times n entry + times n (taken_numbers rest)
 times-cons n entry rest = ap (λ (l : List ℕ). times n l) (taken_numbers-append (entry ∷ []) rest) ∙ times-append n (taken_numbers (entry ∷ [])) (taken_numbers rest)
@@ -73,9 +64,6 @@ opened-fewer n number (o ∷ opened) = by_test (o.0 == number) (opened-fewer n n
     by_test false more = omega (arith, times-cons n o.1 (entries opened), times-cons n o.1 (entries (without_entry number opened)), more)
 
 -- each number is below the next transaction's
-abbrev pub AreNumbered : ℕ → Opened → Type 0
-AreNumbered txn opened = AllByRecursion (λ (o : ℕ × Entry). o.0 < txn) opened
-
 pub numbered-with : (txn number : ℕ) (entry : Entry) (opened : Opened) → AreNumbered txn opened → AreNumbered txn (with_entry number entry opened)
 numbered-with txn number entry [] all = tt
 numbered-with txn number entry (o ∷ opened) all = by_test (o.0 == number) (numbered-with txn number entry opened all.1)

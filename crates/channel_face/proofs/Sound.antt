@@ -17,21 +17,9 @@ use Rattle.channel_face.specs.declared.replies.TakeRefused.{TakeRefused}
 use Rattle.channel_face.specs.declared.replies.TakeRefused.TheVariants as TakeNo
 use Rattle.channel_face.specs.declared.replies.FlushRefused.TheVariants as FlushNo
 use Rattle.channel_face.specs.declared.replies.CheckRefused.TheVariants as CheckNo
-use Rattle.channel_face.proofs.Numbers.{Items, times, times-append, number_of, number_of-append, number_of-without, number_once, among_times, Rising, rising-left, rising_base, one_if, same_number}
-use Rattle.channel_face.proofs.Opened.{Opened, AreNumbered, entry_times, opened_times, opened-with, opened-without, opened-fewer, opened-push, times-take, times-push, numbered-with, numbered-without, numbered-push, puts_of-some, takes_of-some}
-
-abbrev pub staged_times : ℕ → State → ℕ
-staged_times n s = times n (taken_numbers s.staged)
-
-pub record IsSoundState (s : State) : Type 0 where
-  -- numbers rise
-  pub rising : Rising 0 s.items s.first
-  -- each number that is held is that of an item, and no two hold it
-  pub held : (n : ℕ) → opened_times n s.opened + staged_times n s ≤ number_of n s.items
-  -- open transactions have earlier numbers
-  pub numbered : AreNumbered s.txn s.opened
-  -- nothing empty is staged
-  pub staged : IsJournal s.staged
+use Rattle.channel_face.specs.Sound.{Items, times, number_of, Rising, one_if, Opened, AreNumbered, entry_times, opened_times, IsSoundState, staged_times}
+use Rattle.channel_face.proofs.Numbers.{times-append, number_of-append, number_of-without, number_once, among_times, rising-left, rising_base, same_number}
+use Rattle.channel_face.proofs.Opened.{opened-with, opened-without, opened-fewer, opened-push, times-take, times-push, numbered-with, numbered-without, numbered-push, puts_of-some, takes_of-some}
 
 -- the same items and what is staged, with fewer held
 with_opened : (s : State) (opened : Opened) (txn : ℕ) → IsSoundState s → AreNumbered txn opened → ((n : ℕ) → opened_times n opened ≤ opened_times n s.opened) → IsSoundState (record s { opened = opened; txn = txn })

@@ -23,7 +23,8 @@ use Rattle.channel_face.specs.declared.replies.BeginRefused.{BeginRefused}
 use Rattle.channel_face.specs.declared.replies.FlushRefused.TheVariants as FlushNo
 use Rattle.channel_face.specs.declared.replies.CheckRefused.TheVariants as CheckNo
 use Rattle.channel_face.proofs.Numbers.{put_events-append}
-use Rattle.channel_face.proofs.Opened.{Opened, entries-append, puts_of-some, takes_of-some}
+use Rattle.channel_face.specs.Sound.{Opened}
+use Rattle.channel_face.proofs.Opened.{entries-append, puts_of-some, takes_of-some}
 
 size-append : (a b : List Entry) → length (put_events (a ++ b)) ≡ length (put_events a) + length (put_events b)
 size-append a b = ap (λ (l : List Content). length l) (put_events-append a b) ∙ length-append (put_events a) (put_events b)

@@ -6,4 +6,5 @@ pub mod Calls
 pub mod Faces
 pub mod Keeps
 pub mod OwnCalls
+pub mod Sound
 pub mod Laws

@@ -13,7 +13,7 @@ use Rattle.channel_face.specs.declared.replies.CheckRefused.TheVariants as Check
 use Rattle.channel_face.specs.History.{Step, Opening, opening, IsRun, state_after}
 use Rattle.channel_face.specs.Faces.{Own, IsPutBatch, IsTakeCommit}
 use Rattle.channel_face.specs.OwnCalls.{steps_of, AreFrom, HasMade, Was}
-use Rattle.channel_face.proofs.Opened.{Opened, AreNumbered}
+use Rattle.channel_face.specs.Sound.{Opened, AreNumbered}
 use Rattle.channel_laws.specs.Transactions.{AreAmong, looks_at_nothing, BeginsWith, LeadsTo, LeftAtEnd, ArePutInJournal, AreTakenInJournal}
 use Rattle.channel_laws.proofs.Transactions.{answered_is_in_journal, committed_is_in_journal}
 use Rattle.channel_laws.proofs.Numbering.{AreEarlier, earlier_after}

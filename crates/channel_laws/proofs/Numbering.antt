@@ -9,7 +9,8 @@ use Rattle.channel_face.specs.declared.replies.PutRefused.TheVariants as PutNo
 use Rattle.channel_face.specs.declared.replies.TakeRefused.TheVariants as TakeNo
 use Rattle.channel_face.specs.declared.replies.FlushRefused.TheVariants as FlushNo
 use Rattle.channel_face.specs.declared.replies.CheckRefused.TheVariants as CheckNo
-use Rattle.channel_face.proofs.Opened.{AreNumbered, numbered-push, numbered-with, numbered-without}
+use Rattle.channel_face.specs.Sound.{AreNumbered}
+use Rattle.channel_face.proofs.Opened.{numbered-push, numbered-with, numbered-without}
 
 abbrev pub AreEarlier : State → Type 0
 AreEarlier s = AreNumbered s.txn s.opened

@@ -20,7 +20,8 @@ use Rattle.channel_face.specs.declared.replies.StageCause.{StageCause}
 use Rattle.channel_face.specs.declared.replies.FaceRefused.{FaceRefused}
 use Rattle.channel_face.specs.declared.replies.FlushRefused.{FlushRefused}
 use Rattle.channel_face.proofs.Adding.{state-append, state-push}
-use Rattle.channel_face.proofs.Opened.{AreNumbered, entry_of-push, entry_of-with, puts_of-some, puts_of-from}
+use Rattle.channel_face.specs.Sound.{AreNumbered}
+use Rattle.channel_face.proofs.Opened.{entry_of-push, entry_of-with, puts_of-some, puts_of-from}
 use Rattle.channel_laws.proofs.Numbering.{earlier_run}
 use Rattle.channel_laws.specs.Tickets.{Stages, HasBehind}
 use Rattle.channel_laws.specs.Transactions.{AreAmong, looks_at_nothing, BeginsWith, LeftAtEnd, ArePutInJournal, AreTakenInJournal}

@@ -21,7 +21,7 @@ use Rattle.channel_log.proofs.Pointing.{part-append}
 use Rattle.event_ring.specs.Slots.{Index}
 use Rattle.open_table.specs.Tables.{Table}
 use Rattle.channel_face.specs.Machine.{State}
-use Rattle.channel_face.proofs.Sound.{IsSoundState}
+use Rattle.channel_face.specs.Sound.{IsSoundState}
 use Rattle.channel_replay.specs.declared.line.Line.{Line}
 use Rattle.channel_replay.specs.Start.{Start}
 use Rattle.channel_writing.specs.Laws.{IsLaidAt}

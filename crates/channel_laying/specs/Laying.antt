@@ -7,7 +7,7 @@ use Rattle.event_ring.specs.Slots.{Index}
 use Rattle.open_table.specs.Tables.{Table}
 use Rattle.channel_log.specs.Writer.{Writer}
 use Rattle.channel_face.specs.Machine.{State}
-use Rattle.channel_face.proofs.Sound.{IsSoundState}
+use Rattle.channel_face.specs.Sound.{IsSoundState}
 use Rattle.channel_replay.specs.Start.{Start}
 use Rattle.channel_writing.specs.Mirrors.{IsStartOf}
 use Rattle.channel_writing.specs.Written.{IsLogged}

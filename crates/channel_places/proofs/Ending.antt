@@ -10,8 +10,9 @@ use Rattle.event_core.specs.declared.journal.Entry.TheVariants as entry
 use Rattle.open_table.specs.Tables.{HasAt, Listed, Open, Puts, Table, Takes, is_open, is_puts, open_at, puts_of}
 use Rattle.event_ring.specs.Slots.{Left}
 use Rattle.channel_face.specs.Machine.{State, base_of, close, entries, entry_of, stage, without_entry}
-use Rattle.channel_face.proofs.Numbers.{Rising, among_times, distinct, distinct_times, rising_base, times, times-append}
-use Rattle.channel_face.proofs.Opened.{entry_times, opened-without, opened_times, times-push}
+use Rattle.channel_face.specs.Sound.{Rising, times, entry_times, opened_times}
+use Rattle.channel_face.proofs.Numbers.{among_times, distinct, distinct_times, rising_base, times-append}
+use Rattle.channel_face.proofs.Opened.{opened-without, times-push}
 use Rattle.channel_places.specs.Looks.{Known, LookLeft, LookStaged, Looks, LooksListed, LooksOpen, Places, held_in, puts_in, puts_of_open, staged_of}
 use Rattle.channel_places.specs.Ends.{one_if_staged}
 use Rattle.channel_places.proofs.Looking.{puts_length}

@@ -9,7 +9,8 @@ use Rattle.event_core.specs.declared.journal.Entry.TheVariants as entry
 use Rattle.open_table.specs.Tables.{HasAt, Listed, Open, Puts, Table, Takes, is_open, is_puts, takes_of}
 use Rattle.event_ring.specs.Slots.{IsLive, Left, marked}
 use Rattle.channel_face.specs.Machine.{State, base_of, close, entries, entry_of, without_entry}
-use Rattle.channel_face.proofs.Numbers.{Rising, among_times, distinct, distinct_times, number_of, number_once, other_number, rising_base, same_number, times, times-append}
+use Rattle.channel_face.specs.Sound.{Rising, number_of, times}
+use Rattle.channel_face.proofs.Numbers.{among_times, distinct, distinct_times, number_once, other_number, rising_base, same_number, times-append}
 use Rattle.channel_face.proofs.Opened.{opened-without, times-take}
 use Rattle.channel_places.specs.Ends.{AreLive, freed}
 use Rattle.channel_places.specs.Looks.{Known, LookLeft, Looks, LooksListed, Places, StandsIn, held_in}

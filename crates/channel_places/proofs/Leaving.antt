@@ -10,7 +10,8 @@ use Rattle.record_form.specs.declared.record.Pointer.{Pointer}
 use Rattle.open_table.specs.Tables.{Listed, Puts, Takes, puts_of}
 use Rattle.event_ring.specs.Slots.{Left, lasting}
 use Rattle.channel_face.specs.Machine.{State, base_of, entries, is_none_staged, settle}
-use Rattle.channel_face.proofs.Numbers.{Rising, among_times, base_rising, distinct, distinct_times, number_high, number_of, number_of-append, number_of-without, number_once, other_number, rising-left, rising_base, same_number, times, times-append, without-append, without-both, without_above, without_none}
+use Rattle.channel_face.specs.Sound.{Rising, number_of, times}
+use Rattle.channel_face.proofs.Numbers.{among_times, base_rising, distinct, distinct_times, number_high, number_of-append, number_of-without, number_once, other_number, rising-left, rising_base, same_number, times-append, without-append, without-both, without_above, without_none}
 use Rattle.channel_places.specs.Ends.{AreApart, lacking, one_if_staged, placed, pointers_in, takes_in}
 use Rattle.channel_places.specs.Looks.{Known, LookLeft, LookPuts, LookStaged, Looks, Numbers, Places, held_in, numbers_of, puts_in}
 use Rattle.channel_places.proofs.Ending.{among_same}

@@ -12,7 +12,8 @@ use Rattle.open_table.specs.Tables.{HasAt, Listed, Open, Puts, Table, Takes, beg
 use Rattle.event_ring.specs.Slots.{Left}
 use Rattle.channel_face.specs.Machine.{State, broken_state, count, entries, entry_of}
 use Rattle.channel_face.proofs.Numbers.{put_events-append, taken_numbers-append}
-use Rattle.channel_face.proofs.Opened.{AreNumbered, Opened, entries-append, entry_of-push}
+use Rattle.channel_face.specs.Sound.{AreNumbered, Opened}
+use Rattle.channel_face.proofs.Opened.{entries-append, entry_of-push}
 use Rattle.channel_places.proofs.Opening.{rise-all, rise-push}
 use Rattle.channel_places.specs.Looks.{IsWithinRoom, Known, LookLeft, LookPuts, LookStaged, Looks, LooksOpen, Numbers, Places, count_in, held_in, no_entry, numbers_of, puts_in}
 

@@ -8,7 +8,8 @@ use Rattle.event_core.specs.declared.journal.Entry.TheVariants as entry
 use Rattle.record_form.specs.declared.record.Pointer.{Pointer}
 use Rattle.open_table.specs.Tables.{HasAt, Listed, Open, Puts, Table, Takes, open_at}
 use Rattle.channel_face.specs.Machine.{State, entries, entry_of, with_entry, without_entry}
-use Rattle.channel_face.proofs.Opened.{AreNumbered, Opened, entry_of-with}
+use Rattle.channel_face.specs.Sound.{AreNumbered, Opened}
+use Rattle.channel_face.proofs.Opened.{entry_of-with}
 use Rattle.channel_places.specs.Looks.{Known, LookLeft, LookPuts, LookStaged, Looks, LooksListed, LooksOpen, OpenRise, Places, StandsIn, held_in}
 use Rattle.event_ring.specs.Slots.{Left}
 

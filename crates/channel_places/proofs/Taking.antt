@@ -12,7 +12,8 @@ use Rattle.open_table.specs.Tables.{HasAt, IsOf, Listed, MayAdd, Open, Puts, Tab
 use Rattle.event_ring.specs.Slots.{IsLive, Left, first_free as first_number, marked, pointer_at}
 use Rattle.channel_face.specs.Token.{Token}
 use Rattle.channel_face.specs.Machine.{State, add_take, base_of, entries, entry_of, free, takes_of, with_entry}
-use Rattle.channel_face.proofs.Numbers.{Rising, among_times, distinct, distinct_times, number_of, one_if, other_number, rising_base, same_number, times, times-append}
+use Rattle.channel_face.specs.Sound.{Rising, number_of, one_if, times}
+use Rattle.channel_face.proofs.Numbers.{among_times, distinct, distinct_times, other_number, rising_base, same_number, times-append}
 use Rattle.channel_face.proofs.Opened.{opened-with, times-take}
 use Rattle.channel_face.proofs.Sound.{first_free}
 use Rattle.channel_places.specs.Looks.{IsFree, IsWithinRoom, Known, LookLeft, Looks, LooksOpen, Numbers, Places, StandsIn, held_in}

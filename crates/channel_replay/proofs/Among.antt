@@ -7,7 +7,8 @@ use Rattle.event_core.specs.declared.journal.Entry.TheVariants.{Puts, Takes}
 use Rattle.record_form.specs.declared.record.Rec.{Rec}
 use Rattle.record_form.specs.declared.record.Rec.TheVariants.{Put, Take, Rollback, CommitPut, CommitTake, End}
 use Rattle.channel_face.specs.Machine.{is_some_of}
-use Rattle.channel_face.proofs.Numbers.{among_times, one_if, same_number, other_number, times}
+use Rattle.channel_face.specs.Sound.{one_if, times}
+use Rattle.channel_face.proofs.Numbers.{among_times, same_number, other_number}
 use Rattle.channel_replay.specs.Marks.{Past, Dropped, Applied, added, removed, opened, open_by, open_txns, txn_of, opened_by, events_of, numbers_of}
 use Rattle.channel_replay.proofs.Numbers.{or_among}
 use Rattle.channel_replay.proofs.Keys.{Tells, open_once}

@@ -12,7 +12,8 @@ use Rattle.record_form.specs.declared.record.Rec.{Rec}
 use Rattle.record_form.specs.declared.record.Rec.TheVariants.{Put, Take, Rollback, CommitPut, CommitTake}
 use Rattle.channel_face.specs.Machine.{entries, entry_of, without_entry}
 use Rattle.channel_face.proofs.LawLemmas.{TakesEarlier, after-append}
-use Rattle.channel_face.proofs.Numbers.{Items, among_times, taken_numbers-append, times, without_none}
+use Rattle.channel_face.specs.Sound.{Items, times}
+use Rattle.channel_face.proofs.Numbers.{among_times, taken_numbers-append, without_none}
 use Rattle.channel_replay.proofs.Keys.{Tells, EachOnce, among_held, entry_of-put, entry_of-without, held_among, keys-put, keys-without, length-keys, open_once}
 use Rattle.channel_replay.proofs.Numbers.{or_among}
 use Rattle.channel_replay.specs.declared.recovery.Recovery.{Recovery}

@@ -8,7 +8,8 @@ use Rattle.event_core.specs.declared.journal.Entry.TheVariants.{Puts, Takes}
 use Rattle.record_form.specs.declared.record.Rec.{Rec}
 use Rattle.record_form.specs.declared.record.Rec.TheVariants.{Put, Take, Rollback, CommitPut, CommitTake, End}
 use Rattle.channel_face.specs.Machine.{entries, entry_of, without_entry}
-use Rattle.channel_face.proofs.Numbers.{among_times, one_if, same_number, other_number, times, times-append}
+use Rattle.channel_face.specs.Sound.{one_if, times}
+use Rattle.channel_face.proofs.Numbers.{among_times, same_number, other_number, times-append}
 use Rattle.channel_replay.proofs.Numbers.{among_entry, among_here}
 use Rattle.channel_replay.proofs.OpenLists.{itself}
 use Rattle.channel_replay.specs.Marks.{Past, Dropped, Applied, added, removed, numbers_of, open_by, open_txns}

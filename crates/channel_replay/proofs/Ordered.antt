@@ -9,7 +9,8 @@ use Rattle.event_core.specs.declared.journal.Entry.TheVariants.{Puts, Takes}
 use Rattle.record_form.specs.declared.record.Rec.{Rec}
 use Rattle.record_form.specs.declared.record.Rec.TheVariants.{Put, Take, Rollback, CommitPut, CommitTake, End}
 use Rattle.channel_face.proofs.LawLemmas.{TakesEarlier}
-use Rattle.channel_face.proofs.Numbers.{Rising, among_times, base_rising, put_events-append, rising-left, taken_numbers-append, times}
+use Rattle.channel_face.specs.Sound.{Rising, times}
+use Rattle.channel_face.proofs.Numbers.{among_times, base_rising, put_events-append, rising-left, taken_numbers-append}
 use Rattle.channel_replay.specs.Marks.{Applied, IsLeft, Past, committed, entries_of, events_of, journal, next_number, numbers_of, opened, opened_by, txn_of}
 use Rattle.channel_replay.specs.Recover.{AreSound, IsSound, empty_base, past_line, past_lines}
 use Rattle.channel_replay.specs.declared.line.Line.{Line}

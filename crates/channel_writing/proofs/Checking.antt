@@ -8,8 +8,8 @@ use Rattle.event_core.specs.declared.journal.Entry.{Entry}
 use Rattle.event_core.specs.declared.journal.Entry.TheVariants.{Puts, Takes}
 use Rattle.channel_face.specs.Machine.{State, base_of, entries, entry_of}
 use Rattle.channel_face.proofs.LawLemmas.{after_none}
-use Rattle.channel_face.proofs.Numbers.{among_times, base_rising, number_high, times}
-use Rattle.channel_face.proofs.Sound.{IsSoundState}
+use Rattle.channel_face.specs.Sound.{times, IsSoundState}
+use Rattle.channel_face.proofs.Numbers.{among_times, base_rising, number_high}
 use Rattle.channel_replay.specs.Marks.{Past, journal, next_txn, numbers_of}
 use Rattle.channel_replay.specs.Open.{keys}
 use Rattle.channel_replay.proofs.Keys.{held_among}

@@ -11,7 +11,8 @@ use Rattle.record_form.specs.declared.record.Rec.{Rec}
 use Rattle.record_form.specs.declared.record.Rec.TheVariants.{Rollback, CommitPut, CommitTake}
 use Rattle.channel_face.specs.Machine as Face
 use Rattle.channel_face.specs.Machine.{State, base_of, entry_of, with_entry, without_entry, is_some_of, close, stage, settle}
-use Rattle.channel_face.proofs.Numbers.{among_times, put_events-append, taken_numbers-append, times}
+use Rattle.channel_face.specs.Sound.{times}
+use Rattle.channel_face.proofs.Numbers.{among_times, put_events-append, taken_numbers-append}
 use Rattle.channel_face.proofs.LawLemmas.{TakesEarlier, after-append}
 use Rattle.channel_replay.specs.Marks.{Past, Applied, opened, open_txns, open_by, opened_by, txn_of, removed, journal, next_txn, next_number, entries_of}
 use Rattle.channel_replay.specs.Rules.{IsPutOf, IsTakeOf}

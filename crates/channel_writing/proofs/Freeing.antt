@@ -11,8 +11,8 @@ use Rattle.channel_face.specs.History.{Moves}
 use Rattle.channel_face.specs.Machine.{State, Take, MaySpill, add_take, entries, first_event, free, settle, settle_if, take_refusal, takes_of, with_entry}
 use Rattle.channel_face.specs.declared.replies.Kind.{Kind}
 use Rattle.channel_face.specs.declared.replies.Kind.TheVariants.{File as OnFile}
-use Rattle.channel_face.proofs.Numbers.{Items, without-append, without-both}
-use Rattle.channel_face.proofs.Sound.{IsSoundState}
+use Rattle.channel_face.specs.Sound.{Items, IsSoundState}
+use Rattle.channel_face.proofs.Numbers.{without-append, without-both}
 use Rattle.channel_replay.proofs.Numbers.{or_among}
 use Rattle.txn_core.proofs.Kept.{take_allows}
 use Rattle.channel_writing.specs.Written.{IsLogged, kept}

@@ -12,7 +12,7 @@ use Rattle.channel_log.specs.Frames.{Blank, Commits, Content, Holds, IsBirth, Wh
 use Rattle.channel_log.specs.Reader.{Goes, frame_items}
 use Rattle.channel_log.specs.Writer.{HasFrames}
 use Rattle.channel_face.specs.Machine.{State, entry_of}
-use Rattle.channel_face.proofs.Sound.{IsSoundState}
+use Rattle.channel_face.specs.Sound.{IsSoundState}
 use Rattle.channel_replay.specs.declared.line.Line.{Line}
 use Rattle.channel_replay.specs.Marks.{Dropped, Past, open_txns}
 use Rattle.channel_replay.specs.Recover.{AreSound, file_lines, past_lines, record_lines}

@@ -14,7 +14,7 @@ use Rattle.channel_face.specs.declared.replies.Kind.TheVariants.{File as OnFile,
 use Rattle.channel_face.specs.declared.replies.FlushRefused.{FlushRefused}
 use Rattle.channel_face.specs.declared.replies.FlushRefused.TheVariants as FlushNo
 use Rattle.channel_face.specs.declared.replies.PutRefused.TheVariants as PutNo
-use Rattle.channel_face.proofs.Sound.{IsSoundState}
+use Rattle.channel_face.specs.Sound.{IsSoundState}
 use Rattle.txn_core.proofs.Kept.{put_allows}
 use Rattle.channel_writing.specs.Written.{IsLogged, kept}
 use Rattle.channel_writing.specs.Whole.{IsWhole}

@@ -14,7 +14,7 @@ use Rattle.channel_face.specs.declared.replies.OpenCause.{OpenCause}
 use Rattle.channel_face.specs.declared.replies.OpenCause.TheVariants as causes
 use Rattle.channel_face.proofs.LawLemmas.{sound_opening}
 use Rattle.channel_face.proofs.Numbers.{rising_base}
-use Rattle.channel_face.proofs.Sound.{IsSoundState}
+use Rattle.channel_face.specs.Sound.{IsSoundState}
 use Rattle.channel_writing.specs.Folders.{IsAsBefore, IsOfFile, OpensOver}
 use Rattle.channel_writing.specs.Written.{IsFresh, IsLogged, MayRecover, MayRest, Waits}
 use Rattle.channel_writing.specs.Whole.{IsWhole}

@@ -16,9 +16,10 @@ use Rattle.channel_face.specs.declared.replies.Kind.TheVariants.{File as OnFile}
 use Rattle.channel_face.specs.declared.replies.BeginRefused.{BeginRefused}
 use Rattle.channel_face.specs.declared.replies.StageCause.{StageCause}
 use Rattle.channel_face.specs.declared.replies.Ticket.{Ticket}
-use Rattle.channel_face.proofs.Numbers.{among_times, number_high, number_of, times}
+use Rattle.channel_face.specs.Sound.{number_of, times, IsSoundState}
+use Rattle.channel_face.proofs.Numbers.{among_times, number_high}
 use Rattle.channel_face.proofs.Opened.{puts_of-some, takes_of-some}
-use Rattle.channel_face.proofs.Sound.{IsSoundState, sound_after}
+use Rattle.channel_face.proofs.Sound.{sound_after}
 use Rattle.txn_core.proofs.Kept.{few_opened}
 use Rattle.channel_replay.specs.StartLaws.{done_of}
 use Rattle.channel_writing.specs.Mirrors.{busy, one_if_done}

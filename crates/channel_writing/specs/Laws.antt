@@ -12,7 +12,7 @@ use Rattle.channel_log.specs.Frames.{IsBirth, header, opened}
 use Rattle.channel_log.specs.Writer.{HasFrames}
 use Rattle.channel_face.specs.Machine.{State, base_of, entry_of, with_entry, close, free, next_number, settle, stage}
 use Rattle.channel_replay.specs.Marks.{Past, journal, next_txn}
-use Rattle.channel_face.proofs.Sound.{IsSoundState}
+use Rattle.channel_face.specs.Sound.{IsSoundState}
 use Rattle.channel_replay.specs.Start.{IsStart, Start, start_past}
 use Rattle.channel_replay.specs.StartLaws.{done_of, start_of}
 use Rattle.channel_writing.specs.Mirrors.{AreLegal, IsStartOf, Mirrors, applied}

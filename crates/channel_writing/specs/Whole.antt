@@ -4,7 +4,7 @@ use Rattle.flume_host.specs.Told.{Told}
 use Rattle.channel_log.specs.Writer.{Writer}
 use Rattle.channel_face.specs.Machine.{State}
 use Rattle.channel_face.specs.declared.replies.Kind.TheVariants.{File as OnFile}
-use Rattle.channel_face.proofs.Sound.{IsSoundState}
+use Rattle.channel_face.specs.Sound.{IsSoundState}
 use Rattle.channel_writing.specs.Written.{IsLogged, MayRest}
 
 -- its log has its state, unless it is broken; then a crash may also leave what is staged

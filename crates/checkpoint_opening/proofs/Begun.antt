@@ -5,7 +5,8 @@ use Rattle.event_core.specs.Content.{Content}
 use Rattle.event_core.specs.Journal.{is_among}
 use Rattle.record_form.specs.declared.record.Pointer.{Pointer}
 use Rattle.channel_face.specs.Machine.{entry_of}
-use Rattle.channel_face.proofs.Numbers.{Rising, base_rising}
+use Rattle.channel_face.specs.Sound.{Rising}
+use Rattle.channel_face.proofs.Numbers.{base_rising}
 use Rattle.channel_replay.specs.Recover.{empty_start}
 use Rattle.channel_replay.specs.Start.{AreApart, IsStart, Start}
 use Rattle.channel_replay.proofs.Among.{differ}

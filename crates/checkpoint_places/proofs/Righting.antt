@@ -15,7 +15,8 @@ use Rattle.open_table.specs.Tables.{Listed, Open, Puts, Takes, open_at, puts_of,
 use Rattle.channel_log.specs.Pointers.{PutAt}
 use Rattle.channel_log.proofs.Pointing.{one_event}
 use Rattle.channel_face.specs.Machine.{base_of, entries, entry_of}
-use Rattle.channel_face.proofs.Numbers.{Items, Rising, among_times, distinct_times, number_of as count_of, number_once, one_if, rising_base, rising_within, same_number, times, times-append}
+use Rattle.channel_face.specs.Sound.{Items, Rising, number_of as count_of, one_if, times}
+use Rattle.channel_face.proofs.Numbers.{among_times, distinct_times, number_once, rising_base, rising_within, same_number, times-append}
 use Rattle.channel_places.specs.Looks.{Known, LookLeft, LookPuts, LooksListed, LooksOpen, OpenRise, StandsIn, held_in}
 use Rattle.checkpoint.specs.Right.{AreOnceAmong, EventsAre, LiveAre, OpenAre, PutIn, PutOf, all_of, number_of}
 use Rattle.checkpoint.specs.Says.{entry_of as listed, live_at, puts_at, puts_in, takes_at, takes_in}

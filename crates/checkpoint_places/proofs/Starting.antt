@@ -7,7 +7,8 @@ use Rattle.event_core.specs.Journal.{IsNotEmpty, is_among}
 use Rattle.event_core.specs.declared.journal.Entry.{Entry}
 use Rattle.event_core.specs.declared.journal.Entry.TheVariants.{Puts, Takes}
 use Rattle.channel_face.specs.Machine.{entry_of}
-use Rattle.channel_face.proofs.Numbers.{among_times, other_number, same_number, times, times-append}
+use Rattle.channel_face.specs.Sound.{times}
+use Rattle.channel_face.proofs.Numbers.{among_times, other_number, same_number, times-append}
 use Rattle.channel_places.specs.Looks.{OpenRise}
 use Rattle.channel_replay.specs.Open.{keys}
 use Rattle.channel_replay.specs.Start.{AreApart}

@@ -17,7 +17,8 @@ use Rattle.event_ring.specs.Slots.{Left}
 use Rattle.open_table.specs.Tables.{Listed, Open, Puts, Table, Takes, open_at, puts_of, takes_of}
 use Rattle.channel_face.specs.Machine.{entry_of}
 use Rattle.channel_face.proofs.LawLemmas.{after_none}
-use Rattle.channel_face.proofs.Numbers.{Rising, among_times, base_rising, times}
+use Rattle.channel_face.specs.Sound.{Rising, times}
+use Rattle.channel_face.proofs.Numbers.{among_times, base_rising}
 use Rattle.channel_replay.specs.Marks.{Applied, IsHeld, Past, journal, next_txn, numbers_of, opened, removed}
 use Rattle.channel_replay.specs.Open.{keys}
 use Rattle.channel_replay.specs.Start.{AreApart, IsStart, Start, entry_marks, open_marks, put_marks, start_past, take_marks}

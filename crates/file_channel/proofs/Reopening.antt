@@ -22,7 +22,8 @@ use Rattle.channel_face.specs.declared.replies.OpenCause.{OpenCause}
 use Rattle.channel_face.specs.declared.replies.OpenCause.TheVariants as causes
 use Rattle.channel_face.proofs.Adding.{state-push}
 use Rattle.channel_face.proofs.LawLemmas.{after_none}
-use Rattle.channel_face.proofs.Numbers.{Items, among_times, distinct_times, number_of, number_of-without, one_if, rising_base, same_number, times, times-append}
+use Rattle.channel_face.specs.Sound.{Items, number_of, one_if, times}
+use Rattle.channel_face.proofs.Numbers.{among_times, distinct_times, number_of-without, rising_base, same_number, times-append}
 use Rattle.channel_places.specs.Looks.{IsSound, Known, LookLeft, LookStaged, Looks, Numbers, Places, held_in, numbers_of}
 use Rattle.checkpoint_opening.specs.Laws.{AreBounded}
 use Rattle.checkpoint_opening.proofs.Once.{recovers_to_once}

@@ -11,7 +11,8 @@ use Rattle.event_ring.specs.Slots.{Left}
 use Rattle.channel_log.specs.Pointers.{PutAt}
 use Rattle.channel_places.specs.Looks.{Known, LookLeft, StandsIn}
 use Rattle.channel_places.proofs.Looking.{left_length}
-use Rattle.channel_face.proofs.Numbers.{Rising, base_rising, rising_base}
+use Rattle.channel_face.specs.Sound.{Rising}
+use Rattle.channel_face.proofs.Numbers.{base_rising, rising_base}
 use Rattle.checkpoint.specs.Right.{LiveAre}
 use Rattle.checkpoint.specs.Says.{live_at}
 use Rattle.ring_replay.specs.Indexing.{AreSized, HasItems, IsPlaced, Places}

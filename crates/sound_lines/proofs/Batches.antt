@@ -21,7 +21,8 @@ use Rattle.channel_face.specs.declared.replies.Settled.TheVariants as ticket_is
 use Rattle.channel_face.specs.declared.replies.StageCause.{StageCause}
 use Rattle.channel_face.specs.declared.replies.Ticket.{Ticket}
 use Rattle.channel_face.proofs.Adding.{state-push}
-use Rattle.channel_face.proofs.Opened.{AreNumbered, entry_of-push, entry_of-with}
+use Rattle.channel_face.specs.Sound.{AreNumbered}
+use Rattle.channel_face.proofs.Opened.{entry_of-push, entry_of-with}
 use Rattle.shared_channel.specs.Ports.{Stood, own_calls}
 use Rattle.sound_lines.specs.Limits.{IsForLimit, Limits}
 use Rattle.sound_lines.specs.Undisturbed.{Began, IsUndisturbed}

@@ -8,7 +8,8 @@ use Rattle.channel_face.specs.declared.replies.PutRefused.TheVariants as PutNo
 use Rattle.channel_face.specs.declared.replies.TakeRefused.TheVariants as TakeNo
 use Rattle.channel_face.specs.declared.replies.FlushRefused.TheVariants as FlushNo
 use Rattle.channel_face.specs.declared.replies.CheckRefused.TheVariants as CheckNo
-use Rattle.channel_face.proofs.Opened.{AreNumbered, numbered-push, numbered-with, numbered-without}
+use Rattle.channel_face.specs.Sound.{AreNumbered}
+use Rattle.channel_face.proofs.Opened.{numbered-push, numbered-with, numbered-without}
 
 -- From one state to another of the same life: no number falls, and open transactions have earlier ones.
 pub record Grows (s t : State) : Type 0 where

@@ -8,7 +8,8 @@ use Rattle.channel_face.specs.Token.{Token}
 use Rattle.channel_face.specs.History.{IsRun, Step, state_after}
 use Rattle.channel_face.specs.Machine.{State, Call, RollbackPut, RollbackTake, StagePut, StageTake, Admits, after, as_puts, as_takes, entry_of, is_some_of, puts_of, stage, stage_put_refusal, stage_take_refusal, takes_of, with_entry, without_entry}
 use Rattle.channel_face.specs.declared.replies.Ticket.{Ticket}
-use Rattle.channel_face.proofs.Opened.{AreNumbered, Opened, puts_of-some, takes_of-some}
+use Rattle.channel_face.specs.Sound.{AreNumbered, Opened}
+use Rattle.channel_face.proofs.Opened.{puts_of-some, takes_of-some}
 use Rattle.whole_calls.proofs.Shapes.{Began, Kept, Renewed, Same, Shape, With, Without, begins, entry_push, fresh, kept_after, kind, kind_with, kind_without, shape, without_self}
 
 -- the calls that end a transaction of puts or of takes, and its token being stale

@@ -5,7 +5,8 @@ use Rattle.channel_face.specs.Faces.{Own}
 use Rattle.channel_face.specs.History.{IsRun, Opening, Step, opening, state_after}
 use Rattle.channel_face.specs.Machine.{Call, State, after, entry_of, with_entry, without_entry}
 use Rattle.channel_face.specs.Token.{Token}
-use Rattle.channel_face.proofs.Opened.{Opened, entry_of-push}
+use Rattle.channel_face.specs.Sound.{Opened}
+use Rattle.channel_face.proofs.Opened.{entry_of-push}
 use Rattle.shared_channel.specs.Calls.{state_seen}
 use Rattle.shared_channel.specs.Ports.{own_calls, own_if}
 use Rattle.shared_channel.proofs.Porting.{own-append}

@@ -10,7 +10,8 @@ use Rattle.channel_face.specs.declared.replies.PutRefused.TheVariants as PutNo
 use Rattle.channel_face.specs.declared.replies.TakeRefused.TheVariants as TakeNo
 use Rattle.channel_face.specs.declared.replies.FlushRefused.TheVariants as FlushNo
 use Rattle.channel_face.specs.declared.replies.CheckRefused.TheVariants as CheckNo
-use Rattle.channel_face.proofs.Opened.{AreNumbered, Opened, numbered-push, numbered-with, numbered-without, puts_of-some, takes_of-some}
+use Rattle.channel_face.specs.Sound.{AreNumbered, Opened}
+use Rattle.channel_face.proofs.Opened.{numbered-push, numbered-with, numbered-without, puts_of-some, takes_of-some}
 
 -- whether an entry is of takes
 abbrev pub is_takes : Entry → Bool

@@ -24,7 +24,8 @@ use Rattle.channel_face.specs.declared.replies.OpenCause.{OpenCause}
 use Rattle.channel_face.specs.declared.replies.Taken.{Taken}
 use Rattle.channel_face.specs.declared.replies.TakeRefused.{TakeRefused}
 use Rattle.channel_face.specs.declared.replies.TakeRefused.TheVariants as TakeNo
-use Rattle.channel_face.proofs.Opened.{Opened, AreNumbered, entry_of-push, entry_of-with, puts_of-some, takes_of-some, puts_of-from}
+use Rattle.channel_face.specs.Sound.{Opened, AreNumbered}
+use Rattle.channel_face.proofs.Opened.{entry_of-push, entry_of-with, puts_of-some, takes_of-some, puts_of-from}
 use Rattle.channel_face.proofs.Numbers.{put_events-append, times-append, among_times}
 use Rattle.channel_face.proofs.Opened.{entries-append}
 use Rattle.channel_face.proofs.Within.{within_run, within_opening}

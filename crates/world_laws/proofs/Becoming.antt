@@ -11,7 +11,8 @@ use Rattle.channel_face.specs.Machine.{State, BeginPut, BeginTake, Put, Take, St
 use Rattle.channel_face.specs.declared.replies.Kind.{Kind}
 use Rattle.channel_face.specs.declared.replies.Kind.TheVariants.{File as OnFile}
 use Rattle.channel_face.specs.declared.replies.FlushRefused.TheVariants as FlushNo
-use Rattle.channel_face.proofs.Opened.{AreNumbered, entry_of-push, entry_of-with, puts_of-from}
+use Rattle.channel_face.specs.Sound.{AreNumbered}
+use Rattle.channel_face.proofs.Opened.{entry_of-push, entry_of-with, puts_of-from}
 use Rattle.world_laws.specs.World.{Channel, Delivery, commits, and_then}
 use Rattle.world_laws.specs.Channels.{unless, next_token, put_all, stage_all, put_transaction, stored, aside, flushed, failed, take_begun, taken, committed, given_up, reopened, is_empty}
 use Rattle.world_laws.specs.Held.{IsHistory, Are, events_of}

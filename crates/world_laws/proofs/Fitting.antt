@@ -15,7 +15,8 @@ use Rattle.channel_face.specs.declared.replies.PutRefused.TheVariants as PutNo
 use Rattle.channel_face.specs.declared.replies.TakeRefused.TheVariants as TakeNo
 use Rattle.channel_face.specs.declared.replies.FlushRefused.TheVariants as FlushNo
 use Rattle.channel_face.specs.declared.replies.CheckRefused.TheVariants as CheckNo
-use Rattle.channel_face.proofs.Opened.{Opened, puts_of-some}
+use Rattle.channel_face.specs.Sound.{Opened}
+use Rattle.channel_face.proofs.Opened.{puts_of-some}
 use Rattle.world_laws.proofs.Lists.{same_some, no_some}
 
 -- an open put has no more events than a transaction may, and none of them is too large

@@ -7,7 +7,8 @@ use Rattle.channel_face.specs.History.{Step as Made, opening, state_after, journ
 use Rattle.channel_face.specs.Laws.{ReadsNone, KeepsFront}
 use Rattle.channel_face.proofs.Adding.{run-push, state-push}
 use Rattle.channel_face.proofs.Leaving.{journal-push}
-use Rattle.channel_face.proofs.Sound.{IsSoundState, sound_run}
+use Rattle.channel_face.specs.Sound.{IsSoundState}
+use Rattle.channel_face.proofs.Sound.{sound_run}
 use Rattle.channel_face.proofs.LawLemmas.{sound_opening, stands_for, commits_formed}
 use Rattle.world_laws.specs.World.{Channel, commits}
 use Rattle.world_laws.specs.Held.{IsHistory, Balances, nothing}

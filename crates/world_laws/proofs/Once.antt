@@ -6,7 +6,8 @@ use Rattle.event_core.specs.Content.{Content}
 use Rattle.event_core.specs.Journal.{Base, IsWellFormed, after_journal, put_events, taken_numbers, without, is_among, numbered}
 use Rattle.event_core.specs.declared.journal.Entry.{Entry}
 use Rattle.event_core.specs.declared.journal.Entry.TheVariants.{Puts, Takes}
-use Rattle.channel_face.proofs.Numbers.{Rising, times, times-append, same_number, number_of, number_of-append, number_of-without, among_times, number_once, rising-left, rising-numbered, without_none, numbered-append, distinct_times}
+use Rattle.channel_face.specs.Sound.{Rising, times, number_of}
+use Rattle.channel_face.proofs.Numbers.{times-append, same_number, number_of-append, number_of-without, among_times, number_once, rising-left, rising-numbered, without_none, numbered-append, distinct_times}
 use Rattle.world_laws.specs.World.{Channel, commits}
 use Rattle.world_laws.specs.Held.{Balances, nothing}
 use Rattle.world_laws.specs.Kept.{IsTakenAt, IsStillLeft, WasTakenOnce}

@@ -5,7 +5,7 @@ use Rattle.event_core.specs.declared.journal.Entry.{Entry}
 use Rattle.event_core.specs.declared.journal.Entry.TheVariants.{Puts, Takes}
 use Rattle.channel_face.specs.Token.{Token}
 use Rattle.channel_face.specs.Machine.{State, entry_of, with_entry, without_entry, stage, takes_of}
-use Rattle.channel_face.proofs.Opened.{Opened, AreNumbered}
+use Rattle.channel_face.specs.Sound.{Opened, AreNumbered}
 use Rattle.world_laws.proofs.Lists.{no_some}
 
 pub other_with : (m number : ℕ) (e : Entry) (opened : Opened) → m ≢ number → entry_of m (with_entry number e opened) ≡ entry_of m opened

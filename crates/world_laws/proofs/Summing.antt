@@ -6,7 +6,7 @@ use Rattle.event_core.specs.Journal.{put_events}
 use Rattle.event_core.specs.declared.journal.Entry.{Entry}
 use Rattle.event_core.specs.declared.journal.Entry.TheVariants.{Puts, Takes}
 use Rattle.channel_face.specs.Machine.{entries, entry_of, with_entry, without_entry}
-use Rattle.channel_face.proofs.Opened.{Opened, AreNumbered}
+use Rattle.channel_face.specs.Sound.{Opened, AreNumbered}
 use Rattle.world_laws.specs.Agrees.{sum_of, puts_one, takes_one}
 use Rattle.world_laws.proofs.Lists.{same_some, no_some}
 
