@@ -4,7 +4,7 @@ use channel_face::{
     Settled, StageCause, StageRefused, TakeRefused, TakeTxn, Taken, Ticket,
 };
 use event_core::Event;
-use scenarios::{number_of, word_and_rest};
+use scenarios::{value_of, word_and_rest};
 use std::alloc::Global;
 use test_fixtures::event;
 
@@ -24,15 +24,6 @@ pub type Said = (&'static str, u64);
 pub const OTHER: Said = ("other", 0);
 
 const DONE: Said = ("done", 0);
-
-/// A number, or the first byte of a text, or 0.
-pub fn value_of(text: &str) -> u64 {
-    match (number_of(text), text.bytes().next()) {
-        (Some(number), _) => number,
-        (None, Some(byte)) => u64::from(byte),
-        (None, None) => 0,
-    }
-}
 
 /// Whether this is what a line expects.
 pub fn is_said(said: Said, want: &str) -> bool {

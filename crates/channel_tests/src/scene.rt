@@ -1,13 +1,15 @@
 // A channel and its folder, on which the lines of a scenario work.
-use crate::calls::{Call, OTHER, Said, gives, is_said, said, value_of};
-use crate::spelled::{long_file, spelled};
+use crate::calls::{Call, OTHER, Said, gives, is_said, said};
 use channel_face::{Channel, CheckRefused, Counter, Kind, Limits, OpenCause, PruneRefused, Ticket};
 use event_core::Entry;
 use file_channel::FileChannel;
 use flume_host::FileName;
 use host_memory::{DiskFault, MemDisk, MemFile, Part};
 use memory_channel::MemoryChannel;
-use scenarios::{Scene, add_text, number_of, three_numbers, two_numbers, word_and_rest};
+use scenarios::{
+    Scene, add_text, long_file, number_of, spelled, three_numbers, two_numbers, value_of,
+    word_and_rest,
+};
 use std::alloc::Global;
 use std::mem;
 use test_fixtures::{disk_after_opening, open, reopen};

@@ -1,8 +1,12 @@
-//! Tests as texts: the reader of scenarios, and parts of their lines as numbers and bytes.
+//! Tests as texts: the reader of scenarios, parts of their lines as numbers and bytes, and log files spelled piece by piece.
 #![tactic(auto)]
 
+mod pieces;
 mod reader;
 mod texts;
 
+pub use pieces::{long_file, spelled};
 pub use reader::{Scene, Wrong, pass, wrong_in};
-pub use texts::{add_text, is_text, number_of, three_numbers, two_numbers, word_and_rest};
+pub use texts::{
+    add_text, is_text, number_of, three_numbers, two_numbers, value_of, word_and_rest,
+};

@@ -11,6 +11,15 @@ pub fn number_of(text: &str) -> Option<u64> {
     text.parse::<u64>().ok()
 }
 
+/// A number, or the first byte of a text, or 0.
+pub fn value_of(text: &str) -> u64 {
+    match (number_of(text), text.bytes().next()) {
+        (Some(number), _) => number,
+        (None, Some(byte)) => u64::from(byte),
+        (None, None) => 0,
+    }
+}
+
 /// Two numbers.
 pub fn two_numbers(text: &str) -> Option<(u64, u64)> {
     let (first, second) = word_and_rest(text);

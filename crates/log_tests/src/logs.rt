@@ -1,17 +1,17 @@
 // Log files, on which the lines of a scenario work, and what they leave. `left 2 3 0:a 1:b` says that 2 and 3 are the numbers of the
 // next event and transaction, and which events are left by their numbers; `bad 1 16` names the file and the offset of the first fault.
-use crate::calls::{Call, Said, said};
 use crate::reading::{Read, ReadRecord, disk_of, read_whole, replayed};
 use crate::slow::{Left, left_by};
-use crate::spelled::{long_file, spelled};
 use crate::torn::{flushed, stood_of};
-use channel_face::{Limits, OpenCause, Ticket};
+use channel_face::{Channel, Limits, OpenCause, PutTxn, StageRefused, TakeRefused, TakeTxn, Taken};
 use channel_replay::{RecoverRefused, ReplayRefused, Replayed, WholeFile, recover};
 use event_core::Event;
 use file_channel::FileChannel;
 use flume_host::FileName;
 use host_memory::MemDisk;
-use scenarios::{Scene, is_text, number_of, three_numbers, two_numbers, word_and_rest};
+use scenarios::{
+    Scene, is_text, long_file, number_of, spelled, three_numbers, two_numbers, word_and_rest,
+};
 use std::alloc::Global;
 use test_fixtures::channel_on;
 
@@ -121,37 +121,70 @@ fn is_recovered(alloc: Global, files: &[WholeFile], want: &str) -> bool {
     is_found(alloc, &found, want) && is_slowly_found(alloc, &found, files)
 }
 
-// What a channel answers to a call of a transaction of its first life.
-fn answer(alloc: Global, channel: &mut FileChannel<MemDisk>, word: &str, number: u64) -> Said {
-    let mut kept = Ticket {
-        life: 0,
-        frame: 0,
-        first: 0,
-        count: 0,
+// Whether an event of this one byte was taken.
+fn is_taken(reply: &Result<Taken, TakeRefused>, byte: u64) -> bool {
+    let Ok(taken) = reply else {
+        return false;
     };
-    let call = Call {
-        word,
-        life: 1,
-        number,
-        value: 0,
-    };
-    said(alloc, channel, &mut kept, call)
+    match &taken.event {
+        Some(event) => match event.body() {
+            [found] => u64::from(*found) == byte,
+            _ => false,
+        },
+        None => false,
+    }
 }
 
-// Whether a channel gives what a slow reading does, and goes on with its next numbers.
-fn has_left(alloc: Global, channel: &mut FileChannel<MemDisk>, left: &Left) -> bool {
-    let (taker, putter) = (left.txn, left.txn.saturating_add(1));
-    if answer(alloc, channel, "begin-take", 0) != ("token", taker) {
-        return false;
+// Whether there was no event to be taken.
+fn is_none_taken(reply: &Result<Taken, TakeRefused>) -> bool {
+    match reply {
+        Ok(taken) => taken.event.is_none(),
+        Err(_) => false,
     }
-    for event in left.events.iter() {
-        if answer(alloc, channel, "take", taker) != ("event", event.1) {
+}
+
+// Whether a taker finds these events, and no more.
+fn finds<C: Channel>(channel: &mut C, txn: &mut TakeTxn, events: &[(u64, u64)]) -> bool {
+    for event in events {
+        if !is_taken(&channel.take(txn), event.1) {
             return false;
         }
     }
-    answer(alloc, channel, "take", taker) == ("no-event", 0)
-        && answer(alloc, channel, "begin-put", 0) == ("token", putter)
-        && answer(alloc, channel, "stage-put", putter) == ("first", left.number)
+    is_none_taken(&channel.take(txn))
+}
+
+// Whether a taker of this number, of the first life, finds these events. It stays open.
+fn gives<C: Channel>(channel: &mut C, number: u64, events: &[(u64, u64)]) -> bool {
+    let Ok(mut txn) = channel.begin_take() else {
+        return false;
+    };
+    let are_found = finds(channel, &mut txn, events);
+    txn.into_numbers() == (1, number) && are_found
+}
+
+// Whether the stage of a putter begins with this number of an event.
+fn stages<C: Channel>(channel: &mut C, putter: u64, first: u64) -> bool {
+    match channel.stage_put(PutTxn::new(1, putter)) {
+        Ok(ticket) => ticket.first == first,
+        Err(StageRefused { txn, cause: _ }) => {
+            let _ended = txn.into_numbers();
+            false
+        }
+    }
+}
+
+// Whether the next putter has this number, and its stage begins with this one.
+fn goes_on<C: Channel>(channel: &mut C, putter: u64, first: u64) -> bool {
+    match channel.begin_put() {
+        Ok(txn) => txn.into_numbers() == (1, putter) && stages(channel, putter, first),
+        Err(_) => false,
+    }
+}
+
+// Whether a channel gives what a slow reading does, and goes on with its next numbers.
+fn has_left(channel: &mut FileChannel<MemDisk>, left: &Left) -> bool {
+    gives(channel, left.txn, &left.events)
+        && goes_on(channel, left.txn.saturating_add(1), left.number)
 }
 
 // Whether a channel that opens some files has what a slow reading finds, or is refused for the fault that it finds.
@@ -160,7 +193,7 @@ fn is_opened_so(alloc: Global, files: &[WholeFile]) -> bool {
         return false;
     };
     match (channel_on(alloc, disk, OPENED), left_by(alloc, files)) {
-        (Ok(mut channel), Ok(left)) => has_left(alloc, &mut channel, &left),
+        (Ok(mut channel), Ok(left)) => has_left(&mut channel, &left),
         (Err(OpenCause::BadLog { file, at }), Err(slow)) => (file, at) == slow,
         _ => false,
     }

@@ -1,6 +1,5 @@
 // The bytes of log files, piece by piece, as in `header 1 1 1, gate 1, put 1 a`.
-use crate::calls::value_of;
-use scenarios::word_and_rest;
+use crate::texts::{value_of, word_and_rest};
 use std::alloc::Global;
 
 // Adds a number of so many bytes.
@@ -45,10 +44,8 @@ fn add_garbage(bytes: &mut Vec<u8>, count: &str) -> bool {
     true
 }
 
-/// Adds a piece: a header of a form, a birth and a number; a commit byte; a PUT of a transaction and a byte; a TAKE of a
-/// transaction and an event's number; the ROLLBACK of a transaction; a COMMIT_PUT of a transaction, the first event's number and
-/// the count; a COMMIT_TAKE of a transaction and the count; the END of a count; so many bytes ff.
-pub fn add_piece(bytes: &mut Vec<u8>, piece: &str) -> bool {
+// Adds a piece.
+fn add_piece(bytes: &mut Vec<u8>, piece: &str) -> bool {
     let (word, words) = word_and_rest(piece);
     match word {
         "header" => add_fields(bytes, b"FLUMELOG", &[2, 2, 4], words),
@@ -64,7 +61,10 @@ pub fn add_piece(bytes: &mut Vec<u8>, piece: &str) -> bool {
     }
 }
 
-/// The bytes of some pieces.
+/// The bytes of some pieces, with a comma between each two. A piece is a header of a form, a birth and a number; a commit byte; a PUT
+/// of a transaction and a byte; a TAKE of a transaction and an event's number; the ROLLBACK of a transaction; a COMMIT_PUT of a
+/// transaction, the first event's number and the count; a COMMIT_TAKE of a transaction and the count; the END of a count; so many
+/// bytes ff.
 pub fn spelled(alloc: Global, pieces: &str) -> Option<Vec<u8>> {
     let mut bytes = Vec::new(alloc);
     for piece in pieces.split(", ") {
@@ -101,7 +101,7 @@ fn add_frame(bytes: &mut Vec<u8>, txn: u64, first: u64, puts: u32) -> bool {
     add_all(bytes, &[&[4], &txn, &first, &count, &[6], &records])
 }
 
-/// The bytes of log file 1 of so many frames of so many PUTs.
+/// The bytes of log file 1 of so many frames of so many PUTs, of an event of one byte each.
 pub fn long_file(alloc: Global, frames: u64, puts: u32) -> Option<Vec<u8>> {
     let mut bytes = spelled(alloc, "header 1 1 1")?;
     for frame in 0..frames {

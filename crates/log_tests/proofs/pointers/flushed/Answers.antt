@@ -5,8 +5,8 @@ use Rattle.flume_host.specs.declared.names.FileName.TheVariants.{Log}
 use Rattle.host_memory.specs.Words.{told_in}
 use Rattle.record_form.specs.declared.record.Rec.TheVariants.{CommitPut, Put}
 use Rattle.channel_log.specs.Writer.{Writer}
-use Rattle.channel_tests.proofs.Flushing.{is_there, room_behind, still_ready, two_pending}
-use Rattle.channel_tests.proofs.pointers.flushed.Goals as goal
+use Rattle.log_tests.proofs.Flushing.{is_there, room_behind, still_ready, two_pending}
+use Rattle.log_tests.proofs.pointers.flushed.Goals as goal
 
 pub append-requires-clause-room : goal.append-requires-clause-room
 append-requires-clause-room c = room_behind c.in-Ok.writer c.append_put.new.self (Put 1 c.args.event.now) 21 (ap (λ (w : Writer). w.bytes) c.in-Ok.ensures.writer) c.append_put.ensures (omega (arith, c.requires.small))

@@ -1,6 +1,6 @@
 use denote.Shadow.{shadow}
 use denote.Text.{Utf8}
-use Rattle.channel_tests.proofs.events.are_joined.Given as goal
+use Rattle.log_tests.proofs.events.are_joined.Given as goal
 
 abbrev pub invariant-loop-key : goal.invariant-loop-key
 invariant-loop-key l = shadow (Utf8 l.rest)

@@ -2,10 +2,9 @@
 ghost use Rattle.std.specs.Prelude.{◌≤◌, IsTrue};
 ghost use Rattle.record_form.specs.Record.{IsWithinLimits, record_length};
 
-use crate::calls::value_of;
 use event_core::Event;
 use record_form::{Read, Rec, read_record, rec_of, write_record};
-use scenarios::{Scene, add_text, number_of, pass, three_numbers, word_and_rest};
+use scenarios::{Scene, add_text, pass, three_numbers, value_of, word_and_rest};
 use std::alloc::Global;
 use std::test::Fail;
 use test_fixtures::event;

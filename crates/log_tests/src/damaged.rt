@@ -2,11 +2,10 @@
 // each up to a length or an offset, and by a slow reading; a channel that opens the log file has to find the same.
 use crate::logs::leaves;
 use crate::slow::said_by;
-use crate::spelled::spelled;
 use checkpoint_reading::{CheckReadRefused, newest};
 use flume_host::FileName;
 use host_memory::{MemDisk, MemFile};
-use scenarios::{Scene, add_text, number_of, pass, word_and_rest};
+use scenarios::{Scene, add_text, number_of, pass, spelled, word_and_rest};
 use std::alloc::Global;
 use std::test::Fail;
 

@@ -1,4 +1,4 @@
-use Rattle.channel_tests.proofs.reading.read_one.Given as goal
+use Rattle.log_tests.proofs.reading.read_one.Given as goal
 
 abbrev pub ghosts-read_by : goal.ghosts-read_by
 ghosts-read_by a = record { name = a.blank.name; parts = a.blank.parts }
