@@ -83,8 +83,9 @@ fn add_sink<H: Host, B: Drop>(
 ) -> Result<(), NameRefused>
     requires have { HasObject plan.now.kind (first_of (reverse objects.old.items)) }
     ensures rest { reverse objects.new.items ≡ rest_of (reverse objects.old.items) }
-    ensures added { OnOk result (SinkAdded H.Roll.rolled H.Roll.faults ⟦<AvroSink<H::Dialer> as HasDialer>⟧.dial
-        plan.now (first_of (reverse objects.old.items)) (H.state host.old).dialers
+    ensures added { OnOk result (SinkAdded H.Roll.rolled H.Roll.faults
+        ⟦<AvroSink<H::Dialer> as HasDialer>⟧.dial plan.now
+        (first_of (reverse objects.old.items)) (H.state host.old).dialers
         (H.folders host.old) (H.folders host.new) sinks.old.items sinks.new.items) }
     ensures dials { OnOk result (DialersOut (dial_of plan.now.kind) (H.state host.old)
         (H.state host.new)) }

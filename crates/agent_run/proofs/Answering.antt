@@ -17,16 +17,16 @@ use Rattle.flume_host.specs.Listens.{Endpoint}
 use Rattle.flume_host.specs.Rolled.{Rolled}
 use Rattle.agent_sinks.specs.declared.sink.AgentSink.{AgentSink}
 use Rattle.avro_ends.specs.Dialing.{DialTold}
-use Rattle.agent_run.specs.Outside.{IsOutside}
+use Rattle.run_opening.specs.Outside.{IsOutside}
 use Rattle.agent_channels.specs.Openings.{HostTold}
 use Rattle.agent_end.specs.Statuses.{run_status}
 use Rattle.agent_end.specs.declared.ends.RunEnds.{RunEnds}
 use Rattle.agent_run.specs.NotBegun.{ChannelNotOpened, DidNotBegin, IsRunRefused, NoPlan, NotBegun, NotPrepared, OutsideNotOpened}
 use Rattle.agent_run.specs.Through.{AgentEndsAs, CameTo, EndsAs, WithObjects}
-use Rattle.agent_run.specs.declared.outcome.ChannelEnd.{ChannelEnd}
+use Rattle.run_opening.specs.declared.channel_end.ChannelEnd.{ChannelEnd}
 use Rattle.agent_run.specs.Errors.{IsRunStatus}
 use Rattle.agent_run.specs.Named.{AgentEnds, IsAgentStatus}
-use Rattle.agent_run.specs.Prepared.{IsPlanned}
+use Rattle.run_opening.specs.Prepared.{IsPlanned}
 use Rattle.agent_run.proofs.Apart.{folders_apart}
 use Rattle.agent_run.proofs.Refusing.{cause_which, outside_status, plan_host, refused_host}
 use Rattle.agent_run.proofs.Spared.{refused_folders}

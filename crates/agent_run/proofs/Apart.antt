@@ -25,7 +25,7 @@ use Rattle.plan_judging.specs.declared.findings.FaultKind.TheVariants.{Clash, Un
 use Rattle.plan_judging.specs.declared.rules.Rule.TheVariants as rules
 use Rattle.plan_laws.proofs.Names.{Clean, both_clean, none_of}
 use Rattle.agent_run.specs.FoldersTold.{FoldersAreApart, folder_of}
-use Rattle.agent_run.specs.Prepared.{IsPlanned}
+use Rattle.run_opening.specs.Prepared.{IsPlanned}
 
 -- no key is missing
 abbrev pub Whole : Candidates → Type 0

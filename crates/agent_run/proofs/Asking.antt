@@ -43,7 +43,7 @@ use Rattle.agent_outside.proofs.Dialing.{dials_ends}
 use Rattle.run_tracks.specs.Places.{Zips}
 use Rattle.agent_run.specs.DialedTold.{AreDialsBack, AskedAt, DialsTold, IsDialBack, RequestsTold}
 use Rattle.agent_run.specs.RolledTold.{WasTaken, calls_of}
-use Rattle.agent_run.specs.Wholes.{AreBeside, IsSinkWhole}
+use Rattle.run_working.specs.Wholes.{AreBeside, IsSinkWhole}
 use Rattle.agent_run.proofs.Dialing.{IsSameSink, agent_keeps, kinds_stay, same_many}
 use Rattle.grouped_sinks.specs.Picks.{AreDealt}
 use Rattle.grouped_sinks.specs.Rows.{IsOrder, places_of}

@@ -31,7 +31,7 @@ use Rattle.agent_run.specs.Causes.{IsLeftBroken, IsSpent, SomeInFolder, SomeIsLe
 use Rattle.agent_run.specs.Finals.{finals_of}
 use Rattle.agent_run.specs.FoldersTold.{folder_of}
 use Rattle.run_settling.specs.Settling.{AreSettled}
-use Rattle.agent_run.specs.Wishes.{AreWishes, IsPlaceOf}
+use Rattle.run_opening.specs.Wishes.{AreWishes, IsPlaceOf}
 use Rattle.run_settling.specs.declared.at_home.AtHome.{AtHome}
 use Rattle.run_settling.specs.declared.settling.Settled.{Settled}
 use Rattle.agent_run.proofs.Began.{opened_many}

@@ -20,17 +20,17 @@ use Rattle.run_tracks.specs.Closes.{IsClosed}
 use Rattle.run_tracks.specs.Homes.{EachTook}
 use Rattle.run_tracks.specs.Stops.{IsKept, IsMended}
 use Rattle.run_settling.specs.Draining.{GoesOn}
-use Rattle.agent_run.specs.Keepers.{closes}
-use Rattle.agent_run.specs.Lists.{NamesOf}
+use Rattle.run_opening.specs.Keepers.{closes}
+use Rattle.run_opening.specs.Lists.{NamesOf}
 use Rattle.run_settling.specs.Settling.{AreSettled}
-use Rattle.agent_run.specs.Wishes.{AreWishes}
+use Rattle.run_opening.specs.Wishes.{AreWishes}
 use Rattle.run_settling.specs.declared.at_home.AtHome.{AtHome}
 use Rattle.run_settling.specs.declared.settling.Settled.{Settled}
 use Rattle.agent_run.proofs.Began.{opened_many}
 use Rattle.run_settling.proofs.Chaining.{each_goes_then}
 use Rattle.agent_run.proofs.Left.{closed_long}
-use Rattle.agent_run.proofs.Resting.{names_many}
-use Rattle.agent_run.proofs.Stopping.{counts_silent, keeps_silent, mends_silent}
+use Rattle.run_opening.proofs.Resting.{names_many}
+use Rattle.run_working.proofs.Stopping.{counts_silent, keeps_silent, mends_silent}
 
 -- what is at a place of a list, where there is something
 pub there : {X : Type 0} (xs : List X) (i : ℕ) → i < length xs → X

@@ -40,7 +40,7 @@ use Rattle.run_tracks.specs.Homes.{EachTook}
 use Rattle.run_tracks.specs.Stops.{IsKept, IsMended}
 use Rattle.run_tracks.specs.Places.{Zips}
 use Rattle.agent_run.specs.Run.{CanDial, DialsMayReturn, MayReturn, StandInRows}
-use Rattle.agent_run.specs.Staff.{IsSinkOf}
+use Rattle.run_opening.specs.Staff.{IsSinkOf}
 use Rattle.grouped_sinks.specs.Picks.{AreDealt}
 use Rattle.grouped_sinks.specs.Rows.{IsOrder, places_of}
 use Rattle.grouped_sinks.specs.declared.row.SinkRow.{SinkRow}
@@ -50,21 +50,21 @@ use Rattle.std.proofs.lemmas.Option.{slice_get_within}
 use Rattle.run_settling.specs.Draining.{IsDrainedAt, IsSinkHome}
 use Rattle.agent_run.specs.Finals.{RunsAreTold, finals_of}
 use Rattle.agent_run.specs.Joined.{HaveReturned}
-use Rattle.agent_run.specs.Opening.{IsManned}
-use Rattle.agent_run.specs.Outside.{IsOutside}
-use Rattle.agent_run.specs.Runs.{Runs}
+use Rattle.run_opening.specs.Opening.{IsManned}
+use Rattle.run_opening.specs.Outside.{IsOutside}
+use Rattle.run_working.specs.Runs.{Runs}
 use Rattle.run_settling.specs.Settling.{AreSettled}
-use Rattle.agent_run.specs.Wholes.{AreBeside, IsSinkWhole}
+use Rattle.run_working.specs.Wholes.{AreBeside, IsSinkWhole}
 use Rattle.run_settling.specs.declared.at_home.AtHome.{AtHome}
 use Rattle.agent_run.specs.declared.joined.Joined.{Joined}
-use Rattle.agent_run.specs.declared.opening.Manned.{Manned}
-use Rattle.agent_run.specs.declared.opening.Opening.{Opening}
+use Rattle.run_opening.specs.declared.opening.Manned.{Manned}
+use Rattle.run_opening.specs.declared.opening.Opening.{Opening}
 use Rattle.run_settling.specs.declared.settling.Settled.{Settled}
-use Rattle.agent_run.specs.declared.workers.Returned.{Returned}
+use Rattle.run_working.specs.declared.workers.Returned.{Returned}
 use Rattle.run_settling.proofs.Chaining.{drained_ends}
 use Rattle.grouped_sinks.specs.Splits.{AllHanded, Handed, RunnersSplit}
 use Rattle.agent_run.proofs.Course.{there}
-use Rattle.agent_run.proofs.Naming.{is_out}
+use Rattle.run_opening.proofs.Naming.{is_out}
 use Rattle.agent_run.proofs.Parting.{find_row, first_of, have_members, part_at, some_same, zips_by_place}
 use Rattle.agent_run.proofs.Sharing.{RowsShared, rows_shared}
 

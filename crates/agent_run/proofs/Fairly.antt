@@ -34,16 +34,16 @@ use Rattle.run_tracks.proofs.Tracking.{own_same}
 use Rattle.sound_lines.proofs.Fair.{AreFairOwn, check_fair, prune_fair}
 use Rattle.sound_lines.proofs.Views.{IsFairIn}
 use Rattle.sound_lines.proofs.Workers.{IsFairTrack, StaysFair, all_fair, calls_stay, drain_stays, keep_stays, rounds_stay, sink_stays, turns_stay}
-use Rattle.agent_run.specs.Ends.{IsLineEnded}
+use Rattle.run_working.specs.Ends.{IsLineEnded}
 use Rattle.agent_run.specs.Finals.{AreToldInFull}
-use Rattle.agent_run.specs.Histories.{Checked, IsDiskOf, IsKeepTold, IsLineTold, IsListenTold, MendedOver, Pruned}
-use Rattle.agent_run.specs.Runs.{AreNew, owners_at, owners_of}
-use Rattle.agent_run.specs.Wholes.{AreBeside, AreSilentAt, IsSinkWhole, StaysSilent}
-use Rattle.agent_run.specs.declared.homes.LineEnded.{LineEnded}
+use Rattle.run_working.specs.Histories.{Checked, IsDiskOf, IsKeepTold, IsLineTold, IsListenTold, MendedOver, Pruned}
+use Rattle.run_working.specs.Runs.{AreNew, owners_at, owners_of}
+use Rattle.run_working.specs.Wholes.{AreBeside, AreSilentAt, IsSinkWhole, StaysSilent}
+use Rattle.run_working.specs.declared.homes.LineEnded.{LineEnded}
 use Rattle.run_settling.specs.declared.settling.Settled.{Settled}
-use Rattle.agent_run.specs.declared.workers.Returned.{Returned}
-use Rattle.agent_run.specs.declared.workers.Workers.{Workers}
-use Rattle.agent_run.proofs.Unrun.{none_called}
+use Rattle.run_working.specs.declared.workers.Returned.{Returned}
+use Rattle.run_working.specs.declared.workers.Workers.{Workers}
+use Rattle.run_working.proofs.Unrun.{none_called}
 
 -- ---- mends over channels of which one is given
 

@@ -25,25 +25,25 @@ use Rattle.run_tracks.specs.Dealt.{HasNumber, Owner}
 use Rattle.run_tracks.specs.Homes.{EachTook, IsAt}
 use Rattle.run_tracks.specs.Places.{Zips}
 use Rattle.run_tracks.specs.Stops.{IsKept, IsMended}
-use Rattle.agent_run.specs.Alone.{AreAlone, Differ, IsAway}
+use Rattle.run_working.specs.Alone.{AreAlone, Differ, IsAway}
 use Rattle.run_settling.specs.Draining.{EachGoesOn, IsDrainedAt, IsSinkHome}
-use Rattle.agent_run.specs.Ends.{IsLineEnded}
+use Rattle.run_working.specs.Ends.{IsLineEnded}
 use Rattle.agent_run.specs.Finals.{AreToldInFull, RunsAreTold, finals_of}
-use Rattle.agent_run.specs.Histories.{IsKeepTold, IsLineTold, IsListenTold, IsSinkTold}
+use Rattle.run_working.specs.Histories.{IsKeepTold, IsLineTold, IsListenTold, IsSinkTold}
 use Rattle.agent_run.specs.Joined.{AreTold}
-use Rattle.agent_run.specs.Runs.{AreEnded, AreNew, AreWorkers, Runs, owners_at, owners_of}
+use Rattle.run_working.specs.Runs.{AreEnded, AreNew, AreWorkers, Runs, owners_at, owners_of}
 use Rattle.run_settling.specs.Settling.{AreSettled}
-use Rattle.agent_run.specs.Wholes.{AreSilentAt, IsNot, IsSilentAt, KeepersStayTold, LinesStayTold, ListenersStayTold, StaysSilent}
+use Rattle.run_working.specs.Wholes.{AreSilentAt, IsNot, IsSilentAt, KeepersStayTold, LinesStayTold, ListenersStayTold, StaysSilent}
 use Rattle.run_settling.specs.declared.at_home.AtHome.{AtHome}
 use Rattle.run_settling.specs.declared.settling.Settled.{Settled}
-use Rattle.agent_run.specs.declared.workers.Returned.{Returned}
-use Rattle.agent_run.specs.declared.workers.Workers.{Workers}
-use Rattle.agent_run.proofs.Finishing.{all_on, behind_silent}
-use Rattle.agent_run.proofs.Lasting.{all_both}
-use Rattle.agent_run.proofs.Owners.{all_split, beside_owners, differ_split, each_keep, each_owner, keep_owners, other_jobs, sink_owners, swap_across}
-use Rattle.agent_run.proofs.Silence.{drains_silent, others_stay, silent_then, sinks_whole}
-use Rattle.agent_run.proofs.Unrun.{keepers_unrun, listeners_unrun, sinks_unrun}
-use Rattle.agent_run.proofs.Zipping.{all_map}
+use Rattle.run_working.specs.declared.workers.Returned.{Returned}
+use Rattle.run_working.specs.declared.workers.Workers.{Workers}
+use Rattle.run_working.proofs.Finishing.{all_on, behind_silent}
+use Rattle.run_working.proofs.Lasting.{all_both}
+use Rattle.run_working.proofs.Owners.{all_split, beside_owners, differ_split, each_keep, each_owner, keep_owners, other_jobs, sink_owners, swap_across}
+use Rattle.run_working.proofs.Silence.{drains_silent, others_stay, silent_then, sinks_whole}
+use Rattle.run_working.proofs.Unrun.{keepers_unrun, listeners_unrun, sinks_unrun}
+use Rattle.run_working.proofs.Zipping.{all_map}
 
 -- the pass at home has the worker's number, and carries another
 record IsOwn (homes : List Known) (o : Owner) : Type 0 where

@@ -29,10 +29,10 @@ use Rattle.channel_lock.specs.Turns.{HasAll}
 use Rattle.run_tracks.specs.Closes.{IsClosed}
 use Rattle.run_tracks.specs.Stops.{IsKept, KeptIf}
 use Rattle.agent_run.specs.FoldersTold.{EndsKept, FolderRan, FolderTold, FoldersAreApart, FoldersRan, FoldersTold, file_of, folder_of, limits_of}
-use Rattle.agent_run.specs.Keepers.{closes}
+use Rattle.run_opening.specs.Keepers.{closes}
 use Rattle.agent_run.specs.RolledTold.{CountsMore}
 use Rattle.agent_run.specs.Run.{IsAtRest}
-use Rattle.agent_run.specs.Wishes.{IsFileOf, IsPlaceOf, IsWish}
+use Rattle.run_opening.specs.Wishes.{IsFileOf, IsPlaceOf, IsWish}
 use Rattle.run_settling.specs.declared.at_home.AtHome.{AtHome}
 use Rattle.agent_run.proofs.Began.{IsPlacedIn, began_at}
 use Rattle.run_settling.proofs.Chaining.{all_go_on}

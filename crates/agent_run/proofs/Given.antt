@@ -10,9 +10,9 @@ use Rattle.source_worker.specs.declared.worker.ListenWorker.{ListenWorker}
 use Rattle.agent_outside.specs.Ends.{ListenersBack, end_at}
 use Rattle.run_tracks.specs.Places.{Zips}
 use Rattle.agent_run.specs.Joined.{IsButStreams, IsSameEnd}
-use Rattle.agent_run.specs.Outside.{AreFrom}
-use Rattle.agent_run.specs.Streams.{DrainKept, InTurn, TalkKept}
-use Rattle.agent_run.specs.declared.homes.LineEnded.{LineEnded}
+use Rattle.run_opening.specs.Outside.{AreFrom}
+use Rattle.run_opening.specs.Streams.{DrainKept, InTurn, TalkKept}
+use Rattle.run_working.specs.declared.homes.LineEnded.{LineEnded}
 
 -- the streams alone, while the listeners stay
 abbrev pub IsButTalks : HostState → HostState → Type 0

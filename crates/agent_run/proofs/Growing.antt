@@ -40,7 +40,7 @@ use Rattle.agent_outside.specs.Sinks.{AreNew, AreOfPlans, IsNew, IsOfKind, Sinks
 use Rattle.run_tracks.specs.Drained.{Looked}
 use Rattle.run_tracks.specs.Tracks.{Calls, Mended, Stood, Track, Turned, ended, track_of}
 use Rattle.agent_run.specs.RolledTold.{FilesTold, RolledTold, WasTaken}
-use Rattle.agent_run.specs.Wholes.{AreBeside, IsSinkWhole, WorkedAndDrained}
+use Rattle.run_working.specs.Wholes.{AreBeside, IsSinkWhole, WorkedAndDrained}
 use Rattle.agent_run.proofs.Course.{there}
 use Rattle.agent_run.proofs.Ended.{ends_then, mend_ends, turn_ends}
 use Rattle.grouped_sinks.specs.Splits.{AllHanded, Handed, ok_batches, ok_of}

@@ -17,15 +17,15 @@ use Rattle.two_channels.specs.Ports.{pass_of}
 use Rattle.two_channels.specs.declared.port.EitherPort.{EitherPort}
 use Rattle.two_channels.specs.declared.shared.EitherShared.{EitherShared}
 use Rattle.run_tracks.specs.Places.{Zips}
-use Rattle.agent_run.specs.Ends.{IsListenEnded, IsSinkEnded}
-use Rattle.agent_run.specs.Histories.{IsLineTold, IsListenTold, IsSinkTold}
+use Rattle.run_working.specs.Ends.{IsListenEnded, IsSinkEnded}
+use Rattle.run_working.specs.Histories.{IsLineTold, IsListenTold, IsSinkTold}
 use Rattle.agent_run.specs.Joined.{HaveReturned, IsSameEnd}
-use Rattle.agent_run.specs.Opened.{IsListenOpened}
-use Rattle.agent_run.specs.Runs.{AreEnded, HaveRun, Runs, runs}
-use Rattle.agent_run.specs.declared.workers.Returned.{Returned}
-use Rattle.agent_run.specs.declared.workers.Workers.{Workers}
-use Rattle.agent_run.proofs.Behind.{ListenRuns}
-use Rattle.agent_run.proofs.Zipping.{ran_zips, zips_map, zips_then}
+use Rattle.run_working.specs.Opened.{IsListenOpened}
+use Rattle.run_working.specs.Runs.{AreEnded, HaveRun, Runs, runs}
+use Rattle.run_working.specs.declared.workers.Returned.{Returned}
+use Rattle.run_working.specs.declared.workers.Workers.{Workers}
+use Rattle.run_working.proofs.Behind.{ListenRuns}
+use Rattle.run_working.proofs.Zipping.{ran_zips, zips_map, zips_then}
 
 -- of two lists in pairs one is as long as the other
 pub zips_long : {A B : Type 0} (R : A → B → Type 0) (xs : List A) (ys : List B) → Zips R xs ys → length ys ≡ length xs

@@ -54,30 +54,30 @@ use Rattle.run_tracks.specs.Stops.{IsKept, IsMended}
 use Rattle.agent_run.specs.DialedTold.{DialsTold}
 use Rattle.agent_run.specs.DrainedTold.{DrainedTold}
 use Rattle.run_settling.specs.Draining.{IsDrainedAt}
-use Rattle.agent_run.specs.Ends.{IsSinkEnded}
+use Rattle.run_working.specs.Ends.{IsSinkEnded}
 use Rattle.agent_run.specs.FoldersTold.{FoldersAreApart, FoldersRan, FoldersTold}
-use Rattle.agent_run.specs.Histories.{IsSinkTold}
+use Rattle.run_working.specs.Histories.{IsSinkTold}
 use Rattle.agent_run.specs.Joined.{HaveReturned}
-use Rattle.agent_run.specs.Lists.{NamesOf}
+use Rattle.run_opening.specs.Lists.{NamesOf}
 use Rattle.agent_run.specs.MembersTold.{MembersTold}
-use Rattle.agent_run.specs.Prepared.{uses_of}
+use Rattle.run_opening.specs.Prepared.{uses_of}
 use Rattle.agent_run.specs.Run.{IsGivenBack}
 use Rattle.agent_run.specs.RunLeft.{RunLeft}
-use Rattle.agent_run.specs.Runs.{Runs}
+use Rattle.run_working.specs.Runs.{Runs}
 use Rattle.run_settling.specs.Settling.{AreSettled}
-use Rattle.agent_run.specs.Staff.{IsSinkOf}
+use Rattle.run_opening.specs.Staff.{IsSinkOf}
 use Rattle.agent_run.specs.Through.{PlanRan, RanThrough}
-use Rattle.agent_run.specs.Wholes.{AreBeside, IsSinkWhole}
-use Rattle.agent_run.specs.Wishes.{AreWishes}
+use Rattle.run_working.specs.Wholes.{AreBeside, IsSinkWhole}
+use Rattle.run_opening.specs.Wishes.{AreWishes}
 use Rattle.run_settling.specs.declared.at_home.AtHome.{AtHome}
 use Rattle.agent_run.specs.declared.joined.Joined.{Joined}
-use Rattle.agent_run.specs.declared.opening.Manned.{Manned}
-use Rattle.agent_run.specs.declared.outcome.ChannelEnd.{ChannelEnd}
-use Rattle.agent_run.specs.declared.outside.Outside.{Outside}
-use Rattle.agent_run.specs.declared.prepare.Prepared.{Prepared}
+use Rattle.run_opening.specs.declared.opening.Manned.{Manned}
+use Rattle.run_opening.specs.declared.channel_end.ChannelEnd.{ChannelEnd}
+use Rattle.run_opening.specs.declared.outside.Outside.{Outside}
+use Rattle.run_opening.specs.declared.preparing.Prepared.{Prepared}
 use Rattle.run_settling.specs.declared.settling.Settled.{Settled}
-use Rattle.agent_run.specs.declared.workers.Returned.{Returned}
-use Rattle.agent_run.specs.declared.workers.Workers.{Workers}
+use Rattle.run_working.specs.declared.workers.Returned.{Returned}
+use Rattle.run_working.specs.declared.workers.Workers.{Workers}
 use Rattle.agent_run.proofs.Asking.{AsksOnLinks, ClosesSo, dialed_told}
 use Rattle.agent_run.proofs.Boxing.{HandsOn, boxed_told}
 use Rattle.run_settling.proofs.Chaining.{drained_ends}
@@ -93,7 +93,7 @@ use Rattle.agent_run.proofs.Rolling.{WritesRolled, rolled_told}
 use Rattle.agent_run.proofs.Sharing.{rows_shared}
 use Rattle.agent_run.proofs.WellEnded.{IsWell, was_reported, were_mended}
 use Rattle.agent_run.proofs.Worked.{opened_rolls}
-use Rattle.agent_run.proofs.Zipping.{zips_map, zips_then}
+use Rattle.run_working.proofs.Zipping.{zips_map, zips_then}
 
 -- ---- the channels of sinks
 

@@ -27,8 +27,8 @@ use Rattle.agent_outside.specs.Ends.{places_by}
 use Rattle.agent_drafts.specs.Drafts.{AreDrafts, AreRules, IsDraftAt, inputs_by, inputs_of}
 use Rattle.agent_drafts.specs.declared.draft.SourceDraft.{SourceDraft}
 use Rattle.agent_run.specs.Causes.{limit_of, line_limit}
-use Rattle.agent_run.specs.Prepared.{IsPlanned}
-use Rattle.agent_run.specs.declared.seats.Seat.{Seat}
+use Rattle.run_opening.specs.Prepared.{IsPlanned}
+use Rattle.run_opening.specs.declared.seats.Seat.{Seat}
 use Rattle.agent_run.proofs.Apart.{Whole, both_whole, clashes_back, each_back, plan_clear}
 use Rattle.agent_run.proofs.Course.{there}
 use Rattle.agent_run.proofs.Reasons.{OneSeat, most_of}

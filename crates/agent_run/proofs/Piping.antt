@@ -6,7 +6,7 @@ use Rattle.agent_channels.specs.Openings.{HostTold}
 use Rattle.agent_commands.specs.Stored.{IsUnopened}
 use Rattle.agent_commands.proofs.Outcomes.{early, untouched}
 use Rattle.agent_run.specs.PipeRan.{PipeRan}
-use Rattle.agent_run.specs.declared.outcome.ChannelEnd.{ChannelEnd}
+use Rattle.run_opening.specs.declared.channel_end.ChannelEnd.{ChannelEnd}
 
 -- there was no memory, and nothing was touched
 pub not_piped : (dir : List ℕ) (status : ℕ) (channels : List ChannelEnd) (a b : HostTold) → channels ≡ [] → status ≡ 5 → b.state ≡ a.state → b.folders ≡ a.folders → PipeRan dir status channels a b

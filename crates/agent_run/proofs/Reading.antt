@@ -26,17 +26,17 @@ use Rattle.agent_end.specs.declared.ends.InputEnd.{InputEnd}
 use Rattle.agent_end.specs.declared.ends.InputEnd.TheVariants as input
 use Rattle.agent_run.specs.Causes.{IsTaken}
 use Rattle.agent_run.specs.Dialogue.{IsDialogue}
-use Rattle.agent_run.specs.Ends.{IsLineEnded}
-use Rattle.agent_run.specs.Histories.{IsLineTold}
+use Rattle.run_working.specs.Ends.{IsLineEnded}
+use Rattle.run_working.specs.Histories.{IsLineTold}
 use Rattle.agent_run.specs.Joined.{HaveReturned}
-use Rattle.agent_run.specs.Runs.{Runs}
-use Rattle.agent_run.specs.Staff.{own_talk}
-use Rattle.agent_run.specs.Streams.{AreTaken, DrainKept, DrainTaken, InTurn, IsButTaken, TalkKept, TalkTaken, end_of_draining, end_of_session, ended_of, output_failed}
-use Rattle.agent_run.specs.declared.homes.LineEnded.{LineEnded}
-use Rattle.agent_run.specs.declared.streams.StreamsEnded.{StreamsEnded}
-use Rattle.agent_run.specs.declared.workers.Returned.{Returned}
-use Rattle.agent_run.specs.declared.workers.Workers.{Workers}
-use Rattle.agent_run.proofs.Streaming.{turn_chain}
+use Rattle.run_working.specs.Runs.{Runs}
+use Rattle.run_opening.specs.Staff.{own_talk}
+use Rattle.run_opening.specs.Streams.{AreTaken, DrainKept, DrainTaken, InTurn, IsButTaken, TalkKept, TalkTaken, end_of_draining, end_of_session, ended_of, output_failed}
+use Rattle.run_working.specs.declared.homes.LineEnded.{LineEnded}
+use Rattle.run_opening.specs.declared.streams.StreamsEnded.{StreamsEnded}
+use Rattle.run_working.specs.declared.workers.Returned.{Returned}
+use Rattle.run_working.specs.declared.workers.Workers.{Workers}
+use Rattle.run_opening.proofs.Streaming.{turn_chain}
 use Rattle.agent_run.proofs.Talking.{lines_are_answered, one_step, only_one}
 
 -- a count did not fall below its last value

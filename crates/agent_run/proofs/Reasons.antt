@@ -37,17 +37,17 @@ use Rattle.agent_end.specs.declared.ends.RunEnds.{RunEnds}
 use Rattle.agent_run.specs.Causes.{CausesTold, IsCutBy, IsReadable, IsTaken, IsSpent, SomeInFolder, SomeIsLeft, line_limit}
 use Rattle.run_settling.specs.Draining.{IsDrainedAt}
 use Rattle.agent_run.specs.Errors.{IsRunStatus}
-use Rattle.agent_run.specs.Prepared.{uses_of}
+use Rattle.run_opening.specs.Prepared.{uses_of}
 use Rattle.agent_run.specs.RunDid.{Steps, passes_of}
-use Rattle.agent_run.specs.Runs.{Runs}
-use Rattle.agent_run.specs.Staff.{IsLineOf}
-use Rattle.agent_run.specs.declared.opening.Manned.{Manned}
-use Rattle.agent_run.specs.declared.outcome.ChannelEnd.{ChannelEnd}
-use Rattle.agent_run.specs.declared.outside.Outside.{Outside}
-use Rattle.agent_run.specs.declared.prepare.Prepared.{Prepared}
-use Rattle.agent_run.specs.declared.seats.Seat.{Seat}
+use Rattle.run_working.specs.Runs.{Runs}
+use Rattle.run_opening.specs.Staff.{IsLineOf}
+use Rattle.run_opening.specs.declared.opening.Manned.{Manned}
+use Rattle.run_opening.specs.declared.channel_end.ChannelEnd.{ChannelEnd}
+use Rattle.run_opening.specs.declared.outside.Outside.{Outside}
+use Rattle.run_opening.specs.declared.preparing.Prepared.{Prepared}
+use Rattle.run_opening.specs.declared.seats.Seat.{Seat}
 use Rattle.run_settling.specs.declared.settling.Settled.{Settled}
-use Rattle.agent_run.specs.declared.streams.StreamsEnded.{StreamsEnded}
+use Rattle.run_opening.specs.declared.streams.StreamsEnded.{StreamsEnded}
 use Rattle.agent_run.proofs.Caused.{SomeMend, by_fault, by_full, by_long, by_mend, disk_fault, is_status, mend_first}
 use Rattle.agent_run.proofs.Causing.{FoldersAre, folders_are, in_some, left_some, some_left}
 use Rattle.agent_run.proofs.Comeback.{opened_state}

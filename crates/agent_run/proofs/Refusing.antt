@@ -26,8 +26,8 @@ use Rattle.agent_run.specs.Errors.{IsCauseError}
 use Rattle.agent_commands.specs.Checked.{Lacking}
 use Rattle.agent_run.specs.NotBegun.{AreWanted, ChannelNotOpened, IsCauseStatus, IsRefusedOutside, IsRunRefused, LeavesHost, NoPlan, NotPrepared, OutsideNotOpened}
 use Rattle.agent_outside.specs.Dials.{FailsBy}
-use Rattle.agent_run.specs.Outside.{OutsideRefused}
-use Rattle.agent_run.specs.Prepared.{IsUnprepared, error_of}
+use Rattle.run_opening.specs.Outside.{OutsideRefused}
+use Rattle.run_opening.specs.Prepared.{IsUnprepared, error_of}
 use Rattle.agent_run.proofs.Comeback.{come_back, come_states}
 
 -- ---- which step it was
@@ -338,13 +338,6 @@ refused_host plan status a b (inr (inl not)) = channel_host plan status a b not
 refused_host plan status a b (inr (inr not)) = outside_host plan status a b not
 
 -- ---- a run that was not prepared
-
--- no memory, where nothing changed
-pub unprepared : (old new : HostState) → new ≡ old → (error : RunError) → error ≡ errors.NoMemory → IsUnprepared error old new
-unprepared old new same error is = record {
-  why = inr (is, ap (λ (s : HostState). s.faults) same);
-  state = same ∙ ap (λ (n : ℕ). record old { faults = n }) (sym (ap (λ (s : HostState). s.faults) same));
-}
 
 -- as the run says it
 pub unprepared_run : (plan : Plan) (said error : RunError) (a b : HostTold) (mid : HostState) → said ≡ error → mid ≡ a.state → b.folders ≡ a.folders → IsUnprepared error mid b.state

@@ -15,9 +15,9 @@ use Rattle.file_channel.specs.Stands.{FileState}
 use Rattle.shared_channel.specs.Passes.{Known}
 use Rattle.sink_worker.specs.declared.worker.SinkWorker.{SinkWorker}
 use Rattle.two_channels.specs.Shares.{pass_of}
-use Rattle.agent_run.specs.Lists.{NamesOf}
+use Rattle.run_opening.specs.Lists.{NamesOf}
 use Rattle.agent_run.specs.ReportTold.{ReportTold, counts_seen}
-use Rattle.agent_run.specs.Streams.{IsReported}
+use Rattle.run_opening.specs.Streams.{IsReported}
 use Rattle.run_settling.specs.declared.at_home.AtHome.{AtHome}
 use Rattle.agent_run.proofs.Course.{Course, Stands, counted_many, mended_many, names_are_many, tells_of, there}
 use Rattle.agent_run.proofs.Left.{at_rest, finals_are}

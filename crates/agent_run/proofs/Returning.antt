@@ -16,7 +16,7 @@ use Rattle.agent_end.specs.declared.ends.ReportRefused.TheVariants as report
 use Rattle.agent_sinks.specs.declared.sink.AgentSink.{AgentSink}
 use Rattle.avro_ends.specs.Dialing.{DialTold}
 use Rattle.agent_run.specs.Run.{IsGivenBack}
-use Rattle.agent_run.specs.Streams.{IsReported}
+use Rattle.run_opening.specs.Streams.{IsReported}
 use Rattle.run_settling.specs.declared.settling.Settled.{Settled}
 use Rattle.agent_run.proofs.Reading.{NoLess}
 use Rattle.agent_run.proofs.Reasons.{GoesBack}

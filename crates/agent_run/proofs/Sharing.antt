@@ -13,7 +13,7 @@ use Rattle.grouped_sinks.specs.Runners.{members_of}
 use Rattle.grouped_sinks.specs.Splits.{AllHanded, Handed, RunnersSplit, WasHanded, batches_of, ok_batches, taken_at}
 use Rattle.grouped_sinks.specs.declared.runner.Runner.{Runner}
 use Rattle.agent_run.specs.RolledTold.{CountsMore, calls_of, committed, seen_of}
-use Rattle.agent_run.specs.Wholes.{AreBeside, IsSinkWhole}
+use Rattle.run_working.specs.Wholes.{AreBeside, IsSinkWhole}
 use Rattle.agent_run.proofs.Handing.{WasTakenBehind}
 use Rattle.agent_run.proofs.Growing.{whole_hands}
 

@@ -42,22 +42,22 @@ use Rattle.agent_end.specs.Statuses.{run_status}
 use Rattle.agent_end.specs.declared.ends.RunEnds.{RunEnds}
 use Rattle.sound_lines.specs.Sound.{AreSound}
 use Rattle.agent_run.specs.Dialogue.{IsDialogue}
-use Rattle.agent_run.specs.Ends.{AreLinePorts}
+use Rattle.run_working.specs.Ends.{AreLinePorts}
 use Rattle.agent_run.specs.Finals.{AreToldInFull, finals_of}
-use Rattle.agent_run.specs.Labels.{label_of, users_of}
-use Rattle.agent_run.specs.Prepared.{IsPlanned}
+use Rattle.run_opening.specs.Labels.{label_of, users_of}
+use Rattle.run_opening.specs.Prepared.{IsPlanned}
 use Rattle.agent_run.specs.Run.{IsGivenBack}
 use Rattle.agent_run.specs.RunDid.{RunDid, passes_of}
-use Rattle.agent_run.specs.Runs.{Runs}
+use Rattle.run_working.specs.Runs.{Runs}
 use Rattle.agent_run.specs.SoundRun.{AreUndisturbed, DialoguesAreSound, IsSoundRun, IsUndisturbedRun, IsWellRun, NothingFailed}
-use Rattle.agent_run.specs.declared.opening.Manned.{Manned}
-use Rattle.agent_run.specs.declared.outcome.ChannelEnd.{ChannelEnd}
-use Rattle.agent_run.specs.declared.outside.Outside.{Outside}
-use Rattle.agent_run.specs.declared.prepare.Prepared.{Prepared}
+use Rattle.run_opening.specs.declared.opening.Manned.{Manned}
+use Rattle.run_opening.specs.declared.channel_end.ChannelEnd.{ChannelEnd}
+use Rattle.run_opening.specs.declared.outside.Outside.{Outside}
+use Rattle.run_opening.specs.declared.preparing.Prepared.{Prepared}
 use Rattle.agent_run.proofs.Comeback.{opened_state}
 use Rattle.agent_run.proofs.Course.{there}
-use Rattle.agent_run.proofs.Labelling.{labels_many}
-use Rattle.agent_run.proofs.Putting.{wishes_some}
+use Rattle.run_opening.proofs.Labelling.{labels_many}
+use Rattle.run_opening.proofs.Putting.{wishes_some}
 
 -- a worker's channels are among the shared ones
 places_below : {S : Type 0} (table : S → TableId) (shares : List S) (places : List ℕ) (passes : List Known) → Zips (λ place p. IsAt table shares place p) places passes → AllByRecursion (λ (place : ℕ). place < length shares) places

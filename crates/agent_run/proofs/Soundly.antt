@@ -21,7 +21,7 @@ use Rattle.sound_lines.specs.Laws.{LinesAreSound}
 use Rattle.sound_lines.specs.Sound.{AreCalled, AreSound, HasEnded, IsCalm}
 use Rattle.sound_lines.proofs.Lines.{mended_called}
 use Rattle.sound_lines.proofs.Linked.{rounds_sound}
-use Rattle.agent_run.specs.Histories.{IsDiskOf, MendedOver}
+use Rattle.run_working.specs.Histories.{IsDiskOf, MendedOver}
 use Rattle.agent_run.specs.SoundRun.{AreUndisturbed, DialoguesAreSound, ListenersAreSound}
 
 module _ {A B K : Type 0} (shares : List (EitherShared A B)) (channels : List ℕ) (share : EitherShared A B) (Takes : Into Track K → List ℕ → Verdict → Into Track K → Type 0) where

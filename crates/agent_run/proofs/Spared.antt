@@ -19,7 +19,7 @@ use Rattle.agent_outside.specs.Backs.{is_among}
 use Rattle.agent_outside.specs.Sinks.{folder_of, folders_of}
 use Rattle.agent_run.specs.FoldersTold.{FoldersAreApart, folder_of as channel_folder}
 use Rattle.agent_run.specs.NotBegun.{ChannelNotOpened, FolderIsCause, IsCauseStatus, IsNoFolder, IsRollSpared, IsRunRefused, IsSameDisk, LeavesFolders, OutsideNotOpened}
-use Rattle.agent_run.specs.Wishes.{AreWishes}
+use Rattle.run_opening.specs.Wishes.{AreWishes}
 use Rattle.agent_run.proofs.Began.{IsPlacedIn}
 use Rattle.agent_run.proofs.Comeback.{AreElse, come_else, come_rolls, disk_then, front_else, refused_else, refused_rolls, wish_there}
 use Rattle.agent_run.proofs.Course.{there}

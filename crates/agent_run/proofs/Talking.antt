@@ -26,13 +26,13 @@ use Rattle.run_tracks.specs.Listening.{home_tracks}
 use Rattle.run_tracks.specs.Places.{Zips}
 use Rattle.run_tracks.specs.Tracks.{Gave, ended}
 use Rattle.agent_run.specs.Dialogue.{EndsAtEnd, EndsWell, IsDialogue, LinesAreAnswered, RanUnlessNoMemory}
-use Rattle.agent_run.specs.Ends.{IsLineEnded}
-use Rattle.agent_run.specs.Histories.{IsLineTold, MendedOver}
-use Rattle.agent_run.specs.Runs.{Runs}
-use Rattle.agent_run.specs.Staff.{own_talk}
-use Rattle.agent_run.specs.Streams.{DrainKept, DrainTaken, InTurn, TalkKept, TalkTaken, drain_ended, end_of_draining, end_of_session, ended_of, last_or, output_failed, talk_ended, unread}
-use Rattle.agent_run.specs.declared.homes.LineEnded.{LineEnded}
-use Rattle.agent_run.specs.declared.streams.StreamsEnded.{StreamsEnded}
+use Rattle.run_working.specs.Ends.{IsLineEnded}
+use Rattle.run_working.specs.Histories.{IsLineTold, MendedOver}
+use Rattle.run_working.specs.Runs.{Runs}
+use Rattle.run_opening.specs.Staff.{own_talk}
+use Rattle.run_opening.specs.Streams.{DrainKept, DrainTaken, InTurn, TalkKept, TalkTaken, drain_ended, end_of_draining, end_of_session, ended_of, last_or, output_failed, talk_ended, unread}
+use Rattle.run_working.specs.declared.homes.LineEnded.{LineEnded}
+use Rattle.run_opening.specs.declared.streams.StreamsEnded.{StreamsEnded}
 
 -- what ended the reading, by the end of a session
 abbrev streams_of : Option SessionEnd → StreamsEnded

@@ -34,11 +34,11 @@ use Rattle.run_tracks.specs.Listening.{MendedEach, MendedInto, MendedPort, home_
 use Rattle.run_tracks.specs.Places.{Zips}
 use Rattle.run_tracks.specs.Tracks.{Calls, Gave, Stood, Track, ended, track_of}
 use Rattle.run_tracks.proofs.Staying.{into_same, line_stays, rounds_stay, stay_then}
-use Rattle.agent_run.specs.Histories.{Checked, IsDiskOf, IsKeepTold, IsLineTold, IsListenTold, Pruned}
-use Rattle.agent_run.specs.Runs.{owners_at}
-use Rattle.agent_run.specs.declared.homes.LineEnded.{LineEnded}
+use Rattle.run_working.specs.Histories.{Checked, IsDiskOf, IsKeepTold, IsLineTold, IsListenTold, Pruned}
+use Rattle.run_working.specs.Runs.{owners_at}
+use Rattle.run_working.specs.declared.homes.LineEnded.{LineEnded}
 use Rattle.agent_run.proofs.Ended.{batch_ends, check_ends, ends_then, mend_ends, prune_ends}
-use Rattle.agent_run.proofs.Owners.{keep_owners}
+use Rattle.run_working.proofs.Owners.{keep_owners}
 use Rattle.agent_run.proofs.Staged.{EachEnds, EndsOf}
 
 -- its next calls are these, and each of their stages was settled or flushed

@@ -50,19 +50,19 @@ use Rattle.sound_lines.proofs.Unbroken.{memory_breaks_none, never_broken}
 use Rattle.sound_lines.proofs.Views.{IsFairIn}
 use Rattle.run_settling.specs.Draining.{HasOwn, IsDrainedAt, IsSinkHome}
 use Rattle.agent_run.specs.Finals.{AreToldInFull, finals_of}
-use Rattle.agent_run.specs.Opening.{IsManned}
-use Rattle.agent_run.specs.Runs.{owners_of}
+use Rattle.run_opening.specs.Opening.{IsManned}
+use Rattle.run_working.specs.Runs.{owners_of}
 use Rattle.run_settling.specs.Settling.{AreSettled}
 use Rattle.agent_run.specs.SoundRun.{AreUndisturbed, NothingFailed}
 use Rattle.run_settling.specs.declared.at_home.AtHome.{AtHome}
 use Rattle.agent_run.specs.declared.joined.Joined.{Joined}
-use Rattle.agent_run.specs.declared.opening.Manned.{Manned}
-use Rattle.agent_run.specs.declared.opening.Opening.{Opening as Opened}
+use Rattle.run_opening.specs.declared.opening.Manned.{Manned}
+use Rattle.run_opening.specs.declared.opening.Opening.{Opening as Opened}
 use Rattle.run_settling.specs.declared.settling.Settled.{Settled}
-use Rattle.agent_run.specs.declared.workers.Returned.{Returned}
+use Rattle.run_working.specs.declared.workers.Returned.{Returned}
 use Rattle.agent_run.proofs.Began.{fresh_base}
 use Rattle.agent_run.proofs.Fairly.{IsFairOwner, owners_fair}
-use Rattle.agent_run.proofs.Fresh.{are_fresh, fresh_at, fresh_many}
+use Rattle.run_opening.proofs.Fresh.{are_fresh, fresh_at, fresh_many}
 use Rattle.agent_run.proofs.Homely.{IsFairPass, counted_all, drained_all, kept_all, mended_all, took_pass}
 use Rattle.agent_run.proofs.Left.{at_rest, closed_at, closed_long, disk_left, finals_are, left_below, left_run}
 

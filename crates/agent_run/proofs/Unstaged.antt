@@ -33,24 +33,24 @@ use Rattle.run_tracks.specs.Places.{Zips}
 use Rattle.run_tracks.specs.Stops.{IsKept, IsMended, KeptIf}
 use Rattle.run_tracks.specs.Told.{IsNew}
 use Rattle.run_tracks.specs.Tracks.{Stood}
-use Rattle.agent_run.specs.Alone.{IsAway}
+use Rattle.run_working.specs.Alone.{IsAway}
 use Rattle.run_settling.specs.Draining.{EachGoesOn, IsDrainedAt}
 use Rattle.agent_run.specs.Finals.{finals_of}
-use Rattle.agent_run.specs.Histories.{IsSinkTold}
+use Rattle.run_working.specs.Histories.{IsSinkTold}
 use Rattle.agent_run.specs.RolledTold.{CountsMore}
 use Rattle.run_settling.specs.Settling.{AreSettled}
-use Rattle.agent_run.specs.Wholes.{AreBeside, IsNot, IsSilent, IsSinkWhole}
+use Rattle.run_working.specs.Wholes.{AreBeside, IsNot, IsSilent, IsSinkWhole}
 use Rattle.run_settling.specs.declared.at_home.AtHome.{AtHome}
 use Rattle.run_settling.specs.declared.settling.Settled.{Settled}
 use Rattle.agent_run.proofs.Course.{there}
 use Rattle.agent_run.proofs.Ended.{Plain, ends_plain}
 use Rattle.agent_run.proofs.Left.{at_rest, closed_at, closed_long, finals_are, left_below}
-use Rattle.agent_run.proofs.Owners.{sink_owners}
+use Rattle.run_working.proofs.Owners.{sink_owners}
 use Rattle.agent_run.proofs.Growing.{whole_tidied}
-use Rattle.agent_run.proofs.Silence.{drains_silent, silent_own}
+use Rattle.run_working.proofs.Silence.{drains_silent, silent_own}
 use Rattle.agent_run.proofs.Staged.{EachEnds, EndsOf, nothing_staged, ticket_of, track_in}
 use Rattle.agent_run.proofs.Tidying.{EndsAt, whole_tidy}
-use Rattle.agent_run.proofs.Unrun.{none_called}
+use Rattle.run_working.proofs.Unrun.{none_called}
 
 -- ---- workers
 

@@ -29,31 +29,31 @@ use Rattle.agent_channels.specs.declared.wish.ChannelWish.{ChannelWish}
 use Rattle.agent_end.specs.Statuses.{run_status}
 use Rattle.agent_end.specs.declared.ends.ReportRefused.{ReportRefused}
 use Rattle.agent_end.specs.declared.ends.RunEnds.{RunEnds}
-use Rattle.agent_run.specs.Alone.{IsAway}
+use Rattle.run_working.specs.Alone.{IsAway}
 use Rattle.agent_run.specs.Causes.{CausesTold}
 use Rattle.agent_run.specs.Dialogue.{EndsWell}
 use Rattle.agent_run.specs.Finals.{AreToldInFull, RunsAreTold, finals_of}
-use Rattle.agent_run.specs.Histories.{IsSinkTold}
+use Rattle.run_working.specs.Histories.{IsSinkTold}
 use Rattle.agent_run.specs.Joined.{AreTold}
-use Rattle.agent_run.specs.Labels.{AreLabels, users_of}
-use Rattle.agent_run.specs.Runs.{Runs, owners_of}
+use Rattle.run_opening.specs.Labels.{AreLabels, users_of}
+use Rattle.run_working.specs.Runs.{Runs, owners_of}
 use Rattle.agent_run.specs.StagedTold.{StagedTold}
-use Rattle.agent_run.specs.Wholes.{AreBeside, IsSinkWhole, LinesStayTold}
+use Rattle.run_working.specs.Wholes.{AreBeside, IsSinkWhole, LinesStayTold}
 use Rattle.agent_run.specs.RunDid.{RunDid, Steps, passes_of}
 use Rattle.agent_run.specs.MembersTold.{MembersTold}
 use Rattle.agent_run.specs.FoldersTold.{FoldersRan}
 use Rattle.agent_run.specs.RunLeft.{RunLeft}
 use Rattle.run_settling.specs.declared.at_home.AtHome.{AtHome}
-use Rattle.agent_run.specs.declared.opening.Manned.{Manned}
-use Rattle.agent_run.specs.declared.outcome.ChannelEnd.{ChannelEnd}
-use Rattle.agent_run.specs.declared.outside.Outside.{Outside}
-use Rattle.agent_run.specs.declared.prepare.Prepared.{Prepared}
+use Rattle.run_opening.specs.declared.opening.Manned.{Manned}
+use Rattle.run_opening.specs.declared.channel_end.ChannelEnd.{ChannelEnd}
+use Rattle.run_opening.specs.declared.outside.Outside.{Outside}
+use Rattle.run_opening.specs.declared.preparing.Prepared.{Prepared}
 use Rattle.run_settling.specs.declared.settling.Settled.{Settled}
-use Rattle.agent_run.specs.declared.streams.StreamsEnded.{StreamsEnded}
+use Rattle.run_opening.specs.declared.streams.StreamsEnded.{StreamsEnded}
 use Rattle.agent_run.proofs.Comeback.{opened_state}
 use Rattle.agent_run.proofs.Course.{there}
-use Rattle.agent_run.proofs.Fresh.{are_fresh, fresh_at, fresh_many}
-use Rattle.agent_run.proofs.Owners.{all_split, keep_owners, sink_owners}
+use Rattle.run_opening.proofs.Fresh.{are_fresh, fresh_at, fresh_many}
+use Rattle.run_working.proofs.Owners.{all_split, keep_owners, sink_owners}
 use Rattle.agent_run.proofs.Tidying.{keeps_tidy, lines_tidy, listens_tidy, owned_both}
 use Rattle.agent_run.proofs.Unstaged.{sinks_tidy, staged_none}
 

@@ -17,19 +17,19 @@ use Rattle.run_tracks.specs.Homes.{EachTook}
 use Rattle.run_tracks.specs.Places.{Zips}
 use Rattle.run_tracks.specs.Stops.{IsKept, IsMended}
 use Rattle.run_settling.specs.Draining.{EachGoesOn, IsDrainedAt, IsSinkHome}
-use Rattle.agent_run.specs.Ends.{IsLineEnded}
-use Rattle.agent_run.specs.Histories.{IsKeepTold, IsLineTold, IsListenTold}
+use Rattle.run_working.specs.Ends.{IsLineEnded}
+use Rattle.run_working.specs.Histories.{IsKeepTold, IsLineTold, IsListenTold}
 use Rattle.agent_run.specs.Joined.{HaveReturned}
-use Rattle.agent_run.specs.Opening.{IsManned}
-use Rattle.agent_run.specs.Runs.{Runs}
+use Rattle.run_opening.specs.Opening.{IsManned}
+use Rattle.run_working.specs.Runs.{Runs}
 use Rattle.run_settling.specs.Settling.{AreSettled}
-use Rattle.agent_run.specs.Wholes.{AreBeside, AreSilentAt, IsSinkWhole}
+use Rattle.run_working.specs.Wholes.{AreBeside, AreSilentAt, IsSinkWhole}
 use Rattle.agent_run.specs.declared.joined.Joined.{Joined}
-use Rattle.agent_run.specs.declared.opening.Manned.{Manned}
-use Rattle.agent_run.specs.declared.opening.Opening.{Opening as Opened}
+use Rattle.run_opening.specs.declared.opening.Manned.{Manned}
+use Rattle.run_opening.specs.declared.opening.Opening.{Opening as Opened}
 use Rattle.run_settling.specs.declared.settling.Settled.{Settled}
-use Rattle.agent_run.specs.declared.workers.Returned.{Returned}
-use Rattle.agent_run.specs.declared.workers.Workers.{Workers}
+use Rattle.run_working.specs.declared.workers.Returned.{Returned}
+use Rattle.run_working.specs.declared.workers.Workers.{Workers}
 
 -- the passes that came back of the channels when these were closed
 abbrev pub finals_of : {S A B : Type 0} → Settled S A B → List Known

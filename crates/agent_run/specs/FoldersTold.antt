@@ -16,7 +16,7 @@ use Rattle.channel_writing.specs.Touches.{Rests}
 use Rattle.shared_channel.specs.Calls.{state_seen}
 use Rattle.shared_channel.specs.Passes.{Known}
 use Rattle.agent_channels.specs.Openings.{BeginsOnDisk}
-use Rattle.agent_run.specs.Keepers.{closes}
+use Rattle.run_opening.specs.Keepers.{closes}
 use Rattle.agent_run.specs.RolledTold.{CountsMore}
 
 -- the folder of a channel, if it is in one

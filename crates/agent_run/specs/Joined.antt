@@ -12,13 +12,13 @@ use Rattle.source_worker.specs.declared.worker.ListenWorker.{ListenWorker}
 use Rattle.line_worker.specs.Workers.{Talk}
 use Rattle.two_channels.specs.declared.port.EitherPort.{EitherPort}
 use Rattle.two_channels.specs.declared.shared.EitherShared.{EitherShared}
-use Rattle.agent_run.specs.Histories.{IsLineTold, IsListenTold, IsSinkTold}
-use Rattle.agent_run.specs.Runs.{AreEnded, HaveRun, Runs}
-use Rattle.agent_run.specs.Streams.{InTurn, ended_of}
-use Rattle.agent_run.specs.declared.homes.LineEnded.{LineEnded}
+use Rattle.run_working.specs.Histories.{IsLineTold, IsListenTold, IsSinkTold}
+use Rattle.run_working.specs.Runs.{AreEnded, HaveRun, Runs}
+use Rattle.run_opening.specs.Streams.{InTurn, ended_of}
+use Rattle.run_working.specs.declared.homes.LineEnded.{LineEnded}
 use Rattle.agent_run.specs.declared.joined.Joined.{Joined}
-use Rattle.agent_run.specs.declared.workers.Returned.{Returned}
-use Rattle.agent_run.specs.declared.workers.Workers.{Workers}
+use Rattle.run_working.specs.declared.workers.Returned.{Returned}
+use Rattle.run_working.specs.declared.workers.Workers.{Workers}
 
 -- nothing of the host has changed but its input and output, its listeners and its count of faults
 abbrev pub IsButStreams : HostState → HostState → Type 0

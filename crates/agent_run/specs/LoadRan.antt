@@ -4,7 +4,7 @@ use Rattle.shared_channel.specs.Passes.{Known}
 use Rattle.agent_channels.specs.Openings.{HostTold}
 use Rattle.agent_commands.specs.Loads.{Loaded}
 use Rattle.agent_run.specs.PipeRan.{IsChannelOf}
-use Rattle.agent_run.specs.declared.outcome.ChannelEnd.{ChannelEnd}
+use Rattle.run_opening.specs.declared.channel_end.ChannelEnd.{ChannelEnd}
 
 -- `load` of n events on the folder of this name ended with this status and these channels.
 pub record LoadRan (n : ℕ) (dir : List ℕ) (status : ℕ) (channels : List ChannelEnd) (old new : HostTold) : Type 0 where

@@ -22,10 +22,10 @@ use Rattle.agent_commands.specs.Checked.{IsPlanOf, Lacking, Unplanned}
 use Rattle.agent_commands.specs.Piped.{cause_status}
 use Rattle.agent_commands.specs.Stored.{IsOfFolder}
 use Rattle.agent_run.specs.FoldersTold.{folder_of}
-use Rattle.agent_run.specs.Outside.{OutsideRefused}
-use Rattle.agent_run.specs.Prepared.{error_of}
-use Rattle.agent_run.specs.Wishes.{AreWishes}
-use Rattle.agent_run.specs.declared.outcome.ChannelEnd.{ChannelEnd}
+use Rattle.run_opening.specs.Outside.{OutsideRefused}
+use Rattle.run_opening.specs.Prepared.{error_of}
+use Rattle.run_opening.specs.Wishes.{AreWishes}
+use Rattle.run_opening.specs.declared.channel_end.ChannelEnd.{ChannelEnd}
 
 -- ---- which step refused, and why
 

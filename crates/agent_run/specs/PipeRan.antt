@@ -3,7 +3,7 @@ use Rattle.std.specs.Prelude.{◌≡◌, ℕ, List, [], ◌∷◌, Option, Some,
 use Rattle.shared_channel.specs.Passes.{Known}
 use Rattle.agent_channels.specs.Openings.{HostTold}
 use Rattle.agent_commands.specs.Piped.{Piped}
-use Rattle.agent_run.specs.declared.outcome.ChannelEnd.{ChannelEnd}
+use Rattle.run_opening.specs.declared.channel_end.ChannelEnd.{ChannelEnd}
 
 -- the folder's channel with this pass, where there is one, and no worker
 abbrev pub IsChannelOf : List ℕ → Option Known → List ChannelEnd → Type 0

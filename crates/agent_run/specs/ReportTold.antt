@@ -8,7 +8,7 @@ use Rattle.channel_face.specs.Counters.{counts_of}
 use Rattle.channel_face.specs.declared.replies.Counts.{Counts}
 use Rattle.agent_words.specs.Report.{report_text}
 use Rattle.shared_channel.specs.Passes.{Known}
-use Rattle.agent_run.specs.Lists.{NamesOf}
+use Rattle.run_opening.specs.Lists.{NamesOf}
 
 -- what is counted of all calls that this pass has seen
 abbrev pub counts_seen : Known → Counts

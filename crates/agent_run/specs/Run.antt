@@ -27,8 +27,8 @@ use Rattle.two_channels.specs.declared.shared.EitherClosed.TheVariants as closed
 use Rattle.grouped_sinks.specs.Picks.{AreDealt, HaveMembers}
 use Rattle.grouped_sinks.specs.declared.row.SinkRow.{SinkRow}
 use Rattle.grouped_sinks.specs.declared.runner.Runner.{Runner}
-use Rattle.agent_run.specs.Outside.{AreFrom}
-use Rattle.agent_run.specs.Streams.{IsButOutput, IsReported}
+use Rattle.run_opening.specs.Outside.{AreFrom}
+use Rattle.run_opening.specs.Streams.{IsButOutput, IsReported}
 use Rattle.run_settling.specs.declared.settling.Settled.{Settled}
 
 -- The sources at these places listen, and each listener was handed out for the address and port of its source.

@@ -32,21 +32,21 @@ use Rattle.run_settling.specs.Draining.{IsDrainedAt}
 use Rattle.agent_run.specs.Finals.{AreToldInFull}
 use Rattle.agent_run.specs.FoldersTold.{FoldersRan}
 use Rattle.agent_run.specs.Joined.{AreTold, HaveReturned, IsJoined}
-use Rattle.agent_run.specs.Labels.{AreLabels, label_of, users_of}
+use Rattle.run_opening.specs.Labels.{AreLabels, label_of, users_of}
 use Rattle.agent_run.specs.MembersTold.{MembersTold}
 use Rattle.agent_run.specs.RunLeft.{RunLeft}
-use Rattle.agent_run.specs.Runs.{Runs}
+use Rattle.run_working.specs.Runs.{Runs}
 use Rattle.run_settling.specs.Settling.{AreSettled}
-use Rattle.agent_run.specs.Staff.{own_talk}
+use Rattle.run_opening.specs.Staff.{own_talk}
 use Rattle.agent_run.specs.StagedTold.{StagedTold}
-use Rattle.agent_run.specs.Streams.{AreTaken, DrainKept, TalkKept}
+use Rattle.run_opening.specs.Streams.{AreTaken, DrainKept, TalkKept}
 use Rattle.agent_run.specs.Through.{PlanRan, RanThrough}
 use Rattle.run_settling.specs.declared.at_home.AtHome.{AtHome}
 use Rattle.agent_run.specs.declared.joined.Joined.{Joined}
-use Rattle.agent_run.specs.declared.opening.Manned.{Manned}
-use Rattle.agent_run.specs.declared.outcome.ChannelEnd.{ChannelEnd}
-use Rattle.agent_run.specs.declared.outside.Outside.{Outside}
-use Rattle.agent_run.specs.declared.prepare.Prepared.{Prepared}
+use Rattle.run_opening.specs.declared.opening.Manned.{Manned}
+use Rattle.run_opening.specs.declared.channel_end.ChannelEnd.{ChannelEnd}
+use Rattle.run_opening.specs.declared.outside.Outside.{Outside}
+use Rattle.run_opening.specs.declared.preparing.Prepared.{Prepared}
 use Rattle.run_settling.specs.declared.settling.Settled.{Settled}
 
 -- the passes of channels after a run, each of which saw all calls of its channel

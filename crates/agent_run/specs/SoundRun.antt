@@ -40,19 +40,19 @@ use Rattle.agent_run.specs.Causes.{IsReadable, line_limit}
 use Rattle.agent_run.specs.Dialogue.{IsDialogue}
 use Rattle.run_settling.specs.Draining.{IsDrainedAt, IsSinkHome}
 use Rattle.agent_run.specs.Finals.{AreToldInFull, finals_of}
-use Rattle.agent_run.specs.Histories.{IsDiskOf, IsListenTold, MendedOver}
-use Rattle.agent_run.specs.Opening.{IsManned}
+use Rattle.run_working.specs.Histories.{IsDiskOf, IsListenTold, MendedOver}
+use Rattle.run_opening.specs.Opening.{IsManned}
 use Rattle.agent_run.specs.RunDid.{RunDid, passes_of}
-use Rattle.agent_run.specs.Runs.{Runs}
+use Rattle.run_working.specs.Runs.{Runs}
 use Rattle.run_settling.specs.Settling.{AreSettled}
 use Rattle.agent_run.specs.declared.joined.Joined.{Joined}
-use Rattle.agent_run.specs.declared.opening.Manned.{Manned}
-use Rattle.agent_run.specs.declared.opening.Opening.{Opening as Opened}
-use Rattle.agent_run.specs.declared.outcome.ChannelEnd.{ChannelEnd}
-use Rattle.agent_run.specs.declared.outside.Outside.{Outside}
-use Rattle.agent_run.specs.declared.prepare.Prepared.{Prepared}
+use Rattle.run_opening.specs.declared.opening.Manned.{Manned}
+use Rattle.run_opening.specs.declared.opening.Opening.{Opening as Opened}
+use Rattle.run_opening.specs.declared.channel_end.ChannelEnd.{ChannelEnd}
+use Rattle.run_opening.specs.declared.outside.Outside.{Outside}
+use Rattle.run_opening.specs.declared.preparing.Prepared.{Prepared}
 use Rattle.run_settling.specs.declared.settling.Settled.{Settled}
-use Rattle.agent_run.specs.declared.workers.Returned.{Returned}
+use Rattle.run_working.specs.declared.workers.Returned.{Returned}
 
 -- nothing failed in all that these passes have seen of their channels
 abbrev pub AreUndisturbed : List Known → Type 0

@@ -26,19 +26,19 @@ use Rattle.two_channels.specs.declared.shared.EitherClosed.{EitherClosed}
 use Rattle.two_channels.specs.declared.shared.EitherShared.{EitherShared}
 use Rattle.run_settling.specs.Draining.{IsSinkHome}
 use Rattle.agent_run.specs.Joined.{IsButStreams}
-use Rattle.agent_run.specs.Labels.{label_of}
-use Rattle.agent_run.specs.Lists.{NamesOf}
+use Rattle.run_opening.specs.Labels.{label_of}
+use Rattle.run_opening.specs.Lists.{NamesOf}
 use Rattle.agent_run.specs.NotBegun.{DidNotBegin, NotBegun}
-use Rattle.agent_run.specs.Opening.{IsManned}
-use Rattle.agent_run.specs.Prepared.{IsPrepared}
-use Rattle.agent_run.specs.Streams.{IsButTaken}
+use Rattle.run_opening.specs.Opening.{IsManned}
+use Rattle.run_opening.specs.Prepared.{IsPrepared}
+use Rattle.run_opening.specs.Streams.{IsButTaken}
 use Rattle.run_settling.specs.declared.at_home.AtHome.{AtHome}
 use Rattle.agent_run.specs.declared.joined.Joined.{Joined}
-use Rattle.agent_run.specs.declared.opening.Manned.{Manned}
-use Rattle.agent_run.specs.declared.opening.Opening.{Opening}
-use Rattle.agent_run.specs.declared.outcome.ChannelEnd.{ChannelEnd}
-use Rattle.agent_run.specs.declared.outside.Outside.{Outside}
-use Rattle.agent_run.specs.declared.prepare.Prepared.{Prepared}
+use Rattle.run_opening.specs.declared.opening.Manned.{Manned}
+use Rattle.run_opening.specs.declared.opening.Opening.{Opening}
+use Rattle.run_opening.specs.declared.channel_end.ChannelEnd.{ChannelEnd}
+use Rattle.run_opening.specs.declared.outside.Outside.{Outside}
+use Rattle.run_opening.specs.declared.preparing.Prepared.{Prepared}
 use Rattle.run_settling.specs.declared.settling.Settled.{Settled}
 
 -- The workers were made of what was opened and of the streams that they took, ran and came back; then each sink emptied its channel,

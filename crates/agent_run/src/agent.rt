@@ -8,12 +8,12 @@ ghost use Rattle.agent_end.specs.Statuses.{run_status};
 ghost use Rattle.agent_outside.specs.Sinks.{AreOpened};
 ghost use Rattle.agent_words.specs.Statuses.{status_of};
 ghost use Rattle.plan_objects.specs.Asks.{HaveObjects, lacking, step_asks};
-ghost use Rattle.agent_run.specs.Lists.{HasRoomFor, HasSettleRoom};
-ghost use Rattle.agent_run.specs.Opening.{CanBeManned};
+ghost use Rattle.run_opening.specs.Lists.{HasRoomFor, HasSettleRoom};
+ghost use Rattle.run_opening.specs.Opening.{CanBeManned};
 ghost use Rattle.agent_run.specs.Named.{AgentEnds};
-ghost use Rattle.agent_run.specs.Prepared.{IsPlanned, IsPrepared};
+ghost use Rattle.run_opening.specs.Prepared.{IsPlanned, IsPrepared};
 ghost use Rattle.agent_outside.specs.Listening.{IsFresh};
-ghost use Rattle.agent_run.specs.Outside.{HasRunners, IsOutside};
+ghost use Rattle.run_opening.specs.Outside.{HasRunners, IsOutside};
 ghost use Rattle.grouped_sinks.specs.Frames.{IsFrameOf};
 ghost use Rattle.grouped_sinks.specs.Rows.{AreRows, IsOrder, Zips, places_of};
 ghost use Rattle.agent_run.specs.NotBegun.{IsRefusedOutside, IsRunRefused};
@@ -21,16 +21,9 @@ ghost use Rattle.agent_run.specs.Run.{CanListenAt, IsGivenBack, MayReturn, Stand
 ghost use Rattle.agent_run.specs.Through.{AgentEndsAs, EndsAs, OpenedAndRan, WithObjects};
 ghost use Rattle.agent_run.specs.Errors.{IsBrokenCause, IsBrokenError, IsCauseError, IsRunStatus, IsSaid};
 
-use crate::assemble::Crew;
 use crate::joined::{Joined, run_crew};
-use crate::labels::add_ends;
 use crate::laws::runs_are_told;
-use crate::opening::{Manned, Opening, Room, man, room_of};
-use crate::outcome::ChannelEnd;
-use crate::outside::{Grouped, group_outside, open_outside};
-use crate::prepare::{Prepared, name_error, prepare};
 use crate::rests::channels_rest;
-use crate::streams::{StreamsEnded, report_on};
 use crate::through::{Goes, OpeningOf, RunOf, RunnerOf, Runs, SinkOf, Steps};
 use crate::told::steps_are_told;
 use agent_channels::{
@@ -55,6 +48,10 @@ use plan_laws::{
 };
 use plan_objects::{HandedIn, Objects};
 use plug_in::{EventSink, Interceptor};
+use run_opening::{
+    ChannelEnd, Crew, Grouped, Manned, Opening, Prepared, Room, StreamsEnded, add_ends,
+    group_outside, man, name_error, open_outside, prepare, report_on, room_of,
+};
 use run_settling::{Settled, settle};
 use shared_channel::Pass;
 use std::alloc::{AllocError, Global};

@@ -5,8 +5,8 @@ ghost use Rattle.line_worker.specs.Workers.{talk_of};
 ghost use Rattle.agent_run.specs.Dialogue.{EndsAtEnd, EndsWell, LinesAreAnswered, RanUnlessNoMemory};
 ghost use Rattle.run_settling.specs.Draining.{FirstHasOwn, OwnIsKept};
 ghost use Rattle.agent_run.specs.Finals.{RunsAreTold};
-ghost use Rattle.agent_run.specs.Runs.{runs};
-ghost use Rattle.agent_run.specs.Wholes.{CountsAreSilent, DrainsAreSilent, KeepersStayTold, KeepsAreSilent, LinesStayTold, ListenersStayTold, MendsAreSilent, OthersStay, SinksAreWhole};
+ghost use Rattle.run_working.specs.Runs.{runs};
+ghost use Rattle.run_working.specs.Wholes.{CountsAreSilent, DrainsAreSilent, KeepersStayTold, KeepsAreSilent, LinesStayTold, ListenersStayTold, MendsAreSilent, OthersStay, SinksAreWhole};
 
 use channel_face::{Channel, Durable};
 use crew::{DrainWorker, Work};

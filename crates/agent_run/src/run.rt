@@ -16,13 +16,14 @@ ghost use Rattle.agent_run.specs.LoadRan.{LoadRan};
 ghost use Rattle.agent_run.specs.PipeRan.{IsChannelOf, PipeRan};
 
 use crate::agent::{Ended, run_named};
-use crate::outcome::{ChannelEnd, Outcome};
+use crate::outcome::Outcome;
 use crate::through::{RunOf, Runs};
 use agent_commands::{LoadEnded, PipeEnded, run_check, run_load, run_pipe, say_error};
 use agent_words::{Command, RunError, read_words};
 use flume_host::Host;
 use plan_objects::HandedIn;
 use plug_in::{EventSink, Interceptor};
+use run_opening::ChannelEnd;
 use shared_channel::Pass;
 use std::alloc::Global;
 use std::sync::Wait;

@@ -6,9 +6,9 @@ ghost use Rattle.flume_config.specs.declared.plan.Plan.{Plan};
 ghost use Rattle.line_worker.specs.Workers.{talk_of};
 ghost use Rattle.sink_worker.specs.Rounds.{told};
 ghost use Rattle.source_worker.specs.Workers.{heard_of};
-ghost use Rattle.agent_run.specs.Prepared.{IsPlanned};
+ghost use Rattle.run_opening.specs.Prepared.{IsPlanned};
 ghost use Rattle.agent_run.specs.SoundRun.{DialoguesAreSound, IsSoundRun, IsUndisturbedRun, IsWellRun, ListenersAreSound, NothingFailed};
-ghost use Rattle.agent_run.specs.declared.outcome.ChannelEnd.{ChannelEnd};
+ghost use Rattle.run_opening.specs.declared.channel_end.ChannelEnd.{ChannelEnd};
 
 use crate::through::{RunOf, RunnerOf, Runs};
 use channel_face::{Channel, Durable};

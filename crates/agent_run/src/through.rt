@@ -8,11 +8,10 @@ ghost use Rattle.line_worker.specs.Workers.{talk_of};
 ghost use Rattle.agent_channels.specs.Openings.{HostTold};
 ghost use Rattle.flume_config.specs.declared.plan.Plan.{Plan};
 ghost use Rattle.agent_end.specs.declared.ends.RunEnds.{RunEnds};
-ghost use Rattle.agent_run.specs.declared.outcome.ChannelEnd.{ChannelEnd};
+ghost use Rattle.run_opening.specs.declared.channel_end.ChannelEnd.{ChannelEnd};
 ghost use Rattle.grouped_sinks.specs.declared.row.SinkRow.{SinkRow};
 ghost use Rattle.std.specs.Prelude.{List, Option};
 
-use crate::opening::Opening;
 use agent_sinks::AgentSink;
 use avro_ends::{AvroSink, HasDialer};
 use channel_face::{Channel, Durable};
@@ -24,6 +23,7 @@ use keep_worker::KeepWorker;
 use line_worker::LineWorker;
 use memory_channel::MemoryChannel;
 use plug_in::{EventSink, Interceptor};
+use run_opening::Opening;
 use sink_worker::SinkWorker;
 use source_worker::ListenWorker;
 use std::marker::PhantomData;
@@ -91,12 +91,12 @@ impl<
 > Goes<OpeningOf<H, K, B>> for RunOf<'a, R, H, K, B> {
     ghost use Rattle.run_settling.specs.Draining.{IsDrainedAt};
     ghost use Rattle.agent_run.specs.Joined.{HaveReturned, IsJoined};
-    ghost use Rattle.agent_run.specs.Outside.{AreBack};
+    ghost use Rattle.run_opening.specs.Outside.{AreBack};
     ghost use Rattle.agent_run.specs.Run.{IsGivenBack};
-    ghost use Rattle.agent_run.specs.Runs.{runs};
+    ghost use Rattle.run_working.specs.Runs.{runs};
     ghost use Rattle.run_settling.specs.Settling.{AreSettled};
-    ghost use Rattle.agent_run.specs.Staff.{own_talk};
-    ghost use Rattle.agent_run.specs.Streams.{AreTaken, DrainKept, TalkKept};
+    ghost use Rattle.run_opening.specs.Staff.{own_talk};
+    ghost use Rattle.run_opening.specs.Streams.{AreTaken, DrainKept, TalkKept};
     ghost use Rattle.agent_run.specs.Through.{RanThrough};
     ghost use Rattle.std.specs.Prelude.{map};
 
@@ -141,8 +141,8 @@ impl<
     K: Interceptor + Send + Drop,
     B: EventSink + Send,
 > Steps<K, B> for RunOf<'a, R, H, K, B> {
-    ghost use Rattle.agent_run.specs.Outside.{HasRunners, IsOutside};
-    ghost use Rattle.agent_run.specs.Prepared.{IsDrafted};
+    ghost use Rattle.run_opening.specs.Outside.{HasRunners, IsOutside};
+    ghost use Rattle.run_opening.specs.Prepared.{IsDrafted};
     ghost use Rattle.agent_run.specs.Through.{PlanRan};
 
     ghost steps = { λ given objects plan ends channels a b.
@@ -163,11 +163,11 @@ impl<
     K: Interceptor + Send + Drop,
     B: EventSink + Send,
 > Runs<K, B> for RunOf<'a, R, H, K, B> {
-    ghost use Rattle.agent_run.specs.Outside.{AreBack, HasRunners, IsOutside};
-    ghost use Rattle.agent_run.specs.Prepared.{IsDrafted};
+    ghost use Rattle.run_opening.specs.Outside.{AreBack, HasRunners, IsOutside};
+    ghost use Rattle.run_opening.specs.Prepared.{IsDrafted};
     ghost use Rattle.agent_run.specs.Run.{IsGivenBack};
     ghost use Rattle.agent_run.specs.RunDid.{RunDid};
-    ghost use Rattle.agent_run.specs.Runs.{runs};
+    ghost use Rattle.run_working.specs.Runs.{runs};
 
     ghost ran = { λ given objects plan ends channels a b. RunDid
         (runs ⟦<KeepWorker<PortOf<'a, R, H>, H::Clock> as Work>⟧.ran

@@ -4,8 +4,8 @@ ghost use Rattle.agent_channels.specs.Openings.{HostTold};
 ghost use Rattle.agent_end.specs.declared.ends.RunEnds.{RunEnds};
 ghost use Rattle.flume_config.specs.declared.plan.Plan.{Plan};
 ghost use Rattle.agent_run.specs.FoldersTold.{FoldersAreApart};
-ghost use Rattle.agent_run.specs.Prepared.{IsPlanned};
-ghost use Rattle.agent_run.specs.declared.outcome.ChannelEnd.{ChannelEnd};
+ghost use Rattle.run_opening.specs.Prepared.{IsPlanned};
+ghost use Rattle.run_opening.specs.declared.channel_end.ChannelEnd.{ChannelEnd};
 
 use crate::laws::{lines_stay_told, runs_are_told, workers_ran};
 use crate::through::{RunOf, RunnerOf, Runs, SinkOf, Steps};

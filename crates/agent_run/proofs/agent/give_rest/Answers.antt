@@ -19,8 +19,8 @@ use Rattle.agent_outside.specs.Ends.{AreOut, ends_of}
 use Rattle.agent_outside.specs.Sinks.{AreOpened, backs_of as rolls_of}
 use Rattle.grouped_sinks.specs.Rows.{AreBelow, places_of}
 use Rattle.agent_run.specs.Run.{IsAtRest}
-use Rattle.agent_run.specs.Streams.{IsReported}
-use Rattle.agent_run.proofs.Resting.{of_wishes_later}
+use Rattle.run_opening.specs.Streams.{IsReported}
+use Rattle.run_opening.proofs.Resting.{of_wishes_later}
 use Rattle.agent_run.proofs.agent.give_rest.Given.{Over}
 use Rattle.agent_run.proofs.agent.give_rest.Goals as goal
 

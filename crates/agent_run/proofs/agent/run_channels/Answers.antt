@@ -12,13 +12,13 @@ use Rattle.agent_channels.specs.declared.wish.ChannelWish.{ChannelWish}
 use Rattle.grouped_sinks.specs.Frames.{IsFrameOf}
 use Rattle.grouped_sinks.specs.Picks.{AreNewRunners}
 use Rattle.grouped_sinks.specs.Rows.{AreBelow, Zips, places_of}
-use Rattle.agent_run.specs.Outside.{OutsideRefused, WithPlaces}
+use Rattle.run_opening.specs.Outside.{OutsideRefused, WithPlaces}
 use Rattle.agent_run.specs.Run.{CanListenAt}
 use Rattle.agent_run.proofs.Answering.{outside_at}
 use Rattle.agent_run.proofs.Dialing.{stand_in_rows}
-use Rattle.agent_run.proofs.Naming.{given_back}
+use Rattle.run_opening.proofs.Naming.{given_back}
 use Rattle.agent_run.proofs.Parting.{runners_many}
-use Rattle.agent_run.proofs.Readying.{can_be_manned, groups_there, rows_in_order, still_out}
+use Rattle.run_opening.proofs.Readying.{can_be_manned, groups_there, rows_in_order, still_out}
 use Rattle.agent_run.proofs.agent.run_channels.Goals as goal
 
 pub group_outside-outside-requires-clause-frames : goal.group_outside-outside-requires-clause-frames

@@ -21,11 +21,11 @@ use Rattle.two_channels.specs.declared.shared.EitherShared.{EitherShared}
 use Rattle.file_channel.specs.Stands.{FileState}
 use Rattle.memory_channel.specs.declared.channel.MemoryChannel.{MemoryChannel}
 use Rattle.run_settling.specs.Draining.{HasOwn, IsSinkHome}
-use Rattle.agent_run.specs.Lists.{IsEmptyFor}
+use Rattle.run_opening.specs.Lists.{IsEmptyFor}
 use Rattle.run_settling.specs.Draining.{HasRoom}
-use Rattle.agent_run.specs.Outside.{AreFrom}
-use Rattle.agent_run.specs.Runs.{AreOnDisks, AreWorkers, owners_of}
-use Rattle.agent_run.specs.declared.labels.ChannelLabel.{ChannelLabel}
+use Rattle.run_opening.specs.Outside.{AreFrom}
+use Rattle.run_working.specs.Runs.{AreOnDisks, AreWorkers, owners_of}
+use Rattle.run_opening.specs.declared.labels.ChannelLabel.{ChannelLabel}
 use Rattle.run_settling.specs.declared.settling.Settled.{Settled}
 use Rattle.agent_run.specs.Run.{MayReturn, StandInRows}
 use Rattle.agent_run.proofs.Closing.{closed_of}
@@ -35,12 +35,12 @@ use Rattle.agent_run.proofs.agent.run_opened.Given.{Over}
 use Rattle.avro_ends.specs.Deliveries.{HasBack, SinkLinks}
 use Rattle.avro_ends.specs.Dialing.{DialTold, closed_links}
 use Rattle.avro_ends.specs.declared.sink.AvroSink.{AvroSink}
-use Rattle.agent_run.proofs.Manning.{room_for}
-use Rattle.agent_run.proofs.Owning.{own_kept}
-use Rattle.agent_run.proofs.Resting.{closed_of_wishes, ends_fit, from_many, homes_many, labels_fit, names_many, only_passes, passes_fit}
+use Rattle.run_opening.proofs.Manning.{room_for}
+use Rattle.run_working.proofs.Owning.{own_kept}
+use Rattle.run_opening.proofs.Resting.{closed_of_wishes, ends_fit, from_many, homes_many, labels_fit, names_many, only_passes, passes_fit}
 use Rattle.agent_run.proofs.Joining.{zips_long}
 use Rattle.agent_run.proofs.Throughout.{back_same, joined_same, returned_same, settled_same}
-use Rattle.agent_run.specs.Staff.{IsSinkOf}
+use Rattle.run_opening.specs.Staff.{IsSinkOf}
 use Rattle.agent_run.proofs.agent.run_opened.Goals as goal
 
 -- what the Avro sinks of the host show of their dialers

@@ -11,12 +11,12 @@ use Rattle.grouped_sinks.specs.Frames.{IsFit, IsFrameOf}
 use Rattle.grouped_sinks.specs.Rows.{AreRows, Zips}
 use Rattle.grouped_sinks.specs.declared.row.SinkRow.{SinkRow}
 use Rattle.grouped_sinks.proofs.Limits.{rows_fit}
-use Rattle.agent_run.proofs.Readying.{few_users, groups_there, groups_weighed, were_opened}
+use Rattle.run_opening.proofs.Readying.{few_users, groups_there, groups_weighed, were_opened}
 use Rattle.agent_run.proofs.Refusing.{channel_refused, if_err, outside_refused, refused_there, unprepared_run}
-use Rattle.agent_run.specs.Lists.{HasRoomFor}
+use Rattle.run_opening.specs.Lists.{HasRoomFor}
 use Rattle.agent_run.specs.NotBegun.{IsRefusedOutside, IsRunRefused}
 use Rattle.agent_run.proofs.Answering.{if_ok}
-use Rattle.agent_run.specs.Prepared.{IsDrafted, uses_of}
+use Rattle.run_opening.specs.Prepared.{IsDrafted, uses_of}
 use Rattle.agent_run.proofs.agent.run_plan.Goals as goal
 
 pub rows_of-requires : goal.rows_of-requires

@@ -3,8 +3,8 @@ use Rattle.line_worker.specs.Workers.{talk_of}
 use Rattle.sink_worker.specs.Rounds.{told}
 use Rattle.source_worker.specs.Workers.{heard_of}
 use Rattle.two_channels.specs.declared.port.EitherPort.{EitherPort}
-use Rattle.agent_run.specs.Runs.{Runs, runs}
-use Rattle.agent_run.proofs.Behind.{KeepRuns, LineRuns, ListenRuns, SinkRuns}
+use Rattle.run_working.specs.Runs.{Runs, runs}
+use Rattle.run_working.proofs.Behind.{KeepRuns, LineRuns, ListenRuns, SinkRuns}
 use Rattle.agent_run.proofs.Joining.{are_back, as_many_sinks, same_ends}
 use Rattle.agent_run.proofs.joined.run_jobs.Goals as goal
 

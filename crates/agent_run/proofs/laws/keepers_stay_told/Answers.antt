@@ -1,7 +1,7 @@
 use Rattle.shared_channel.specs.Calls.{SawOf}
 use Rattle.two_channels.specs.Ports.{SawOnDisk}
-use Rattle.agent_run.proofs.Upkeeps.{KeepRuns, keeps_stay}
-use Rattle.agent_run.proofs.Zipping.{ran_zips}
+use Rattle.run_working.proofs.Upkeeps.{KeepRuns, keeps_stay}
+use Rattle.run_working.proofs.Zipping.{ran_zips}
 use Rattle.agent_run.proofs.laws.keepers_stay_told.Goals as goal
 
 pub returns : goal.returns

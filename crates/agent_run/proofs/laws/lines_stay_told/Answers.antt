@@ -4,13 +4,13 @@ use Rattle.line_worker.specs.Workers.{talk_of}
 use Rattle.line_worker.specs.declared.worker.LineWorker.{LineWorker}
 use Rattle.two_channels.specs.Ports.{pass_of}
 use Rattle.run_tracks.specs.Told.{IsNew}
-use Rattle.agent_run.specs.Ends.{IsLineEnded}
-use Rattle.agent_run.specs.Histories.{IsLineTold}
-use Rattle.agent_run.specs.Opened.{IsLineOpened}
-use Rattle.agent_run.specs.Wholes.{AreSilentAt}
-use Rattle.agent_run.proofs.Behind.{LineRuns}
-use Rattle.agent_run.proofs.Lasting.{all_both, line_stays}
-use Rattle.agent_run.proofs.Zipping.{ran_zips, zips_four}
+use Rattle.run_working.specs.Ends.{IsLineEnded}
+use Rattle.run_working.specs.Histories.{IsLineTold}
+use Rattle.run_working.specs.Opened.{IsLineOpened}
+use Rattle.run_working.specs.Wholes.{AreSilentAt}
+use Rattle.run_working.proofs.Behind.{LineRuns}
+use Rattle.run_working.proofs.Lasting.{all_both, line_stays}
+use Rattle.run_working.proofs.Zipping.{ran_zips, zips_four}
 use Rattle.agent_run.proofs.laws.lines_stay_told.Goals as goal
 
 pub returns : goal.returns

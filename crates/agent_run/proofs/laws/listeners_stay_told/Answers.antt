@@ -4,13 +4,13 @@ use Rattle.source_worker.specs.Workers.{heard_of}
 use Rattle.source_worker.specs.declared.worker.ListenWorker.{ListenWorker}
 use Rattle.two_channels.specs.Ports.{pass_of}
 use Rattle.run_tracks.specs.Told.{IsNew}
-use Rattle.agent_run.specs.Ends.{IsListenEnded}
-use Rattle.agent_run.specs.Histories.{IsListenTold}
-use Rattle.agent_run.specs.Opened.{IsListenOpened}
-use Rattle.agent_run.specs.Wholes.{AreSilentAt}
-use Rattle.agent_run.proofs.Behind.{ListenRuns}
-use Rattle.agent_run.proofs.Lasting.{all_both, listen_stays}
-use Rattle.agent_run.proofs.Zipping.{ran_zips, zips_four}
+use Rattle.run_working.specs.Ends.{IsListenEnded}
+use Rattle.run_working.specs.Histories.{IsListenTold}
+use Rattle.run_working.specs.Opened.{IsListenOpened}
+use Rattle.run_working.specs.Wholes.{AreSilentAt}
+use Rattle.run_working.proofs.Behind.{ListenRuns}
+use Rattle.run_working.proofs.Lasting.{all_both, listen_stays}
+use Rattle.run_working.proofs.Zipping.{ran_zips, zips_four}
 use Rattle.agent_run.proofs.laws.listeners_stay_told.Goals as goal
 
 pub returns : goal.returns

@@ -1,4 +1,4 @@
-use Rattle.agent_run.proofs.Owning.{first_own, own_kept}
+use Rattle.run_working.proofs.Owning.{first_own, own_kept}
 use Rattle.agent_run.proofs.laws.own_numbers_are_kept.Goals as goal
 
 pub returns-clause-first : goal.returns-clause-first

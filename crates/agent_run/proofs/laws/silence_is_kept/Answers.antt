@@ -1,6 +1,6 @@
 use Rattle.sink_worker.specs.Rounds.{told}
-use Rattle.agent_run.proofs.Silence.{drains_silent}
-use Rattle.agent_run.proofs.Stopping.{counts_silent, keeps_silent, mends_silent}
+use Rattle.run_working.proofs.Silence.{drains_silent}
+use Rattle.run_working.proofs.Stopping.{counts_silent, keeps_silent, mends_silent}
 use Rattle.agent_run.proofs.laws.silence_is_kept.Goals as goal
 
 pub returns-clause-drains : goal.returns-clause-drains

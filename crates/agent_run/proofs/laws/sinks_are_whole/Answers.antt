@@ -1,5 +1,5 @@
 use Rattle.sink_worker.specs.Rounds.{told}
-use Rattle.agent_run.proofs.Silence.{others_stay, sinks_whole}
+use Rattle.run_working.proofs.Silence.{others_stay, sinks_whole}
 use Rattle.agent_run.proofs.laws.sinks_are_whole.Goals as goal
 
 pub returns-clause-whole : goal.returns-clause-whole

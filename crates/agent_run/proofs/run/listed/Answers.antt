@@ -1,7 +1,7 @@
 use Rattle.std.proofs.Common.{◌∙◌, List, [], ◌∷◌, ◌++◌, Option, refl, string_bytes, sym, ap, subst}
 use Rattle.shared_channel.specs.Passes.{Known}
 use Rattle.agent_run.specs.PipeRan.{IsChannelOf}
-use Rattle.agent_run.specs.declared.outcome.ChannelEnd.{ChannelEnd}
+use Rattle.run_opening.specs.declared.channel_end.ChannelEnd.{ChannelEnd}
 use Rattle.agent_run.proofs.run.listed.Goals as goal
 
 pub returns : goal.returns

@@ -9,7 +9,7 @@ use Rattle.agent_run.proofs.Asking.{agent_asks, agent_stays}
 use Rattle.agent_run.proofs.Boxing.{agent_hands}
 use Rattle.agent_run.proofs.Leaving.{IsSameChannel, returned_channels, run_folders, run_left, run_members}
 use Rattle.agent_run.proofs.Lone.{plan_lone, seats_of}
-use Rattle.agent_run.proofs.Readying.{rows_in_order}
+use Rattle.run_opening.proofs.Readying.{rows_in_order}
 use Rattle.agent_run.proofs.Reasons.{run_causes}
 use Rattle.agent_run.proofs.Returning.{gone_back}
 use Rattle.agent_run.proofs.Rolling.{agent_writes}

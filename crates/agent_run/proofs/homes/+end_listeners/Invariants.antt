@@ -1,5 +1,0 @@
-use Rattle.std.proofs.Common.{length}
-use Rattle.agent_run.proofs.homes.+end_listeners.Given as goal
-
-abbrev pub decreases-end_listeners : goal.decreases-end_listeners
-decreases-end_listeners g l = length l.workers.items

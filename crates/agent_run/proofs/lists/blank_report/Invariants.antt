@@ -1,6 +1,0 @@
-use Rattle.std.proofs.Common.{take}
-use Rattle.agent_run.specs.Lists.{NamesOf}
-use Rattle.agent_run.proofs.lists.blank_report.Given as goal
-
-abbrev pub invariant-loop-plan : goal.invariant-loop-plan
-invariant-loop-plan l = NamesOf (take l.plan-index l.plans) l.report.items

@@ -1,5 +1,0 @@
-use Rattle.std.proofs.Common.{length}
-use Rattle.agent_run.proofs.outside.+with_places.Given as goal
-
-abbrev pub decreases-with_places : goal.decreases-with_places
-decreases-with_places g l = length l.listeners.items

@@ -1,5 +1,0 @@
-use Rattle.std.proofs.Common.{length}
-use Rattle.agent_run.proofs.ports.+open_keepers.Given as goal
-
-abbrev pub decreases-open_keepers : goal.decreases-open_keepers
-decreases-open_keepers g l = length l.jobs.items

@@ -1,5 +1,0 @@
-use Rattle.std.proofs.Common.{length}
-use Rattle.agent_run.proofs.seats.+keep_seats_of.Given as goal
-
-abbrev pub decreases-keep_seats_of : goal.decreases-keep_seats_of
-decreases-keep_seats_of g l = length l.plans.now

@@ -1,5 +1,0 @@
-use Rattle.std.proofs.Common.{length}
-use Rattle.agent_run.proofs.seats.+seats_of.Given as goal
-
-abbrev pub decreases-seats_of : goal.decreases-seats_of
-decreases-seats_of g l = length l.drafts.items

@@ -1,0 +1,7 @@
+use Rattle.std.proofs.Common.{◌≡◌, map, take}
+use Rattle.flume_config.specs.declared.plan.ChannelPlan.{ChannelPlan}
+use Rattle.run_opening.specs.Keepers.{closes}
+use Rattle.run_opening.proofs.seats.closes_of.Given as goal
+
+abbrev pub invariant-loop-plan : goal.invariant-loop-plan
+invariant-loop-plan l = l.all.items ≡ map (λ (plan : ChannelPlan). closes plan.kind) (take l.plan-index l.plans)

@@ -1,0 +1,10 @@
+pub mod Staff
+pub mod Keepers
+pub mod Labels
+pub mod Wishes
+pub mod Lists
+pub mod Prepared
+pub mod Outside
+pub mod Streams
+pub mod Assembled
+pub mod Opening

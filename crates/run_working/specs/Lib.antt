@@ -1,0 +1,6 @@
+pub mod Opened
+pub mod Ends
+pub mod Runs
+pub mod Histories
+pub mod Wholes
+pub mod Alone
