@@ -1,5 +1,5 @@
 // Agents with a sink of Avro, over dialers whose links answer by a script.
-use crate::scenarios::pass;
+use crate::running::pass;
 use std::test::Fail;
 
 // What each link of the dialer gives, read by read, and what it took.

@@ -1,5 +1,5 @@
 // What needs a host of the tests' own: a channel whose sync waits while another one is put to, and an input that is too long.
-use crate::scenarios::pass;
+use crate::running::pass;
 use std::test::Fail;
 
 const BESIDE: &str =

@@ -1,6 +1,6 @@
 // Avro sources of an agent, whose links make calls by a script. The input, which nobody reads, ends once the reply to the handshake
 // of a second link is written.
-use crate::scenarios::pass;
+use crate::running::pass;
 use std::test::Fail;
 
 const CALLS: &str = r#"Calls behind a handshake.

@@ -1,5 +1,5 @@
 // `check -n NAME -f FILE`, example by example.
-use crate::scenarios::pass;
+use crate::running::pass;
 use std::test::Fail;
 
 const COUNTED: &str = r#"The worked configuration.

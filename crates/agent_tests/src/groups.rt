@@ -1,6 +1,6 @@
 // Agents with groups of sinks of rolled files, some calls of which fail: the first of a folder begins a file. A channel has one worker of
 // the group beside that of the source, and none of a sink.
-use crate::scenarios::pass;
+use crate::running::pass;
 use std::test::Fail;
 
 const GROUPS: &str = r#"The sink of the highest priority takes all.

@@ -1,7 +1,7 @@
 // Interceptors and sinks that are handed in. `Passer` writes the first letter of each event down that it hands on, `Taker` that of each that
 // it takes, and `Refuser` refuses all; each writes its own first letter down once it is dropped. At the line `lack` the `Passer` finds no
 // memory. An object that nothing asks for is dropped at the end, interceptors before sinks, and of several the first first.
-use crate::scenarios::pass;
+use crate::running::pass;
 use std::test::Fail;
 
 const HANDED_IN: &str =

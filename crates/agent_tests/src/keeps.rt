@@ -1,6 +1,6 @@
 // Checkpoints of an agent. A clock comes to the end of its first second at once; then its next pause sets the flag that the input waits
 // for, and is slow. So a channel with the least interval is kept once before the input is read.
-use crate::scenarios::pass;
+use crate::running::pass;
 use std::test::Fail;
 
 const INTERVAL: &str =

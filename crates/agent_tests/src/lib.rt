@@ -1,13 +1,11 @@
 //! Tests of the top call over a host in memory: the worked examples of the format and of the dialogue, failing objects,
-//! folders that were written before, and runs of agents. Each is a scenario, which `scenarios.rt` reads line by line.
+//! folders that were written before, and runs of agents. Each is a scenario, which `agent_scenes` reads line by line.
 #![tactic(auto)]
 
 #[cfg(test)]
 mod avro;
 #[cfg(test)]
 mod beside;
-#[cfg(test)]
-mod bytes;
 #[cfg(test)]
 mod calls;
 #[cfg(test)]
@@ -21,15 +19,9 @@ mod handed;
 #[cfg(test)]
 mod keeps;
 #[cfg(test)]
-mod left;
-#[cfg(test)]
 mod lines;
 #[cfg(test)]
 mod load;
-#[cfg(test)]
-mod logs;
-#[cfg(test)]
-mod looks;
 #[cfg(test)]
 mod mended;
 #[cfg(test)]
@@ -37,26 +29,14 @@ mod objects;
 #[cfg(test)]
 mod openings;
 #[cfg(test)]
-mod own_host;
-#[cfg(test)]
-mod packs;
-#[cfg(test)]
 mod pipe;
 #[cfg(test)]
 mod rolls;
 #[cfg(test)]
 mod running;
 #[cfg(test)]
-mod scenarios;
-#[cfg(test)]
-mod scene;
-#[cfg(test)]
 mod sessions;
 #[cfg(test)]
 mod shared;
-#[cfg(test)]
-mod texts;
-#[cfg(test)]
-mod words;
 #[cfg(test)]
 mod written;

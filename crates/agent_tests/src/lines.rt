@@ -1,5 +1,5 @@
 // Agents with a source of lines, example by example.
-use crate::scenarios::pass;
+use crate::running::pass;
 use std::test::Fail;
 
 const THROUGH: &str = r#"A sink that keeps nothing.

@@ -1,6 +1,6 @@
 // `load N DIR`: the generator's summaries, and how it ends where it is stopped. The digests were made by a program of its own, in another
 // language.
-use crate::scenarios::pass;
+use crate::running::pass;
 use std::test::Fail;
 
 // How many calls the channel sees, and the summary.

@@ -1,6 +1,6 @@
 // Channels that break in a run and are mended: answers, report, status, and what is left. Opening takes nine calls of the disk, and
 // the first line four: a write, a sync, the write of the byte that commits it, and a sync. A reopening begins with the next call.
-use crate::scenarios::pass;
+use crate::running::pass;
 use std::test::Fail;
 
 // The line at which the disk failed is in doubt, the next one is stored, and the run ends well.

@@ -1,5 +1,5 @@
 // What a call opens, of which each is refused once in turn: the call ends, and a second one on the same host does all of it.
-use crate::scenarios::pass;
+use crate::running::pass;
 use std::test::Fail;
 
 const OPENINGS: &str =

@@ -1,5 +1,5 @@
 // `pipe DIR`, example by example. The channel sees four calls of a line that is put: a begin, a put, a stage and a flush.
-use crate::scenarios::pass;
+use crate::running::pass;
 use std::test::Fail;
 
 const FRAMES: &str = r#"Two lines.

@@ -1,5 +1,5 @@
 // A folder of rolled files, each call of which fails in turn: no line that was answered is missing in the end.
-use crate::scenarios::pass;
+use crate::running::pass;
 use std::test::Fail;
 
 // A file is begun, the line and its end are written, and the file is flushed; after a fault the next file is begun. At least two takes

@@ -1,5 +1,5 @@
 // Netcat sources of an agent.
-use crate::scenarios::pass;
+use crate::running::pass;
 use std::test::Fail;
 
 // The first read of the input has begun before the link is given, and ends once a file was flushed: the line of the link, which waits in

@@ -1,6 +1,6 @@
 // The worked examples of `pipe`, by an agent with a source of lines: its channel is shared, and the answers, the log files and what is
 // left are the same. After the answers the report is written.
-use crate::scenarios::pass;
+use crate::running::pass;
 use std::test::Fail;
 
 const FRAMES: &str = r#"Two lines.

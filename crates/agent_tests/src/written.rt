@@ -1,5 +1,5 @@
 // `pipe DIR` on folders that were written before, and on what a crash leaves.
-use crate::scenarios::pass;
+use crate::running::pass;
 use std::test::Fail;
 
 const RERUNS: &str = r#"A line behind two.

@@ -2,18 +2,16 @@
 // other line is a word and what it is said of: the words of `words.rt` give something to the next run, `run` runs, and those of
 // `looks.rt` look at what came of it. A line that begins with `a.` or `a1.` is one of the configuration. A name that ends with
 // `, for V, W` stands for two scenarios, in whose lines `$` stands for `V` and for `W`.
-use crate::bytes::number_of;
+use crate::crashes::crash;
 use crate::looks::{is_seen, note};
-use crate::running::{crash, run};
+use crate::runs::{TopCall, run};
 use crate::scene::{Given, Scene};
 use crate::words::{add_line, is_given};
+use scenarios::{Wrong, number_of, word_and_rest};
 use std::alloc::{AllocError, Global};
 use std::sync::Wait;
 use std::test::Fail;
 use std::thread::Threads;
-
-// What is wrong: the name of a scenario, what `$` stands for, and the line that does not hold.
-type Wrong<'a> = (&'a str, &'a str, &'a str);
 
 // What is given anew to a host of its own.
 fn renew(scene: &mut Scene) -> bool {
@@ -23,13 +21,13 @@ fn renew(scene: &mut Scene) -> bool {
 }
 
 // Whether a line holds.
-fn holds<R: Threads + Wait + Sync>(rt: &R, scene: &mut Scene, line: &str) -> bool {
-    let (word, rest) = line.split_once(' ').unwrap_or((line, ""));
+fn holds<T: TopCall, R: Threads + Wait + Sync>(rt: &R, scene: &mut Scene, line: &str) -> bool {
+    let (word, rest) = word_and_rest(line);
     if word.starts_with("a.") || word.starts_with("a1.") {
         return add_line(&mut scene.given.text, line);
     }
     match word {
-        "run" => run(rt, scene, rest),
+        "run" => run::<T, R>(rt, scene, rest),
         "crash" => crash(scene, rest),
         "then" => crash(scene, "end:old"),
         "note" => note(scene),
@@ -50,7 +48,7 @@ fn is_last(scene: &Scene, line: &str) -> bool {
 }
 
 // The first line that does not hold.
-fn wrong_line<'a, R: Threads + Wait + Sync>(
+fn wrong_line<'a, T: TopCall, R: Threads + Wait + Sync>(
     rt: &R,
     alloc: Global,
     lines: &'a str,
@@ -62,7 +60,7 @@ fn wrong_line<'a, R: Threads + Wait + Sync>(
         if is_last(&scene, said.as_str()) {
             return Ok(None);
         }
-        if !said.as_str().starts_with(BELOW) && !holds(rt, &mut scene, said.as_str()) {
+        if !said.as_str().starts_with(BELOW) && !holds::<T, R>(rt, &mut scene, said.as_str()) {
             return Ok(Some(line));
         }
     }
@@ -74,7 +72,7 @@ fn wrong_line<'a, R: Threads + Wait + Sync>(
 }
 
 // The same of each value that `$` stands for.
-fn wrong_for<'a, R: Threads + Wait + Sync>(
+fn wrong_for<'a, T: TopCall, R: Threads + Wait + Sync>(
     rt: &R,
     alloc: Global,
     scenario: &'a str,
@@ -82,21 +80,21 @@ fn wrong_for<'a, R: Threads + Wait + Sync>(
     let (head, lines) = scenario.split_once('\n').unwrap_or((scenario, ""));
     let (name, values) = head.split_once(", for ").unwrap_or((head, ""));
     for value in values.split(", ") {
-        if let Some(line) = wrong_line(rt, alloc, lines, value)? {
-            return Ok(Some((name, value, line)));
+        if let Some(line) = wrong_line::<T, R>(rt, alloc, lines, value)? {
+            return Ok(Some(Wrong { name, value, line }));
         }
     }
     Ok(None)
 }
 
 // The first line of some scenarios that does not hold, if one does not.
-fn wrong_in<'a, R: Threads + Wait + Sync>(
+fn wrong_in<'a, T: TopCall, R: Threads + Wait + Sync>(
     rt: &R,
     alloc: Global,
     scenarios: &'a str,
 ) -> Result<Option<Wrong<'a>>, AllocError> {
     for scenario in scenarios.split("\n\n") {
-        let wrong = wrong_for(rt, alloc, scenario)?;
+        let wrong = wrong_for::<T, R>(rt, alloc, scenario)?;
         if wrong.is_some() {
             return Ok(wrong);
         }
@@ -105,9 +103,13 @@ fn wrong_in<'a, R: Threads + Wait + Sync>(
 }
 
 /// Passes where each line of some scenarios holds, and names the first one that does not.
-pub fn pass<R: Threads + Wait + Sync>(rt: &R, alloc: Global, scenarios: &str) -> Result<(), Fail> {
-    match wrong_in(rt, alloc, scenarios)? {
-        Some((name, value, line)) => {
+pub fn pass<T: TopCall, R: Threads + Wait + Sync>(
+    rt: &R,
+    alloc: Global,
+    scenarios: &str,
+) -> Result<(), Fail> {
+    match wrong_in::<T, R>(rt, alloc, scenarios)? {
+        Some(Wrong { name, value, line }) => {
             Err(Fail::new(format_args!("{name} For {value:?}: {line}")))
         }
         None => Ok(()),

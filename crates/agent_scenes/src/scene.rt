@@ -1,7 +1,7 @@
 // What the words of a scenario work on: what the next run is given, the host of the last one, and what came of it.
+use crate::ended::Ended;
 use crate::objects::Notes;
 use crate::own_host::{Gate, OwnHost};
-use agent_run::ChannelEnd;
 use host_memory::{DiskFault, Flag, MemDisk, MemHost, MemLink, MemRoll, Named, Offer};
 use std::alloc::{AllocError, Global};
 
@@ -10,18 +10,27 @@ use std::alloc::{AllocError, Global};
 pub struct Given {
     /// The file `x.conf`.
     pub text: Vec<u8>,
-    /// The bytes of the input, and how many of any kind come before them.
+    /// The bytes of the input.
     pub input: Vec<u8>,
+    /// How many bytes of any kind come before them.
     pub more: u64,
+    /// How many bytes each read of the input gives at most.
     pub input_pieces: Vec<usize>,
+    /// How many bytes each write of the output takes at most.
     pub output_pieces: Vec<usize>,
+    /// Which reads of the input fail.
     pub input_fails: Vec<u64>,
+    /// Which calls of the output fail.
     pub output_fails: Vec<u64>,
+    /// Which calls of the folder `out` fail.
     pub rolls_fail: Vec<u64>,
+    /// Which openings fail.
     pub opens_fail: Vec<u64>,
+    /// Which openings lack memory.
     pub opens_lack: Vec<u64>,
     /// The folder `d`.
     pub disk: Option<MemDisk>,
+    /// Which calls of its disk fail.
     pub disk_faults: Vec<DiskFault>,
     /// The first read of the input sets the one flag and waits for the other.
     pub held: Option<(Flag, Flag)>,
@@ -35,6 +44,7 @@ pub struct Given {
     pub ports: Vec<(u16, Vec<Offer>)>,
     /// The links of the dialer of `far`, port 4545.
     pub dials: Vec<Option<MemLink>>,
+    /// Where the syncs of the first disk that is opened wait.
     pub gate: Option<Gate>,
     /// Is set once a pause has lasted for more than a second.
     pub slow: Option<Flag>,
@@ -71,17 +81,20 @@ impl Given {
 /// A scenario on its way.
 #[derive(Drop)]
 pub struct Scene {
+    /// Where memory comes from.
     pub alloc: Global,
+    /// What the next host is made of.
     pub given: Given,
     /// The flags 0 to 3.
     pub flags: Vec<Flag>,
     /// The host that was run on, until a new one is given.
     pub host: Option<OwnHost>,
-    /// How much it had written and said before the last run.
+    /// How many bytes it had written before the last run.
     pub written: usize,
+    /// How many lines it had said before the last run.
     pub said: usize,
-    pub status: u8,
-    pub channels: Vec<ChannelEnd>,
+    /// What the last run ended with.
+    pub ended: Ended,
     /// How many calls of the disk were noted.
     pub noted: u64,
     /// What the objects that were handed in have written down.
@@ -109,8 +122,7 @@ impl Scene {
             host: None,
             written: 0,
             said: 0,
-            status: 0,
-            channels: Vec::new(alloc),
+            ended: Ended::new(alloc),
             noted: 0,
             notes: Notes::new(alloc)?,
             has_run: false,

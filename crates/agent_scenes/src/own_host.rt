@@ -11,10 +11,12 @@ use std::thread;
 /// An input that gives so many bytes of any kind, which it does not write anywhere, and then those of one in memory.
 #[derive(Drop)]
 pub struct LongSource {
-    more: u64,
-    source: MemSource,
-    // Is set once it has ended or failed.
-    ended: Option<Flag>,
+    /// How many bytes come before those of the one in memory.
+    pub more: u64,
+    /// The one in memory.
+    pub source: MemSource,
+    /// Is set once it has ended or failed.
+    pub ended: Option<Flag>,
 }
 
 impl Source for LongSource {
@@ -59,8 +61,10 @@ pub struct Gate {
 /// A disk in memory, whose syncs may wait.
 #[derive(Drop)]
 pub struct GatedDisk {
-    disk: MemDisk,
-    gate: Option<Gate>,
+    /// The disk in memory.
+    pub disk: MemDisk,
+    /// Where its syncs wait, if they do.
+    pub gate: Option<Gate>,
 }
 
 impl GatedDisk {
@@ -154,13 +158,14 @@ fn handle_of(flag: &Option<Flag>) -> Option<Flag> {
 /// comes to the end of its first second at once, and goes on slowly.
 #[derive(Drop)]
 pub struct SlowClock {
-    clock: MemClock,
-    // The milliseconds of its pauses since it was asked for a moment.
-    paused: u64,
-    // Is set in the first of the slow pauses.
-    slow: Option<Flag>,
-    // Is set once the input has ended.
-    ended: Option<Flag>,
+    /// The clock in memory.
+    pub clock: MemClock,
+    /// The milliseconds of its pauses since it was asked for a moment.
+    pub paused: u64,
+    /// Is set in the first of the slow pauses.
+    pub slow: Option<Flag>,
+    /// Is set once the input has ended.
+    pub ended: Option<Flag>,
 }
 
 impl SlowClock {

@@ -1,12 +1,13 @@
 // The words that look at what came of a run.
-use crate::bytes::{are_parts, has_end, has_front, is_like, number_of};
-use crate::ends::{are_numbered, is_worker};
+use crate::bytes::{are_parts, has_end, has_front, is_like};
+use crate::crashes::folder_at;
+use crate::ended::{are_numbered, is_worker};
 use crate::left::left;
-use crate::running::folder_at;
 use crate::scene::Scene;
 use crate::words::name_of;
 use flume_host::{FileName, Host, RollDir};
 use host_memory::{MemHost, MemRoll, RolledFile};
+use scenarios::{number_of, word_and_rest};
 use std::alloc::Global;
 
 // What the last run has written.
@@ -261,15 +262,6 @@ fn disk_calls(host: &MemHost) -> u64 {
     }
 }
 
-// How many calls the channels have seen.
-fn seen(scene: &Scene) -> u64 {
-    let mut calls: u64 = 0;
-    for end in &scene.channels {
-        calls = calls.saturating_add(end.pass.seen());
-    }
-    calls
-}
-
 fn host_number(host: &MemHost, word: &str) -> Option<u64> {
     match word {
         "disk-faults" => Some(host.disk_faults()),
@@ -280,22 +272,13 @@ fn host_number(host: &MemHost, word: &str) -> Option<u64> {
     }
 }
 
-// How many workers the channels name.
-fn workers(scene: &Scene) -> u64 {
-    let mut count: u64 = 0;
-    for end in &scene.channels {
-        count = count.saturating_add(end.workers.len() as u64);
-    }
-    count
-}
-
 // What a word with a number tells.
 fn number(scene: &Scene, word: &str) -> Option<u64> {
     match word {
-        "status" => Some(u64::from(scene.status)),
-        "calls" => Some(seen(scene)),
-        "workers" => Some(workers(scene)),
-        "channels" => Some(scene.channels.len() as u64),
+        "status" => Some(u64::from(scene.ended.status)),
+        "calls" => Some(scene.ended.seen()),
+        "workers" => Some(scene.ended.workers()),
+        "channels" => Some(scene.ended.channels()),
         _ => host_number(scene.host()?, word),
     }
 }
@@ -332,7 +315,7 @@ fn is_noted_in(noted: u64, range: &str) -> bool {
 
 // What stands after `if-sound`, as in `if-sound left -`, is so, where no call of the rolled files failed.
 fn is_so_if_sound(scene: &Scene, line: &str) -> bool {
-    let (word, rest) = line.split_once(' ').unwrap_or((line, ""));
+    let (word, rest) = word_and_rest(line);
     match number(scene, "roll-faults") {
         Some(0) => is_seen_in(scene, word, rest),
         Some(_) => true,
@@ -350,7 +333,7 @@ fn has_fewer_roll_faults(scene: &Scene, most: &str) -> bool {
 
 // What has a first word of its own.
 fn is_pair(scene: &Scene, word: &str, rest: &str) -> bool {
-    let (first, second) = rest.split_once(' ').unwrap_or((rest, ""));
+    let (first, second) = word_and_rest(rest);
     match word {
         "links" => is_port_taken(scene, first, second),
         "log-2" => is_second_log(scene, first, second),
@@ -371,8 +354,8 @@ fn is_seen_in(scene: &Scene, word: &str, rest: &str) -> bool {
         "answered-there" => are_answered_there(scene),
         "dialed" => are_dialed(scene, rest),
         "unset" => is_unset(scene, rest),
-        "numbered" => are_numbered(&scene.channels),
-        "worker" => is_worker(&scene.channels, rest),
+        "numbered" => are_numbered(&scene.ended),
+        "worker" => is_worker(&scene.ended, rest),
         "noted-in" => is_noted_in(scene.noted, rest),
         "roll-faults-below" => has_fewer_roll_faults(scene, rest),
         _ => is_pair(scene, word, rest),

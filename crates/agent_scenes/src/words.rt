@@ -1,11 +1,12 @@
 // The words that say what the next run is given.
-use crate::bytes::{add_text, number_of, parts_of};
+use crate::bytes::parts_of;
+use crate::made::only;
 use crate::own_host::Gate;
-use crate::running::only;
 use crate::scene::{Given, Scene};
 use crate::texts::TEXTS;
 use flume_host::FileName;
 use host_memory::{DiskFault, LinkStep, MemDisk, MemFile, MemLink, MemRoll, Named, Offer, Part};
+use scenarios::{add_text, number_of};
 use std::alloc::Global;
 
 // Adds the configuration of a name.

@@ -2,41 +2,8 @@
 use crate::logs::LOGS;
 use crate::packs::PACKS;
 use avro_hop::protocol_text;
+use scenarios::{add_text, is_text, number_of};
 use std::alloc::Global;
-
-/// A number.
-pub fn number_of(text: &str) -> Option<u64> {
-    text.parse::<u64>().ok()
-}
-
-// The byte that a letter after a backslash stands for; any other one stands for itself.
-fn escaped(letter: u8) -> u8 {
-    match letter {
-        b'n' => b'\n',
-        b'r' => b'\r',
-        b's' => b' ',
-        b'0' => 0,
-        _ => letter,
-    }
-}
-
-/// Adds the bytes of a text, in which `\n`, `\r`, `\s`, `\0` and `\\` stand for one.
-pub fn add_text(bytes: &mut Vec<u8>, text: &str) -> bool {
-    let mut is_escape = false;
-    for letter in text.bytes() {
-        if is_escape {
-            is_escape = false;
-            if bytes.push(escaped(letter)).is_err() {
-                return false;
-            }
-        } else if letter == b'\\' {
-            is_escape = true;
-        } else if bytes.push(letter).is_err() {
-            return false;
-        }
-    }
-    !is_escape
-}
 
 // The bytes of a name among these.
 fn named<'a>(name: &str, all: &[(&'a str, &'a [u8])]) -> Option<&'a [u8]> {
@@ -89,12 +56,6 @@ pub fn parts_of(alloc: Global, parts: &str) -> Option<Vec<u8>> {
 pub fn are_parts(alloc: Global, bytes: &[u8], parts: &str) -> bool {
     let mut want = Vec::new(alloc);
     add_parts(&mut want, parts) && want.as_slice() == bytes
-}
-
-/// Whether these bytes are a text.
-pub fn is_text(alloc: Global, bytes: &[u8], text: &str) -> bool {
-    let mut want = Vec::new(alloc);
-    add_text(&mut want, text) && want.as_slice() == bytes
 }
 
 /// Whether these bytes begin with a text.
