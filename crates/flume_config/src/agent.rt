@@ -8,7 +8,7 @@ ghost use Rattle.flume_config.specs.Plans.{IsJudged, IsRight, Refuses, IsPlan, P
 
 use crate::patterns::judge;
 use crate::plan::Plan;
-use crate::planning::{AgentNames, channels, groups, is_agent, sinks, sources};
+use crate::planning::{AgentNames, is_agent, plan_each};
 use plan_judging::{Agent, FaultKind, Findings, Place, names_at};
 use plan_refused::PlanRefused;
 use prop_text::Properties;
@@ -74,10 +74,10 @@ fn plan(agent: &Agent<'_>, names: &AgentNames<'_>) -> Result<Plan, AllocError>
     ensures { IfOk result (IsPlan agent.now.properties.now agent.now.name.now) }
 {
     Ok(Plan {
-        sources: sources(agent, &names.channels, names.sources.as_slice())?,
-        channels: channels(agent, names.channels.as_slice())?,
-        sinks: sinks(agent, &names.channels, names.sinks.as_slice())?,
-        groups: groups(agent, &names.sinks, names.groups.as_slice())?,
+        sources: plan_each(agent, &names.channels, names.sources.as_slice())?,
+        channels: plan_each(agent, &names.channels, names.channels.as_slice())?,
+        sinks: plan_each(agent, &names.channels, names.sinks.as_slice())?,
+        groups: plan_each(agent, &names.sinks, names.groups.as_slice())?,
     })
 }
 

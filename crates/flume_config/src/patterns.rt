@@ -1,11 +1,13 @@
 //! The texts of a configuration that have to be patterns, and with them all that is at fault.
 
-ghost use Rattle.std.specs.Prelude.{IfOk, OnOk, ◌++◌, ◌∷◌, [], codes, true, false};
+ghost use Rattle.std.specs.Prelude.{◌≡◌, ℕ, List, IfOk, OnOk, ◌++◌, ◌∷◌, [], codes, true, false};
 ghost use Rattle.std.specs.List.{flat_map};
+ghost use Rattle.prop_text.specs.Pairs.{Pair};
 ghost use Rattle.prop_text.specs.Views.{texts};
 ghost use Rattle.prop_text.specs.Winners.{lookup};
 ghost use Rattle.plan_judging.specs.Candidates.{seen};
-ghost use Rattle.flume_config.specs.Patterns.{Asks, IsVerdict, asked_at, asked_of_date, asked_of_serializer, asked_of_extractor, asked_of_kind, asked_by_kind, asked_of_step, asked_of_source, asked_of};
+ghost use Rattle.plan_judging.specs.Components.{front_of, names_in};
+ghost use Rattle.flume_config.specs.Patterns.{Asked, Asks, IsVerdict, asked_at, asked_of_date, asked_of_extractor, asked_of_kind, asked_by_kind, asked_of_step};
 ghost use Rattle.flume_config.specs.Plans.{IsSeen};
 
 use indexmap::IndexSet;
@@ -85,42 +87,116 @@ fn ask_at(
     }
 }
 
-#[tactic(auto, using(crate::proofs::Asking::ask_none))]
-fn ask_date(place: &Place<'_>, found: &mut Findings) -> Result<(), AllocError>
-    ensures { OnOk result (Asks (seen found.old) (seen found.new)
-        (asked_of_date place.now.properties.now place.now.front.now
-        (lookup (place.now.front.now ++ codes "type") place.now.properties.now))) }
-{
-    match value_at(place, "type")? {
-        Some((kind, _)) if is_millis(kind) => ask_at(place, found, true, "pattern"),
-        _ => Ok(()),
+/// A kind of what has a name and texts that have to be patterns: how the keys of one begin, and which
+/// texts those are.
+trait AskedKind {
+    // what stands between the front of the keys of what it belongs to and its name
+    ghost between: { List ℕ };
+
+    // the texts that have to be patterns, of the pairs, in the one whose keys begin so
+    ghost asked: { List Pair → List ℕ → List Asked };
+
+    /// What stands between the front of the keys of what it belongs to and its name.
+    fn infix() -> &'static str
+        ensures { result.now ≡ between };
+
+    /// Judges the patterns of the one of these keys.
+    fn ask_in(place: &Place<'_>, found: &mut Findings) -> Result<(), AllocError>
+        ensures { OnOk result (Asks (seen found.old) (seen found.new)
+            (asked place.now.properties.now place.now.front.now)) };
+}
+
+// The serializers of an interceptor.
+struct Serializers;
+
+// The interceptors of a source.
+struct Steps;
+
+// The sources of an agent.
+struct Sources;
+
+impl AskedKind for Serializers {
+    ghost between = { codes "serializers." };
+
+    ghost asked = { λ pairs at. asked_of_date pairs at (lookup (at ++ codes "type") pairs) };
+
+    fn infix() -> &'static str {
+        "serializers."
+    }
+
+    #[tactic(auto, using(crate::proofs::Asking::ask_none))]
+    fn ask_in(place: &Place<'_>, found: &mut Findings) -> Result<(), AllocError> {
+        match value_at(place, "type")? {
+            Some((kind, _)) if is_millis(kind) => ask_at(place, found, true, "pattern"),
+            _ => Ok(()),
+        }
     }
 }
 
-fn ask_serializer(place: &Place<'_>, found: &mut Findings, name: &str) -> Result<(), AllocError>
+impl AskedKind for Steps {
+    ghost between = { codes "interceptors." };
+
+    ghost asked = { λ pairs at. asked_by_kind pairs at (lookup (at ++ codes "type") pairs) };
+
+    fn infix() -> &'static str {
+        "interceptors."
+    }
+
+    #[tactic(auto, using(crate::proofs::Asking::ask_none))]
+    fn ask_in(place: &Place<'_>, found: &mut Findings) -> Result<(), AllocError> {
+        match value_at(place, "type")? {
+            None => Ok(()),
+            Some((kind, _)) => ask_kind(place, found, kind),
+        }
+    }
+}
+
+impl AskedKind for Sources {
+    ghost between = { codes ".sources." };
+
+    ghost asked = { λ pairs at. flat_map (asked_of_step pairs at)
+        (names_in pairs (at ++ codes "interceptors")) };
+
+    fn infix() -> &'static str {
+        ".sources."
+    }
+
+    fn ask_in(place: &Place<'_>, found: &mut Findings) -> Result<(), AllocError> {
+        let names = names_at(place, "interceptors")?;
+        ask_each::<Steps>(place, found, names.as_slice())
+    }
+}
+
+// Judges the patterns of the one of a name, which belongs to what has these keys.
+fn ask_one<K: AskedKind>(
+    place: &Place<'_>,
+    found: &mut Findings,
+    name: &str,
+) -> Result<(), AllocError>
     ensures { OnOk result (Asks (seen found.old) (seen found.new)
-        (asked_of_serializer place.now.properties.now place.now.front.now name.now)) }
+        (K.asked place.now.properties.now (front_of place.now.front.now K.between name.now))) }
 {
-    let front = front_of(place.alloc, place.front, "serializers.", name)?;
+    let front = front_of(place.alloc, place.front, K::infix(), name)?;
     let place = Place {
         alloc: place.alloc,
         properties: place.properties,
         front: front.as_str(),
     };
-    ask_date(&place, found)
+    K::ask_in(&place, found)
 }
 
-fn ask_serializers(
+// Judges the patterns of those of these names, which belong to what has these keys.
+fn ask_each<K: AskedKind>(
     place: &Place<'_>,
     found: &mut Findings,
     names: &[&str],
 ) -> Result<(), AllocError>
-    ensures { OnOk result (Asks (seen found.old) (seen found.new)
-        (flat_map (asked_of_serializer place.now.properties.now place.now.front.now)
+    ensures { OnOk result (Asks (seen found.old) (seen found.new) (flat_map
+        (λ name. K.asked place.now.properties.now (front_of place.now.front.now K.between name))
         (texts names.now))) }
 {
     for name in names {
-        ask_serializer(place, found, name)?;
+        ask_one::<K>(place, found, name)?;
     }
     Ok(())
 }
@@ -131,7 +207,7 @@ fn ask_extractor(place: &Place<'_>, found: &mut Findings) -> Result<(), AllocErr
 {
     ask_at(place, found, false, "regex")?;
     let names = names_at(place, "serializers")?;
-    ask_serializers(place, found, names.as_slice())
+    ask_each::<Serializers>(place, found, names.as_slice())
 }
 
 #[tactic(auto, using(crate::proofs::Asking::ask_none))]
@@ -151,66 +227,6 @@ fn ask_kind(place: &Place<'_>, found: &mut Findings, kind: &str) -> Result<(), A
     Ok(())
 }
 
-#[tactic(auto, using(crate::proofs::Asking::ask_none))]
-fn ask_by_kind(place: &Place<'_>, found: &mut Findings) -> Result<(), AllocError>
-    ensures { OnOk result (Asks (seen found.old) (seen found.new)
-        (asked_by_kind place.now.properties.now place.now.front.now
-        (lookup (place.now.front.now ++ codes "type") place.now.properties.now))) }
-{
-    match value_at(place, "type")? {
-        None => Ok(()),
-        Some((kind, _)) => ask_kind(place, found, kind),
-    }
-}
-
-fn ask_step(place: &Place<'_>, found: &mut Findings, name: &str) -> Result<(), AllocError>
-    ensures { OnOk result (Asks (seen found.old) (seen found.new)
-        (asked_of_step place.now.properties.now place.now.front.now name.now)) }
-{
-    let front = front_of(place.alloc, place.front, "interceptors.", name)?;
-    let place = Place {
-        alloc: place.alloc,
-        properties: place.properties,
-        front: front.as_str(),
-    };
-    ask_by_kind(&place, found)
-}
-
-fn ask_steps(place: &Place<'_>, found: &mut Findings, names: &[&str]) -> Result<(), AllocError>
-    ensures { OnOk result (Asks (seen found.old) (seen found.new)
-        (flat_map (asked_of_step place.now.properties.now place.now.front.now) (texts names.now))) }
-{
-    for name in names {
-        ask_step(place, found, name)?;
-    }
-    Ok(())
-}
-
-fn ask_source(agent: &Agent<'_>, found: &mut Findings, name: &str) -> Result<(), AllocError>
-    ensures { OnOk result (Asks (seen found.old) (seen found.new)
-        (asked_of_source agent.now.properties.now agent.now.name.now name.now)) }
-{
-    let front = front_of(agent.alloc, agent.name, ".sources.", name)?;
-    let place = Place {
-        alloc: agent.alloc,
-        properties: agent.properties,
-        front: front.as_str(),
-    };
-    let names = names_at(&place, "interceptors")?;
-    ask_steps(&place, found, names.as_slice())
-}
-
-/// Judges the patterns of the interceptors of all sources.
-fn ask_sources(agent: &Agent<'_>, found: &mut Findings, names: &[&str]) -> Result<(), AllocError>
-    ensures { OnOk result (Asks (seen found.old) (seen found.new)
-        (asked_of agent.now.properties.now agent.now.name.now (texts names.now))) }
-{
-    for name in names {
-        ask_source(agent, found, name)?;
-    }
-    Ok(())
-}
-
 /// What is at fault in an agent with these components.
 pub fn judge(
     agent: &Agent<'_>,
@@ -224,6 +240,11 @@ pub fn judge(
         (texts groups.now.keys) (seen found)) }
 {
     let mut found = plan_judging::judge(agent, sources, channels, sinks, groups)?;
-    ask_sources(agent, &mut found, sources.as_slice())?;
+    let place = Place {
+        alloc: agent.alloc,
+        properties: agent.properties,
+        front: agent.name,
+    };
+    ask_each::<Sources>(&place, &mut found, sources.as_slice())?;
     Ok(found)
 }

@@ -1,11 +1,12 @@
 //! The plan of an agent.
 
-ghost use Rattle.std.specs.Prelude.{◌≡◌, OnOk, IfOk, ◌++◌, codes, true, false, nat_eq, drop, map};
+ghost use Rattle.std.specs.Prelude.{◌≡◌, ℕ, List, OnOk, IfOk, ◌++◌, codes, true, false, nat_eq, drop, map};
 ghost use Rattle.std.specs.List.{starts_with};
+ghost use Rattle.prop_text.specs.Pairs.{Pair};
 ghost use Rattle.prop_text.specs.Views.{texts};
-ghost use Rattle.plan_judging.specs.Components.{names_in};
+ghost use Rattle.plan_judging.specs.Components.{front_of, names_in};
 ghost use Rattle.plan_judging.specs.Agents.{is_agent};
-ghost use Rattle.flume_config.specs.Values.{text_at, line_at, IsSourceKind, IsSource, IsChannel, SourceNamed, ChannelNamed, SinkWith, SinkNamed, processor_of, penalty_of, backoff_of, priority_of, GroupWith, GroupNamed, StepNamed, IsSelector, Match};
+ghost use Rattle.flume_config.specs.Values.{text_at, line_at, place_of, IsSourceKind, IsSource, IsChannel, SinkWith, processor_of, penalty_of, backoff_of, priority_of, GroupWith, StepNamed, IsSelector, Match};
 ghost use Rattle.plan_judging.specs.Rows.{is_type, is_plugin};
 
 use crate::plan::{
@@ -163,24 +164,6 @@ fn source_at(
     source_with(place, channels, chosen, name, line, kind, steps)
 }
 
-fn source(
-    agent: &Agent<'_>,
-    channels: &IndexSet<&str>,
-    name: &str,
-) -> Result<SourcePlan, AllocError>
-    ensures { IfOk result (SourceNamed agent.now.properties.now agent.now.name.now
-        (texts channels.now.keys) name.now) }
-{
-    let front = front_of(agent.alloc, agent.name, ".sources.", name)?;
-    let place = Place {
-        alloc: agent.alloc,
-        properties: agent.properties,
-        front: front.as_str(),
-    };
-    let chosen = names_at(&place, "channels")?;
-    source_at(&place, channels, &chosen, name)
-}
-
 fn memory_channel(place: &Place<'_>, name: &str) -> Result<ChannelPlan, AllocError>
     requires { is_type (codes "memory") (text_at place.now.properties.now
         (place.now.front.now ++ codes "type")) ≡ true }
@@ -212,56 +195,6 @@ fn file_channel(place: &Place<'_>, name: &str) -> Result<ChannelPlan, AllocError
         },
         name: String::from_str(place.alloc, name)?,
     })
-}
-
-fn channel_at(place: &Place<'_>, name: &str) -> Result<ChannelPlan, AllocError>
-    ensures { IfOk result (IsChannel place.now.properties.now place.now.front.now name.now) }
-{
-    if is_type(str_at(place, "type")?, "memory") {
-        memory_channel(place, name)
-    } else {
-        file_channel(place, name)
-    }
-}
-
-fn channel(agent: &Agent<'_>, name: &str) -> Result<ChannelPlan, AllocError>
-    ensures { IfOk result (ChannelNamed agent.now.properties.now agent.now.name.now name.now) }
-{
-    let front = front_of(agent.alloc, agent.name, ".channels.", name)?;
-    let place = Place {
-        alloc: agent.alloc,
-        properties: agent.properties,
-        front: front.as_str(),
-    };
-    channel_at(&place, name)
-}
-
-/// The sources of an agent.
-pub fn sources(
-    agent: &Agent<'_>,
-    channels: &IndexSet<&str>,
-    names: &[&str],
-) -> Result<Vec<SourcePlan>, AllocError>
-    ensures { IfOk result (λ plans. Match (SourceNamed agent.now.properties.now agent.now.name.now
-        (texts channels.now.keys)) (texts names.now) plans.items) }
-{
-    let mut plans = Vec::new(agent.alloc);
-    for name in names {
-        plans.push(source(agent, channels, name)?)?;
-    }
-    Ok(plans)
-}
-
-/// The channels of an agent.
-pub fn channels(agent: &Agent<'_>, names: &[&str]) -> Result<Vec<ChannelPlan>, AllocError>
-    ensures { IfOk result (λ plans. Match (ChannelNamed agent.now.properties.now agent.now.name.now)
-        (texts names.now) plans.items) }
-{
-    let mut plans = Vec::new(agent.alloc);
-    for name in names {
-        plans.push(channel(agent, name)?)?;
-    }
-    Ok(plans)
 }
 
 fn avro_sink(place: &Place<'_>, channel: u32, name: &str) -> Result<SinkPlan, AllocError>
@@ -363,37 +296,6 @@ fn sink_at(place: &Place<'_>, channel: u32, name: &str) -> Result<SinkPlan, Allo
     null_sink(place, channel, name)
 }
 
-fn sink(agent: &Agent<'_>, channels: &IndexSet<&str>, name: &str) -> Result<SinkPlan, AllocError>
-    ensures { IfOk result (λ sink. SinkNamed agent.now.properties.now agent.now.name.now
-        (texts channels.now.keys) name.now sink) }
-{
-    let front = front_of(agent.alloc, agent.name, ".sinks.", name)?;
-    let place = Place {
-        alloc: agent.alloc,
-        properties: agent.properties,
-        front: front.as_str(),
-    };
-    let channel = str_at(&place, "channel")?;
-    let channel = place_at(channels, channel)?;
-    sink_at(&place, channel, name)
-}
-
-/// The sinks of an agent.
-pub fn sinks(
-    agent: &Agent<'_>,
-    channels: &IndexSet<&str>,
-    names: &[&str],
-) -> Result<Vec<SinkPlan>, AllocError>
-    ensures { IfOk result (λ plans. Match (SinkNamed agent.now.properties.now agent.now.name.now
-        (texts channels.now.keys)) (texts names.now) plans.items) }
-{
-    let mut plans = Vec::new(agent.alloc);
-    for name in names {
-        plans.push(sink(agent, channels, name)?)?;
-    }
-    Ok(plans)
-}
-
 fn processor(place: &Place<'_>, kind: &str) -> Result<Processor, AllocError>
     ensures { IfOk result (λ processor. processor ≡ processor_of place.now.properties.now
         place.now.front.now kind.now) }
@@ -485,45 +387,138 @@ fn group_with(
     })
 }
 
-fn group_at(
-    place: &Place<'_>,
-    sinks: &IndexSet<&str>,
-    members: &[&str],
-    name: &str,
-) -> Result<GroupPlan, AllocError>
-    ensures { IfOk result (GroupWith place.now.properties.now place.now.front.now
-        (texts sinks.now.keys) (texts members.now) name.now) }
-{
-    let kind = str_at(place, "processor.type")?;
-    group_with(place, sinks, members, name, kind)
+/// The plan of a component: how the keys of such a component begin, and what is planned by them.
+pub trait ComponentPlan: Drop {
+    // what stands between the agent's name and the component's
+    ghost between: { List ℕ };
+
+    // Whether a plan is that of the component of a name, whose keys begin so: of the pairs, with the
+    // names of the components that it may refer to.
+    ghost is_plan: { List Pair → List (List ℕ) → List ℕ → List ℕ → Self → Type 0 };
+
+    /// What stands between the agent's name and the component's.
+    fn infix() -> &'static str
+        ensures { result.now ≡ between };
+
+    /// The plan of the component of these keys, which may refer to others.
+    fn plan_at(place: &Place<'_>, others: &IndexSet<&str>, name: &str) -> Result<Self, AllocError>
+        ensures { IfOk result (is_plan place.now.properties.now (texts others.now.keys)
+            place.now.front.now name.now) };
 }
 
-fn group(agent: &Agent<'_>, sinks: &IndexSet<&str>, name: &str) -> Result<GroupPlan, AllocError>
-    ensures { IfOk result (λ group. GroupNamed agent.now.properties.now agent.now.name.now
-        (texts sinks.now.keys) name.now group) }
+impl ComponentPlan for SourcePlan {
+    ghost between = { codes ".sources." };
+
+    ghost is_plan = { λ pairs channels at name plan. IsSource pairs at channels name plan };
+
+    fn infix() -> &'static str {
+        ".sources."
+    }
+
+    fn plan_at(
+        place: &Place<'_>,
+        channels: &IndexSet<&str>,
+        name: &str,
+    ) -> Result<SourcePlan, AllocError> {
+        let chosen = names_at(place, "channels")?;
+        source_at(place, channels, &chosen, name)
+    }
+}
+
+impl ComponentPlan for ChannelPlan {
+    ghost between = { codes ".channels." };
+
+    ghost is_plan = { λ pairs others at name plan. IsChannel pairs at name plan };
+
+    fn infix() -> &'static str {
+        ".channels."
+    }
+
+    fn plan_at(
+        place: &Place<'_>,
+        _others: &IndexSet<&str>,
+        name: &str,
+    ) -> Result<ChannelPlan, AllocError> {
+        if is_type(str_at(place, "type")?, "memory") {
+            memory_channel(place, name)
+        } else {
+            file_channel(place, name)
+        }
+    }
+}
+
+impl ComponentPlan for SinkPlan {
+    ghost between = { codes ".sinks." };
+
+    ghost is_plan = { λ pairs channels at name plan. SinkWith pairs at
+        (place_of channels (text_at pairs (at ++ codes "channel"))) name plan };
+
+    fn infix() -> &'static str {
+        ".sinks."
+    }
+
+    fn plan_at(
+        place: &Place<'_>,
+        channels: &IndexSet<&str>,
+        name: &str,
+    ) -> Result<SinkPlan, AllocError> {
+        let channel = place_at(channels, str_at(place, "channel")?)?;
+        sink_at(place, channel, name)
+    }
+}
+
+impl ComponentPlan for GroupPlan {
+    ghost between = { codes ".sinkgroups." };
+
+    ghost is_plan = { λ pairs sinks at name plan. GroupWith pairs at sinks
+        (names_in pairs (at ++ codes "sinks")) name plan };
+
+    fn infix() -> &'static str {
+        ".sinkgroups."
+    }
+
+    fn plan_at(
+        place: &Place<'_>,
+        sinks: &IndexSet<&str>,
+        name: &str,
+    ) -> Result<GroupPlan, AllocError> {
+        let members = names_at(place, "sinks")?;
+        let kind = str_at(place, "processor.type")?;
+        group_with(place, sinks, members.as_slice(), name, kind)
+    }
+}
+
+// The plan of the component of a name.
+fn plan_one<P: ComponentPlan>(
+    agent: &Agent<'_>,
+    others: &IndexSet<&str>,
+    name: &str,
+) -> Result<P, AllocError>
+    ensures { IfOk result (P.is_plan agent.now.properties.now (texts others.now.keys)
+        (front_of agent.now.name.now P.between name.now) name.now) }
 {
-    let front = front_of(agent.alloc, agent.name, ".sinkgroups.", name)?;
+    let front = front_of(agent.alloc, agent.name, P::infix(), name)?;
     let place = Place {
         alloc: agent.alloc,
         properties: agent.properties,
         front: front.as_str(),
     };
-    let members = names_at(&place, "sinks")?;
-    group_at(&place, sinks, members.as_slice(), name)
+    P::plan_at(&place, others, name)
 }
 
-/// The groups of an agent.
-pub fn groups(
+/// The plans of the components of these names, which may refer to others by theirs.
+pub fn plan_each<P: ComponentPlan>(
     agent: &Agent<'_>,
-    sinks: &IndexSet<&str>,
+    others: &IndexSet<&str>,
     names: &[&str],
-) -> Result<Vec<GroupPlan>, AllocError>
-    ensures { IfOk result (λ plans. Match (GroupNamed agent.now.properties.now agent.now.name.now
-        (texts sinks.now.keys)) (texts names.now) plans.items) }
+) -> Result<Vec<P>, AllocError>
+    ensures { IfOk result (λ plans. Match (λ name. P.is_plan agent.now.properties.now
+        (texts others.now.keys) (front_of agent.now.name.now P.between name) name)
+        (texts names.now) plans.items) }
 {
     let mut plans = Vec::new(agent.alloc);
     for name in names {
-        plans.push(group(agent, sinks, name)?)?;
+        plans.push(plan_one(agent, others, name)?)?;
     }
     Ok(plans)
 }

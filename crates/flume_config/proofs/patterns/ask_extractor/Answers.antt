@@ -9,4 +9,4 @@ returns c =
     let pairs = c.args.place.now.properties.now in
     let names : texts c.as_slice.result.now ≡ names_in pairs (c.args.place.now.front.now ++ codes "serializers") =
     ap texts c.as_slice.ensures.keys ∙ c.in_ok-names.ensures in
-    ask_last _ _ _ c.in_ok-ask_at.ensures (rw names at c.ask_serializers.ensures)
+    ask_last _ _ _ c.in_ok-ask_at.ensures (rw names at c.ask_each.ensures)

@@ -1,9 +1,0 @@
-use Rattle.std.proofs.Common.{[]}
-use Rattle.flume_config.proofs.Making.{makes_on, made_all}
-use Rattle.flume_config.proofs.planning.sources.Goals as goal
-
-pub loop-name-preserved : goal.loop-name-preserved
-loop-name-preserved c = rw c.in_ok-push.ensures.items (makes_on (record { ref_ptr = (0, 0); now = [] }) c.in_ok-source.field-0 c.loop-name-test.true c.loop-name.invariant c.in_ok-source.ensures)
-
-pub returns : goal.returns
-returns c = made_all c.loop-name-test.false c.loop-name.invariant
