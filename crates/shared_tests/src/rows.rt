@@ -11,7 +11,7 @@ use channel_face::{
 use event_core::Event;
 use file_channel::FileChannel;
 use host_memory::MemDisk;
-use scenarios::{number_of, word_and_rest};
+use scenarios::{value_of, word_and_rest};
 use shared_channel::{Pass, Shared};
 use std::alloc::Global;
 use std::marker::Brand;
@@ -67,15 +67,6 @@ struct Call<'a> {
 type Said = (&'static str, u64);
 
 const OTHER: Said = ("other", 0);
-
-// A number, or the first byte of a text, or 0.
-fn value_of(text: &str) -> u64 {
-    match (number_of(text), text.bytes().next()) {
-        (Some(number), _) => number,
-        (None, Some(byte)) => u64::from(byte),
-        (None, None) => 0,
-    }
-}
 
 fn call_of(text: &str) -> Call<'_> {
     let (word, rest) = word_and_rest(text);
