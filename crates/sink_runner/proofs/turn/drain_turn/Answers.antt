@@ -1,8 +1,17 @@
-use Rattle.std.proofs.Common.{◌≤◌, arith, refl, Ok, Err}
+use Rattle.std.proofs.Common.{◌≤◌, [], arith, refl, sym, append-nil, Ok, Err}
 use Rattle.channel_face.specs.Faces.{IsTakeBegun, IsTakeRolledBack}
 use Rattle.sink_runner.specs.Turns.{IsTaking, IsHandedOver, IsTurn}
-use Rattle.sink_runner.proofs.Turning.{gains_three, turn_handed, turn_over}
+use Rattle.sink_runner.proofs.Turning.{gains_so, gains_three, turn_handed, turn_over}
 use Rattle.sink_runner.proofs.turn.drain_turn.Goals as goal
+
+pub returns-in-Err-clause-calls : goal.returns-in-Err-clause-calls
+returns-in-Err-clause-calls g c =
+    let face = g.T.Face in
+    let after = c.begin.new.self in
+    let sink = c.args.sink.now in
+    gains_so (face.own c.args.from.now) (face.own after) (λ earlier. IsTakeBegun (face.seen after) (Err c.in-Err.refused))
+    (IsTurn (face.saw after) (face.seen after) g.S.EventSink.delivers c.args.batch c.args.moment sink c.turn_refused.result sink)
+    c.in-Err.ensures.calls (λ earlier x p. (Err c.in-Err.refused, x, [], sym (append-nil x), p, (refl, c.turn_refused.ensures.turn, refl)))
 
 pub returns-in-Ok-take_events-clause-calls : goal.returns-in-Ok-take_events-clause-calls
 returns-in-Ok-take_events-clause-calls g c =
