@@ -60,7 +60,7 @@ use Rattle.agent_run.specs.declared.joined.Joined.{Joined}
 use Rattle.run_opening.specs.declared.opening.Manned.{Manned}
 use Rattle.run_opening.specs.declared.opening.Opening.{Opening}
 use Rattle.run_settling.specs.declared.settling.Settled.{Settled}
-use Rattle.run_working.specs.declared.workers.Returned.{Returned}
+use Rattle.run_staff.specs.declared.workers.Returned.{Returned}
 use Rattle.run_settling.proofs.Chaining.{drained_ends}
 use Rattle.grouped_sinks.specs.Splits.{AllHanded, Handed, RunnersSplit}
 use Rattle.agent_run.proofs.Course.{there}

@@ -25,19 +25,20 @@ use Rattle.run_tracks.specs.Dealt.{HasNumber, Owner}
 use Rattle.run_tracks.specs.Homes.{EachTook, IsAt}
 use Rattle.run_tracks.specs.Places.{Zips}
 use Rattle.run_tracks.specs.Stops.{IsKept, IsMended}
-use Rattle.run_working.specs.Alone.{AreAlone, Differ, IsAway}
+use Rattle.run_staff.specs.Alone.{AreAlone, Differ, IsAway}
 use Rattle.run_settling.specs.Draining.{EachGoesOn, IsDrainedAt, IsSinkHome}
 use Rattle.run_working.specs.Ends.{IsLineEnded}
 use Rattle.agent_run.specs.Finals.{AreToldInFull, RunsAreTold, finals_of}
 use Rattle.run_working.specs.Histories.{IsKeepTold, IsLineTold, IsListenTold, IsSinkTold}
 use Rattle.agent_run.specs.Joined.{AreTold}
-use Rattle.run_working.specs.Runs.{AreEnded, AreNew, AreWorkers, Runs, owners_at, owners_of}
+use Rattle.run_staff.specs.Jobs.{AreNew, AreWorkers, owners_at, owners_of}
+use Rattle.run_working.specs.Runs.{AreEnded, Runs}
 use Rattle.run_settling.specs.Settling.{AreSettled}
 use Rattle.run_working.specs.Wholes.{AreSilentAt, IsNot, IsSilentAt, KeepersStayTold, LinesStayTold, ListenersStayTold, StaysSilent}
 use Rattle.run_settling.specs.declared.at_home.AtHome.{AtHome}
 use Rattle.run_settling.specs.declared.settling.Settled.{Settled}
-use Rattle.run_working.specs.declared.workers.Returned.{Returned}
-use Rattle.run_working.specs.declared.workers.Workers.{Workers}
+use Rattle.run_staff.specs.declared.workers.Returned.{Returned}
+use Rattle.run_staff.specs.declared.workers.Workers.{Workers}
 use Rattle.run_working.proofs.Finishing.{all_on, behind_silent}
 use Rattle.run_working.proofs.Lasting.{all_both}
 use Rattle.run_working.proofs.Owners.{all_split, beside_owners, differ_split, each_keep, each_owner, keep_owners, other_jobs, sink_owners, swap_across}

@@ -12,7 +12,7 @@ use Rattle.run_tracks.specs.Places.{Zips}
 use Rattle.agent_run.specs.Joined.{IsButStreams, IsSameEnd}
 use Rattle.run_opening.specs.Outside.{AreFrom}
 use Rattle.run_opening.specs.Streams.{DrainKept, InTurn, TalkKept}
-use Rattle.run_working.specs.declared.homes.LineEnded.{LineEnded}
+use Rattle.run_staff.specs.declared.workers.LineEnded.{LineEnded}
 
 -- the streams alone, while the listeners stay
 abbrev pub IsButTalks : HostState → HostState → Type 0

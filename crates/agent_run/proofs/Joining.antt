@@ -22,8 +22,8 @@ use Rattle.run_working.specs.Histories.{IsLineTold, IsListenTold, IsSinkTold}
 use Rattle.agent_run.specs.Joined.{HaveReturned, IsSameEnd}
 use Rattle.run_working.specs.Opened.{IsListenOpened}
 use Rattle.run_working.specs.Runs.{AreEnded, HaveRun, Runs, runs}
-use Rattle.run_working.specs.declared.workers.Returned.{Returned}
-use Rattle.run_working.specs.declared.workers.Workers.{Workers}
+use Rattle.run_staff.specs.declared.workers.Returned.{Returned}
+use Rattle.run_staff.specs.declared.workers.Workers.{Workers}
 use Rattle.run_working.proofs.Behind.{ListenRuns}
 use Rattle.run_working.proofs.Zipping.{ran_zips, zips_map, zips_then}
 

@@ -76,8 +76,8 @@ use Rattle.run_opening.specs.declared.channel_end.ChannelEnd.{ChannelEnd}
 use Rattle.run_opening.specs.declared.outside.Outside.{Outside}
 use Rattle.run_opening.specs.declared.preparing.Prepared.{Prepared}
 use Rattle.run_settling.specs.declared.settling.Settled.{Settled}
-use Rattle.run_working.specs.declared.workers.Returned.{Returned}
-use Rattle.run_working.specs.declared.workers.Workers.{Workers}
+use Rattle.run_staff.specs.declared.workers.Returned.{Returned}
+use Rattle.run_staff.specs.declared.workers.Workers.{Workers}
 use Rattle.agent_run.proofs.Asking.{AsksOnLinks, ClosesSo, dialed_told}
 use Rattle.agent_run.proofs.Boxing.{HandsOn, boxed_told}
 use Rattle.run_settling.proofs.Chaining.{drained_ends}

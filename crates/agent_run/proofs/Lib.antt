@@ -47,8 +47,3 @@ pub mod Reading
 pub mod Reasons
 pub mod Lone
 pub mod Returning
-pub mod Fairly
-pub mod Homely
-pub mod Undisturbed
-pub mod Soundly
-pub mod Sounding

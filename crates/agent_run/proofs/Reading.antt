@@ -32,10 +32,10 @@ use Rattle.agent_run.specs.Joined.{HaveReturned}
 use Rattle.run_working.specs.Runs.{Runs}
 use Rattle.run_opening.specs.Staff.{own_talk}
 use Rattle.run_opening.specs.Streams.{AreTaken, DrainKept, DrainTaken, InTurn, IsButTaken, TalkKept, TalkTaken, end_of_draining, end_of_session, ended_of, output_failed}
-use Rattle.run_working.specs.declared.homes.LineEnded.{LineEnded}
+use Rattle.run_staff.specs.declared.workers.LineEnded.{LineEnded}
 use Rattle.run_opening.specs.declared.streams.StreamsEnded.{StreamsEnded}
-use Rattle.run_working.specs.declared.workers.Returned.{Returned}
-use Rattle.run_working.specs.declared.workers.Workers.{Workers}
+use Rattle.run_staff.specs.declared.workers.Returned.{Returned}
+use Rattle.run_staff.specs.declared.workers.Workers.{Workers}
 use Rattle.run_opening.proofs.Streaming.{turn_chain}
 use Rattle.agent_run.proofs.Talking.{lines_are_answered, one_step, only_one}
 

@@ -31,7 +31,7 @@ use Rattle.run_working.specs.Histories.{IsLineTold, MendedOver}
 use Rattle.run_working.specs.Runs.{Runs}
 use Rattle.run_opening.specs.Staff.{own_talk}
 use Rattle.run_opening.specs.Streams.{DrainKept, DrainTaken, InTurn, TalkKept, TalkTaken, drain_ended, end_of_draining, end_of_session, ended_of, last_or, output_failed, talk_ended, unread}
-use Rattle.run_working.specs.declared.homes.LineEnded.{LineEnded}
+use Rattle.run_staff.specs.declared.workers.LineEnded.{LineEnded}
 use Rattle.run_opening.specs.declared.streams.StreamsEnded.{StreamsEnded}
 
 -- what ended the reading, by the end of a session

@@ -35,11 +35,11 @@ use Rattle.agent_run.specs.Run.{IsGivenBack}
 use Rattle.run_working.specs.Runs.{Runs}
 use Rattle.run_settling.specs.Settling.{AreSettled}
 use Rattle.run_settling.specs.declared.at_home.AtHome.{AtHome}
-use Rattle.run_working.specs.declared.homes.LineEnded.{LineEnded}
+use Rattle.run_staff.specs.declared.workers.LineEnded.{LineEnded}
 use Rattle.agent_run.specs.declared.joined.Joined.{Joined}
 use Rattle.run_settling.specs.declared.settling.Settled.{Settled}
-use Rattle.run_working.specs.declared.workers.Returned.{Returned}
-use Rattle.run_working.specs.declared.workers.Workers.{Workers}
+use Rattle.run_staff.specs.declared.workers.Returned.{Returned}
+use Rattle.run_staff.specs.declared.workers.Workers.{Workers}
 
 -- the workers came back over the same sources, places and channels
 pub joined_same : {R A B S N I O C K : Type 0} (runs : Runs (EitherPort R A B) S N I O C K) (sink : Told S) (Means : Meaning K) (moments : C → Option (ℕ → ℕ)) (heard : N → Heard) (talk : I → O → Talk)

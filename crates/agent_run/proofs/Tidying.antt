@@ -35,8 +35,8 @@ use Rattle.run_tracks.specs.Places.{Zips}
 use Rattle.run_tracks.specs.Tracks.{Calls, Gave, Stood, Track, ended, track_of}
 use Rattle.run_tracks.proofs.Staying.{into_same, line_stays, rounds_stay, stay_then}
 use Rattle.run_working.specs.Histories.{Checked, IsDiskOf, IsKeepTold, IsLineTold, IsListenTold, Pruned}
-use Rattle.run_working.specs.Runs.{owners_at}
-use Rattle.run_working.specs.declared.homes.LineEnded.{LineEnded}
+use Rattle.run_staff.specs.Jobs.{owners_at}
+use Rattle.run_staff.specs.declared.workers.LineEnded.{LineEnded}
 use Rattle.agent_run.proofs.Ended.{batch_ends, check_ends, ends_then, mend_ends, prune_ends}
 use Rattle.run_working.proofs.Owners.{keep_owners}
 use Rattle.agent_run.proofs.Staged.{EachEnds, EndsOf}

@@ -33,7 +33,7 @@ use Rattle.run_tracks.specs.Places.{Zips}
 use Rattle.run_tracks.specs.Stops.{IsKept, IsMended, KeptIf}
 use Rattle.run_tracks.specs.Told.{IsNew}
 use Rattle.run_tracks.specs.Tracks.{Stood}
-use Rattle.run_working.specs.Alone.{IsAway}
+use Rattle.run_staff.specs.Alone.{IsAway}
 use Rattle.run_settling.specs.Draining.{EachGoesOn, IsDrainedAt}
 use Rattle.agent_run.specs.Finals.{finals_of}
 use Rattle.run_working.specs.Histories.{IsSinkTold}

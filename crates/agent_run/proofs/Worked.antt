@@ -29,14 +29,15 @@ use Rattle.agent_channels.specs.declared.wish.ChannelWish.{ChannelWish}
 use Rattle.agent_end.specs.Statuses.{run_status}
 use Rattle.agent_end.specs.declared.ends.ReportRefused.{ReportRefused}
 use Rattle.agent_end.specs.declared.ends.RunEnds.{RunEnds}
-use Rattle.run_working.specs.Alone.{IsAway}
+use Rattle.run_staff.specs.Alone.{IsAway}
 use Rattle.agent_run.specs.Causes.{CausesTold}
 use Rattle.agent_run.specs.Dialogue.{EndsWell}
 use Rattle.agent_run.specs.Finals.{AreToldInFull, RunsAreTold, finals_of}
 use Rattle.run_working.specs.Histories.{IsSinkTold}
 use Rattle.agent_run.specs.Joined.{AreTold}
 use Rattle.run_opening.specs.Labels.{AreLabels, users_of}
-use Rattle.run_working.specs.Runs.{Runs, owners_of}
+use Rattle.run_staff.specs.Jobs.{owners_of}
+use Rattle.run_working.specs.Runs.{Runs}
 use Rattle.agent_run.specs.StagedTold.{StagedTold}
 use Rattle.run_working.specs.Wholes.{AreBeside, IsSinkWhole, LinesStayTold}
 use Rattle.agent_run.specs.RunDid.{RunDid, Steps, passes_of}

@@ -28,8 +28,8 @@ use Rattle.agent_run.specs.Joined.{AreTold, HaveReturned}
 use Rattle.run_working.specs.Runs.{HaveRun, Runs}
 use Rattle.run_opening.specs.Staff.{own_talk}
 use Rattle.run_opening.specs.Streams.{AreTaken, DrainKept, InTurn, TalkKept, end_of_session, ended_of, output_failed}
-use Rattle.run_working.specs.declared.workers.Returned.{Returned}
-use Rattle.run_working.specs.declared.workers.Workers.{Workers}
+use Rattle.run_staff.specs.declared.workers.Returned.{Returned}
+use Rattle.run_staff.specs.declared.workers.Workers.{Workers}
 
 -- The worker built its chain, or had no memory for it. Then one session was served, from what standard input and output were before to
 -- what they are after it: lines were read, each was put into the channels, and each was answered by what became of it. The batch of

@@ -28,8 +28,8 @@ use Rattle.agent_run.specs.declared.joined.Joined.{Joined}
 use Rattle.run_opening.specs.declared.opening.Manned.{Manned}
 use Rattle.run_opening.specs.declared.opening.Opening.{Opening as Opened}
 use Rattle.run_settling.specs.declared.settling.Settled.{Settled}
-use Rattle.run_working.specs.declared.workers.Returned.{Returned}
-use Rattle.run_working.specs.declared.workers.Workers.{Workers}
+use Rattle.run_staff.specs.declared.workers.Returned.{Returned}
+use Rattle.run_staff.specs.declared.workers.Workers.{Workers}
 
 -- the passes that came back of the channels when these were closed
 abbrev pub finals_of : {S A B : Type 0} → Settled S A B → List Known

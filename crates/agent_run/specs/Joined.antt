@@ -15,10 +15,10 @@ use Rattle.two_channels.specs.declared.shared.EitherShared.{EitherShared}
 use Rattle.run_working.specs.Histories.{IsLineTold, IsListenTold, IsSinkTold}
 use Rattle.run_working.specs.Runs.{AreEnded, HaveRun, Runs}
 use Rattle.run_opening.specs.Streams.{InTurn, ended_of}
-use Rattle.run_working.specs.declared.homes.LineEnded.{LineEnded}
+use Rattle.run_staff.specs.declared.workers.LineEnded.{LineEnded}
 use Rattle.agent_run.specs.declared.joined.Joined.{Joined}
-use Rattle.run_working.specs.declared.workers.Returned.{Returned}
-use Rattle.run_working.specs.declared.workers.Workers.{Workers}
+use Rattle.run_staff.specs.declared.workers.Returned.{Returned}
+use Rattle.run_staff.specs.declared.workers.Workers.{Workers}
 
 -- nothing of the host has changed but its input and output, its listeners and its count of faults
 abbrev pub IsButStreams : HostState → HostState → Type 0

@@ -20,4 +20,3 @@ pub mod Causes
 pub mod RunDid
 pub mod PipeRan
 pub mod LoadRan
-pub mod SoundRun

@@ -14,7 +14,8 @@ ghost use Rattle.agent_run.specs.Joined.{HaveReturned, IsButStreams, IsJoined, I
 ghost use Rattle.run_opening.specs.Lists.{IsEmptyFor};
 ghost use Rattle.run_opening.specs.Outside.{AreBack, AreFrom};
 ghost use Rattle.run_opening.specs.Streams.{DrainKept, TalkKept};
-ghost use Rattle.run_working.specs.Runs.{AreNew, AreOnDisks, AreWorkers, CanRun, HaveRoom, owners_of, runs};
+ghost use Rattle.run_staff.specs.Jobs.{AreNew, AreOnDisks, AreWorkers, CanRun, HaveRoom, owners_of};
+ghost use Rattle.run_working.specs.Runs.{runs};
 
 use agent_outside::SourceListener;
 use channel_face::{Channel, Durable};
@@ -26,7 +27,8 @@ use line_worker::LineWorker;
 use plug_in::{EventSink, Interceptor};
 use run_opening::{StreamsEnded, give_listeners, keep_streams};
 use run_settling::AtHome;
-use run_working::{Returned, Workers, run_workers};
+use run_staff::{Returned, Workers};
+use run_working::run_workers;
 use shared_channel::Pass;
 use sink_worker::SinkWorker;
 use source_worker::ListenWorker;

@@ -7,7 +7,6 @@ mod laws;
 mod outcome;
 mod rests;
 mod run;
-mod sound;
 mod through;
 mod told;
 
@@ -18,6 +17,5 @@ pub use laws::{
 pub use outcome::Outcome;
 pub use run::run_agent;
 pub use run_opening::{ChannelEnd, Worker};
-pub use sound::{dialogues_are_sound, listeners_are_sound, nothing_failed, runs_are_sound};
-pub use through::{RunOf, Runs, Steps};
+pub use through::{RunOf, RunnerOf, Runs, Steps};
 pub use told::{folders_are_apart, steps_are_told};

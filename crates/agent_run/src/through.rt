@@ -64,8 +64,8 @@ pub struct RunOf<'a, R, H, K, B> {
 /// The sinks of a run.
 pub(crate) type SinkOf<H, B> = AgentSink<<H as Host>::Roll, AvroSink<<H as Host>::Dialer>, B>;
 
-/// What drives the rows of them.
-pub(crate) type RunnerOf<H, B> = Runner<SinkOf<H, B>, <H as Host>::Random>;
+/// What drives the rows of a run's sinks.
+pub type RunnerOf<H, B> = Runner<SinkOf<H, B>, <H as Host>::Random>;
 
 /// The ports of a run's channels.
 pub(crate) type PortOf<'a, R, H> = EitherPort<'a, R, FileChannel<<H as Host>::Disk>, MemoryChannel>;

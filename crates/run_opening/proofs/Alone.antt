@@ -16,12 +16,12 @@ use Rattle.agent_channels.specs.declared.wish.ChannelWish.{ChannelWish}
 use Rattle.run_tracks.specs.Deals.{Deals, DealsEach, Draws, hand_at}
 use Rattle.run_tracks.specs.Dealt.{Owner}
 use Rattle.run_tracks.proofs.Handing.{one_left}
-use Rattle.run_working.specs.Alone.{AllDiffer, AreAlone, Differ, IsAway}
+use Rattle.run_staff.specs.Alone.{AllDiffer, AreAlone, Differ, IsAway}
 use Rattle.run_opening.specs.Assembled.{IsStaff}
-use Rattle.run_working.specs.Runs.{owners_at, owners_of}
+use Rattle.run_staff.specs.Jobs.{owners_at, owners_of}
 use Rattle.run_opening.specs.Staff.{keep_channels, keep_ports, line_channels, line_ports, listen_channels, listen_ports, sink_channels, sink_ports}
 use Rattle.run_opening.specs.declared.assemble.Parts.{Parts}
-use Rattle.run_working.specs.declared.workers.Workers.{Workers}
+use Rattle.run_staff.specs.declared.workers.Workers.{Workers}
 use Rattle.run_opening.proofs.Fresh.{AreFresh, AreInOrder, hands, home_numbered, home_there, homes, in_order}
 
 -- the worker's number is above those that are left, and was among those before

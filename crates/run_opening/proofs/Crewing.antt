@@ -32,18 +32,18 @@ use Rattle.run_tracks.specs.Places.{Zips}
 use Rattle.run_tracks.specs.Told.{IsNew}
 use Rattle.run_tracks.proofs.Dealing.{ends}
 use Rattle.run_tracks.proofs.Handing.{count_joined}
-use Rattle.run_working.specs.Alone.{AreAlone}
+use Rattle.run_staff.specs.Alone.{AreAlone}
 use Rattle.run_opening.specs.Assembled.{AreFit, AreUsed, IsCrew, IsStaff}
 use Rattle.run_settling.specs.Draining.{HasOwn}
 use Rattle.run_opening.specs.Keepers.{AreWantedInFolders}
 use Rattle.run_opening.specs.Prepared.{uses_of}
-use Rattle.run_working.specs.Ends.{AreLinePorts, AreListenPorts, IsKeepPort, IsSinkPort}
-use Rattle.run_working.specs.Runs.{AreNew, AreWorkers, CanRun, owners_at, owners_of}
+use Rattle.run_staff.specs.Ports.{AreLinePorts, AreListenPorts, IsKeepPort, IsSinkPort}
+use Rattle.run_staff.specs.Jobs.{AreNew, AreWorkers, CanRun, owners_at, owners_of}
 use Rattle.run_opening.specs.Staff.{IsLineOf, IsListenOf, keep_channels, keep_ports, line_channels, line_ports, listen_channels, listen_ports, sink_channels, sink_ports}
 use Rattle.run_opening.specs.declared.assemble.Crew.{Crew}
 use Rattle.run_opening.specs.declared.assemble.Parts.{Parts}
 use Rattle.run_opening.specs.declared.seats.Seat.{Seat}
-use Rattle.run_working.specs.declared.workers.Workers.{Workers}
+use Rattle.run_staff.specs.declared.workers.Workers.{Workers}
 use Rattle.run_opening.proofs.Alone.{are_alone}
 use Rattle.run_opening.proofs.Numbering.{staff_numbered}
 use Rattle.run_opening.proofs.Keeping.{all_on}

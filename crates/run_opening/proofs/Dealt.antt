@@ -10,7 +10,7 @@ use Rattle.run_tracks.specs.Dealing.{AreDealtBut}
 use Rattle.run_tracks.specs.Dealt.{Owner}
 use Rattle.run_tracks.specs.Places.{Zips}
 use Rattle.run_tracks.proofs.Dealing.{one_dealt}
-use Rattle.run_working.specs.Runs.{owners_at}
+use Rattle.run_staff.specs.Jobs.{owners_at}
 use Rattle.run_opening.proofs.Fresh.{InHands}
 
 split_last : (P : Known → Type 0) (l : List Known) (x : Known) → AllByRecursion P (l ++ x ∷ []) → AllByRecursion P l × P x

@@ -22,7 +22,7 @@ use Rattle.agent_channels.specs.Several.{AreOpened}
 use Rattle.agent_channels.specs.declared.opened.OpenedChannel.{OpenedChannel}
 use Rattle.agent_channels.specs.declared.wish.ChannelWish.{ChannelWish}
 use Rattle.run_settling.specs.Draining.{HasOwn}
-use Rattle.run_working.proofs.Owning.{first_own}
+use Rattle.run_staff.proofs.Owning.{first_own}
 
 -- what holds of each new pass of a channel
 abbrev pub IsNewOf : TableId → Known → Type 0

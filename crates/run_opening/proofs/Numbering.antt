@@ -10,10 +10,10 @@ use Rattle.run_tracks.proofs.Handing.{count_joined, one_left}
 use Rattle.run_opening.specs.Assembled.{IsStaff}
 use Rattle.run_opening.specs.Labels.{numbered}
 use Rattle.run_opening.specs.Prepared.{uses_of}
-use Rattle.run_working.specs.Runs.{owners_at, owners_of}
+use Rattle.run_staff.specs.Jobs.{owners_at, owners_of}
 use Rattle.run_opening.specs.Staff.{keep_channels, keep_ports, line_channels, line_ports, listen_channels, listen_ports, sink_channels, sink_ports}
 use Rattle.run_opening.specs.declared.assemble.Parts.{Parts}
-use Rattle.run_working.specs.declared.workers.Workers.{Workers}
+use Rattle.run_staff.specs.declared.workers.Workers.{Workers}
 use Rattle.run_opening.proofs.Alone.{last_number, many_before, order_left}
 use Rattle.run_opening.proofs.Fresh.{AreInOrder}
 use Rattle.run_opening.proofs.Staffing.{keeps_places, line_places, listen_places, sinks_places}

@@ -3,7 +3,7 @@ use Rattle.std.proofs.Common.{◌≡◌, ◌∙◌, ℕ, List, [], ◌∷◌, �
 use Rattle.flume_host.specs.HostState.{HostState}
 use Rattle.crew.specs.declared.draining.DrainWorker.{DrainWorker}
 use Rattle.run_opening.specs.Streams.{DrainKept, InTurn, IsButKept, IsButTaken, TalkKept, TalkTaken, last_or}
-use Rattle.run_working.specs.declared.homes.LineEnded.{LineEnded}
+use Rattle.run_staff.specs.declared.workers.LineEnded.{LineEnded}
 
 -- one step more
 pub turn_push : {A : Type 0} (Step : A → HostState → HostState → Type 0) (xs : List A) (a : A) (old mid new : HostState) → InTurn Step xs old mid → Step a mid new

@@ -11,16 +11,16 @@ use Rattle.run_tracks.specs.Dealt.{AreDealt}
 use Rattle.run_tracks.specs.Homes.{AreHomes}
 use Rattle.run_tracks.specs.Deals.{DealsEach, count_of, hand_at}
 use Rattle.run_tracks.specs.Places.{Zips}
-use Rattle.run_working.specs.Alone.{AreAlone}
+use Rattle.run_staff.specs.Alone.{AreAlone}
 use Rattle.run_settling.specs.Draining.{HasOwn}
 use Rattle.run_opening.specs.Labels.{numbered}
 use Rattle.run_opening.specs.Lists.{IsEmptyFor}
 use Rattle.run_opening.specs.Prepared.{uses_of}
-use Rattle.run_working.specs.Runs.{AreNew, AreOnDisks, AreWorkers, CanRun, owners_of}
+use Rattle.run_staff.specs.Jobs.{AreNew, AreOnDisks, AreWorkers, CanRun, owners_of}
 use Rattle.run_opening.specs.Staff.{IsKeepOf, IsLineOf, IsListenOf, IsRoomy, IsSinkOf, keep_channels, keep_ports, line_channels, line_ports, listen_channels, listen_ports, own_talk, sink_channels, sink_ports}
 use Rattle.run_opening.specs.declared.assemble.Crew.{Crew}
 use Rattle.run_opening.specs.declared.assemble.Parts.{Parts}
-use Rattle.run_working.specs.declared.workers.Workers.{Workers}
+use Rattle.run_staff.specs.declared.workers.Workers.{Workers}
 
 -- There is one of each part for each worker, and room for it.
 pub record ArePartsOf {S N I O C K : Type 0} (plans : List SinkRow) (parts : Parts S N I O C K) : Type 0 where

@@ -9,14 +9,14 @@ use Rattle.agent_drafts.specs.Drafts.{TakesLines}
 use Rattle.run_tracks.specs.Dealt.{AreDealt}
 use Rattle.run_tracks.specs.Homes.{AreHomes}
 use Rattle.run_tracks.specs.Places.{Zips}
-use Rattle.run_working.specs.Alone.{AreAlone}
+use Rattle.run_staff.specs.Alone.{AreAlone}
 use Rattle.run_opening.specs.Assembled.{AreUsed}
 use Rattle.run_settling.specs.Draining.{HasOwn}
 use Rattle.run_opening.specs.Keepers.{AreWantedInFolders}
 use Rattle.run_opening.specs.Labels.{numbered}
 use Rattle.run_opening.specs.Lists.{HaveChannelLists, HaveWorkerLists}
 use Rattle.run_opening.specs.Prepared.{IsSeat, uses_of}
-use Rattle.run_working.specs.Runs.{AreNew, AreOnDisks, AreWorkers, CanRun, HaveRoom, owners_of}
+use Rattle.run_staff.specs.Jobs.{AreNew, AreOnDisks, AreWorkers, CanRun, HaveRoom, owners_of}
 use Rattle.run_opening.specs.Staff.{IsKeepOf, IsLineOf, IsListenOf, IsSinkOf}
 use Rattle.run_opening.specs.declared.opening.Manned.{Manned}
 use Rattle.run_opening.specs.declared.opening.Opening.{Opening}

@@ -8,7 +8,7 @@ use Rattle.keep_worker.specs.declared.worker.KeepWorker.{KeepWorker}
 use Rattle.source_worker.specs.declared.ends.SessionRules.TheVariants as rule
 use Rattle.source_worker.specs.declared.worker.ListenWorker.{ListenWorker}
 use Rattle.line_worker.specs.declared.worker.LineWorker.{LineWorker}
-use Rattle.run_working.specs.declared.homes.LineEnded.{LineEnded}
+use Rattle.run_staff.specs.declared.workers.LineEnded.{LineEnded}
 use Rattle.run_opening.specs.declared.seats.KeepSeat.{KeepSeat}
 use Rattle.run_opening.specs.declared.seats.Seat.{Seat}
 

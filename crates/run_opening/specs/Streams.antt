@@ -13,7 +13,7 @@ use Rattle.agent_end.specs.declared.ends.InputEnd.{InputEnd}
 use Rattle.agent_end.specs.declared.ends.InputEnd.TheVariants as input
 use Rattle.agent_end.specs.declared.ends.ReportRefused.{ReportRefused}
 use Rattle.agent_end.specs.declared.ends.ReportRefused.TheVariants.{Fault, NoMemory}
-use Rattle.run_working.specs.declared.homes.LineEnded.{LineEnded}
+use Rattle.run_staff.specs.declared.workers.LineEnded.{LineEnded}
 use Rattle.run_opening.specs.declared.streams.StreamsEnded.{StreamsEnded}
 
 -- ---- what ended the reading

@@ -13,7 +13,7 @@ use crate::staff::{staff_keepers, staff_lines, staff_listeners, staff_sinks};
 use agent_channels::{ChannelWish, OpenedChannel, take_apart};
 use channel_face::Channel;
 use grouped_sinks::SinkRow;
-use run_working::{LineEnded, Workers};
+use run_staff::{LineEnded, Workers};
 use shared_channel::Pass;
 use std::alloc::Global;
 use two_channels::EitherShared;

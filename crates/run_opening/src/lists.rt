@@ -7,7 +7,7 @@ use agent_outside::SourceListener;
 use channel_face::{Channel, Counts};
 use flume_config::ChannelPlan;
 use run_settling::Settled;
-use run_working::{LineEnded, Returned, Workers};
+use run_staff::{LineEnded, Returned, Workers};
 use shared_channel::Pass;
 use std::alloc::{AllocError, Global};
 use two_channels::EitherShared;

@@ -20,7 +20,7 @@ use flume_config::Plan;
 use flume_host::Host;
 use grouped_sinks::SinkRow;
 use run_settling::Settled;
-use run_working::{LineEnded, Returned, Workers};
+use run_staff::{LineEnded, Returned, Workers};
 use shared_channel::Pass;
 use std::alloc::{AllocError, Global};
 

@@ -10,7 +10,7 @@ use channel_face::Counts;
 use crew::{DrainEnd, DrainWorker};
 use flume_host::Host;
 use line_session::SessionEnd;
-use run_working::LineEnded;
+use run_staff::LineEnded;
 use std::alloc::Global;
 
 /// Takes standard input and output for so many workers of lines. The list has room for them.

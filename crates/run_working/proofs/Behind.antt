@@ -38,7 +38,7 @@ use Rattle.run_working.specs.Opened.{IsKeepOpened, IsLineOpened, IsListenOpened,
 use Rattle.run_working.proofs.Going.{lines_later, listen_later, sink_later}
 use Rattle.crew.specs.declared.draining.DrainWorker.{DrainWorker}
 use Rattle.run_working.specs.Runs.{AreOpened, EachOnce, runs}
-use Rattle.run_working.specs.declared.workers.Workers.{Workers}
+use Rattle.run_staff.specs.declared.workers.Workers.{Workers}
 use Rattle.run_working.proofs.Home.{AreSameWorkers, keep_places, keep_ports, line_places, line_ports, listen_places, listen_ports, sink_places, sink_ports}
 use Rattle.run_working.proofs.Same.{IsSameWorker, Same, same_later, same_self}
 use Rattle.run_working.proofs.Zipping.{ran_zips, zips_self, zips_then}

@@ -8,7 +8,7 @@ use Rattle.line_worker.specs.declared.worker.LineWorker.{LineWorker}
 use Rattle.run_tracks.specs.Homes.{EachTook}
 use Rattle.run_tracks.proofs.Homing.{took_at_later, took_each_later}
 use Rattle.run_settling.specs.declared.at_home.AtHome.{AtHome}
-use Rattle.run_working.specs.declared.homes.LineEnded.{LineEnded}
+use Rattle.run_staff.specs.declared.workers.LineEnded.{LineEnded}
 use Rattle.run_working.specs.Ends.{IsKeepEnded, IsLineEnded, IsListenEnded, IsSinkEnded}
 
 module _ {F : Type 0} (pass : F → Known) (old new : List Known) (kept : EachTook old new) where

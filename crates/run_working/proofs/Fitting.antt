@@ -17,7 +17,7 @@ use Rattle.two_channels.specs.declared.port.EitherPort.{EitherPort}
 use Rattle.two_channels.specs.declared.shared.EitherShared.{EitherShared}
 use Rattle.run_tracks.proofs.Homing.{zips_length}
 use Rattle.run_tracks.proofs.Telling.{either_steady}
-use Rattle.run_working.specs.Ends.{IsKeepPort}
+use Rattle.run_staff.specs.Ports.{IsKeepPort}
 use Rattle.run_working.specs.Opened.{IsKeepOpened, IsLineOpened, IsListenOpened}
 
 module _ {R A B : Type 0} (shares : List (EitherShared A B)) where

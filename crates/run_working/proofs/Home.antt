@@ -11,10 +11,12 @@ use Rattle.run_tracks.specs.Dealt.{HasNumber, Owner}
 use Rattle.run_tracks.specs.Places.{AreAt, Zips}
 use Rattle.run_tracks.specs.Told.{IsNew}
 use Rattle.run_tracks.proofs.Homing.{zips_length}
-use Rattle.run_working.specs.Ends.{IsKeepEnded, IsKeepPort, IsLineEnded, IsListenEnded, IsSinkEnded, IsSinkPort}
-use Rattle.run_working.specs.Runs.{AreEnded, AreNew, AreWorkers, HaveRoom, owners_at, owners_of}
-use Rattle.run_working.specs.declared.workers.Returned.{Returned}
-use Rattle.run_working.specs.declared.workers.Workers.{Workers}
+use Rattle.run_staff.specs.Ports.{IsKeepPort, IsSinkPort}
+use Rattle.run_working.specs.Ends.{IsKeepEnded, IsLineEnded, IsListenEnded, IsSinkEnded}
+use Rattle.run_staff.specs.Jobs.{AreNew, AreWorkers, HaveRoom, owners_at, owners_of}
+use Rattle.run_working.specs.Runs.{AreEnded}
+use Rattle.run_staff.specs.declared.workers.Returned.{Returned}
+use Rattle.run_staff.specs.declared.workers.Workers.{Workers}
 use Rattle.run_working.proofs.Same.{IsSameWorker, kind_at, kind_owned, kind_took}
 use Rattle.run_working.proofs.Zipping.{all_map}
 

@@ -20,7 +20,7 @@ use Rattle.run_working.specs.Ends.{IsLineEnded, IsListenEnded}
 use Rattle.run_working.specs.Histories.{IsLineTold, IsListenTold}
 use Rattle.run_working.specs.Opened.{IsLineOpened, IsListenOpened}
 use Rattle.run_working.specs.Wholes.{AreSilentAt, IsSilent}
-use Rattle.run_working.specs.declared.homes.LineEnded.{LineEnded}
+use Rattle.run_staff.specs.declared.workers.LineEnded.{LineEnded}
 use Rattle.run_working.proofs.Behind.{LineRuns, ListenRuns, line_same, listen_same}
 use Rattle.run_working.proofs.Same.{Same}
 use Rattle.run_working.proofs.Silence.{took_silent}

@@ -6,8 +6,8 @@ use Rattle.keep_worker.specs.declared.worker.KeepWorker.{KeepWorker}
 use Rattle.sink_worker.specs.declared.worker.SinkWorker.{SinkWorker}
 use Rattle.run_tracks.specs.Dealt.{Owner}
 use Rattle.run_tracks.specs.Places.{Zips}
-use Rattle.run_working.specs.Alone.{AllDiffer, Differ}
-use Rattle.run_working.specs.Runs.{owners_at}
+use Rattle.run_staff.specs.Alone.{AllDiffer, Differ}
+use Rattle.run_staff.specs.Jobs.{owners_at}
 use Rattle.run_working.specs.Wholes.{AreOtherJobs}
 
 -- what holds of each of two lists in one

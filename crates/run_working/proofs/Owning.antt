@@ -1,27 +1,12 @@
--- Passes that carry a number of their own, and sinks whose passes came home.
-use Rattle.std.proofs.Common.{◌≡◌, ◌<◌, ◌||◌, ℕ, zero, suc, List, [], ◌∷◌, ◌++◌, Bool, false, true, length, get_or, refl, sym, ap, subst, arith, eq-eqb}
-use Rattle.std.specs.List.{AllByRecursion}
-use Rattle.atomic_table.specs.Seated.{TableId}
-use Rattle.channel_face.specs.History.{Opening}
-use Rattle.shared_channel.specs.Passes.{Known, new_pass, new_passes}
+-- Passes that took others in keep their own numbers, and sinks whose passes came home.
+use Rattle.std.proofs.Common.{◌≡◌, ◌<◌, ℕ, List, [], ◌∷◌, true, length, get_or, sym, subst, arith}
+use Rattle.shared_channel.specs.Passes.{Known}
 use Rattle.sink_worker.specs.declared.worker.SinkWorker.{SinkWorker}
 use Rattle.channel_lock.specs.Calls.{has}
 use Rattle.run_tracks.proofs.Homing.{has_numbers}
-use Rattle.run_settling.specs.Draining.{FirstHasOwn, HasOwn, IsSinkHome, OwnIsKept}
+use Rattle.run_settling.specs.Draining.{IsSinkHome, OwnIsKept}
 use Rattle.run_working.specs.Ends.{IsSinkEnded}
 use Rattle.run_settling.specs.declared.at_home.AtHome.{AtHome}
-
-own_push : (ps : List Known) (p : Known) → AllByRecursion HasOwn ps → HasOwn p → AllByRecursion HasOwn (ps ++ p ∷ [])
-own_push [] p all one = (one, tt)
-own_push (q ∷ ps) p all one = (all.0, own_push ps p all.1 one)
-
-own_new : (table : TableId) (start : Opening) (passes k : ℕ) → AllByRecursion HasOwn (new_passes table start passes k)
-own_new table start passes zero = tt
-own_new table start passes (suc k) =
-    own_push (new_passes table start passes k) (new_pass table start passes k) (own_new table start passes k) (ap (λ (b : Bool). b || false) (eq-eqb k k refl))
-
-pub first_own : FirstHasOwn
-first_own table start passes home hand is = (subst (AllByRecursion HasOwn) is (own_new table start passes passes)).0
 
 pub own_kept : OwnIsKept
 own_kept old new took own = λ place d below.

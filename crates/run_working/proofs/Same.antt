@@ -8,7 +8,7 @@ use Rattle.run_tracks.specs.Dealt.{HasNumber, Owner}
 use Rattle.run_tracks.specs.Places.{AreAt, TookEach, Zips}
 use Rattle.run_tracks.specs.Told.{IsNew}
 use Rattle.run_tracks.proofs.Homing.{has_numbers}
-use Rattle.run_working.specs.Runs.{owners_at}
+use Rattle.run_staff.specs.Jobs.{owners_at}
 
 -- a pass of the same channel with the same numbers
 pub record Same (p q : Known) : Type 0 where

@@ -49,7 +49,7 @@ use Rattle.run_working.specs.Ends.{IsLineEnded, IsListenEnded, IsSinkEnded}
 use Rattle.run_working.specs.Histories.{IsDiskOf, IsLineTold, IsListenTold, IsSinkTold, MendedOver, StopsLast}
 use Rattle.run_working.specs.Opened.{IsLineOpened, IsListenOpened, IsSinkOpened}
 use Rattle.run_settling.specs.declared.at_home.AtHome.{AtHome}
-use Rattle.run_working.specs.declared.homes.LineEnded.{LineEnded}
+use Rattle.run_staff.specs.declared.workers.LineEnded.{LineEnded}
 use Rattle.run_working.proofs.Behind.{LineRuns, ListenRuns, Saws, SinkRuns}
 use Rattle.run_working.proofs.Going.{sink_later}
 use Rattle.run_working.proofs.Lined.{are_disks, session_home}

@@ -28,7 +28,7 @@ use Rattle.two_channels.specs.declared.shared.EitherShared.{EitherShared}
 use Rattle.run_tracks.specs.Listening.{MendedInto, MendedPort, home_tracks}
 use Rattle.run_tracks.specs.Tracks.{Calls, Gave, Mended, Track, Turned, ended, track_of}
 use Rattle.run_settling.specs.declared.at_home.AtHome.{AtHome}
-use Rattle.run_working.specs.declared.homes.LineEnded.{LineEnded}
+use Rattle.run_staff.specs.declared.workers.LineEnded.{LineEnded}
 
 -- its next calls were a checkpoint, which was answered so
 abbrev pub Checked : Track → Result (Unit {0}) CheckRefused → Track → Type 0

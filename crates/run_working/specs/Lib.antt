@@ -3,4 +3,3 @@ pub mod Ends
 pub mod Runs
 pub mod Histories
 pub mod Wholes
-pub mod Alone

@@ -28,9 +28,10 @@ use Rattle.run_tracks.specs.Tracks.{Mended, Track, Turned, ended, track_of}
 use Rattle.run_settling.specs.declared.at_home.AtHome.{AtHome}
 use Rattle.run_settling.specs.Draining.{AreDrained, EachGoesOn, IsDrainedAt, IsSinkHome}
 use Rattle.run_working.specs.Histories.{IsKeepTold, IsLineTold, IsListenTold, IsSinkTold}
-use Rattle.run_working.specs.Runs.{AreNew, HaveRun, Runs}
-use Rattle.run_working.specs.declared.workers.Returned.{Returned}
-use Rattle.run_working.specs.declared.workers.Workers.{Workers}
+use Rattle.run_staff.specs.Jobs.{AreNew}
+use Rattle.run_working.specs.Runs.{HaveRun, Runs}
+use Rattle.run_staff.specs.declared.workers.Returned.{Returned}
+use Rattle.run_staff.specs.declared.workers.Workers.{Workers}
 
 -- What the one pass has seen begins what the other has seen, which has no further call with this number.
 pub record IsSilent (number : ℕ) (p q : Known) : Type 0 where

@@ -3,12 +3,13 @@ ghost use Rattle.std.specs.Prelude.{◌≡◌, ◌≤◌, [], All, length};
 ghost use Rattle.std.specs.Vec.{vec_capacity};
 ghost use Rattle.run_tracks.specs.Homes.{AreHomes, EachTook};
 ghost use Rattle.run_tracks.specs.Places.{Zips};
-ghost use Rattle.run_working.specs.Ends.{AreListenPorts, AreLinePorts, IsKeepEnded, IsKeepPort, IsLineEnded, IsListenEnded, IsSinkEnded, IsSinkPort};
+ghost use Rattle.run_staff.specs.Ports.{AreListenPorts, AreLinePorts, IsKeepPort, IsSinkPort};
+ghost use Rattle.run_working.specs.Ends.{IsKeepEnded, IsLineEnded, IsListenEnded, IsSinkEnded};
 
 use keep_worker::KeepWorker;
-use line_session::SessionEnd;
 use line_worker::LineWorker;
 use run_settling::AtHome;
+use run_staff::LineEnded;
 use run_tracks::{bring_home, end_ports};
 use shared_channel::{Carries, Joins, Pass};
 use sink_worker::SinkWorker;
@@ -108,17 +109,6 @@ pub fn end_listeners<Z: Joins, F: Carries + Drop, N: Drop, C: Drop, K: Drop>(
     } = worker;
     end_ports(shares, homes, channels, ports);
     listeners.push_reserved(listener);
-}
-
-/// What comes back of a worker of lines.
-#[derive(Drop)]
-pub struct LineEnded<I, O> {
-    /// Where the lines came from.
-    pub input: I,
-    /// Where their answers went.
-    pub output: O,
-    /// What ended the session, if it has run.
-    pub end: Option<SessionEnd>,
 }
 
 /// The passes at home take in those of workers of lines, whose inputs and outputs come back in their order. The list has room for

@@ -6,8 +6,6 @@ mod ports;
 mod rooms;
 mod rows;
 mod running;
-mod workers;
 
-pub use homes::{LineEnded, end_lines, end_listeners, end_sinks};
+pub use homes::{end_lines, end_listeners, end_sinks};
 pub use running::run_workers;
-pub use workers::{Returned, Workers};

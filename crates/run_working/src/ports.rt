@@ -3,7 +3,7 @@ ghost use Rattle.std.specs.Prelude.{◌≡◌, ◌≤◌, [], All, length};
 ghost use Rattle.std.specs.Vec.{vec_capacity};
 ghost use Rattle.two_channels.specs.Shares.{table_of};
 ghost use Rattle.run_tracks.specs.Places.{Zips};
-ghost use Rattle.run_working.specs.Ends.{AreLinePorts, AreListenPorts, IsKeepPort, IsSinkPort};
+ghost use Rattle.run_staff.specs.Ports.{AreLinePorts, AreListenPorts, IsKeepPort, IsSinkPort};
 ghost use Rattle.run_working.specs.Opened.{IsKeepOpened, IsLineOpened, IsListenOpened, IsSinkOpened};
 ghost use Rattle.run_settling.specs.Draining.{HasRoom};
 

@@ -4,10 +4,10 @@ ghost use Rattle.run_tracks.specs.Places.{Zips};
 ghost use Rattle.run_settling.specs.Draining.{HasRoom};
 ghost use Rattle.run_working.specs.Runs.{HaveRooms};
 
-use crate::workers::Workers;
 use channel_face::Channel;
 use keep_worker::KeepWorker;
 use line_worker::LineWorker;
+use run_staff::Workers;
 use shared_channel::Pass;
 use sink_worker::SinkWorker;
 use source_worker::ListenWorker;

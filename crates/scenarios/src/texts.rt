@@ -33,6 +33,46 @@ pub fn three_numbers(text: &str) -> Option<(u64, u64, u64)> {
     Some((number_of(first)?, second, third))
 }
 
+/// A word and two numbers, which are 0 where they are left out.
+pub fn word_and_numbers(text: &str) -> (&str, u64, u64) {
+    let (word, rest) = word_and_rest(text);
+    let (first, second) = word_and_rest(rest);
+    (
+        word,
+        number_of(first).unwrap_or(0),
+        number_of(second).unwrap_or(0),
+    )
+}
+
+/// Numbers with a space between each two.
+pub fn numbers_of(alloc: Global, text: &str) -> Option<Vec<u32>> {
+    let mut numbers = Vec::new(alloc);
+    if !text.is_empty() {
+        for word in text.split(' ') {
+            numbers.push(word.parse::<u32>().ok()?).ok()?;
+        }
+    }
+    Some(numbers)
+}
+
+/// Whether these are the numbers.
+pub fn are_numbers(numbers: &[u32], text: &str) -> bool {
+    let mut rest = text;
+    for number in numbers {
+        let (first, others) = word_and_rest(rest);
+        if number_of(first) != Some(u64::from(*number)) {
+            return false;
+        }
+        rest = others;
+    }
+    rest.is_empty()
+}
+
+/// A text.
+pub fn owned(alloc: Global, text: &str) -> Option<String> {
+    String::from_str(alloc, text).ok()
+}
+
 // What the bytes of a text say so far.
 #[derive(Clone, Copy)]
 enum Ahead {

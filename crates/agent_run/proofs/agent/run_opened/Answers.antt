@@ -24,7 +24,7 @@ use Rattle.run_settling.specs.Draining.{HasOwn, IsSinkHome}
 use Rattle.run_opening.specs.Lists.{IsEmptyFor}
 use Rattle.run_settling.specs.Draining.{HasRoom}
 use Rattle.run_opening.specs.Outside.{AreFrom}
-use Rattle.run_working.specs.Runs.{AreOnDisks, AreWorkers, owners_of}
+use Rattle.run_staff.specs.Jobs.{AreOnDisks, AreWorkers, owners_of}
 use Rattle.run_opening.specs.declared.labels.ChannelLabel.{ChannelLabel}
 use Rattle.run_settling.specs.declared.settling.Settled.{Settled}
 use Rattle.agent_run.specs.Run.{MayReturn, StandInRows}

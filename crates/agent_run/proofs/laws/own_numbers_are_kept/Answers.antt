@@ -1,4 +1,5 @@
-use Rattle.run_working.proofs.Owning.{first_own, own_kept}
+use Rattle.run_staff.proofs.Owning.{first_own}
+use Rattle.run_working.proofs.Owning.{own_kept}
 use Rattle.agent_run.proofs.laws.own_numbers_are_kept.Goals as goal
 
 pub returns-clause-first : goal.returns-clause-first

@@ -7,7 +7,7 @@ use Rattle.agent_channels.specs.declared.wish.ChannelWish.{ChannelWish}
 use Rattle.run_opening.specs.Keepers.{AreWantedInFolders}
 use Rattle.run_opening.specs.Staff.{IsLineOf, IsListenOf, IsSinkOf}
 use Rattle.run_opening.specs.Streams.{AreTaken}
-use Rattle.run_working.specs.declared.homes.LineEnded.{LineEnded}
+use Rattle.run_staff.specs.declared.workers.LineEnded.{LineEnded}
 use Rattle.run_opening.proofs.Crewing.{freshly}
 use Rattle.run_opening.proofs.Fresh.{fresh_many}
 use Rattle.run_opening.proofs.Manning.{parts_fit, room_for, seats_roomy}

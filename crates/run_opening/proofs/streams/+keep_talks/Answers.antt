@@ -1,5 +1,5 @@
 use Rattle.std.proofs.Common.{◌∙◌, List, map, sym, ap, subst}
-use Rattle.run_working.specs.declared.homes.LineEnded.{LineEnded}
+use Rattle.run_staff.specs.declared.workers.LineEnded.{LineEnded}
 use Rattle.run_opening.specs.Streams.{InTurn, TalkKept, last_or, talk_ended}
 use Rattle.run_opening.proofs.Streaming.{last_push, turn_push}
 use Rattle.run_opening.proofs.streams.+keep_talks.Goals as goal

@@ -1,7 +1,7 @@
 use Rattle.std.proofs.Common.{rules, ◌≡◌, ◌+◌, ◌∙◌, List, [], ◌∷◌, length, None, refl, sym, ap, subst, arith}
 use Rattle.std.proofs.lemmas.List.{length-append}
 use Rattle.flume_host.specs.HostState.{HostState}
-use Rattle.run_working.specs.declared.homes.LineEnded.{LineEnded}
+use Rattle.run_staff.specs.declared.workers.LineEnded.{LineEnded}
 use Rattle.run_opening.specs.Streams.{InTurn, TalkTaken}
 use Rattle.run_opening.proofs.Streaming.{all_taken_rest, turn_push}
 use Rattle.run_opening.proofs.streams.take_talks.Goals as goal

@@ -3,11 +3,12 @@ use Rattle.std.proofs.lemmas.List.{length-append}
 use Rattle.std.specs.Vec.{vec_capacity}
 use Rattle.shared_channel.specs.Passes.{Known}
 use Rattle.line_worker.specs.declared.worker.LineWorker.{LineWorker}
-use Rattle.run_working.specs.declared.homes.LineEnded.{LineEnded}
+use Rattle.run_staff.specs.declared.workers.LineEnded.{LineEnded}
 use Rattle.run_tracks.specs.Places.{Zips}
 use Rattle.std.proofs.lemmas.List.Elements.{All-pop}
 use Rattle.run_tracks.proofs.Homing.{each_took_self, each_took_then, zips_length, zips_push}
-use Rattle.run_working.specs.Ends.{AreLinePorts, IsLineEnded}
+use Rattle.run_staff.specs.Ports.{AreLinePorts}
+use Rattle.run_working.specs.Ends.{IsLineEnded}
 use Rattle.run_working.proofs.Ending.{line_ended_later}
 use Rattle.run_working.proofs.Zipping.{zips_map}
 use Rattle.run_working.proofs.homes.+end_lines.Goals as goal

@@ -6,7 +6,8 @@ use Rattle.source_worker.specs.declared.worker.ListenWorker.{ListenWorker}
 use Rattle.run_tracks.specs.Places.{Zips}
 use Rattle.std.proofs.lemmas.List.Elements.{All-pop}
 use Rattle.run_tracks.proofs.Homing.{each_took_self, each_took_then, zips_length, zips_push}
-use Rattle.run_working.specs.Ends.{AreListenPorts, IsListenEnded}
+use Rattle.run_staff.specs.Ports.{AreListenPorts}
+use Rattle.run_working.specs.Ends.{IsListenEnded}
 use Rattle.run_working.proofs.Ending.{listen_ended_later}
 use Rattle.run_working.proofs.Zipping.{zips_map}
 use Rattle.run_working.proofs.homes.+end_listeners.Goals as goal

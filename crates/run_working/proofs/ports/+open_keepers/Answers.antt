@@ -9,7 +9,7 @@ use Rattle.two_channels.specs.declared.port.EitherPort.{EitherPort}
 use Rattle.two_channels.specs.declared.shared.EitherShared.{EitherShared}
 use Rattle.run_tracks.specs.Places.{Zips}
 use Rattle.run_tracks.proofs.Homing.{zips_length, zips_push}
-use Rattle.run_working.specs.Ends.{IsKeepPort}
+use Rattle.run_staff.specs.Ports.{IsKeepPort}
 use Rattle.run_working.specs.Opened.{IsKeepOpened}
 use Rattle.run_working.proofs.ports.+open_keepers.Goals as goal
 

@@ -10,7 +10,7 @@ use Rattle.two_channels.specs.Shares.{table_of}
 use Rattle.two_channels.specs.declared.port.EitherPort.{EitherPort}
 use Rattle.run_tracks.specs.Places.{Zips}
 use Rattle.run_tracks.proofs.Homing.{zips-append, zips_length, zips_none, zips_push}
-use Rattle.run_working.specs.Ends.{AreListenPorts}
+use Rattle.run_staff.specs.Ports.{AreListenPorts}
 use Rattle.run_working.specs.Opened.{IsListenOpened}
 use Rattle.run_settling.specs.Draining.{HasRoom}
 use Rattle.run_working.proofs.ports.+open_listeners.Goals as goal

@@ -6,7 +6,7 @@ use Rattle.keep_worker.specs.Workers.{CanKeep}
 use Rattle.keep_worker.specs.declared.worker.KeepWorker.{KeepWorker}
 use Rattle.two_channels.specs.Ports.{IsOnDisk, LaterPort, pass_of}
 use Rattle.two_channels.specs.declared.port.EitherPort.{EitherPort}
-use Rattle.run_working.specs.declared.workers.Workers.{Workers}
+use Rattle.run_staff.specs.declared.workers.Workers.{Workers}
 use Rattle.two_channels.specs.Shares.{IsDisk, table_of}
 use Rattle.two_channels.specs.declared.shared.EitherShared.{EitherShared}
 use Rattle.run_tracks.proofs.Telling.{number_home}
@@ -18,10 +18,11 @@ use Rattle.line_worker.specs.declared.worker.LineWorker.{LineWorker}
 use Rattle.run_tracks.specs.Told.{IsNew}
 use Rattle.run_settling.specs.Draining.{IsSinkHome}
 use Rattle.run_settling.specs.declared.at_home.AtHome.{AtHome}
-use Rattle.run_working.specs.Ends.{IsKeepPort, IsLineEnded, IsListenEnded, IsSinkEnded}
+use Rattle.run_staff.specs.Ports.{IsKeepPort}
+use Rattle.run_working.specs.Ends.{IsLineEnded, IsListenEnded, IsSinkEnded}
 use Rattle.run_working.specs.Histories.{IsLineTold, IsListenTold, IsSinkTold}
 use Rattle.run_working.specs.Opened.{IsKeepOpened, IsLineOpened, IsListenOpened, IsSinkOpened}
-use Rattle.run_working.specs.Runs.{owners_of}
+use Rattle.run_staff.specs.Jobs.{owners_of}
 use Rattle.run_working.proofs.Behind.{LineRuns, ListenRuns, SinkRuns, same_behind}
 use Rattle.run_working.proofs.Telling.{line_told, listen_told, sink_home, sink_told}
 use Rattle.run_working.proofs.Fitting.{keep_fits, line_fits, listen_fits}

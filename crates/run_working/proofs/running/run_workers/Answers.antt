@@ -4,7 +4,7 @@ use Rattle.sink_worker.specs.declared.worker.SinkWorker.{SinkWorker}
 use Rattle.run_tracks.specs.Told.{IsNew}
 use Rattle.run_settling.specs.Draining.{IsSinkHome}
 use Rattle.run_working.specs.Ends.{IsSinkEnded}
-use Rattle.run_working.specs.Runs.{owners_of}
+use Rattle.run_staff.specs.Jobs.{owners_of}
 use Rattle.run_working.proofs.Behind.{same_idle}
 use Rattle.run_working.proofs.Home.{numbers_home}
 use Rattle.run_working.proofs.Owning.{ended_home}

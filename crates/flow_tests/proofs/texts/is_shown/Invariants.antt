@@ -1,6 +1,0 @@
-use denote.Shadow.{shadow}
-use denote.Text.{Utf8}
-use Rattle.flow_tests.proofs.texts.is_shown.Given as goal
-
-abbrev pub invariant-loop-key : goal.invariant-loop-key
-invariant-loop-key l = shadow (Utf8 l.rest)

@@ -1,0 +1,5 @@
+pub mod Fairly
+pub mod Homely
+pub mod Undisturbed
+pub mod Soundly
+pub mod Sounding
